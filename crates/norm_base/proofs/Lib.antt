@@ -1,0 +1,4 @@
+pub mod CallLemmas
+pub mod OfferLemmas
+pub mod ClockLemmas
+pub mod FilingLemmas

@@ -1,0 +1,13 @@
+pub mod Member
+pub mod Settings
+pub mod ProfileView
+pub mod Faults
+pub mod Told
+pub mod Contents
+pub mod Network
+pub mod Calls
+pub mod Reading
+pub mod Writing
+pub mod Timing
+pub mod Direct
+pub mod Filing

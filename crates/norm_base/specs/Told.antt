@@ -1,0 +1,22 @@
+use Rattle.std.specs.Prelude.{◌≡◌, ℕ, List, ◌∷◌, [], ◌++◌, take, Option, None, Some, ⊤}
+
+-- An object of the outside tells a list, or tells nothing (None).
+
+-- what is told once more came at the end
+abbrev pub gained : {X : Type 0} → Option (List X) → List X → Option (List X)
+gained None more = None
+gained (Some xs) more = Some (xs ++ more)
+
+-- what was left before this piece was taken from the front
+abbrev pub before_taking : {X : Type 0} → List X → Option (List X) → Option (List X)
+before_taking piece None = None
+before_taking piece (Some rest) = Some (piece ++ rest)
+
+-- new is old with a front of the piece at its end
+abbrev pub GainsFront : {X : Type 0} → Option (List X) → Option (List X) → List X → Type 0
+GainsFront old new piece = (k : ℕ) × (new ≡ gained old (take k piece))
+
+-- what is still told has gained this one
+abbrev pub GainsWhereTold : {X : Type 0} → Option (List X) → Option (List X) → X → Type 0
+GainsWhereTold old None x = ⊤
+GainsWhereTold old (Some xs) x = gained old (x ∷ []) ≡ Some xs

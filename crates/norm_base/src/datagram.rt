@@ -1,0 +1,67 @@
+//! One datagram as it is written, of at most 1,500 octets.
+
+ghost use Rattle.std.specs.Prelude.{◌≡◌, ◌-◌, ◌≤◌, ℕ, List, [], ◌++◌, length, IfOk, vec_len, vec_capacity};
+
+use crate::fault::Memory;
+use std::alloc::Global;
+use std::marker::Model;
+
+/// The most octets of a datagram.
+pub const MOST_OCTETS: usize = 1500;
+
+/// A datagram with room for 1,500 octets, all of it reserved at the start.
+#[derive(Debug, Drop)]
+pub struct Datagram {
+    bytes: Vec<u8>,
+}
+
+impl Model for Datagram {
+    ghost Value = { List ℕ };
+
+    ghost view = { λ d. d.bytes.items };
+
+    ghost invariant = { λ d. (vec_len d.bytes ≤ 1500) × (1500 ≤ vec_capacity d.bytes) };
+}
+
+impl Datagram {
+    /// An empty datagram.
+    pub fn new(alloc: Global) -> Result<Datagram, Memory>
+        ensures { IfOk result (λ d. d ≡ []) }
+    {
+        match Vec::with_capacity(alloc, MOST_OCTETS) {
+            Ok(bytes) => Ok(Datagram { bytes }),
+            Err(_) => Err(Memory),
+        }
+    }
+
+    /// Takes all octets out.
+    pub fn clear(&mut self)
+        ensures { self.new ≡ [] }
+    {
+        self.bytes.clear();
+    }
+
+    /// The octets, lent.
+    pub fn bytes(&self) -> &[u8]
+        ensures octets { result.now ≡ self.now }
+        ensures most { length result.now ≤ 1500 }
+    {
+        self.bytes.as_slice()
+    }
+
+    /// How many octets may still be pushed: 1,500 less the length.
+    pub fn room(&self) -> usize
+        ensures room { result ≡ 1500 - length self.now }
+        ensures most { length self.now ≤ 1500 }
+    {
+        MOST_OCTETS - self.bytes.len()
+    }
+
+    /// Adds the octets at the end.
+    pub fn push(&mut self, part: &[u8])
+        requires { length part.now ≤ 1500 - length self.old }
+        ensures { self.new ≡ self.old ++ part.now }
+    {
+        self.bytes.extend_from_slice(part).unwrap();
+    }
+}

@@ -1,0 +1,48 @@
+//! Named files.
+
+ghost use Rattle.std.specs.Prelude.{◌≡◌, ◌<◌, ◌≤◌, ◌↔◌, ℕ, List, Option, length, take, drop, is_err, IfOk, OnOk, IfSome, IsNone, IsErrOf};
+ghost use Rattle.norm_base.specs.Faults.{Counts, file_failed};
+ghost use Rattle.norm_base.specs.Contents.{content_of, ChangesOnly};
+
+use crate::fault::{Failed, FileFault};
+
+/// Files by their names.
+pub trait Files {
+    /// The names with their contents, where the files tell them. `put` alone changes them.
+    ghost contents: { Self → Option (List (List ℕ × List ℕ)) };
+
+    /// How often a call failed.
+    ghost fault_count: { Self → ℕ };
+
+    /// The octets of a file. `Absent` exactly where the name is not there.
+    fn length(&mut self, name: &str) -> Result<u64, FileFault>
+        ensures same { contents self.new ≡ contents self.old }
+        ensures value { IfOk result (λ n. IfSome (contents self.old) (λ files.
+            IfSome (content_of files name.now) (λ octets. n ≡ length octets))) }
+        ensures absent { IfSome (contents self.old) (λ files.
+            IsErrOf result FileFault.Absent ↔ IsNone (content_of files name.now)) }
+        ensures cause { Counts (fault_count self.old) (fault_count self.new) (file_failed result) };
+
+    /// Reads at least one octet from `offset` on into the front of the buffer, and says how many.
+    fn read_at(&mut self, name: &str, offset: u64, buf: &mut [u8]) -> Result<usize, FileFault>
+        requires room { 0 < length buf.old }
+        requires within { IfSome (contents self.old) (λ files.
+            IfSome (content_of files name.now) (λ octets. offset < length octets)) }
+        ensures same { contents self.new ≡ contents self.old }
+        ensures count { IfOk result (λ n. (0 < n) × (n ≤ length buf.old)) }
+        ensures octets { IfOk result (λ n. IfSome (contents self.old) (λ files.
+            IfSome (content_of files name.now) (λ octets. take n buf.new ≡ take n (drop offset octets)))) }
+        ensures absent { IfSome (contents self.old) (λ files.
+            IsErrOf result FileFault.Absent ↔ IsNone (content_of files name.now)) }
+        ensures cause { Counts (fault_count self.old) (fault_count self.new) (file_failed result) };
+
+    /// Makes the octets a file's contents. Only that name's contents change, also where it fails.
+    fn put(&mut self, name: &str, bytes: &[u8]) -> Result<(), Failed>
+        ensures ok { OnOk result (IfSome (contents self.new) (λ files. content_of files name.now ≡ Some bytes.now)) }
+        ensures others { ChangesOnly (contents self.old) (contents self.new) name.now }
+        ensures cause { Counts (fault_count self.old) (fault_count self.new) (is_err result) };
+
+    /// How often a call failed. The count never falls.
+    fn faults(&self) -> u64
+        ensures { result ≡ fault_count self.now };
+}

@@ -1,0 +1,67 @@
+//! A sink in memory.
+
+ghost use Rattle.std.specs.Prelude.{◌≡◌, Some};
+
+use crate::calls::CallCount;
+use crate::fault::Failed;
+use crate::sink::Sink;
+use std::marker::Model;
+
+/// Octets in memory, where the calls with the listed numbers fail and leave all as it was. So does a
+/// call that finds no memory.
+#[derive(Debug, Drop)]
+pub struct MemSink {
+    octets: Vec<u8>,
+    calls: CallCount,
+}
+
+impl Model for MemSink {
+    ghost use Rattle.norm_base.specs.Writing.{MemSinkState};
+
+    ghost Value = { MemSinkState };
+
+    ghost view = { λ s. record { written = s.octets.items; calls = s.calls } };
+}
+
+impl MemSink {
+    /// A sink that has these octets already, whose calls with these numbers, from 1, fail.
+    pub fn of(bytes: Vec<u8>, failing: Vec<u64>) -> MemSink
+        ensures written { result.written ≡ bytes.items }
+        ensures calls { result.calls ≡ record { failing = failing.items; made = 0; faults = 0 } }
+    {
+        MemSink {
+            octets: bytes,
+            calls: CallCount::of(failing),
+        }
+    }
+
+    /// The octets that were written.
+    pub fn bytes(&self) -> &[u8]
+        ensures { result.now ≡ self.now.written }
+    {
+        self.octets.as_slice()
+    }
+}
+
+impl Sink for MemSink {
+    ghost written = { λ s. Some s.written };
+
+    ghost fault_count = { λ s. s.calls.faults };
+
+    fn write(&mut self, bytes: &[u8]) -> Result<(), Failed> {
+        if self.calls.next_fails() {
+            self.calls.fail();
+            return Err(Failed);
+        }
+        if self.octets.extend_from_slice(bytes).is_err() {
+            self.calls.fail();
+            return Err(Failed);
+        }
+        self.calls.pass();
+        Ok(())
+    }
+
+    fn faults(&self) -> u64 {
+        self.calls.faults()
+    }
+}

@@ -1,0 +1,72 @@
+//! Who a message is from, and when (RFC 5740 section 4.1).
+
+ghost use Rattle.std.specs.Prelude.{◌≡◌, ◌≢◌, ◌<◌, ◌≤◌, ◌↔◌, ℕ, IsSome, IfSome};
+ghost use Rattle.norm_base.specs.Member.{IsMember};
+
+use std::marker::Model;
+
+/// A node's id. 0 and 4294967295 (NORM_NODE_NONE and NORM_NODE_ANY) name no member.
+#[derive(Clone, Copy, Debug, PartialEq, Eq, PartialOrd, Ord)]
+pub struct NodeId(u32);
+
+impl Model for NodeId {
+    ghost Value = { ℕ };
+
+    ghost view = { λ id. id.0 };
+
+    ghost invariant = { λ id. IsMember id.0 };
+
+    ghost inverse = { λ n. record { 0 = n } };
+}
+
+impl NodeId {
+    /// The id with this number. `None` exactly where the number names no member.
+    pub fn of(n: u32) -> Option<NodeId>
+        ensures found { IsSome result ↔ IsMember n }
+        ensures value { IfSome result (λ id. id ≡ n) }
+    {
+        if n == 0 || n == u32::MAX {
+            return None;
+        }
+        Some(NodeId(n))
+    }
+
+    /// The id's number.
+    pub fn number(&self) -> u32
+        ensures value { result ≡ self.now }
+        ensures member { IsMember result }
+    {
+        self.0
+    }
+}
+
+/// Which life of a sender a message belongs to.
+#[derive(Clone, Copy, Debug, PartialEq, Eq, PartialOrd, Ord)]
+pub struct InstanceId(pub u16);
+
+impl Model for InstanceId {
+    ghost Value = { ℕ };
+
+    ghost view = { λ a. a.0 };
+
+    ghost inverse = { λ n. record { 0 = n } };
+}
+
+/// A moment, in microseconds.
+#[derive(Clone, Copy, Debug, PartialEq, Eq, PartialOrd, Ord)]
+pub struct Moment(pub u64);
+
+impl Model for Moment {
+    ghost Value = { ℕ };
+
+    ghost view = { λ a. a.0 };
+
+    ghost inverse = { λ n. record { 0 = n } };
+}
+
+/// A command's name: its producer, and that producer's number of it (1, 2, ..).
+#[derive(Clone, Copy, Debug, PartialEq, Eq)]
+pub struct Origin {
+    pub producer: u32,
+    pub number: u64,
+}

@@ -1,0 +1,26 @@
+//! Where octets go to.
+
+ghost use Rattle.std.specs.Prelude.{◌≡◌, ℕ, List, Option, is_err, OnOk, OnErr};
+ghost use Rattle.norm_base.specs.Faults.{Counts};
+ghost use Rattle.norm_base.specs.Told.{gained, GainsFront};
+
+use crate::fault::Failed;
+
+/// A sink of octets, written at its end.
+pub trait Sink {
+    /// The octets written, where the sink tells them.
+    ghost written: { Self → Option (List ℕ) };
+
+    /// How often it failed.
+    ghost fault_count: { Self → ℕ };
+
+    /// Writes all of the octets. After a failed write a front of them was written.
+    fn write(&mut self, bytes: &[u8]) -> Result<(), Failed>
+        ensures ok { OnOk result (written self.new ≡ gained (written self.old) bytes.now) }
+        ensures err { OnErr result (GainsFront (written self.old) (written self.new) bytes.now) }
+        ensures cause { Counts (fault_count self.old) (fault_count self.new) (is_err result) };
+
+    /// How often it failed. The count never falls.
+    fn faults(&self) -> u64
+        ensures { result ≡ fault_count self.now };
+}
