@@ -1,0 +1,11 @@
+use Rattle.std.specs.Prelude.{ℕ, ◌+◌, ◌*◌, List}
+use Rattle.std.specs.Int.{to_be_bytes, w32}
+
+-- a symbol's name in a message: the number of its block, and its number there
+pub record Name : Type 0 where
+  pub block : ℕ
+  pub symbol : ℕ
+
+-- 24 bits of block and 8 of symbol (RFC 5510 section 5.1)
+abbrev pub name_octets : Name → List ℕ
+name_octets name = to_be_bytes w32 (256 * name.block + name.symbol)

@@ -1,0 +1,47 @@
+//! A symbol's name in a message (RFC 5510 section 5.1).
+
+ghost use Rattle.std.specs.Prelude.{◌≡◌};
+ghost use Rattle.fec_plan.specs.Payload.{name_octets};
+
+use std::marker::Model;
+
+/// The FEC Payload ID of FEC Encoding ID 5: the source block number, below 16,777,216, and the encoding
+/// symbol id.
+#[derive(Clone, Copy, Debug, PartialEq, Eq)]
+pub struct PayloadId {
+    pub block: u32,
+    pub symbol: u8,
+}
+
+impl Model for PayloadId {
+    ghost use Rattle.std.specs.Prelude.{◌<◌};
+    ghost use Rattle.fec_plan.specs.Payload.{Name};
+
+    ghost Value = { Name };
+
+    ghost view = { λ id. record { block = id.block; symbol = id.symbol } };
+
+    ghost invariant = { λ id. id.block < 16777216 };
+
+    ghost inverse = { λ name. record { block = name.block; symbol = name.symbol } };
+}
+
+impl PayloadId {
+    /// The id that these octets spell. Each four octets spell one.
+    pub fn read(bytes: [u8; 4]) -> PayloadId
+        ensures { name_octets result ≡ bytes }
+    {
+        let name = u32::from_be_bytes(bytes);
+        PayloadId {
+            block: name / 256,
+            symbol: (name % 256) as u8,
+        }
+    }
+
+    /// The id's octets: 24 bits of block and 8 of symbol.
+    pub fn bytes(&self) -> [u8; 4]
+        ensures { result ≡ name_octets self.now }
+    {
+        (256 * self.block + u32::from(self.symbol)).to_be_bytes()
+    }
+}
