@@ -1,0 +1,5 @@
+pub mod Fields
+pub mod Chain
+pub mod FtiText
+pub mod DataText
+pub mod DataView

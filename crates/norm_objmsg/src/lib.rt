@@ -1,0 +1,9 @@
+//! The messages that carry objects (RFC 5740 section 4.2.1): NORM_DATA with FEC Encoding ID 5.
+#![tactic(auto)]
+
+mod fields;
+mod fti;
+mod message;
+
+pub use crate::fti::Fti;
+pub use crate::message::{DataMsg, ObjHead, write_data};
