@@ -3,3 +3,4 @@ pub mod Chain
 pub mod FtiText
 pub mod DataText
 pub mod DataView
+pub mod DataReading

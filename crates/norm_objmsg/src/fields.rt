@@ -3,7 +3,7 @@
 ghost use Rattle.std.specs.Prelude.{◌≡◌, ℕ, List};
 ghost use Rattle.std.specs.Option.{option_map};
 ghost use Rattle.std.specs.Int.{w16, w32, w64};
-ghost use Rattle.norm_objmsg.specs.Fields.{octet_at, number_at};
+ghost use Rattle.norm_objmsg.specs.Fields.{octet_at, number_at, piece_at};
 
 /// One octet. `None` where there is none.
 pub(crate) fn octet(bytes: &[u8]) -> Option<(u8, &[u8])>
@@ -36,4 +36,14 @@ pub(crate) fn number_32(bytes: &[u8]) -> Option<(u32, &[u8])>
     let (front, rest) = bytes.split_at(4);
     let number = [front[0], front[1], front[2], front[3]];
     Some((u32::from_be_bytes(number), rest))
+}
+
+/// So many octets. `None` where there are fewer.
+pub(crate) fn piece(bytes: &[u8], n: usize) -> Option<(&[u8], &[u8])>
+    ensures { option_map (λ x. (x.0.now, x.1.now)) result ≡ piece_at n bytes.now }
+{
+    if bytes.len() < n {
+        return None;
+    }
+    Some(bytes.split_at(n))
 }

@@ -4,6 +4,8 @@
 mod fields;
 mod fti;
 mod message;
+mod read;
 
 pub use crate::fti::Fti;
 pub use crate::message::{DataMsg, ObjHead, write_data};
+pub use crate::read::read_data;
