@@ -1,0 +1,13 @@
+//! A session of a sender and its receivers, turn by turn, with the journal of what happened (RFC 5740
+//! section 5).
+#![tactic(auto)]
+
+mod event;
+mod job;
+mod receiver;
+mod script;
+mod sender;
+
+pub use crate::event::{Event, Journal};
+pub use crate::job::{Job, Receipt, SendFault, Up};
+pub use crate::script::{Line, Script, Verb};
