@@ -1,3 +1,5 @@
 pub mod Commands
 pub mod SenderState
 pub mod ReceiverState
+pub mod Printed
+pub mod Totals

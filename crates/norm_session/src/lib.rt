@@ -4,9 +4,11 @@
 
 mod event;
 mod job;
+mod lines;
 mod receiver;
 mod script;
 mod sender;
+mod totals;
 
 pub use crate::event::{Event, Journal};
 pub use crate::job::{Job, Receipt, SendFault, Up};
