@@ -3,3 +3,5 @@ pub mod SenderState
 pub mod ReceiverState
 pub mod Printed
 pub mod Totals
+pub mod Turn
+pub mod RunState

@@ -6,10 +6,12 @@ mod event;
 mod job;
 mod lines;
 mod receiver;
+mod run;
 mod script;
 mod sender;
 mod totals;
 
 pub use crate::event::{Event, Journal};
 pub use crate::job::{Job, Receipt, SendFault, Up};
+pub use crate::run::SessionFault;
 pub use crate::script::{Line, Script, Verb};

@@ -1,9 +1,10 @@
 //! The sender of one-symbol data objects (RFC 5740 section 5.2).
 
-ghost use Rattle.std.specs.Prelude.{◌≡◌, ◌+◌, ◌≤◌, ◌<◌, [], ◌++◌, length, ◌^◌, ◌↔◌, IsTrue, OnOk, OnErr, unwrap_or};
+ghost use Rattle.std.specs.Prelude.{◌≡◌, ◌+◌, ◌≤◌, ◌<◌, [], ◌++◌, length, ◌^◌, ◌↔◌, IsTrue, IfOk, OnOk, OnErr, unwrap_or};
 ghost use Rattle.norm_session.specs.SenderState.{sender_opening, enqueued, symbol_of, sender_datagram, sender_after, sent_of};
 ghost use Rattle.norm_objmsg.specs.DataText.{data_octets};
 
+use crate::job::Receipt;
 use fec_plan::PayloadId;
 use norm_base::{Datagram, InstanceId, Memory, Moment, NodeId, Octets, Origin, Profile, Sent};
 use norm_objmsg::{DataMsg, Fti, ObjHead, write_data};
@@ -102,15 +103,22 @@ impl Sender {
         }
     }
 
-    /// Enqueues an object of 1 to 1,400 octets, and answers its index.
-    pub(crate) fn enqueue(&mut self, by: Origin, bytes: Octets) -> Result<(), Memory>
+    /// Enqueues an object of 1 to 1,400 octets. The receipt has its index and its length.
+    pub(crate) fn enqueue(&mut self, by: Origin, bytes: Octets) -> Result<Receipt, Memory>
         requires least { 1 ≤ length bytes }
         requires most { length bytes ≤ 1400 }
-        ensures ok { OnOk result (self.new ≡ enqueued self.old (record {
+        requires room { length self.old.order < 65536 }
+        ensures state { OnOk result (self.new ≡ enqueued self.old (record {
             producer = by.producer; number = by.number; octets = bytes })) }
+        ensures receipt { IfOk result (λ r. r ≡ Receipt.Object (length self.old.order) (length bytes)) }
         ensures err { OnErr result (self.new ≡ self.old) }
     {
-        self.order.push(Kept { by, bytes }).map_err(|_| Memory)
+        let index = self.order.len() as u32;
+        let len = bytes.bytes().len() as u64;
+        match self.order.push(Kept { by, bytes }) {
+            Ok(()) => Ok(Receipt::Object { index, len }),
+            Err(_) => Err(Memory),
+        }
     }
 
     /// Sends the next object that was not sent, where the next send moment has come.
@@ -131,13 +139,6 @@ impl Sender {
         self.next_send = Moment(now.0.saturating_add(u64::from(profile.gap)));
         self.sequence = self.sequence.wrapping_add(1);
         Sent::Datagram
-    }
-
-    /// How many objects were enqueued.
-    pub(crate) fn objects(&self) -> usize
-        ensures { result ≡ length self.now.order }
-    {
-        self.order.len()
     }
 
     /// Whether all was sent.

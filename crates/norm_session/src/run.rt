@@ -1,0 +1,201 @@
+//! A run of a session, a part of a turn at a time.
+
+ghost use Rattle.std.specs.Prelude.{◌≡◌, ◌+◌, ◌*◌, ◌<◌, ◌≤◌, ◌∷◌, [], ◌++◌, length, map, OnOk, IfOk, List};
+ghost use Rattle.norm_base.specs.Told.{gained};
+ghost use Rattle.norm_base.specs.Network.{with_offer};
+ghost use Rattle.norm_session.specs.Printed.{line_of, lines_of};
+ghost use Rattle.norm_session.specs.Turn.{octets_of, entry_of, job_of, pull_events, offer_events, network_after};
+ghost use Rattle.norm_session.specs.SenderState.{enqueued, sender_datagram, sender_after};
+ghost use Rattle.norm_session.specs.RunState.{with_events, with_sender, with_receiver};
+
+use crate::event::Event;
+use crate::job::{Job, Up};
+use crate::lines::line_of;
+use crate::receiver::Receiver;
+use crate::script::{Line, Verb};
+use crate::sender::Sender;
+use norm_base::{
+    Datagram, Fabric, FabricFault, InstanceId, Kind, Moment, NodeId, Octets, Origin, Profile, Sent, Sink,
+};
+use std::alloc::Global;
+use std::marker::Model;
+
+/// Why a session ended before it was done.
+#[derive(Clone, Copy, Debug, PartialEq, Eq)]
+pub enum SessionFault {
+    /// A write failed.
+    Write,
+    /// A call of the network failed.
+    Fabric,
+    /// There was no memory.
+    Memory,
+}
+
+/// A run so far.
+#[derive(Drop)]
+pub(crate) struct Run {
+    alloc: Global,
+    profile: Profile,
+    sender: Sender,
+    receiver: Receiver,
+    events: Vec<Event>,
+}
+
+impl Model for Run {
+    ghost use Rattle.norm_session.specs.RunState.{RunState};
+
+    ghost Value = { RunState };
+
+    ghost view = { λ r. record { profile = r.profile; sender = r.sender; receiver = r.receiver; events = r.events.items } };
+}
+
+/// The sender's node.
+fn sender_node(profile: &Profile) -> NodeId
+    ensures { result ≡ profile.now.sender }
+{
+    NodeId::of(profile.sender).unwrap()
+}
+
+/// The receiver's node.
+fn receiver_node(profile: &Profile) -> NodeId
+    ensures { result ≡ profile.now.sender + 1 }
+{
+    NodeId::of(profile.sender + 1).unwrap()
+}
+
+/// The sender's instance.
+fn instance_of(profile: &Profile) -> InstanceId
+    ensures { result ≡ profile.now.instance }
+{
+    InstanceId(profile.instance)
+}
+
+/// A copy of the octets.
+fn copy_of(alloc: Global, bytes: &[u8]) -> Result<Octets, SessionFault>
+    ensures { IfOk result (λ octets. octets ≡ bytes.now) }
+{
+    match Vec::from_slice(alloc, bytes) {
+        Ok(bytes) => Ok(Octets::of(bytes)),
+        Err(_) => Err(SessionFault::Memory),
+    }
+}
+
+/// The job of a command.
+fn job_of(alloc: Global, verb: &Verb) -> Result<Job, SessionFault>
+    ensures { IfOk result (λ job. job ≡ job_of verb.now) }
+{
+    match verb {
+        Verb::Data { info: None, bytes } => {
+            let bytes = copy_of(alloc, bytes.bytes())?;
+            Ok(Job::Data { info: None, bytes })
+        }
+        Verb::Data {
+            info: Some(info),
+            bytes,
+        } => {
+            let info = copy_of(alloc, info.bytes())?;
+            let bytes = copy_of(alloc, bytes.bytes())?;
+            let info = Some(info);
+            Ok(Job::Data { info, bytes })
+        }
+    }
+}
+
+impl Run {
+    /// An event joins the journal.
+    fn note(&mut self, event: Event) -> Result<(), SessionFault>
+        ensures ok { OnOk result (self.new ≡ with_events self.old (event ∷ [])) }
+    {
+        match self.events.push(event) {
+            Ok(()) => Ok(()),
+            Err(_) => Err(SessionFault::Memory),
+        }
+    }
+
+    /// An event joins the journal, and its line is written.
+    fn emit<K: Sink>(&mut self, output: &mut K, event: Event) -> Result<(), SessionFault>
+        ensures ok { OnOk result (self.new ≡ with_events self.old (event ∷ [])) }
+        ensures written { OnOk result (K.written output.new
+            ≡ gained (K.written output.old) (line_of self.old.profile.instance event)) }
+    {
+        let Ok(line) = line_of(self.alloc, instance_of(&self.profile), &event) else {
+            return Err(SessionFault::Memory);
+        };
+        if self.events.push(event).is_err() {
+            return Err(SessionFault::Memory);
+        }
+        match output.write(line.as_bytes()) {
+            Ok(()) => Ok(()),
+            Err(_) => Err(SessionFault::Write),
+        }
+    }
+
+    /// Pulls a command: its object joins the order, and its line is written.
+    fn pull<K: Sink>(&mut self, output: &mut K, line: &Line) -> Result<(), SessionFault>
+        requires least { 1 ≤ length (octets_of line.now.verb) }
+        requires most { length (octets_of line.now.verb) ≤ 1400 }
+        requires room { length self.old.sender.order < 65536 }
+        ensures state { OnOk result (self.new ≡ with_events
+            (with_sender self.old (enqueued self.old.sender (entry_of line.now)))
+            (pull_events self.old.sender line.now)) }
+        ensures written { OnOk result (K.written output.new ≡ gained (K.written output.old)
+            (lines_of self.old.profile.instance (pull_events self.old.sender line.now))) }
+    {
+        let by = Origin {
+            producer: line.producer,
+            number: line.number,
+        };
+        let Verb::Data { info, bytes } = &line.verb;
+        let kept = copy_of(self.alloc, bytes.bytes())?;
+        let job = job_of(self.alloc, &line.verb)?;
+        self.note(Event::Pull { by })?;
+        let Ok(receipt) = self.sender.enqueue(by, kept) else {
+            return Err(SessionFault::Memory);
+        };
+        let gave = Ok(receipt);
+        let job = Some(job);
+        self.emit(output, Event::Job { by, job, gave })
+    }
+
+    /// The sender ticks, and what it sends is offered.
+    fn offer<F: Fabric>(
+        &mut self,
+        fabric: &mut F,
+        datagram: &mut Datagram,
+        now: Moment,
+    ) -> Result<(), SessionFault>
+        ensures state { OnOk result (let datagram = sender_datagram self.old.profile self.old.sender now in
+            self.new ≡ with_events (with_sender self.old (sender_after self.old.profile self.old.sender now datagram))
+                (offer_events self.old.profile.sender datagram)) }
+        ensures told { OnOk result (F.told fabric.new ≡ network_after (F.told fabric.old)
+            (offer_events self.old.profile.sender (sender_datagram self.old.profile self.old.sender now))) }
+    {
+        let node = sender_node(&self.profile);
+        let sent = self.sender.tick(&self.profile, now, datagram);
+        self.note(Event::Tick { node, sent })?;
+        match sent {
+            Sent::Nothing => Ok(()),
+            Sent::Datagram => self.offer_datagram(fabric, node, datagram.bytes()),
+        }
+    }
+
+    /// What was sent is offered to the network.
+    fn offer_datagram<F: Fabric>(
+        &mut self,
+        fabric: &mut F,
+        from: NodeId,
+        datagram: &[u8],
+    ) -> Result<(), SessionFault>
+        requires { length datagram.now ≤ 1500 }
+        ensures state { OnOk result (self.new ≡ with_events self.old (Event.Offer from datagram.now ∷ [])) }
+        ensures told { OnOk result (F.told fabric.new ≡ with_offer (F.told fabric.old) from datagram.now) }
+    {
+        let bytes = copy_of(self.alloc, datagram)?;
+        self.note(Event::Offer { from, bytes })?;
+        match fabric.offer(from, datagram) {
+            Ok(()) => Ok(()),
+            Err(FabricFault::Failed) => Err(SessionFault::Fabric),
+            Err(FabricFault::Memory) => Err(SessionFault::Memory),
+        }
+    }
+}
