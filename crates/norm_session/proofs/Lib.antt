@@ -1,1 +1,3 @@
 pub mod ToldLemmas
+pub mod TakingLemmas
+pub mod HandingLemmas

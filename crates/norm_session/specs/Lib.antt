@@ -5,3 +5,5 @@ pub mod Printed
 pub mod Totals
 pub mod Turn
 pub mod RunState
+pub mod Taking
+pub mod HandingUp

@@ -1,4 +1,4 @@
-use Rattle.std.specs.Prelude.{ℕ, suc, zero, ◌+◌, ◌==◌, List, [], ◌∷◌, ◌++◌, length, map, Option, None, Some, Ok, if◌then◌else◌}
+use Rattle.std.specs.Prelude.{◌≡◌, ℕ, suc, zero, ◌+◌, ◌==◌, List, [], ◌∷◌, ◌++◌, length, map, Option, None, Some, Ok, if◌then◌else◌}
 use Rattle.std.specs.List.{flat_map}
 use Rattle.norm_base.specs.Settings.{Settings}
 use Rattle.norm_base.specs.Network.{Network}
@@ -119,3 +119,14 @@ abbrev pub network_after : Network → List Event → Network
 network_after n events = record {
   starts = n.starts; offered = gained n.offered (flat_map offer_of events);
   answers = gained n.answers (flat_map answer_in events); honest = n.honest }
+
+-- a turn takes until there is none, or 512 datagrams
+abbrev pub most_takes : ℕ
+most_takes = 512
+
+-- the answers of a turn's takes: of at most so many, up to the first None
+abbrev pub IsTaking : ℕ → List Answer → Type 0
+IsTaking zero answers = answers ≡ []
+IsTaking (suc most) [] = ⊥
+IsTaking (suc most) (None ∷ answers) = answers ≡ []
+IsTaking (suc most) (Some taken ∷ answers) = IsTaking most answers

@@ -188,4 +188,11 @@ impl Receiver {
             None => None,
         }
     }
+
+    /// How many objects are held.
+    pub(crate) fn held(&self) -> usize
+        ensures { result ≡ length self.now.held }
+    {
+        self.held.len()
+    }
 }

@@ -1,11 +1,13 @@
 //! A run of a session, a part of a turn at a time.
 
-ghost use Rattle.std.specs.Prelude.{◌≡◌, ◌+◌, ◌*◌, ◌<◌, ◌≤◌, ◌∷◌, [], ◌++◌, length, map, OnOk, IfOk, List};
+ghost use Rattle.std.specs.Prelude.{◌≡◌, ◌+◌, ◌*◌, ◌<◌, ◌≤◌, ◌∷◌, [], ◌++◌, length, map, OnOk, IfOk, List, Some};
 ghost use Rattle.norm_base.specs.Told.{gained};
-ghost use Rattle.norm_base.specs.Network.{with_offer};
+ghost use Rattle.norm_base.specs.Network.{with_offer, with_answer, answer_of};
 ghost use Rattle.norm_session.specs.Printed.{line_of, lines_of};
-ghost use Rattle.norm_session.specs.Turn.{octets_of, entry_of, job_of, pull_events, offer_events, network_after};
+ghost use Rattle.norm_session.specs.Turn.{octets_of, entry_of, job_of, pull_events, offer_events, most_takes, delivered, take_event, network_after};
 ghost use Rattle.norm_session.specs.SenderState.{enqueued, sender_datagram, sender_after};
+ghost use Rattle.norm_session.specs.Taking.{Takes};
+ghost use Rattle.norm_session.specs.HandingUp.{HandsUp, HandsUpNext};
 ghost use Rattle.norm_session.specs.RunState.{with_events, with_sender, with_receiver};
 
 use crate::event::Event;
@@ -15,10 +17,13 @@ use crate::receiver::Receiver;
 use crate::script::{Line, Verb};
 use crate::sender::Sender;
 use norm_base::{
-    Datagram, Fabric, FabricFault, InstanceId, Kind, Moment, NodeId, Octets, Origin, Profile, Sent, Sink,
+    Datagram, Fabric, FabricFault, InstanceId, Kind, Memory, Moment, NodeId, Octets, Origin, Profile, Sent, Sink,
 };
 use std::alloc::Global;
 use std::marker::Model;
+
+/// The most datagrams that are taken in a turn.
+const MOST_TAKES: u32 = 512;
 
 /// Why a session ended before it was done.
 #[derive(Clone, Copy, Debug, PartialEq, Eq)]
@@ -197,5 +202,100 @@ impl Run {
             Err(FabricFault::Failed) => Err(SessionFault::Fabric),
             Err(FabricFault::Memory) => Err(SessionFault::Memory),
         }
+    }
+
+    /// What was taken for the receiver is delivered to it; a datagram for another node goes nowhere.
+    fn deliver(&mut self, to: NodeId, datagram: &[u8]) -> Result<(), SessionFault>
+        ensures { OnOk result (self.new ≡ with_receiver self.old
+            (delivered self.old.profile self.old.receiver (Some (to, datagram.now)))) }
+    {
+        if to != receiver_node(&self.profile) {
+            return Ok(());
+        }
+        match self.receiver.deliver(self.alloc, &self.profile, datagram) {
+            Ok(()) => Ok(()),
+            Err(Memory) => Err(SessionFault::Memory),
+        }
+    }
+
+    /// A datagram is taken from the network and delivered. `None` where there is none ready.
+    fn take<F: Fabric>(
+        &mut self,
+        fabric: &mut F,
+        datagram: &mut Datagram,
+    ) -> Result<Option<NodeId>, SessionFault>
+        ensures { IfOk result (λ to. let answer = answer_of to datagram.new in
+            (self.new ≡ with_events (with_receiver self.old (delivered self.old.profile self.old.receiver answer)) (take_event answer ∷ []))
+            × (F.told fabric.new ≡ with_answer (F.told fabric.old) answer)) }
+    {
+        match fabric.take(datagram) {
+            Ok(None) => {
+                self.note(Event::Empty)?;
+                Ok(None)
+            }
+            Ok(Some(to)) => {
+                let bytes = copy_of(self.alloc, datagram.bytes())?;
+                self.note(Event::Took { to, bytes })?;
+                self.deliver(to, datagram.bytes())?;
+                Ok(Some(to))
+            }
+            Err(FabricFault::Failed) => Err(SessionFault::Fabric),
+            Err(FabricFault::Memory) => Err(SessionFault::Memory),
+        }
+    }
+
+    /// Datagrams are taken and delivered until there is none ready, or 512 were taken.
+    fn take_all<F: Fabric>(
+        &mut self,
+        fabric: &mut F,
+        datagram: &mut Datagram,
+    ) -> Result<(), SessionFault>
+        ensures { OnOk result (Takes most_takes self.old self.new (F.told fabric.old) (F.told fabric.new)) }
+    {
+        for _taken in 0..MOST_TAKES {
+            match self.take(fabric, datagram)? {
+                Some(_) => {}
+                None => return Ok(()),
+            }
+        }
+        Ok(())
+    }
+
+    /// The object at the hand-up point is handed up with its line, if it is held. Whether it was.
+    fn up_one<K: Sink>(&mut self, output: &mut K) -> Result<bool, SessionFault>
+        ensures { IfOk result (HandsUpNext self.old self.new (K.written output.old) (K.written output.new)) }
+    {
+        let Some((index, bytes)) = self.receiver.take_up() else {
+            return Ok(false);
+        };
+        let up = Up::Object {
+            index,
+            kind: Kind::Data,
+            info: None,
+            bytes,
+        };
+        let node = receiver_node(&self.profile);
+        let instance = instance_of(&self.profile);
+        self.emit(output, Event::Up { node, instance, up })?;
+        Ok(true)
+    }
+
+    /// How many objects the receiver holds.
+    fn held(&self) -> usize
+        ensures { result ≡ length self.now.receiver.held }
+    {
+        self.receiver.held()
+    }
+
+    /// All that the receiver can hand up is handed up, each with its line.
+    fn hand_up<K: Sink>(&mut self, output: &mut K) -> Result<(), SessionFault>
+        ensures { OnOk result (HandsUp (length self.old.receiver.held) self.old self.new (K.written output.old) (K.written output.new)) }
+    {
+        for _up in 0..self.held() {
+            if !self.up_one(output)? {
+                return Ok(());
+            }
+        }
+        Ok(())
     }
 }

@@ -1,0 +1,23 @@
+use Rattle.std.proofs.Common.{◌≡◌, ◌+◌, ◌-◌, suc, arith}
+use Rattle.norm_session.specs.Turn.{most_takes}
+use Rattle.norm_session.proofs.TakingLemmas.{takes-none_of, takes-some_of}
+use Rattle.norm_session.proofs.run.Run.take_all.Goals as goal
+
+pub returns-in-None : goal.returns-in-None
+returns-in-None g c =
+    let told = g.F.Fabric.told in
+    let took = rw c.in-None.is at c.in_ok-take.ensures in
+    let t = c.loop-taken._taken in
+    let left : most_takes - t ≡ suc (most_takes - (t + 1)) = omega arith in
+    c.loop-taken.invariant c.take.new.self (told c.take.new.fabric)
+        (takes-none_of (most_takes - t) (most_takes - (t + 1)) c.loop-taken.self c.take.new.self (told c.loop-taken.fabric) (told c.take.new.fabric) left took.0 took.1)
+
+pub loop-taken-preserved : goal.loop-taken-preserved
+loop-taken-preserved g c = λ new after rest.
+    let told = g.F.Fabric.told in
+    let took = rw c.in-Some.is at c.in_ok-take.ensures in
+    let t = c.loop-taken._taken in
+    let left : most_takes - t ≡ suc (most_takes - (t + 1)) = omega arith in
+    c.loop-taken.invariant new after
+        (takes-some_of (most_takes - t) (most_takes - (t + 1)) (c.in-Some.field-0, c.take.new.datagram) c.loop-taken.self c.take.new.self new
+            (told c.loop-taken.fabric) (told c.take.new.fabric) after left took.0 took.1 rest)
