@@ -1,3 +1,4 @@
 pub mod ToldLemmas
 pub mod TakingLemmas
 pub mod HandingLemmas
+pub mod TurnLemmas

@@ -7,3 +7,4 @@ pub mod Turn
 pub mod RunState
 pub mod Taking
 pub mod HandingUp
+pub mod WholeTurn

@@ -1,13 +1,15 @@
 //! A run of a session, a part of a turn at a time.
 
-ghost use Rattle.std.specs.Prelude.{◌≡◌, ◌+◌, ◌*◌, ◌<◌, ◌≤◌, ◌∷◌, [], ◌++◌, length, map, OnOk, IfOk, List, Some};
+ghost use Rattle.std.specs.Prelude.{◌≡◌, ◌+◌, ◌*◌, ◌<◌, ◌≤◌, ◌∷◌, [], ◌++◌, length, map, OnOk, IfOk, IfSome, List, Some, option_copied};
 ghost use Rattle.norm_base.specs.Told.{gained};
 ghost use Rattle.norm_base.specs.Network.{with_offer, with_answer, answer_of};
 ghost use Rattle.norm_session.specs.Printed.{line_of, lines_of};
 ghost use Rattle.norm_session.specs.Turn.{octets_of, entry_of, job_of, pull_events, offer_events, most_takes, delivered, take_event, network_after};
 ghost use Rattle.norm_session.specs.SenderState.{enqueued, sender_datagram, sender_after};
 ghost use Rattle.norm_session.specs.Taking.{Takes};
-ghost use Rattle.norm_session.specs.HandingUp.{HandsUp, HandsUpNext};
+ghost use Rattle.norm_session.specs.Commands.{IsCommand};
+ghost use Rattle.norm_session.specs.WholeTurn.{moment_of, pulled, pull_part, TakesTurn};
+ghost use Rattle.norm_session.specs.HandingUp.{EndsTurn, HandsUp, HandsUpNext};
 ghost use Rattle.norm_session.specs.RunState.{with_events, with_sender, with_receiver};
 
 use crate::event::Event;
@@ -75,6 +77,14 @@ fn instance_of(profile: &Profile) -> InstanceId
     InstanceId(profile.instance)
 }
 
+/// The moment of a turn.
+fn moment_of(profile: &Profile, t: u32) -> Moment
+    requires { t ≤ 4000000 }
+    ensures { result ≡ moment_of profile.now t }
+{
+    Moment(u64::from(t) * u64::from(profile.step))
+}
+
 /// A copy of the octets.
 fn copy_of(alloc: Global, bytes: &[u8]) -> Result<Octets, SessionFault>
     ensures { IfOk result (λ octets. octets ≡ bytes.now) }
@@ -137,8 +147,7 @@ impl Run {
 
     /// Pulls a command: its object joins the order, and its line is written.
     fn pull<K: Sink>(&mut self, output: &mut K, line: &Line) -> Result<(), SessionFault>
-        requires least { 1 ≤ length (octets_of line.now.verb) }
-        requires most { length (octets_of line.now.verb) ≤ 1400 }
+        requires command { IsCommand line.now }
         requires room { length self.old.sender.order < 65536 }
         ensures state { OnOk result (self.new ≡ with_events
             (with_sender self.old (enqueued self.old.sender (entry_of line.now)))
@@ -296,6 +305,70 @@ impl Run {
                 return Ok(());
             }
         }
+        Ok(())
+    }
+
+    /// Turn `t` begins.
+    fn begin(&mut self, t: u32) -> Result<Moment, SessionFault>
+        requires { t ≤ 4000000 }
+        ensures { IfOk result (λ now. (now ≡ moment_of self.old.profile t)
+            × (self.new ≡ with_events self.old (Event.Turn t (moment_of self.old.profile t) ∷ []))) }
+    {
+        let now = moment_of(&self.profile, t);
+        self.note(Event::Turn { t, now })?;
+        Ok(now)
+    }
+
+    /// The turn's command is pulled, where there is one left.
+    fn pull_next<K: Sink>(
+        &mut self,
+        output: &mut K,
+        command: Option<&Line>,
+    ) -> Result<(), SessionFault>
+        requires command { IfSome command (λ line. IsCommand line.now) }
+        requires room { length self.old.sender.order < 65536 }
+        ensures state { OnOk result (self.new ≡ with_events
+            (with_sender self.old (pulled self.old.sender (option_copied command.entry)))
+            (pull_part self.old.sender (option_copied command.entry))) }
+        ensures written { OnOk result (K.written output.new ≡ gained (K.written output.old)
+            (lines_of self.old.profile.instance (pull_part self.old.sender (option_copied command.entry)))) }
+    {
+        match command {
+            Some(line) => self.pull(output, line),
+            None => Ok(()),
+        }
+    }
+
+    /// The receiver hands up what it can, and ticks.
+    fn end<K: Sink>(&mut self, output: &mut K) -> Result<(), SessionFault>
+        ensures { OnOk result (EndsTurn self.old self.new (K.written output.old) (K.written output.new)) }
+    {
+        self.hand_up(output)?;
+        let node = receiver_node(&self.profile);
+        let sent = Sent::Nothing;
+        self.note(Event::Tick { node, sent })
+    }
+
+    /// One turn, with the next command where there is one.
+    pub(crate) fn turn<K: Sink, F: Fabric>(
+        &mut self,
+        output: &mut K,
+        fabric: &mut F,
+        datagram: &mut Datagram,
+        t: u32,
+        command: Option<&Line>,
+    ) -> Result<(), SessionFault>
+        requires turn { t ≤ 4000000 }
+        requires command { IfSome command (λ line. IsCommand line.now) }
+        requires room { length self.old.sender.order < 65536 }
+        ensures { OnOk result (TakesTurn t (option_copied command.entry) self.old self.new
+            (F.told fabric.old) (F.told fabric.new) (K.written output.old) (K.written output.new)) }
+    {
+        let now = self.begin(t)?;
+        self.pull_next(output, command)?;
+        self.offer(fabric, datagram, now)?;
+        self.take_all(fabric, datagram)?;
+        self.end(output)?;
         Ok(())
     }
 }
