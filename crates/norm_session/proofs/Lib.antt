@@ -2,3 +2,4 @@ pub mod ToldLemmas
 pub mod TakingLemmas
 pub mod HandingLemmas
 pub mod TurnLemmas
+pub mod RunLemmas

@@ -8,3 +8,5 @@ pub mod RunState
 pub mod Taking
 pub mod HandingUp
 pub mod WholeTurn
+pub mod SessionRun
+pub mod Running

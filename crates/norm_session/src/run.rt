@@ -9,6 +9,9 @@ ghost use Rattle.norm_session.specs.SenderState.{enqueued, sender_datagram, send
 ghost use Rattle.norm_session.specs.Taking.{Takes};
 ghost use Rattle.norm_session.specs.Commands.{IsCommand};
 ghost use Rattle.norm_session.specs.WholeTurn.{moment_of, pulled, pull_part, TakesTurn};
+ghost use Rattle.std.specs.List.{AllByRecursion};
+ghost use Rattle.norm_session.specs.SessionRun.{first_of, rest_of, is_whole};
+ghost use Rattle.norm_session.specs.Running.{TakesTurns};
 ghost use Rattle.norm_session.specs.HandingUp.{EndsTurn, HandsUp, HandsUpNext};
 ghost use Rattle.norm_session.specs.RunState.{with_events, with_sender, with_receiver};
 
@@ -83,6 +86,17 @@ fn moment_of(profile: &Profile, t: u32) -> Moment
     ensures { result ≡ moment_of profile.now t }
 {
     Moment(u64::from(t) * u64::from(profile.step))
+}
+
+/// The next command, where there is one, and those after it.
+fn next_command(left: &[Line]) -> (Option<&Line>, &[Line])
+    ensures first { option_copied result.0 ≡ first_of left.now }
+    ensures rest { result.1.now ≡ rest_of left.now }
+{
+    match left {
+        [] => (None, left),
+        [command, rest @ ..] => (Some(command), rest),
+    }
 }
 
 /// A copy of the octets.
@@ -370,5 +384,52 @@ impl Run {
         self.take_all(fabric, datagram)?;
         self.end(output)?;
         Ok(())
+    }
+
+    /// Whether all commands were pulled and all was sent.
+    fn is_whole(&self, left: &[Line]) -> bool
+        ensures { result ≡ is_whole self.now.sender left.now }
+    {
+        left.is_empty() && self.sender.idle()
+    }
+
+    /// The profile's last turn.
+    fn last_turn(&self) -> u32
+        ensures value { result ≡ self.now.profile.turns }
+        ensures least { 1 ≤ result }
+        ensures most { result ≤ 4000000 }
+    {
+        let profile = &self.profile;
+        profile.turns
+    }
+
+    /// All turns: to the first at which the run is whole, or to the profile's last. Whether it is whole.
+    pub(crate) fn turns<K: Sink, F: Fabric>(
+        &mut self,
+        output: &mut K,
+        fabric: &mut F,
+        datagram: &mut Datagram,
+        commands: &[Line],
+    ) -> Result<bool, SessionFault>
+        requires each { AllByRecursion IsCommand commands.now }
+        requires few { length self.old.sender.order + length commands.now < 65536 }
+        ensures { IfOk result (TakesTurns commands.now self.old self.new
+            (F.told fabric.old) (F.told fabric.new) (K.written output.old) (K.written output.new)) }
+    {
+        let last = self.last_turn();
+        let mut left = commands;
+        let mut t = 1;
+        loop {
+            let (command, rest) = next_command(left);
+            self.turn(output, fabric, datagram, t, command)?;
+            left = rest;
+            if self.is_whole(left) {
+                return Ok(true);
+            }
+            if t >= last {
+                return Ok(false);
+            }
+            t += 1;
+        }
     }
 }
