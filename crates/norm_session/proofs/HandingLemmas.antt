@@ -1,11 +1,11 @@
-use Rattle.std.proofs.Common.{◌≡◌, ◌+◌, ◌∙◌, sym, ap, ℕ, suc, zero, List, [], ◌∷◌, ◌++◌, Option, Some, None, refl, Bool, true, false, is_some}
+use Rattle.std.proofs.Common.{◌≡◌, ◌+◌, ◌∙◌, sym, ap, ℕ, suc, zero, List, [], ◌∷◌, ◌++◌, Option, Some, None, refl, true, false, is_some}
 use Rattle.std.proofs.lemmas.List.{append-nil}
 use Rattle.norm_base.specs.Told.{gained}
 use Rattle.norm_session.specs.HandingUp.{HandsUp, HandsUpNext}
 use Rattle.norm_session.specs.Printed.{line_of, lines_of}
 use Rattle.norm_session.specs.ReceiverState.{ReceiverState, receiver_took, next_up}
 use Rattle.norm_session.specs.RunState.{RunState, with_events, with_receiver}
-use Rattle.norm_session.specs.Turn.{ups_of, taken_ups, up_event, up_events, with_up}
+use Rattle.norm_session.specs.Turn.{ups_of, taken_ups, up_event, up_events}
 use Rattle.norm_session.proofs.ToldLemmas.{gained-nil, gained-gained}
 use Rattle.norm_session.proofs.TakingLemmas.{with_events-nil, with_events-append}
 
@@ -37,7 +37,8 @@ hands-none most r new before after next =
     let nothing = ups_of-none most r.receiver none in
     record {
       state = rw (same, nothing) (rw none at next.state);
-      written = rw nothing (rw none at next.written) }
+      written = rw nothing (rw none at next.written);
+    }
 
 -- an object is handed up, and then the rest
 pub hands-some : (left most : ℕ) (r mid new : RunState) (before middle after : Option (List ℕ)) → left ≡ suc most
@@ -52,10 +53,11 @@ hands-some left most r mid new before middle after is next rest =
     let written : middle ≡ gained before (line_of r.profile.instance up ++ []) = rw one.1 at next.written in
     rw is (record {
       state = rw one.1 (rest.state
-        ∙ ap (λ (m : RunState). with_events (with_receiver m (taken_ups most m.receiver)) (up_events m.profile m.receiver.point (ups_of most m.receiver))) state
-        ∙ with_events-append (with_receiver r (taken_ups most took)) (up ∷ []) more);
+          ∙ ap (λ (m : RunState). with_events (with_receiver m (taken_ups most m.receiver)) (up_events m.profile m.receiver.point (ups_of most m.receiver))) state
+          ∙ with_events-append (with_receiver r (taken_ups most took)) (up ∷ []) more);
       written = rw one.1 (rest.written
-        ∙ ap (λ (m : RunState). gained middle (lines_of m.profile.instance (up_events m.profile m.receiver.point (ups_of most m.receiver)))) state
-        ∙ ap (λ told. gained told (lines_of r.profile.instance more)) written
-        ∙ gained-gained before (line_of r.profile.instance up ++ []) (lines_of r.profile.instance more)
-        ∙ ap (λ front. gained before (front ++ lines_of r.profile.instance more)) (append-nil (line_of r.profile.instance up))) })
+          ∙ ap (λ (m : RunState). gained middle (lines_of m.profile.instance (up_events m.profile m.receiver.point (ups_of most m.receiver)))) state
+          ∙ ap (λ told. gained told (lines_of r.profile.instance more)) written
+          ∙ gained-gained before (line_of r.profile.instance up ++ []) (lines_of r.profile.instance more)
+          ∙ ap (λ front. gained before (front ++ lines_of r.profile.instance more)) (append-nil (line_of r.profile.instance up)));
+    })

@@ -3,3 +3,4 @@ pub mod TakingLemmas
 pub mod HandingLemmas
 pub mod TurnLemmas
 pub mod RunLemmas
+pub mod SessionLemmas

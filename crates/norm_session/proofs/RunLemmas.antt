@@ -12,7 +12,7 @@ use Rattle.norm_session.specs.Running.{TakesTurns}
 use Rattle.norm_session.specs.RunState.{RunState}
 use Rattle.norm_session.specs.SessionRun.{Turns, first_of, rest_of, is_whole}
 use Rattle.norm_session.specs.Turn.{Answer, entry_of, network_after}
-use Rattle.norm_session.specs.WholeTurn.{TakesTurn, moment_of, turn_events, sender_after_turn, receiver_after_turn}
+use Rattle.norm_session.specs.WholeTurn.{TakesTurn, moment_of, turn_events, sender_after_turn}
 use Rattle.norm_session.specs.declared.event.Event.{Event}
 use Rattle.norm_session.specs.declared.script.Line.{Line}
 use Rattle.norm_session.proofs.ToldLemmas.{gained-nil, gained-gained}
@@ -36,7 +36,8 @@ going-start commands r n w = record {
   journal = sym (append-nil r.events);
   told = sym (network_after-nil n);
   lines = sym (gained-nil w);
-  goes_on = λ takes more whole h. (takes, h) }
+  goes_on = λ takes more whole h. (takes, h);
+}
 
 -- what a turn adds to a run so far
 turn_told : (b m a : Network) (xs ys : List Event) → m ≡ network_after b xs → a ≡ network_after m ys → a ≡ network_after b (xs ++ ys)
@@ -66,9 +67,10 @@ going-turn commands left t start now next n0 n1 n2 w0 w1 w2 going turn test =
       told = turn_told n0 n1 n2 going.so_far events going.told turn.told;
       lines = turn_lines start.profile.instance now.profile.instance w0 w1 w2 going.so_far events (ap (λ p. p.instance) going.profile) going.lines turn.lines;
       goes_on = λ takes more whole h.
-        let rest = rw turn.state at h in
-        let done = going.goes_on (turn.answers ∷ takes) (events ++ more) whole (turn.is_taking, (more, refl, rw open_test rest)) in
-        (done.0, rw (append_assoc going.so_far events more) done.1) }
+          let rest = rw turn.state at h in
+          let done = going.goes_on (turn.answers ∷ takes) (events ++ more) whole (turn.is_taking, (more, refl, rw open_test rest)) in
+          (done.0, rw (append_assoc going.so_far events more) done.1);
+    }
 
 -- the last turn
 pub going-done : (commands left : List Line) (t : ℕ) (start now next : RunState) (n0 n1 n2 : Network) (w0 w1 w2 : Option (List ℕ))
@@ -89,7 +91,8 @@ going-done commands left t start now next n0 n1 n2 w0 w1 w2 going turn test =
       profile = ap (λ (r : RunState). r.profile) turn.state ∙ going.profile;
       journal = turn_journal next.events start.events now.events going.so_far events going.journal (ap (λ (r : RunState). r.events) turn.state);
       told = turn_told n0 n1 n2 going.so_far events going.told turn.told;
-      lines = turn_lines start.profile.instance now.profile.instance w0 w1 w2 going.so_far events (ap (λ p. p.instance) going.profile) going.lines turn.lines }
+      lines = turn_lines start.profile.instance now.profile.instance w0 w1 w2 going.so_far events (ap (λ p. p.instance) going.profile) going.lines turn.lines;
+    }
 
 -- the commands after the next one are commands
 pub rest_are : (P : Line → Type 0) (left : List Line) → AllByRecursion P left → AllByRecursion P (rest_of left)

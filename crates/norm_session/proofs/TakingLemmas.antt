@@ -1,11 +1,10 @@
-use Rattle.std.proofs.Common.{◌≡◌, ◌∙◌, sym, ap, ℕ, suc, zero, List, [], ◌∷◌, ◌++◌, Some, None, refl, map, append_assoc, subst}
+use Rattle.std.proofs.Common.{◌≡◌, ◌∙◌, sym, ap, ℕ, suc, List, [], ◌∷◌, ◌++◌, Some, None, refl, map, append_assoc}
 use Rattle.std.proofs.lemmas.List.{append-nil}
 use Rattle.std.specs.List.{flat_map}
-use Rattle.norm_base.specs.Told.{gained}
 use Rattle.norm_base.specs.Network.{Network, with_answer}
 use Rattle.norm_session.specs.RunState.{RunState, with_events, with_receiver}
 use Rattle.norm_session.specs.Taking.{Takes}
-use Rattle.norm_session.specs.Turn.{Answer, IsTaking, take_event, delivered, delivered_all, network_after, offer_of, answer_in}
+use Rattle.norm_session.specs.Turn.{Answer, take_event, delivered, delivered_all, network_after, answer_in}
 use Rattle.norm_session.specs.declared.event.Event.{Event}
 use Rattle.norm_session.proofs.ToldLemmas.{gained-nil, gained-gained}
 
@@ -35,7 +34,8 @@ takes-zero r n = record {
   answers = [];
   is_taking = refl;
   state = sym (with_events-nil r);
-  told = sym (network_after-nil n) }
+  told = sym (network_after-nil n);
+}
 
 -- the network had none
 pub takes-none : (most : ℕ) (r new : RunState) (n after : Network)
@@ -45,7 +45,8 @@ takes-none most r new n after state told = record {
   answers = None ∷ [];
   is_taking = refl;
   state = state;
-  told = told ∙ sym (network_after-take n None) }
+  told = told ∙ sym (network_after-take n None);
+}
 
 -- a datagram was taken, and then the rest
 pub takes-some : (most : ℕ) (taken : ℕ × List ℕ) (r mid new : RunState) (n middle after : Network)
@@ -57,7 +58,8 @@ takes-some most taken r mid new n middle after state told rest = record {
   is_taking = rest.is_taking;
   state = rest.state ∙ ap (λ (m : RunState). with_events (with_receiver m (delivered_all m.profile m.receiver rest.answers)) (map take_event rest.answers)) state
       ∙ with_events-append (with_receiver r (delivered_all r.profile r.receiver (Some taken ∷ rest.answers))) (take_event (Some taken) ∷ []) (map take_event rest.answers);
-  told = rest.told ∙ ap (λ m. network_after m (map take_event rest.answers)) told ∙ network_after-cons n (Some taken) (map take_event rest.answers) }
+  told = rest.told ∙ ap (λ m. network_after m (map take_event rest.answers)) told ∙ network_after-cons n (Some taken) (map take_event rest.answers);
+}
 
 -- the same where the number that may still be taken is given by an equation
 pub takes-none_of : (left most : ℕ) (r new : RunState) (n after : Network) → left ≡ suc most

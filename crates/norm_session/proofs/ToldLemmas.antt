@@ -1,4 +1,4 @@
-use Rattle.std.proofs.Common.{◌≡◌, ◌∙◌, sym, ap, List, [], ◌++◌, Option, Some, None, refl, append_assoc}
+use Rattle.std.proofs.Common.{◌≡◌, ap, List, [], ◌++◌, Option, Some, None, refl, append_assoc}
 use Rattle.std.proofs.lemmas.List.{append-nil}
 use Rattle.norm_base.specs.Told.{gained}
 

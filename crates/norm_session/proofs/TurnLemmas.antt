@@ -11,7 +11,7 @@ use Rattle.norm_session.specs.SenderState.{SenderState, sender_datagram}
 use Rattle.norm_session.specs.Taking.{Takes}
 use Rattle.norm_session.specs.HandingUp.{EndsTurn}
 use Rattle.norm_session.specs.Turn.{Answer, IsTaking, most_takes, take_event, offer_of, answer_in, offer_events, up_events, ups_of, taken_ups, delivered_all, receiver_node, network_after}
-use Rattle.norm_session.specs.WholeTurn.{TakesTurn, turn_events, moment_of, pulled, pull_part, sender_ticked}
+use Rattle.norm_session.specs.WholeTurn.{TakesTurn, moment_of, pulled, pull_part, sender_ticked}
 use Rattle.norm_session.specs.declared.event.Event.{Event}
 use Rattle.norm_session.specs.declared.event.Event.TheVariants.{Turn, Tick}
 use Rattle.norm_session.specs.declared.script.Line.{Line}
@@ -21,8 +21,12 @@ use Rattle.norm_session.proofs.ToldLemmas.{gained-nil, gained-gained}
 -- the network has two parts of the journal, one after the other
 pub network_after-append : (n : Network) (xs ys : List Event) → network_after (network_after n xs) ys ≡ network_after n (xs ++ ys)
 network_after-append n xs ys =
-    rw (gained-gained n.offered (flat_map offer_of xs) (flat_map offer_of ys), gained-gained n.answers (flat_map answer_in xs) (flat_map answer_in ys),
-        flat_map-append offer_of xs ys, flat_map-append answer_in xs ys) refl
+    rw (
+      gained-gained n.offered (flat_map offer_of xs) (flat_map offer_of ys),
+      gained-gained n.answers (flat_map answer_in xs) (flat_map answer_in ys),
+      flat_map-append offer_of xs ys,
+      flat_map-append answer_in xs ys,
+    ) refl
 
 pub lines_of-append : (i : ℕ) (xs ys : List Event) → lines_of i (xs ++ ys) ≡ lines_of i xs ++ lines_of i ys
 lines_of-append i xs ys = flat_map-append (line_of i) xs ys
@@ -80,9 +84,9 @@ lines_parts : (i : ℕ) (p o a u x : List Event) → lines_of i o ≡ [] → lin
 lines_parts i p o a u x none_o none_a none_x =
     lines_of-append i p (o ++ (a ++ (u ++ x)))
     ∙ ap (λ rest. lines_of i p ++ rest) (
-        lines_of-append i o (a ++ (u ++ x)) ∙ ap (λ front. front ++ lines_of i (a ++ (u ++ x))) none_o
-        ∙ lines_of-append i a (u ++ x) ∙ ap (λ front. front ++ lines_of i (u ++ x)) none_a
-        ∙ lines_of-append i u x ∙ ap (λ back. lines_of i u ++ back) none_x ∙ append-nil (lines_of i u))
+    lines_of-append i o (a ++ (u ++ x)) ∙ ap (λ front. front ++ lines_of i (a ++ (u ++ x))) none_o
+    ∙ lines_of-append i a (u ++ x) ∙ ap (λ front. front ++ lines_of i (u ++ x)) none_a
+    ∙ lines_of-append i u x ∙ ap (λ back. lines_of i u ++ back) none_x ∙ append-nil (lines_of i u))
 
 six_parts : (e h p o a u x : List Event) → (((((e ++ h) ++ p) ++ o) ++ a) ++ u) ++ x ≡ e ++ (h ++ (p ++ (o ++ (a ++ (u ++ x)))))
 six_parts e h p o a u x =
@@ -119,16 +123,17 @@ whole_turn t command answers r0 r1 r2 r3 r4 r5 r6 n0 n1 n2 w0 w1 w2 e1 e2 f1 e3 
       answers = answers;
       is_taking = taking;
       state = rw (e6, e5, e4, e3, e2, e1) (ap
-        (λ events. record { profile = p; sender = sender_ticked p (pulled r0.sender command) now; receiver = taken_ups (length got.held) got; events = events })
-        (six_parts r0.events (Turn t now ∷ []) pull offer takes ups tick));
+          (λ events. record { profile = p; sender = sender_ticked p (pulled r0.sender command) now; receiver = taken_ups (length got.held) got; events = events })
+          (six_parts r0.events (Turn t now ∷ []) pull offer takes ups tick));
       told = rw (g2, g1, e2, e1) (sym (told_parts n0 pull offer takes ups tick
-        (record { offers = offers-pull r0.sender command; answers = answers-pull r0.sender command })
-        (record { offers = offers-ups p got.point (ups_of (length got.held) got); answers = answers-ups p got.point (ups_of (length got.held) got) })
-        (record { offers = refl; answers = refl })));
+          (record { offers = offers-pull r0.sender command; answers = answers-pull r0.sender command })
+          (record { offers = offers-ups p got.point (ups_of (length got.held) got); answers = answers-ups p got.point (ups_of (length got.held) got) })
+          (record { offers = refl; answers = refl })));
       lines = rw (f2, f1, e4, e3, e2, e1) (
-        gained-gained w0 (lines_of p.instance pull) (lines_of p.instance ups)
-        ∙ ap (gained w0) (sym (lines_parts p.instance pull offer takes ups tick
-            (lines_of-offer p.instance p.sender (sender_datagram p (pulled r0.sender command) now)) (lines_of-takes p.instance answers) refl))) }
+          gained-gained w0 (lines_of p.instance pull) (lines_of p.instance ups)
+          ∙ ap (gained w0) (sym (lines_parts p.instance pull offer takes ups tick
+          (lines_of-offer p.instance p.sender (sender_datagram p (pulled r0.sender command) now)) (lines_of-takes p.instance answers) refl)));
+    }
 
 -- the same from what the parts of a turn say
 pub turn_of_parts : (t now : ℕ) (command : Option Line) (r0 r1 r2 r3 r4 r6 : RunState) (n0 n1 n2 : Network) (w0 w1 w2 : Option (List ℕ))
@@ -143,4 +148,4 @@ pub turn_of_parts : (t now : ℕ) (command : Option Line) (r0 r1 r2 r3 r4 r6 : R
     → TakesTurn t command r0 r6 n0 n2 w0 w2
 turn_of_parts t now command r0 r1 r2 r3 r4 r6 n0 n1 n2 w0 w1 w2 is e1 e2 f1 e3 g1 takes ends =
     whole_turn t command takes.answers r0 r1 r2 r3 r4 ends.handed r6 n0 n1 n2 w0 w1 w2
-      e1 e2 f1 (rw is at e3) (rw is at g1) takes.is_taking takes.state takes.told ends.ups.state ends.ups.written ends.state
+    e1 e2 f1 (rw is at e3) (rw is at g1) takes.is_taking takes.state takes.told ends.ups.state ends.ups.written ends.state

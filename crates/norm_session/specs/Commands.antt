@@ -1,4 +1,4 @@
-use Rattle.std.specs.Prelude.{ℕ, ◌≤◌, List, length}
+use Rattle.std.specs.Prelude.{◌≤◌, List, length}
 use Rattle.norm_base.specs.Settings.{Settings}
 use Rattle.norm_session.specs.declared.script.Line.{Line}
 use Rattle.norm_session.specs.Turn.{octets_of}

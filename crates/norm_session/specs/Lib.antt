@@ -10,3 +10,4 @@ pub mod HandingUp
 pub mod WholeTurn
 pub mod SessionRun
 pub mod Running
+pub mod Session

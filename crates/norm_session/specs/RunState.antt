@@ -1,8 +1,9 @@
-use Rattle.std.specs.Prelude.{List, ◌++◌}
+use Rattle.std.specs.Prelude.{List, [], ◌∷◌, ◌++◌}
 use Rattle.norm_base.specs.Settings.{Settings}
 use Rattle.norm_session.specs.declared.event.Event.{Event}
-use Rattle.norm_session.specs.SenderState.{SenderState}
-use Rattle.norm_session.specs.ReceiverState.{ReceiverState}
+use Rattle.norm_session.specs.declared.event.Event.TheVariants.{Start}
+use Rattle.norm_session.specs.SenderState.{SenderState, sender_opening}
+use Rattle.norm_session.specs.ReceiverState.{ReceiverState, receiver_opening}
 
 -- a run so far: its profile, its two nodes, and its journal
 pub record RunState : Type 0 where
@@ -19,3 +20,7 @@ with_sender r sender = record { profile = r.profile; sender = sender; receiver =
 
 abbrev pub with_receiver : RunState → ReceiverState → RunState
 with_receiver r receiver = record { profile = r.profile; sender = r.sender; receiver = receiver; events = r.events }
+
+-- a run that was started: nothing was done yet
+abbrev pub opening : Settings → RunState
+opening p = record { profile = p; sender = sender_opening; receiver = receiver_opening; events = Start ∷ [] }

@@ -33,11 +33,19 @@ enqueued s entry = record { order = s.order ++ entry ∷ []; next = s.next; next
 abbrev pub symbol_of : Settings → ℕ → ℕ → List ℕ → Data
 symbol_of p sequence index octets = record {
   head = record {
-    source = p.sender; sequence = sequence; instance = p.instance; grtt = p.grtt_code;
-    backoff = p.k; gsize = p.gsize_code; flags = 0; object = (p.first + index) % 65536 };
+    source = p.sender;
+    sequence = sequence;
+    instance = p.instance;
+    grtt = p.grtt_code;
+    backoff = p.k;
+    gsize = p.gsize_code;
+    flags = 0;
+    object = (p.first + index) % 65536;
+  };
   id = record { block = 0; symbol = 0 };
   exts = fti_octets (record { l = length octets; e = p.e; b = p.b; max_n = p.max_n });
-  payload = octets }
+  payload = octets;
+}
 
 -- a sum of moments that passes 64 bits is the last one
 abbrev pub later : ℕ → ℕ → ℕ
@@ -46,7 +54,11 @@ later now gap = min (now + gap) 18446744073709551615
 -- after the next object's symbol was sent
 abbrev pub sent_next : Settings → SenderState → ℕ → SenderState
 sent_next p s now = record {
-  order = s.order; next = s.next + 1; next_send = later now p.gap; sequence = (s.sequence + 1) % 65536 }
+  order = s.order;
+  next = s.next + 1;
+  next_send = later now p.gap;
+  sequence = (s.sequence + 1) % 65536;
+}
 
 -- The datagram of a tick: none before the next send moment, and none where all was sent; else the next object's
 -- one symbol.

@@ -1,16 +1,13 @@
-use Rattle.std.specs.Prelude.{◌≡◌, ℕ, ◌+◌, ◌==◌, ◌&&◌, ◌||◌, ◌≤◌, List, [], ◌∷◌, ◌++◌, length, nat_le, Bool, true, false, MatchBool, Option, None, Some}
+use Rattle.std.specs.Prelude.{◌≡◌, ℕ, ◌+◌, ◌==◌, ◌&&◌, ◌||◌, ◌≤◌, List, [], ◌∷◌, ◌++◌, length, nat_le, Bool, MatchBool, Option, None, Some}
 use Rattle.std.specs.List.{AllByRecursion}
 use Rattle.norm_base.specs.Settings.{Settings}
-use Rattle.norm_base.specs.Network.{Network}
-use Rattle.norm_base.specs.Told.{gained}
 use Rattle.norm_session.specs.declared.event.Event.{Event}
 use Rattle.norm_session.specs.declared.event.Event.TheVariants.{Start}
 use Rattle.norm_session.specs.declared.script.Line.{Line}
 use Rattle.norm_session.specs.Commands.{Commands, IsCommand}
 use Rattle.norm_session.specs.SenderState.{SenderState, sender_opening}
 use Rattle.norm_session.specs.ReceiverState.{ReceiverState, receiver_opening}
-use Rattle.norm_session.specs.Printed.{lines_of}
-use Rattle.norm_session.specs.Turn.{Answer, IsTaking, most_takes, network_after}
+use Rattle.norm_session.specs.Turn.{Answer, IsTaking, most_takes}
 use Rattle.norm_session.specs.WholeTurn.{turn_events, sender_after_turn, receiver_after_turn}
 
 -- the next command, where there is one, and those after it
@@ -33,10 +30,10 @@ Turns p s r t commands [] events whole = ⊥
 Turns p s r t commands (answers ∷ takes) events whole =
     IsTaking most_takes answers
     × ((more : List Event)
-      × (events ≡ turn_events p s r t (first_of commands) answers ++ more)
-      × MatchBool (is_whole (sender_after_turn p s t (first_of commands)) (rest_of commands) || t == p.turns)
-          ((takes ≡ []) × (more ≡ []) × (whole ≡ is_whole (sender_after_turn p s t (first_of commands)) (rest_of commands)))
-          (Turns p (sender_after_turn p s t (first_of commands)) (receiver_after_turn p r answers) (t + 1) (rest_of commands) takes more whole))
+    × (events ≡ turn_events p s r t (first_of commands) answers ++ more)
+    × MatchBool (is_whole (sender_after_turn p s t (first_of commands)) (rest_of commands) || t == p.turns)
+    ((takes ≡ []) × (more ≡ []) × (whole ≡ is_whole (sender_after_turn p s t (first_of commands)) (rest_of commands)))
+    (Turns p (sender_after_turn p s t (first_of commands)) (receiver_after_turn p r answers) (t + 1) (rest_of commands) takes more whole))
 
 -- A journal is a run of these commands: the network was started, and the turns from 1 on followed.
 pub record SessionRun (script : Commands) (journal : List Event) (whole : Bool) : Type 0 where

@@ -1,4 +1,4 @@
-use Rattle.std.specs.Prelude.{◌≡◌, ◌+◌, ℕ, List, map, ◌++◌}
+use Rattle.std.specs.Prelude.{◌≡◌, ℕ, List, map}
 use Rattle.norm_base.specs.Network.{Network}
 use Rattle.norm_session.specs.RunState.{RunState, with_events, with_receiver}
 use Rattle.norm_session.specs.Turn.{Answer, IsTaking, take_event, delivered_all, network_after}

@@ -23,7 +23,7 @@ handed _ = 0
 unfoldable pub summary : (objects octets handed : ℕ) → List ℕ
 summary objects octets handed =
     line (codes "end objects" ∷ decimal objects ∷ codes "octets" ∷ decimal octets ∷ codes "handed" ∷ decimal handed
-        ∷ codes "lost 0 satisfied 0 expired 0 cut 0" ∷ [])
+    ∷ codes "lost 0 satisfied 0 expired 0 cut 0" ∷ [])
 
 -- the last line of a run
 abbrev pub end_line : List Event → List ℕ

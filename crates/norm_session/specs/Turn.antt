@@ -1,4 +1,4 @@
-use Rattle.std.specs.Prelude.{◌≡◌, ℕ, suc, zero, ◌+◌, ◌==◌, List, [], ◌∷◌, ◌++◌, length, map, Option, None, Some, Ok, if◌then◌else◌}
+use Rattle.std.specs.Prelude.{◌≡◌, ℕ, suc, zero, ◌+◌, ◌==◌, List, [], ◌∷◌, ◌++◌, length, Option, None, Some, Ok, if◌then◌else◌}
 use Rattle.std.specs.List.{flat_map}
 use Rattle.norm_base.specs.Settings.{Settings}
 use Rattle.norm_base.specs.Network.{Network}
@@ -16,7 +16,7 @@ use Rattle.norm_session.specs.declared.job.Up.TheVariants as up
 use Rattle.norm_session.specs.declared.script.Line.{Line}
 use Rattle.norm_session.specs.declared.script.Verb.{Verb}
 use Rattle.norm_session.specs.declared.script.Verb.TheVariants as verb
-use Rattle.norm_session.specs.SenderState.{SenderState, Entry, enqueued, sender_datagram, sender_after}
+use Rattle.norm_session.specs.SenderState.{SenderState, Entry}
 use Rattle.norm_session.specs.ReceiverState.{ReceiverState, receiver_got, receiver_took, next_up, object_in}
 
 -- what a take of the network answered: a member and a datagram, or nothing
@@ -117,8 +117,11 @@ answer_in _ = []
 -- what the network tells after these events
 abbrev pub network_after : Network → List Event → Network
 network_after n events = record {
-  starts = n.starts; offered = gained n.offered (flat_map offer_of events);
-  answers = gained n.answers (flat_map answer_in events); honest = n.honest }
+  starts = n.starts;
+  offered = gained n.offered (flat_map offer_of events);
+  answers = gained n.answers (flat_map answer_in events);
+  honest = n.honest;
+}
 
 -- a turn takes until there is none, or 512 datagrams
 abbrev pub most_takes : ℕ

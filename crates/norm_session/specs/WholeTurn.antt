@@ -34,8 +34,8 @@ abbrev pub turn_events : Settings → SenderState → ReceiverState → ℕ → 
 turn_events p s r t command answers =
     Turn t (moment_of p t)
     ∷ (pull_part s command
-      ++ (offer_events p.sender (sender_datagram p (pulled s command) (moment_of p t))
-        ++ (map take_event answers ++ receiver_events p (delivered_all p r answers))))
+    ++ (offer_events p.sender (sender_datagram p (pulled s command) (moment_of p t))
+    ++ (map take_event answers ++ receiver_events p (delivered_all p r answers))))
 
 -- the nodes after that turn
 abbrev pub sender_after_turn : Settings → SenderState → ℕ → Option Line → SenderState

@@ -10,9 +10,14 @@ pub enum Event {
     /// The network was started.
     Start,
     /// A turn began, at its moment.
-    Turn { t: u32, now: Moment },
+    Turn {
+        t: u32,
+        now: Moment,
+    },
     /// A command was pulled.
-    Pull { by: Origin },
+    Pull {
+        by: Origin,
+    },
     /// The sender was given a job. A further offer of a waiting job is kept without it.
     Job {
         by: Origin,
@@ -20,11 +25,20 @@ pub enum Event {
         gave: Result<Receipt, SendFault>,
     },
     /// A node ticked.
-    Tick { node: NodeId, sent: Sent },
+    Tick {
+        node: NodeId,
+        sent: Sent,
+    },
     /// A node's datagram was offered to the network.
-    Offer { from: NodeId, bytes: Octets },
+    Offer {
+        from: NodeId,
+        bytes: Octets,
+    },
     /// A datagram was taken from the network, and delivered where the run has that node.
-    Took { to: NodeId, bytes: Octets },
+    Took {
+        to: NodeId,
+        bytes: Octets,
+    },
     /// The network had no datagram ready.
     Empty,
     /// A receiver handed something up.

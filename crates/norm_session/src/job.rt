@@ -6,10 +6,7 @@ use norm_base::{Kind, Octets};
 #[derive(Clone, Debug, PartialEq, Eq, Drop)]
 pub enum Job {
     /// Enqueues a data object.
-    Data {
-        info: Option<Octets>,
-        bytes: Octets,
-    },
+    Data { info: Option<Octets>, bytes: Octets },
 }
 
 /// What a sender did.

@@ -9,9 +9,11 @@ mod receiver;
 mod run;
 mod script;
 mod sender;
+mod session;
 mod totals;
 
 pub use crate::event::{Event, Journal};
 pub use crate::job::{Job, Receipt, SendFault, Up};
 pub use crate::run::SessionFault;
 pub use crate::script::{Line, Script, Verb};
+pub use crate::session::{Ended, run_session};

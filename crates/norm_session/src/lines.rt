@@ -45,12 +45,7 @@ fn enq_line(
 
 /// Who handed up an object, and its index.
 #[tactic(auto, unfolding(crate::specs::Printed::place_words))]
-fn place_words(
-    alloc: Global,
-    node: u32,
-    instance: u16,
-    index: u32,
-) -> Result<String, AllocError>
+fn place_words(alloc: Global, node: u32, instance: u16, index: u32) -> Result<String, AllocError>
     ensures { IfOk result (λ text. string_bytes text ≡ place_words node instance index) }
 {
     format!(in alloc; "{node} {instance} {index}")
@@ -72,12 +67,7 @@ fn object_line(
 }
 
 /// The line of what was handed up.
-fn up_line(
-    alloc: Global,
-    node: NodeId,
-    instance: InstanceId,
-    up: &Up,
-) -> Result<String, AllocError>
+fn up_line(alloc: Global, node: NodeId, instance: InstanceId, up: &Up) -> Result<String, AllocError>
     ensures { IfOk result (λ text. string_bytes text ≡ up_line node instance up.now) }
 {
     match up {

@@ -2,7 +2,7 @@
 
 ghost use Rattle.std.specs.Prelude.{◌≡◌, ◌+◌, ◌*◌, ◌<◌, ◌≤◌, ◌∷◌, [], ◌++◌, length, map, OnOk, IfOk, IfSome, List, Some, option_copied};
 ghost use Rattle.norm_base.specs.Told.{gained};
-ghost use Rattle.norm_base.specs.Network.{with_offer, with_answer, answer_of};
+ghost use Rattle.norm_base.specs.Network.{Starts, with_offer, with_answer, answer_of};
 ghost use Rattle.norm_session.specs.Printed.{line_of, lines_of};
 ghost use Rattle.norm_session.specs.Turn.{octets_of, entry_of, job_of, pull_events, offer_events, most_takes, delivered, take_event, network_after};
 ghost use Rattle.norm_session.specs.SenderState.{enqueued, sender_datagram, sender_after};
@@ -11,18 +11,21 @@ ghost use Rattle.norm_session.specs.Commands.{IsCommand};
 ghost use Rattle.norm_session.specs.WholeTurn.{moment_of, pulled, pull_part, TakesTurn};
 ghost use Rattle.std.specs.List.{AllByRecursion};
 ghost use Rattle.norm_session.specs.SessionRun.{first_of, rest_of, is_whole};
+ghost use Rattle.norm_session.specs.Totals.{end_line};
 ghost use Rattle.norm_session.specs.Running.{TakesTurns};
 ghost use Rattle.norm_session.specs.HandingUp.{EndsTurn, HandsUp, HandsUpNext};
-ghost use Rattle.norm_session.specs.RunState.{with_events, with_sender, with_receiver};
+ghost use Rattle.norm_session.specs.RunState.{opening, with_events, with_sender, with_receiver};
 
-use crate::event::Event;
+use crate::event::{Event, Journal};
 use crate::job::{Job, Up};
 use crate::lines::line_of;
 use crate::receiver::Receiver;
 use crate::script::{Line, Verb};
 use crate::sender::Sender;
+use crate::totals::end_line;
 use norm_base::{
-    Datagram, Fabric, FabricFault, InstanceId, Kind, Memory, Moment, NodeId, Octets, Origin, Profile, Sent, Sink,
+    Datagram, Fabric, FabricFault, InstanceId, Kind, Local, Memory, Moment, NodeId, Octets, Origin,
+    Profile, Sent, Sink,
 };
 use std::alloc::Global;
 use std::marker::Model;
@@ -131,6 +134,55 @@ fn job_of(alloc: Global, verb: &Verb) -> Result<Job, SessionFault>
 }
 
 impl Run {
+    /// The network is started with all members, and a run begins.
+    pub(crate) fn start<F: Fabric>(
+        alloc: Global,
+        profile: &Profile,
+        fabric: &mut F,
+    ) -> Result<Run, SessionFault>
+        ensures state { IfOk result (λ run. run ≡ opening profile.now) }
+        ensures told { OnOk result (Starts (F.told fabric.old) (F.told fabric.new) profile.now Local.All) }
+    {
+        match fabric.start(profile, Local::All) {
+            Ok(()) => {}
+            Err(FabricFault::Failed) => return Err(SessionFault::Fabric),
+            Err(FabricFault::Memory) => return Err(SessionFault::Memory),
+        }
+        let mut events = Vec::new(alloc);
+        if events.push(Event::Start).is_err() {
+            return Err(SessionFault::Memory);
+        }
+        Ok(Run {
+            alloc,
+            profile: *profile,
+            sender: Sender::new(alloc),
+            receiver: Receiver::new(alloc),
+            events,
+        })
+    }
+
+    /// The journal of the run.
+    pub(crate) fn into_journal(self) -> Journal
+        ensures { result ≡ self.events }
+    {
+        Journal {
+            events: self.events,
+        }
+    }
+
+    /// The summary is written.
+    pub(crate) fn summarize<K: Sink>(&self, output: &mut K) -> Result<(), SessionFault>
+        ensures { OnOk result (K.written output.new ≡ gained (K.written output.old) (end_line self.now.events)) }
+    {
+        let Ok(line) = end_line(self.alloc, &self.events) else {
+            return Err(SessionFault::Memory);
+        };
+        match output.write(line.as_bytes()) {
+            Ok(()) => Ok(()),
+            Err(_) => Err(SessionFault::Write),
+        }
+    }
+
     /// An event joins the journal.
     fn note(&mut self, event: Event) -> Result<(), SessionFault>
         ensures ok { OnOk result (self.new ≡ with_events self.old (event ∷ [])) }
@@ -194,7 +246,7 @@ impl Run {
     ) -> Result<(), SessionFault>
         ensures state { OnOk result (let datagram = sender_datagram self.old.profile self.old.sender now in
             self.new ≡ with_events (with_sender self.old (sender_after self.old.profile self.old.sender now datagram))
-                (offer_events self.old.profile.sender datagram)) }
+            (offer_events self.old.profile.sender datagram)) }
         ensures told { OnOk result (F.told fabric.new ≡ network_after (F.told fabric.old)
             (offer_events self.old.profile.sender (sender_datagram self.old.profile self.old.sender now))) }
     {

@@ -7,10 +7,7 @@ use std::marker::Model;
 #[derive(Clone, Debug, PartialEq, Eq, Drop)]
 pub enum Verb {
     /// Sends a data object, with its info if it has one.
-    Data {
-        info: Option<Octets>,
-        bytes: Octets,
-    },
+    Data { info: Option<Octets>, bytes: Octets },
 }
 
 /// A command: its producer, that producer's number of it (1, 2, ..), and what it does.

@@ -65,7 +65,10 @@ fn write_symbol(profile: &Profile, sequence: u16, index: usize, octets: &[u8], o
     };
     let message = DataMsg {
         head,
-        id: PayloadId { block: 0, symbol: 0 },
+        id: PayloadId {
+            block: 0,
+            symbol: 0,
+        },
         exts: &fti.octets(),
         payload: octets,
     };
@@ -87,7 +90,11 @@ impl Model for Sender {
     ghost Value = { SenderState };
 
     ghost view = { λ s. record {
-        order = s.order.items; next = s.next; next_send = s.next_send; sequence = s.sequence } };
+      order = s.order.items;
+      next = s.next;
+      next_send = s.next_send;
+      sequence = s.sequence;
+    } };
 }
 
 impl Sender {
@@ -109,7 +116,10 @@ impl Sender {
         requires most { length bytes ≤ 1400 }
         requires room { length self.old.order < 65536 }
         ensures state { OnOk result (self.new ≡ enqueued self.old (record {
-            producer = by.producer; number = by.number; octets = bytes })) }
+          producer = by.producer;
+          number = by.number;
+          octets = bytes;
+        })) }
         ensures receipt { IfOk result (λ r. r ≡ Receipt.Object (length self.old.order) (length bytes)) }
         ensures err { OnErr result (self.new ≡ self.old) }
     {

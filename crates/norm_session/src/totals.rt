@@ -80,7 +80,9 @@ fn count_handed(events: &[Event]) -> u64
 fn summary(alloc: Global, objects: u64, octets: u128, handed: u64) -> Result<String, AllocError>
     ensures { IfOk result (λ text. string_bytes text ≡ summary objects octets handed) }
 {
-    format!(in alloc; "end objects {objects} octets {octets} handed {handed} lost 0 satisfied 0 expired 0 cut 0\n")
+    format!(in alloc;
+        "end objects {objects} octets {octets} handed {handed} lost 0 satisfied 0 expired 0 cut 0\n"
+    )
 }
 
 /// The last line of a run with these events, with its line feed.

@@ -10,7 +10,7 @@ returns-in-None g c =
     let t = c.loop-taken._taken in
     let left : most_takes - t ≡ suc (most_takes - (t + 1)) = omega arith in
     c.loop-taken.invariant c.take.new.self (told c.take.new.fabric)
-        (takes-none_of (most_takes - t) (most_takes - (t + 1)) c.loop-taken.self c.take.new.self (told c.loop-taken.fabric) (told c.take.new.fabric) left took.0 took.1)
+    (takes-none_of (most_takes - t) (most_takes - (t + 1)) c.loop-taken.self c.take.new.self (told c.loop-taken.fabric) (told c.take.new.fabric) left took.0 took.1)
 
 pub loop-taken-preserved : goal.loop-taken-preserved
 loop-taken-preserved g c = λ new after rest.
@@ -19,5 +19,5 @@ loop-taken-preserved g c = λ new after rest.
     let t = c.loop-taken._taken in
     let left : most_takes - t ≡ suc (most_takes - (t + 1)) = omega arith in
     c.loop-taken.invariant new after
-        (takes-some_of (most_takes - t) (most_takes - (t + 1)) (c.in-Some.field-0, c.take.new.datagram) c.loop-taken.self c.take.new.self new
-            (told c.loop-taken.fabric) (told c.take.new.fabric) after left took.0 took.1 rest)
+    (takes-some_of (most_takes - t) (most_takes - (t + 1)) (c.in-Some.field-0, c.take.new.datagram) c.loop-taken.self c.take.new.self new
+    (told c.loop-taken.fabric) (told c.take.new.fabric) after left took.0 took.1 rest)

@@ -1,16 +1,18 @@
-use Rattle.std.proofs.Common.{◌≡◌, ◌+◌, ◌≤◌, ◌<◌, ◌∙◌, length, true, false, arith, sym, ap}
+use Rattle.std.proofs.Common.{◌∙◌, arith, sym, ap}
 use Rattle.norm_session.specs.RunState.{RunState}
-use Rattle.std.specs.Option.{option_copied}
 use Rattle.norm_session.specs.Commands.{IsCommand}
-use Rattle.norm_session.specs.SessionRun.{first_of, rest_of, is_whole}
-use Rattle.norm_session.specs.WholeTurn.{TakesTurn}
 use Rattle.norm_session.proofs.RunLemmas.{going-start, goes_on_after, ends_whole, ends_spent, rest_are, turn_room}
 use Rattle.norm_session.proofs.run.Run.turns.Goals as goal
 
 pub loop-left-init : goal.loop-left-init
-loop-left-init g c =
-    (going-start c.args.commands.now c.args.self.now (g.F.Fabric.told c.args.fabric.now) (g.K.Sink.written c.args.output.now),
-      c.requires.each, c.requires.few, c.last_turn-last.ensures.least, sym c.last_turn-last.ensures.value, c.last_turn-last.ensures.most)
+loop-left-init g c = (
+  going-start c.args.commands.now c.args.self.now (g.F.Fabric.told c.args.fabric.now) (g.K.Sink.written c.args.output.now),
+  c.requires.each,
+  c.requires.few,
+  c.last_turn-last.ensures.least,
+  sym c.last_turn-last.ensures.value,
+  c.last_turn-last.ensures.most,
+)
 
 pub returns-then-is_whole : goal.returns-then-is_whole
 returns-then-is_whole g c =
@@ -20,9 +22,9 @@ returns-then-is_whole g c =
     let turn = rw c.next_command.ensures.first at c.in_ok-turn.ensures in
     let whole = rw c.next_command.ensures.rest at (sym c.is_whole.ensures ∙ c.if-is_whole.true) in
     ends_whole c.args.commands.now c.loop-left.left.now c.loop-left.t c.args.self.now c.loop-left.self c.turn.new.self
-      (told c.args.fabric.now) (told c.loop-left.fabric) (told c.turn.new.fabric)
-      (written c.args.output.now) (written c.loop-left.output) (written c.turn.new.output)
-      i.0 turn whole
+    (told c.args.fabric.now) (told c.loop-left.fabric) (told c.turn.new.fabric)
+    (written c.args.output.now) (written c.loop-left.output) (written c.turn.new.output)
+    i.0 turn whole
 
 pub returns-then-t-last : goal.returns-then-t-last
 returns-then-t-last g c =
@@ -32,9 +34,9 @@ returns-then-t-last g c =
     let turn = rw c.next_command.ensures.first at c.in_ok-turn.ensures in
     let whole = rw c.next_command.ensures.rest at (sym c.is_whole.ensures ∙ c.if-is_whole.false) in
     ends_spent c.args.commands.now c.loop-left.left.now c.loop-left.t c.last_turn-last.result c.args.self.now c.loop-left.self c.turn.new.self
-      (told c.args.fabric.now) (told c.loop-left.fabric) (told c.turn.new.fabric)
-      (written c.args.output.now) (written c.loop-left.output) (written c.turn.new.output)
-      i.0 turn whole i.3 c.if-t-last.true i.4
+    (told c.args.fabric.now) (told c.loop-left.fabric) (told c.turn.new.fabric)
+    (written c.args.output.now) (written c.loop-left.output) (written c.turn.new.output)
+    i.0 turn whole i.3 c.if-t-last.true i.4
 
 pub loop-left-preserved : goal.loop-left-preserved
 loop-left-preserved g c =
@@ -44,10 +46,16 @@ loop-left-preserved g c =
     let turn = rw c.next_command.ensures.first at c.in_ok-turn.ensures in
     let whole = rw c.next_command.ensures.rest at (sym c.is_whole.ensures ∙ c.if-is_whole.false) in
     let room = turn_room c.loop-left.left.now c.loop-left.t c.loop-left.self c.turn.new.self (told c.loop-left.fabric) (told c.turn.new.fabric)
-        (written c.loop-left.output) (written c.turn.new.output) turn in
+    (written c.loop-left.output) (written c.turn.new.output) turn in
     let going = goes_on_after c.args.commands.now c.loop-left.left.now c.loop-left.t c.last_turn-last.result c.args.self.now c.loop-left.self c.turn.new.self
-        (told c.args.fabric.now) (told c.loop-left.fabric) (told c.turn.new.fabric)
-        (written c.args.output.now) (written c.loop-left.output) (written c.turn.new.output)
-        i.0 turn whole c.if-t-last.false i.4 in
-    rw c.next_command.ensures.rest (going, rest_are IsCommand c.loop-left.left.now i.1, omega (arith, room, i.2), omega (arith, c.if-t-last.false),
-      ap (λ (r : RunState). r.profile.turns) turn.state ∙ i.4, i.5)
+    (told c.args.fabric.now) (told c.loop-left.fabric) (told c.turn.new.fabric)
+    (written c.args.output.now) (written c.loop-left.output) (written c.turn.new.output)
+    i.0 turn whole c.if-t-last.false i.4 in
+    rw c.next_command.ensures.rest (
+      going,
+      rest_are IsCommand c.loop-left.left.now i.1,
+      omega (arith, room, i.2),
+      omega (arith, c.if-t-last.false),
+      ap (λ (r : RunState). r.profile.turns) turn.state ∙ i.4,
+      i.5,
+    )

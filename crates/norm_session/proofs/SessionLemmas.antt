@@ -1,0 +1,56 @@
+use Rattle.std.proofs.Common.{◌≡◌, ◌∙◌, sym, ap, ℕ, List, [], ◌∷◌, ◌++◌, Option, Some, None, Bool}
+use Rattle.std.specs.Prelude.{IfSome}
+use Rattle.std.specs.List.{flat_map}
+use Rattle.norm_base.specs.Network.{Network, Starts}
+use Rattle.norm_base.specs.Told.{gained}
+use Rattle.norm_base.specs.declared.kinds.Local.TheVariants.{All}
+use Rattle.norm_session.specs.declared.event.Event.{Event}
+use Rattle.norm_session.specs.declared.event.Event.TheVariants.{Start}
+use Rattle.norm_session.specs.Commands.{Commands}
+use Rattle.norm_session.specs.Printed.{lines_of}
+use Rattle.norm_session.specs.Totals.{end_line}
+use Rattle.norm_session.specs.Running.{TakesTurns}
+use Rattle.norm_session.specs.RunState.{RunState, opening}
+use Rattle.norm_session.specs.Session.{HasSession, RunsSession}
+use Rattle.norm_session.specs.Turn.{offer_of, answer_in, network_after}
+use Rattle.norm_session.proofs.ToldLemmas.{gained-gained}
+
+-- what a list that began anew has gained is all that it has
+all_gained : {X : Type 0} → (begun : Option (List X)) (more : List X) → IfSome begun (λ xs. xs ≡ []) → IfSome (gained begun more) (λ xs. xs ≡ more)
+all_gained None more h = tt
+all_gained (Some xs) more h = ap (λ front. front ++ more) h
+
+-- a network that was started, and then had the turns' events, has the session
+pub has_session : (script : Commands) (events : List Event) (before begun after : Network)
+    → Starts before begun script.profile All → after ≡ network_after begun events → HasSession script (Start ∷ events) before after
+has_session script events before begun after starts told = rw told (record {
+  starts = starts.started;
+  offered = all_gained begun.offered (flat_map offer_of events) starts.offered;
+  answers = all_gained begun.answers (flat_map answer_in events) starts.answers;
+})
+
+-- the parts of a session make it
+pub session_of : (script : Commands) (r0 r1 : RunState) (journal : List Event) (whole : Bool) (n0 n1 n2 : Network) (w0 w1 w2 : Option (List ℕ))
+    → Starts n0 n1 script.profile All
+    → r0 ≡ opening script.profile
+    → TakesTurns script.lines r0 r1 n1 n2 w0 w1 whole
+    → w2 ≡ gained w1 (end_line r1.events)
+    → journal ≡ r1.events
+    → RunsSession script journal whole n0 n2 w0 w2
+session_of script r0 r1 journal whole n0 n1 n2 w0 w1 w2 starts begun turns last is =
+    let events = turns.events in
+    let journal_is : journal ≡ Start ∷ events = is ∙ turns.journal ∙ ap (λ (r : RunState). r.events ++ events) begun in
+    record {
+      run = record {
+        takes = turns.takes;
+        events = events;
+        begins = journal_is;
+        turns = rw begun at turns.turns;
+      };
+      network = rw journal_is (has_session script events n0 n1 n2 starts turns.told);
+      output = last
+          ∙ ap (λ e. gained w1 (end_line e)) (sym is)
+          ∙ ap (λ t. gained t (end_line journal)) (turns.lines ∙ ap (λ (r : RunState). gained w0 (lines_of r.profile.instance events)) begun)
+          ∙ gained-gained w0 (lines_of script.profile.instance events) (end_line journal)
+          ∙ ap (λ j. gained w0 (lines_of script.profile.instance j ++ end_line journal)) (sym journal_is);
+    }

@@ -1,0 +1,47 @@
+//! A whole session (RFC 5740 section 5).
+
+ghost use Rattle.std.specs.Prelude.{IfOk};
+ghost use Rattle.norm_session.specs.SessionRun.{IsScript};
+ghost use Rattle.norm_session.specs.Session.{RunsSession};
+
+use crate::event::Journal;
+use crate::run::{Run, SessionFault};
+use crate::script::Script;
+use norm_base::{Clock, Datagram, Fabric, Files, Sink};
+use std::alloc::Global;
+use std::sync::Wait;
+use std::thread::Threads;
+
+/// How a session ended: its journal, and whether all was done. If not, the turns were spent.
+#[derive(Debug, Drop)]
+pub struct Ended {
+    pub journal: Journal,
+    pub whole: bool,
+}
+
+/// Runs a script's session: a turn for each moment, until all its commands were pulled and all was sent,
+/// or the profile's turns are spent. Each line is one write of the output, the summary is the last.
+pub fn run_session<R: Threads + Wait + Sync, K: Sink, F: Fabric, D: Files, C: Clock>(
+    _rt: &R,
+    alloc: Global,
+    script: &Script,
+    output: &mut K,
+    fabric: &mut F,
+    _files: &mut D,
+    _clock: &mut C,
+) -> Result<Ended, SessionFault>
+    requires { IsScript script.now }
+    ensures { IfOk result (λ ended. RunsSession script.now ended.journal ended.whole
+        (F.told fabric.old) (F.told fabric.new) (K.written output.old) (K.written output.new)) }
+{
+    let Ok(mut datagram) = Datagram::new(alloc) else {
+        return Err(SessionFault::Memory);
+    };
+    let mut run = Run::start(alloc, &script.profile, fabric)?;
+    let whole = run.turns(output, fabric, &mut datagram, &script.lines)?;
+    run.summarize(output)?;
+    Ok(Ended {
+        journal: run.into_journal(),
+        whole,
+    })
+}
