@@ -1,6 +1,8 @@
 use Rattle.std.specs.Prelude.{ℕ, ◌*◌, ◌≤◌}
 use Rattle.norm_base.specs.declared.kinds.Mode.{Mode}
+use Rattle.norm_base.specs.declared.kinds.Mode.TheVariants.{Hold}
 use Rattle.norm_base.specs.declared.kinds.FabricKind.{FabricKind}
+use Rattle.norm_base.specs.declared.kinds.FabricKind.TheVariants.{Direct}
 
 -- what a profile says: one value for each key
 pub record Settings : Type 0 where
@@ -65,3 +67,10 @@ pub record InRange (s : Settings) : Type 0 where
   pub longest : s.b ≤ s.max_n
   -- a stream's buffer is at most 16 MiB
   pub buffer : s.blocks * s.b * s.e ≤ 16777216
+
+-- each key at its default
+abbrev pub defaults : Settings
+defaults = record {
+  instance = 1; first = 0; sender = 1; receivers = 1; producers = 1; e = 1024; b = 64; max_n = 96; auto = 0;
+  window = 256; octets = 16777216; blocks = 16; mode = Hold; gap = 1000; grtt = 10000; grtt_code = 64; gsize_code = 1;
+  k = 4; step = 1000; turns = 1000000; fabric = Direct; chance = 0; loss = 0; repeat = 0; late = 0; port = 40000 }

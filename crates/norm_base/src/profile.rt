@@ -85,6 +85,11 @@ impl Profile {
 }
 
 impl Default for Profile {
+    ghost use Rattle.std.specs.Prelude.{◌≡◌};
+    ghost use Rattle.norm_base.specs.Settings.{defaults};
+
+    ghost is_default = { λ p. p ≡ defaults };
+
     /// Each key at its default.
     fn default() -> Profile {
         Profile {

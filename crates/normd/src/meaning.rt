@@ -1,0 +1,148 @@
+//! What a line of a script means.
+
+ghost use Rattle.std.specs.Prelude.{◌≡◌, ◌==◌, ◌||◌, nat_eq, List, ℕ, length, slice_index, IfOk};
+ghost use Rattle.std.specs.Option.{option_map};
+ghost use Rattle.std.specs.List.{list_any};
+ghost use Rattle.normd.specs.Meaning.{is_text, key_of, least_of, most_of, setting_of, Triple, triple_of, meaning_of_words, is_passed_over, meaning_of};
+
+use crate::words::{contents_of, number_within, split_at_first};
+use norm_base::{Memory, Octets};
+use std::alloc::Global;
+
+/// The most octets of a line.
+const MOST_OCTETS: usize = 16_500;
+
+/// A key of a profile that a script can set.
+#[derive(Clone, Copy, Debug, PartialEq, Eq)]
+pub(crate) enum Key {
+    Instance,
+    E,
+    B,
+}
+
+/// What a line means.
+#[derive(Debug, Drop)]
+pub(crate) enum Meaning {
+    /// It is empty, or a comment.
+    Nothing,
+    /// A key has this value.
+    Set { key: Key, value: u32 },
+    /// Producer 1 sends a data object.
+    Data(Octets),
+}
+
+/// Three words of a line.
+#[derive(Clone, Copy)]
+struct Words<'a> {
+    first: &'a [u8],
+    second: &'a [u8],
+    third: &'a [u8],
+}
+
+/// The key that a word names.
+fn key_of(word: &[u8]) -> Option<Key>
+    ensures { result ≡ key_of word.now }
+{
+    if word == b"instance".as_slice() {
+        return Some(Key::Instance);
+    }
+    if word == b"e".as_slice() {
+        return Some(Key::E);
+    }
+    if word == b"b".as_slice() {
+        return Some(Key::B);
+    }
+    None
+}
+
+fn least_of(key: Key) -> u32
+    ensures { result ≡ least_of key }
+{
+    match key {
+        Key::Instance => 0,
+        Key::E => 64,
+        Key::B => 1,
+    }
+}
+
+fn most_of(key: Key) -> u32
+    ensures { result ≡ most_of key }
+{
+    match key {
+        Key::Instance => 65_535,
+        Key::E => 1400,
+        Key::B => 200,
+    }
+}
+
+/// What `set KEY VALUE` means.
+fn setting_of(word: &[u8], value: &[u8]) -> Option<Meaning>
+    ensures { result ≡ setting_of word.now value.now }
+{
+    let key = key_of(word)?;
+    let value = number_within(value, least_of(key), most_of(key))?;
+    Some(Meaning::Set { key, value })
+}
+
+/// Whether a word has a space.
+fn has_space(word: &[u8]) -> bool
+    ensures { result ≡ list_any (λ c. c == 32) word.now }
+{
+    word.iter().any(|c| *c == 32)
+}
+
+/// A line's three words with single spaces between them. `None` where it has more or fewer.
+fn words_of(line: &[u8]) -> Option<Words<'_>>
+    ensures { option_map (λ w. record { first = w.first.now; second = w.second.now; third = w.third.now }) result ≡ triple_of line.now }
+{
+    let (first, rest) = split_at_first(line, b' ')?;
+    let (second, third) = split_at_first(rest, b' ')?;
+    if has_space(third) {
+        return None;
+    }
+    Some(Words {
+        first,
+        second,
+        third,
+    })
+}
+
+/// What three words mean.
+fn meaning_of_words(alloc: Global, words: Words<'_>) -> Result<Option<Meaning>, Memory>
+    ensures { IfOk result (λ meaning. meaning ≡ meaning_of_words (record {
+        first = words.entry.first.now; second = words.entry.second.now; third = words.entry.third.now })) }
+{
+    if words.first == b"set".as_slice() {
+        return Ok(setting_of(words.second, words.third));
+    }
+    if words.first != b"1".as_slice() || words.second != b"data".as_slice() {
+        return Ok(None);
+    }
+    match contents_of(alloc, words.third)? {
+        Some(octets) => Ok(Some(Meaning::Data(octets))),
+        None => Ok(None),
+    }
+}
+
+/// Whether a line is empty or a comment.
+fn is_passed_over(line: &[u8]) -> bool
+    ensures { result ≡ is_passed_over line.now }
+{
+    line.is_empty() || line[0] == b'#'
+}
+
+/// What a line means. `None` where it has no meaning.
+pub(crate) fn meaning_of(alloc: Global, line: &[u8]) -> Result<Option<Meaning>, Memory>
+    ensures { IfOk result (λ meaning. meaning ≡ meaning_of line.now) }
+{
+    if line.len() > MOST_OCTETS {
+        return Ok(None);
+    }
+    if is_passed_over(line) {
+        return Ok(Some(Meaning::Nothing));
+    }
+    match words_of(line) {
+        Some(words) => meaning_of_words(alloc, words),
+        None => Ok(None),
+    }
+}
