@@ -1,10 +1,10 @@
 -- Lagrange's formula gives the values of a polynomial of degree below k, and at the places those that it was given.
-use Rattle.std.proofs.Common.{◌≡◌, ℕ, zero, suc, ◌+◌, ◌<◌, ◌≤◌, ◌⊎◌, inl, inr, refl, Bool, true, false, cond, sym, ap, subst, ◌∙◌, arith, List, [], ◌∷◌, map, length}
-use Rattle.std.specs.Prelude.{bit_xor, nat_eq, ◌==◌, not, filter}
+use Rattle.std.proofs.Common.{◌≡◌, ℕ, zero, suc, ◌<◌, ◌⊎◌, inl, inr, refl, Bool, true, false, cond, sym, ap, subst, ◌∙◌, arith, List, [], ◌∷◌, map, length}
+use Rattle.std.specs.Prelude.{bit_xor, nat_eq, ◌==◌, not}
 use Rattle.std.specs.List.{AllByRecursion, IsDistinct}
 use Rattle.std.specs.Int.Bits.{xor_self, xor_zero_l, xor_zero_r}
 use Rattle.std.proofs.lemmas.Nat.{xor_lt}
-use Rattle.std.proofs.lemmas.Bool.{eqb-false, ne_eqb, eq-eqb, eqb-true}
+use Rattle.std.proofs.lemmas.Bool.{eqb-false, ne_eqb, eq-eqb}
 use Rattle.std.proofs.lemmas.List.{length-map}
 use Rattle.std.proofs.lemmas.Map.Keys.{IsDistinct-head, IsDistinct-tail}
 use Rattle.gf_field.specs.Octet.{AreOctets}
@@ -12,9 +12,8 @@ use Rattle.gf_field.specs.Product.{product}
 use Rattle.gf_field.specs.Inverse.{inverse}
 use Rattle.gf_field.specs.Polynomial.{value_at, GoesThrough}
 use Rattle.gf_field.specs.Interpolation.{differences, others, coefficient, weighted_sum, interpolated}
-use Rattle.gf_field.proofs.Sums.{xor_left}
 use Rattle.gf_field.proofs.Linear.{product-xor_l, product-xor_r}
-use Rattle.gf_field.proofs.Products.{product-lt, product-zero, zero-product, product_comm, product_assoc, product_left, one-product_octet, product-one_octet}
+use Rattle.gf_field.proofs.Products.{product-lt, product-zero, zero-product, product_comm, product_assoc, product_left, one-product_octet}
 use Rattle.gf_field.proofs.Inverses.{product-inverse, zero_from_product}
 use Rattle.gf_field.proofs.Polynomials.{AreZero, value_at_zero, added, value_at-added, added-octets, length-added, same_polynomial, difference-pos}
 

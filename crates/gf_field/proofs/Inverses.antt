@@ -1,13 +1,12 @@
 -- Each octet but 0 has an inverse, its power 254.
-use Rattle.std.proofs.Common.{◌≡◌, ℕ, zero, suc, ◌+◌, ◌*◌, ◌/◌, ◌%◌, ◌^◌, ◌<◌, ◌⊎◌, refl, Bool, true, false, sym, ap, ◌∙◌, subst, arith, List, [], ◌∷◌, map, length}
-use Rattle.std.specs.Prelude.{bit_xor, ◌==◌, ◌&&◌, ◌||◌, ◌≢◌}
-use Rattle.std.proofs.Math.Nat.{mod-mod, mod-lt, mod-eq_of_lt}
+use Rattle.std.proofs.Common.{◌≡◌, ℕ, zero, suc, ◌%◌, ◌<◌, refl, Bool, true, false, sym, ap, ◌∙◌, arith}
+use Rattle.std.specs.Prelude.{◌==◌, ◌||◌}
+use Rattle.std.proofs.Math.Nat.{mod-eq_of_lt}
 use Rattle.std.proofs.Math.Dec.{eqb-suc-zero}
 use Rattle.std.proofs.lemmas.Bool.{eqb-true}
 use Rattle.gf_field.specs.Product.{product, shift, shifts, sum_at_bits}
 use Rattle.gf_field.specs.Inverse.{inverse, ones_power}
 use Rattle.gf_field.proofs.Octets.{octet_passes, passes_at_octets}
-use Rattle.gf_field.proofs.Sums.{same_from_xor}
 use Rattle.gf_field.proofs.Products.{product-lt, product-zero, zero-product, product_comm, product_assoc, one-product, product-one_octet}
 
 inverse_test : ℕ → Bool

@@ -1,9 +1,8 @@
 -- The laws of the field, from the lemmas.
-use Rattle.std.proofs.Common.{◌≡◌, ℕ, ◌<◌, sym, ap, ◌∙◌, arith, List}
+use Rattle.std.proofs.Common.{sym, ◌∙◌}
 use Rattle.std.specs.Int.Bits.{xor_assoc, xor_self, xor_zero_r}
 use Rattle.std.proofs.lemmas.Nat.{xor_comm, xor_lt}
-use Rattle.gf_field.specs.Laws.{SumLaws, ProductLaws, InverseLaws, PowerLaws, ZerosLaw, ArePoints, PointsLaw, FormulaLaw}
-use Rattle.gf_field.specs.Product.{product}
+use Rattle.gf_field.specs.Laws.{SumLaws, ProductLaws, InverseLaws, PowerLaws, ZerosLaw, PointsLaw, FormulaLaw}
 use Rattle.gf_field.specs.Inverse.{inverse}
 use Rattle.gf_field.proofs.Linear.{product-xor_r}
 use Rattle.gf_field.proofs.Products.{product-lt, product_comm, product_assoc, one-product_octet}

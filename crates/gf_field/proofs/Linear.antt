@@ -1,9 +1,8 @@
 -- A sum over the bits of a number is linear in the number, and so is the product in each factor.
-use Rattle.std.proofs.Common.{◌≡◌, ℕ, zero, suc, ◌+◌, ◌*◌, ◌/◌, ◌%◌, ◌^◌, ◌<◌, refl, true, sym, ap, ◌∙◌, subst, arith, List, [], ◌∷◌, map, length, zero-mul, mul-zero}
+use Rattle.std.proofs.Common.{◌≡◌, ℕ, zero, suc, ◌+◌, ◌*◌, ◌/◌, ◌%◌, ◌^◌, ◌<◌, refl, true, sym, ap, ◌∙◌, arith, List, [], ◌∷◌, map, length, zero-mul}
 use Rattle.std.specs.Prelude.{bit_xor, ◌==◌}
-use Rattle.std.specs.List.{AllByRecursion}
 use Rattle.std.specs.Int.Bits.{xor_self, xor_zero_l, xor_zero_r}
-use Rattle.std.proofs.lemmas.Nat.{xor_shr, xor_mod, xor_lt, field_of}
+use Rattle.std.proofs.lemmas.Nat.{xor_shr, xor_mod, field_of}
 use Rattle.std.proofs.Math.Nat.{one-mul, mod-mod, mod-lt}
 use Rattle.std.proofs.Math.Pow.{mod-mod-pow}
 use Rattle.std.proofs.lemmas.Bool.{eqb-true}

@@ -1,10 +1,10 @@
-use Rattle.std.proofs.Common.{subst, ◌∙◌, zero-add, ◌≡◌, ℕ, zero, suc, ◌+◌, ◌<◌, refl, Bool, true, false, List, [], ◌∷◌, ◌*◌, ◌/◌, ◌%◌}
+use Rattle.std.proofs.Common.{subst, ◌∙◌, zero-add, ◌≡◌, ℕ, ◌<◌, refl, Bool, true, ◌*◌, ◌/◌, ◌%◌}
 use Rattle.std.specs.Prelude.{◌==◌, bit_xor}
 use Rattle.std.specs.List.{list_all, range_with_len}
 use Rattle.std.proofs.lemmas.Bool.{eqb-true}
 use Rattle.std.proofs.lemmas.List.Sums.{AllPass-from_list_all}
-use Rattle.std.proofs.lemmas.List.FromFn.{length-range_with_len, get_or-range_with_len}
-use Rattle.gf_field.specs.Product.{product, shift, shifts, sum_at_bits}
+use Rattle.std.proofs.lemmas.List.FromFn.{get_or-range_with_len}
+use Rattle.gf_field.specs.Product.{shift, sum_at_bits}
 
 -- a test that each octet passes
 abbrev pub passes_at_octets : (ℕ → Bool) → Bool
@@ -20,5 +20,5 @@ unfolding shift sum_at_bits
 shift_rows = refl
 
 -- the shift, as the program computes it
-pub shift-parts : (a : ℕ) → a < 256 → bit_xor (a % 128 * 2) (a / 128 * 29) ≡ shift a
-shift-parts a small = eqb-true _ _ (octet_passes (λ a. bit_xor (a % 128 * 2) (a / 128 * 29) == shift a) shift_rows a small)
+pub shift_parts : (a : ℕ) → a < 256 → bit_xor (a % 128 * 2) (a / 128 * 29) ≡ shift a
+shift_parts a small = eqb-true _ _ (octet_passes (λ a. bit_xor (a % 128 * 2) (a / 128 * 29) == shift a) shift_rows a small)

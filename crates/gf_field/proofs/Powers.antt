@@ -1,11 +1,11 @@
 -- The powers of alpha: their order is 255.
-use Rattle.std.proofs.Common.{◌≡◌, ℕ, zero, suc, ◌+◌, ◌-◌, ◌*◌, ◌/◌, ◌%◌, ◌<◌, ◌≤◌, ◌⊎◌, refl, Bool, true, false, sym, ap, ◌∙◌, subst, arith, List, [], ◌∷◌, zero-add, inl, inr}
-use Rattle.std.specs.Prelude.{◌==◌, ◌&&◌, ◌||◌, ◌≢◌, not}
-use Rattle.std.proofs.Math.Nat.{mod-lt, div-add-mod, suc-add}
+use Rattle.std.proofs.Common.{◌≡◌, ℕ, zero, suc, ◌+◌, ◌-◌, ◌*◌, ◌/◌, ◌%◌, ◌<◌, ◌⊎◌, refl, Bool, true, false, sym, ap, ◌∙◌, arith, zero-add, inl, inr}
+use Rattle.std.specs.Prelude.{◌==◌, ◌&&◌, not}
+use Rattle.std.proofs.Math.Nat.{div-add-mod, suc-add}
 use Rattle.std.proofs.lemmas.Bool.{eq-eqb, cases_order}
 use Rattle.gf_field.specs.Product.{product, shift, shifts, sum_at_bits}
 use Rattle.gf_field.specs.Power.{power}
-use Rattle.gf_field.proofs.Products.{product-lt, product_comm, product_assoc, one-product_octet, both_true}
+use Rattle.gf_field.proofs.Products.{product-lt, product_assoc, one-product_octet, both_true}
 
 pub power-lt : (n : ℕ) → power n < 256
 unfolding power
@@ -34,12 +34,15 @@ power_whole (suc q) = ap power (let e : 255 * suc q ≡ 255 + 255 * q = omega ar
     ∙ one-product_octet (power (255 * q)) (power-lt (255 * q)) ∙ power_whole q
 
 -- an exponent counts up to 255
-pub power-mod : (n : ℕ) → power (n % 255) ≡ power n
-power-mod n =
+pub power_mod : (n : ℕ) → power (n % 255) ≡ power n
+power_mod n =
     sym (one-product_octet (power (n % 255)) (power-lt (n % 255)))
     ∙ ap (λ p. product p (power (n % 255))) (sym (power_whole (n / 255)))
     ∙ sym (power-add (255 * (n / 255)) (n % 255))
     ∙ ap power (div-add-mod n 255)
+
+pub power_ends : (i j : ℕ) → i ≡ j % 255 → power i ≡ power j
+power_ends i j h = ap power h ∙ power_mod j
 
 -- none of the n octets p, 2 p, 4 p and so on is 1
 none_is_one : ℕ → ℕ → Bool

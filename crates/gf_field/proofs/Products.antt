@@ -1,13 +1,11 @@
 -- The laws of the product, over all numbers: it reads the low eight bits of each factor.
-use Rattle.std.proofs.Common.{◌≡◌, ℕ, zero, suc, ◌+◌, ◌*◌, ◌/◌, ◌%◌, ◌^◌, ◌<◌, refl, Bool, true, false, sym, ap, ◌∙◌, subst, arith, List, [], ◌∷◌, map, length}
-use Rattle.std.specs.Prelude.{bit_xor, ◌==◌, ◌&&◌, ◌||◌}
+use Rattle.std.proofs.Common.{◌≡◌, ℕ, zero, suc, ◌*◌, ◌/◌, ◌%◌, ◌<◌, refl, Bool, true, false, sym, ap, ◌∙◌, arith, List, [], ◌∷◌, map}
+use Rattle.std.specs.Prelude.{◌==◌, ◌&&◌}
 use Rattle.std.specs.List.{AllByRecursion, list_all}
-use Rattle.std.specs.Int.Bits.{xor_self, xor_zero_l, xor_zero_r}
 use Rattle.std.proofs.lemmas.Nat.{xor_mod, xor_lt}
 use Rattle.std.proofs.Math.Nat.{mod-mod, mod-lt, mod-eq_of_lt}
 use Rattle.std.proofs.lemmas.Bool.{eqb-true}
 use Rattle.gf_field.specs.Product.{product, shift, shifts, shifted_bits, sum_at_bits}
-use Rattle.gf_field.proofs.Octets.{octet_passes, passes_at_octets}
 use Rattle.gf_field.proofs.Linear.{IsLinear, linear-zero, units, same_from_units, product-xor_l, product-xor_r, product-low_l, product-low_r, sum_at_bits-xor, sum_at_bits-low}
 
 pub both_true : (a b : Bool) → (a && b) ≡ true → (a ≡ true) × (b ≡ true)

@@ -1,5 +1,5 @@
 -- What one turn of each loop does.
-use Rattle.std.proofs.Common.{◌≡◌, ℕ, zero, suc, ◌+◌, ◌-◌, ◌*◌, ◌/◌, ◌%◌, ◌^◌, ◌<◌, ◌≤◌, refl, sym, ap, ◌∙◌, arith, List, []}
+use Rattle.std.proofs.Common.{◌≡◌, ℕ, suc, ◌+◌, ◌-◌, ◌*◌, ◌/◌, ◌%◌, ◌^◌, ◌<◌, ◌≤◌, refl, sym, ap, ◌∙◌, arith}
 use Rattle.std.specs.Prelude.{bit_xor}
 use Rattle.std.specs.Int.Bits.{xor_assoc, xor_zero_r}
 use Rattle.std.proofs.lemmas.Nat.{shr-shr}
@@ -9,6 +9,7 @@ use Rattle.gf_field.specs.Power.{power}
 use Rattle.gf_field.specs.Inverse.{inverse, ones_power}
 use Rattle.gf_field.proofs.Products.{two-product}
 use Rattle.gf_field.proofs.Inverses.{product-inverse}
+use Rattle.gf_field.proofs.Powers.{power_ends}
 
 -- the sum over the bits from place i on
 pub rest_of_product : ℕ → ℕ → ℕ → ℕ
@@ -55,3 +56,10 @@ pub inverse_from_ones : (i a ones : ℕ) → i ≡ 6 → ones ≡ ones_power i a
 unfolding inverse
 inverse_from_ones i a ones e h pos low =
     ap (λ n. product a (product n n)) (h ∙ ap (λ k. ones_power k a) e) ∙ product-inverse a (omega arith) low
+
+-- what the proofs of `mul`, `alpha_pow` and `inv` cite
+pub ruleset product_steps = (product_begins, product_goes_on, product_ends)
+
+pub ruleset power_steps = (power_begins, power_goes_on, power_ends)
+
+pub ruleset inverse_steps = (ones_begin, ones_go_on, inverse_from_ones)

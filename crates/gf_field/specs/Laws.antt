@@ -1,5 +1,5 @@
 -- The laws of the field, stated for octets: numbers below 256.
-use Rattle.std.specs.Prelude.{ℕ, zero, List, ◌≡◌, ◌<◌, ◌≤◌, length, bit_xor, nat_eq}
+use Rattle.std.specs.Prelude.{ℕ, List, ◌≡◌, ◌<◌, ◌≤◌, length, bit_xor, nat_eq}
 use Rattle.std.specs.List.{AllByRecursion, IsDistinct}
 use Rattle.gf_field.specs.Octet.{AreOctets}
 use Rattle.gf_field.specs.Product.{product}

@@ -9,6 +9,7 @@ ghost use Rattle.gf_field.specs.Power.{power};
 pub mod laws;
 
 /// The octet times x: shifted by one place and reduced.
+#[tactic(auto, using(crate::proofs::Octets::shift_parts))]
 fn double(a: u8) -> u8
     ensures { result ≡ shift a }
 {
@@ -16,6 +17,7 @@ fn double(a: u8) -> u8
 }
 
 /// The product of two octets.
+#[tactic(auto, using(crate::proofs::Steps::product_steps))]
 pub fn mul(a: u8, b: u8) -> u8
     ensures { result ≡ product a b }
 {
@@ -28,7 +30,9 @@ pub fn mul(a: u8, b: u8) -> u8
     total
 }
 
-/// The power of alpha, the octet 02, with exponent `j`.
+/// The power of alpha, the octet 02, with exponent `j`. Its time does not grow with `j`: the order of
+/// alpha is 255.
+#[tactic(auto, using(crate::proofs::Steps::power_steps))]
 pub fn alpha_pow(j: u32) -> u8
     ensures { result ≡ power j }
 {
@@ -40,6 +44,7 @@ pub fn alpha_pow(j: u32) -> u8
 }
 
 /// The inverse of an octet: the product of the two is 1.
+#[tactic(auto, using(crate::proofs::Steps::inverse_steps))]
 pub fn inv(a: u8) -> u8
     requires { a ≢ 0 }
     ensures { product a result ≡ 1 }
@@ -51,10 +56,12 @@ pub fn inv(a: u8) -> u8
     mul(ones, ones)
 }
 
-/// Adds `c * src` to `dst`, octet by octet.
+/// Adds `c * src` to `dst`: each octet of `dst` becomes its sum with `c` times the octet of `src` at the
+/// same place.
 pub fn add_scaled(dst: &mut [u8], src: &[u8], c: u8)
     requires { length dst.old ≡ length src.now }
-    ensures { EachIndex dst.new (λ i. slice_index dst.new i ≡ bit_xor (slice_index dst.old i) (product c (slice_index src.now i))) }
+    ensures { EachIndex dst.new (λ i.
+        slice_index dst.new i ≡ bit_xor (slice_index dst.old i) (product c (slice_index src.now i))) }
 {
     for (i, octet) in dst.iter_mut().enumerate() {
         *octet ^= mul(c, src[i]);

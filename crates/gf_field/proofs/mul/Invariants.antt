@@ -1,4 +1,4 @@
-use Rattle.std.proofs.Common.{◌≡◌, bit_xor, ◌<◌}
+use Rattle.std.proofs.Common.{◌≡◌, bit_xor}
 use Rattle.gf_field.specs.Product.{product}
 use Rattle.gf_field.proofs.Steps.{rest_of_product}
 use Rattle.gf_field.proofs.mul.Given as goal
