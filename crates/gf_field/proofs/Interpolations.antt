@@ -30,10 +30,10 @@ among-apart p x [] h m e = m
 among-apart p x (y ∷ ys) h (inl same) e = eqb-false p y h.0 (e ∙ same)
 among-apart p x (y ∷ ys) h (inr m) e = among-apart p x ys h.1 m e
 
-others-same : (m p : ℕ) (ps : List ℕ) → m ≡ p → others m (p ∷ ps) ≡ others m ps
+pub others-same : (m p : ℕ) (ps : List ℕ) → m ≡ p → others m (p ∷ ps) ≡ others m ps
 others-same m p ps e = ap (λ b. cond (not b) (p ∷ others m ps) (others m ps)) (eq-eqb p m (sym e))
 
-others-other : (m p : ℕ) (ps : List ℕ) → (p ≡ m → ⊥) → others m (p ∷ ps) ≡ p ∷ others m ps
+pub others-other : (m p : ℕ) (ps : List ℕ) → (p ≡ m → ⊥) → others m (p ∷ ps) ≡ p ∷ others m ps
 others-other m p ps h = ap (λ b. cond (not b) (p ∷ others m ps) (others m ps)) (ne_eqb p m h)
 
 others-absent : (m : ℕ) (ps : List ℕ) → AllByRecursion (λ y. nat_eq m y ≡ false) ps → others m ps ≡ ps
@@ -55,13 +55,13 @@ length-others m (p ∷ ps) d (inr h) =
     ap (λ qs. suc (length qs)) (others-other m p ps (among-apart p m ps (IsDistinct-head nat_eq p ps d) h))
     ∙ ap suc (length-others m ps (IsDistinct-tail nat_eq p ps d) h)
 
-others-octets : (m : ℕ) (ps : List ℕ) → AreOctets ps → AreOctets (others m ps)
+pub others-octets : (m : ℕ) (ps : List ℕ) → AreOctets ps → AreOctets (others m ps)
 others-octets m [] h = tt
 others-octets m (p ∷ ps) h =
     elim (p == m) as (λ b. AreOctets (cond (not b) (p ∷ others m ps) (others m ps)))
     [ true ↦ others-octets m ps h.1 | false ↦ (h.0, others-octets m ps h.1) ]
 
-others-apart : (m : ℕ) (ps : List ℕ) → AllByRecursion (λ p. p ≡ m → ⊥) (others m ps)
+pub others-apart : (m : ℕ) (ps : List ℕ) → AllByRecursion (λ p. p ≡ m → ⊥) (others m ps)
 others-apart m [] = tt
 others-apart m (p ∷ ps) = go (p == m) refl (others-apart m ps)
   where
@@ -188,7 +188,7 @@ unfolding Among
 all_among [] = tt
 all_among (p ∷ ps) = (inl refl, among-more p ps ps (all_among ps))
 
-interpolated-meets : (ps vs : List ℕ) → AreOctets ps → AreOctets vs → IsDistinct nat_eq ps → length vs ≡ length ps → map (interpolated ps vs) ps ≡ vs
+pub interpolated-meets : (ps vs : List ℕ) → AreOctets ps → AreOctets vs → IsDistinct nat_eq ps → length vs ≡ length ps → map (interpolated ps vs) ps ≡ vs
 unfolding interpolated
 interpolated-meets ps vs o small d e = weighted_sum-meets ps ps vs o o small (all_among ps) d e
 

@@ -1,0 +1,4 @@
+pub mod Formula
+pub mod Places
+pub mod Words
+pub mod Parts
