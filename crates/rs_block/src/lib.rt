@@ -9,3 +9,6 @@ mod solve;
 
 pub use encode::Code;
 pub use solve::Solver;
+
+#[cfg(test)]
+mod tests;
