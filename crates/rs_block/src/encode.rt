@@ -8,7 +8,8 @@ use gf_field::alpha_pow;
 use std::alloc::{AllocError, Global};
 use std::marker::Model;
 
-/// A code of blocks of k source symbols and n encoded symbols.
+/// A code of blocks of k source symbols and n encoded symbols: symbols 0 to k - 1 of a block are its source
+/// symbols, and the others are parity.
 #[derive(Drop)]
 pub struct Code {
     k: u8,
@@ -43,6 +44,10 @@ impl Code {
     ghost use Rattle.rs_block.specs.Code.{CodeShape};
 
     /// The code of `k` source symbols and `n` encoded symbols.
+    ///
+    /// # Errors
+    ///
+    /// `AllocError` where memory runs out.
     pub fn new(alloc: Global, k: u8, n: u8) -> Result<Code, AllocError>
         requires some { 1 ≤ k }
         requires fits { k ≤ n }

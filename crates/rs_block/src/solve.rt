@@ -1,4 +1,4 @@
-//! The source symbols of a block from any k of its symbols.
+//! The source symbols of a block from any k of its symbols, RFC 5510 section 8.3.
 
 ghost use Rattle.std.specs.Prelude.{ℕ, ◌≡◌, ◌≢◌, ◌<◌, ◌≤◌, ◌*◌, ◌+◌, All, AllPairs, EachIndex, IfOk, MatchOption, length, map, slice_index};
 ghost use Rattle.gf_field.specs.Power.{power};
@@ -46,7 +46,7 @@ fn recover(ids: &[u8], places: &[u8], weights: &[u8], symbols: &[u8], j: u8, out
     }
 }
 
-/// Room to solve blocks of k source symbols.
+/// Room to solve blocks of k source symbols: all memory that solving takes is made once.
 #[derive(Drop)]
 pub struct Solver {
     k: u8,
@@ -98,7 +98,11 @@ impl Model for Solver {
 impl Solver {
     ghost use Rattle.rs_block.specs.Solver.{SolverShape};
 
-    /// Room to solve blocks of `k` source symbols of `size` octets.
+    /// Room to solve blocks of `k` source symbols of `size` octets, at most 1,408.
+    ///
+    /// # Errors
+    ///
+    /// `AllocError` where memory runs out.
     pub fn new(alloc: Global, k: u8, size: usize) -> Result<Solver, AllocError>
         requires some { 1 ≤ k }
         requires octets { 1 ≤ size }
@@ -115,8 +119,9 @@ impl Solver {
         })
     }
 
-    /// Puts the k source symbols of a block into `out`, in a row. `ids` are the ids of k of its symbols, and
-    /// `symbols` these symbols in a row, in the same order. It takes no memory.
+    /// Puts the k source symbols of a block into `out`, in a row. `ids` are the ids of k of its symbols, in any
+    /// order, and `symbols` these symbols in a row, in the same order. It takes no memory and cannot fail: any
+    /// k different ids below 255 will do.
     pub fn solve(&mut self, ids: &[u8], symbols: &[u8], out: &mut [u8])
         requires ids { AreIds self.old.k 255 ids.now }
         requires symbols { length symbols.now ≡ self.old.k * self.old.size }
