@@ -21,7 +21,8 @@ pub record ProductLaws : Type 0 where
   pub commutes : (a b : ℕ) → a < 256 → b < 256 → product a b ≡ product b a
   pub associates : (a b c : ℕ) → a < 256 → b < 256 → c < 256 → product (product a b) c ≡ product a (product b c)
   pub one : (a : ℕ) → a < 256 → product 1 a ≡ a
-  pub distributes : (a b c : ℕ) → a < 256 → b < 256 → c < 256 → product a (bit_xor b c) ≡ bit_xor (product a b) (product a c)
+  pub distributes : (a b c : ℕ) → a < 256 → b < 256 → c < 256
+      → product a (bit_xor b c) ≡ bit_xor (product a b) (product a c)
 
 -- each octet but 0 has one inverse, and no product of two others is 0
 pub record InverseLaws : Type 0 where
@@ -51,11 +52,14 @@ pub record ArePoints (places values : List ℕ) : Type 0 where
 
 -- through k points with different places goes exactly one polynomial of degree below k
 pub record PointsLaw : Type 0 where
-  pub exists : (places values : List ℕ) → ArePoints places values → (coefficients : List ℕ) × GoesThrough coefficients places values
-  pub only : (places values cs ds : List ℕ) → ArePoints places values → GoesThrough cs places values → GoesThrough ds places values → cs ≡ ds
+  pub exists : (places values : List ℕ) → ArePoints places values
+      → (coefficients : List ℕ) × GoesThrough coefficients places values
+  pub only : (places values cs ds : List ℕ) → ArePoints places values
+      → GoesThrough cs places values → GoesThrough ds places values → cs ≡ ds
 
 -- and its value at each x is that of Lagrange's formula
 abbrev pub FormulaLaw : Type 0
 FormulaLaw =
-    (places values coefficients : List ℕ) (x : ℕ) → ArePoints places values → GoesThrough coefficients places values
+    (places values coefficients : List ℕ) (x : ℕ) → ArePoints places values
+    → GoesThrough coefficients places values
     → value_at coefficients x ≡ interpolated places values x

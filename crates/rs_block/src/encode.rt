@@ -3,8 +3,7 @@
 ghost use Rattle.std.specs.Prelude.{ℕ, ◌≡◌, ◌<◌, ◌≤◌, ◌*◌, IfOk, length};
 ghost use Rattle.rs_block.specs.Points.{powers};
 
-use crate::interpolation::{interpolate, weigh};
-use gf_field::alpha_pow;
+use crate::interpolation::{interpolate, place_of, weigh};
 use std::alloc::{AllocError, Global};
 use std::marker::Model;
 
@@ -34,7 +33,7 @@ fn powers_below(alloc: Global, n: u8) -> Result<Vec<u8>, AllocError>
 {
     let mut places = Vec::new(alloc);
     for j in 0..n {
-        places.push(alpha_pow(u32::from(j)))?;
+        places.push(place_of(j))?;
     }
     Ok(places)
 }
@@ -73,7 +72,6 @@ impl Code {
         requires room { length out.old ≡ size }
         ensures { IsSymbol self.now.k self.now.n size source.now j out.new }
     {
-        let x = alpha_pow(u32::from(j));
-        interpolate(&self.places, &self.weights, source, x, out);
+        interpolate(&self.places, &self.weights, source, place_of(j), out);
     }
 }

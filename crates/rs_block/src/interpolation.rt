@@ -4,12 +4,20 @@
 ghost use Rattle.std.specs.Prelude.{ℕ, ◌≡◌, ◌≢◌, ◌<◌, ◌≤◌, ◌+◌, ◌*◌, EachIndex, bit_xor, length, slice_index};
 ghost use Rattle.std.specs.List.{AllPairs};
 ghost use Rattle.gf_field.specs.Product.{product};
+ghost use Rattle.gf_field.specs.Power.{power};
 ghost use Rattle.gf_field.specs.Inverse.{inverse};
 ghost use Rattle.gf_field.specs.Interpolation.{differences, others, interpolated};
 ghost use Rattle.rs_block.specs.Column.{column};
 ghost use Rattle.rs_block.specs.Points.{AreWeights, weight_at};
 
-use gf_field::{add_scaled, inv, mul};
+use gf_field::{add_scaled, alpha_pow, inv, mul};
+
+/// The place of the symbol with this id.
+pub fn place_of(id: u8) -> u8
+    ensures { result ≡ power id }
+{
+    alpha_pow(u32::from(id))
+}
 
 /// The product of the differences of `x` and each place.
 #[tactic(auto, using(crate::proofs::Formula::difference_steps))]
@@ -67,20 +75,23 @@ fn coefficient(all: u8, x: u8, place: u8, weight: u8) -> u8
 pub fn symbol_at(symbols: &[u8], size: usize, i: usize) -> &[u8]
     requires { i * size + size ≤ length symbols.now }
     ensures len { length result.now ≡ size }
-    ensures octets { EachIndex result.now (λ t. slice_index result.now t ≡ slice_index symbols.now (i * size + t)) }
+    ensures octets { EachIndex result.now (λ t.
+        slice_index result.now t ≡ slice_index symbols.now (i * size + t)) }
 {
     let start = i * size;
     &symbols[start..start + size]
 }
 
-/// Puts into `out`, octet by octet, the value at `x` of the polynomial that has the symbols' octets at the places.
+/// Puts into `out`, octet by octet, the value at `x` of the polynomial that has the symbols' octets at the
+/// places. `x` is none of them.
 pub fn interpolate(places: &[u8], weights: &[u8], symbols: &[u8], x: u8, out: &mut [u8])
     requires weighted { AreWeights places.now weights.now }
     requires different { AllPairs (λ p q. p ≢ q) places.now }
     requires away { EachIndex places.now (λ i. slice_index places.now i ≢ x) }
     requires symbols { length symbols.now ≡ length places.now * length out.old }
     ensures { EachIndex out.new (λ t.
-        slice_index out.new t ≡ interpolated places.now (column (length places.now) (length out.old) symbols.now t) x) }
+        let values = column (length places.now) (length out.old) symbols.now t in
+        slice_index out.new t ≡ interpolated places.now values x) }
 {
     let all = difference_product(places, x);
     let size = out.len();

@@ -1,4 +1,4 @@
-//! The erasure code of RFC 5510, section 8: Reed-Solomon codes over GF(2^8), where symbol j of a block is the value at
+//! The erasure code of RFC 5510, section 8: Reed-Solomon codes over GF(2^8). Symbol j of a block is the value at
 //! the power j of alpha of the polynomial through the block's source symbols, octet by octet.
 #![tactic(auto)]
 

@@ -7,44 +7,9 @@ ghost use Rattle.rs_block.specs.Codeword.{AreIds, AreSources};
 ghost use Rattle.rs_block.specs.Column.{column};
 ghost use Rattle.rs_block.specs.Points.{AreWeights};
 
-use crate::interpolation::{interpolate, symbol_at, weigh};
-use gf_field::alpha_pow;
+use crate::interpolation::{interpolate, place_of, symbol_at, weigh};
 use std::alloc::{AllocError, Global};
 use std::marker::Model;
-
-/// Puts the powers of alpha with the exponents `ids` into `places`.
-fn place(ids: &[u8], places: &mut [u8])
-    requires { length places.old ≡ length ids.now }
-    ensures { places.new ≡ map power ids.now }
-{
-    for (i, place) in places.iter_mut().enumerate() {
-        *place = alpha_pow(u32::from(ids[i]));
-    }
-}
-
-/// Where the id stands among `ids`.
-fn position_of(ids: &[u8], id: u8) -> Option<usize>
-    ensures { MatchOption result (EachIndex ids.now (λ i. slice_index ids.now i ≢ id)) (λ i. (i < length ids.now) × (slice_index ids.now i ≡ id)) }
-{
-    ids.iter().position(|other| *other == id)
-}
-
-/// Puts symbol `j` of the block into `out`: a symbol that was given is copied.
-fn recover(ids: &[u8], places: &[u8], weights: &[u8], symbols: &[u8], j: u8, out: &mut [u8])
-    requires ids { AreIds (length ids.now) 255 ids.now }
-    requires places { places.now ≡ map power ids.now }
-    requires weighted { AreWeights places.now weights.now }
-    requires symbols { length symbols.now ≡ length ids.now * length out.old }
-    requires below { j < 255 }
-    ensures { EachIndex out.new (λ t.
-        slice_index out.new t ≡ interpolated (map power ids.now) (column (length ids.now) (length out.old) symbols.now t) (power j)) }
-{
-    let size = out.len();
-    match position_of(ids, j) {
-        Some(i) => out.copy_from_slice(symbol_at(symbols, size, i)),
-        None => interpolate(places, weights, symbols, alpha_pow(u32::from(j)), out),
-    }
-}
 
 /// Room to solve blocks of k source symbols: all memory that solving takes is made once.
 #[derive(Drop)]
@@ -53,36 +18,6 @@ pub struct Solver {
     size: usize,
     places: Vec<u8>,
     weights: Vec<u8>,
-}
-
-/// Puts the k source symbols of the block into `out`.
-fn recover_all(
-    ids: &[u8],
-    places: &[u8],
-    weights: &[u8],
-    symbols: &[u8],
-    size: usize,
-    k: u8,
-    out: &mut [u8],
-)
-    requires ids { AreIds k 255 ids.now }
-    requires places { places.now ≡ map power ids.now }
-    requires weighted { AreWeights places.now weights.now }
-    requires symbols { length symbols.now ≡ k * size }
-    requires room { length out.old ≡ k * size }
-    ensures { AreSources k size ids.now symbols.now out.new }
-{
-    for j in 0..k {
-        let start = usize::from(j) * size;
-        recover(
-            ids,
-            places,
-            weights,
-            symbols,
-            j,
-            &mut out[start..start + size],
-        );
-    }
 }
 
 impl Model for Solver {
@@ -139,6 +74,73 @@ impl Solver {
             self.size,
             self.k,
             out,
+        );
+    }
+}
+
+/// Puts the powers of alpha with the exponents `ids` into `places`.
+fn place(ids: &[u8], places: &mut [u8])
+    requires { length places.old ≡ length ids.now }
+    ensures { places.new ≡ map power ids.now }
+{
+    for (i, place) in places.iter_mut().enumerate() {
+        *place = place_of(ids[i]);
+    }
+}
+
+/// Where the id stands among `ids`.
+fn position_of(ids: &[u8], id: u8) -> Option<usize>
+    ensures { MatchOption result
+        (EachIndex ids.now (λ i. slice_index ids.now i ≢ id))
+        (λ i. (i < length ids.now) × (slice_index ids.now i ≡ id)) }
+{
+    ids.iter().position(|other| *other == id)
+}
+
+/// Puts symbol `j` of the block into `out`: a symbol that was given is copied.
+fn recover(ids: &[u8], places: &[u8], weights: &[u8], symbols: &[u8], j: u8, out: &mut [u8])
+    requires ids { AreIds (length ids.now) 255 ids.now }
+    requires places { places.now ≡ map power ids.now }
+    requires weighted { AreWeights places.now weights.now }
+    requires symbols { length symbols.now ≡ length ids.now * length out.old }
+    requires below { j < 255 }
+    ensures { EachIndex out.new (λ t.
+        let values = column (length ids.now) (length out.old) symbols.now t in
+        slice_index out.new t ≡ interpolated (map power ids.now) values (power j)) }
+{
+    let size = out.len();
+    match position_of(ids, j) {
+        Some(i) => out.copy_from_slice(symbol_at(symbols, size, i)),
+        None => interpolate(places, weights, symbols, place_of(j), out),
+    }
+}
+
+/// Puts the k source symbols of the block into `out`.
+fn recover_all(
+    ids: &[u8],
+    places: &[u8],
+    weights: &[u8],
+    symbols: &[u8],
+    size: usize,
+    k: u8,
+    out: &mut [u8],
+)
+    requires ids { AreIds k 255 ids.now }
+    requires places { places.now ≡ map power ids.now }
+    requires weighted { AreWeights places.now weights.now }
+    requires symbols { length symbols.now ≡ k * size }
+    requires room { length out.old ≡ k * size }
+    ensures { AreSources k size ids.now symbols.now out.new }
+{
+    for j in 0..k {
+        let start = usize::from(j) * size;
+        recover(
+            ids,
+            places,
+            weights,
+            symbols,
+            j,
+            &mut out[start..start + size],
         );
     }
 }

@@ -1,5 +1,4 @@
 use Rattle.std.proofs.Common.{◌∙◌, ap, arith, length, get_or, ◌<◌}
-use Rattle.gf_field.specs.Power.{power}
 use Rattle.rs_block.proofs.Words.{places_differ, away_from_ids, given_octet}
 use Rattle.rs_block.proofs.solve.recover.Goals as goal
 
@@ -9,8 +8,8 @@ interpolate-requires-clause-different c =
 
 pub interpolate-requires-clause-away : goal.interpolate-requires-clause-away
 interpolate-requires-clause-away c =
-    away_from_ids c.args.ids.now c.args.places.now c.args.j c.alpha_pow.result c.requires.places
-    (c.alpha_pow.ensures ∙ ap power c.from.ensures) c.requires.ids.below c.requires.below c.in-None.ensures
+    away_from_ids c.args.ids.now c.args.places.now c.args.j c.place_of.result c.requires.places
+    c.place_of.ensures c.requires.ids.below c.requires.below c.in-None.ensures
 
 pub returns-in-Some : goal.returns-in-Some
 returns-in-Some c = λ t lt.
