@@ -2,3 +2,4 @@ pub mod Formula
 pub mod Places
 pub mod Words
 pub mod Parts
+pub mod Blocks

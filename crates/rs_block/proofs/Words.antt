@@ -163,7 +163,7 @@ sources_from_formula k size t ids symbols out most are octets h =
 
 -- ---- the laws
 
-codeword_exists : (k n : ℕ) (s : List ℕ) → k ≤ n → n ≤ 255 → length s ≡ k → AreOctets s → (word : List ℕ) × Codeword k n s word
+pub codeword_exists : (k n : ℕ) (s : List ℕ) → k ≤ n → n ≤ 255 → length s ≡ k → AreOctets s → (word : List ℕ) × Codeword k n s word
 codeword_exists k n s fits most count octets =
     let f : FormulaHolds (powers k) s = formula_at_ids k n (range_with_len 0 k) s most (range_ids k n fits) count octets in (
       word_of f.coefficients n,
@@ -189,7 +189,7 @@ alike_at_ids k n ids s w s' w' are p q same =
     ∙ sym (p.values (get_or ids i 0) (are.below i 0 within))
     ∙ sym (value_at_place p.coefficients ids i within))
 
-any_k_determine : (k n : ℕ) (ids s w s' w' : List ℕ) → n ≤ 255 → AreIds k n ids → Codeword k n s w → Codeword k n s' w' → All (λ j. get_or w j 0 ≡ get_or w' j 0) ids → w ≡ w'
+pub any_k_determine : (k n : ℕ) (ids s w s' w' : List ℕ) → n ≤ 255 → AreIds k n ids → Codeword k n s w → Codeword k n s' w' → All (λ j. get_or w j 0 ≡ get_or w' j 0) ids → w ≡ w'
 any_k_determine k n ids s w s' w' most are p q same =
     let count : k ≡ length (map power ids) = sym (length-map ids power ∙ are.count) in
     let below : All (λ j. j < 255) ids = λ i d h. (let low : get_or ids i d < n = are.below i d h in omega arith) in
@@ -203,13 +203,12 @@ any_k_determine k n ids s w s' w' most are p q same =
     let within : j < n = omega (arith, p.symbols) in
     sym (p.values j within) ∙ ap (λ cs. value_at cs (power j)) (sym e) ∙ q.values j within)
 
+pub one_word : (k n : ℕ) (s w w' : List ℕ) → k ≤ n → n ≤ 255 → Codeword k n s w → Codeword k n s w' → w ≡ w'
+one_word k n s w w' fits most p q =
+    any_k_determine k n (range_with_len 0 k) s w s w' most (range_ids k n fits) p q
+    (λ i d h.
+    let below : get_or (range_with_len 0 k) i d < k = range_below k k (omega arith) i d h in
+    p.starts (get_or (range_with_len 0 k) i d) below ∙ sym (q.starts (get_or (range_with_len 0 k) i d) below))
+
 pub codeword_laws : CodewordLaws
-codeword_laws = record {
-  exists = codeword_exists;
-  only = λ k n s w w' fits most p q.
-      any_k_determine k n (range_with_len 0 k) s w s w' most (range_ids k n fits) p q
-      (λ i d h.
-      let below : get_or (range_with_len 0 k) i d < k = range_below k k (omega arith) i d h in
-      p.starts (get_or (range_with_len 0 k) i d) below ∙ sym (q.starts (get_or (range_with_len 0 k) i d) below));
-  determined = any_k_determine;
-}
+codeword_laws = record { exists = codeword_exists; only = one_word; determined = any_k_determine }
