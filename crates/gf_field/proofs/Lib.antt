@@ -1,0 +1,10 @@
+pub mod Octets
+pub mod Sums
+pub mod Linear
+pub mod Products
+pub mod Inverses
+pub mod Powers
+pub mod Polynomials
+pub mod Interpolations
+pub mod Steps
+pub mod LawsHold

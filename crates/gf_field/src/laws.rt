@@ -1,0 +1,45 @@
+//! The laws of the field, RFC 5510 section 8.1. Each function's contract is a law, and it does nothing.
+
+ghost use Rattle.gf_field.specs.Laws.{SumLaws, ProductLaws, InverseLaws, PowerLaws, ZerosLaw, PointsLaw, FormulaLaw};
+
+/// Octets with exclusive or are a commutative group.
+#[tactic(auto, using(crate::proofs::LawsHold::sum_laws))]
+pub fn sums()
+    ensures { SumLaws }
+{}
+
+/// The product is commutative and associative, has the neutral 1, and distributes over sums.
+#[tactic(auto, using(crate::proofs::LawsHold::product_laws))]
+pub fn products()
+    ensures { ProductLaws }
+{}
+
+/// Each octet but 0 has exactly one inverse, and no two of them have the product 0.
+#[tactic(auto, using(crate::proofs::LawsHold::inverse_laws))]
+pub fn inverses()
+    ensures { InverseLaws }
+{}
+
+/// Alpha has order 255, and its first 255 powers are different.
+#[tactic(auto, using(crate::proofs::LawsHold::power_laws))]
+pub fn powers()
+    ensures { PowerLaws }
+{}
+
+/// A polynomial of degree below k with k different zeros is zero.
+#[tactic(auto, using(crate::proofs::LawsHold::zeros_law))]
+pub fn zeros()
+    ensures { ZerosLaw }
+{}
+
+/// Through k points with different places goes exactly one polynomial of degree below k.
+#[tactic(auto, using(crate::proofs::LawsHold::points_law))]
+pub fn points()
+    ensures { PointsLaw }
+{}
+
+/// The value of that polynomial at any place is Lagrange's sum.
+#[tactic(auto, using(crate::proofs::LawsHold::formula_law))]
+pub fn formula()
+    ensures { FormulaLaw }
+{}

@@ -1,0 +1,20 @@
+use Rattle.std.proofs.Common.{◌∙◌, ap, arith, length, get_or, ◌<◌}
+use Rattle.rs_block.proofs.Words.{places_differ, away_from_ids, given_octet}
+use Rattle.rs_block.proofs.solve.recover.Goals as goal
+
+pub interpolate-requires-clause-different : goal.interpolate-requires-clause-different
+interpolate-requires-clause-different c =
+    places_differ (length c.args.ids.now) c.args.ids.now c.args.places.now c.requires.ids c.requires.places
+
+pub interpolate-requires-clause-away : goal.interpolate-requires-clause-away
+interpolate-requires-clause-away c =
+    away_from_ids c.args.ids.now c.args.places.now c.args.j c.place_of.result c.requires.places
+    c.place_of.ensures c.requires.ids.below c.requires.below c.in-None.ensures
+
+pub returns-in-Some : goal.returns-in-Some
+returns-in-Some c = λ t lt.
+    let within : t < length c.args.out.now = omega arith in
+    ap (λ xs. get_or xs t 0) c.copy_from_slice.ensures.after
+    ∙ c.symbol_at.ensures.octets t (omega arith)
+    ∙ given_octet c.args.ids.now c.args.symbols.now (length c.args.out.now) c.in-Some.i c.args.j t c.requires.ids
+    (λ n. (c.type_inv.symbols n).fits) c.in-Some.ensures.0 c.in-Some.ensures.1

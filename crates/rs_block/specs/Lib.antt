@@ -1,0 +1,6 @@
+pub mod Column
+pub mod Codeword
+pub mod Points
+pub mod Code
+pub mod Solver
+pub mod Laws

@@ -1,0 +1,14 @@
+-- What a solver is seen as, and what it keeps.
+use Rattle.std.specs.Prelude.{ℕ, List, ◌≡◌, ◌≤◌, length}
+
+-- room for blocks of k source symbols of `size` octets
+pub record SolverShape : Type 0 where
+  pub k : ℕ
+  pub size : ℕ
+
+-- room for k places and k weights
+pub record IsSolver (k : ℕ) (places weights : List ℕ) : Type 0 where
+  pub some : 1 ≤ k
+  pub most : k ≤ 255
+  pub places_room : length places ≡ k
+  pub weights_room : length weights ≡ k

@@ -1,0 +1,14 @@
+//! The erasure code of RFC 5510, section 8: Reed-Solomon codes over GF(2^8). Symbol j of a block is the value at
+//! the power j of alpha of the polynomial through the block's source symbols, octet by octet.
+#![tactic(auto)]
+
+mod encode;
+mod interpolation;
+pub mod laws;
+mod solve;
+
+pub use encode::Code;
+pub use solve::Solver;
+
+#[cfg(test)]
+mod tests;

@@ -1,0 +1,146 @@
+//! The source symbols of a block from any k of its symbols, RFC 5510 section 8.3.
+
+ghost use Rattle.std.specs.Prelude.{ℕ, ◌≡◌, ◌≢◌, ◌<◌, ◌≤◌, ◌*◌, ◌+◌, All, AllPairs, EachIndex, IfOk, MatchOption, length, map, slice_index};
+ghost use Rattle.gf_field.specs.Power.{power};
+ghost use Rattle.gf_field.specs.Interpolation.{interpolated};
+ghost use Rattle.rs_block.specs.Codeword.{AreIds, AreSources};
+ghost use Rattle.rs_block.specs.Column.{column};
+ghost use Rattle.rs_block.specs.Points.{AreWeights};
+
+use crate::interpolation::{interpolate, place_of, symbol_at, weigh};
+use std::alloc::{AllocError, Global};
+use std::marker::Model;
+
+/// Room to solve blocks of k source symbols: all memory that solving takes is made once.
+#[derive(Drop)]
+pub struct Solver {
+    k: u8,
+    size: usize,
+    places: Vec<u8>,
+    weights: Vec<u8>,
+}
+
+impl Model for Solver {
+    ghost use Rattle.rs_block.specs.Solver.{SolverShape, IsSolver};
+
+    ghost Value = { SolverShape };
+
+    ghost view = { λ s. record { k = s.k; size = s.size } };
+
+    ghost invariant = { λ s. IsSolver s.k s.places.items s.weights.items };
+}
+
+impl Solver {
+    ghost use Rattle.rs_block.specs.Solver.{SolverShape};
+
+    /// Room to solve blocks of `k` source symbols of `size` octets, at most 1,408.
+    ///
+    /// # Errors
+    ///
+    /// `AllocError` where memory runs out.
+    pub fn new(alloc: Global, k: u8, size: usize) -> Result<Solver, AllocError>
+        requires some { 1 ≤ k }
+        requires octets { 1 ≤ size }
+        requires most { size ≤ 1408 }
+        ensures { IfOk result (λ solver. solver ≡ record { k = k; size = size }) }
+    {
+        let places = vec![in alloc; 0; usize::from(k)]?;
+        let weights = vec![in alloc; 0; usize::from(k)]?;
+        Ok(Solver {
+            k,
+            size,
+            places,
+            weights,
+        })
+    }
+
+    /// Puts the k source symbols of a block into `out`, in a row. `ids` are the ids of k of its symbols, in any
+    /// order, and `symbols` these symbols in a row, in the same order. It takes no memory and cannot fail: any
+    /// k different ids below 255 will do.
+    pub fn solve(&mut self, ids: &[u8], symbols: &[u8], out: &mut [u8])
+        requires ids { AreIds self.old.k 255 ids.now }
+        requires symbols { length symbols.now ≡ self.old.k * self.old.size }
+        requires room { length out.old ≡ self.old.k * self.old.size }
+        ensures sources { AreSources self.old.k self.old.size ids.now symbols.now out.new }
+        ensures same { self.new ≡ self.old }
+    {
+        place(ids, &mut self.places);
+        weigh(&self.places, &mut self.weights);
+        recover_all(
+            ids,
+            &self.places,
+            &self.weights,
+            symbols,
+            self.size,
+            self.k,
+            out,
+        );
+    }
+}
+
+/// Puts the powers of alpha with the exponents `ids` into `places`.
+fn place(ids: &[u8], places: &mut [u8])
+    requires { length places.old ≡ length ids.now }
+    ensures { places.new ≡ map power ids.now }
+{
+    for (i, place) in places.iter_mut().enumerate() {
+        *place = place_of(ids[i]);
+    }
+}
+
+/// Where the id stands among `ids`.
+fn position_of(ids: &[u8], id: u8) -> Option<usize>
+    ensures { MatchOption result
+        (EachIndex ids.now (λ i. slice_index ids.now i ≢ id))
+        (λ i. (i < length ids.now) × (slice_index ids.now i ≡ id)) }
+{
+    ids.iter().position(|other| *other == id)
+}
+
+/// Puts symbol `j` of the block into `out`: a symbol that was given is copied.
+fn recover(ids: &[u8], places: &[u8], weights: &[u8], symbols: &[u8], j: u8, out: &mut [u8])
+    requires ids { AreIds (length ids.now) 255 ids.now }
+    requires places { places.now ≡ map power ids.now }
+    requires weighted { AreWeights places.now weights.now }
+    requires symbols { length symbols.now ≡ length ids.now * length out.old }
+    requires below { j < 255 }
+    ensures { EachIndex out.new (λ t.
+        let values = column (length ids.now) (length out.old) symbols.now t in
+        slice_index out.new t ≡ interpolated (map power ids.now) values (power j)) }
+{
+    let size = out.len();
+    match position_of(ids, j) {
+        Some(i) => out.copy_from_slice(symbol_at(symbols, size, i)),
+        None => interpolate(places, weights, symbols, place_of(j), out),
+    }
+}
+
+/// Puts the k source symbols of the block into `out`.
+fn recover_all(
+    ids: &[u8],
+    places: &[u8],
+    weights: &[u8],
+    symbols: &[u8],
+    size: usize,
+    k: u8,
+    out: &mut [u8],
+)
+    requires ids { AreIds k 255 ids.now }
+    requires places { places.now ≡ map power ids.now }
+    requires weighted { AreWeights places.now weights.now }
+    requires symbols { length symbols.now ≡ k * size }
+    requires room { length out.old ≡ k * size }
+    ensures { AreSources k size ids.now symbols.now out.new }
+{
+    for j in 0..k {
+        let start = usize::from(j) * size;
+        recover(
+            ids,
+            places,
+            weights,
+            symbols,
+            j,
+            &mut out[start..start + size],
+        );
+    }
+}
