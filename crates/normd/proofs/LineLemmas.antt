@@ -1,4 +1,4 @@
-use Rattle.std.proofs.Common.{◌≡◌, ◌<◌, ◌∙◌, ℕ, List, [], ◌∷◌, length, Option, Some, None, refl, Bool, true, false, nat_eq, ap, sym, arith}
+use Rattle.std.proofs.Common.{◌≡◌, ◌≤◌, ◌<◌, ◌∙◌, ℕ, List, [], ◌∷◌, length, Option, Some, None, refl, Bool, true, false, nat_eq, ap, sym, arith}
 use Rattle.std.specs.Option.{option_map}
 use Rattle.normd.specs.Words.{split_at_first, text_lines, onto_first}
 
@@ -56,3 +56,7 @@ split_shorter (x ∷ xs) p some =
         let len : length q.0.1 ≡ length p.1 = ap (λ (r : List ℕ × List ℕ). length r.1) q.1.1 in
         omega (arith, len, split_shorter xs q.0 q.1.0)
     ] refl
+
+pub text_whole : (xs : List ℕ) → 1 ≤ length xs → split_at_first 10 xs ≡ None → text_lines xs ≡ xs ∷ []
+text_whole [] some none = absurd (omega arith)
+text_whole (x ∷ xs) some none = text_lines-none x xs none

@@ -2,3 +2,4 @@ pub mod Words
 pub mod Meaning
 pub mod Reading
 pub mod Sound
+pub mod Refusal

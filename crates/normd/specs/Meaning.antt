@@ -1,4 +1,4 @@
-use Rattle.std.specs.Prelude.{ℕ, ◌==◌, ◌&&◌, ◌||◌, Bool, not, List, [], ◌∷◌, length, codes, nat_eq, nat_le, Option, None, Some, option_and_then, if◌then◌else◌, slice_index}
+use Rattle.std.specs.Prelude.{ℕ, ◌≤◌, ◌==◌, ◌&&◌, ◌||◌, Bool, not, List, [], ◌∷◌, length, codes, nat_eq, nat_le, Option, None, Some, option_and_then, if◌then◌else◌, slice_index}
 use Rattle.std.specs.Option.{option_map}
 use Rattle.std.specs.List.{list_any}
 use Rattle.std.specs.Cmp.Lexicographic.{pointwise}
@@ -65,3 +65,8 @@ abbrev pub meaning_of : List ℕ → Option Meaning
 meaning_of line =
     if not (nat_le (length line) 16500) then None else
     (if is_passed_over line then Some Nothing else option_and_then meaning_of_words (triple_of line))
+
+-- a setting's value is within its key's range
+abbrev pub IsWithin : Meaning → Type 0
+IsWithin (Set key value) = (least_of key ≤ value) × (value ≤ most_of key)
+IsWithin _ = Unit {0}

@@ -1,9 +1,9 @@
 //! What a line of a script means.
 
-ghost use Rattle.std.specs.Prelude.{◌≡◌, ◌==◌, ◌||◌, nat_eq, List, ℕ, length, slice_index, IfOk};
+ghost use Rattle.std.specs.Prelude.{◌≡◌, ◌==◌, ◌||◌, nat_eq, List, ℕ, length, slice_index, IfOk, IfSome};
 ghost use Rattle.std.specs.Option.{option_map};
 ghost use Rattle.std.specs.List.{list_any};
-ghost use Rattle.normd.specs.Meaning.{is_text, key_of, least_of, most_of, setting_of, Triple, triple_of, meaning_of_words, is_passed_over, meaning_of};
+ghost use Rattle.normd.specs.Meaning.{is_text, key_of, least_of, most_of, setting_of, Triple, triple_of, meaning_of_words, is_passed_over, meaning_of, IsWithin};
 
 use crate::words::{contents_of, number_within, split_at_first};
 use norm_base::{Memory, Octets};
@@ -77,7 +77,8 @@ fn most_of(key: Key) -> u32
 
 /// What `set KEY VALUE` means.
 fn setting_of(word: &[u8], value: &[u8]) -> Option<Meaning>
-    ensures { result ≡ setting_of word.now value.now }
+    ensures value { result ≡ setting_of word.now value.now }
+    ensures within { IfSome result IsWithin }
 {
     let key = key_of(word)?;
     let value = number_within(value, least_of(key), most_of(key))?;
@@ -109,8 +110,9 @@ fn words_of(line: &[u8]) -> Option<Words<'_>>
 
 /// What three words mean.
 fn meaning_of_words(alloc: Global, words: Words<'_>) -> Result<Option<Meaning>, Memory>
-    ensures { IfOk result (λ meaning. meaning ≡ meaning_of_words (record {
+    ensures value { IfOk result (λ meaning. meaning ≡ meaning_of_words (record {
         first = words.entry.first.now; second = words.entry.second.now; third = words.entry.third.now })) }
+    ensures within { IfOk result (λ meaning. IfSome meaning IsWithin) }
 {
     if words.first == b"set".as_slice() {
         return Ok(setting_of(words.second, words.third));
@@ -133,7 +135,8 @@ fn is_passed_over(line: &[u8]) -> bool
 
 /// What a line means. `None` where it has no meaning.
 pub(crate) fn meaning_of(alloc: Global, line: &[u8]) -> Result<Option<Meaning>, Memory>
-    ensures { IfOk result (λ meaning. meaning ≡ meaning_of line.now) }
+    ensures value { IfOk result (λ meaning. meaning ≡ meaning_of line.now) }
+    ensures within { IfOk result (λ meaning. IfSome meaning IsWithin) }
 {
     if line.len() > MOST_OCTETS {
         return Ok(None);

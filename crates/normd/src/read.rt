@@ -1,15 +1,20 @@
 //! The reader of scripts.
 
-ghost use Rattle.std.specs.Prelude.{◌≡◌, ◌≤◌, IfOk, OnOk, IfSome, MatchOption, Some, is_some, unwrap_or};
+ghost use Rattle.std.specs.Prelude.{◌≡◌, ◌≤◌, ◌<◌, ◌∷◌, length, MatchResult, Ok, IfOk, OnOk, IfSome, MatchOption, Some, is_some, unwrap_or};
 ghost use Rattle.normd.specs.Meaning.{least_of, most_of};
-ghost use Rattle.normd.specs.Reading.{nothing_read, set_key, take_in, take_line, profile_of, e_of};
+ghost use Rattle.normd.specs.Reading.{nothing_read, set_key, take_in, take_line, profile_of, e_of, commands_of, script_of};
+ghost use Rattle.normd.specs.Refusal.{IsRefusal};
+ghost use Rattle.normd.specs.Words.{text_lines};
+ghost use Rattle.norm_session.specs.SessionRun.{IsScript};
 
 use crate::given::Given;
 use crate::meaning::{Key, Meaning, meaning_of};
 use norm_base::{Memory, Octets, Profile};
-use norm_session::{Line, Verb};
+use crate::words::split_at_first;
+use norm_session::{Line, Script, Verb};
 use std::alloc::Global;
 use std::marker::Model;
+use thiserror::Error;
 
 /// The profile with these values, and all other keys at their defaults.
 fn profile_of(given: &Given) -> Profile
@@ -139,4 +144,77 @@ impl Reader {
             Err(_) => Err(Memory),
         }
     }
+}
+
+/// Why a script was not read.
+#[derive(Clone, Copy, Debug, PartialEq, Eq, Error)]
+pub enum ScriptFault {
+    /// Line `n`, from 1, is the first that has no meaning.
+    #[error("line {n} has no meaning")]
+    Line { n: u32 },
+    /// There was no memory.
+    #[error("out of memory")]
+    Memory,
+}
+
+impl Reader {
+    /// A line with this number is taken in. `false` where it has no meaning.
+    fn take_line(&mut self, alloc: Global, n: u32, line: &[u8]) -> Result<bool, Memory>
+        ensures { IfOk result (λ taken. let next = take_line self.old n line.now in
+            (taken ≡ is_some next) × (self.new ≡ unwrap_or next self.old)) }
+    {
+        if n > 8192 {
+            return Ok(false);
+        }
+        match meaning_of(alloc, line)? {
+            Some(Meaning::Nothing) => Ok(true),
+            Some(Meaning::Set { key, value }) => Ok(self.set(key, value)),
+            Some(Meaning::Data(bytes)) => self.add(bytes),
+            None => Ok(false),
+        }
+    }
+
+    /// The script that was read.
+    fn into_script(self) -> Script
+        ensures value { result ≡ commands_of self }
+        ensures runnable { IsScript result }
+    {
+        Script {
+            profile: profile_of(&self.given),
+            lines: self.lines,
+        }
+    }
+}
+
+/// The first line of a text that is not empty, and what follows it.
+fn first_line(text: &[u8]) -> (&[u8], &[u8])
+    requires { 1 ≤ length text.now }
+    ensures lines { text_lines text.now ≡ result.0.now ∷ text_lines result.1.now }
+    ensures less { length result.1.now < length text.now }
+{
+    match split_at_first(text, b'\n') {
+        Some(parts) => parts,
+        None => text.split_at(text.len()),
+    }
+}
+
+/// Reads a script: its profile and its commands. A line without meaning refuses it, the first one counts.
+pub fn read_script(alloc: Global, text: &[u8]) -> Result<Script, ScriptFault>
+    ensures read { MatchResult result (λ script. script_of text.now ≡ Ok script) (IsRefusal (script_of text.now)) }
+    ensures runnable { IfOk result IsScript }
+{
+    let mut reader = Reader::new(alloc);
+    let mut rest = text;
+    let mut n = 1;
+    while !rest.is_empty() {
+        let (line, more) = first_line(rest);
+        match reader.take_line(alloc, n, line) {
+            Ok(true) => {}
+            Ok(false) => return Err(ScriptFault::Line { n }),
+            Err(Memory) => return Err(ScriptFault::Memory),
+        }
+        rest = more;
+        n += 1;
+    }
+    Ok(reader.into_script())
 }
