@@ -3,3 +3,5 @@ pub mod Meaning
 pub mod Reading
 pub mod Sound
 pub mod Refusal
+pub mod StatusOf
+pub mod Ends

@@ -2,8 +2,11 @@
 #![tactic(auto)]
 
 mod given;
+mod input;
 mod meaning;
+mod program;
 mod read;
+mod status;
 mod words;
 
 fn main() {}

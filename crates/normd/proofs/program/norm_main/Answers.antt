@@ -1,0 +1,9 @@
+use Rattle.std.proofs.Common.{◌≡◌, ◌∙◌, sym, refl, false, rules}
+use Rattle.normd.specs.declared.status.Ending.TheVariants.{Words}
+use Rattle.normd.proofs.program.norm_main.Goals as goal
+
+pub returns-then-not-is_session : goal.returns-then-not-is_session
+returns-then-not-is_session g c = record {
+  ending = Words;
+  is = c.status.ensures;
+  holds = (search rules, record { input = refl; network = refl; output = c.say.ensures }) }

@@ -1,0 +1,36 @@
+//! The input, read whole.
+
+ghost use Rattle.std.specs.Prelude.{◌≡◌, IfOk, IfSome, IsErrOf, Option, List, ℕ};
+ghost use Rattle.norm_base.specs.Faults.{Rose};
+
+use norm_base::{Failed, Source};
+use std::alloc::Global;
+
+/// Why the input was not read whole.
+#[derive(Clone, Copy, Debug, PartialEq, Eq)]
+pub(crate) enum InputFault {
+    /// A read failed.
+    Read,
+    /// There was no memory.
+    Memory,
+}
+
+/// All of the input's octets.
+pub(crate) fn read_all<S: Source>(alloc: Global, input: &mut S) -> Result<Vec<u8>, InputFault>
+    ensures octets { IfOk result (λ text. IfSome (S.left input.old) (λ octets. octets ≡ text.items)) }
+    ensures cause { IsErrOf result InputFault.Read → Rose (S.fault_count input.old) (S.fault_count input.new) }
+{
+    let mut text = Vec::new(alloc);
+    let mut buffer = [0u8; 4096];
+    loop {
+        let n = match input.read(&mut buffer) {
+            Ok(0) => return Ok(text),
+            Ok(n) => n,
+            Err(Failed) => return Err(InputFault::Read),
+        };
+        let piece = buffer.split_at(n).0;
+        if text.extend_from_slice(piece).is_err() {
+            return Err(InputFault::Memory);
+        }
+    }
+}

@@ -1,0 +1,70 @@
+//! How the program ends.
+
+ghost use Rattle.std.specs.Prelude.{◌≡◌};
+ghost use Rattle.normd.specs.StatusOf.{status_of};
+
+use std::marker::Model;
+
+/// A program's exit status.
+#[derive(Clone, Copy, Debug, PartialEq, Eq)]
+pub struct Status(u8);
+
+impl Model for Status {
+    ghost use Rattle.std.specs.Prelude.{ℕ, ◌≤◌};
+
+    ghost Value = { ℕ };
+
+    ghost view = { λ s. s.0 };
+
+    ghost invariant = { λ s. s.0 ≤ 8 };
+
+    ghost inverse = { λ n. record { 0 = n } };
+}
+
+impl Status {
+    /// The status as a number.
+    pub fn code(&self) -> u8
+        ensures { result ≡ self.now }
+    {
+        self.0
+    }
+}
+
+/// How a command ended.
+#[derive(Clone, Copy, Debug, PartialEq, Eq)]
+pub enum Ending {
+    /// All was done.
+    Done,
+    /// There was no memory.
+    Memory,
+    /// The words are no command.
+    Words,
+    /// Line `n` of the script has no meaning.
+    Refused { n: u32 },
+    /// A read failed.
+    Read,
+    /// A write failed.
+    Write,
+    /// A call of the network failed.
+    Fabric,
+    /// The turns were spent.
+    Spent,
+}
+
+impl Ending {
+    /// The exit status of this ending.
+    pub fn status(&self) -> Status
+        ensures { result ≡ status_of self.now }
+    {
+        match self {
+            Ending::Done => Status(0),
+            Ending::Memory => Status(1),
+            Ending::Words => Status(2),
+            Ending::Refused { .. } => Status(3),
+            Ending::Read => Status(4),
+            Ending::Write => Status(5),
+            Ending::Fabric => Status(6),
+            Ending::Spent => Status(8),
+        }
+    }
+}
