@@ -12,7 +12,7 @@ fold_least a (x ∷ xs) = omega (arith, fold_least (with_digit a x) xs)
 pub value_grows : (word : List ℕ) (i : ℕ) → value_of (take i word) ≤ value_of word
 value_grows word i =
     let whole : value_of word ≡ fold with_digit (value_of (take i word)) (drop i word) =
-        rw (take-append-drop i word) at (fold-append with_digit 0 (take i word) (drop i word)) in
+    rw (take-append-drop i word) at (fold-append with_digit 0 (take i word) (drop i word)) in
     omega (arith, whole, fold_least (value_of (take i word)) (drop i word))
 
 -- a value above the range is none

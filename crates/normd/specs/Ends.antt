@@ -93,7 +93,12 @@ IsFaultEnding _ = ⊥
 
 abbrev pub outside : List (List ℕ) → Option (List ℕ) → ℕ → Network → Option (List ℕ) → Outside
 outside words input faults network written = record {
-  words = words; input = input; faults = faults; network = network; written = written }
+  words = words;
+  input = input;
+  faults = faults;
+  network = network;
+  written = written;
+}
 
 -- A call ended so: it answers the ending's status, and what the ending says holds.
 pub record EndsWith (status : ℕ) (before after : Outside) : Type 0 where

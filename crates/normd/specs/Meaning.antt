@@ -44,11 +44,11 @@ pub record Triple : Type 0 where
 abbrev pub triple_of : List ℕ → Option Triple
 triple_of line =
     option_and_then (λ (a : List ℕ × List ℕ).
-      option_and_then (λ (b : List ℕ × List ℕ).
-        if list_any (λ c. c == 32) b.1 then None
-        else Some (record { first = a.0; second = b.0; third = b.1 }))
-        (split_at_first 32 a.1))
-      (split_at_first 32 line)
+    option_and_then (λ (b : List ℕ × List ℕ).
+    if list_any (λ c. c == 32) b.1 then None
+    else Some (record { first = a.0; second = b.0; third = b.1 }))
+    (split_at_first 32 a.1))
+    (split_at_first 32 line)
 
 -- `set KEY VALUE`, or `1 data HEX`
 abbrev pub meaning_of_words : Triple → Option Meaning

@@ -64,8 +64,11 @@ take_lines r n (line ∷ lines) = or_refused n (take_line r n line) (λ next. ta
 -- the profile: what was set, and the defaults
 abbrev pub profile_of : Given → Settings
 profile_of g = record defaults {
-  instance = unwrap_or g.instance defaults.instance; e = e_of g; b = unwrap_or g.b defaults.b;
-  max_n = min 255 (unwrap_or g.b defaults.b + unwrap_or g.b defaults.b / 2) }
+  instance = unwrap_or g.instance defaults.instance;
+  e = e_of g;
+  b = unwrap_or g.b defaults.b;
+  max_n = min 255 (unwrap_or g.b defaults.b + unwrap_or g.b defaults.b / 2);
+}
 
 abbrev pub commands_of : ReadState → Commands
 commands_of r = record { profile = profile_of r.given; lines = r.lines }

@@ -111,7 +111,10 @@ fn words_of(line: &[u8]) -> Option<Words<'_>>
 /// What three words mean.
 fn meaning_of_words(alloc: Global, words: Words<'_>) -> Result<Option<Meaning>, Memory>
     ensures value { IfOk result (λ meaning. meaning ≡ meaning_of_words (record {
-        first = words.entry.first.now; second = words.entry.second.now; third = words.entry.third.now })) }
+      first = words.entry.first.now;
+      second = words.entry.second.now;
+      third = words.entry.third.now;
+    })) }
     ensures within { IfOk result (λ meaning. IfSome meaning IsWithin) }
 {
     if words.first == b"set".as_slice() {

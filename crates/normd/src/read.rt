@@ -9,8 +9,8 @@ ghost use Rattle.norm_session.specs.SessionRun.{IsScript};
 
 use crate::given::Given;
 use crate::meaning::{Key, Meaning, meaning_of};
-use norm_base::{Memory, Octets, Profile};
 use crate::words::split_at_first;
+use norm_base::{Memory, Octets, Profile};
 use norm_session::{Line, Script, Verb};
 use std::alloc::Global;
 use std::marker::Model;

@@ -12,4 +12,4 @@ returns-in-Some-clause-less c = split_shorter c.args.text.now (c.in-Some.parts.0
 pub returns-in-None-clause-lines : goal.returns-in-None-clause-lines
 returns-in-None-clause-lines c =
     rw (c.split_at.ensures.front, c.split_at.ensures.back) (rw (take-length c.args.text.now, drop-length c.args.text.now)
-      (text_whole c.args.text.now c.requires (sym c.in-None.ensures)))
+    (text_whole c.args.text.now c.requires (sym c.in-None.ensures)))

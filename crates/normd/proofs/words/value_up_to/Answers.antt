@@ -10,5 +10,5 @@ returns-then-value-from c =
     let i = c.loop-digit.digit-index in
     let step = fold_more with_digit 0 word i 0 c.loop-digit-test.true in
     let above : c.args.high < value_of word =
-        omega (arith, step, value_grows word (i + 1), c.loop-digit.invariant.0, c.if-value-from.true, c.saturating_sub.ensures, c.from.ensures, c.from-in-loop-digit.ensures) in
+    omega (arith, step, value_grows word (i + 1), c.loop-digit.invariant.0, c.if-value-from.true, c.saturating_sub.ensures, c.from.ensures, c.from-in-loop-digit.ensures) in
     none_above (value_of word) c.args.high above
