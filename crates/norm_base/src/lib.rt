@@ -40,3 +40,6 @@ pub use crate::profile::Profile;
 pub use crate::sink::Sink;
 pub use crate::source::Source;
 pub use crate::std_io::{StdSink, StdSource};
+
+#[cfg(test)]
+mod tests;
