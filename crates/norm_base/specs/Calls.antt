@@ -22,3 +22,7 @@ after_call c failed = record {
   made = one_more c.made;
   faults = if failed then one_more c.faults else c.faults;
 }
+
+-- the calls are counted anew; which of them fail, and how many failed, stay
+abbrev pub restarted : Calls → Calls
+restarted c = record { failing = c.failing; made = 0; faults = c.faults }

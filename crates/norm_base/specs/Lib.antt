@@ -11,3 +11,5 @@ pub mod Writing
 pub mod Timing
 pub mod Direct
 pub mod Filing
+pub mod Cursor
+pub mod Listed

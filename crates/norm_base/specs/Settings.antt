@@ -71,6 +71,30 @@ pub record InRange (s : Settings) : Type 0 where
 -- each key at its default
 abbrev pub defaults : Settings
 defaults = record {
-  instance = 1; first = 0; sender = 1; receivers = 1; producers = 1; e = 1024; b = 64; max_n = 96; auto = 0;
-  window = 256; octets = 16777216; blocks = 16; mode = Hold; gap = 1000; grtt = 10000; grtt_code = 64; gsize_code = 1;
-  k = 4; step = 1000; turns = 1000000; fabric = Direct; chance = 0; loss = 0; repeat = 0; late = 0; port = 40000 }
+  instance = 1;
+  first = 0;
+  sender = 1;
+  receivers = 1;
+  producers = 1;
+  e = 1024;
+  b = 64;
+  max_n = 96;
+  auto = 0;
+  window = 256;
+  octets = 16777216;
+  blocks = 16;
+  mode = Hold;
+  gap = 1000;
+  grtt = 10000;
+  grtt_code = 64;
+  gsize_code = 1;
+  k = 4;
+  step = 1000;
+  turns = 1000000;
+  fabric = Direct;
+  chance = 0;
+  loss = 0;
+  repeat = 0;
+  late = 0;
+  port = 40000;
+}

@@ -1,7 +1,7 @@
 //! Which calls of an object in memory fail.
 
 ghost use Rattle.std.specs.Prelude.{◌≡◌, [], true, false};
-ghost use Rattle.norm_base.specs.Calls.{next_fails, after_call};
+ghost use Rattle.norm_base.specs.Calls.{next_fails, after_call, restarted};
 ghost use Rattle.norm_base.specs.Faults.{Counts};
 
 use std::alloc::Global;
@@ -64,6 +64,13 @@ impl CallCount {
     {
         self.made = self.made.saturating_add(1);
         self.faults = self.faults.saturating_add(1);
+    }
+
+    /// Counts the calls anew. Which of them fail, and how many failed, stay.
+    pub(crate) fn restart(&mut self)
+        ensures { self.new ≡ restarted self.old }
+    {
+        self.made = 0;
     }
 
     /// How many calls failed.

@@ -3,12 +3,14 @@
 
 mod calls;
 mod clock;
+mod copies;
 mod datagram;
 mod direct_fabric;
 mod fabric;
 mod fault;
 mod files;
 mod kinds;
+mod list_fabric;
 mod mem_clock;
 mod mem_files;
 mod mem_sink;
@@ -27,6 +29,7 @@ pub use crate::fabric::Fabric;
 pub use crate::fault::{FabricFault, Failed, FileFault, Memory};
 pub use crate::files::Files;
 pub use crate::kinds::{FabricKind, Kind, Local, Mode, Sent};
+pub use crate::list_fabric::ListFabric;
 pub use crate::mem_clock::MemClock;
 pub use crate::mem_files::MemFiles;
 pub use crate::mem_sink::MemSink;
@@ -37,3 +40,6 @@ pub use crate::profile::Profile;
 pub use crate::sink::Sink;
 pub use crate::source::Source;
 pub use crate::std_io::{StdSink, StdSource};
+
+#[cfg(test)]
+mod tests;

@@ -1,7 +1,9 @@
 //! A clock in memory.
 
 ghost use Rattle.std.specs.Prelude.{◌≡◌};
+ghost use Rattle.norm_base.specs.Calls.{one_more};
 ghost use Rattle.norm_base.specs.Timing.{moment_at, told_moments};
+ghost use Rattle.norm_base.specs.Told.{GainsWhereTold};
 
 use crate::clock::Clock;
 use crate::node::Moment;
@@ -48,7 +50,11 @@ impl MemClock {
 impl Clock for MemClock {
     ghost moments = { told_moments };
 
-    fn now(&mut self) -> Moment {
+    fn now(&mut self) -> Moment
+        ensures moment { result ≡ moment_at self.old.moments self.old.asked }
+        ensures state { self.new ≡ record { moments = self.old.moments; asked = one_more self.old.asked } }
+        ensures told { GainsWhereTold (told_moments self.old) (told_moments self.new) result }
+    {
         let moment = self.next_moment();
         self.asked = self.asked.saturating_add(1);
         moment

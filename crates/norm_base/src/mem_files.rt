@@ -1,8 +1,10 @@
 //! Files in memory.
 
-ghost use Rattle.std.specs.Prelude.{◌≡◌, ◌≤◌, ◌<◌, ◌++◌, [], ◌∷◌, Some, ℕ, List, length, map, drop, take, string_bytes, slice_set, IfOk, OnOk, OnErr, option_copied, nat_eq};
-ghost use Rattle.norm_base.specs.Filing.{named};
-ghost use Rattle.norm_base.specs.Contents.{content_of, place_of, put_in};
+ghost use Rattle.std.specs.Prelude.{◌↔◌, ◌-◌, min, true, false, is_err, IsErr, IsErrOf, IsNone, IsTrue, IfSome, ◌≡◌, ◌≤◌, ◌<◌, ◌++◌, [], ◌∷◌, Some, ℕ, List, length, map, drop, take, string_bytes, slice_set, IfOk, OnOk, OnErr, option_copied, nat_eq};
+ghost use Rattle.norm_base.specs.Filing.{named, fails_at, after_query};
+ghost use Rattle.norm_base.specs.Contents.{content_of, place_of, put_in, ChangesOnly};
+ghost use Rattle.norm_base.specs.Calls.{next_fails, after_call};
+ghost use Rattle.norm_base.specs.Faults.{Counts, file_failed};
 
 use crate::calls::CallCount;
 use crate::fault::{Failed, FileFault};
@@ -84,6 +86,13 @@ impl MemFiles {
             calls: CallCount::of(failing),
         }
     }
+
+    /// The octets of the file with this name. It counts as no call.
+    pub fn content(&self, name: &str) -> Option<&[u8]>
+        ensures { option_copied result ≡ content_of self.now.files name.now }
+    {
+        content_of(&self.files, name)
+    }
 }
 
 impl Files for MemFiles {
@@ -91,7 +100,14 @@ impl Files for MemFiles {
 
     ghost fault_count = { λ s. s.calls.faults };
 
-    fn length(&mut self, name: &str) -> Result<u64, FileFault> {
+    fn length(&mut self, name: &str) -> Result<u64, FileFault>
+        ensures fails { file_failed result ≡ fails_at self.old name.now }
+        ensures state { self.new ≡ after_query self.old name.now }
+        ensures same { Some self.new.files ≡ Some self.old.files }
+        ensures value { IfOk result (λ n. IfSome (content_of self.old.files name.now) (λ octets. n ≡ length octets)) }
+        ensures absent { IsErrOf result FileFault.Absent ↔ IsNone (content_of self.old.files name.now) }
+        ensures cause { Counts self.old.calls.faults self.new.calls.faults (file_failed result) }
+    {
         let Some(content) = content_of(&self.files, name) else {
             self.calls.pass();
             return Err(FileFault::Absent);
@@ -104,7 +120,20 @@ impl Files for MemFiles {
         Ok(content.len() as u64)
     }
 
-    fn read_at(&mut self, name: &str, offset: u64, buf: &mut [u8]) -> Result<usize, FileFault> {
+    fn read_at(&mut self, name: &str, offset: u64, buf: &mut [u8]) -> Result<usize, FileFault>
+        requires room { 0 < length buf.old }
+        requires within { IfSome (content_of self.old.files name.now) (λ octets. offset < length octets) }
+        ensures fails { file_failed result ≡ fails_at self.old name.now }
+        ensures state { self.new ≡ after_query self.old name.now }
+        ensures exact { IfOk result (λ n. IfSome (content_of self.old.files name.now) (λ octets.
+            (n ≡ min (length octets - offset) (length buf.old)) × (buf.new ≡ take n (drop offset octets) ++ drop n buf.old))) }
+        ensures kept { OnErr result (buf.new ≡ buf.old) }
+        ensures same { Some self.new.files ≡ Some self.old.files }
+        ensures count { IfOk result (λ n. (0 < n) × (n ≤ length buf.old)) }
+        ensures octets { IfOk result (λ n. IfSome (content_of self.old.files name.now) (λ octets. take n buf.new ≡ take n (drop offset octets))) }
+        ensures absent { IsErrOf result FileFault.Absent ↔ IsNone (content_of self.old.files name.now) }
+        ensures cause { Counts self.old.calls.faults self.new.calls.faults (file_failed result) }
+    {
         let Some(content) = content_of(&self.files, name) else {
             self.calls.pass();
             return Err(FileFault::Absent);
@@ -120,7 +149,14 @@ impl Files for MemFiles {
         Ok(n)
     }
 
-    fn put(&mut self, name: &str, bytes: &[u8]) -> Result<(), Failed> {
+    fn put(&mut self, name: &str, bytes: &[u8]) -> Result<(), Failed>
+        ensures fails { IsTrue (next_fails self.old.calls) → IsErr result }
+        ensures state { OnOk result (self.new ≡ record { files = put_in self.old.files name.now bytes.now; calls = after_call self.old.calls false }) }
+        ensures kept { OnErr result (self.new ≡ record { files = self.old.files; calls = after_call self.old.calls true }) }
+        ensures ok { OnOk result (content_of self.new.files name.now ≡ Some bytes.now) }
+        ensures others { ChangesOnly (Some self.old.files) (Some self.new.files) name.now }
+        ensures cause { Counts self.old.calls.faults self.new.calls.faults (is_err result) }
+    {
         if self.calls.next_fails() {
             self.calls.fail();
             return Err(Failed);

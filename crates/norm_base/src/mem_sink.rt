@@ -1,6 +1,9 @@
 //! A sink in memory.
 
-ghost use Rattle.std.specs.Prelude.{◌≡◌, Some};
+ghost use Rattle.std.specs.Prelude.{◌≡◌, ◌++◌, Some, IsTrue, true, false, is_err, IsErr, OnOk, OnErr};
+ghost use Rattle.norm_base.specs.Calls.{next_fails, after_call};
+ghost use Rattle.norm_base.specs.Faults.{Counts};
+ghost use Rattle.norm_base.specs.Told.{gained, GainsFront};
 
 use crate::calls::CallCount;
 use crate::fault::Failed;
@@ -48,7 +51,14 @@ impl Sink for MemSink {
 
     ghost fault_count = { λ s. s.calls.faults };
 
-    fn write(&mut self, bytes: &[u8]) -> Result<(), Failed> {
+    fn write(&mut self, bytes: &[u8]) -> Result<(), Failed>
+        ensures fails { IsTrue (next_fails self.old.calls) → IsErr result }
+        ensures state { OnOk result (self.new ≡ record { written = self.old.written ++ bytes.now; calls = after_call self.old.calls false }) }
+        ensures kept { OnErr result (self.new ≡ record { written = self.old.written; calls = after_call self.old.calls true }) }
+        ensures ok { OnOk result (Some self.new.written ≡ gained (Some self.old.written) bytes.now) }
+        ensures err { OnErr result (GainsFront (Some self.old.written) (Some self.new.written) bytes.now) }
+        ensures cause { Counts self.old.calls.faults self.new.calls.faults (is_err result) }
+    {
         if self.calls.next_fails() {
             self.calls.fail();
             return Err(Failed);

@@ -1,7 +1,10 @@
 //! A source in memory.
 
-ghost use Rattle.std.specs.Prelude.{◌≡◌, ◌+◌, ◌≤◌, ◌<◌, ◌^◌, Some, List, ℕ, ◌++◌, drop, take, length, min, vec_len};
+ghost use Rattle.std.specs.Prelude.{◌≡◌, ◌+◌, ◌≤◌, ◌<◌, ◌^◌, [], Some, ◌++◌, drop, take, length, min, true, false, is_err, IfOk, OnOk, OnErr};
 ghost use Rattle.norm_base.specs.Calls.{next_fails, after_call};
+ghost use Rattle.norm_base.specs.Faults.{Counts};
+ghost use Rattle.norm_base.specs.Reading.{after_read};
+ghost use Rattle.norm_base.specs.Told.{before_taking};
 
 use crate::calls::CallCount;
 use crate::fault::Failed;
@@ -57,7 +60,21 @@ impl Source for MemSource {
 
     ghost fault_count = { λ s. s.calls.faults };
 
-    fn read(&mut self, buf: &mut [u8]) -> Result<usize, Failed> {
+    fn read(&mut self, buf: &mut [u8]) -> Result<usize, Failed>
+        ensures fails { is_err result ≡ next_fails self.old.calls }
+        ensures exact { IfOk result (λ n. n ≡ min (length self.old.left) (length buf.old)) }
+        ensures front { IfOk result (λ n. buf.new ≡ take n self.old.left ++ drop n buf.old) }
+        ensures state { IfOk result (λ n. self.new ≡ after_read self.old n (after_call self.old.calls false)) }
+        ensures kept { OnErr result (buf.new ≡ buf.old) }
+        ensures failed { OnErr result (self.new ≡ after_read self.old 0 (after_call self.old.calls true)) }
+        ensures count { IfOk result (λ n. n ≤ length buf.old) }
+        ensures octets { IfOk result (λ n. Some self.old.left ≡ before_taking (take n buf.new) (Some self.new.left)) }
+        ensures end { IfOk result (λ n. n ≡ 0 → 0 < length buf.old → self.new.left ≡ []) }
+        ensures given { IfOk result (λ n. self.new.given ≡ self.old.given + n) }
+        ensures limit { OnOk result (self.new.given < 2 ^ 63) }
+        ensures err { OnErr result ((Some self.new.left ≡ Some self.old.left) × (self.new.given ≡ self.old.given)) }
+        ensures cause { Counts self.old.calls.faults self.new.calls.faults (is_err result) }
+    {
         if self.calls.next_fails() {
             self.calls.fail();
             return Err(Failed);
