@@ -11,3 +11,4 @@ pub mod WholeTurn
 pub mod SessionRun
 pub mod Running
 pub mod Session
+pub mod Causes

@@ -7,6 +7,7 @@ ghost use Rattle.norm_session.specs.Printed.{line_of, lines_of};
 ghost use Rattle.norm_session.specs.Turn.{octets_of, entry_of, job_of, pull_events, offer_events, most_takes, delivered, take_event, network_after};
 ghost use Rattle.norm_session.specs.SenderState.{enqueued, sender_datagram, sender_after};
 ghost use Rattle.norm_session.specs.Taking.{Takes};
+ghost use Rattle.norm_session.specs.Causes.{NeedsMemory, WriteCause, NetworkCause, HasCause};
 ghost use Rattle.norm_session.specs.Commands.{IsCommand};
 ghost use Rattle.norm_session.specs.WholeTurn.{moment_of, pulled, pull_part, TakesTurn};
 ghost use Rattle.std.specs.List.{AllByRecursion};
@@ -104,7 +105,8 @@ fn next_command(left: &[Line]) -> (Option<&Line>, &[Line])
 
 /// A copy of the octets.
 fn copy_of(alloc: Global, bytes: &[u8]) -> Result<Octets, SessionFault>
-    ensures { IfOk result (λ octets. octets ≡ bytes.now) }
+    ensures value { IfOk result (λ octets. octets ≡ bytes.now) }
+    ensures cause { NeedsMemory result }
 {
     match Vec::from_slice(alloc, bytes) {
         Ok(bytes) => Ok(Octets::of(bytes)),
@@ -114,7 +116,8 @@ fn copy_of(alloc: Global, bytes: &[u8]) -> Result<Octets, SessionFault>
 
 /// The job of a command.
 fn job_of(alloc: Global, verb: &Verb) -> Result<Job, SessionFault>
-    ensures { IfOk result (λ job. job ≡ job_of verb.now) }
+    ensures value { IfOk result (λ job. job ≡ job_of verb.now) }
+    ensures cause { NeedsMemory result }
 {
     match verb {
         Verb::Data { info: None, bytes } => {
@@ -142,6 +145,7 @@ impl Run {
     ) -> Result<Run, SessionFault>
         ensures state { IfOk result (λ run. run ≡ opening profile.now) }
         ensures told { OnOk result (Starts (F.told fabric.old) (F.told fabric.new) profile.now Local.All) }
+        ensures cause { NetworkCause result (F.fault_count fabric.old) (F.fault_count fabric.new) }
     {
         match fabric.start(profile, Local::All) {
             Ok(()) => {}
@@ -172,7 +176,8 @@ impl Run {
 
     /// The summary is written.
     pub(crate) fn summarize<K: Sink>(&self, output: &mut K) -> Result<(), SessionFault>
-        ensures { OnOk result (K.written output.new ≡ gained (K.written output.old) (end_line self.now.events)) }
+        ensures written { OnOk result (K.written output.new ≡ gained (K.written output.old) (end_line self.now.events)) }
+        ensures cause { WriteCause result (K.fault_count output.old) (K.fault_count output.new) }
     {
         let Ok(line) = end_line(self.alloc, &self.events) else {
             return Err(SessionFault::Memory);
@@ -186,6 +191,7 @@ impl Run {
     /// An event joins the journal.
     fn note(&mut self, event: Event) -> Result<(), SessionFault>
         ensures ok { OnOk result (self.new ≡ with_events self.old (event ∷ [])) }
+        ensures cause { NeedsMemory result }
     {
         match self.events.push(event) {
             Ok(()) => Ok(()),
@@ -198,6 +204,7 @@ impl Run {
         ensures ok { OnOk result (self.new ≡ with_events self.old (event ∷ [])) }
         ensures written { OnOk result (K.written output.new
             ≡ gained (K.written output.old) (line_of self.old.profile.instance event)) }
+        ensures cause { WriteCause result (K.fault_count output.old) (K.fault_count output.new) }
     {
         let Ok(line) = line_of(self.alloc, instance_of(&self.profile), &event) else {
             return Err(SessionFault::Memory);
@@ -220,6 +227,7 @@ impl Run {
             (pull_events self.old.sender line.now)) }
         ensures written { OnOk result (K.written output.new ≡ gained (K.written output.old)
             (lines_of self.old.profile.instance (pull_events self.old.sender line.now))) }
+        ensures cause { WriteCause result (K.fault_count output.old) (K.fault_count output.new) }
     {
         let by = Origin {
             producer: line.producer,
@@ -249,6 +257,7 @@ impl Run {
             (offer_events self.old.profile.sender datagram)) }
         ensures told { OnOk result (F.told fabric.new ≡ network_after (F.told fabric.old)
             (offer_events self.old.profile.sender (sender_datagram self.old.profile self.old.sender now))) }
+        ensures cause { NetworkCause result (F.fault_count fabric.old) (F.fault_count fabric.new) }
     {
         let node = sender_node(&self.profile);
         let sent = self.sender.tick(&self.profile, now, datagram);
@@ -269,6 +278,7 @@ impl Run {
         requires { length datagram.now ≤ 1500 }
         ensures state { OnOk result (self.new ≡ with_events self.old (Event.Offer from datagram.now ∷ [])) }
         ensures told { OnOk result (F.told fabric.new ≡ with_offer (F.told fabric.old) from datagram.now) }
+        ensures cause { NetworkCause result (F.fault_count fabric.old) (F.fault_count fabric.new) }
     {
         let bytes = copy_of(self.alloc, datagram)?;
         self.note(Event::Offer { from, bytes })?;
@@ -281,8 +291,9 @@ impl Run {
 
     /// What was taken for the receiver is delivered to it; a datagram for another node goes nowhere.
     fn deliver(&mut self, to: NodeId, datagram: &[u8]) -> Result<(), SessionFault>
-        ensures { OnOk result (self.new ≡ with_receiver self.old
+        ensures state { OnOk result (self.new ≡ with_receiver self.old
             (delivered self.old.profile self.old.receiver (Some (to, datagram.now)))) }
+        ensures cause { NeedsMemory result }
     {
         if to != receiver_node(&self.profile) {
             return Ok(());
@@ -299,9 +310,10 @@ impl Run {
         fabric: &mut F,
         datagram: &mut Datagram,
     ) -> Result<Option<NodeId>, SessionFault>
-        ensures { IfOk result (λ to. let answer = answer_of to datagram.new in
+        ensures taken { IfOk result (λ to. let answer = answer_of to datagram.new in
             (self.new ≡ with_events (with_receiver self.old (delivered self.old.profile self.old.receiver answer)) (take_event answer ∷ []))
             × (F.told fabric.new ≡ with_answer (F.told fabric.old) answer)) }
+        ensures cause { NetworkCause result (F.fault_count fabric.old) (F.fault_count fabric.new) }
     {
         match fabric.take(datagram) {
             Ok(None) => {
@@ -325,7 +337,8 @@ impl Run {
         fabric: &mut F,
         datagram: &mut Datagram,
     ) -> Result<(), SessionFault>
-        ensures { OnOk result (Takes most_takes self.old self.new (F.told fabric.old) (F.told fabric.new)) }
+        ensures takes { OnOk result (Takes most_takes self.old self.new (F.told fabric.old) (F.told fabric.new)) }
+        ensures cause { NetworkCause result (F.fault_count fabric.old) (F.fault_count fabric.new) }
     {
         for _taken in 0..MOST_TAKES {
             match self.take(fabric, datagram)? {
@@ -338,7 +351,8 @@ impl Run {
 
     /// The object at the hand-up point is handed up with its line, if it is held. Whether it was.
     fn up_one<K: Sink>(&mut self, output: &mut K) -> Result<bool, SessionFault>
-        ensures { IfOk result (HandsUpNext self.old self.new (K.written output.old) (K.written output.new)) }
+        ensures next { IfOk result (HandsUpNext self.old self.new (K.written output.old) (K.written output.new)) }
+        ensures cause { WriteCause result (K.fault_count output.old) (K.fault_count output.new) }
     {
         let Some((index, bytes)) = self.receiver.take_up() else {
             return Ok(false);
@@ -364,7 +378,8 @@ impl Run {
 
     /// All that the receiver can hand up is handed up, each with its line.
     fn hand_up<K: Sink>(&mut self, output: &mut K) -> Result<(), SessionFault>
-        ensures { OnOk result (HandsUp (length self.old.receiver.held) self.old self.new (K.written output.old) (K.written output.new)) }
+        ensures ups { OnOk result (HandsUp (length self.old.receiver.held) self.old self.new (K.written output.old) (K.written output.new)) }
+        ensures cause { WriteCause result (K.fault_count output.old) (K.fault_count output.new) }
     {
         for _up in 0..self.held() {
             if !self.up_one(output)? {
@@ -377,8 +392,9 @@ impl Run {
     /// Turn `t` begins.
     fn begin(&mut self, t: u32) -> Result<Moment, SessionFault>
         requires { t ≤ 4000000 }
-        ensures { IfOk result (λ now. (now ≡ moment_of self.old.profile t)
+        ensures turn { IfOk result (λ now. (now ≡ moment_of self.old.profile t)
             × (self.new ≡ with_events self.old (Event.Turn t (moment_of self.old.profile t) ∷ []))) }
+        ensures cause { NeedsMemory result }
     {
         let now = moment_of(&self.profile, t);
         self.note(Event::Turn { t, now })?;
@@ -398,6 +414,7 @@ impl Run {
             (pull_part self.old.sender (option_copied command.entry))) }
         ensures written { OnOk result (K.written output.new ≡ gained (K.written output.old)
             (lines_of self.old.profile.instance (pull_part self.old.sender (option_copied command.entry)))) }
+        ensures cause { WriteCause result (K.fault_count output.old) (K.fault_count output.new) }
     {
         match command {
             Some(line) => self.pull(output, line),
@@ -407,7 +424,8 @@ impl Run {
 
     /// The receiver hands up what it can, and ticks.
     fn end<K: Sink>(&mut self, output: &mut K) -> Result<(), SessionFault>
-        ensures { OnOk result (EndsTurn self.old self.new (K.written output.old) (K.written output.new)) }
+        ensures turn { OnOk result (EndsTurn self.old self.new (K.written output.old) (K.written output.new)) }
+        ensures cause { WriteCause result (K.fault_count output.old) (K.fault_count output.new) }
     {
         self.hand_up(output)?;
         let node = receiver_node(&self.profile);
@@ -427,8 +445,9 @@ impl Run {
         requires turn { t ≤ 4000000 }
         requires command { IfSome command (λ line. IsCommand line.now) }
         requires room { length self.old.sender.order < 65536 }
-        ensures { OnOk result (TakesTurn t (option_copied command.entry) self.old self.new
+        ensures turn { OnOk result (TakesTurn t (option_copied command.entry) self.old self.new
             (F.told fabric.old) (F.told fabric.new) (K.written output.old) (K.written output.new)) }
+        ensures cause { HasCause result (K.fault_count output.old) (K.fault_count output.new) (F.fault_count fabric.old) (F.fault_count fabric.new) }
     {
         let now = self.begin(t)?;
         self.pull_next(output, command)?;
@@ -465,8 +484,9 @@ impl Run {
     ) -> Result<bool, SessionFault>
         requires each { AllByRecursion IsCommand commands.now }
         requires few { length self.old.sender.order + length commands.now < 65536 }
-        ensures { IfOk result (TakesTurns commands.now self.old self.new
+        ensures turns { IfOk result (TakesTurns commands.now self.old self.new
             (F.told fabric.old) (F.told fabric.new) (K.written output.old) (K.written output.new)) }
+        ensures cause { HasCause result (K.fault_count output.old) (K.fault_count output.new) (F.fault_count fabric.old) (F.fault_count fabric.new) }
     {
         let last = self.last_turn();
         let mut left = commands;

@@ -1,6 +1,7 @@
 //! A whole session (RFC 5740 section 5).
 
 ghost use Rattle.std.specs.Prelude.{IfOk};
+ghost use Rattle.norm_session.specs.Causes.{HasCause};
 ghost use Rattle.norm_session.specs.SessionRun.{IsScript};
 ghost use Rattle.norm_session.specs.Session.{RunsSession};
 
@@ -31,8 +32,9 @@ pub fn run_session<R: Threads + Wait + Sync, K: Sink, F: Fabric, D: Files, C: Cl
     _clock: &mut C,
 ) -> Result<Ended, SessionFault>
     requires { IsScript script.now }
-    ensures { IfOk result (λ ended. RunsSession script.now ended.journal ended.whole
+    ensures run { IfOk result (λ ended. RunsSession script.now ended.journal ended.whole
         (F.told fabric.old) (F.told fabric.new) (K.written output.old) (K.written output.new)) }
+    ensures cause { HasCause result (K.fault_count output.old) (K.fault_count output.new) (F.fault_count fabric.old) (F.fault_count fabric.new) }
 {
     let Ok(mut datagram) = Datagram::new(alloc) else {
         return Err(SessionFault::Memory);

@@ -1,4 +1,4 @@
-use Rattle.std.proofs.Common.{◌-◌, List, Option, ℕ, length}
+use Rattle.std.proofs.Common.{◌≡◌, ◌-◌, List, Option, ℕ, length}
 use Rattle.norm_session.specs.RunState.{RunState}
 use Rattle.norm_session.specs.HandingUp.{HandsUp}
 use Rattle.norm_session.proofs.run.Run.hand_up.Given as goal
@@ -8,5 +8,6 @@ abbrev pub invariant-loop-up : goal.invariant-loop-up
 invariant-loop-up g l =
     let written = g.K.Sink.written in
     let most = length l.fn.self.receiver.held in
-    (new : RunState) (after : Option (List ℕ)) → HandsUp (most - l._up) l.self new (written l.output) after
-    → HandsUp most l.fn.self new (written l.fn.output) after
+    ((new : RunState) (after : Option (List ℕ)) → HandsUp (most - l._up) l.self new (written l.output) after
+      → HandsUp most l.fn.self new (written l.fn.output) after)
+    × (g.K.Sink.fault_count l.output ≡ g.K.Sink.fault_count l.fn.output)

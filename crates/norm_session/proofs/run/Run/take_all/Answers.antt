@@ -1,23 +1,24 @@
-use Rattle.std.proofs.Common.{◌≡◌, ◌+◌, ◌-◌, suc, arith}
+use Rattle.std.proofs.Common.{◌≡◌, ◌∙◌, ◌+◌, ◌-◌, suc, arith}
 use Rattle.norm_session.specs.Turn.{most_takes}
 use Rattle.norm_session.proofs.TakingLemmas.{takes-none_of, takes-some_of}
 use Rattle.norm_session.proofs.run.Run.take_all.Goals as goal
 
-pub returns-in-None : goal.returns-in-None
-returns-in-None g c =
+pub returns-in-None-clause-takes : goal.returns-in-None-clause-takes
+returns-in-None-clause-takes g c =
     let told = g.F.Fabric.told in
-    let took = rw c.in-None.is at c.in_ok-take.ensures in
+    let took = rw c.in-None.is at c.in_ok-take.ensures.taken in
     let t = c.loop-taken._taken in
     let left : most_takes - t ≡ suc (most_takes - (t + 1)) = omega arith in
-    c.loop-taken.invariant c.take.new.self (told c.take.new.fabric)
+    c.loop-taken.invariant.0 c.take.new.self (told c.take.new.fabric)
     (takes-none_of (most_takes - t) (most_takes - (t + 1)) c.loop-taken.self c.take.new.self (told c.loop-taken.fabric) (told c.take.new.fabric) left took.0 took.1)
 
 pub loop-taken-preserved : goal.loop-taken-preserved
-loop-taken-preserved g c = λ new after rest.
+loop-taken-preserved g c = (λ new after rest.
     let told = g.F.Fabric.told in
-    let took = rw c.in-Some.is at c.in_ok-take.ensures in
+    let took = rw c.in-Some.is at c.in_ok-take.ensures.taken in
     let t = c.loop-taken._taken in
     let left : most_takes - t ≡ suc (most_takes - (t + 1)) = omega arith in
-    c.loop-taken.invariant new after
+    c.loop-taken.invariant.0 new after
     (takes-some_of (most_takes - t) (most_takes - (t + 1)) (c.in-Some.field-0, c.take.new.datagram) c.loop-taken.self c.take.new.self new
-    (told c.loop-taken.fabric) (told c.take.new.fabric) after left took.0 took.1 rest)
+    (told c.loop-taken.fabric) (told c.take.new.fabric) after left took.0 took.1 rest),
+    c.in_ok-take.ensures.cause ∙ c.loop-taken.invariant.1)

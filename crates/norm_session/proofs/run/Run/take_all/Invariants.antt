@@ -1,4 +1,4 @@
-use Rattle.std.proofs.Common.{◌-◌}
+use Rattle.std.proofs.Common.{◌≡◌, ◌-◌}
 use Rattle.norm_base.specs.Network.{Network}
 use Rattle.norm_session.specs.RunState.{RunState}
 use Rattle.norm_session.specs.Taking.{Takes}
@@ -9,5 +9,6 @@ use Rattle.norm_session.proofs.run.Run.take_all.Given as goal
 abbrev pub invariant-loop-taken : goal.invariant-loop-taken
 invariant-loop-taken g l =
     let told = g.F.Fabric.told in
-    (new : RunState) (after : Network) → Takes (most_takes - l._taken) l.self new (told l.fabric) after
-    → Takes most_takes l.fn.self new (told l.fn.fabric) after
+    ((new : RunState) (after : Network) → Takes (most_takes - l._taken) l.self new (told l.fabric) after
+      → Takes most_takes l.fn.self new (told l.fn.fabric) after)
+    × (g.F.Fabric.fault_count l.fabric ≡ g.F.Fabric.fault_count l.fn.fabric)

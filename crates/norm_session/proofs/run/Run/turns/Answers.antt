@@ -1,4 +1,4 @@
-use Rattle.std.proofs.Common.{◌∙◌, arith, sym, ap}
+use Rattle.std.proofs.Common.{◌∙◌, arith, sym, ap, refl}
 use Rattle.norm_session.specs.RunState.{RunState}
 use Rattle.norm_session.specs.Commands.{IsCommand}
 use Rattle.norm_session.proofs.RunLemmas.{going-start, goes_on_after, ends_whole, ends_spent, rest_are, turn_room}
@@ -12,26 +12,28 @@ loop-left-init g c = (
   c.last_turn-last.ensures.least,
   sym c.last_turn-last.ensures.value,
   c.last_turn-last.ensures.most,
+  refl,
+  refl,
 )
 
-pub returns-then-is_whole : goal.returns-then-is_whole
-returns-then-is_whole g c =
+pub returns-then-is_whole-clause-turns : goal.returns-then-is_whole-clause-turns
+returns-then-is_whole-clause-turns g c =
     let told = g.F.Fabric.told in
     let written = g.K.Sink.written in
     let i = c.loop-left.invariant in
-    let turn = rw c.next_command.ensures.first at c.in_ok-turn.ensures in
+    let turn = rw c.next_command.ensures.first at c.in_ok-turn.ensures.turn in
     let whole = rw c.next_command.ensures.rest at (sym c.is_whole.ensures ∙ c.if-is_whole.true) in
     ends_whole c.args.commands.now c.loop-left.left.now c.loop-left.t c.args.self.now c.loop-left.self c.turn.new.self
     (told c.args.fabric.now) (told c.loop-left.fabric) (told c.turn.new.fabric)
     (written c.args.output.now) (written c.loop-left.output) (written c.turn.new.output)
     i.0 turn whole
 
-pub returns-then-t-last : goal.returns-then-t-last
-returns-then-t-last g c =
+pub returns-then-t-last-clause-turns : goal.returns-then-t-last-clause-turns
+returns-then-t-last-clause-turns g c =
     let told = g.F.Fabric.told in
     let written = g.K.Sink.written in
     let i = c.loop-left.invariant in
-    let turn = rw c.next_command.ensures.first at c.in_ok-turn.ensures in
+    let turn = rw c.next_command.ensures.first at c.in_ok-turn.ensures.turn in
     let whole = rw c.next_command.ensures.rest at (sym c.is_whole.ensures ∙ c.if-is_whole.false) in
     ends_spent c.args.commands.now c.loop-left.left.now c.loop-left.t c.last_turn-last.result c.args.self.now c.loop-left.self c.turn.new.self
     (told c.args.fabric.now) (told c.loop-left.fabric) (told c.turn.new.fabric)
@@ -43,7 +45,7 @@ loop-left-preserved g c =
     let told = g.F.Fabric.told in
     let written = g.K.Sink.written in
     let i = c.loop-left.invariant in
-    let turn = rw c.next_command.ensures.first at c.in_ok-turn.ensures in
+    let turn = rw c.next_command.ensures.first at c.in_ok-turn.ensures.turn in
     let whole = rw c.next_command.ensures.rest at (sym c.is_whole.ensures ∙ c.if-is_whole.false) in
     let room = turn_room c.loop-left.left.now c.loop-left.t c.loop-left.self c.turn.new.self (told c.loop-left.fabric) (told c.turn.new.fabric)
     (written c.loop-left.output) (written c.turn.new.output) turn in
@@ -58,4 +60,6 @@ loop-left-preserved g c =
       omega (arith, c.if-t-last.false),
       ap (λ (r : RunState). r.profile.turns) turn.state ∙ i.4,
       i.5,
+      c.in_ok-turn.ensures.cause.0 ∙ i.6,
+      c.in_ok-turn.ensures.cause.1 ∙ i.7,
     )

@@ -14,6 +14,8 @@ invariant-loop-left g l =
     × (l.t ≤ l.last)
     × (l.self.profile.turns ≡ l.last)
     × (l.last ≤ 4000000)
+    × (g.K.Sink.fault_count l.output ≡ g.K.Sink.fault_count l.fn.output)
+    × (g.F.Fabric.fault_count l.fabric ≡ g.F.Fabric.fault_count l.fn.fabric)
 
 abbrev pub decreases-loop-left : goal.decreases-loop-left
 decreases-loop-left g l = l.last - l.t
