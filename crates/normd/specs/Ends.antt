@@ -25,13 +25,20 @@ usage_line = codes "usage: normd session | show | generate N | send PROFILE | re
 unfoldable pub refused_line : ℕ → List ℕ
 refused_line n = codes "refused line " ++ (decimal n ++ codes "\n")
 
--- what a call found and left: its words, the input's octets and the count of its faults, the network, and the output
+-- what a call found and left: its words; the input's octets, the network and the output; and how often each had failed
 pub record Outside : Type 0 where
   pub words : List (List ℕ)
   pub input : Option (List ℕ)
-  pub faults : ℕ
   pub network : Network
   pub written : Option (List ℕ)
+  pub read_faults : ℕ
+  pub network_faults : ℕ
+  pub write_faults : ℕ
+
+-- no read and no call of the network failed
+pub record Undisturbed (before after : Outside) : Type 0 where
+  pub reads : after.read_faults ≡ before.read_faults
+  pub calls : after.network_faults ≡ before.network_faults
 
 -- the text is all of the input's octets, where the input tells them
 abbrev pub IsInput : List ℕ → Option (List ℕ) → Type 0
@@ -47,6 +54,8 @@ pub record RanSession (before after : Outside) (whole : Bool) (last : List ℕ) 
   pub run : SessionRun script journal whole
   pub network : HasSession script journal before.network after.network
   pub output : after.written ≡ gained before.written (printed script.profile.instance journal ++ last)
+  pub undisturbed : Undisturbed before after
+  pub writes : after.write_faults ≡ before.write_faults
 
 -- Line n is the input's first that has no meaning.
 pub record RefusedLine (before after : Outside) (n : ℕ) : Type 0 where
@@ -55,11 +64,13 @@ pub record RefusedLine (before after : Outside) (n : ℕ) : Type 0 where
   pub read : script_of text ≡ Err n
   pub network : after.network ≡ before.network
   pub output : GainsFront before.written after.written (refused_line n)
+  pub undisturbed : Undisturbed before after
 
 -- A failed read: the count of the input's faults rose.
 pub record FailedRead (before after : Outside) : Type 0 where
-  pub cause : Rose before.faults after.faults
+  pub cause : Rose before.read_faults after.read_faults
   pub network : after.network ≡ before.network
+  pub calls : after.network_faults ≡ before.network_faults
   pub output : GainsFront before.written after.written (codes "fault read\n")
 
 -- The words are no command.
@@ -67,6 +78,7 @@ pub record RefusedWords (before after : Outside) : Type 0 where
   pub input : after.input ≡ before.input
   pub network : after.network ≡ before.network
   pub output : GainsFront before.written after.written usage_line
+  pub undisturbed : Undisturbed before after
 
 -- what each ending of a session says
 abbrev pub EndsSession : Ending → Outside → Outside → Type 0
@@ -75,8 +87,8 @@ EndsSession Spent before after = RanSession before after false (codes "turns spe
 EndsSession (Refused n) before after = RefusedLine before after n
 EndsSession Read before after = FailedRead before after
 EndsSession Memory before after = Unit {0}
-EndsSession Write before after = Unit {0}
-EndsSession Fabric before after = Unit {0}
+EndsSession Write before after = Rose before.write_faults after.write_faults
+EndsSession Fabric before after = Rose before.network_faults after.network_faults
 EndsSession Words before after = ⊥
 
 -- the words are no command exactly where the ending says so, and else a session was run
@@ -84,21 +96,10 @@ abbrev pub Ends : Ending → Outside → Outside → Type 0
 Ends Words before after = (is_session before.words ≡ false) × RefusedWords before after
 Ends ending before after = (is_session before.words ≡ true) × EndsSession ending before after
 
--- a fault of a session that ran ends it so
-abbrev pub IsFaultEnding : Ending → Type 0
-IsFaultEnding Memory = Unit {0}
-IsFaultEnding Write = Unit {0}
-IsFaultEnding Fabric = Unit {0}
-IsFaultEnding _ = ⊥
-
-abbrev pub outside : List (List ℕ) → Option (List ℕ) → ℕ → Network → Option (List ℕ) → Outside
-outside words input faults network written = record {
-  words = words;
-  input = input;
-  faults = faults;
-  network = network;
-  written = written;
-}
+abbrev pub outside : (words : List (List ℕ)) (input : Option (List ℕ)) (network : Network) (written : Option (List ℕ)) (read_faults network_faults write_faults : ℕ) → Outside
+outside words input network written read_faults network_faults write_faults = record {
+  words = words; input = input; network = network; written = written;
+  read_faults = read_faults; network_faults = network_faults; write_faults = write_faults }
 
 -- A call ended so: it answers the ending's status, and what the ending says holds.
 pub record EndsWith (status : ℕ) (before after : Outside) : Type 0 where
@@ -117,8 +118,8 @@ IsTextEnding Memory text unwritten written = Unit {0}
 IsTextEnding (Refused n) text unwritten written = (script_of text ≡ Err n) × GainsFront unwritten written (refused_line n)
 IsTextEnding _ text unwritten written = ⊥
 
-abbrev pub IsLastEnding : Ending → Bool → Option (List ℕ) → Option (List ℕ) → Type 0
-IsLastEnding Done whole unwritten written = (whole ≡ true) × (written ≡ unwritten)
-IsLastEnding Spent whole unwritten written = (whole ≡ false) × (written ≡ gained unwritten (codes "turns spent\n"))
-IsLastEnding Write whole unwritten written = Unit {0}
-IsLastEnding _ whole unwritten written = ⊥
+abbrev pub IsLastEnding : Ending → Bool → Option (List ℕ) → Option (List ℕ) → ℕ → ℕ → Type 0
+IsLastEnding Done whole unwritten written before after = (whole ≡ true) × (written ≡ unwritten) × (after ≡ before)
+IsLastEnding Spent whole unwritten written before after = (whole ≡ false) × (written ≡ gained unwritten (codes "turns spent\n")) × (after ≡ before)
+IsLastEnding Write whole unwritten written before after = Rose before after
+IsLastEnding _ whole unwritten written before after = ⊥

@@ -1,6 +1,6 @@
 //! The input, read whole.
 
-ghost use Rattle.std.specs.Prelude.{◌≡◌, IfOk, IfSome, IsErrOf, Option, List, ℕ};
+ghost use Rattle.std.specs.Prelude.{◌≡◌, IfOk, OnOk, IfSome, IsErrOf, Option, List, ℕ};
 ghost use Rattle.norm_base.specs.Faults.{Rose};
 
 use norm_base::{Failed, Source};
@@ -18,6 +18,7 @@ pub(crate) enum InputFault {
 /// All of the input's octets.
 pub(crate) fn read_all<S: Source>(alloc: Global, input: &mut S) -> Result<Vec<u8>, InputFault>
     ensures octets { IfOk result (λ text. IfSome (S.left input.old) (λ octets. octets ≡ text.items)) }
+    ensures quiet { OnOk result (S.fault_count input.new ≡ S.fault_count input.old) }
     ensures cause { IsErrOf result InputFault.Read → Rose (S.fault_count input.old) (S.fault_count input.new) }
 {
     let mut text = Vec::new(alloc);

@@ -2,7 +2,7 @@
 
 ghost use Rattle.std.specs.Prelude.{◌≡◌, codes, map, string_bytes, [], Ok, IfOk, IfErr, OnOk};
 ghost use Rattle.norm_base.specs.Told.{GainsFront};
-ghost use Rattle.normd.specs.Ends.{is_session, usage_line, refused_line, outside, IsInput, IsReadEnding, IsTextEnding, IsLastEnding, IsFaultEnding, EndsSession, EndsWith};
+ghost use Rattle.normd.specs.Ends.{is_session, usage_line, refused_line, outside, IsInput, IsReadEnding, IsTextEnding, IsLastEnding, EndsSession, EndsWith};
 ghost use Rattle.normd.specs.Reading.{script_of};
 ghost use Rattle.norm_session.specs.SessionRun.{IsScript};
 
@@ -52,6 +52,7 @@ fn read_input<S: Source, K: Sink>(
 ) -> Result<Vec<u8>, Ending>
     ensures text { IfOk result (λ text. IsInput text.items (S.left input.old)) }
     ensures unwritten { OnOk result (K.written output.new ≡ K.written output.old) }
+    ensures quiet { OnOk result ((S.fault_count input.new ≡ S.fault_count input.old) × (K.fault_count output.new ≡ K.fault_count output.old)) }
     ensures ending { IfErr result (λ ending. IsReadEnding ending (S.fault_count input.old) (S.fault_count input.new)
         (K.written output.old) (K.written output.new)) }
 {
@@ -69,6 +70,7 @@ fn read_input<S: Source, K: Sink>(
 fn read_text<K: Sink>(alloc: Global, text: &[u8], output: &mut K) -> Result<Script, Ending>
     ensures script { IfOk result (λ script. (script_of text.now ≡ Ok script) × IsScript script) }
     ensures unwritten { OnOk result (K.written output.new ≡ K.written output.old) }
+    ensures quiet { OnOk result (K.fault_count output.new ≡ K.fault_count output.old) }
     ensures ending { IfErr result (λ ending. IsTextEnding ending text.now (K.written output.old) (K.written output.new)) }
 {
     match read_script(alloc, text) {
@@ -86,7 +88,8 @@ fn read_text<K: Sink>(alloc: Global, text: &[u8], output: &mut K) -> Result<Scri
 
 /// How a session that ran ended: one that spent its turns says so.
 fn end_session<K: Sink>(ended: &Ended, output: &mut K) -> Ending
-    ensures { IsLastEnding result ended.now.whole (K.written output.old) (K.written output.new) }
+    ensures { IsLastEnding result ended.now.whole (K.written output.old) (K.written output.new)
+        (K.fault_count output.old) (K.fault_count output.new) }
 {
     if ended.whole {
         return Ending::Done;
@@ -108,8 +111,10 @@ fn session<R: Threads + Wait + Sync, S: Source, K: Sink, F: Fabric, D: Files, C:
     clock: &mut C,
 ) -> Ending
     ensures { EndsSession result
-        (outside [] (S.left input.old) (S.fault_count input.old) (F.told fabric.old) (K.written output.old))
-        (outside [] (S.left input.new) (S.fault_count input.new) (F.told fabric.new) (K.written output.new)) }
+        (outside [] (S.left input.old) (F.told fabric.old) (K.written output.old)
+            (S.fault_count input.old) (F.fault_count fabric.old) (K.fault_count output.old))
+        (outside [] (S.left input.new) (F.told fabric.new) (K.written output.new)
+            (S.fault_count input.new) (F.fault_count fabric.new) (K.fault_count output.new)) }
 {
     let text = match read_input(alloc, input, output) {
         Ok(text) => text,
@@ -121,18 +126,9 @@ fn session<R: Threads + Wait + Sync, S: Source, K: Sink, F: Fabric, D: Files, C:
     };
     match run_session(rt, alloc, &script, output, fabric, files, clock) {
         Ok(ended) => end_session(&ended, output),
-        Err(fault) => end_fault(fault, output),
-    }
-}
-
-/// How a session that a fault ended says so.
-fn end_fault<K: Sink>(fault: SessionFault, output: &mut K) -> Ending
-    ensures { IsFaultEnding result }
-{
-    match fault {
-        SessionFault::Memory => Ending::Memory,
-        SessionFault::Write => Ending::Write,
-        SessionFault::Fabric => {
+        Err(SessionFault::Memory) => Ending::Memory,
+        Err(SessionFault::Write) => Ending::Write,
+        Err(SessionFault::Fabric) => {
             say(output, b"fault fabric\n");
             Ending::Fabric
         }
@@ -152,8 +148,10 @@ pub fn norm_main<R: Threads + Wait + Sync, S: Source, K: Sink, F: Fabric, D: Fil
     clock: &mut C,
 ) -> Status
     ensures { let words_of = map string_bytes words.now.items in EndsWith result
-        (outside words_of (S.left input.old) (S.fault_count input.old) (F.told fabric.old) (K.written output.old))
-        (outside words_of (S.left input.new) (S.fault_count input.new) (F.told fabric.new) (K.written output.new)) }
+        (outside words_of (S.left input.old) (F.told fabric.old) (K.written output.old)
+            (S.fault_count input.old) (F.fault_count fabric.old) (K.fault_count output.old))
+        (outside words_of (S.left input.new) (F.told fabric.new) (K.written output.new)
+            (S.fault_count input.new) (F.fault_count fabric.new) (K.fault_count output.new)) }
 {
     if !is_session(words) {
         say(output, USAGE);

@@ -6,5 +6,5 @@ pub returns-then-not-is_session : goal.returns-then-not-is_session
 returns-then-not-is_session g c = record {
   ending = Words;
   is = c.status.ensures;
-  holds = (search rules, record { input = refl; network = refl; output = c.say.ensures });
+  holds = (search rules, record { input = refl; network = refl; output = c.say.ensures; undisturbed = record { reads = refl; calls = refl } });
 }
