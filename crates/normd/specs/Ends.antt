@@ -98,8 +98,14 @@ Ends ending before after = (is_session before.words ≡ true) × EndsSession end
 
 abbrev pub outside : (words : List (List ℕ)) (input : Option (List ℕ)) (network : Network) (written : Option (List ℕ)) (read_faults network_faults write_faults : ℕ) → Outside
 outside words input network written read_faults network_faults write_faults = record {
-  words = words; input = input; network = network; written = written;
-  read_faults = read_faults; network_faults = network_faults; write_faults = write_faults }
+  words = words;
+  input = input;
+  network = network;
+  written = written;
+  read_faults = read_faults;
+  network_faults = network_faults;
+  write_faults = write_faults;
+}
 
 -- A call ended so: it answers the ending's status, and what the ending says holds.
 pub record EndsWith (status : ℕ) (before after : Outside) : Type 0 where

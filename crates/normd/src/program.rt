@@ -112,9 +112,9 @@ fn session<R: Threads + Wait + Sync, S: Source, K: Sink, F: Fabric, D: Files, C:
 ) -> Ending
     ensures { EndsSession result
         (outside [] (S.left input.old) (F.told fabric.old) (K.written output.old)
-            (S.fault_count input.old) (F.fault_count fabric.old) (K.fault_count output.old))
+        (S.fault_count input.old) (F.fault_count fabric.old) (K.fault_count output.old))
         (outside [] (S.left input.new) (F.told fabric.new) (K.written output.new)
-            (S.fault_count input.new) (F.fault_count fabric.new) (K.fault_count output.new)) }
+        (S.fault_count input.new) (F.fault_count fabric.new) (K.fault_count output.new)) }
 {
     let text = match read_input(alloc, input, output) {
         Ok(text) => text,
@@ -149,9 +149,9 @@ pub fn norm_main<R: Threads + Wait + Sync, S: Source, K: Sink, F: Fabric, D: Fil
 ) -> Status
     ensures { let words_of = map string_bytes words.now.items in EndsWith result
         (outside words_of (S.left input.old) (F.told fabric.old) (K.written output.old)
-            (S.fault_count input.old) (F.fault_count fabric.old) (K.fault_count output.old))
+        (S.fault_count input.old) (F.fault_count fabric.old) (K.fault_count output.old))
         (outside words_of (S.left input.new) (F.told fabric.new) (K.written output.new)
-            (S.fault_count input.new) (F.fault_count fabric.new) (K.fault_count output.new)) }
+        (S.fault_count input.new) (F.fault_count fabric.new) (K.fault_count output.new)) }
 {
     if !is_session(words) {
         say(output, USAGE);

@@ -1,22 +1,63 @@
 //! The program over objects in memory.
 
 use crate::program::norm_main;
-use norm_base::{DirectFabric, MemClock, MemFiles, MemSink, MemSource};
-use std::alloc::Global;
+use norm_base::{ListFabric, MemClock, MemFiles, MemSink, MemSource};
+use std::alloc::{AllocError, Global};
+use std::process::Abort;
 use std::sync::Wait;
 use std::test::Fail;
 use std::thread::Threads;
 
-/// The status and the output of these words with this input.
+/// The call that fails, by its kind and number.
+#[derive(Clone, Copy)]
+enum Fails {
+    Nothing,
+    Read(u64),
+    Write(u64),
+    Offer(u64),
+    Take(u64),
+}
+
+/// The numbers of the failing calls of one kind.
+fn list(alloc: Global, number: Option<u64>) -> Result<Vec<u64>, AllocError> {
+    let mut numbers = Vec::new(alloc);
+    if let Some(number) = number {
+        numbers.push(number)?;
+    }
+    Ok(numbers)
+}
+
+/// The network whose listed call fails.
+fn network(alloc: Global, fails: Fails) -> Result<ListFabric, Fail> {
+    let (offer, take) = match fails {
+        Fails::Offer(number) => (Some(number), None),
+        Fails::Take(number) => (None, Some(number)),
+        _ => (None, None),
+    };
+    let offers = list(alloc, offer)?;
+    let takes = list(alloc, take)?;
+    match ListFabric::of(alloc, offers, takes) {
+        Ok(fabric) => Ok(fabric),
+        Err(_) => Err("no memory")?,
+    }
+}
+
+/// The status, the output and the network of these words with this input.
 fn outcome<R: Threads + Wait + Sync>(
     rt: &R,
     alloc: Global,
     words: &Vec<String>,
-    input: Vec<u8>,
-) -> Result<(u8, MemSink), Fail> {
-    let mut input = MemSource::of(input, Vec::new(alloc));
-    let mut output = MemSink::of(Vec::new(alloc), Vec::new(alloc));
-    let mut fabric = DirectFabric::new(alloc).map_err(|_| "no memory")?;
+    input: &[u8],
+    fails: Fails,
+) -> Result<(u8, MemSink, ListFabric), Fail> {
+    let (read, write) = match fails {
+        Fails::Read(number) => (Some(number), None),
+        Fails::Write(number) => (None, Some(number)),
+        _ => (None, None),
+    };
+    let mut input = MemSource::of(Vec::from_slice(alloc, input)?, list(alloc, read)?);
+    let mut output = MemSink::of(Vec::new(alloc), list(alloc, write)?);
+    let mut fabric = network(alloc, fails)?;
     let mut files = MemFiles::of(Vec::new(alloc), Vec::new(alloc));
     let mut clock = MemClock::of(Vec::new(alloc));
     let status = norm_main(
@@ -29,7 +70,7 @@ fn outcome<R: Threads + Wait + Sync>(
         &mut files,
         &mut clock,
     );
-    Ok((status.code(), output))
+    Ok((status.code(), output, fabric))
 }
 
 /// `session` alone.
@@ -60,7 +101,7 @@ fn scripts_print_their_journal(rt: HostRuntime) -> Result<(), Fail> {
         (b"# a comment\n\n1 data 61\n\n# \xc3\xa9", ONE),
     ];
     for (input, want) in cases {
-        let (status, output) = outcome(&rt, alloc, &words, Vec::from_slice(alloc, input)?)?;
+        let (status, output, _fabric) = outcome(&rt, alloc, &words, input, Fails::Nothing)?;
         assert_eq!(rt; status, 0);
         assert_eq!(rt; output.bytes(), want);
     }
@@ -89,7 +130,7 @@ fn the_first_line_without_meaning_refuses_a_script(rt: HostRuntime) -> Result<()
         (b"2 data 61\n", b"refused line 1\n"),
     ];
     for (input, want) in cases {
-        let (status, output) = outcome(&rt, alloc, &words, Vec::from_slice(alloc, input)?)?;
+        let (status, output, _fabric) = outcome(&rt, alloc, &words, input, Fails::Nothing)?;
         assert_eq!(rt; status, 3);
         assert_eq!(rt; output.bytes(), want);
     }
@@ -104,7 +145,7 @@ fn a_257th_command_is_refused(rt: HostRuntime) -> Result<(), Fail> {
     for _ in 0..257 {
         input.extend_from_slice(b"1 data 61\n")?;
     }
-    let (status, output) = outcome(&rt, alloc, &words, input)?;
+    let (status, output, _fabric) = outcome(&rt, alloc, &words, &input, Fails::Nothing)?;
     assert_eq!(rt; status, 3);
     assert_eq!(rt; output.bytes(), b"refused line 257\n".as_slice());
     Ok(())
@@ -114,10 +155,77 @@ fn a_257th_command_is_refused(rt: HostRuntime) -> Result<(), Fail> {
 fn other_words_are_answered_with_the_usage(rt: HostRuntime) -> Result<(), Fail> {
     let alloc = rt.alloc();
     let none = Vec::new(alloc);
-    let (status, output) = outcome(&rt, alloc, &none, Vec::new(alloc))?;
+    let (status, output, _fabric) = outcome(&rt, alloc, &none, &[], Fails::Nothing)?;
     assert_eq!(rt; status, 2);
     let usage =
         b"usage: normd session | show | generate N | send PROFILE | recv PROFILE NODE | hub PROFILE\n";
     assert_eq!(rt; output.bytes(), usage.as_slice());
+    Ok(())
+}
+
+#[test]
+fn a_session_offers_the_one_datagram_of_its_object(rt: HostRuntime) -> Result<(), Fail> {
+    let alloc = rt.alloc();
+    let words = session(alloc)?;
+    let input = b"set instance 7\nset e 64\nset b 4\n1 data 68656c6c6f\n";
+    let (status, output, fabric) = outcome(&rt, alloc, &words, input, Fails::Nothing)?;
+    assert_eq!(rt; status, 0);
+    assert_eq!(rt; output.bytes(), HELLO);
+    let want =
+        b"\x12\x08\0\0\0\0\0\x01\0\x07\x40\x41\0\x05\0\0\0\0\0\0\x40\x03\0\0\0\0\0\x05\0\x40\x04\x06hello";
+    match fabric.offered(0) {
+        Some((from, datagram)) => {
+            assert_eq!(rt; from.number(), 1);
+            assert_eq!(rt; datagram, want.as_slice());
+        }
+        None => assert!(rt; false, "nothing was offered"),
+    }
+    assert!(rt; fabric.offered(1).is_none());
+    Ok(())
+}
+
+/// The lines of two commands. They end at 19, 40, 59, 80 and 147 octets.
+const TWO: &[u8] =
+    b"enq 1 1 1 0 data 1\nup 2 1 0 data 1 - 61\nenq 1 2 1 1 data 1\nup 2 1 1 data 1 - 62\nend objects 2 octets 2 handed 2 lost 0 satisfied 0 expired 0 cut 0\n";
+
+/// Two commands of which one call fails: the status, the lines that stand, and the last line.
+fn leaves<R: Threads + Wait + Sync + Abort>(
+    rt: &R,
+    alloc: Global,
+    fails: Fails,
+    end: usize,
+    last: &[u8],
+    want: u8,
+) -> Result<(), Fail> {
+    let words = session(alloc)?;
+    let (status, output, _fabric) = outcome(rt, alloc, &words, b"1 data 61\n1 data 62\n", fails)?;
+    assert_eq!(rt; status, want);
+    let mut text = Vec::from_slice(alloc, TWO.get(..end).ok_or("too short")?)?;
+    text.extend_from_slice(last)?;
+    assert_eq!(rt; output.bytes(), text.as_slice());
+    Ok(())
+}
+
+#[test]
+fn a_failing_read_or_write_leaves_the_lines_so_far(rt: HostRuntime) -> Result<(), Fail> {
+    let alloc = rt.alloc();
+    for number in [1u64, 2] {
+        leaves(&rt, alloc, Fails::Read(number), 0, b"fault read\n", 4)?;
+    }
+    for (number, end) in [(1u64, 0usize), (2, 19), (3, 40), (4, 59), (5, 80)] {
+        leaves(&rt, alloc, Fails::Write(number), end, b"", 5)?;
+    }
+    Ok(())
+}
+
+#[test]
+fn a_failing_call_of_the_network_leaves_the_lines_so_far(rt: HostRuntime) -> Result<(), Fail> {
+    let alloc = rt.alloc();
+    for (number, end) in [(1u64, 19usize), (2, 59)] {
+        leaves(&rt, alloc, Fails::Offer(number), end, b"fault fabric\n", 6)?;
+    }
+    for (number, end) in [(1u64, 19usize), (2, 19), (3, 59), (4, 59)] {
+        leaves(&rt, alloc, Fails::Take(number), end, b"fault fabric\n", 6)?;
+    }
     Ok(())
 }
