@@ -2,6 +2,7 @@
 
 ghost use Rattle.std.specs.Prelude.{◌≡◌, ◌+◌, ◌*◌, ◌^◌, ◌≤◌, ◌<◌, ◌∷◌, ◌++◌, [], length};
 ghost use Rattle.std.specs.Int.{to_be_bytes, w16};
+ghost use Rattle.fec_plan.specs.Payload.{IsName};
 ghost use Rattle.norm_objmsg.specs.DataText.{head_octets, data_octets, CanWrite};
 ghost use Rattle.norm_objmsg.specs.DataView.{data_of};
 ghost use Rattle.norm_objmsg.specs.Spells.{IsHead, IsFti, Spells};
@@ -85,16 +86,27 @@ fn push_head(kind: u8, words: u8, head: &ObjHead, out: &mut Datagram)
     ]);
 }
 
-/// Writes the message into the empty datagram.
-pub fn write_data(msg: &DataMsg<'_>, out: &mut Datagram)
+/// Writes the message field by field.
+fn write_fields(msg: &DataMsg<'_>, out: &mut Datagram)
     requires empty { out.old ≡ [] }
     requires message { CanWrite (data_of msg.now) }
     ensures octets { out.new ≡ data_octets (data_of msg.now) }
-    ensures spelled { IsFti msg.now.exts.now → Spells (data_of msg.now) out.new }
+    ensures head { IsHead msg.now.head }
+    ensures id { IsName msg.now.id }
 {
     let words = (5 + msg.exts.len() / 4) as u8;
     push_head(2, words, &msg.head, out);
     out.push(&msg.id.bytes());
     out.push(msg.exts);
     out.push(msg.payload);
+}
+
+/// Writes the message into the empty datagram. Where EXT_FTI is its one extension, the octets spell it.
+pub fn write_data(msg: &DataMsg<'_>, out: &mut Datagram)
+    requires empty { out.old ≡ [] }
+    requires message { CanWrite (data_of msg.now) }
+    ensures octets { out.new ≡ data_octets (data_of msg.now) }
+    ensures spelled { IsFti msg.now.exts.now → Spells (data_of msg.now) out.new }
+{
+    write_fields(msg, out);
 }
