@@ -1,7 +1,7 @@
 //! A symbol's name in a message (RFC 5510 section 5.1).
 
 ghost use Rattle.std.specs.Prelude.{◌≡◌};
-ghost use Rattle.fec_plan.specs.Payload.{name_octets};
+ghost use Rattle.fec_plan.specs.Payload.{name_octets, IsName};
 
 use std::marker::Model;
 
@@ -40,7 +40,8 @@ impl PayloadId {
 
     /// The id's octets: 24 bits of block and 8 of symbol.
     pub fn bytes(&self) -> [u8; 4]
-        ensures { result ≡ name_octets self.now }
+        ensures octets { result ≡ name_octets self.now }
+        ensures widths { IsName self.now }
     {
         (256 * self.block + u32::from(self.symbol)).to_be_bytes()
     }

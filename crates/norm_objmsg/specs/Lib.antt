@@ -4,3 +4,4 @@ pub mod FtiText
 pub mod DataText
 pub mod DataView
 pub mod DataReading
+pub mod Spells

@@ -9,3 +9,6 @@ mod read;
 pub use crate::fti::Fti;
 pub use crate::message::{DataMsg, ObjHead, write_data};
 pub use crate::read::read_data;
+
+#[cfg(test)]
+mod tests;

@@ -1,9 +1,11 @@
 //! Reading of NORM_DATA (RFC 5740 section 4.2.1).
 
-ghost use Rattle.std.specs.Prelude.{◌≡◌, ℕ, List};
+ghost use Rattle.std.specs.Prelude.{◌≡◌, ℕ, List, Some, IfSome};
 ghost use Rattle.std.specs.Option.{option_map};
 ghost use Rattle.norm_objmsg.specs.DataReading.{node_at, front_at, data_at};
+ghost use Rattle.norm_objmsg.specs.DataText.{Data};
 ghost use Rattle.norm_objmsg.specs.DataView.{data_of};
+ghost use Rattle.norm_objmsg.specs.Spells.{Spells};
 
 use crate::fields::{number_16, number_32, octet, piece};
 use crate::fti::Fti;
@@ -63,10 +65,9 @@ fn read_front(bytes: &[u8]) -> Option<(Front, &[u8])>
     Some((Front { kind, words, head }, rest))
 }
 
-/// The message that the octets spell, where its header has eight words and EXT_FTI is its one
-/// extension. `None` for all other octets.
+/// The fields of a message, field by field.
 #[tactic(auto, unfolding(crate::specs::DataReading::data_at))]
-pub fn read_data(bytes: &[u8]) -> Option<DataMsg<'_>>
+fn read_fields(bytes: &[u8]) -> Option<DataMsg<'_>>
     ensures { option_map data_of result ≡ data_at bytes.now }
 {
     let Some((front, rest)) = read_front(bytes) else {
@@ -89,4 +90,17 @@ pub fn read_data(bytes: &[u8]) -> Option<DataMsg<'_>>
         exts,
         payload,
     })
+}
+
+/// The message that the octets spell, where its header has eight words and EXT_FTI is its one
+/// extension. `None` for all other octets.
+pub fn read_data(bytes: &[u8]) -> Option<DataMsg<'_>>
+    // What is given is spelled by the octets.
+    ensures found { IfSome result (λ m. Spells (data_of m) bytes.now) }
+    // Whatever message they spell is the one given.
+    ensures only { (m : Data) → Spells m bytes.now → option_map data_of result ≡ Some m }
+    // It is what reading field by field gives.
+    ensures exact { option_map data_of result ≡ data_at bytes.now }
+{
+    read_fields(bytes)
 }

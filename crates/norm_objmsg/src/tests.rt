@@ -1,0 +1,91 @@
+//! A worked NORM_DATA message, and octets that spell none.
+
+ghost use Rattle.std.specs.Prelude.{◌<◌};
+
+use super::*;
+use fec_plan::PayloadId;
+use norm_base::{Datagram, InstanceId, NodeId};
+use std::process::Abort;
+use std::test::Fail;
+
+/// Sequence 0 of instance 7 and source 1: object 0, of 5 octets, cut by e 64, b 4 and max_n 6.
+const WORKED: [u8; 37] = [
+    0x12, 0x08, 0, 0, 0, 0, 0, 1, 0, 7, 0x40, 0x41, 0, 5, 0, 0, 0, 0, 0, 0, 0x40, 3, 0, 0, 0, 0, 0,
+    5, 0, 0x40, 4, 6, 0x68, 0x65, 0x6c, 0x6c, 0x6f,
+];
+
+/// The head of the worked message.
+fn worked_head(rt: &impl Abort) -> ObjHead
+    ensures { (result.backoff < 16) × (result.gsize < 16) }
+{
+    ObjHead {
+        source: NodeId::of(1).expect(rt, "a member's id"),
+        sequence: 0,
+        instance: InstanceId(7),
+        grtt: 64,
+        backoff: 4,
+        gsize: 1,
+        flags: 0,
+        object: 0,
+    }
+}
+
+#[test]
+fn the_worked_message_is_written(rt: HostRuntime) -> Result<(), Fail> {
+    let fti = Fti {
+        l: 5,
+        e: 64,
+        b: 4,
+        max_n: 6,
+    };
+    let exts = fti.octets();
+    let msg = DataMsg {
+        head: worked_head(&rt),
+        id: PayloadId::read([0, 0, 0, 0]),
+        exts: &exts,
+        payload: b"hello",
+    };
+    let mut out = Datagram::new(rt.alloc())?;
+    out.clear();
+    write_data(&msg, &mut out);
+    assert_eq!(rt; out.bytes(), WORKED.as_slice());
+    Ok(())
+}
+
+#[test]
+fn the_worked_message_is_read(rt: HostRuntime) -> Result<(), Fail> {
+    let msg = read_data(&WORKED).ok_or("octets of a message")?;
+    assert_eq!(rt; msg.head, worked_head(&rt));
+    assert_eq!(rt; (msg.id.block, msg.id.symbol), (0, 0));
+    assert_eq!(rt; msg.payload, b"hello".as_slice());
+    let (fti, rest) = Fti::read(msg.exts).ok_or("octets of EXT_FTI")?;
+    assert_eq!(rt; (fti.l, fti.e, fti.b, fti.max_n), (5, 64, 4, 6));
+    assert_eq!(rt; rest.len(), 0);
+    Ok(())
+}
+
+#[test]
+fn other_octets_are_not_read(rt: HostRuntime) {
+    for (place, octet) in [
+        (0, 0x22),
+        (0, 0x11),
+        (1, 7),
+        (1, 9),
+        (7, 0),
+        (13, 129),
+        (20, 65),
+        (21, 2),
+    ] {
+        let mut bytes = WORKED;
+        bytes[place] = octet;
+        assert!(rt; read_data(&bytes).is_none(), "octet {place} is {octet}");
+    }
+    let mut any = WORKED;
+    for place in 4..8usize {
+        any[place] = 255;
+    }
+    assert!(rt; read_data(&any).is_none(), "source 4294967295");
+    assert!(rt; read_data(&WORKED[..31]).is_none(), "31 octets");
+    assert!(rt; read_data(&WORKED[..0]).is_none(), "no octet");
+    assert!(rt; read_data(&WORKED[..32]).is_some(), "no payload");
+}
