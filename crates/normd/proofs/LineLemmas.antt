@@ -1,4 +1,4 @@
-use Rattle.std.proofs.Common.{◌≡◌, ◌≤◌, ◌<◌, ◌∙◌, ℕ, List, [], ◌∷◌, length, Option, Some, None, refl, Bool, true, false, nat_eq, ap, sym, arith}
+use Rattle.std.proofs.Common.{◌≡◌, ◌≤◌, ◌<◌, ◌∙◌, ℕ, List, [], ◌∷◌, length, Option, Some, None, refl, true, false, nat_eq, ap, sym, arith}
 use Rattle.std.specs.Option.{option_map}
 use Rattle.normd.specs.Words.{split_at_first, text_lines, onto_first}
 

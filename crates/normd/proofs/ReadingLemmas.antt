@@ -1,4 +1,4 @@
-use Rattle.std.proofs.Common.{◌≡◌, ◌+◌, ◌≤◌, ◌<◌, ℕ, List, [], ◌∷◌, Option, Some, None, Ok, Err, refl, Bool, true, false, arith, ltb, ltb-true, ltb-false}
+use Rattle.std.proofs.Common.{◌≡◌, ◌+◌, ◌≤◌, ℕ, List, ◌∷◌, Option, Some, None, Err, refl, true, false, ltb, ltb-false}
 use Rattle.std.specs.Prelude.{is_some, unwrap_or}
 use Rattle.normd.specs.Reading.{ReadState, take_line, take_lines}
 

@@ -1,4 +1,4 @@
-use Rattle.std.proofs.Common.{◌≡◌, ◌∙◌, sym, ap, List, length, take, Option, Result, Ok, Err}
+use Rattle.std.proofs.Common.{◌≡◌, List, length, Option, Result, Ok, Err}
 use Rattle.std.proofs.Math.Seq.{take-length}
 use Rattle.std.specs.Prelude.{OnOk, OnErr}
 use Rattle.norm_base.specs.Told.{gained, GainsFront}

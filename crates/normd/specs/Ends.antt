@@ -1,11 +1,11 @@
-use Rattle.std.specs.Prelude.{◌≡◌, ℕ, List, [], ◌∷◌, ◌++◌, Bool, true, false, ◌==◌, codes, nat_eq, map, Option, IfSome, Ok, Err}
+use Rattle.std.specs.Prelude.{◌≡◌, ℕ, List, [], ◌∷◌, ◌++◌, Bool, true, false, codes, nat_eq, Option, IfSome, Ok, Err}
 use Rattle.std.specs.Fmt.{decimal}
 use Rattle.std.specs.Cmp.Lexicographic.{pointwise}
 use Rattle.norm_base.specs.Faults.{Rose}
 use Rattle.norm_base.specs.Network.{Network}
 use Rattle.norm_base.specs.Told.{gained, GainsFront}
 use Rattle.norm_session.specs.Commands.{Commands}
-use Rattle.norm_session.specs.Session.{RunsSession, HasSession, printed}
+use Rattle.norm_session.specs.Session.{HasSession, printed}
 use Rattle.norm_session.specs.SessionRun.{SessionRun}
 use Rattle.norm_session.specs.declared.event.Event.{Event}
 use Rattle.normd.specs.Reading.{script_of}

@@ -1,4 +1,4 @@
-use Rattle.std.specs.Prelude.{ℕ, ◌≤◌, length, IfSome}
+use Rattle.std.specs.Prelude.{◌≤◌, length, IfSome}
 use Rattle.std.specs.List.{AllByRecursion}
 use Rattle.norm_session.specs.Commands.{IsCommand}
 use Rattle.normd.specs.Reading.{ReadState}

@@ -1,4 +1,4 @@
-use Rattle.std.proofs.Common.{◌≡◌, ◌∙◌, sym, refl, false, rules}
+use Rattle.std.proofs.Common.{refl, rules}
 use Rattle.normd.specs.declared.status.Ending.TheVariants.{Words}
 use Rattle.normd.proofs.program.norm_main.Goals as goal
 

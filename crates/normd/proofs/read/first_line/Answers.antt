@@ -1,4 +1,4 @@
-use Rattle.std.proofs.Common.{sym, ◌∙◌, ap, refl, take, drop}
+use Rattle.std.proofs.Common.{sym}
 use Rattle.std.proofs.Math.Seq.{take-length, drop-length}
 use Rattle.normd.proofs.LineLemmas.{text_lines-some, text_whole, split_shorter}
 use Rattle.normd.proofs.read.first_line.Goals as goal

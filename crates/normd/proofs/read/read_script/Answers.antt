@@ -1,4 +1,4 @@
-use Rattle.std.proofs.Common.{◌≡◌, ◌+◌, ◌≤◌, ◌∙◌, sym, ap, arith}
+use Rattle.std.proofs.Common.{◌∙◌, sym, ap, arith}
 use Rattle.normd.specs.Reading.{take_lines, script_from}
 use Rattle.normd.specs.Words.{text_lines}
 use Rattle.normd.proofs.ReadingLemmas.{take_lines-refused, take_lines-taken, number_of_taken}

@@ -1,4 +1,4 @@
-use Rattle.std.proofs.Common.{◌≡◌, ◌+◌, ◌<◌, take, get_or, arith}
+use Rattle.std.proofs.Common.{◌+◌, ◌<◌, arith}
 use Rattle.std.proofs.lemmas.List.Sums.{fold_more}
 use Rattle.normd.specs.Words.{value_of, with_digit}
 use Rattle.normd.proofs.NumberLemmas.{value_grows, none_above}

@@ -10,15 +10,17 @@ returns-then-not-branch-clause-ups g c =
     (hands-none (length c.args.self.now.receiver.held - c.loop-up._up) c.loop-up.self c.up_one.new.self (written c.loop-up.output) (written c.up_one.new.output) next)
 
 pub loop-up-preserved : goal.loop-up-preserved
-loop-up-preserved g c = (λ new after rest.
-    let written = g.K.Sink.written in
-    let next = rw c.if-not-branch.false at c.in_ok-up_one.ensures.next in
-    let most = length c.args.self.now.receiver.held in
-    let left : most - c.loop-up._up ≡ suc (most - (c.loop-up._up + 1)) = omega (arith, c.loop-up-test.true, c.held-up-end.ensures) in
-    c.loop-up.invariant.0 new after
-    (hands-some (most - c.loop-up._up) (most - (c.loop-up._up + 1)) c.loop-up.self c.up_one.new.self new
-    (written c.loop-up.output) (written c.up_one.new.output) after left next rest),
-    c.in_ok-up_one.ensures.cause ∙ c.loop-up.invariant.1)
+loop-up-preserved g c = (
+  λ new after rest.
+      let written = g.K.Sink.written in
+      let next = rw c.if-not-branch.false at c.in_ok-up_one.ensures.next in
+      let most = length c.args.self.now.receiver.held in
+      let left : most - c.loop-up._up ≡ suc (most - (c.loop-up._up + 1)) = omega (arith, c.loop-up-test.true, c.held-up-end.ensures) in
+      c.loop-up.invariant.0 new after
+      (hands-some (most - c.loop-up._up) (most - (c.loop-up._up + 1)) c.loop-up.self c.up_one.new.self new
+      (written c.loop-up.output) (written c.up_one.new.output) after left next rest),
+  c.in_ok-up_one.ensures.cause ∙ c.loop-up.invariant.1,
+)
 
 pub returns-clause-ups : goal.returns-clause-ups
 returns-clause-ups g c =

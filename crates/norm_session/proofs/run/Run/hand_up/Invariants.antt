@@ -9,5 +9,5 @@ invariant-loop-up g l =
     let written = g.K.Sink.written in
     let most = length l.fn.self.receiver.held in
     ((new : RunState) (after : Option (List ℕ)) → HandsUp (most - l._up) l.self new (written l.output) after
-      → HandsUp most l.fn.self new (written l.fn.output) after)
+    → HandsUp most l.fn.self new (written l.fn.output) after)
     × (g.K.Sink.fault_count l.output ≡ g.K.Sink.fault_count l.fn.output)

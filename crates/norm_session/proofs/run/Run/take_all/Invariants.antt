@@ -10,5 +10,5 @@ abbrev pub invariant-loop-taken : goal.invariant-loop-taken
 invariant-loop-taken g l =
     let told = g.F.Fabric.told in
     ((new : RunState) (after : Network) → Takes (most_takes - l._taken) l.self new (told l.fabric) after
-      → Takes most_takes l.fn.self new (told l.fn.fabric) after)
+    → Takes most_takes l.fn.self new (told l.fn.fabric) after)
     × (g.F.Fabric.fault_count l.fabric ≡ g.F.Fabric.fault_count l.fn.fabric)
