@@ -10,11 +10,11 @@ use Rattle.norm_session.proofs.ToldLemmas.{gained-nil, gained-gained}
 use Rattle.norm_session.proofs.TakingLemmas.{with_events-nil, with_events-append}
 
 -- where nothing can be handed up, the state stays
-taken_ups-none : (most : ℕ) (r : ReceiverState) → next_up r.held r.point ≡ None → taken_ups most r ≡ r
+pub taken_ups-none : (most : ℕ) (r : ReceiverState) → next_up r.held r.point ≡ None → taken_ups most r ≡ r
 taken_ups-none zero r none = refl
 taken_ups-none (suc most) r none = rw none (taken_ups-none most r none)
 
-ups_of-none : (most : ℕ) (r : ReceiverState) → next_up r.held r.point ≡ None → ups_of most r ≡ []
+pub ups_of-none : (most : ℕ) (r : ReceiverState) → next_up r.held r.point ≡ None → ups_of most r ≡ []
 ups_of-none zero r none = refl
 ups_of-none (suc most) r none = rw none refl
 

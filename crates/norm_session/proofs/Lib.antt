@@ -4,3 +4,7 @@ pub mod HandingLemmas
 pub mod TurnLemmas
 pub mod RunLemmas
 pub mod SessionLemmas
+pub mod ObjectLemmas
+pub mod SafeLemmas
+pub mod HandLemmas
+pub mod SafeRun

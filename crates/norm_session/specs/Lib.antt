@@ -12,3 +12,4 @@ pub mod SessionRun
 pub mod Running
 pub mod Session
 pub mod Causes
+pub mod Safe

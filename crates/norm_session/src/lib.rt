@@ -4,6 +4,7 @@
 
 mod event;
 mod job;
+pub mod laws;
 mod lines;
 mod receiver;
 mod run;
