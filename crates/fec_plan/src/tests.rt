@@ -53,6 +53,7 @@ fn a_name_is_24_bits_of_block_and_8_of_symbol(rt: HostRuntime) {
 
 #[test]
 fn positions_go_by_index_then_block_then_symbol(rt: HostRuntime) {
+    laws::position_order();
     for (index, block, symbol, next_index, next_block, next_symbol) in [
         (0, 9, 9, 1, 0, 0),
         (1, 0, 9, 1, 1, 0),

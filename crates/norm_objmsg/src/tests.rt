@@ -53,15 +53,19 @@ fn the_worked_message_is_written(rt: HostRuntime) -> Result<(), Fail> {
 }
 
 #[test]
-fn the_worked_message_is_read(rt: HostRuntime) -> Result<(), Fail> {
-    let msg = read_data(&WORKED).ok_or("octets of a message")?;
+fn the_worked_message_is_read(rt: HostRuntime) {
+    let bytes = WORKED;
+    let Some(msg) = read_data(&bytes) else {
+        panic!(rt; "these are octets of a message");
+    };
     assert_eq!(rt; msg.head, worked_head(&rt));
     assert_eq!(rt; (msg.id.block, msg.id.symbol), (0, 0));
     assert_eq!(rt; msg.payload, b"hello".as_slice());
-    let (fti, rest) = Fti::read(msg.exts).ok_or("octets of EXT_FTI")?;
+    let Some((fti, rest)) = Fti::read(msg.exts) else {
+        panic!(rt; "these are octets of EXT_FTI");
+    };
     assert_eq!(rt; (fti.l, fti.e, fti.b, fti.max_n), (5, 64, 4, 6));
     assert_eq!(rt; rest.len(), 0);
-    Ok(())
 }
 
 #[test]
