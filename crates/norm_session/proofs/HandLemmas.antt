@@ -1,4 +1,4 @@
-use Rattle.std.proofs.Common.{◌≡◌, ◌+◌, ◌∙◌, sym, ap, ℕ, suc, zero, List, [], ◌∷◌, ◌++◌, length, Option, Some, None, refl, arith, map, append_assoc, subst, length-append, zero-add, add-zero}
+use Rattle.std.proofs.Common.{◌≡◌, ◌+◌, ◌∙◌, sym, ap, ℕ, suc, zero, List, [], ◌∷◌, ◌++◌, length, Option, Some, None, refl, arith, append_assoc, length-append, zero-add, add-zero}
 use Rattle.std.specs.Prelude.{slice_get}
 use Rattle.std.specs.List.{AllByRecursion, flat_map}
 use Rattle.std.proofs.lemmas.List.{append-nil}
@@ -7,15 +7,15 @@ use Rattle.norm_session.specs.ReceiverState.{ReceiverState, receiver_took, next_
 use Rattle.norm_session.specs.Safe.{handed_in, numbered, octets_in}
 use Rattle.norm_session.specs.SenderState.{Entry}
 use Rattle.norm_session.specs.Turn.{ups_of, taken_ups, up_events}
-use Rattle.norm_session.proofs.HandingLemmas.{taken_ups-none, ups_of-none}
-use Rattle.norm_session.proofs.SafeLemmas.{HasOctets, IsHeldOf, next_up-held, without-keeps}
+use Rattle.norm_session.proofs.HandingLemmas.{taken_ups-none}
+use Rattle.norm_session.proofs.SafeLemmas.{IsHeldOf, next_up-held, without-keeps}
 
 -- one more of a numbered list
 pub numbered-append : {X : Type 0} (k : ℕ) (xs : List X) (y : X) → numbered k (xs ++ y ∷ []) ≡ numbered k xs ++ (k + length xs, y) ∷ []
 numbered-append k [] y = ap (λ i. (i, y) ∷ []) (sym (add-zero k))
 numbered-append k (x ∷ xs) y =
     ap (λ rest. (k, x) ∷ rest) (numbered-append (k + 1) xs y
-      ∙ ap (λ i. numbered (k + 1) xs ++ (i, y) ∷ []) (let e : (k + 1) + length xs ≡ k + suc (length xs) = omega arith in e))
+    ∙ ap (λ i. numbered (k + 1) xs ++ (i, y) ∷ []) (let e : (k + 1) + length xs ≡ k + suc (length xs) = omega arith in e))
 
 -- what follows a front of a numbered list
 pub next_of_front : {X : Type 0} (k : ℕ) (xs : List X) (front more : List (ℕ × X)) (x : X) → numbered k xs ≡ front ++ more → slice_get xs (length front) ≡ Some x
@@ -58,8 +58,12 @@ hand-one order r handed octets h there =
     record {
       held = without-keeps (IsHeldOf order) r.held r.point h.held;
       point = length-append handed ((r.point, octets) ∷ []) ∙ ap (λ n. n + 1) h.point;
-      front = (next.0, h.front.1 ∙ ap (λ rest. handed ++ rest) (next.1 ∙ ap (λ i. (i, octets) ∷ next.0) place)
-        ∙ sym (append_assoc handed ((r.point, octets) ∷ []) next.0)) }
+      front = (
+        next.0,
+        h.front.1 ∙ ap (λ rest. handed ++ rest) (next.1 ∙ ap (λ i. (i, octets) ∷ next.0) place)
+            ∙ sym (append_assoc handed ((r.point, octets) ∷ []) next.0),
+      );
+    }
 
 hand-more : (order : List Entry) (p : Settings) (most : ℕ) (r : ReceiverState) (handed : List (ℕ × List ℕ)) (o : Option (List ℕ)) → Handed order r handed
     → next_up r.held r.point ≡ o

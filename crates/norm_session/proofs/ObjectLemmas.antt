@@ -1,8 +1,7 @@
-use Rattle.std.proofs.Common.{◌≡◌, ◌+◌, ◌-◌, ◌%◌, ◌<◌, ◌≤◌, ◌∙◌, sym, ap, ℕ, List, [], ◌∷◌, ◌++◌, length, Option, Some, None, refl, Bool, true, false, cond, arith, drop}
+use Rattle.std.proofs.Common.{◌≡◌, ◌+◌, ◌-◌, ◌%◌, ◌<◌, ◌≤◌, ◌∙◌, sym, ap, ℕ, List, Some, None, refl, Bool, true, false, cond, arith, drop}
 use Rattle.norm_base.specs.Settings.{Settings, InRange}
-use Rattle.norm_objmsg.specs.DataText.{Data, data_octets}
+use Rattle.norm_objmsg.specs.DataText.{data_octets}
 use Rattle.norm_objmsg.specs.DataReading.{data_at}
-use Rattle.norm_objmsg.specs.FtiText.{fti_octets}
 use Rattle.norm_objmsg.specs.Spells.{Spells, IsHead, IsFti}
 use Rattle.norm_objmsg.proofs.Spelling.{data_again}
 use Rattle.norm_session.specs.ReceiverState.{Got, index_of, counts, object_in}
@@ -31,7 +30,8 @@ object_made p sequence index octets got range seq small h =
       backoff = omega (arith, range.k);
       gsize = omega (arith, range.gsize_code);
       flags = omega arith;
-      object = object } in
+      object = object;
+    } in
     let spells : Spells m (data_octets m) = record { fields = refl; exts = wide; head = head; id = (omega arith, omega arith) } in
     let read : data_at (data_octets m) ≡ Some m = data_again m (data_octets m) spells in
     let counted = rw read at h in

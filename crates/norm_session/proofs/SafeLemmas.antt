@@ -1,17 +1,14 @@
-use Rattle.std.proofs.Common.{◌≡◌, ◌≢◌, ◌+◌, ◌%◌, ◌<◌, ◌≤◌, ◌∙◌, sym, ap, ℕ, suc, zero, List, [], ◌∷◌, ◌++◌, length, Option, Some, None, refl, Bool, true, false, cond, arith, map, append_assoc, subst, nat_eq, ◌==◌, eqb-true, get_or, length-append, take}
+use Rattle.std.proofs.Common.{◌≡◌, ◌<◌, ◌∙◌, sym, ℕ, suc, zero, List, [], ◌∷◌, ◌++◌, length, Option, Some, None, refl, true, false, cond, map, subst, nat_eq, ◌==◌, eqb-true}
 use Rattle.std.specs.Prelude.{slice_get, Contains}
-use Rattle.std.specs.List.{AllByRecursion, flat_map}
-use Rattle.std.proofs.lemmas.List.{append-nil}
-use Rattle.std.proofs.lemmas.Grind.{flat_map-append}
+use Rattle.std.specs.List.{AllByRecursion}
 use Rattle.std.proofs.lemmas.List.Elements.{All-from_recursion}
-use Rattle.std.proofs.lemmas.Option.{slice_get_within}
 use Rattle.norm_base.specs.Network.{WasOffered}
 use Rattle.norm_base.specs.Settings.{Settings, InRange}
 use Rattle.norm_objmsg.specs.DataText.{data_octets}
-use Rattle.norm_session.specs.ReceiverState.{Got, ReceiverState, object_in, receiver_got, receiver_took, had, next_up, without}
-use Rattle.norm_session.specs.Safe.{accepted_in, handed_in, numbered, IsHonest, octets_in}
-use Rattle.norm_session.specs.SenderState.{Entry, SenderState, symbol_of}
-use Rattle.norm_session.specs.Turn.{Answer, take_event, delivered, delivered_all, receiver_node, ups_of, taken_ups, with_up, up_event, up_events}
+use Rattle.norm_session.specs.ReceiverState.{Got, ReceiverState, object_in, receiver_got, had, next_up, without}
+use Rattle.norm_session.specs.Safe.{IsHonest}
+use Rattle.norm_session.specs.SenderState.{Entry, symbol_of}
+use Rattle.norm_session.specs.Turn.{Answer, take_event, delivered, delivered_all, receiver_node}
 use Rattle.norm_session.specs.declared.event.Event.{Event}
 use Rattle.norm_session.proofs.ObjectLemmas.{object_made}
 
@@ -53,9 +50,19 @@ held-grows order y (got ∷ held) all = (grows order y got.index got.octets all.
 pub offers-grow : (p : Settings) (order : List Entry) (y : Entry) (offers : List (ℕ × List ℕ)) → AllByRecursion (IsOffer p order) offers
     → AllByRecursion (IsOffer p (order ++ y ∷ [])) offers
 offers-grow p order y [] all = all
-offers-grow p order y (offer ∷ offers) all = (record {
-    from = all.0.from; index = all.0.index; sequence = all.0.sequence; octets = all.0.octets; small = all.0.small; wide = all.0.wide;
-    object = grows order y all.0.index all.0.octets all.0.object; datagram = all.0.datagram }, offers-grow p order y offers all.1)
+offers-grow p order y (offer ∷ offers) all = (
+  record {
+    from = all.0.from;
+    index = all.0.index;
+    sequence = all.0.sequence;
+    octets = all.0.octets;
+    small = all.0.small;
+    wide = all.0.wide;
+    object = grows order y all.0.index all.0.octets all.0.object;
+    datagram = all.0.datagram;
+  },
+  offers-grow p order y offers all.1,
+)
 
 -- one more at the end
 pub all-append : {X : Type 0} (P : X → Type 0) (xs : List X) (y : X) → AllByRecursion P xs → P y → AllByRecursion P (xs ++ y ∷ [])
@@ -86,10 +93,10 @@ delivered-keeps : (p : Settings) (order : List Entry) (offers : List (ℕ × Lis
 delivered-keeps p order offers r taken range all held was =
     let offer = all_at (IsOffer p order) offers (was.0, taken.1) all was.2 in
     let sound : (got : Got) → object_in p taken.1 ≡ Some got → IsHeldOf order got = λ got e.
-        let made = rw offer.datagram at e in
-        let is = object_made p offer.sequence offer.index offer.octets got range offer.wide offer.small made in
-        let P : Got → Type 0 = IsHeldOf order in
-        subst P (sym is) offer.object in
+    let made = rw offer.datagram at e in
+    let is = object_made p offer.sequence offer.index offer.octets got range offer.wide offer.small made in
+    let P : Got → Type 0 = IsHeldOf order in
+    subst P (sym is) offer.object in
     elim (taken.0 == receiver_node p) as (λ b. AllByRecursion (IsHeldOf order) (cond b (receiver_got r (object_in p taken.1)) r).held) [
       | true ↦ got-keeps order r (object_in p taken.1) sound held
       | false ↦ held
@@ -123,9 +130,9 @@ next_up-held P [] point octets all h = absurd (cc)
 next_up-held P (got ∷ held) point octets all h =
     elim (nat_eq got.index point) as (λ b. nat_eq got.index point ≡ b → (g : Got) × ((g.index ≡ point) × (g.octets ≡ octets) × P g)) [
       | true ↦ λ e.
-        let it : Some got.octets ≡ Some octets = rw e at h in
-        let same : got.octets ≡ octets = cc in
-        (got, (eqb-true got.index point e, same, all.0))
+          let it : Some got.octets ≡ Some octets = rw e at h in
+          let same : got.octets ≡ octets = cc in
+          (got, (eqb-true got.index point e, same, all.0))
       | false ↦ λ e. next_up-held P held point octets all.1 (rw e at h)
     ] refl
 

@@ -1,4 +1,4 @@
-use Rattle.std.proofs.Common.{◌≡◌, ◌+◌, ◌%◌, ◌<◌, ◌≤◌, ◌∙◌, sym, ap, ℕ, suc, zero, List, [], ◌∷◌, ◌++◌, length, Option, Some, None, Ok, refl, Bool, true, false, cond, arith, map, append_assoc, subst, length-append, zero-add, ltb}
+use Rattle.std.proofs.Common.{◌≡◌, ◌+◌, ◌<◌, ◌≤◌, ◌∙◌, sym, ap, ℕ, List, [], ◌∷◌, ◌++◌, length, Option, Some, None, Ok, refl, Bool, true, false, cond, arith, map, append_assoc, subst, length-append, zero-add, ltb}
 use Rattle.std.specs.Prelude.{slice_get, MatchBool, ◌||◌, ◌==◌}
 use Rattle.std.specs.List.{AllByRecursion, flat_map}
 use Rattle.std.specs.Option.{option_map}
@@ -11,17 +11,17 @@ use Rattle.norm_objmsg.specs.DataText.{data_octets}
 use Rattle.norm_session.specs.Commands.{Commands}
 use Rattle.norm_session.specs.ReceiverState.{ReceiverState, receiver_opening}
 use Rattle.norm_session.specs.Safe.{accepted_in, handed_in, numbered, IsHonest, octets_in, Safe}
-use Rattle.norm_session.specs.SenderState.{Entry, SenderState, sender_opening, symbol_of, enqueued, sender_datagram, sender_after}
+use Rattle.norm_session.specs.SenderState.{Entry, SenderState, sender_opening, symbol_of, sender_datagram, sender_after}
 use Rattle.norm_session.specs.SessionRun.{Turns, first_of, rest_of, is_whole}
-use Rattle.norm_session.specs.Turn.{Answer, take_event, delivered_all, receiver_node, ups_of, taken_ups, up_events, up_event, offer_events, entry_of, octets_of, job_of, origin_of, pull_events}
-use Rattle.norm_session.specs.WholeTurn.{pulled, pull_part, moment_of, sender_ticked, turn_events, sender_after_turn, receiver_after_turn}
+use Rattle.norm_session.specs.Turn.{Answer, take_event, delivered_all, receiver_node, ups_of, taken_ups, up_events, offer_events, entry_of, octets_of, job_of, origin_of, pull_events}
+use Rattle.norm_session.specs.WholeTurn.{pulled, pull_part, moment_of, turn_events, sender_after_turn, receiver_after_turn}
 use Rattle.norm_session.specs.declared.event.Event.{Event}
 use Rattle.norm_session.specs.declared.event.Event.TheVariants.{Turn, Tick, Start}
 use Rattle.norm_session.specs.declared.event.Event.TheVariants as event
 use Rattle.norm_session.specs.declared.job.Receipt.TheVariants as receipt
 use Rattle.norm_session.specs.declared.script.Line.{Line}
 use Rattle.norm_session.specs.declared.script.Verb.TheVariants as verb
-use Rattle.norm_session.proofs.SafeLemmas.{IsOffer, IsHeldOf, HasOctets, held-grows, offers-grow, all-append, takes-keep, delivered_all-point}
+use Rattle.norm_session.proofs.SafeLemmas.{IsOffer, held-grows, offers-grow, all-append, takes-keep, delivered_all-point}
 use Rattle.norm_session.proofs.HandLemmas.{Handed, IsFrontOf, numbered-append, hand-all}
 
 -- what a run keeps: the order so far, and what was offered, held and handed up
@@ -37,7 +37,7 @@ pub record Kept (p : Settings) (all : List Entry) (s : SenderState) (r : Receive
 accepted-pull : (s : SenderState) (command : Line) → flat_map accepted_in (pull_events s command) ≡ (length s.order, entry_of command) ∷ []
 accepted-pull s command =
     elim command.verb as (λ v. accepted_in (event.Job (origin_of command) (Some (job_of v)) (Ok (receipt.Object (length s.order) (length (octets_of v))))) ++ []
-        ≡ (length s.order, record { producer = command.producer; number = command.number; octets = octets_of v }) ∷ []) [ verb.Data info bytes ↦ refl ]
+    ≡ (length s.order, record { producer = command.producer; number = command.number; octets = octets_of v }) ∷ []) [ verb.Data info bytes ↦ refl ]
 
 octets-append : (order : List Entry) (y : Entry) → octets_in (order ++ y ∷ []) ≡ octets_in order ++ y.octets ∷ []
 octets-append [] y = refl
@@ -45,9 +45,11 @@ octets-append (x ∷ xs) y = ap (λ rest. x.octets ∷ rest) (octets-append xs y
 
 front-grows : (order : List Entry) (y : Entry) (handed : List (ℕ × List ℕ)) → IsFrontOf order handed → IsFrontOf (order ++ y ∷ []) handed
 front-grows order y handed front =
-    let last = (0 + length (octets_in order), y.octets) ∷ [] in
-    (front.0 ++ last, ap (numbered 0) (octets-append order y) ∙ numbered-append 0 (octets_in order) y.octets
-      ∙ ap (λ f. f ++ last) front.1 ∙ append_assoc handed front.0 last)
+    let last = (0 + length (octets_in order), y.octets) ∷ [] in (
+      front.0 ++ last,
+      ap (numbered 0) (octets-append order y) ∙ numbered-append 0 (octets_in order) y.octets
+          ∙ ap (λ f. f ++ last) front.1 ∙ append_assoc handed front.0 last,
+    )
 
 -- a command is pulled
 kept-pull : (p : Settings) (all : List Entry) (s : SenderState) (r : ReceiverState) (left : List Line) (offers : List (ℕ × List ℕ)) (accepted : List (ℕ × Entry)) (handed : List (ℕ × List ℕ))
@@ -62,12 +64,14 @@ kept-pull p all s r (command ∷ left) offers accepted handed k =
       few = k.few;
       wide = k.wide;
       accepted_is = ap (λ last. accepted ++ last) (accepted-pull s command) ∙ ap (λ front. front ++ (length s.order, entry) ∷ []) k.accepted_is
-        ∙ sym (numbered-append 0 s.order entry ∙ ap (λ i. numbered 0 s.order ++ (i, entry) ∷ []) place);
+          ∙ sym (numbered-append 0 s.order entry ∙ ap (λ i. numbered 0 s.order ++ (i, entry) ∷ []) place);
       offers_are = offers-grow p s.order entry offers k.offers_are;
       hands = record {
         held = held-grows s.order entry r.held k.hands.held;
         point = k.hands.point;
-        front = front-grows s.order entry handed k.hands.front } }
+        front = front-grows s.order entry handed k.hands.front;
+      };
+    }
 
 map_some : {X Y : Type 0} → (f : X → Y) (o : Option X) (y : Y) → option_map f o ≡ Some y → (x : X) × ((o ≡ Some x) × (f x ≡ y))
 map_some f None y h = absurd (cc)
@@ -88,7 +92,7 @@ kept-sent : (p : Settings) (all : List Entry) (s : SenderState) (r : ReceiverSta
 kept-sent p all s r left offers accepted handed now None is k = rw (append-nil offers) k
 kept-sent p all s r left offers accepted handed now (Some datagram) is k =
     let entry = map_some (λ (e : Entry). data_octets (symbol_of p s.sequence s.next e.octets)) (slice_get s.order s.next) datagram
-        (unguarded (ltb now s.next_send) (option_map (λ (e : Entry). data_octets (symbol_of p s.sequence s.next e.octets)) (slice_get s.order s.next)) datagram is) in
+    (unguarded (ltb now s.next_send) (option_map (λ (e : Entry). data_octets (symbol_of p s.sequence s.next e.octets)) (slice_get s.order s.next)) datagram is) in
     let within : s.next < length s.order = slice_get_within s.order s.next entry.0 entry.1.0 in
     let whole : length all ≡ length s.order + length (map entry_of left) = ap length k.order ∙ length-append s.order (map entry_of left) in
     let few = k.few in
@@ -100,14 +104,16 @@ kept-sent p all s r left offers accepted handed now (Some datagram) is k =
       small = omega (arith, within, whole, few);
       wide = k.wide;
       object = (entry.0, (entry.1.0, refl));
-      datagram = sym entry.1.1 } in
+      datagram = sym entry.1.1;
+    } in
     record {
       order = k.order;
       few = k.few;
       wide = omega arith;
       accepted_is = k.accepted_is;
       offers_are = all-append (IsOffer p s.order) offers (p.sender, datagram) k.offers_are offer;
-      hands = k.hands }
+      hands = k.hands;
+    }
 
 honest-offer : (offers : List (ℕ × List ℕ)) (node : ℕ) (d : Option (List ℕ)) (rest : List Event) → IsHonest offers (offer_events node d ++ rest)
     → IsHonest (offers ++ offered_by node d) rest
@@ -154,28 +160,28 @@ only_first : {X : Type 0} (f : Event → List X) (a b c d e : List Event) → fl
     → flat_map f (a ++ (b ++ (c ++ (d ++ e)))) ≡ flat_map f a
 only_first f a b c d e nb nc nd ne =
     rw (flat_map-append f a (b ++ (c ++ (d ++ e))), flat_map-append f b (c ++ (d ++ e)), flat_map-append f c (d ++ e), flat_map-append f d e)
-      (rw (nb, nc, nd, ne) (append-nil (flat_map f a)))
+    (rw (nb, nc, nd, ne) (append-nil (flat_map f a)))
 
 only_fourth : {X : Type 0} (f : Event → List X) (a b c d e : List Event) → flat_map f a ≡ [] → flat_map f b ≡ [] → flat_map f c ≡ [] → flat_map f e ≡ []
     → flat_map f (a ++ (b ++ (c ++ (d ++ e)))) ≡ flat_map f d
 only_fourth f a b c d e na nb nc ne =
     rw (flat_map-append f a (b ++ (c ++ (d ++ e))), flat_map-append f b (c ++ (d ++ e)), flat_map-append f c (d ++ e), flat_map-append f d e)
-      (rw (na, nb, nc, ne) (append-nil (flat_map f d)))
+    (rw (na, nb, nc, ne) (append-nil (flat_map f d)))
 
 five_parts : (a b c d e rest : List Event) → (a ++ (b ++ (c ++ (d ++ e)))) ++ rest ≡ a ++ (b ++ (c ++ (d ++ (e ++ rest))))
 five_parts a b c d e rest =
     append_assoc a (b ++ (c ++ (d ++ e))) rest
     ∙ ap (λ t. a ++ t) (append_assoc b (c ++ (d ++ e)) rest
-      ∙ ap (λ t. b ++ t) (append_assoc c (d ++ e) rest
-        ∙ ap (λ t. c ++ t) (append_assoc d e rest)))
+    ∙ ap (λ t. b ++ t) (append_assoc c (d ++ e) rest
+    ∙ ap (λ t. c ++ t) (append_assoc d e rest)))
 
 -- a turn keeps it
 kept-turn : (p : Settings) (all : List Entry) (s : SenderState) (r : ReceiverState) (left : List Line) (offers : List (ℕ × List ℕ)) (accepted : List (ℕ × Entry)) (handed : List (ℕ × List ℕ))
     (t : ℕ) (answers : List Answer) (rest : List Event) → InRange p → Kept p all s r left offers accepted handed
     → IsHonest offers (turn_events p s r t (first_of left) answers ++ rest)
     → (now_offers : List (ℕ × List ℕ)) × (Kept p all (sender_after_turn p s t (first_of left)) (receiver_after_turn p r answers) (rest_of left) now_offers
-        (accepted ++ flat_map accepted_in (turn_events p s r t (first_of left) answers)) (handed ++ flat_map handed_in (turn_events p s r t (first_of left) answers))
-      × IsHonest now_offers rest)
+    (accepted ++ flat_map accepted_in (turn_events p s r t (first_of left) answers)) (handed ++ flat_map handed_in (turn_events p s r t (first_of left) answers))
+    × IsHonest now_offers rest)
 kept-turn p all s r left offers accepted handed t answers rest range k honest =
     let now = moment_of p t in
     let s1 = pulled s (first_of left) in
@@ -200,20 +206,26 @@ kept-turn p all s r left offers accepted handed t answers rest range k honest =
     let got : Handed s2.order r1 handed = record {
       held = h4.0;
       point = k2.hands.point ∙ sym (delivered_all-point p r answers);
-      front = k2.hands.front } in
+      front = k2.hands.front;
+    } in
     let hand = hand-all s2.order p (length r1.held) r1 handed got in
     let accepts : flat_map accepted_in (a ++ (b ++ (c ++ (u ++ x)))) ≡ flat_map accepted_in a =
-        only_first accepted_in a b c u x (accepted-offer p.sender d) (accepted-takes answers) (accepted-ups p r1.point ups) refl in
+    only_first accepted_in a b c u x (accepted-offer p.sender d) (accepted-takes answers) (accepted-ups p r1.point ups) refl in
     let hands_up : flat_map handed_in (a ++ (b ++ (c ++ (u ++ x)))) ≡ flat_map handed_in u =
-        only_fourth handed_in a b c u x (handed-pull s (first_of left)) (handed-offer p.sender d) (handed-takes answers) refl in
-    (offered, (record {
-      order = k2.order;
-      few = k2.few;
-      wide = k2.wide;
-      accepted_is = ap (λ more. accepted ++ more) accepts ∙ k2.accepted_is;
-      offers_are = k2.offers_are;
-      hands = let P : List (ℕ × List ℕ) → Type 0 = λ more. Handed s2.order (taken_ups (length r1.held) r1) (handed ++ more) in subst P (sym hands_up) hand },
-      h5))
+    only_fourth handed_in a b c u x (handed-pull s (first_of left)) (handed-offer p.sender d) (handed-takes answers) refl in (
+      offered,
+      (
+        record {
+          order = k2.order;
+          few = k2.few;
+          wide = k2.wide;
+          accepted_is = ap (λ more. accepted ++ more) accepts ∙ k2.accepted_is;
+          offers_are = k2.offers_are;
+          hands = let P : List (ℕ × List ℕ) → Type 0 = λ more. Handed s2.order (taken_ups (length r1.held) r1) (handed ++ more) in subst P (sym hands_up) hand;
+        },
+        h5,
+      ),
+    )
 
 -- what stands at the end
 pub record Final (all : List Entry) (accepted : List (ℕ × Entry)) (handed : List (ℕ × List ℕ)) : Type 0 where
@@ -228,7 +240,8 @@ final_of p all s r left offers accepted handed k = record {
   order = s.order;
   front = (map entry_of left, k.order);
   accepted_is = k.accepted_is;
-  handed_is = k.hands.front }
+  handed_is = k.hands.front;
+}
 
 regroup : {X : Type 0} (f : Event → List X) (so_far : List X) (events first more : List Event) → events ≡ first ++ more
     → (so_far ++ flat_map f first) ++ flat_map f more ≡ so_far ++ flat_map f events
@@ -258,14 +271,14 @@ safe_turns p all range (answers ∷ takes) s r t left offers accepted handed eve
     let s' = sender_after_turn p s t (first_of left) in
     let r' = receiver_after_turn p r answers in
     final_after all accepted handed events first more is (
-      elim (is_whole s' (rest_of left) || t == p.turns) as (λ b. MatchBool b ((takes ≡ []) × (more ≡ []) × (whole ≡ is_whole s' (rest_of left))) (Turns p s' r' (t + 1) (rest_of left) takes more whole)
-          → Final all ((accepted ++ flat_map accepted_in first) ++ flat_map accepted_in more) ((handed ++ flat_map handed_in first) ++ flat_map handed_in more)) [
-        | true ↦ λ ends.
+    elim (is_whole s' (rest_of left) || t == p.turns) as (λ b. MatchBool b ((takes ≡ []) × (more ≡ []) × (whole ≡ is_whole s' (rest_of left))) (Turns p s' r' (t + 1) (rest_of left) takes more whole)
+    → Final all ((accepted ++ flat_map accepted_in first) ++ flat_map accepted_in more) ((handed ++ flat_map handed_in first) ++ flat_map handed_in more)) [
+      | true ↦ λ ends.
           let F : List Event → Type 0 = λ m. Final all ((accepted ++ flat_map accepted_in first) ++ flat_map accepted_in m) ((handed ++ flat_map handed_in first) ++ flat_map handed_in m) in
           subst F (sym ends.1) (rw (append-nil (accepted ++ flat_map accepted_in first), append-nil (handed ++ flat_map handed_in first))
-            (final_of p all s' r' (rest_of left) step.0 (accepted ++ flat_map accepted_in first) (handed ++ flat_map handed_in first) step.1.0))
-        | false ↦ λ goes_on. safe_turns p all range takes s' r' (t + 1) (rest_of left) step.0 (accepted ++ flat_map accepted_in first) (handed ++ flat_map handed_in first) more whole step.1.0 goes_on step.1.1
-      ] turns.1.2)
+          (final_of p all s' r' (rest_of left) step.0 (accepted ++ flat_map accepted_in first) (handed ++ flat_map handed_in first) step.1.0))
+      | false ↦ λ goes_on. safe_turns p all range takes s' r' (t + 1) (rest_of left) step.0 (accepted ++ flat_map accepted_in first) (handed ++ flat_map handed_in first) more whole step.1.0 goes_on step.1.1
+    ] turns.1.2)
 
 -- a run over an honest network is safe
 pub safe_of : (script : Commands) (takes : List (List Answer)) (events : List Event) (whole : Bool) → InRange script.profile → length script.lines ≤ 256
@@ -278,10 +291,12 @@ safe_of script takes events whole range few turns honest =
       wide = omega arith;
       accepted_is = refl;
       offers_are = tt;
-      hands = record { held = tt; point = refl; front = ([], refl) } } in
+      hands = record { held = tt; point = refl; front = ([], refl) };
+    } in
     let final = safe_turns script.profile all range takes sender_opening receiver_opening 1 script.lines [] [] [] events whole kept turns honest in
     record {
       order = final.order;
       commands = final.front;
       accepted = final.accepted_is;
-      handed = final.handed_is }
+      handed = final.handed_is;
+    }

@@ -14,5 +14,4 @@ ghost use Rattle.norm_session.specs.Safe.{IsHonest, Safe};
 pub fn safe_run()
     ensures { (script : Commands) (journal : List Happening) (whole : Bool) → InRange script.profile → IsScript script
         → SessionRun script journal whole → IsHonest [] journal → Safe script journal }
-{
-}
+{}
