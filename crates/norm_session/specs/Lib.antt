@@ -13,3 +13,5 @@ pub mod Running
 pub mod Session
 pub mod Causes
 pub mod Safe
+pub mod SenderStep
+pub mod ReceiverStep

@@ -4,6 +4,8 @@ ghost use Rattle.std.specs.Prelude.{◌≡◌, ◌+◌, ◌≤◌, ◌<◌, ◌=
 ghost use Rattle.std.specs.Option.{option_map};
 ghost use Rattle.std.specs.List.{list_any};
 ghost use Rattle.norm_session.specs.ReceiverState.{Got, receiver_opening, index_of, fits_profile, counts, object_in, had, receiver_got, next_up, without, receiver_took};
+ghost use Rattle.norm_session.specs.ReceiverStep.{ReceiverStep, Delivered, Taken, Silent, Ups};
+ghost use Rattle.norm_base.specs.Settings.{Settings};
 ghost use Rattle.norm_objmsg.specs.DataView.{data_of};
 ghost use Rattle.norm_objmsg.specs.FtiText.{fti_at};
 
@@ -159,6 +161,7 @@ impl Receiver {
         bytes: &[u8],
     ) -> Result<(), Memory>
         ensures ok { OnOk result (self.new ≡ receiver_got self.old (object_in profile.now bytes.now)) }
+        ensures step { OnOk result (ReceiverStep profile.now self.old (Delivered bytes.now) self.new Silent) }
         ensures err { OnErr result (self.new ≡ self.old) }
     {
         let Some((index, octets)) = object_of(profile, bytes) else {
@@ -178,6 +181,7 @@ impl Receiver {
     pub(crate) fn take_up(&mut self) -> Option<(u32, Octets)>
         ensures up { result ≡ option_map (λ octets. (self.old.point, octets)) (next_up self.old.held self.old.point) }
         ensures state { self.new ≡ receiver_took self.old (next_up self.old.held self.old.point) }
+        ensures step { (p : Settings) → ReceiverStep p self.old Taken self.new (Ups (next_up self.old.held self.old.point)) }
     {
         match take_held(&mut self.held, self.point) {
             Some(octets) => {

@@ -2,6 +2,8 @@
 
 ghost use Rattle.std.specs.Prelude.{◌≡◌, ◌+◌, ◌≤◌, ◌<◌, [], ◌++◌, length, ◌^◌, ◌↔◌, IsTrue, IfOk, OnOk, OnErr, unwrap_or};
 ghost use Rattle.norm_session.specs.SenderState.{sender_opening, enqueued, symbol_of, sender_datagram, sender_after, sent_of};
+ghost use Rattle.norm_session.specs.SenderStep.{SenderStep, Given, Ticked, Accepted, Sends};
+ghost use Rattle.norm_base.specs.Settings.{Settings};
 ghost use Rattle.norm_objmsg.specs.DataText.{data_octets};
 
 use crate::job::Receipt;
@@ -121,6 +123,8 @@ impl Sender {
           octets = bytes;
         })) }
         ensures receipt { IfOk result (λ r. r ≡ Receipt.Object (length self.old.order) (length bytes)) }
+        ensures step { (p : Settings) → OnOk result (SenderStep p self.old (Given (record {
+            producer = by.producer; number = by.number; octets = bytes })) self.new (Accepted (length self.old.order))) }
         ensures err { OnErr result (self.new ≡ self.old) }
     {
         let index = self.order.len() as u32;
@@ -134,6 +138,7 @@ impl Sender {
     /// Sends the next object that was not sent, where the next send moment has come.
     pub(crate) fn tick(&mut self, profile: &Profile, now: Moment, out: &mut Datagram) -> Sent
         ensures state { self.new ≡ sender_after profile.now self.old now (sender_datagram profile.now self.old now) }
+        ensures step { SenderStep profile.now self.old (Ticked now) self.new (Sends (sender_datagram profile.now self.old now)) }
         ensures sent { result ≡ sent_of (sender_datagram profile.now self.old now) }
         ensures datagram { out.new ≡ unwrap_or (sender_datagram profile.now self.old now) [] }
     {
