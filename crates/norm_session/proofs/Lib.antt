@@ -8,3 +8,4 @@ pub mod ObjectLemmas
 pub mod SafeLemmas
 pub mod HandLemmas
 pub mod SafeRun
+pub mod HonestLemmas

@@ -15,3 +15,4 @@ pub mod Causes
 pub mod Safe
 pub mod SenderStep
 pub mod ReceiverStep
+pub mod Honesty
