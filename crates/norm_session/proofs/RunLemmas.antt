@@ -7,6 +7,8 @@ use Rattle.norm_base.specs.Settings.{Settings}
 use Rattle.norm_session.specs.SenderState.{SenderState, sender_after, sender_datagram, enqueued}
 use Rattle.norm_base.specs.Told.{gained}
 use Rattle.norm_base.specs.Network.{Network}
+use Rattle.norm_session.specs.Honesty.{HonestFor}
+use Rattle.norm_session.proofs.HonestLemmas.{honest-nil, honest-append}
 use Rattle.norm_session.specs.Printed.{lines_of}
 use Rattle.norm_session.specs.Running.{TakesTurns}
 use Rattle.norm_session.specs.RunState.{RunState}
@@ -26,6 +28,7 @@ pub record Going (commands : List Line) (start now : RunState) (before after : N
   pub journal : now.events ≡ start.events ++ so_far
   pub told : after ≡ network_after before so_far
   pub lines : written ≡ gained unwritten (lines_of start.profile.instance so_far)
+  pub honest : HonestFor before so_far
   pub goes_on : (takes : List (List Answer)) (more : List Event) (whole : Bool) → Turns now.profile now.sender now.receiver t left takes more whole
       → (all : List (List Answer)) × Turns start.profile start.sender start.receiver 1 commands all (so_far ++ more) whole
 
@@ -36,6 +39,7 @@ going-start commands r n w = record {
   journal = sym (append-nil r.events);
   told = sym (network_after-nil n);
   lines = sym (gained-nil w);
+  honest = honest-nil n;
   goes_on = λ takes more whole h. (takes, h);
 }
 
@@ -50,6 +54,9 @@ turn_lines i j u w a xs ys same first then =
 
 turn_journal : (e s m xs ys : List Event) → m ≡ s ++ xs → e ≡ m ++ ys → e ≡ s ++ (xs ++ ys)
 turn_journal e s m xs ys first then = then ∙ ap (λ front. front ++ ys) first ∙ append_assoc s xs ys
+
+turn_honest : (b m : Network) (xs ys : List Event) → m ≡ network_after b xs → HonestFor b xs → HonestFor m ys → HonestFor b (xs ++ ys)
+turn_honest b m xs ys is first then = honest-append b xs ys first (subst (λ (k : Network). HonestFor k ys) is then)
 
 -- a turn after which the run goes on
 pub going-turn : (commands left : List Line) (t : ℕ) (start now next : RunState) (n0 n1 n2 : Network) (w0 w1 w2 : Option (List ℕ))
@@ -66,6 +73,7 @@ going-turn commands left t start now next n0 n1 n2 w0 w1 w2 going turn test =
       journal = turn_journal next.events start.events now.events going.so_far events going.journal (ap (λ (r : RunState). r.events) turn.state);
       told = turn_told n0 n1 n2 going.so_far events going.told turn.told;
       lines = turn_lines start.profile.instance now.profile.instance w0 w1 w2 going.so_far events (ap (λ p. p.instance) going.profile) going.lines turn.lines;
+      honest = turn_honest n0 n1 going.so_far events going.told going.honest turn.honest;
       goes_on = λ takes more whole h.
           let rest = rw turn.state at h in
           let done = going.goes_on (turn.answers ∷ takes) (events ++ more) whole (turn.is_taking, (more, refl, rw open_test rest)) in
@@ -92,6 +100,7 @@ going-done commands left t start now next n0 n1 n2 w0 w1 w2 going turn test =
       journal = turn_journal next.events start.events now.events going.so_far events going.journal (ap (λ (r : RunState). r.events) turn.state);
       told = turn_told n0 n1 n2 going.so_far events going.told turn.told;
       lines = turn_lines start.profile.instance now.profile.instance w0 w1 w2 going.so_far events (ap (λ p. p.instance) going.profile) going.lines turn.lines;
+      honest = turn_honest n0 n1 going.so_far events going.told going.honest turn.honest;
     }
 
 -- the commands after the next one are commands

@@ -1,10 +1,12 @@
-use Rattle.std.proofs.Common.{◌≡◌, ◌+◌, ◌∙◌, sym, ap, ℕ, List, [], ◌∷◌, ◌++◌, Option, Some, None, refl, map, length, append_assoc}
+use Rattle.std.proofs.Common.{◌≡◌, ◌+◌, ◌∙◌, sym, ap, ℕ, List, [], ◌∷◌, ◌++◌, Option, Some, None, refl, map, length, append_assoc, subst}
 use Rattle.std.proofs.lemmas.List.{append-nil}
 use Rattle.std.proofs.lemmas.Grind.{flat_map-append}
 use Rattle.std.specs.List.{flat_map}
 use Rattle.norm_base.specs.Settings.{Settings}
 use Rattle.norm_base.specs.Told.{gained}
 use Rattle.norm_base.specs.Network.{Network}
+use Rattle.norm_session.specs.Honesty.{HonestFor}
+use Rattle.norm_session.proofs.HonestLemmas.{honest-append, honest-pull, honest-offer, honest-ups}
 use Rattle.norm_session.specs.Printed.{line_of, lines_of}
 use Rattle.norm_session.specs.RunState.{RunState, with_events, with_sender, with_receiver}
 use Rattle.norm_session.specs.SenderState.{SenderState, sender_datagram}
@@ -96,6 +98,13 @@ six_parts e h p o a u x =
     ∙ append_assoc (e ++ h) p (o ++ (a ++ (u ++ x)))
     ∙ append_assoc e h (p ++ (o ++ (a ++ (u ++ x))))
 
+honest_parts : (n m : Network) (p o a u x : List Event) → m ≡ network_after n o → IsSilent p → HonestFor n p → HonestFor n o → HonestFor m a
+    → ((k : Network) → HonestFor k u) → ((k : Network) → HonestFor k x) → HonestFor n (p ++ (o ++ (a ++ (u ++ x))))
+honest_parts n m p o a u x is silent hp ho ha hu hx =
+    honest-append n p (o ++ (a ++ (u ++ x))) hp (subst (λ (k : Network). HonestFor k (o ++ (a ++ (u ++ x)))) (sym (network_after-silent n p silent))
+      (honest-append n o (a ++ (u ++ x)) ho (subst (λ (k : Network). HonestFor k (a ++ (u ++ x))) is
+        (honest-append m a (u ++ x) ha (honest-append (network_after m a) u x (hu (network_after m a)) (hx (network_after (network_after m a) u)))))))
+
 -- the parts of a turn make it
 pub whole_turn : (t : ℕ) (command : Option Line) (answers : List Answer) (r0 r1 r2 r3 r4 r5 r6 : RunState) (n0 n1 n2 : Network) (w0 w1 w2 : Option (List ℕ))
     → r1 ≡ with_events r0 (Turn t (moment_of r0.profile t) ∷ [])
@@ -103,14 +112,14 @@ pub whole_turn : (t : ℕ) (command : Option Line) (answers : List Answer) (r0 r
     → w1 ≡ gained w0 (lines_of r1.profile.instance (pull_part r1.sender command))
     → r3 ≡ with_events (with_sender r2 (sender_ticked r2.profile r2.sender (moment_of r0.profile t))) (offer_events r2.profile.sender (sender_datagram r2.profile r2.sender (moment_of r0.profile t)))
     → n1 ≡ network_after n0 (offer_events r2.profile.sender (sender_datagram r2.profile r2.sender (moment_of r0.profile t)))
-    → IsTaking most_takes answers
+    → IsTaking most_takes answers → HonestFor n1 (map take_event answers)
     → r4 ≡ with_events (with_receiver r3 (delivered_all r3.profile r3.receiver answers)) (map take_event answers)
     → n2 ≡ network_after n1 (map take_event answers)
     → r5 ≡ with_events (with_receiver r4 (taken_ups (length r4.receiver.held) r4.receiver)) (up_events r4.profile r4.receiver.point (ups_of (length r4.receiver.held) r4.receiver))
     → w2 ≡ gained w1 (lines_of r4.profile.instance (up_events r4.profile r4.receiver.point (ups_of (length r4.receiver.held) r4.receiver)))
     → r6 ≡ with_events r5 (Tick (receiver_node r5.profile) sent.Nothing ∷ [])
     → TakesTurn t command r0 r6 n0 n2 w0 w2
-whole_turn t command answers r0 r1 r2 r3 r4 r5 r6 n0 n1 n2 w0 w1 w2 e1 e2 f1 e3 g1 taking e4 g2 e5 f2 e6 =
+whole_turn t command answers r0 r1 r2 r3 r4 r5 r6 n0 n1 n2 w0 w1 w2 e1 e2 f1 e3 g1 taking honest e4 g2 e5 f2 e6 =
     let p = r0.profile in
     let now = moment_of p t in
     let pull = pull_part r0.sender command in
@@ -129,6 +138,10 @@ whole_turn t command answers r0 r1 r2 r3 r4 r5 r6 n0 n1 n2 w0 w1 w2 e1 e2 f1 e3 
           (record { offers = offers-pull r0.sender command; answers = answers-pull r0.sender command })
           (record { offers = offers-ups p got.point (ups_of (length got.held) got); answers = answers-ups p got.point (ups_of (length got.held) got) })
           (record { offers = refl; answers = refl })));
+      honest = honest_parts n0 n1 pull offer takes ups tick (rw (e2, e1) at g1)
+          (record { offers = offers-pull r0.sender command; answers = answers-pull r0.sender command })
+          (honest-pull n0 r0.sender command) (honest-offer n0 p.sender (sender_datagram p (pulled r0.sender command) now)) honest
+          (λ k. honest-ups k p got.point (ups_of (length got.held) got)) (λ k. honest-offer k (receiver_node p) None);
       lines = rw (f2, f1, e4, e3, e2, e1) (
           gained-gained w0 (lines_of p.instance pull) (lines_of p.instance ups)
           ∙ ap (gained w0) (sym (lines_parts p.instance pull offer takes ups tick
@@ -148,4 +161,4 @@ pub turn_of_parts : (t now : ℕ) (command : Option Line) (r0 r1 r2 r3 r4 r6 : R
     → TakesTurn t command r0 r6 n0 n2 w0 w2
 turn_of_parts t now command r0 r1 r2 r3 r4 r6 n0 n1 n2 w0 w1 w2 is e1 e2 f1 e3 g1 takes ends =
     whole_turn t command takes.answers r0 r1 r2 r3 r4 ends.handed r6 n0 n1 n2 w0 w1 w2
-    e1 e2 f1 (rw is at e3) (rw is at g1) takes.is_taking takes.state takes.told ends.ups.state ends.ups.written ends.state
+    e1 e2 f1 (rw is at e3) (rw is at g1) takes.is_taking takes.honest takes.state takes.told ends.ups.state ends.ups.written ends.state

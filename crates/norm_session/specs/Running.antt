@@ -4,6 +4,7 @@ use Rattle.norm_base.specs.Told.{gained}
 use Rattle.norm_session.specs.declared.event.Event.{Event}
 use Rattle.norm_session.specs.declared.script.Line.{Line}
 use Rattle.norm_session.specs.Printed.{lines_of}
+use Rattle.norm_session.specs.Honesty.{HonestFor}
 use Rattle.norm_session.specs.RunState.{RunState}
 use Rattle.norm_session.specs.SessionRun.{Turns}
 use Rattle.norm_session.specs.Turn.{Answer, network_after}
@@ -16,4 +17,5 @@ pub record TakesTurns (commands : List Line) (old new : RunState) (before after 
   pub profile : new.profile ≡ old.profile
   pub journal : new.events ≡ old.events ++ events
   pub told : after ≡ network_after before events
+  pub honest : HonestFor before events
   pub lines : written ≡ gained unwritten (lines_of old.profile.instance events)

@@ -1,4 +1,5 @@
-use Rattle.std.specs.Prelude.{◌≡◌, ℕ, List, [], ◌∷◌, ◌++◌, Bool, Option, IfSome}
+use Rattle.std.specs.Prelude.{◌≡◌, ℕ, List, [], ◌∷◌, ◌++◌, Bool, Option, IfSome, IsTrue}
+use Rattle.norm_session.specs.Safe.{IsHonest, Safe}
 use Rattle.std.specs.List.{flat_map}
 use Rattle.norm_base.specs.Network.{Network}
 use Rattle.norm_base.specs.Told.{gained}
@@ -25,4 +26,8 @@ pub record HasSession (script : Commands) (journal : List Event) (before after :
 pub record RunsSession (script : Commands) (journal : List Event) (whole : Bool) (before after : Network) (unwritten written : Option (List ℕ)) : Type 0 where
   pub run : SessionRun script journal whole
   pub network : HasSession script journal before after
+  -- where the network is honest, what was taken had been offered by another member
+  pub honest : IsTrue after.honest → IfSome after.offered (λ _. IsHonest [] journal)
+  -- so the run is safe
+  pub safe : IsTrue after.honest → IfSome after.offered (λ _. Safe script journal)
   pub output : written ≡ gained unwritten (printed script.profile.instance journal)

@@ -1,6 +1,6 @@
 use Rattle.std.specs.Prelude.{◌≡◌, ℕ, ◌+◌, ◌==◌, ◌&&◌, ◌||◌, ◌≤◌, List, [], ◌∷◌, ◌++◌, length, nat_le, Bool, MatchBool, Option, None, Some}
 use Rattle.std.specs.List.{AllByRecursion}
-use Rattle.norm_base.specs.Settings.{Settings}
+use Rattle.norm_base.specs.Settings.{Settings, InRange}
 use Rattle.norm_session.specs.declared.event.Event.{Event}
 use Rattle.norm_session.specs.declared.event.Event.TheVariants.{Start}
 use Rattle.norm_session.specs.declared.script.Line.{Line}
@@ -42,7 +42,8 @@ pub record SessionRun (script : Commands) (journal : List Event) (whole : Bool) 
   pub begins : journal ≡ Start ∷ events
   pub turns : Turns script.profile sender_opening receiver_opening 1 script.lines takes events whole
 
--- What can be run: at most 256 commands, each with an object of one symbol.
+-- What can be run: a profile within its ranges, and at most 256 commands, each with an object of one symbol.
 pub record IsScript (script : Commands) : Type 0 where
+  pub range : InRange script.profile
   pub few : length script.lines ≤ 256
   pub each : AllByRecursion IsCommand script.lines

@@ -8,6 +8,7 @@ use Rattle.norm_session.specs.declared.script.Line.{Line}
 use Rattle.norm_session.specs.SenderState.{SenderState, enqueued, sender_datagram, sender_after}
 use Rattle.norm_session.specs.ReceiverState.{ReceiverState}
 use Rattle.norm_session.specs.Printed.{lines_of}
+use Rattle.norm_session.specs.Honesty.{HonestFor}
 use Rattle.norm_session.specs.RunState.{RunState, with_events, with_sender, with_receiver}
 use Rattle.norm_session.specs.Turn.{Answer, IsTaking, most_takes, entry_of, pull_events, offer_events, take_event, delivered_all, receiver_events, receiver_done, network_after}
 
@@ -52,4 +53,5 @@ pub record TakesTurn (t : ℕ) (command : Option Line) (old new : RunState) (bef
       (with_receiver (with_sender old (sender_after_turn old.profile old.sender t command)) (receiver_after_turn old.profile old.receiver answers))
       (turn_events old.profile old.sender old.receiver t command answers)
   pub told : after ≡ network_after before (turn_events old.profile old.sender old.receiver t command answers)
+  pub honest : HonestFor before (turn_events old.profile old.sender old.receiver t command answers)
   pub lines : written ≡ gained unwritten (lines_of old.profile.instance (turn_events old.profile old.sender old.receiver t command answers))

@@ -1,7 +1,6 @@
 //! What every run of the defined protocol keeps (RFC 5740 section 5).
 
 ghost use Rattle.std.specs.Prelude.{List, [], Bool};
-ghost use Rattle.norm_base.specs.Settings.{InRange};
 ghost use Rattle.norm_session.specs.declared.event.Event.{Event as Happening};
 ghost use Rattle.norm_session.specs.Commands.{Commands};
 ghost use Rattle.norm_session.specs.SessionRun.{IsScript, SessionRun};
@@ -12,6 +11,6 @@ ghost use Rattle.norm_session.specs.Safe.{IsHonest, Safe};
 /// first on, once each, under their places in the order; and the receiver hands up that order from index 0
 /// on, without a gap, octet for octet.
 pub fn safe_run()
-    ensures { (script : Commands) (journal : List Happening) (whole : Bool) → InRange script.profile → IsScript script
+    ensures { (script : Commands) (journal : List Happening) (whole : Bool) → IsScript script
         → SessionRun script journal whole → IsHonest [] journal → Safe script journal }
 {}

@@ -6,6 +6,7 @@ ghost use Rattle.norm_base.specs.Network.{Starts, with_offer, with_answer, answe
 ghost use Rattle.norm_session.specs.Printed.{line_of, lines_of};
 ghost use Rattle.norm_session.specs.Turn.{octets_of, entry_of, job_of, pull_events, offer_events, most_takes, delivered, take_event, network_after};
 ghost use Rattle.norm_session.specs.SenderState.{enqueued, sender_datagram, sender_after};
+ghost use Rattle.norm_session.specs.Honesty.{HonestFor};
 ghost use Rattle.norm_session.specs.Taking.{Takes};
 ghost use Rattle.norm_session.specs.Causes.{NeedsMemory, WriteCause, NetworkCause, HasCause};
 ghost use Rattle.norm_session.specs.Commands.{IsCommand};
@@ -313,6 +314,7 @@ impl Run {
         ensures taken { IfOk result (λ to. let answer = answer_of to datagram.new in
             (self.new ≡ with_events (with_receiver self.old (delivered self.old.profile self.old.receiver answer)) (take_event answer ∷ []))
             × (F.told fabric.new ≡ with_answer (F.told fabric.old) answer)) }
+        ensures honest { IfOk result (λ to. HonestFor (F.told fabric.old) (take_event (answer_of to datagram.new) ∷ [])) }
         ensures cause { NetworkCause result (F.fault_count fabric.old) (F.fault_count fabric.new) }
     {
         match fabric.take(datagram) {

@@ -1,4 +1,5 @@
-use Rattle.std.specs.Prelude.{◌≡◌, ℕ, List, [], ◌∷◌, ◌++◌, Bool, true, false, codes, nat_eq, Option, IfSome, Ok, Err}
+use Rattle.std.specs.Prelude.{◌≡◌, ℕ, List, [], ◌∷◌, ◌++◌, Bool, true, false, codes, nat_eq, Option, IfSome, IsTrue, Ok, Err}
+use Rattle.norm_session.specs.Safe.{Safe}
 use Rattle.std.specs.Fmt.{decimal}
 use Rattle.std.specs.Cmp.Lexicographic.{pointwise}
 use Rattle.norm_base.specs.Faults.{Rose}
@@ -53,6 +54,8 @@ pub record RanSession (before after : Outside) (whole : Bool) (last : List ℕ) 
   pub read : script_of text ≡ Ok script
   pub run : SessionRun script journal whole
   pub network : HasSession script journal before.network after.network
+  -- over an honest network the run is safe
+  pub safe : IsTrue after.network.honest → IfSome after.network.offered (λ _. Safe script journal)
   pub output : after.written ≡ gained before.written (printed script.profile.instance journal ++ last)
   pub undisturbed : Undisturbed before after
   pub writes : after.write_faults ≡ before.write_faults

@@ -3,6 +3,7 @@
 ghost use Rattle.std.specs.Prelude.{◌≡◌, ◌≤◌, ◌<◌, ◌∷◌, length, MatchResult, Ok, IfOk, OnOk, IfSome, MatchOption, Some, is_some, unwrap_or};
 ghost use Rattle.normd.specs.Meaning.{least_of, most_of};
 ghost use Rattle.normd.specs.Reading.{nothing_read, set_key, take_in, take_line, profile_of, e_of, commands_of, script_of};
+ghost use Rattle.norm_base.specs.Settings.{InRange};
 ghost use Rattle.normd.specs.Refusal.{IsRefusal};
 ghost use Rattle.normd.specs.Words.{text_lines};
 ghost use Rattle.norm_session.specs.SessionRun.{IsScript};
@@ -20,7 +21,8 @@ use thiserror::Error;
 fn profile_of(given: &Given) -> Profile
     requires e { IfSome given.now.e (λ e. (64 ≤ e) × (e ≤ 1400)) }
     requires b { IfSome given.now.b (λ b. (1 ≤ b) × (b ≤ 200)) }
-    ensures { result ≡ profile_of given.now }
+    ensures value { result ≡ profile_of given.now }
+    ensures range { InRange result }
 {
     let mut profile = Profile::default();
     let b = given.b.unwrap_or(profile.b);
@@ -177,6 +179,7 @@ impl Reader {
     /// The script that was read.
     fn into_script(self) -> Script
         ensures value { result ≡ commands_of self }
+        ensures range { InRange result.profile }
         ensures runnable { IsScript result }
     {
         Script {
@@ -201,6 +204,7 @@ fn first_line(text: &[u8]) -> (&[u8], &[u8])
 /// Reads a script: its profile and its commands. A line without meaning refuses it, the first one counts.
 pub fn read_script(alloc: Global, text: &[u8]) -> Result<Script, ScriptFault>
     ensures read { MatchResult result (λ script. script_of text.now ≡ Ok script) (IsRefusal (script_of text.now)) }
+    ensures range { IfOk result (λ script. InRange script.profile) }
     ensures runnable { IfOk result IsScript }
 {
     let mut reader = Reader::new(alloc);

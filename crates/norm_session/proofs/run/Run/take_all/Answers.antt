@@ -7,20 +7,22 @@ pub returns-in-None-clause-takes : goal.returns-in-None-clause-takes
 returns-in-None-clause-takes g c =
     let told = g.F.Fabric.told in
     let took = rw c.in-None.is at c.in_ok-take.ensures.taken in
+    let honest = rw c.in-None.is at c.in_ok-take.ensures.honest in
     let t = c.loop-taken._taken in
     let left : most_takes - t ≡ suc (most_takes - (t + 1)) = omega arith in
     c.loop-taken.invariant.0 c.take.new.self (told c.take.new.fabric)
-    (takes-none_of (most_takes - t) (most_takes - (t + 1)) c.loop-taken.self c.take.new.self (told c.loop-taken.fabric) (told c.take.new.fabric) left took.0 took.1)
+    (takes-none_of (most_takes - t) (most_takes - (t + 1)) c.loop-taken.self c.take.new.self (told c.loop-taken.fabric) (told c.take.new.fabric) left took.0 took.1 honest)
 
 pub loop-taken-preserved : goal.loop-taken-preserved
 loop-taken-preserved g c = (
   λ new after rest.
       let told = g.F.Fabric.told in
       let took = rw c.in-Some.is at c.in_ok-take.ensures.taken in
+      let honest = rw c.in-Some.is at c.in_ok-take.ensures.honest in
       let t = c.loop-taken._taken in
       let left : most_takes - t ≡ suc (most_takes - (t + 1)) = omega arith in
       c.loop-taken.invariant.0 new after
       (takes-some_of (most_takes - t) (most_takes - (t + 1)) (c.in-Some.field-0, c.take.new.datagram) c.loop-taken.self c.take.new.self new
-      (told c.loop-taken.fabric) (told c.take.new.fabric) after left took.0 took.1 rest),
+      (told c.loop-taken.fabric) (told c.take.new.fabric) after left took.0 took.1 honest rest),
   c.in_ok-take.ensures.cause ∙ c.loop-taken.invariant.1,
 )
