@@ -1,11 +1,10 @@
-use Rattle.std.proofs.Common.{◌≡◌, ◌+◌, ◌∙◌, sym, ap, ℕ, List, [], ◌∷◌, ◌++◌, Option, Some, None, refl, map, append_assoc, subst}
-use Rattle.std.specs.Prelude.{IfSome, IsTrue}
+use Rattle.std.proofs.Common.{◌+◌, sym, ℕ, List, [], ◌∷◌, ◌++◌, Option, Some, None, append_assoc, subst}
+use Rattle.std.specs.Prelude.{IfSome}
 use Rattle.std.specs.List.{flat_map}
 use Rattle.std.proofs.lemmas.List.{append-nil}
 use Rattle.norm_base.specs.Settings.{Settings}
 use Rattle.norm_base.specs.Told.{gained}
 use Rattle.norm_base.specs.Network.{Network, with_answer}
-use Rattle.norm_base.specs.declared.kinds.Sent.TheVariants as sent
 use Rattle.norm_session.specs.Honesty.{HonestFor}
 use Rattle.norm_session.specs.Safe.{IsHonest}
 use Rattle.norm_session.specs.SenderState.{SenderState}
@@ -20,7 +19,7 @@ honest-join : (offers : List (ℕ × List ℕ)) (xs ys : List Event) → IsHones
 honest-join offers [] ys first then = subst (λ (o : List (ℕ × List ℕ)). IsHonest o ys) (append-nil offers) then
 honest-join offers (Offer node datagram ∷ xs) ys first then =
     honest-join (offers ++ (node, datagram) ∷ []) xs ys first
-      (subst (λ (o : List (ℕ × List ℕ)). IsHonest o ys) (sym (append_assoc offers ((node, datagram) ∷ []) (flat_map offer_of xs))) then)
+    (subst (λ (o : List (ℕ × List ℕ)). IsHonest o ys) (sym (append_assoc offers ((node, datagram) ∷ []) (flat_map offer_of xs))) then)
 honest-join offers (Took node datagram ∷ xs) ys first then = (first.0, honest-join offers xs ys first.1 then)
 honest-join offers (Start ∷ xs) ys first then = honest-join offers xs ys first then
 honest-join offers (Turn t now ∷ xs) ys first then = honest-join offers xs ys first then

@@ -73,7 +73,7 @@ session_of script r0 r1 journal whole n0 n1 n2 w0 w1 w2 runs starts begun turns 
       network = rw journal_is (has_session script events n0 n1 n2 starts turns.told);
       honest = rw journal_is (honest_session script events n0 n1 n2 starts turns.told turns.honest);
       safe = rw journal_is (λ is. safe_told script turns.takes events whole n2.offered runs (rw begun at turns.turns)
-        (honest_session script events n0 n1 n2 starts turns.told turns.honest is));
+          (honest_session script events n0 n1 n2 starts turns.told turns.honest is));
       output = last
           ∙ ap (λ e. gained w1 (end_line e)) (sym is)
           ∙ ap (λ t. gained t (end_line journal)) (turns.lines ∙ ap (λ (r : RunState). gained w0 (lines_of r.profile.instance events)) begun)

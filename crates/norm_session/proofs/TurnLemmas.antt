@@ -102,8 +102,8 @@ honest_parts : (n m : Network) (p o a u x : List Event) → m ≡ network_after 
     → ((k : Network) → HonestFor k u) → ((k : Network) → HonestFor k x) → HonestFor n (p ++ (o ++ (a ++ (u ++ x))))
 honest_parts n m p o a u x is silent hp ho ha hu hx =
     honest-append n p (o ++ (a ++ (u ++ x))) hp (subst (λ (k : Network). HonestFor k (o ++ (a ++ (u ++ x)))) (sym (network_after-silent n p silent))
-      (honest-append n o (a ++ (u ++ x)) ho (subst (λ (k : Network). HonestFor k (a ++ (u ++ x))) is
-        (honest-append m a (u ++ x) ha (honest-append (network_after m a) u x (hu (network_after m a)) (hx (network_after (network_after m a) u)))))))
+    (honest-append n o (a ++ (u ++ x)) ho (subst (λ (k : Network). HonestFor k (a ++ (u ++ x))) is
+    (honest-append m a (u ++ x) ha (honest-append (network_after m a) u x (hu (network_after m a)) (hx (network_after (network_after m a) u)))))))
 
 -- the parts of a turn make it
 pub whole_turn : (t : ℕ) (command : Option Line) (answers : List Answer) (r0 r1 r2 r3 r4 r5 r6 : RunState) (n0 n1 n2 : Network) (w0 w1 w2 : Option (List ℕ))

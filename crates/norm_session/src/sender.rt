@@ -124,7 +124,10 @@ impl Sender {
         })) }
         ensures receipt { IfOk result (λ r. r ≡ Receipt.Object (length self.old.order) (length bytes)) }
         ensures step { (p : Settings) → OnOk result (SenderStep p self.old (Given (record {
-            producer = by.producer; number = by.number; octets = bytes })) self.new (Accepted (length self.old.order))) }
+          producer = by.producer;
+          number = by.number;
+          octets = bytes;
+        })) self.new (Accepted (length self.old.order))) }
         ensures err { OnErr result (self.new ≡ self.old) }
     {
         let index = self.order.len() as u32;

@@ -3,7 +3,6 @@
 ghost use Rattle.std.specs.Prelude.{◌≡◌, codes, map, string_bytes, [], Ok, IfOk, IfErr, OnOk};
 ghost use Rattle.norm_base.specs.Told.{GainsFront};
 ghost use Rattle.normd.specs.Ends.{is_session, usage_line, refused_line, outside, IsInput, IsReadEnding, IsTextEnding, IsLastEnding, EndsSession, EndsWith};
-ghost use Rattle.norm_base.specs.Settings.{InRange};
 ghost use Rattle.normd.specs.Reading.{script_of};
 ghost use Rattle.norm_session.specs.SessionRun.{IsScript};
 
@@ -69,7 +68,7 @@ fn read_input<S: Source, K: Sink>(
 
 /// Reads the script that the text is.
 fn read_text<K: Sink>(alloc: Global, text: &[u8], output: &mut K) -> Result<Script, Ending>
-    ensures script { IfOk result (λ script. (script_of text.now ≡ Ok script) × InRange script.profile × IsScript script) }
+    ensures script { IfOk result (λ script. (script_of text.now ≡ Ok script) × IsScript script) }
     ensures unwritten { OnOk result (K.written output.new ≡ K.written output.old) }
     ensures quiet { OnOk result (K.fault_count output.new ≡ K.fault_count output.old) }
     ensures ending { IfErr result (λ ending. IsTextEnding ending text.now (K.written output.old) (K.written output.new)) }

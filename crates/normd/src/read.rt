@@ -179,7 +179,6 @@ impl Reader {
     /// The script that was read.
     fn into_script(self) -> Script
         ensures value { result ≡ commands_of self }
-        ensures range { InRange result.profile }
         ensures runnable { IsScript result }
     {
         Script {
@@ -204,7 +203,6 @@ fn first_line(text: &[u8]) -> (&[u8], &[u8])
 /// Reads a script: its profile and its commands. A line without meaning refuses it, the first one counts.
 pub fn read_script(alloc: Global, text: &[u8]) -> Result<Script, ScriptFault>
     ensures read { MatchResult result (λ script. script_of text.now ≡ Ok script) (IsRefusal (script_of text.now)) }
-    ensures range { IfOk result (λ script. InRange script.profile) }
     ensures runnable { IfOk result IsScript }
 {
     let mut reader = Reader::new(alloc);
