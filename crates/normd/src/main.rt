@@ -1,6 +1,8 @@
 //! normd: a reliable multicast sender and receiver after NORM (RFC 5740).
 #![tactic(auto)]
 
+#[cfg(test)]
+mod disturbed;
 mod given;
 mod input;
 mod meaning;

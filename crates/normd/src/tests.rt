@@ -1,5 +1,6 @@
 //! The program over objects in memory.
 
+use crate::disturbed::DisturbedFabric;
 use crate::program::norm_main;
 use norm_base::{ListFabric, MemClock, MemFiles, MemSink, MemSource};
 use std::alloc::{AllocError, Global};
@@ -226,6 +227,72 @@ fn a_failing_call_of_the_network_leaves_the_lines_so_far(rt: HostRuntime) -> Res
     }
     for (number, end) in [(1u64, 19usize), (2, 19), (3, 59), (4, 59)] {
         leaves(&rt, alloc, Fails::Take(number), end, b"fault fabric\n", 6)?;
+    }
+    Ok(())
+}
+
+/// The output of a script of one object, of which the receiver handed up all or nothing.
+const LESS: &[u8] =
+    b"enq 1 1 7 0 data 5\nend objects 1 octets 5 handed 0 lost 0 satisfied 0 expired 0 cut 0\n";
+
+/// The lines of two commands of which the second's object came first.
+const LATE: &[u8] =
+    b"enq 1 1 1 0 data 1\nenq 1 2 1 1 data 1\nup 2 1 0 data 1 - 61\nup 2 1 1 data 1 - 62\nend objects 2 octets 2 handed 2 lost 0 satisfied 0 expired 0 cut 0\n";
+
+/// The output of a script over a network that gives datagrams in this order, with one octet turned.
+fn disturbed<R: Threads + Wait + Sync + Abort>(
+    rt: &R,
+    alloc: Global,
+    input: &[u8],
+    order: &[usize],
+    turned: Option<usize>,
+) -> Result<MemSink, Fail> {
+    let words = session(alloc)?;
+    let mut input = MemSource::of(Vec::from_slice(alloc, input)?, Vec::new(alloc));
+    let mut output = MemSink::of(Vec::new(alloc), Vec::new(alloc));
+    let mut fabric = DisturbedFabric::of(alloc, Vec::from_slice(alloc, order)?, turned);
+    let mut files = MemFiles::of(Vec::new(alloc), Vec::new(alloc));
+    let mut clock = MemClock::of(Vec::new(alloc));
+    let status = norm_main(
+        rt,
+        alloc,
+        &words,
+        &mut input,
+        &mut output,
+        &mut fabric,
+        &mut files,
+        &mut clock,
+    );
+    assert_eq!(rt; status.code(), 0);
+    Ok(output)
+}
+
+#[test]
+fn what_comes_twice_or_late_is_handed_up_once_in_order(rt: HostRuntime) -> Result<(), Fail> {
+    let alloc = rt.alloc();
+    let input = b"1 data 61\n1 data 62\n";
+    let output = disturbed(&rt, alloc, input, &[0, 0, 1, 0, 1], None)?;
+    assert_eq!(rt; output.bytes(), TWO);
+    let output = disturbed(&rt, alloc, input, &[1, 1, 0, 0], None)?;
+    assert_eq!(rt; output.bytes(), LATE);
+    Ok(())
+}
+
+#[test]
+fn an_octet_changed_in_a_header_changes_no_octet_of_an_object(rt: HostRuntime) -> Result<(), Fail> {
+    let alloc = rt.alloc();
+    let input = b"set instance 7\nset e 64\nset b 4\n1 data 68656c6c6f\n";
+    for place in 0..32usize {
+        let output = disturbed(&rt, alloc, input, &[0], Some(place))?;
+        assert!(rt;
+            output.bytes() == HELLO || output.bytes() == LESS,
+            "other lines"
+        );
+    }
+    // nothing is decided by the sequence number, and an object of another id is another object
+    for (place, want) in [(2usize, HELLO), (3, HELLO), (9, LESS), (15, LESS)] {
+        let output = disturbed(&rt, alloc, input, &[0], Some(place))?;
+        assert_eq!(rt; output.bytes(), want);
     }
     Ok(())
 }
