@@ -1,10 +1,12 @@
-use Rattle.std.proofs.Common.{◌≡◌, List, length, Option, Result, Ok, Err}
-use Rattle.std.proofs.Math.Seq.{take-length}
-use Rattle.std.specs.Prelude.{OnOk, OnErr}
+use Rattle.std.proofs.Common.{◌≡◌, ℕ, List, Option, Result, Ok, Err, inl, inr}
+use Rattle.std.specs.Prelude.{OnOk, OnErr, is_err}
+use Rattle.norm_base.specs.Faults.{Counts}
 use Rattle.norm_base.specs.Told.{gained, GainsFront}
+use Rattle.normd.specs.Ends.{Says}
 
--- whether a write failed or not, a front of the piece was written
-pub wrote_front : {X T E : Type 0} → (result : Result T E) (old new : Option (List X)) (piece : List X)
-    → OnOk result (new ≡ gained old piece) → OnErr result (GainsFront old new piece) → GainsFront old new piece
-wrote_front (Ok t) old new piece ok err = (length piece, rw (take-length piece) ok)
-wrote_front (Err e) old new piece ok err = err
+-- whether a write failed or not, it says its line
+pub says : {T E : Type 0} → (result : Result T E) (old new : Option (List ℕ)) (before now : ℕ) (line : List ℕ)
+    → OnOk result (new ≡ gained old line) → OnErr result (GainsFront old new line)
+    → Counts before now (is_err result) → Says old new before now line
+says (Ok t) old new before now line ok err counts = inl (ok, counts.cause)
+says (Err e) old new before now line ok err counts = inr (err, counts.cause)

@@ -1,4 +1,4 @@
-use Rattle.std.specs.Prelude.{◌≡◌, ℕ, List, [], ◌∷◌, ◌++◌, Bool, true, false, codes, nat_eq, Option, IfSome, IsTrue, Ok, Err}
+use Rattle.std.specs.Prelude.{◌≡◌, ℕ, List, [], ◌∷◌, ◌++◌, ◌⊎◌, Bool, true, false, codes, nat_eq, Option, IfSome, IsTrue, Ok, Err}
 use Rattle.norm_session.specs.Safe.{Safe}
 use Rattle.std.specs.Fmt.{decimal}
 use Rattle.std.specs.Cmp.Lexicographic.{pointwise}
@@ -25,6 +25,11 @@ usage_line = codes "usage: normd session | show | generate N | send PROFILE | re
 
 unfoldable pub refused_line : ℕ → List ℕ
 refused_line n = codes "refused line " ++ (decimal n ++ codes "\n")
+
+-- The whole line was written; or the write failed, which the count of the output's faults shows, and left a front of it.
+abbrev pub Says : (unwritten written : Option (List ℕ)) (before now : ℕ) → List ℕ → Type 0
+Says unwritten written before now line =
+    ((written ≡ gained unwritten line) × (now ≡ before)) ⊎ (GainsFront unwritten written line × Rose before now)
 
 -- what a call found and left: its words; the input's octets, the network and the output; and how often each had failed
 pub record Outside : Type 0 where
@@ -66,7 +71,7 @@ pub record RefusedLine (before after : Outside) (n : ℕ) : Type 0 where
   pub input : IsInput text before.input
   pub read : script_of text ≡ Err n
   pub network : after.network ≡ before.network
-  pub output : GainsFront before.written after.written (refused_line n)
+  pub output : Says before.written after.written before.write_faults after.write_faults (refused_line n)
   pub undisturbed : Undisturbed before after
 
 -- A failed read: the count of the input's faults rose.
@@ -74,13 +79,13 @@ pub record FailedRead (before after : Outside) : Type 0 where
   pub cause : Rose before.read_faults after.read_faults
   pub network : after.network ≡ before.network
   pub calls : after.network_faults ≡ before.network_faults
-  pub output : GainsFront before.written after.written (codes "fault read\n")
+  pub output : Says before.written after.written before.write_faults after.write_faults (codes "fault read\n")
 
 -- The words are no command.
 pub record RefusedWords (before after : Outside) : Type 0 where
   pub input : after.input ≡ before.input
   pub network : after.network ≡ before.network
-  pub output : GainsFront before.written after.written usage_line
+  pub output : Says before.written after.written before.write_faults after.write_faults usage_line
   pub undisturbed : Undisturbed before after
 
 -- what each ending of a session says
@@ -117,15 +122,15 @@ pub record EndsWith (status : ℕ) (before after : Outside) : Type 0 where
   pub holds : Ends ending before after
 
 -- the parts of a session that end it early
-abbrev pub IsReadEnding : Ending → ℕ → ℕ → Option (List ℕ) → Option (List ℕ) → Type 0
-IsReadEnding Memory before after unwritten written = Unit {0}
-IsReadEnding Read before after unwritten written = Rose before after × GainsFront unwritten written (codes "fault read\n")
-IsReadEnding _ before after unwritten written = ⊥
+abbrev pub IsReadEnding : Ending → ℕ → ℕ → Option (List ℕ) → Option (List ℕ) → ℕ → ℕ → Type 0
+IsReadEnding Memory before after unwritten written old new = Unit {0}
+IsReadEnding Read before after unwritten written old new = Rose before after × Says unwritten written old new (codes "fault read\n")
+IsReadEnding _ before after unwritten written old new = ⊥
 
-abbrev pub IsTextEnding : Ending → List ℕ → Option (List ℕ) → Option (List ℕ) → Type 0
-IsTextEnding Memory text unwritten written = Unit {0}
-IsTextEnding (Refused n) text unwritten written = (script_of text ≡ Err n) × GainsFront unwritten written (refused_line n)
-IsTextEnding _ text unwritten written = ⊥
+abbrev pub IsTextEnding : Ending → List ℕ → Option (List ℕ) → Option (List ℕ) → ℕ → ℕ → Type 0
+IsTextEnding Memory text unwritten written old new = Unit {0}
+IsTextEnding (Refused n) text unwritten written old new = (script_of text ≡ Err n) × Says unwritten written old new (refused_line n)
+IsTextEnding _ text unwritten written old new = ⊥
 
 abbrev pub IsLastEnding : Ending → Bool → Option (List ℕ) → Option (List ℕ) → ℕ → ℕ → Type 0
 IsLastEnding Done whole unwritten written before after = (whole ≡ true) × (written ≡ unwritten) × (after ≡ before)

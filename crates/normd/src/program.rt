@@ -1,8 +1,7 @@
 //! The program: its words, its input and its output.
 
 ghost use Rattle.std.specs.Prelude.{◌≡◌, codes, map, string_bytes, [], Ok, IfOk, IfErr, OnOk};
-ghost use Rattle.norm_base.specs.Told.{GainsFront};
-ghost use Rattle.normd.specs.Ends.{is_session, usage_line, refused_line, outside, IsInput, IsReadEnding, IsTextEnding, IsLastEnding, EndsSession, EndsWith};
+ghost use Rattle.normd.specs.Ends.{is_session, usage_line, refused_line, outside, Says, IsInput, IsReadEnding, IsTextEnding, IsLastEnding, EndsSession, EndsWith};
 ghost use Rattle.normd.specs.Reading.{script_of};
 ghost use Rattle.norm_session.specs.SessionRun.{IsScript};
 
@@ -29,9 +28,9 @@ fn is_session(words: &[String]) -> bool
     }
 }
 
-/// Writes a last line. A failed write leaves a front of it, and decides nothing.
+/// Writes a last line. A failed write leaves a front of it and raises the count, and decides nothing.
 fn say<K: Sink>(output: &mut K, line: &[u8])
-    ensures { GainsFront (K.written output.old) (K.written output.new) line.now }
+    ensures { Says (K.written output.old) (K.written output.new) (K.fault_count output.old) (K.fault_count output.new) line.now }
 {
     let _ = output.write(line);
 }
@@ -54,7 +53,7 @@ fn read_input<S: Source, K: Sink>(
     ensures unwritten { OnOk result (K.written output.new ≡ K.written output.old) }
     ensures quiet { OnOk result ((S.fault_count input.new ≡ S.fault_count input.old) × (K.fault_count output.new ≡ K.fault_count output.old)) }
     ensures ending { IfErr result (λ ending. IsReadEnding ending (S.fault_count input.old) (S.fault_count input.new)
-        (K.written output.old) (K.written output.new)) }
+        (K.written output.old) (K.written output.new) (K.fault_count output.old) (K.fault_count output.new)) }
 {
     match read_all(alloc, input) {
         Ok(text) => Ok(text),
@@ -71,7 +70,8 @@ fn read_text<K: Sink>(alloc: Global, text: &[u8], output: &mut K) -> Result<Scri
     ensures script { IfOk result (λ script. (script_of text.now ≡ Ok script) × IsScript script) }
     ensures unwritten { OnOk result (K.written output.new ≡ K.written output.old) }
     ensures quiet { OnOk result (K.fault_count output.new ≡ K.fault_count output.old) }
-    ensures ending { IfErr result (λ ending. IsTextEnding ending text.now (K.written output.old) (K.written output.new)) }
+    ensures ending { IfErr result (λ ending. IsTextEnding ending text.now (K.written output.old) (K.written output.new)
+        (K.fault_count output.old) (K.fault_count output.new)) }
 {
     match read_script(alloc, text) {
         Ok(script) => Ok(script),
