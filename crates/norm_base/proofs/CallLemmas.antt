@@ -1,4 +1,4 @@
-use Rattle.std.proofs.Common.{◌≡◌, ◌<◌, ◌+◌, min, ℕ, true, inl, inr, arith}
+use Rattle.std.proofs.Common.{◌<◌, ℕ, true, inl, inr, arith}
 use Rattle.std.proofs.lemmas.Bool.{cases_lt}
 use Rattle.norm_base.specs.Calls.{one_more}
 use Rattle.norm_base.specs.Faults.{Counts, Rose}
@@ -9,11 +9,3 @@ rose_one_more n h = elim (cases_lt n 18446744073709551615) [ inl lt ↦ inl (ome
 
 pub counts_one_more : (n : ℕ) → n < 18446744073709551616 → Counts n (one_more n) true
 counts_one_more n h = record { later = omega arith; cause = rose_one_more n h }
-
--- a part of a capped sum goes up by one
-pub counts_in_sum : (a b c d : ℕ) → a < 18446744073709551616 → b < 18446744073709551616 → c ≡ min (a + b) 18446744073709551615
-    → d ≡ min (one_more a + b) 18446744073709551615 → Counts c d true
-counts_in_sum a b c d ha hb hc hd = elim (cases_lt (a + b) 18446744073709551615) [
-  | inl lt ↦ record { later = omega arith; cause = inl (omega arith) }
-  | inr ge ↦ record { later = omega arith; cause = inr (omega arith) }
-]

@@ -19,8 +19,11 @@ pub struct StdSource<R> {
 }
 
 impl<R: Read> StdSource<R> {
-    /// A source that reads from there.
-    pub fn of(reader: R) -> StdSource<R> {
+    /// A source that reads from there. It gave nothing yet, and has not failed.
+    pub fn of(reader: R) -> StdSource<R>
+        ensures given { ⟦<StdSource<R> as Source>⟧.given result ≡ 0 }
+        ensures faults { ⟦<StdSource<R> as Source>⟧.fault_count result ≡ 0 }
+    {
         StdSource {
             reader,
             given: 0,
@@ -61,8 +64,10 @@ pub struct StdSink<W> {
 }
 
 impl<W: Write> StdSink<W> {
-    /// A sink that writes there.
-    pub fn of(writer: W) -> StdSink<W> {
+    /// A sink that writes there. It has not failed.
+    pub fn of(writer: W) -> StdSink<W>
+        ensures { ⟦<StdSink<W> as Sink>⟧.fault_count result ≡ 0 }
+    {
         StdSink { writer, faults: 0 }
     }
 }
