@@ -21,7 +21,7 @@ ups_of-none (suc most) r none = rw none refl
 pub hands-zero : (left : ℕ) (r : RunState) (written : Option (List ℕ)) → left ≡ 0 → HandsUp left r r written written
 hands-zero left r written is = rw is (record { state = sym (with_events-nil r); written = sym (gained-nil written) })
 
-some_told : {X : Type 0} → (o : Option X) → is_some o ≡ true → (x : X) × (o ≡ Some x)
+pub some_told : {X : Type 0} → (o : Option X) → is_some o ≡ true → (x : X) × (o ≡ Some x)
 some_told None h = absurd (cc)
 some_told (Some x) h = (x, refl)
 

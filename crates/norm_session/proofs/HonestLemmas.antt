@@ -68,7 +68,7 @@ ups_are : (offers : List (ℕ × List ℕ)) (p : Settings) (index : ℕ) (ups : 
 ups_are offers p index [] = tt
 ups_are offers p index (octets ∷ ups) = ups_are offers p (index + 1) ups
 
-all_told : (told : Option (List (ℕ × List ℕ))) (events : List Event) → ((offers : List (ℕ × List ℕ)) → IsHonest offers events) → IfSome told (λ offers. IsHonest offers events)
+pub all_told : (told : Option (List (ℕ × List ℕ))) (events : List Event) → ((offers : List (ℕ × List ℕ)) → IsHonest offers events) → IfSome told (λ offers. IsHonest offers events)
 all_told None events h = tt
 all_told (Some offers) events h = h offers
 

@@ -8,4 +8,9 @@ pub mod ObjectLemmas
 pub mod SafeLemmas
 pub mod HandLemmas
 pub mod SafeRun
+pub mod SafeFronts
 pub mod HonestLemmas
+pub mod StopLemmas
+pub mod StopTurnLemmas
+pub mod StopRunLemmas
+pub mod StopSessionLemmas

@@ -44,7 +44,7 @@ going-start commands r n w = record {
 }
 
 -- what a turn adds to a run so far
-turn_told : (b m a : Network) (xs ys : List Event) → m ≡ network_after b xs → a ≡ network_after m ys → a ≡ network_after b (xs ++ ys)
+pub turn_told : (b m a : Network) (xs ys : List Event) → m ≡ network_after b xs → a ≡ network_after m ys → a ≡ network_after b (xs ++ ys)
 turn_told b m a xs ys first then = then ∙ ap (λ n. network_after n ys) first ∙ network_after-append b xs ys
 
 turn_lines : (i j : ℕ) (u w a : Option (List ℕ)) (xs ys : List Event) → j ≡ i → w ≡ gained u (lines_of i xs) → a ≡ gained w (lines_of j ys) → a ≡ gained u (lines_of i (xs ++ ys))
@@ -55,7 +55,7 @@ turn_lines i j u w a xs ys same first then =
 turn_journal : (e s m xs ys : List Event) → m ≡ s ++ xs → e ≡ m ++ ys → e ≡ s ++ (xs ++ ys)
 turn_journal e s m xs ys first then = then ∙ ap (λ front. front ++ ys) first ∙ append_assoc s xs ys
 
-turn_honest : (b m : Network) (xs ys : List Event) → m ≡ network_after b xs → HonestFor b xs → HonestFor m ys → HonestFor b (xs ++ ys)
+pub turn_honest : (b m : Network) (xs ys : List Event) → m ≡ network_after b xs → HonestFor b xs → HonestFor m ys → HonestFor b (xs ++ ys)
 turn_honest b m xs ys is first then = honest-append b xs ys first (subst (λ (k : Network). HonestFor k ys) is then)
 
 -- a turn after which the run goes on
@@ -130,7 +130,7 @@ pub turn_room : (commands : List Line) (t : ℕ) (now next : RunState) (n1 n2 : 
     → length next.sender.order + length (rest_of commands) ≤ length now.sender.order + length commands
 turn_room commands t now next n1 n2 w1 w2 turn = rw turn.state (order_after now.profile now.sender t commands)
 
-differs_of : (a b : ℕ) → (a ≡ b → ⊥) → eqb a b ≡ false
+pub differs_of : (a b : ℕ) → (a ≡ b → ⊥) → eqb a b ≡ false
 differs_of a b ne = elim (eqb_tells a b) [ inl same ↦ absurd (ne same.1) | inr other ↦ other.0 ]
 
 -- the three ways on after a turn, by the tests that the loop makes

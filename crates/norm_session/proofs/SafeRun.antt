@@ -1,5 +1,5 @@
 use Rattle.std.proofs.Common.{◌≡◌, ◌+◌, ◌<◌, ◌≤◌, ◌∙◌, sym, ap, ℕ, List, [], ◌∷◌, ◌++◌, length, Option, Some, None, Ok, refl, Bool, true, false, cond, arith, map, append_assoc, subst, length-append, zero-add, ltb}
-use Rattle.std.specs.Prelude.{slice_get, MatchBool, ◌||◌, ◌==◌}
+use Rattle.std.specs.Prelude.{slice_get}
 use Rattle.std.specs.List.{AllByRecursion, flat_map}
 use Rattle.std.specs.Option.{option_map}
 use Rattle.std.proofs.lemmas.List.{append-nil, length-map}
@@ -8,11 +8,10 @@ use Rattle.std.proofs.lemmas.Option.{slice_get_within}
 use Rattle.norm_base.specs.Settings.{Settings, InRange}
 use Rattle.norm_base.specs.declared.kinds.Sent.TheVariants as sent
 use Rattle.norm_objmsg.specs.DataText.{data_octets}
-use Rattle.norm_session.specs.Commands.{Commands}
 use Rattle.norm_session.specs.ReceiverState.{ReceiverState, receiver_opening}
-use Rattle.norm_session.specs.Safe.{accepted_in, handed_in, numbered, IsHonest, octets_in, Safe}
+use Rattle.norm_session.specs.Safe.{accepted_in, handed_in, numbered, IsHonest, octets_in}
 use Rattle.norm_session.specs.SenderState.{Entry, SenderState, sender_opening, symbol_of, sender_datagram, sender_after}
-use Rattle.norm_session.specs.SessionRun.{Turns, first_of, rest_of, is_whole}
+use Rattle.norm_session.specs.SessionRun.{first_of, rest_of}
 use Rattle.norm_session.specs.Turn.{Answer, take_event, delivered_all, receiver_node, ups_of, taken_ups, up_events, offer_events, entry_of, octets_of, job_of, origin_of, pull_events}
 use Rattle.norm_session.specs.WholeTurn.{pulled, pull_part, moment_of, turn_events, sender_after_turn, receiver_after_turn}
 use Rattle.norm_session.specs.declared.event.Event.{Event}
@@ -34,7 +33,7 @@ pub record Kept (p : Settings) (all : List Entry) (s : SenderState) (r : Receive
   pub hands : Handed s.order r handed
 
 -- the object that a command's events accept
-accepted-pull : (s : SenderState) (command : Line) → flat_map accepted_in (pull_events s command) ≡ (length s.order, entry_of command) ∷ []
+pub accepted-pull : (s : SenderState) (command : Line) → flat_map accepted_in (pull_events s command) ≡ (length s.order, entry_of command) ∷ []
 accepted-pull s command =
     elim command.verb as (λ v. accepted_in (event.Job (origin_of command) (Some (job_of v)) (Ok (receipt.Object (length s.order) (length (octets_of v))))) ++ []
     ≡ (length s.order, record { producer = command.producer; number = command.number; octets = octets_of v }) ∷ []) [ verb.Data info bytes ↦ refl ]
@@ -52,7 +51,7 @@ front-grows order y handed front =
     )
 
 -- a command is pulled
-kept-pull : (p : Settings) (all : List Entry) (s : SenderState) (r : ReceiverState) (left : List Line) (offers : List (ℕ × List ℕ)) (accepted : List (ℕ × Entry)) (handed : List (ℕ × List ℕ))
+pub kept-pull : (p : Settings) (all : List Entry) (s : SenderState) (r : ReceiverState) (left : List Line) (offers : List (ℕ × List ℕ)) (accepted : List (ℕ × Entry)) (handed : List (ℕ × List ℕ))
     → Kept p all s r left offers accepted handed
     → Kept p all (pulled s (first_of left)) r (rest_of left) offers (accepted ++ flat_map accepted_in (pull_part s (first_of left))) handed
 kept-pull p all s r [] offers accepted handed k = rw (append-nil accepted) k
@@ -86,7 +85,7 @@ abbrev pub offered_by : ℕ → Option (List ℕ) → List (ℕ × List ℕ)
 offered_by node None = []
 offered_by node (Some datagram) = (node, datagram) ∷ []
 
-kept-sent : (p : Settings) (all : List Entry) (s : SenderState) (r : ReceiverState) (left : List Line) (offers : List (ℕ × List ℕ)) (accepted : List (ℕ × Entry)) (handed : List (ℕ × List ℕ))
+pub kept-sent : (p : Settings) (all : List Entry) (s : SenderState) (r : ReceiverState) (left : List Line) (offers : List (ℕ × List ℕ)) (accepted : List (ℕ × Entry)) (handed : List (ℕ × List ℕ))
     (now : ℕ) (d : Option (List ℕ)) → sender_datagram p s now ≡ d → Kept p all s r left offers accepted handed
     → Kept p all (sender_after p s now d) r left (offers ++ offered_by p.sender d) accepted handed
 kept-sent p all s r left offers accepted handed now None is k = rw (append-nil offers) k
@@ -115,12 +114,12 @@ kept-sent p all s r left offers accepted handed now (Some datagram) is k =
       hands = k.hands;
     }
 
-honest-offer : (offers : List (ℕ × List ℕ)) (node : ℕ) (d : Option (List ℕ)) (rest : List Event) → IsHonest offers (offer_events node d ++ rest)
+pub honest-offer : (offers : List (ℕ × List ℕ)) (node : ℕ) (d : Option (List ℕ)) (rest : List Event) → IsHonest offers (offer_events node d ++ rest)
     → IsHonest (offers ++ offered_by node d) rest
 honest-offer offers node None rest honest = rw (append-nil offers) honest
 honest-offer offers node (Some datagram) rest honest = honest
 
-honest-pull : (offers : List (ℕ × List ℕ)) (s : SenderState) (command : Option Line) (rest : List Event) → IsHonest offers (pull_part s command ++ rest) → IsHonest offers rest
+pub honest-pull : (offers : List (ℕ × List ℕ)) (s : SenderState) (command : Option Line) (rest : List Event) → IsHonest offers (pull_part s command ++ rest) → IsHonest offers rest
 honest-pull offers s None rest honest = honest
 honest-pull offers s (Some command) rest honest = honest
 
@@ -129,28 +128,28 @@ honest-ups offers p index [] rest honest = honest
 honest-ups offers p index (octets ∷ ups) rest honest = honest-ups offers p (index + 1) ups rest honest
 
 -- nothing else accepts or hands up
-accepted-offer : (node : ℕ) (d : Option (List ℕ)) → flat_map accepted_in (offer_events node d) ≡ []
+pub accepted-offer : (node : ℕ) (d : Option (List ℕ)) → flat_map accepted_in (offer_events node d) ≡ []
 accepted-offer node None = refl
 accepted-offer node (Some datagram) = refl
 
-accepted-takes : (answers : List Answer) → flat_map accepted_in (map take_event answers) ≡ []
+pub accepted-takes : (answers : List Answer) → flat_map accepted_in (map take_event answers) ≡ []
 accepted-takes [] = refl
 accepted-takes (None ∷ answers) = accepted-takes answers
 accepted-takes (Some taken ∷ answers) = accepted-takes answers
 
-accepted-ups : (p : Settings) (index : ℕ) (ups : List (List ℕ)) → flat_map accepted_in (up_events p index ups) ≡ []
+pub accepted-ups : (p : Settings) (index : ℕ) (ups : List (List ℕ)) → flat_map accepted_in (up_events p index ups) ≡ []
 accepted-ups p index [] = refl
 accepted-ups p index (octets ∷ ups) = accepted-ups p (index + 1) ups
 
-handed-pull : (s : SenderState) (command : Option Line) → flat_map handed_in (pull_part s command) ≡ []
+pub handed-pull : (s : SenderState) (command : Option Line) → flat_map handed_in (pull_part s command) ≡ []
 handed-pull s None = refl
 handed-pull s (Some command) = refl
 
-handed-offer : (node : ℕ) (d : Option (List ℕ)) → flat_map handed_in (offer_events node d) ≡ []
+pub handed-offer : (node : ℕ) (d : Option (List ℕ)) → flat_map handed_in (offer_events node d) ≡ []
 handed-offer node None = refl
 handed-offer node (Some datagram) = refl
 
-handed-takes : (answers : List Answer) → flat_map handed_in (map take_event answers) ≡ []
+pub handed-takes : (answers : List Answer) → flat_map handed_in (map take_event answers) ≡ []
 handed-takes [] = refl
 handed-takes (None ∷ answers) = handed-takes answers
 handed-takes (Some taken ∷ answers) = handed-takes answers
@@ -176,7 +175,7 @@ five_parts a b c d e rest =
     ∙ ap (λ t. c ++ t) (append_assoc d e rest)))
 
 -- a turn keeps it
-kept-turn : (p : Settings) (all : List Entry) (s : SenderState) (r : ReceiverState) (left : List Line) (offers : List (ℕ × List ℕ)) (accepted : List (ℕ × Entry)) (handed : List (ℕ × List ℕ))
+pub kept-turn : (p : Settings) (all : List Entry) (s : SenderState) (r : ReceiverState) (left : List Line) (offers : List (ℕ × List ℕ)) (accepted : List (ℕ × Entry)) (handed : List (ℕ × List ℕ))
     (t : ℕ) (answers : List Answer) (rest : List Event) → InRange p → Kept p all s r left offers accepted handed
     → IsHonest offers (turn_events p s r t (first_of left) answers ++ rest)
     → (now_offers : List (ℕ × List ℕ)) × (Kept p all (sender_after_turn p s t (first_of left)) (receiver_after_turn p r answers) (rest_of left) now_offers
@@ -234,7 +233,7 @@ pub record Final (all : List Entry) (accepted : List (ℕ × Entry)) (handed : L
   pub accepted_is : accepted ≡ numbered 0 order
   pub handed_is : IsFrontOf order handed
 
-final_of : (p : Settings) (all : List Entry) (s : SenderState) (r : ReceiverState) (left : List Line) (offers : List (ℕ × List ℕ)) (accepted : List (ℕ × Entry)) (handed : List (ℕ × List ℕ))
+pub final_of : (p : Settings) (all : List Entry) (s : SenderState) (r : ReceiverState) (left : List Line) (offers : List (ℕ × List ℕ)) (accepted : List (ℕ × Entry)) (handed : List (ℕ × List ℕ))
     → Kept p all s r left offers accepted handed → Final all accepted handed
 final_of p all s r left offers accepted handed k = record {
   order = s.order;
@@ -249,7 +248,7 @@ regroup f so_far events first more is =
     append_assoc so_far (flat_map f first) (flat_map f more)
     ∙ ap (λ rest. so_far ++ rest) (sym (flat_map-append f first more) ∙ ap (flat_map f) (sym is))
 
-final_after : (all : List Entry) (accepted : List (ℕ × Entry)) (handed : List (ℕ × List ℕ)) (events first more : List Event) → events ≡ first ++ more
+pub final_after : (all : List Entry) (accepted : List (ℕ × Entry)) (handed : List (ℕ × List ℕ)) (events first more : List Event) → events ≡ first ++ more
     → Final all ((accepted ++ flat_map accepted_in first) ++ flat_map accepted_in more) ((handed ++ flat_map handed_in first) ++ flat_map handed_in more)
     → Final all (accepted ++ flat_map accepted_in events) (handed ++ flat_map handed_in events)
 final_after all accepted handed events first more is f =
@@ -257,46 +256,13 @@ final_after all accepted handed events first more is f =
     let Q : List (ℕ × List ℕ) → Type 0 = λ h. Final all (accepted ++ flat_map accepted_in events) h in
     subst Q (regroup handed_in handed events first more is) (subst P (regroup accepted_in accepted events first more is) f)
 
--- all turns of a run
-safe_turns : (p : Settings) (all : List Entry) → InRange p → (takes : List (List Answer)) (s : SenderState) (r : ReceiverState) (t : ℕ) (left : List Line)
-    (offers : List (ℕ × List ℕ)) (accepted : List (ℕ × Entry)) (handed : List (ℕ × List ℕ)) (events : List Event) (whole : Bool)
-    → Kept p all s r left offers accepted handed → Turns p s r t left takes events whole → IsHonest offers events
-    → Final all (accepted ++ flat_map accepted_in events) (handed ++ flat_map handed_in events)
-safe_turns p all range [] s r t left offers accepted handed events whole k turns honest = absurd turns
-safe_turns p all range (answers ∷ takes) s r t left offers accepted handed events whole k turns honest =
-    let first = turn_events p s r t (first_of left) answers in
-    let more = turns.1.0 in
-    let is : events ≡ first ++ more = turns.1.1 in
-    let step = kept-turn p all s r left offers accepted handed t answers more range k (subst (IsHonest offers) is honest) in
-    let s' = sender_after_turn p s t (first_of left) in
-    let r' = receiver_after_turn p r answers in
-    final_after all accepted handed events first more is (
-    elim (is_whole s' (rest_of left) || t == p.turns) as (λ b. MatchBool b ((takes ≡ []) × (more ≡ []) × (whole ≡ is_whole s' (rest_of left))) (Turns p s' r' (t + 1) (rest_of left) takes more whole)
-    → Final all ((accepted ++ flat_map accepted_in first) ++ flat_map accepted_in more) ((handed ++ flat_map handed_in first) ++ flat_map handed_in more)) [
-      | true ↦ λ ends.
-          let F : List Event → Type 0 = λ m. Final all ((accepted ++ flat_map accepted_in first) ++ flat_map accepted_in m) ((handed ++ flat_map handed_in first) ++ flat_map handed_in m) in
-          subst F (sym ends.1) (rw (append-nil (accepted ++ flat_map accepted_in first), append-nil (handed ++ flat_map handed_in first))
-          (final_of p all s' r' (rest_of left) step.0 (accepted ++ flat_map accepted_in first) (handed ++ flat_map handed_in first) step.1.0))
-      | false ↦ λ goes_on. safe_turns p all range takes s' r' (t + 1) (rest_of left) step.0 (accepted ++ flat_map accepted_in first) (handed ++ flat_map handed_in first) more whole step.1.0 goes_on step.1.1
-    ] turns.1.2)
-
--- a run over an honest network is safe
-pub safe_of : (script : Commands) (takes : List (List Answer)) (events : List Event) (whole : Bool) → InRange script.profile → length script.lines ≤ 256
-    → Turns script.profile sender_opening receiver_opening 1 script.lines takes events whole → IsHonest [] (Start ∷ events) → Safe script (Start ∷ events)
-safe_of script takes events whole range few turns honest =
-    let all = map entry_of script.lines in
-    let kept : Kept script.profile all sender_opening receiver_opening script.lines [] [] [] = record {
-      order = refl;
-      few = rw (length-map script.lines entry_of) few;
-      wide = omega arith;
-      accepted_is = refl;
-      offers_are = tt;
-      hands = record { held = tt; point = refl; front = ([], refl) };
-    } in
-    let final = safe_turns script.profile all range takes sender_opening receiver_opening 1 script.lines [] [] [] events whole kept turns honest in
-    record {
-      order = final.order;
-      commands = final.front;
-      accepted = final.accepted_is;
-      handed = final.handed_is;
-    }
+-- how a run opens
+pub kept_opening : (p : Settings) (lines : List Line) → length lines ≤ 256 → Kept p (map entry_of lines) sender_opening receiver_opening lines [] [] []
+kept_opening p lines few = record {
+  order = refl;
+  few = rw (length-map lines entry_of) few;
+  wide = omega arith;
+  accepted_is = refl;
+  offers_are = tt;
+  hands = record { held = tt; point = refl; front = ([], refl) };
+}

@@ -2,23 +2,22 @@ use Rattle.std.proofs.Common.{◌≡◌, ◌∙◌, sym, ap, ℕ, List, [], ◌�
 use Rattle.std.specs.Prelude.{IfSome, IsTrue}
 use Rattle.norm_session.specs.Honesty.{HonestFor}
 use Rattle.norm_session.specs.Safe.{IsHonest, Safe}
-use Rattle.norm_session.proofs.SafeRun.{safe_of}
+use Rattle.norm_session.proofs.SafeFronts.{safe_beginning, begun_whole}
 use Rattle.std.specs.List.{flat_map}
 use Rattle.norm_base.specs.Network.{Network, Starts}
 use Rattle.norm_base.specs.Told.{gained}
 use Rattle.norm_base.specs.declared.kinds.Local.TheVariants.{All}
 use Rattle.norm_session.specs.declared.event.Event.{Event}
 use Rattle.norm_session.specs.declared.event.Event.TheVariants.{Start}
+use Rattle.norm_session.specs.Begun.{Begun}
 use Rattle.norm_session.specs.Commands.{Commands}
 use Rattle.norm_session.specs.Printed.{lines_of}
 use Rattle.norm_session.specs.Totals.{end_line}
 use Rattle.norm_session.specs.Running.{TakesTurns}
 use Rattle.norm_session.specs.RunState.{RunState, opening}
 use Rattle.norm_session.specs.Session.{HasSession, RunsSession}
-use Rattle.norm_session.specs.ReceiverState.{receiver_opening}
-use Rattle.norm_session.specs.SenderState.{sender_opening}
-use Rattle.norm_session.specs.SessionRun.{IsScript, Turns}
-use Rattle.norm_session.specs.Turn.{Answer, offer_of, answer_in, network_after}
+use Rattle.norm_session.specs.SessionRun.{IsScript, SessionRun}
+use Rattle.norm_session.specs.Turn.{offer_of, answer_in, network_after}
 use Rattle.norm_session.proofs.ToldLemmas.{gained-gained}
 
 -- what a list that began anew has gained is all that it has
@@ -41,16 +40,17 @@ honest_told None events more begun honest = tt
 honest_told (Some offers) events more begun honest = let P : List (ℕ × List ℕ) → Type 0 = λ o. IsHonest o events in subst P begun honest
 
 -- over an honest network the journal is honest
-honest_session : (script : Commands) (events : List Event) (before begun after : Network) → Starts before begun script.profile All → after ≡ network_after begun events
+pub honest_session : (script : Commands) (events : List Event) (before begun after : Network) → Starts before begun script.profile All → after ≡ network_after begun events
     → HonestFor begun events → IsTrue after.honest → IfSome after.offered (λ _. IsHonest [] (Start ∷ events))
 honest_session script events before begun after starts told honest =
     let P : Network → Type 0 = λ (n : Network). IsTrue n.honest → IfSome n.offered (λ _. IsHonest [] (Start ∷ events)) in
     subst P (sym told) (λ is. honest_told begun.offered events events starts.offered (honest is))
 
-safe_told : (script : Commands) (takes : List (List Answer)) (events : List Event) (whole : Bool) (offered : Option (List (ℕ × List ℕ))) → IsScript script
-    → Turns script.profile sender_opening receiver_opening 1 script.lines takes events whole → IfSome offered (λ _. IsHonest [] (Start ∷ events)) → IfSome offered (λ _. Safe script (Start ∷ events))
-safe_told script takes events whole None runs turns honest = tt
-safe_told script takes events whole (Some offered) runs turns honest = safe_of script takes events whole runs.range runs.few turns honest
+-- and so the run is safe, also where it only begins
+pub safe_told : (script : Commands) (journal : List Event) (offered : Option (List (ℕ × List ℕ))) → IsScript script → Begun script journal
+    → IfSome offered (λ _. IsHonest [] journal) → IfSome offered (λ _. Safe script journal)
+safe_told script journal None runs begun honest = tt
+safe_told script journal (Some offered) runs begun honest = safe_beginning script journal runs begun honest
 
 -- the parts of a session make it
 pub session_of : (script : Commands) (r0 r1 : RunState) (journal : List Event) (whole : Bool) (n0 n1 n2 : Network) (w0 w1 w2 : Option (List ℕ))
@@ -63,17 +63,18 @@ pub session_of : (script : Commands) (r0 r1 : RunState) (journal : List Event) (
 session_of script r0 r1 journal whole n0 n1 n2 w0 w1 w2 runs starts begun turns last is =
     let events = turns.events in
     let journal_is : journal ≡ Start ∷ events = is ∙ turns.journal ∙ ap (λ (r : RunState). r.events ++ events) begun in
+    let run : SessionRun script journal whole = record {
+      takes = turns.takes;
+      events = events;
+      begins = journal_is;
+      turns = rw begun at turns.turns;
+    } in
+    let honest : IsTrue n2.honest → IfSome n2.offered (λ _. IsHonest [] journal) = rw journal_is (honest_session script events n0 n1 n2 starts turns.told turns.honest) in
     record {
-      run = record {
-        takes = turns.takes;
-        events = events;
-        begins = journal_is;
-        turns = rw begun at turns.turns;
-      };
+      run = run;
       network = rw journal_is (has_session script events n0 n1 n2 starts turns.told);
-      honest = rw journal_is (honest_session script events n0 n1 n2 starts turns.told turns.honest);
-      safe = rw journal_is (λ is. safe_told script turns.takes events whole n2.offered runs (rw begun at turns.turns)
-          (honest_session script events n0 n1 n2 starts turns.told turns.honest is));
+      honest = honest;
+      safe = λ is. safe_told script journal n2.offered runs (begun_whole script journal whole run) (honest is);
       output = last
           ∙ ap (λ e. gained w1 (end_line e)) (sym is)
           ∙ ap (λ t. gained t (end_line journal)) (turns.lines ∙ ap (λ (r : RunState). gained w0 (lines_of r.profile.instance events)) begun)

@@ -8,7 +8,7 @@ pub record Commands : Type 0 where
   pub profile : Settings
   pub lines : List Line
 
--- a command's object has octets, and fits a symbol
+-- a command's object has octets, and at most those of the longest symbol
 pub record IsCommand (line : Line) : Type 0 where
   pub some : 1 ≤ length (octets_of line.verb)
   pub most : length (octets_of line.verb) ≤ 1400

@@ -9,6 +9,8 @@ pub mod Taking
 pub mod HandingUp
 pub mod WholeTurn
 pub mod SessionRun
+pub mod Begun
+pub mod Stopping
 pub mod Running
 pub mod Session
 pub mod Causes
@@ -16,3 +18,4 @@ pub mod Safe
 pub mod SenderStep
 pub mod ReceiverStep
 pub mod Honesty
+pub mod BreakingOff

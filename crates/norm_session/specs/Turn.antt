@@ -23,11 +23,6 @@ use Rattle.norm_session.specs.ReceiverState.{ReceiverState, receiver_got, receiv
 abbrev pub Answer : Type 0
 Answer = Option (ℕ × List ℕ)
 
--- the two nodes
-pub record Nodes : Type 0 where
-  pub sender : SenderState
-  pub receiver : ReceiverState
-
 -- a session has one receiver, whose id follows the sender's
 abbrev pub receiver_node : Settings → ℕ
 receiver_node p = p.sender + 1

@@ -1,13 +1,14 @@
 //! A run of a session, a part of a turn at a time.
 
-ghost use Rattle.std.specs.Prelude.{◌≡◌, ◌+◌, ◌*◌, ◌<◌, ◌≤◌, ◌∷◌, [], ◌++◌, length, map, OnOk, IfOk, IfSome, List, Some, option_copied};
+ghost use Rattle.std.specs.Prelude.{◌≡◌, ◌+◌, ◌*◌, ◌<◌, ◌≤◌, ◌∷◌, [], ◌++◌, ◌⊎◌, length, map, OnOk, OnErr, IfOk, IfErr, IfSome, List, Some, option_copied};
 ghost use Rattle.norm_base.specs.Told.{gained};
 ghost use Rattle.norm_base.specs.Network.{Starts, with_offer, with_answer, answer_of};
 ghost use Rattle.norm_session.specs.Printed.{line_of, lines_of};
-ghost use Rattle.norm_session.specs.Turn.{octets_of, entry_of, job_of, pull_events, offer_events, most_takes, delivered, take_event, network_after};
+ghost use Rattle.norm_session.specs.Turn.{octets_of, entry_of, job_of, pull_events, offer_events, most_takes, delivered, take_event, network_after, up_events, ups_of, receiver_events};
 ghost use Rattle.norm_session.specs.SenderState.{enqueued, sender_datagram, sender_after};
 ghost use Rattle.norm_session.specs.Honesty.{HonestFor};
 ghost use Rattle.norm_session.specs.Taking.{Takes};
+ghost use Rattle.norm_session.specs.Stopping.{Leaves, StopsWriting, StopsTake, StopsTaking, Stops, BeginsTurn, BeginsTurns};
 ghost use Rattle.norm_session.specs.Causes.{NeedsMemory, WriteCause, NetworkCause, HasCause};
 ghost use Rattle.norm_session.specs.Commands.{IsCommand};
 ghost use Rattle.norm_session.specs.WholeTurn.{moment_of, pulled, pull_part, TakesTurn};
@@ -17,6 +18,8 @@ ghost use Rattle.norm_session.specs.Totals.{end_line};
 ghost use Rattle.norm_session.specs.Running.{TakesTurns};
 ghost use Rattle.norm_session.specs.HandingUp.{EndsTurn, HandsUp, HandsUpNext};
 ghost use Rattle.norm_session.specs.RunState.{opening, with_events, with_sender, with_receiver};
+ghost use Rattle.norm_session.specs.ReceiverState.{next_up};
+ghost use Rattle.std.specs.Option.{option_to_list};
 
 use crate::event::{Event, Journal};
 use crate::job::{Job, Up};
@@ -146,6 +149,7 @@ impl Run {
     ) -> Result<Run, SessionFault>
         ensures state { IfOk result (λ run. run ≡ opening profile.now) }
         ensures told { OnOk result (Starts (F.told fabric.old) (F.told fabric.new) profile.now Local.All) }
+        ensures stops { OnErr result ((F.told fabric.new ≡ F.told fabric.old) ⊎ Starts (F.told fabric.old) (F.told fabric.new) profile.now Local.All) }
         ensures cause { NetworkCause result (F.fault_count fabric.old) (F.fault_count fabric.new) }
     {
         match fabric.start(profile, Local::All) {
@@ -178,6 +182,7 @@ impl Run {
     /// The summary is written.
     pub(crate) fn summarize<K: Sink>(&self, output: &mut K) -> Result<(), SessionFault>
         ensures written { OnOk result (K.written output.new ≡ gained (K.written output.old) (end_line self.now.events)) }
+        ensures stops { IfErr result (λ fault. Leaves fault (K.written output.old) (K.written output.new) (end_line self.now.events)) }
         ensures cause { WriteCause result (K.fault_count output.old) (K.fault_count output.new) }
     {
         let Ok(line) = end_line(self.alloc, &self.events) else {
@@ -205,6 +210,8 @@ impl Run {
         ensures ok { OnOk result (self.new ≡ with_events self.old (event ∷ [])) }
         ensures written { OnOk result (K.written output.new
             ≡ gained (K.written output.old) (line_of self.old.profile.instance event)) }
+        ensures stops { IfErr result (λ fault. Leaves fault (K.written output.old) (K.written output.new)
+            (line_of self.old.profile.instance event)) }
         ensures cause { WriteCause result (K.fault_count output.old) (K.fault_count output.new) }
     {
         let Ok(line) = line_of(self.alloc, instance_of(&self.profile), &event) else {
@@ -228,6 +235,8 @@ impl Run {
             (pull_events self.old.sender line.now)) }
         ensures written { OnOk result (K.written output.new ≡ gained (K.written output.old)
             (lines_of self.old.profile.instance (pull_events self.old.sender line.now))) }
+        ensures stops { IfErr result (λ fault. StopsWriting fault self.old.profile.instance (pull_events self.old.sender line.now)
+            (K.written output.old) (K.written output.new)) }
         ensures cause { WriteCause result (K.fault_count output.old) (K.fault_count output.new) }
     {
         let by = Origin {
@@ -258,6 +267,7 @@ impl Run {
             (offer_events self.old.profile.sender datagram)) }
         ensures told { OnOk result (F.told fabric.new ≡ network_after (F.told fabric.old)
             (offer_events self.old.profile.sender (sender_datagram self.old.profile self.old.sender now))) }
+        ensures stops { OnErr result (F.told fabric.new ≡ F.told fabric.old) }
         ensures cause { NetworkCause result (F.fault_count fabric.old) (F.fault_count fabric.new) }
     {
         let node = sender_node(&self.profile);
@@ -279,6 +289,7 @@ impl Run {
         requires { length datagram.now ≤ 1500 }
         ensures state { OnOk result (self.new ≡ with_events self.old (Event.Offer from datagram.now ∷ [])) }
         ensures told { OnOk result (F.told fabric.new ≡ with_offer (F.told fabric.old) from datagram.now) }
+        ensures stops { OnErr result (F.told fabric.new ≡ F.told fabric.old) }
         ensures cause { NetworkCause result (F.fault_count fabric.old) (F.fault_count fabric.new) }
     {
         let bytes = copy_of(self.alloc, datagram)?;
@@ -315,6 +326,7 @@ impl Run {
             (self.new ≡ with_events (with_receiver self.old (delivered self.old.profile self.old.receiver answer)) (take_event answer ∷ []))
             × (F.told fabric.new ≡ with_answer (F.told fabric.old) answer)) }
         ensures honest { IfOk result (λ to. HonestFor (F.told fabric.old) (take_event (answer_of to datagram.new) ∷ [])) }
+        ensures stops { OnErr result (StopsTake (F.told fabric.old) (F.told fabric.new)) }
         ensures cause { NetworkCause result (F.fault_count fabric.old) (F.fault_count fabric.new) }
     {
         match fabric.take(datagram) {
@@ -340,6 +352,7 @@ impl Run {
         datagram: &mut Datagram,
     ) -> Result<(), SessionFault>
         ensures takes { OnOk result (Takes most_takes self.old self.new (F.told fabric.old) (F.told fabric.new)) }
+        ensures stops { OnErr result (StopsTaking most_takes (F.told fabric.old) (F.told fabric.new)) }
         ensures cause { NetworkCause result (F.fault_count fabric.old) (F.fault_count fabric.new) }
     {
         for _taken in 0..MOST_TAKES {
@@ -354,6 +367,9 @@ impl Run {
     /// The object at the hand-up point is handed up with its line, if it is held. Whether it was.
     fn up_one<K: Sink>(&mut self, output: &mut K) -> Result<bool, SessionFault>
         ensures next { IfOk result (HandsUpNext self.old self.new (K.written output.old) (K.written output.new)) }
+        ensures stops { IfErr result (λ fault. let receiver = self.old.receiver in StopsWriting fault self.old.profile.instance
+            (up_events self.old.profile receiver.point (option_to_list (next_up receiver.held receiver.point)))
+            (K.written output.old) (K.written output.new)) }
         ensures cause { WriteCause result (K.fault_count output.old) (K.fault_count output.new) }
     {
         let Some((index, bytes)) = self.receiver.take_up() else {
@@ -381,6 +397,9 @@ impl Run {
     /// All that the receiver can hand up is handed up, each with its line.
     fn hand_up<K: Sink>(&mut self, output: &mut K) -> Result<(), SessionFault>
         ensures ups { OnOk result (HandsUp (length self.old.receiver.held) self.old self.new (K.written output.old) (K.written output.new)) }
+        ensures stops { IfErr result (λ fault. let receiver = self.old.receiver in StopsWriting fault self.old.profile.instance
+            (up_events self.old.profile receiver.point (ups_of (length receiver.held) receiver))
+            (K.written output.old) (K.written output.new)) }
         ensures cause { WriteCause result (K.fault_count output.old) (K.fault_count output.new) }
     {
         for _up in 0..self.held() {
@@ -416,6 +435,8 @@ impl Run {
             (pull_part self.old.sender (option_copied command.entry))) }
         ensures written { OnOk result (K.written output.new ≡ gained (K.written output.old)
             (lines_of self.old.profile.instance (pull_part self.old.sender (option_copied command.entry)))) }
+        ensures stops { IfErr result (λ fault. StopsWriting fault self.old.profile.instance
+            (pull_part self.old.sender (option_copied command.entry)) (K.written output.old) (K.written output.new)) }
         ensures cause { WriteCause result (K.fault_count output.old) (K.fault_count output.new) }
     {
         match command {
@@ -427,6 +448,8 @@ impl Run {
     /// The receiver hands up what it can, and ticks.
     fn end<K: Sink>(&mut self, output: &mut K) -> Result<(), SessionFault>
         ensures turn { OnOk result (EndsTurn self.old self.new (K.written output.old) (K.written output.new)) }
+        ensures stops { IfErr result (λ fault. StopsWriting fault self.old.profile.instance
+            (receiver_events self.old.profile self.old.receiver) (K.written output.old) (K.written output.new)) }
         ensures cause { WriteCause result (K.fault_count output.old) (K.fault_count output.new) }
     {
         self.hand_up(output)?;
@@ -448,6 +471,9 @@ impl Run {
         requires command { IfSome command (λ line. IsCommand line.now) }
         requires room { length self.old.sender.order < 65536 }
         ensures turn { OnOk result (TakesTurn t (option_copied command.entry) self.old self.new
+            (F.told fabric.old) (F.told fabric.new) (K.written output.old) (K.written output.new)) }
+        ensures stops { IfErr result (λ fault. Stops fault self.old.profile.instance
+            (BeginsTurn self.old.profile self.old.sender self.old.receiver t (option_copied command.entry))
             (F.told fabric.old) (F.told fabric.new) (K.written output.old) (K.written output.new)) }
         ensures cause { HasCause result (K.fault_count output.old) (K.fault_count output.new) (F.fault_count fabric.old) (F.fault_count fabric.new) }
     {
@@ -487,6 +513,9 @@ impl Run {
         requires each { AllByRecursion IsCommand commands.now }
         requires few { length self.old.sender.order + length commands.now < 65536 }
         ensures turns { IfOk result (TakesTurns commands.now self.old self.new
+            (F.told fabric.old) (F.told fabric.new) (K.written output.old) (K.written output.new)) }
+        ensures stops { IfErr result (λ fault. Stops fault self.old.profile.instance
+            (BeginsTurns self.old.profile self.old.sender self.old.receiver 1 commands.now)
             (F.told fabric.old) (F.told fabric.new) (K.written output.old) (K.written output.new)) }
         ensures cause { HasCause result (K.fault_count output.old) (K.fault_count output.new) (F.fault_count fabric.old) (F.fault_count fabric.new) }
     {

@@ -1,6 +1,7 @@
 //! A whole session (RFC 5740 section 5).
 
-ghost use Rattle.std.specs.Prelude.{IfOk};
+ghost use Rattle.std.specs.Prelude.{◌≡◌, IfOk, IfErr};
+ghost use Rattle.norm_session.specs.BreakingOff.{BreaksOff};
 ghost use Rattle.norm_session.specs.Causes.{HasCause};
 ghost use Rattle.norm_session.specs.SessionRun.{IsScript};
 ghost use Rattle.norm_session.specs.Session.{RunsSession};
@@ -28,12 +29,16 @@ pub fn run_session<R: Threads + Wait + Sync, K: Sink, F: Fabric, D: Files, C: Cl
     script: &Script,
     output: &mut K,
     fabric: &mut F,
-    _files: &mut D,
-    _clock: &mut C,
+    files: &mut D,
+    clock: &mut C,
 ) -> Result<Ended, SessionFault>
     requires { IsScript script.now }
     ensures run { IfOk result (λ ended. RunsSession script.now ended.journal ended.whole
         (F.told fabric.old) (F.told fabric.new) (K.written output.old) (K.written output.new)) }
+    ensures stops { IfErr result (λ fault. BreaksOff fault script.now
+        (F.told fabric.old) (F.told fabric.new) (K.written output.old) (K.written output.new)) }
+    ensures files { D.contents files.new ≡ D.contents files.old }
+    ensures clock { C.moments clock.new ≡ C.moments clock.old }
     ensures cause { HasCause result (K.fault_count output.old) (K.fault_count output.new) (F.fault_count fabric.old) (F.fault_count fabric.new) }
 {
     let Ok(mut datagram) = Datagram::new(alloc) else {

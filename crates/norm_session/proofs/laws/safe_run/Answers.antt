@@ -1,11 +1,8 @@
-use Rattle.std.proofs.Common.{subst, sym, List, []}
-use Rattle.norm_session.specs.Safe.{IsHonest, Safe}
-use Rattle.norm_session.specs.declared.event.Event.{Event}
-use Rattle.norm_session.proofs.SafeRun.{safe_of}
+use Rattle.norm_session.proofs.SafeFronts.{safe_beginning, begun_whole}
 use Rattle.norm_session.proofs.laws.safe_run.Goals as goal
 
-pub returns : goal.returns
-returns c = λ script journal whole runs run honest.
-    let P : List Event → Type 0 = Safe script in
-    let H : List Event → Type 0 = IsHonest [] in
-    subst P (sym run.begins) (safe_of script run.takes run.events whole runs.range runs.few run.turns (subst H run.begins honest))
+pub returns-clause-whole : goal.returns-clause-whole
+returns-clause-whole c = λ script journal whole runs run honest. safe_beginning script journal runs (begun_whole script journal whole run) honest
+
+pub returns-clause-beginning : goal.returns-clause-beginning
+returns-clause-beginning c = safe_beginning

@@ -2,6 +2,8 @@ use Rattle.std.proofs.Common.{◌∙◌, arith, sym, ap, refl}
 use Rattle.norm_session.specs.RunState.{RunState}
 use Rattle.norm_session.specs.Commands.{IsCommand}
 use Rattle.norm_session.proofs.RunLemmas.{going-start, goes_on_after, ends_whole, ends_spent, rest_are, turn_room}
+use Rattle.std.proofs.lemmas.Result.{err_from_is_err_and}
+use Rattle.norm_session.proofs.StopRunLemmas.{turns-stop}
 use Rattle.norm_session.proofs.run.Run.turns.Goals as goal
 
 pub loop-left-init : goal.loop-left-init
@@ -63,3 +65,17 @@ loop-left-preserved g c =
       c.in_ok-turn.ensures.cause.0 ∙ i.6,
       c.in_ok-turn.ensures.cause.1 ∙ i.7,
     )
+
+-- what was done where a turn was stopped
+pub returns-in_err-turn-clause-stops : goal.returns-in_err-turn-clause-stops
+returns-in_err-turn-clause-stops g c =
+    let told = g.F.Fabric.told in
+    let written = g.K.Sink.written in
+    let i = c.loop-left.invariant in
+    let stops = rw c.next_command.ensures.first at c.in_err-turn.ensures.stops in
+    let fault = c.in_err-turn.field-0.0 in
+    let exit = err_from_is_err_and c.from_residual.result c.from_residual.ensures.1 in
+    rw (exit.1, exit.2) (turns-stop fault c.args.commands.now c.loop-left.left.now c.loop-left.t c.last_turn-last.result c.args.self.now c.loop-left.self
+    (told c.args.fabric.now) (told c.loop-left.fabric) (told c.turn.new.fabric)
+    (written c.args.output.now) (written c.loop-left.output) (written c.turn.new.output)
+    i.0 i.3 i.4 stops)
