@@ -8,7 +8,10 @@ use Rattle.norm_base.specs.Told.{gained, GainsFront}
 use Rattle.norm_session.specs.Commands.{Commands}
 use Rattle.norm_session.specs.Session.{HasSession, printed}
 use Rattle.norm_session.specs.SessionRun.{SessionRun}
+use Rattle.norm_session.specs.BreakingOff.{BreaksOff}
 use Rattle.norm_session.specs.declared.event.Event.{Event}
+use Rattle.norm_session.specs.declared.run.SessionFault.{SessionFault}
+use Rattle.norm_session.specs.declared.run.SessionFault.TheVariants.{Write as Writing, Fabric as Calling, Memory as Wanting}
 use Rattle.normd.specs.Reading.{script_of}
 use Rattle.normd.specs.StatusOf.{status_of}
 use Rattle.normd.specs.declared.status.Ending.{Ending}
@@ -31,9 +34,8 @@ abbrev pub Says : (unwritten written : Option (List ℕ)) (before now : ℕ) →
 Says unwritten written before now line =
     ((written ≡ gained unwritten line) × (now ≡ before)) ⊎ (GainsFront unwritten written line × Rose before now)
 
--- what a call found and left: its words; the input's octets, the network and the output; and how often each had failed
+-- what a call found or left: the input's octets, the network and the output; and how often each had failed
 pub record Outside : Type 0 where
-  pub words : List (List ℕ)
   pub input : Option (List ℕ)
   pub network : Network
   pub written : Option (List ℕ)
@@ -46,29 +48,58 @@ pub record Undisturbed (before after : Outside) : Type 0 where
   pub reads : after.read_faults ≡ before.read_faults
   pub calls : after.network_faults ≡ before.network_faults
 
--- the text is all of the input's octets, where the input tells them
-abbrev pub IsInput : List ℕ → Option (List ℕ) → Type 0
-IsInput text input = IfSome input (λ octets. octets ≡ text)
+-- where the input tells its octets, they were this text, and none are left
+pub record IsInput (text : List ℕ) (before after : Option (List ℕ)) : Type 0 where
+  pub octets : IfSome before (λ octets. octets ≡ text)
+  pub end : IfSome after (λ rest. rest ≡ [])
 
--- A session was run to its end: the input is a script, and what was done is a run of it.
-pub record RanSession (before after : Outside) (whole : Bool) (last : List ℕ) : Type 0 where
+-- A session was run to its end: the input is a script, what was done is a run of it, and that journal and its summary
+-- had then been written.
+pub record RanSession (before after : Outside) (whole : Bool) (written : Option (List ℕ)) : Type 0 where
   pub text : List ℕ
   pub script : Commands
   pub journal : List Event
-  pub input : IsInput text before.input
+  pub input : IsInput text before.input after.input
   pub read : script_of text ≡ Ok script
   pub run : SessionRun script journal whole
   pub network : HasSession script journal before.network after.network
   -- over an honest network the run is safe
   pub safe : IsTrue after.network.honest → IfSome after.network.offered (λ _. Safe script journal)
-  pub output : after.written ≡ gained before.written (printed script.profile.instance journal ++ last)
+  pub output : written ≡ gained before.written (printed script.profile.instance journal)
+
+-- A fault broke a session off: the input is a script, what was done is the beginning of a run of it, and that had then
+-- been written.
+pub record BrokeSession (fault : SessionFault) (before after : Outside) (written : Option (List ℕ)) : Type 0 where
+  pub text : List ℕ
+  pub script : Commands
+  pub input : IsInput text before.input after.input
+  pub read : script_of text ≡ Ok script
+  pub session : BreaksOff fault script before.network after.network before.written written
+
+-- All was done.
+pub record DidAll (before after : Outside) : Type 0 where
+  pub session : RanSession before after true after.written
   pub undisturbed : Undisturbed before after
   pub writes : after.write_faults ≡ before.write_faults
+
+-- The turns were spent, and a last line says so.
+pub record SpentTurns (before after : Outside) : Type 0 where
+  pub unsaid : Option (List ℕ)
+  pub session : RanSession before after false unsaid
+  pub output : after.written ≡ gained unsaid (codes "turns spent\n")
+  pub undisturbed : Undisturbed before after
+  pub writes : after.write_faults ≡ before.write_faults
+
+-- The turns were spent, and a front of the last line says so.
+pub record SpentUnsaid (before after : Outside) : Type 0 where
+  pub unsaid : Option (List ℕ)
+  pub session : RanSession before after false unsaid
+  pub output : GainsFront unsaid after.written (codes "turns spent\n")
 
 -- Line n is the input's first that has no meaning.
 pub record RefusedLine (before after : Outside) (n : ℕ) : Type 0 where
   pub text : List ℕ
-  pub input : IsInput text before.input
+  pub input : IsInput text before.input after.input
   pub read : script_of text ≡ Err n
   pub network : after.network ≡ before.network
   pub output : Says before.written after.written before.write_faults after.write_faults (refused_line n)
@@ -81,6 +112,31 @@ pub record FailedRead (before after : Outside) : Type 0 where
   pub calls : after.network_faults ≡ before.network_faults
   pub output : Says before.written after.written before.write_faults after.write_faults (codes "fault read\n")
 
+-- A failed write: the count of the output's faults rose. It broke the session off, or the last line of its spent turns.
+pub record FailedWrite (before after : Outside) : Type 0 where
+  pub cause : Rose before.write_faults after.write_faults
+  pub session : BrokeSession Writing before after after.written ⊎ SpentUnsaid before after
+  pub undisturbed : Undisturbed before after
+
+-- A failed call of the network: the count of its faults rose. It broke the session off, and a last line says so.
+pub record FailedCall (before after : Outside) : Type 0 where
+  pub cause : Rose before.network_faults after.network_faults
+  pub unsaid : Option (List ℕ)
+  pub session : BrokeSession Calling before after unsaid
+  pub output : Says unsaid after.written before.write_faults after.write_faults (codes "fault fabric\n")
+  pub reads : after.read_faults ≡ before.read_faults
+
+-- nothing was offered or written
+pub record Untouched (before after : Outside) : Type 0 where
+  pub network : after.network ≡ before.network
+  pub output : after.written ≡ before.written
+
+-- There was no memory: for reading a script, or in a session, which that broke off. Nothing failed.
+pub record WantedMemory (before after : Outside) : Type 0 where
+  pub session : Untouched before after ⊎ BrokeSession Wanting before after after.written
+  pub undisturbed : Undisturbed before after
+  pub writes : after.write_faults ≡ before.write_faults
+
 -- The words are no command.
 pub record RefusedWords (before after : Outside) : Type 0 where
   pub input : after.input ≡ before.input
@@ -90,23 +146,22 @@ pub record RefusedWords (before after : Outside) : Type 0 where
 
 -- what each ending of a session says
 abbrev pub EndsSession : Ending → Outside → Outside → Type 0
-EndsSession Done before after = RanSession before after true []
-EndsSession Spent before after = RanSession before after false (codes "turns spent\n")
+EndsSession Done before after = DidAll before after
+EndsSession Spent before after = SpentTurns before after
 EndsSession (Refused n) before after = RefusedLine before after n
 EndsSession Read before after = FailedRead before after
-EndsSession Memory before after = Unit {0}
-EndsSession Write before after = Rose before.write_faults after.write_faults
-EndsSession Fabric before after = Rose before.network_faults after.network_faults
+EndsSession Memory before after = WantedMemory before after
+EndsSession Write before after = FailedWrite before after
+EndsSession Fabric before after = FailedCall before after
 EndsSession Words before after = ⊥
 
 -- the words are no command exactly where the ending says so, and else a session was run
-abbrev pub Ends : Ending → Outside → Outside → Type 0
-Ends Words before after = (is_session before.words ≡ false) × RefusedWords before after
-Ends ending before after = (is_session before.words ≡ true) × EndsSession ending before after
+abbrev pub Ends : Ending → List (List ℕ) → Outside → Outside → Type 0
+Ends Words words before after = (is_session words ≡ false) × RefusedWords before after
+Ends ending words before after = (is_session words ≡ true) × EndsSession ending before after
 
-abbrev pub outside : (words : List (List ℕ)) (input : Option (List ℕ)) (network : Network) (written : Option (List ℕ)) (read_faults network_faults write_faults : ℕ) → Outside
-outside words input network written read_faults network_faults write_faults = record {
-  words = words;
+abbrev pub outside : (input : Option (List ℕ)) (network : Network) (written : Option (List ℕ)) (read_faults network_faults write_faults : ℕ) → Outside
+outside input network written read_faults network_faults write_faults = record {
   input = input;
   network = network;
   written = written;
@@ -115,25 +170,25 @@ outside words input network written read_faults network_faults write_faults = re
   write_faults = write_faults;
 }
 
--- A call ended so: it answers the ending's status, and what the ending says holds.
-pub record EndsWith (status : ℕ) (before after : Outside) : Type 0 where
+-- A call with these words ended so: it answers the ending's status, and what the ending says holds.
+pub record EndsWith (status : ℕ) (words : List (List ℕ)) (before after : Outside) : Type 0 where
   pub ending : Ending
   pub is : status ≡ status_of ending
-  pub holds : Ends ending before after
+  pub holds : Ends ending words before after
 
 -- the parts of a session that end it early
-abbrev pub IsReadEnding : Ending → ℕ → ℕ → Option (List ℕ) → Option (List ℕ) → ℕ → ℕ → Type 0
-IsReadEnding Memory before after unwritten written old new = Unit {0}
+abbrev pub IsReadEnding : Ending → (before after : ℕ) → (unwritten written : Option (List ℕ)) → (old new : ℕ) → Type 0
+IsReadEnding Memory before after unwritten written old new = (after ≡ before) × (written ≡ unwritten) × (new ≡ old)
 IsReadEnding Read before after unwritten written old new = Rose before after × Says unwritten written old new (codes "fault read\n")
 IsReadEnding _ before after unwritten written old new = ⊥
 
-abbrev pub IsTextEnding : Ending → List ℕ → Option (List ℕ) → Option (List ℕ) → ℕ → ℕ → Type 0
-IsTextEnding Memory text unwritten written old new = Unit {0}
+abbrev pub IsTextEnding : Ending → List ℕ → (unwritten written : Option (List ℕ)) → (old new : ℕ) → Type 0
+IsTextEnding Memory text unwritten written old new = (written ≡ unwritten) × (new ≡ old)
 IsTextEnding (Refused n) text unwritten written old new = (script_of text ≡ Err n) × Says unwritten written old new (refused_line n)
 IsTextEnding _ text unwritten written old new = ⊥
 
-abbrev pub IsLastEnding : Ending → Bool → Option (List ℕ) → Option (List ℕ) → ℕ → ℕ → Type 0
+abbrev pub IsLastEnding : Ending → Bool → (unwritten written : Option (List ℕ)) → (before after : ℕ) → Type 0
 IsLastEnding Done whole unwritten written before after = (whole ≡ true) × (written ≡ unwritten) × (after ≡ before)
 IsLastEnding Spent whole unwritten written before after = (whole ≡ false) × (written ≡ gained unwritten (codes "turns spent\n")) × (after ≡ before)
-IsLastEnding Write whole unwritten written before after = Rose before after
+IsLastEnding Write whole unwritten written before after = (whole ≡ false) × GainsFront unwritten written (codes "turns spent\n") × Rose before after
 IsLastEnding _ whole unwritten written before after = ⊥

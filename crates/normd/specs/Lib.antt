@@ -5,3 +5,4 @@ pub mod Sound
 pub mod Refusal
 pub mod StatusOf
 pub mod Ends
+pub mod InputCause

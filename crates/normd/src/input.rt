@@ -1,7 +1,8 @@
 //! The input, read whole.
 
-ghost use Rattle.std.specs.Prelude.{◌≡◌, IfOk, OnOk, IfSome, IsErrOf, Option, List, ℕ};
-ghost use Rattle.norm_base.specs.Faults.{Rose};
+ghost use Rattle.std.specs.Prelude.{IfOk};
+ghost use Rattle.normd.specs.InputCause.{ReadCause};
+ghost use Rattle.normd.specs.Ends.{IsInput};
 
 use norm_base::{Failed, Source};
 use std::alloc::Global;
@@ -17,9 +18,8 @@ pub(crate) enum InputFault {
 
 /// All of the input's octets.
 pub(crate) fn read_all<S: Source>(alloc: Global, input: &mut S) -> Result<Vec<u8>, InputFault>
-    ensures octets { IfOk result (λ text. IfSome (S.left input.old) (λ octets. octets ≡ text.items)) }
-    ensures quiet { OnOk result (S.fault_count input.new ≡ S.fault_count input.old) }
-    ensures cause { IsErrOf result InputFault.Read → Rose (S.fault_count input.old) (S.fault_count input.new) }
+    ensures octets { IfOk result (λ text. IsInput text.items (S.left input.old) (S.left input.new)) }
+    ensures cause { ReadCause result (S.fault_count input.old) (S.fault_count input.new) }
 {
     let mut text = Vec::new(alloc);
     let mut buffer = [0u8; 4096];

@@ -1,6 +1,6 @@
 //! The program: its words, its input and its output.
 
-ghost use Rattle.std.specs.Prelude.{◌≡◌, codes, map, string_bytes, [], Ok, IfOk, IfErr, OnOk};
+ghost use Rattle.std.specs.Prelude.{◌≡◌, codes, map, string_bytes, Ok, IfOk, IfErr, OnOk};
 ghost use Rattle.normd.specs.Ends.{is_session, usage_line, refused_line, outside, Says, IsInput, IsReadEnding, IsTextEnding, IsLastEnding, EndsSession, EndsWith};
 ghost use Rattle.normd.specs.Reading.{script_of};
 ghost use Rattle.norm_session.specs.SessionRun.{IsScript};
@@ -49,7 +49,7 @@ fn read_input<S: Source, K: Sink>(
     input: &mut S,
     output: &mut K,
 ) -> Result<Vec<u8>, Ending>
-    ensures text { IfOk result (λ text. IsInput text.items (S.left input.old)) }
+    ensures text { IfOk result (λ text. IsInput text.items (S.left input.old) (S.left input.new)) }
     ensures unwritten { OnOk result (K.written output.new ≡ K.written output.old) }
     ensures quiet { OnOk result ((S.fault_count input.new ≡ S.fault_count input.old) × (K.fault_count output.new ≡ K.fault_count output.old)) }
     ensures ending { IfErr result (λ ending. IsReadEnding ending (S.fault_count input.old) (S.fault_count input.new)
@@ -110,11 +110,13 @@ fn session<R: Threads + Wait + Sync, S: Source, K: Sink, F: Fabric, D: Files, C:
     files: &mut D,
     clock: &mut C,
 ) -> Ending
-    ensures { EndsSession result
-        (outside [] (S.left input.old) (F.told fabric.old) (K.written output.old)
+    ensures ends { EndsSession result
+        (outside (S.left input.old) (F.told fabric.old) (K.written output.old)
         (S.fault_count input.old) (F.fault_count fabric.old) (K.fault_count output.old))
-        (outside [] (S.left input.new) (F.told fabric.new) (K.written output.new)
+        (outside (S.left input.new) (F.told fabric.new) (K.written output.new)
         (S.fault_count input.new) (F.fault_count fabric.new) (K.fault_count output.new)) }
+    ensures files { D.contents files.new ≡ D.contents files.old }
+    ensures clock { C.moments clock.new ≡ C.moments clock.old }
 {
     let text = match read_input(alloc, input, output) {
         Ok(text) => text,
@@ -136,7 +138,7 @@ fn session<R: Threads + Wait + Sync, S: Source, K: Sink, F: Fabric, D: Files, C:
 }
 
 /// The program: `words` are those after its name. Answers the exit status; what each one says is in
-/// `Ends`.
+/// `Ends`. It leaves the files and the clock as they were.
 pub fn norm_main<R: Threads + Wait + Sync, S: Source, K: Sink, F: Fabric, D: Files, C: Clock>(
     rt: &R,
     alloc: Global,
@@ -147,11 +149,13 @@ pub fn norm_main<R: Threads + Wait + Sync, S: Source, K: Sink, F: Fabric, D: Fil
     files: &mut D,
     clock: &mut C,
 ) -> Status
-    ensures { let words_of = map string_bytes words.now.items in EndsWith result
-        (outside words_of (S.left input.old) (F.told fabric.old) (K.written output.old)
+    ensures ends { EndsWith result (map string_bytes words.now.items)
+        (outside (S.left input.old) (F.told fabric.old) (K.written output.old)
         (S.fault_count input.old) (F.fault_count fabric.old) (K.fault_count output.old))
-        (outside words_of (S.left input.new) (F.told fabric.new) (K.written output.new)
+        (outside (S.left input.new) (F.told fabric.new) (K.written output.new)
         (S.fault_count input.new) (F.fault_count fabric.new) (K.fault_count output.new)) }
+    ensures files { D.contents files.new ≡ D.contents files.old }
+    ensures clock { C.moments clock.new ≡ C.moments clock.old }
 {
     if !is_session(words) {
         say(output, USAGE);
