@@ -139,6 +139,7 @@ fn session<R: Threads + Wait + Sync, S: Source, K: Sink, F: Fabric, D: Files, C:
 
 /// The program: `words` are those after its name. Answers the exit status; what each one says is in
 /// `Ends`. It leaves the files and the clock as they were.
+#[tactic(auto, using(crate::proofs::EndingLemmas::ends_of))]
 pub fn norm_main<R: Threads + Wait + Sync, S: Source, K: Sink, F: Fabric, D: Files, C: Clock>(
     rt: &R,
     alloc: Global,

@@ -1,5 +1,4 @@
 use Rattle.std.proofs.Common.{refl, rules}
-use Rattle.normd.proofs.EndingLemmas.{ends_of}
 use Rattle.normd.specs.declared.status.Ending.TheVariants.{Words}
 use Rattle.normd.proofs.program.norm_main.Goals as goal
 
@@ -8,11 +7,4 @@ returns-then-not-is_session-clause-ends g c = record {
   ending = Words;
   is = c.status.ensures;
   holds = (search rules, record { input = refl; network = refl; output = c.say.ensures; undisturbed = record { reads = refl; calls = refl } });
-}
-
-pub returns-clause-ends : goal.returns-clause-ends
-returns-clause-ends g c = record {
-  ending = c.session.result;
-  is = c.status-2.ensures;
-  holds = ends_of c.session.result _ _ _ (search rules) c.session.ensures.ends;
 }
