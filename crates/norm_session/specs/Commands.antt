@@ -1,4 +1,4 @@
-use Rattle.std.specs.Prelude.{◌≤◌, List, length}
+use Rattle.std.specs.Prelude.{ℕ, ◌≤◌, List, length}
 use Rattle.norm_base.specs.Settings.{Settings}
 use Rattle.norm_session.specs.declared.script.Line.{Line}
 use Rattle.norm_session.specs.Turn.{octets_of}
@@ -8,7 +8,7 @@ pub record Commands : Type 0 where
   pub profile : Settings
   pub lines : List Line
 
--- a command's object has octets, and at most those of the longest symbol
-pub record IsCommand (line : Line) : Type 0 where
+-- a command's object has octets, and fits a symbol of e octets
+pub record IsCommand (e : ℕ) (line : Line) : Type 0 where
   pub some : 1 ≤ length (octets_of line.verb)
-  pub most : length (octets_of line.verb) ≤ 1400
+  pub most : length (octets_of line.verb) ≤ e

@@ -46,4 +46,4 @@ pub record SessionRun (script : Commands) (journal : List Event) (whole : Bool) 
 pub record IsScript (script : Commands) : Type 0 where
   pub range : InRange script.profile
   pub few : length script.lines ≤ 256
-  pub each : AllByRecursion IsCommand script.lines
+  pub each : AllByRecursion (IsCommand script.profile.e) script.lines

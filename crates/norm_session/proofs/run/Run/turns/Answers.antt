@@ -57,7 +57,7 @@ loop-left-preserved g c =
     i.0 turn whole c.if-t-last.false i.4 in
     rw c.next_command.ensures.rest (
       going,
-      rest_are IsCommand c.loop-left.left.now i.1,
+      rest_are (IsCommand 1400) c.loop-left.left.now i.1,
       omega (arith, room, i.2),
       omega (arith, c.if-t-last.false),
       ap (λ (r : RunState). r.profile.turns) turn.state ∙ i.4,
