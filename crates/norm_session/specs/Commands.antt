@@ -8,6 +8,10 @@ pub record Commands : Type 0 where
   pub profile : Settings
   pub lines : List Line
 
+-- the longest symbol that a profile may have, in octets
+abbrev pub longest_symbol : ℕ
+longest_symbol = 1400
+
 -- a command's object has octets, and fits a symbol of e octets
 pub record IsCommand (e : ℕ) (line : Line) : Type 0 where
   pub some : 1 ≤ length (octets_of line.verb)

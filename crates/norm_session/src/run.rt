@@ -10,7 +10,7 @@ ghost use Rattle.norm_session.specs.Honesty.{HonestFor};
 ghost use Rattle.norm_session.specs.Taking.{Takes};
 ghost use Rattle.norm_session.specs.Stopping.{Leaves, StopsWriting, StopsTake, StopsTaking, Stops, BeginsTurn, BeginsTurns};
 ghost use Rattle.norm_session.specs.Causes.{NeedsMemory, WriteCause, NetworkCause, HasCause};
-ghost use Rattle.norm_session.specs.Commands.{IsCommand};
+ghost use Rattle.norm_session.specs.Commands.{IsCommand, longest_symbol};
 ghost use Rattle.norm_session.specs.WholeTurn.{moment_of, pulled, pull_part, TakesTurn};
 ghost use Rattle.std.specs.List.{AllByRecursion};
 ghost use Rattle.norm_session.specs.SessionRun.{first_of, rest_of, is_whole};
@@ -228,7 +228,7 @@ impl Run {
 
     /// Pulls a command: its object joins the order, and its line is written.
     fn pull<K: Sink>(&mut self, output: &mut K, line: &Line) -> Result<(), SessionFault>
-        requires command { IsCommand 1400 line.now }
+        requires command { IsCommand longest_symbol line.now }
         requires room { length self.old.sender.order < 65536 }
         ensures state { OnOk result (self.new ≡ with_events
             (with_sender self.old (enqueued self.old.sender (entry_of line.now)))
@@ -428,7 +428,7 @@ impl Run {
         output: &mut K,
         command: Option<&Line>,
     ) -> Result<(), SessionFault>
-        requires command { IfSome command (λ line. IsCommand 1400 line.now) }
+        requires command { IfSome command (λ line. IsCommand longest_symbol line.now) }
         requires room { length self.old.sender.order < 65536 }
         ensures state { OnOk result (self.new ≡ with_events
             (with_sender self.old (pulled self.old.sender (option_copied command.entry)))
@@ -468,7 +468,7 @@ impl Run {
         command: Option<&Line>,
     ) -> Result<(), SessionFault>
         requires turn { t ≤ 4000000 }
-        requires command { IfSome command (λ line. IsCommand 1400 line.now) }
+        requires command { IfSome command (λ line. IsCommand longest_symbol line.now) }
         requires room { length self.old.sender.order < 65536 }
         ensures turn { OnOk result (TakesTurn t (option_copied command.entry) self.old self.new
             (F.told fabric.old) (F.told fabric.new) (K.written output.old) (K.written output.new)) }
@@ -510,7 +510,7 @@ impl Run {
         datagram: &mut Datagram,
         commands: &[Line],
     ) -> Result<bool, SessionFault>
-        requires each { AllByRecursion (IsCommand 1400) commands.now }
+        requires each { AllByRecursion (IsCommand longest_symbol) commands.now }
         requires few { length self.old.sender.order + length commands.now < 65536 }
         ensures turns { IfOk result (TakesTurns commands.now self.old self.new
             (F.told fabric.old) (F.told fabric.new) (K.written output.old) (K.written output.new)) }

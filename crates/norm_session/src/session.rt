@@ -38,6 +38,7 @@ pub fn run_session<R: Threads + Wait + Sync, K: Sink, F: Fabric, D: Files, C: Cl
     ensures stops { IfErr result (λ fault. BreaksOff fault script.now
         (F.told fabric.old) (F.told fabric.new) (K.written output.old) (K.written output.new)) }
     ensures files { D.contents files.new ≡ D.contents files.old }
+    ensures file_faults { D.fault_count files.new ≡ D.fault_count files.old }
     ensures clock { C.moments clock.new ≡ C.moments clock.old }
     ensures cause { HasCause result (K.fault_count output.old) (K.fault_count output.new) (F.fault_count fabric.old) (F.fault_count fabric.new) }
 {

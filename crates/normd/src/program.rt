@@ -116,6 +116,7 @@ fn session<R: Threads + Wait + Sync, S: Source, K: Sink, F: Fabric, D: Files, C:
         (outside (S.left input.new) (F.told fabric.new) (K.written output.new)
         (S.fault_count input.new) (F.fault_count fabric.new) (K.fault_count output.new)) }
     ensures files { D.contents files.new ≡ D.contents files.old }
+    ensures file_faults { D.fault_count files.new ≡ D.fault_count files.old }
     ensures clock { C.moments clock.new ≡ C.moments clock.old }
 {
     let text = match read_input(alloc, input, output) {
@@ -156,6 +157,7 @@ pub fn norm_main<R: Threads + Wait + Sync, S: Source, K: Sink, F: Fabric, D: Fil
         (outside (S.left input.new) (F.told fabric.new) (K.written output.new)
         (S.fault_count input.new) (F.fault_count fabric.new) (K.fault_count output.new)) }
     ensures files { D.contents files.new ≡ D.contents files.old }
+    ensures file_faults { D.fault_count files.new ≡ D.fault_count files.old }
     ensures clock { C.moments clock.new ≡ C.moments clock.old }
 {
     if !is_session(words) {

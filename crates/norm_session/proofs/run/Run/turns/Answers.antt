@@ -1,6 +1,6 @@
 use Rattle.std.proofs.Common.{◌∙◌, arith, sym, ap, refl}
 use Rattle.norm_session.specs.RunState.{RunState}
-use Rattle.norm_session.specs.Commands.{IsCommand}
+use Rattle.norm_session.specs.Commands.{IsCommand, longest_symbol}
 use Rattle.norm_session.proofs.RunLemmas.{going-start, goes_on_after, ends_whole, ends_spent, rest_are, turn_room}
 use Rattle.std.proofs.lemmas.Result.{err_from_is_err_and}
 use Rattle.norm_session.proofs.StopRunLemmas.{turns-stop}
@@ -57,7 +57,7 @@ loop-left-preserved g c =
     i.0 turn whole c.if-t-last.false i.4 in
     rw c.next_command.ensures.rest (
       going,
-      rest_are (IsCommand 1400) c.loop-left.left.now i.1,
+      rest_are (IsCommand longest_symbol) c.loop-left.left.now i.1,
       omega (arith, room, i.2),
       omega (arith, c.if-t-last.false),
       ap (λ (r : RunState). r.profile.turns) turn.state ∙ i.4,

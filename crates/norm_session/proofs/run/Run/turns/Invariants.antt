@@ -1,6 +1,6 @@
 use Rattle.std.proofs.Common.{◌≡◌, ◌+◌, ◌-◌, ◌≤◌, ◌<◌, length}
 use Rattle.std.specs.List.{AllByRecursion}
-use Rattle.norm_session.specs.Commands.{IsCommand}
+use Rattle.norm_session.specs.Commands.{IsCommand, longest_symbol}
 use Rattle.norm_session.proofs.RunLemmas.{Going}
 use Rattle.norm_session.proofs.run.Run.turns.Given as goal
 
@@ -9,7 +9,7 @@ invariant-loop-left g l =
     let told = g.F.Fabric.told in
     let written = g.K.Sink.written in
     Going l.commands l.fn.self l.self (told l.fn.fabric) (told l.fabric) (written l.fn.output) (written l.output) l.t l.left
-    × AllByRecursion (IsCommand 1400) l.left
+    × AllByRecursion (IsCommand longest_symbol) l.left
     × (length l.self.sender.order + length l.left < 65536)
     × (l.t ≤ l.last)
     × (l.self.profile.turns ≡ l.last)
