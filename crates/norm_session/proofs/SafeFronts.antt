@@ -61,7 +61,7 @@ front_of_one (x ∷ xs) ys (z ∷ zs) one is =
 said_of_front : {X : Type 0} (f : Event → List X) (all front back : List Event) → all ≡ front ++ back → flat_map f all ≡ flat_map f front ++ flat_map f back
 said_of_front f all front back is = ap (flat_map f) is ∙ flat_map-append f front back
 
-none_of_front : {X : Type 0} (f : Event → List X) (all front back : List Event) → all ≡ front ++ back → flat_map f all ≡ [] → flat_map f front ≡ []
+pub none_of_front : {X : Type 0} (f : Event → List X) (all front back : List Event) → all ≡ front ++ back → flat_map f all ≡ [] → flat_map f front ≡ []
 none_of_front f all front back is none = front_of_none (flat_map f front) (flat_map f back) (sym (said_of_front f all front back is) ∙ none)
 
 only_first_of : {X : Type 0} (f : Event → List X) (a b : List Event) → flat_map f b ≡ [] → flat_map f (a ++ b) ≡ flat_map f a

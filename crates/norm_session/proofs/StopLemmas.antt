@@ -1,5 +1,4 @@
 use Rattle.std.proofs.Common.{◌≡◌, ◌∙◌, sym, ap, ℕ, List, [], ◌∷◌, ◌++◌, Option, refl, append_assoc, subst}
-use Rattle.std.proofs.lemmas.Grind.{flat_map-append}
 use Rattle.std.specs.List.{flat_map}
 use Rattle.norm_base.specs.Network.{Network}
 use Rattle.norm_base.specs.Told.{gained, GainsFront}
@@ -16,6 +15,7 @@ use Rattle.norm_session.specs.declared.run.SessionFault.TheVariants.{Write, Fabr
 use Rattle.std.specs.Prelude.{Result, Ok, Err, IfErr}
 use Rattle.norm_session.proofs.HonestLemmas.{all_told}
 use Rattle.norm_session.proofs.RunLemmas.{turn_told, turn_honest}
+use Rattle.norm_session.proofs.SafeFronts.{none_of_front}
 use Rattle.norm_session.proofs.TakingLemmas.{network_after-nil}
 use Rattle.norm_session.proofs.ToldLemmas.{gained-nil, gained-gained}
 use Rattle.norm_session.proofs.HonestLemmas.{honest-nil}
@@ -124,14 +124,6 @@ stops-after fault i Fits Whole xs b m a u v w told honest lines fit s = record {
   prints = prints-after fault i Fits Whole xs s.done u v w lines fit s.prints;
 }
 
-front-nil : {X : Type 0} → (xs ys : List X) → xs ++ ys ≡ [] → xs ≡ []
-front-nil [] ys h = refl
-front-nil (x ∷ xs) ys h = absurd (cc)
-
-nil-of_front : {X : Type 0} (f : Event → List X) (part done : List Event) → IsBeginningOf part done → flat_map f part ≡ [] → flat_map f done ≡ []
-nil-of_front f part done b none =
-    front-nil (flat_map f done) (flat_map f b.0) (sym (flat_map-append f done b.0) ∙ ap (flat_map f) (sym b.1) ∙ none)
-
 -- where nothing was taken all is honest
 untaken : (offers : List (ℕ × List ℕ)) (xs : List Event) → flat_map answer_in xs ≡ [] → IsHonest offers xs
 untaken offers [] h = tt
@@ -153,8 +145,8 @@ honest-untaken n xs none = λ honest. all_told n.offered xs (λ offers. untaken 
 pub stops-writing : (fault : SessionFault) (i : ℕ) (part : List Event) (n : Network) (u w : Option (List ℕ)) → IsSilent part
     → StopsWriting fault i part u w → Stops fault i (IsBeginningOf part) n n u w
 stops-writing fault i part n u w silent s =
-    let offers = nil-of_front offer_of part s.done s.begins silent.offers in
-    let answers = nil-of_front answer_in part s.done s.begins silent.answers in
+    let offers = none_of_front offer_of part s.done s.begins.0 s.begins.1 silent.offers in
+    let answers = none_of_front answer_in part s.done s.begins.0 s.begins.1 silent.answers in
     record {
       done = s.done;
       fits = s.begins;

@@ -43,7 +43,7 @@ pub record Outside : Type 0 where
   pub network_faults : ℕ
   pub write_faults : ℕ
 
--- no read and no call of the network failed
+-- the counts of failed reads and of failed calls of the network are as they were
 pub record Undisturbed (before after : Outside) : Type 0 where
   pub reads : after.read_faults ≡ before.read_faults
   pub calls : after.network_faults ≡ before.network_faults
@@ -131,7 +131,7 @@ pub record Untouched (before after : Outside) : Type 0 where
   pub network : after.network ≡ before.network
   pub output : after.written ≡ before.written
 
--- There was no memory: for reading a script, or in a session, which that broke off. Nothing failed.
+-- There was no memory: for reading a script, or in a session, which that broke off. No count of faults rose.
 pub record WantedMemory (before after : Outside) : Type 0 where
   pub session : Untouched before after ⊎ BrokeSession Wanting before after after.written
   pub undisturbed : Undisturbed before after
