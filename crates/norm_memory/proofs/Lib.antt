@@ -1,1 +1,5 @@
-pub mod Turns
+mod ClockLemmas
+mod FilingLemmas
+mod RangeLemmas
+mod PieceLemmas
+mod Turns
