@@ -2,4 +2,5 @@ mod ClockLemmas
 mod FilingLemmas
 mod RangeLemmas
 mod PieceLemmas
+mod OfferLemmas
 mod Turns

@@ -3,4 +3,7 @@ pub mod Reading
 pub mod Writing
 pub mod Timing
 pub mod Filing
+pub mod Offers
+pub mod Fates
+pub mod Rules
 pub mod Waiting
