@@ -4,3 +4,4 @@ mod RangeLemmas
 mod PieceLemmas
 mod OfferLemmas
 mod Turns
+mod NetworkLemmas

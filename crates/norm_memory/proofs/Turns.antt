@@ -80,12 +80,17 @@ abbrev pub InTurn : List WaitingCopy → Type 0
 InTurn [] = Unit {0}
 InTurn (x ∷ xs) = AllByRecursion (λ y. before y x ≡ false) xs × InTurn xs
 
-put_copy-all : (x c : WaitingCopy) (xs : List WaitingCopy) → before c x ≡ false → AllByRecursion (λ y. before y x ≡ false) xs → AllByRecursion (λ y. before y x ≡ false) (put_copy c xs)
-put_copy-all x c [] h all = (h, tt)
-put_copy-all x c (d ∷ ds) h all = elim (before d c) as (λ b. AllByRecursion (λ y. before y x ≡ false) (cond b (d ∷ put_copy c ds) (c ∷ d ∷ ds))) [
-  | true ↦ (all.0, put_copy-all x c ds h all.1)
+put_copy-all : (P : WaitingCopy → Type 0) (c : WaitingCopy) (xs : List WaitingCopy) → P c → AllByRecursion P xs → AllByRecursion P (put_copy c xs)
+put_copy-all P c [] h all = (h, tt)
+put_copy-all P c (d ∷ ds) h all = elim (before d c) as (λ b. AllByRecursion P (cond b (d ∷ put_copy c ds) (c ∷ d ∷ ds))) [
+  | true ↦ (all.0, put_copy-all P c ds h all.1)
   | false ↦ (h, all)
 ]
+
+-- what holds of copies and of others holds of all together
+pub put_copies-all : (P : WaitingCopy → Type 0) (cs xs : List WaitingCopy) → AllByRecursion P cs → AllByRecursion P xs → AllByRecursion P (put_copies cs xs)
+put_copies-all P [] xs all rest = rest
+put_copies-all P (c ∷ cs) xs all rest = put_copy-all P c (put_copies cs xs) all.0 (put_copies-all P cs xs all.1 rest)
 
 after_all : (x y : WaitingCopy) (xs : List WaitingCopy) → before y x ≡ false → AllByRecursion (λ z. before z y ≡ false) xs → AllByRecursion (λ z. before z x ≡ false) xs
 after_all x y [] h all = tt
@@ -99,7 +104,7 @@ before_other o Greater e h = absurd (cc)
 pub put_copy-in_turn : (c : WaitingCopy) (xs : List WaitingCopy) → InTurn xs → InTurn (put_copy c xs)
 put_copy-in_turn c [] h = (tt, tt)
 put_copy-in_turn c (d ∷ ds) h = elim (before d c) as (λ b. before d c ≡ b → InTurn (cond b (d ∷ put_copy c ds) (c ∷ d ∷ ds))) [
-  | true ↦ λ e. (put_copy-all d c ds (before_other (by_turn c d) (by_turn d c) (by_turn_total.antisymm c d) e) h.0, put_copy-in_turn c ds h.1)
+  | true ↦ λ e. (put_copy-all (λ y. before y d ≡ false) c ds (before_other (by_turn c d) (by_turn d c) (by_turn_total.antisymm c d) e) h.0, put_copy-in_turn c ds h.1)
   | false ↦ λ e. ((e, after_all c d ds e h.0), h)
 ] refl
 
@@ -172,14 +177,10 @@ in_turn-joined old new copies fresh p q =
       )
     })
 
-all_put : (x : WaitingCopy) (cs xs : List WaitingCopy) → AllByRecursion (λ y. before y x ≡ false) cs → AllByRecursion (λ y. before y x ≡ false) xs → AllByRecursion (λ y. before y x ≡ false) (put_copies cs xs)
-all_put x [] xs all rest = rest
-all_put x (c ∷ cs) xs all rest = put_copy-all x c (put_copies cs xs) all.0 (all_put x cs xs all.1 rest)
-
 -- what a heap holds, once its greatest left it
 pub in_turn-left : (old new : List WaitingCopy) (x : WaitingCopy) → AllByRecursion (λ y. before y x ≡ false) new → IsPermutation old (x ∷ new) → in_turn old ≡ x ∷ in_turn new
 in_turn-left old new x least p =
-    one_in_turn (in_turn old) (x ∷ in_turn new) (put_copies-in_turn old [] tt) (all_put x new [] least tt, put_copies-in_turn new [] tt) (record {
+    one_in_turn (in_turn old) (x ∷ in_turn new) (put_copies-in_turn old [] tt) (put_copies-all (λ y. before y x ≡ false) new [] least tt, put_copies-in_turn new [] tt) (record {
       at = λ f. omega (
         arith,
         put_copies-sum f old [],
@@ -196,7 +197,7 @@ put_first x (y ∷ ys) all = rw all.0 refl
 
 -- the greatest of a heap stands first in it
 pub in_turn-first : (xs : List WaitingCopy) (x : WaitingCopy) → AllByRecursion (λ y. before y x ≡ false) xs → in_turn (x ∷ xs) ≡ x ∷ in_turn xs
-in_turn-first xs x all = put_first x (in_turn xs) (all_put x xs [] all tt)
+in_turn-first xs x all = put_first x (in_turn xs) (put_copies-all (λ y. before y x ≡ false) xs [] all tt)
 
 -- what stands at the top of a heap is the copy that is taken next
 pub first-peeked : (xs : List WaitingCopy) (top : Option (Bor WaitingCopy)) → (IsSome top ↔ (0 < length xs)) → IfSome top (λ x. x.now ≡ get_or xs 0 x.now) → IsHeap (flip_args by_turn) xs → IfSome top (λ x. IsHeap (flip_args by_turn) xs → IsUpperBound (flip_args by_turn) x.now xs)

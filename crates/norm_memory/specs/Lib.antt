@@ -7,3 +7,5 @@ pub mod Offers
 pub mod Fates
 pub mod Rules
 pub mod Waiting
+pub mod Networks
+pub mod Kept

@@ -8,6 +8,7 @@ mod mem_clock;
 mod mem_files;
 mod mem_sink;
 mod mem_source;
+mod network;
 mod offers;
 mod rule;
 mod waiting;
