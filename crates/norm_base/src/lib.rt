@@ -28,3 +28,6 @@ pub use crate::octets::{Octets, Text};
 pub use crate::profile::Profile;
 pub use crate::sink::Sink;
 pub use crate::source::Source;
+
+#[cfg(test)]
+mod tests;

@@ -1,15 +1,15 @@
 //! Where octets go to.
 
-ghost use Rattle.std.specs.Prelude.{◌≡◌, ℕ, List, [], ◌∷◌, Option, is_err, OnOk, OnErr};
+ghost use Rattle.std.specs.Prelude.{◌≡◌, ℕ, [], ◌∷◌, is_err, OnOk, OnErr};
 ghost use Rattle.norm_base.specs.Faults.{Counts};
-ghost use Rattle.norm_base.specs.Told.{gained, GainsFront};
+ghost use Rattle.norm_base.specs.Told.{Pieces, gained, GainsFront};
 
 use crate::fault::Failed;
 
 /// A sink of octets, written at its end. What was written is its pieces, one after the other.
 pub trait Sink {
     /// The pieces that were written, one for each call, where the sink tells them.
-    ghost pieces: { Self → Option (List (List ℕ)) };
+    ghost pieces: { Self → Pieces };
 
     /// How often it failed.
     ghost fault_count: { Self → ℕ };
