@@ -1,5 +1,6 @@
 mod ClockLemmas
 mod FilingLemmas
+mod FeedLemmas
 mod RangeLemmas
 mod PieceLemmas
 mod OfferLemmas

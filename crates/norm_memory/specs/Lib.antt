@@ -9,3 +9,7 @@ pub mod Rules
 pub mod Waiting
 pub mod Networks
 pub mod Kept
+pub mod Direct
+pub mod Listed
+pub mod Chances
+pub mod Feeding

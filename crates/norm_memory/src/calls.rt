@@ -4,7 +4,6 @@ ghost use Rattle.std.specs.Prelude.{◌≡◌, [], true, false};
 ghost use Rattle.norm_memory.specs.Calls.{next_fails, after_call, restarted};
 ghost use Rattle.norm_base.specs.Faults.{Counts};
 
-use std::alloc::Global;
 use std::marker::Model;
 
 /// Counts the calls of an object, and which of them fail.
@@ -35,18 +34,18 @@ impl CallCount {
         }
     }
 
-    /// No call was made, and none will fail.
-    pub(crate) fn faultless(alloc: Global) -> CallCount
-        ensures { result ≡ record { failing = []; made = 0; faults = 0 } }
-    {
-        CallCount::of(Vec::new(alloc))
-    }
-
     /// Whether the next call is one of those that fail.
     pub(crate) fn next_fails(&self) -> bool
         ensures { result ≡ next_fails self.now }
     {
         self.failing.contains(&self.made.saturating_add(1))
+    }
+
+    /// How many calls were made since the count began.
+    pub(crate) fn made(&self) -> u64
+        ensures { result ≡ self.now.made }
+    {
+        self.made
     }
 
     /// Counts a call that did what it was to do.
