@@ -1,5 +1,3 @@
-pub mod CallLemmas
-pub mod OfferLemmas
-pub mod ClockLemmas
-pub mod FilingLemmas
-pub mod CursorLemmas
+pub mod RangeLemmas
+pub mod ToldLemmas
+pub mod CountLemmas

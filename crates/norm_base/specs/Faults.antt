@@ -1,17 +1,23 @@
-use Rattle.std.specs.Prelude.{◌≡◌, ℕ, ◌<◌, ◌≤◌, Bool, true, false, ◌⊎◌, Result, Ok, Err, MatchBool}
+use Rattle.std.specs.Prelude.{◌≡◌, ℕ, ◌+◌, ◌≤◌, min, Bool, true, false, Result, Ok, Err, if◌then◌else◌}
 use Rattle.norm_base.specs.declared.fault.FileFault.{FileFault}
 use Rattle.norm_base.specs.declared.fault.FabricFault.{FabricFault}
 use Rattle.norm_base.specs.declared.fault.FileFault.TheVariants as file
 use Rattle.norm_base.specs.declared.fault.FabricFault.TheVariants as network
 
--- the count rose, or it stood at the last number of 64 bits
-abbrev pub Rose : ℕ → ℕ → Type 0
-Rose before now = (before < now) ⊎ (before ≡ 18446744073709551615)
+-- How often an object of the outside failed is a number of 64 bits.
 
--- the count of faults never falls; a call that failed raised it, and any other left it
+-- one more, up to the last number of 64 bits
+abbrev pub one_more : ℕ → ℕ
+one_more n = min (n + 1) 18446744073709551615
+
+-- the count of faults after a call: one more where the call failed, and else the same
+abbrev pub counted : ℕ → Bool → ℕ
+counted before failed = if failed then one_more before else before
+
+-- a call that failed raised the count of faults by one, and any other left it; it never falls
 pub record Counts (before now : ℕ) (failed : Bool) : Type 0 where
   pub later : before ≤ now
-  pub cause : MatchBool failed (Rose before now) (now ≡ before)
+  pub exact : now ≡ counted before failed
 
 -- a call of files failed; an absent name is no fault
 abbrev pub file_failed : {T : Type 0} → Result T FileFault → Bool

@@ -1,15 +1,9 @@
 pub mod Member
+pub mod Keys
 pub mod Settings
 pub mod ProfileView
+pub mod Given
 pub mod Faults
 pub mod Told
 pub mod Contents
 pub mod Network
-pub mod Calls
-pub mod Reading
-pub mod Writing
-pub mod Timing
-pub mod Direct
-pub mod Filing
-pub mod Cursor
-pub mod Listed

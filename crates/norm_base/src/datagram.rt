@@ -28,10 +28,8 @@ impl Datagram {
     pub fn new(alloc: Global) -> Result<Datagram, Memory>
         ensures { IfOk result (λ d. d ≡ []) }
     {
-        match Vec::with_capacity(alloc, MOST_OCTETS) {
-            Ok(bytes) => Ok(Datagram { bytes }),
-            Err(_) => Err(Memory),
-        }
+        let bytes = Vec::with_capacity(alloc, MOST_OCTETS)?;
+        Ok(Datagram { bytes })
     }
 
     /// Takes all octets out.

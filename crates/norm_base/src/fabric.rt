@@ -1,6 +1,6 @@
 //! The network between the members of a session.
 
-ghost use Rattle.std.specs.Prelude.{◌≡◌, ◌≤◌, ℕ, length, IfOk, OnOk, OnErr, is_err};
+ghost use Rattle.std.specs.Prelude.{◌≡◌, ◌≤◌, ℕ, [], length, IfOk, IfNone, OnOk, OnErr};
 ghost use Rattle.norm_base.specs.Faults.{Counts, network_failed};
 ghost use Rattle.norm_base.specs.Network.{Network, Starts, with_offer, with_answer, answer_of, IsHonestAnswer};
 
@@ -33,11 +33,13 @@ pub trait Fabric {
         ensures err { OnErr result (told self.new ≡ told self.old) }
         ensures cause { Counts (fault_count self.old) (fault_count self.new) (network_failed result) };
 
-    /// Takes the next datagram for a member, if one is ready, and says for whom it is.
+    /// Takes the next datagram for a member, if one is ready, and says for whom it is. Without one the
+    /// datagram that is lent is empty.
     fn take(&mut self, into: &mut Datagram) -> Result<Option<NodeId>, FabricFault>
         ensures ok { IfOk result (λ node. told self.new ≡ with_answer (told self.old) (answer_of node into.new)) }
+        ensures none { IfOk result (λ node. IfNone node (into.new ≡ [])) }
         ensures honest { IfOk result (λ node. IsHonestAnswer (told self.old) (answer_of node into.new)) }
-        ensures err { OnErr result (told self.new ≡ told self.old) }
+        ensures err { OnErr result ((told self.new ≡ told self.old) × (into.new ≡ [])) }
         ensures cause { Counts (fault_count self.old) (fault_count self.new) (network_failed result) };
 
     /// How often a call failed. The count never falls.

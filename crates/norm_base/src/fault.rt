@@ -1,5 +1,10 @@
 //! How a call of the outside, or one that takes memory, fails.
 
+ghost use Rattle.std.specs.Prelude.{◌≡◌};
+ghost use Rattle.norm_base.specs.declared.fault.FabricFault.TheVariants as fabric;
+
+use std::alloc::{AllocError, AllocFailed};
+
 /// There was no memory for the call.
 #[derive(Clone, Copy, Debug, PartialEq, Eq)]
 pub struct Memory;
@@ -24,4 +29,48 @@ pub enum FabricFault {
     Failed,
     /// There was no memory for the call.
     Memory,
+}
+
+impl From<AllocError> for Memory {
+    fn from(_error: AllocError) -> Memory {
+        Memory
+    }
+}
+
+impl<T: Drop> From<AllocFailed<T>> for Memory {
+    fn from(_refused: AllocFailed<T>) -> Memory {
+        Memory
+    }
+}
+
+impl From<AllocError> for FabricFault {
+    ghost from_gives = { λ e r. r ≡ fabric.Memory };
+
+    fn from(_error: AllocError) -> FabricFault {
+        FabricFault::Memory
+    }
+}
+
+impl<T: Drop> From<AllocFailed<T>> for FabricFault {
+    ghost from_gives = { λ e r. r ≡ fabric.Memory };
+
+    fn from(_refused: AllocFailed<T>) -> FabricFault {
+        FabricFault::Memory
+    }
+}
+
+impl From<Memory> for FabricFault {
+    ghost from_gives = { λ e r. r ≡ fabric.Memory };
+
+    fn from(_fault: Memory) -> FabricFault {
+        FabricFault::Memory
+    }
+}
+
+impl From<Failed> for FabricFault {
+    ghost from_gives = { λ e r. r ≡ fabric.Failed };
+
+    fn from(_fault: Failed) -> FabricFault {
+        FabricFault::Failed
+    }
 }

@@ -6,7 +6,7 @@ ghost use Rattle.norm_base.specs.Member.{IsMember};
 use std::marker::Model;
 
 /// A node's id. 0 and 4294967295 (NORM_NODE_NONE and NORM_NODE_ANY) name no member.
-#[derive(Clone, Copy, Debug, PartialEq, Eq, PartialOrd, Ord)]
+#[derive(Clone, Copy, Debug, PartialEq, Eq, PartialOrd, Ord, Hash)]
 pub struct NodeId(u32);
 
 impl Model for NodeId {
@@ -41,7 +41,7 @@ impl NodeId {
 }
 
 /// Which life of a sender a message belongs to.
-#[derive(Clone, Copy, Debug, PartialEq, Eq, PartialOrd, Ord)]
+#[derive(Clone, Copy, Debug, PartialEq, Eq, PartialOrd, Ord, Hash)]
 pub struct InstanceId(pub u16);
 
 impl Model for InstanceId {
@@ -53,7 +53,7 @@ impl Model for InstanceId {
 }
 
 /// A moment, in microseconds.
-#[derive(Clone, Copy, Debug, PartialEq, Eq, PartialOrd, Ord)]
+#[derive(Clone, Copy, Debug, PartialEq, Eq, PartialOrd, Ord, Hash)]
 pub struct Moment(pub u64);
 
 impl Model for Moment {
@@ -65,7 +65,7 @@ impl Model for Moment {
 }
 
 /// A command's name: its producer, and that producer's number of it (1, 2, ..).
-#[derive(Clone, Copy, Debug, PartialEq, Eq)]
+#[derive(Clone, Copy, Debug, PartialEq, Eq, PartialOrd, Ord, Hash)]
 pub struct Origin {
     pub producer: u32,
     pub number: u64,

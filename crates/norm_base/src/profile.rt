@@ -1,7 +1,11 @@
 //! What all nodes of a session agree on.
 
-ghost use Rattle.std.specs.Prelude.{◌≡◌, ◌+◌, ◌<◌, ◌≤◌};
+ghost use Rattle.std.specs.Prelude.{◌≡◌, ◌+◌, ◌<◌};
+ghost use Rattle.norm_base.specs.Settings.{mode_at, fabric_at};
+ghost use Rattle.norm_base.specs.Given.{profile_given};
 
+use crate::given::Given;
+use crate::key::Key;
 use crate::kinds::{FabricKind, Mode};
 use crate::node::NodeId;
 use std::marker::Model;
@@ -74,7 +78,66 @@ impl Model for Profile {
     ghost inverse = { profile_of };
 }
 
+/// What the value of `mode` stands for.
+fn mode_at(value: u32) -> Mode
+    ensures { result ≡ mode_at value }
+{
+    match value {
+        0 => Mode::Hold,
+        _ => Mode::Drop,
+    }
+}
+
+/// What the value of `fabric` stands for.
+fn fabric_at(value: u32) -> FabricKind
+    ensures { result ≡ fabric_at value }
+{
+    match value {
+        0 => FabricKind::Direct,
+        1 => FabricKind::Chance,
+        _ => FabricKind::Udp,
+    }
+}
+
 impl Profile {
+    /// The profile with the given values, and all other keys at their defaults. `None` exactly where a value is
+    /// outside its key's range, or one of the two rules across keys does not hold.
+    pub fn of(given: &Given) -> Option<Profile>
+        ensures { result ≡ profile_given given.now }
+    {
+        if !given.are_in_range() {
+            return None;
+        }
+        Some(Profile {
+            instance: given.value(Key::Instance) as u16,
+            first: given.value(Key::First) as u16,
+            sender: given.value(Key::Sender),
+            receivers: given.value(Key::Receivers) as u8,
+            producers: given.value(Key::Producers) as u8,
+            e: given.value(Key::E) as u16,
+            b: given.value(Key::B) as u8,
+            max_n: given.value(Key::MaxN) as u8,
+            auto: given.value(Key::Auto) as u8,
+            window: given.value(Key::Window) as u16,
+            octets: given.value(Key::Octets),
+            blocks: given.value(Key::Blocks) as u16,
+            mode: mode_at(given.value(Key::Mode)),
+            gap: given.value(Key::Gap),
+            grtt: given.value(Key::Grtt),
+            grtt_code: given.value(Key::GrttCode) as u8,
+            gsize_code: given.value(Key::GsizeCode) as u8,
+            k: given.value(Key::K) as u8,
+            step: given.value(Key::Step),
+            turns: given.value(Key::Turns),
+            fabric: fabric_at(given.value(Key::Fabric)),
+            chance: given.value(Key::Chance),
+            loss: given.value(Key::Loss) as u16,
+            repeat: given.value(Key::Repeat) as u16,
+            late: given.value(Key::Late) as u8,
+            port: given.value(Key::Port) as u16,
+        })
+    }
+
     /// The id of receiver `i`, from 0.
     pub fn receiver(&self, i: u32) -> NodeId
         requires { i < self.now.receivers }
@@ -92,33 +155,6 @@ impl Default for Profile {
 
     /// Each key at its default.
     fn default() -> Profile {
-        Profile {
-            instance: 1,
-            first: 0,
-            sender: 1,
-            receivers: 1,
-            producers: 1,
-            e: 1024,
-            b: 64,
-            max_n: 96,
-            auto: 0,
-            window: 256,
-            octets: 16_777_216,
-            blocks: 16,
-            mode: Mode::Hold,
-            gap: 1000,
-            grtt: 10_000,
-            grtt_code: 64,
-            gsize_code: 1,
-            k: 4,
-            step: 1000,
-            turns: 1_000_000,
-            fabric: FabricKind::Direct,
-            chance: 0,
-            loss: 0,
-            repeat: 0,
-            late: 0,
-            port: 40_000,
-        }
+        Profile::of(&Given::new()).unwrap()
     }
 }

@@ -1,4 +1,4 @@
-//! Each object once with ample memory, and each failing call one by one.
+//! Each call once with ample memory.
 
 ghost use Rattle.std.specs.Prelude.{◌≡◌};
 
@@ -53,130 +53,44 @@ fn a_datagram_and_its_wrappers_keep_their_octets(rt: HostRuntime) -> Result<(), 
 }
 
 #[test]
-fn a_failed_read_loses_nothing(rt: HostRuntime) -> Result<(), Fail> {
-    let bytes = b"hello".to_vec(rt.alloc())?;
-    let mut source = MemSource::of(bytes, [2].to_vec(rt.alloc())?);
-    let mut buf = [0; 3];
-    assert_eq!(rt; source.read(&mut buf), Ok(3));
-    assert_eq!(rt; buf.as_slice(), b"hel".as_slice());
-    assert_eq!(rt; source.read(&mut buf), Err(Failed));
-    assert_eq!(rt; source.faults(), 1);
-    assert_eq!(rt; source.read(&mut buf), Ok(2));
-    assert_eq!(rt; buf.as_slice(), b"lol".as_slice());
-    assert_eq!(rt; source.read(&mut buf), Ok(0));
-    assert_eq!(rt; source.faults(), 1);
-    Ok(())
-}
-
-#[test]
-fn a_failed_write_adds_nothing(rt: HostRuntime) -> Result<(), Fail> {
-    let mut sink = MemSink::of(b"a".to_vec(rt.alloc())?, [2].to_vec(rt.alloc())?);
-    assert_eq!(rt; sink.write(b"bc"), Ok(()));
-    assert_eq!(rt; sink.write(b"de"), Err(Failed));
-    assert_eq!(rt; sink.faults(), 1);
-    assert_eq!(rt; sink.write(b"f"), Ok(()));
-    assert_eq!(rt; sink.bytes(), b"abcf".as_slice());
-    Ok(())
-}
-
-#[test]
-fn an_absent_name_is_no_fault(rt: HostRuntime) -> Result<(), Fail> {
-    let failing = [2, 3, 5].to_vec(rt.alloc())?;
-    let mut files = MemFiles::of(Vec::new(rt.alloc()), failing);
-    assert_eq!(rt; files.put("a", b"hello"), Ok(()));
-    assert_eq!(rt; files.length("b"), Err(FileFault::Absent));
-    assert_eq!(rt; files.length("a"), Err(FileFault::Failed));
-    assert_eq!(rt; files.length("a"), Ok(5));
-    assert_eq!(rt; files.put("a", b"lo"), Err(Failed));
-    assert_eq!(rt; files.content("a"), Some(b"hello".as_slice()));
-    assert_eq!(rt; files.faults(), 2);
-    Ok(())
-}
-
-#[test]
-fn a_file_is_read_from_an_offset(rt: HostRuntime) -> Result<(), Fail> {
-    let mut files = MemFiles::of(Vec::new(rt.alloc()), [3].to_vec(rt.alloc())?);
-    let mut buf = [0; 3];
-    if files.put("a", b"hello").is_ok() {
-        assert_eq!(rt; files.read_at("a", 1, &mut buf), Ok(3));
-        assert_eq!(rt; buf.as_slice(), b"ell".as_slice());
-        assert_eq!(rt; files.read_at("a", 4, &mut buf), Err(FileFault::Failed));
-        assert_eq!(rt; files.read_at("a", 4, &mut buf), Ok(1));
-        assert_eq!(rt; buf.as_slice(), b"oll".as_slice());
-    }
-    assert_eq!(rt; files.faults(), 1);
-    Ok(())
-}
-
-#[test]
-fn a_clock_stays_at_its_last_moment(rt: HostRuntime) -> Result<(), Fail> {
-    let mut clock = MemClock::of([Moment(9), Moment(5)].to_vec(rt.alloc())?);
-    assert_eq!(rt; clock.now(), Moment(9));
-    assert_eq!(rt; clock.now(), Moment(5));
-    assert_eq!(rt; clock.now(), Moment(5));
-    let mut stopped = MemClock::of(Vec::new(rt.alloc()));
-    assert_eq!(rt; stopped.now(), Moment(0));
-    Ok(())
-}
-
-#[test]
-fn copies_come_in_order_and_never_back(rt: HostRuntime) -> Result<(), Fail> {
-    let mut fabric = DirectFabric::new(rt.alloc())?;
-    let mut into = Datagram::new(rt.alloc())?;
-    fabric.start(&two_receivers(), Local::All)?;
-    fabric.offer(member(&rt, 2), b"two")?;
-    fabric.offer(member(&rt, 1), b"one")?;
-    for (to, bytes) in [(1, b"two"), (3, b"two"), (2, b"one"), (3, b"one")] {
-        assert_eq!(rt; fabric.take(&mut into)?, Some(member(&rt, to)));
-        assert_eq!(rt; into.bytes(), bytes.as_slice(), "to {to}");
-    }
-    assert_eq!(rt; fabric.take(&mut into)?, None);
-    assert_eq!(rt;
-        fabric.offered(1),
-        Some((member(&rt, 1), b"one".as_slice()))
-    );
-    fabric.offer(member(&rt, 3), b"old")?;
-    fabric.start(&two_receivers(), Local::All)?;
-    assert_eq!(rt; fabric.take(&mut into)?, None);
-    assert_eq!(rt; fabric.faults(), 0);
-    Ok(())
-}
-
-#[test]
-fn listed_offers_and_takes_fail(rt: HostRuntime) -> Result<(), Fail> {
-    let (offers, takes) = ([2].to_vec(rt.alloc())?, [1].to_vec(rt.alloc())?);
-    let mut fabric = ListFabric::of(rt.alloc(), offers, takes)?;
-    let mut into = Datagram::new(rt.alloc())?;
-    for faults in [0, 2] {
-        fabric.start(&Profile::default(), Local::All)?;
-        fabric.offer(member(&rt, 1), b"one")?;
+fn each_key_is_found_by_its_name_at_its_place(rt: HostRuntime) {
+    for (place, key) in KEYS.iter().enumerate() {
+        assert_eq!(rt; key.place(), place);
         assert_eq!(rt;
-            fabric.offer(member(&rt, 1), b"two"),
-            Err(FabricFault::Failed)
+            Key::named(key.row().name.as_bytes()),
+            Some(*key),
+            "at {place}"
         );
-        assert_eq!(rt; fabric.take(&mut into), Err(FabricFault::Failed));
-        assert_eq!(rt; fabric.faults(), faults + 2);
-        assert_eq!(rt; fabric.take(&mut into)?, Some(member(&rt, 2)));
-        assert_eq!(rt; into.bytes(), b"one".as_slice());
-        assert_eq!(rt; fabric.take(&mut into)?, None);
-        assert_eq!(rt; fabric.offered(1), None);
     }
-    Ok(())
+    assert!(rt; Key::named(b"E").is_none());
+    assert_eq!(rt; Key::Fabric.value_of(b"udp"), Some(2));
+    assert_eq!(rt; Key::Mode.value_of(b"udp"), None);
+    assert_eq!(rt; Key::E.value_of(b"64"), None);
 }
 
 #[test]
-fn readers_and_writers_of_std_are_sources_and_sinks(rt: HostRuntime) -> Result<(), Fail> {
-    let mut source = StdSource::of(b"hello".as_slice());
-    let mut buf = [0; 3];
-    assert_eq!(rt; source.read(&mut buf), Ok(3));
-    assert_eq!(rt; buf.as_slice(), b"hel".as_slice());
-    assert_eq!(rt; source.read(&mut buf), Ok(2));
-    assert_eq!(rt; source.read(&mut buf), Ok(0));
-    assert_eq!(rt; source.faults(), 0);
-    let mut written = Vec::new(rt.alloc());
-    let mut sink = StdSink::of(&mut written);
-    assert_eq!(rt; sink.write(b"lo"), Ok(()));
-    assert_eq!(rt; sink.faults(), 0);
-    assert_eq!(rt; written.as_slice(), b"lo".as_slice());
-    Ok(())
+fn given_values_make_a_profile_within_the_ranges_and_rules(rt: HostRuntime) {
+    let mut given = Given::default();
+    given.set(Key::B, 4);
+    given.set(Key::Mode, 1);
+    assert!(rt; given.has(Key::B) && !given.has(Key::E));
+    assert_eq!(rt; given.value(Key::MaxN), 6);
+    let profile = Profile::of(&given).expect(&rt, "a profile");
+    assert_eq!(rt; profile.max_n, 6);
+    assert_eq!(rt; profile.mode, Mode::Drop);
+    for (key, value) in [
+        (Key::E, 63),
+        (Key::B, 201),
+        (Key::MaxN, 3),
+        (Key::Fabric, 3),
+    ] {
+        let mut other = given;
+        other.set(key, value);
+        assert!(rt; Profile::of(&other).is_none(), "{value}");
+    }
+    given.set(Key::Blocks, 256);
+    given.set(Key::B, 64);
+    assert!(rt; Profile::of(&given).is_some());
+    given.set(Key::E, 1025);
+    assert!(rt; Profile::of(&given).is_none());
 }

@@ -2,7 +2,9 @@
 
 ghost use Rattle.std.specs.Prelude.{◌≡◌};
 ghost use Rattle.normd.specs.StatusOf.{status_of};
+ghost use Rattle.normd.specs.declared.status.Ending.TheVariants as ending;
 
+use std::alloc::AllocError;
 use std::marker::Model;
 
 /// A program's exit status.
@@ -49,6 +51,14 @@ pub enum Ending {
     Fabric,
     /// The turns were spent.
     Spent,
+}
+
+impl From<AllocError> for Ending {
+    ghost from_gives = { λ e r. r ≡ ending.Memory };
+
+    fn from(_error: AllocError) -> Ending {
+        Ending::Memory
+    }
 }
 
 impl Ending {

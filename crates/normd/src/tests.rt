@@ -2,7 +2,7 @@
 
 use crate::disturbed::DisturbedFabric;
 use crate::program::norm_main;
-use norm_base::{ListFabric, MemClock, MemFiles, MemSink, MemSource};
+use norm_memory::{ListFabric, MemClock, MemFiles, MemSink, MemSource};
 use std::alloc::{AllocError, Global};
 use std::process::Abort;
 use std::sync::Wait;

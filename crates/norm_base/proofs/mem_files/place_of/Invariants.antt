@@ -1,8 +1,0 @@
-use Rattle.std.proofs.Common.{◌≡◌, ◌+◌, drop}
-use Rattle.norm_base.specs.Contents.{place_of}
-use Rattle.norm_base.specs.Filing.{named}
-use Rattle.norm_base.proofs.mem_files.place_of.Given as goal
-
--- no file so far has the name
-abbrev pub invariant-loop-place : goal.invariant-loop-place
-invariant-loop-place l = l.place + place_of (named (drop l.place l.files)) l.name ≡ place_of (named l.files) l.name

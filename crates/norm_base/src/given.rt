@@ -1,0 +1,116 @@
+//! The values that are given to the keys of a profile.
+
+ghost use Rattle.std.specs.Prelude.{◌≡◌, IsTrue, true, is_some, unwrap_or};
+ghost use Rattle.norm_base.specs.Given.{nothing_given, given_at, give, default_beside, value_in, are_values, meets_rules, are_in_range};
+ghost use Rattle.norm_base.specs.Keys.{row_of, keys, is_value};
+ghost use Rattle.norm_base.specs.Settings.{InRange, settings_with};
+
+use crate::key::{KEYS, Key};
+use std::marker::Model;
+
+/// Values for some keys of a profile. `set` is called for each line that sets a key, after `has` said that
+/// the key has none yet, and then `Profile::of` makes the profile.
+#[derive(Clone, Copy, Debug, PartialEq, Eq)]
+pub struct Given {
+    values: [Option<u32>; 26],
+}
+
+impl Model for Given {
+    ghost use Rattle.std.specs.Prelude.{ℕ, List, Option};
+
+    ghost Value = { List (Option ℕ) };
+
+    ghost view = { λ g. g.values };
+
+    ghost inverse = { λ values. record { values = values } };
+}
+
+impl Given {
+    /// No value is given.
+    pub fn new() -> Given
+        ensures { result ≡ nothing_given }
+    {
+        Given { values: [None; 26] }
+    }
+
+    /// Whether a key's value is given.
+    pub fn has(&self, key: Key) -> bool
+        ensures { result ≡ is_some (given_at self.now key) }
+    {
+        self.values[key.place()].is_some()
+    }
+
+    /// Gives a key this value.
+    pub fn set(&mut self, key: Key, value: u32)
+        ensures { self.new ≡ give self.old key value }
+    {
+        self.values[key.place()] = Some(value);
+    }
+
+    /// A key's value: what is given, or its default. The default of `max_n` follows `b`.
+    pub fn value(&self, key: Key) -> u32
+        ensures { result ≡ value_in self.now key }
+    {
+        match self.values[key.place()] {
+            Some(value) => value,
+            None => self.default_of(key),
+        }
+    }
+
+    /// A key's value where none is given.
+    fn default_of(&self, key: Key) -> u32
+        ensures { result ≡ default_beside (unwrap_or (given_at self.now Key.B) (row_of Key.B).default) key }
+    {
+        if key == Key::MaxN {
+            let b = self.values[Key::B.place()].unwrap_or(Key::B.row().default);
+            return 255.min(b.saturating_add(b / 2));
+        }
+        key.row().default
+    }
+
+    /// Whether each value is one of its key's, and the two rules across keys hold.
+    pub(crate) fn are_in_range(&self) -> bool
+        ensures value { result ≡ are_in_range (value_in self.now) }
+        ensures range { IsTrue result → InRange (settings_with (value_in self.now)) }
+    {
+        self.are_values(&KEYS) && self.meets_rules()
+    }
+
+    /// Whether the two rules across keys hold.
+    fn meets_rules(&self) -> bool
+        requires { are_values (value_in self.now) keys ≡ true }
+        ensures { result ≡ meets_rules (value_in self.now) }
+    {
+        let b = self.value(Key::B);
+        let buffer = self.value(Key::Blocks) * b * self.value(Key::E);
+        b <= self.value(Key::MaxN) && buffer <= 16_777_216
+    }
+
+    /// Whether each of these keys' values is one of its values.
+    fn are_values(&self, keys: &[Key]) -> bool
+        ensures { result ≡ are_values (value_in self.now) keys.now }
+    {
+        keys.iter().all(|key| self.is_value(*key))
+    }
+
+    /// Whether a key's value is one of its values.
+    fn is_value(&self, key: Key) -> bool
+        ensures { result ≡ is_value key (value_in self.now key) }
+    {
+        let row = key.row();
+        let value = self.value(key);
+        row.least <= value && value <= row.greatest
+    }
+}
+
+impl Default for Given {
+    ghost use Rattle.std.specs.Prelude.{◌≡◌};
+    ghost use Rattle.norm_base.specs.Given.{nothing_given};
+
+    ghost is_default = { λ g. g ≡ nothing_given };
+
+    /// No value is given.
+    fn default() -> Given {
+        Given::new()
+    }
+}

@@ -1,0 +1,205 @@
+//! The keys of a profile, in one table: each key's name, its values and its default.
+
+ghost use Rattle.std.specs.Prelude.{◌≡◌, ◌≤◌, ◌-◌, map, length, ℕ, List, []};
+ghost use Rattle.norm_base.specs.Keys.{row_of, keys, key_named, place_of_word};
+
+/// A key of a profile, in the order of the table. `Profile` says what each is for.
+#[derive(Clone, Copy, Debug, PartialEq, Eq)]
+pub enum Key {
+    Instance,
+    First,
+    Sender,
+    Receivers,
+    Producers,
+    E,
+    B,
+    MaxN,
+    Auto,
+    Window,
+    Octets,
+    Blocks,
+    Mode,
+    Gap,
+    Grtt,
+    GrttCode,
+    GsizeCode,
+    K,
+    Step,
+    Turns,
+    Fabric,
+    Chance,
+    Loss,
+    Repeat,
+    Late,
+    Port,
+}
+
+/// All keys, in their order.
+pub const KEYS: [Key; 26] = [
+    Key::Instance,
+    Key::First,
+    Key::Sender,
+    Key::Receivers,
+    Key::Producers,
+    Key::E,
+    Key::B,
+    Key::MaxN,
+    Key::Auto,
+    Key::Window,
+    Key::Octets,
+    Key::Blocks,
+    Key::Mode,
+    Key::Gap,
+    Key::Grtt,
+    Key::GrttCode,
+    Key::GsizeCode,
+    Key::K,
+    Key::Step,
+    Key::Turns,
+    Key::Fabric,
+    Key::Chance,
+    Key::Loss,
+    Key::Repeat,
+    Key::Late,
+    Key::Port,
+];
+
+/// What the table says of a key.
+#[derive(Clone, Copy, Debug)]
+pub struct KeyRow {
+    /// The key's name.
+    pub name: &'static str,
+    /// The least value.
+    pub least: u32,
+    /// The greatest value.
+    pub greatest: u32,
+    /// The value where none is set.
+    pub default: u32,
+    /// The words that the values are written as, from 0 on. Where there are none, a value is a number.
+    pub words: &'static [&'static str],
+}
+
+/// The row of a key whose values are numbers.
+fn numbers(name: &'static str, least: u32, greatest: u32, default: u32) -> KeyRow
+    ensures name { result.name.now ≡ name.now }
+    ensures least { result.least ≡ least }
+    ensures greatest { result.greatest ≡ greatest }
+    ensures value { result.default ≡ default }
+    ensures words { map (λ w. w.now) result.words.now ≡ [] }
+    ensures few { length result.words.now ≤ 3 }
+{
+    KeyRow {
+        name,
+        least,
+        greatest,
+        default,
+        words: &[],
+    }
+}
+
+/// The row of a key whose values are words, of which the first is its default.
+fn words(name: &'static str, words: &'static [&'static str]) -> KeyRow
+    requires some { 1 ≤ length words.now }
+    requires few { length words.now ≤ 3 }
+    ensures name { result.name.now ≡ name.now }
+    ensures least { result.least ≡ 0 }
+    ensures greatest { result.greatest ≡ length words.now - 1 }
+    ensures value { result.default ≡ 0 }
+    ensures words { map (λ w. w.now) result.words.now ≡ map (λ w. w.now) words.now }
+    ensures few { length result.words.now ≤ 3 }
+{
+    KeyRow {
+        name,
+        least: 0,
+        greatest: words.len() as u32 - 1,
+        default: 0,
+        words,
+    }
+}
+
+impl Key {
+    /// The key's place in the table.
+    pub fn place(self) -> usize
+        ensures { result ≡ (row_of self).place }
+    {
+        self as usize
+    }
+
+    /// What the table says of the key.
+    pub fn row(self) -> KeyRow
+        ensures name { result.name.now ≡ (row_of self).name }
+        ensures least { result.least ≡ (row_of self).least }
+        ensures greatest { result.greatest ≡ (row_of self).greatest }
+        ensures value { result.default ≡ (row_of self).default }
+        ensures words { map (λ w. w.now) result.words.now ≡ (row_of self).words }
+        ensures few { length result.words.now ≤ 3 }
+    {
+        match self {
+            Key::Instance => numbers("instance", 0, 65_535, 1),
+            Key::First => numbers("first", 0, 65_535, 0),
+            Key::Sender => numbers("sender", 1, 4_294_967_278, 1),
+            Key::Receivers => numbers("receivers", 1, 16, 1),
+            Key::Producers => numbers("producers", 1, 4, 1),
+            Key::E => numbers("e", 64, 1400, 1024),
+            Key::B => numbers("b", 1, 200, 64),
+            Key::MaxN => numbers("max_n", 1, 255, 96),
+            Key::Auto => numbers("auto", 0, 255, 0),
+            Key::Window => numbers("window", 1, 256, 256),
+            Key::Octets => numbers("octets", 1, 16_777_216, 16_777_216),
+            Key::Blocks => numbers("blocks", 2, 256, 16),
+            Key::Mode => words("mode", &["hold", "drop"]),
+            Key::Gap => numbers("gap", 1, 1_000_000, 1000),
+            Key::Grtt => numbers("grtt", 1, 10_000_000, 10_000),
+            Key::GrttCode => numbers("grtt_code", 0, 255, 64),
+            Key::GsizeCode => numbers("gsize_code", 0, 15, 1),
+            Key::K => numbers("k", 0, 15, 4),
+            Key::Step => numbers("step", 0, 1_000_000, 1000),
+            Key::Turns => numbers("turns", 1, 4_000_000, 1_000_000),
+            Key::Fabric => words("fabric", &["direct", "chance", "udp"]),
+            Key::Chance => numbers("chance", 0, 4_294_967_295, 0),
+            Key::Loss => numbers("loss", 0, 900, 0),
+            Key::Repeat => numbers("repeat", 0, 900, 0),
+            Key::Late => numbers("late", 0, 64, 0),
+            Key::Port => numbers("port", 1024, 65_000, 40_000),
+        }
+    }
+
+    /// The key with this name.
+    pub fn named(name: &[u8]) -> Option<Key>
+        ensures { result ≡ key_named name.now keys }
+    {
+        first_named(&KEYS, name)
+    }
+
+    /// The value that a word stands for. `None` where the key's values are numbers, or it is another word.
+    pub fn value_of(self, word: &[u8]) -> Option<u32>
+        ensures { result ≡ place_of_word word.now (row_of self).words }
+    {
+        place_of(self.row().words, word)
+    }
+}
+
+/// The first of these keys that has this name.
+fn first_named(keys: &[Key], name: &[u8]) -> Option<Key>
+    ensures { result ≡ key_named name.now keys.now }
+{
+    for key in keys {
+        if key.row().name.as_bytes() == name {
+            return Some(*key);
+        }
+    }
+    None
+}
+
+/// The place of a word among these.
+fn place_of(words: &[&str], word: &[u8]) -> Option<u32>
+    requires { length words.now ≤ 3 }
+    ensures { result ≡ place_of_word word.now (map (λ w. w.now) words.now) }
+{
+    for (place, known) in words.iter().enumerate() {
+        if known.as_bytes() == word {
+            return Some(place as u32);
+        }
+    }
+    None
+}
