@@ -4,4 +4,5 @@ pub mod Inverse
 pub mod Power
 pub mod Polynomial
 pub mod Interpolation
+pub mod Symbol
 pub mod Laws

@@ -1,13 +1,8 @@
 -- What Lagrange's formula keeps of its places.
-use Rattle.std.specs.Prelude.{ℕ, List, ◌≡◌, ◌<◌, length, map, slice_index}
-use Rattle.std.specs.List.{range_with_len}
-use Rattle.gf_field.specs.Power.{power}
+use Rattle.std.specs.Prelude.{ℕ, List, ◌≡◌, ◌<◌, length, slice_index}
+pub use Rattle.gf_field.specs.Power.{powers}
 use Rattle.gf_field.specs.Inverse.{inverse}
 use Rattle.gf_field.specs.Interpolation.{differences, others}
-
--- the powers of alpha with exponents below n
-abbrev pub powers : ℕ → List ℕ
-powers n = map power (range_with_len 0 n)
 
 -- the weight of the place m: the inverse of the product of its differences to the others
 unfoldable pub weight_at : List ℕ → ℕ → ℕ
