@@ -6,5 +6,7 @@ pub mod Inverses
 pub mod Powers
 pub mod Polynomials
 pub mod Interpolations
+pub mod Places
+pub mod Symbols
 pub mod Steps
 pub mod LawsHold
