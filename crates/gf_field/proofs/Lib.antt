@@ -8,5 +8,7 @@ pub mod Polynomials
 pub mod Interpolations
 pub mod Places
 pub mod Symbols
+pub mod LaneLemmas
+pub mod TableLemmas
 pub mod Steps
 pub mod LawsHold
