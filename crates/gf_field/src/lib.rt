@@ -2,7 +2,7 @@
 //! modulo x^8 + x^4 + x^3 + x^2 + 1.
 #![tactic(auto)]
 
-ghost use Rattle.std.specs.Prelude.{◌≡◌, ◌≢◌, EachIndex, bit_xor, length, slice_index};
+ghost use Rattle.std.specs.Prelude.{◌≡◌, ◌≢◌, ◌<◌, EachIndex, bit_xor, length, slice_index};
 ghost use Rattle.gf_field.specs.Product.{product};
 ghost use Rattle.gf_field.specs.Power.{power};
 
@@ -14,6 +14,7 @@ use lanes::multiples_of;
 use tables::{logarithm_of, power_of};
 
 /// The product of two octets: alpha to the sum of their logarithms.
+#[inline]
 #[tactic(auto, using(crate::proofs::TableLemmas::logarithm_steps))]
 pub fn mul(a: u8, b: u8) -> u8
     ensures { result ≡ product a b }
@@ -28,14 +29,26 @@ pub fn mul(a: u8, b: u8) -> u8
 }
 
 /// The power of alpha, the octet 02, with exponent `j`. The order of alpha is 255.
+#[inline]
 #[tactic(auto, using(crate::proofs::TableLemmas::logarithm_steps))]
 pub fn alpha_pow(j: u32) -> u8
     ensures { result ≡ power j }
 {
-    power_of((j % 255) as usize)
+    power_of(j % 255)
+}
+
+/// The logarithm of an octet that is not 0: the exponent below 255 with which alpha gives it.
+#[inline]
+pub fn alpha_log(a: u8) -> u32
+    requires { a ≢ 0 }
+    ensures below { result < 255 }
+    ensures exponent { power result ≡ a }
+{
+    logarithm_of(a)
 }
 
 /// The inverse of an octet: the product of the two is 1.
+#[inline]
 #[tactic(auto, using(crate::proofs::TableLemmas::logarithm_steps))]
 pub fn inv(a: u8) -> u8
     requires { a ≢ 0 }

@@ -53,20 +53,20 @@ const LOGARITHMS: [u8; 256] = [
 /// The power of alpha with an exponent below 510.
 #[inline(always)]
 #[tactic(auto, using(crate::proofs::TableLemmas::power_in_table))]
-pub fn power_of(exponent: usize) -> u8
+pub fn power_of(exponent: u32) -> u8
     requires { exponent < 510 }
     ensures { result ≡ power exponent }
 {
-    POWERS[exponent]
+    POWERS[exponent as usize]
 }
 
 /// The exponent below 255 with which alpha gives the octet.
 #[inline(always)]
 #[tactic(auto, using(crate::proofs::TableLemmas::logarithm_is))]
-pub fn logarithm_of(octet: u8) -> usize
+pub fn logarithm_of(octet: u8) -> u32
     requires { octet ≢ 0 }
     ensures below { result < 255 }
     ensures exponent { power result ≡ octet }
 {
-    usize::from(LOGARITHMS[usize::from(octet)])
+    u32::from(LOGARITHMS[usize::from(octet)])
 }
