@@ -53,7 +53,12 @@ fn put_rows(k: u8, n: u8, places: &[u8], weights: &[u8], rows: &mut [u8])
     let width = usize::from(k);
     for m in 0..n - k {
         let start = usize::from(m) * width;
-        put_coefficients(places, weights, place_of(k + m), &mut rows[start..start + width]);
+        put_coefficients(
+            places,
+            weights,
+            place_of(k + m),
+            &mut rows[start..start + width],
+        );
     }
 }
 
