@@ -1,8 +1,8 @@
 //! Reading of commands (RFC 5740 section 4.2.3).
 
-ghost use Rattle.std.specs.Prelude.{◌≡◌, ◌+◌, ◌*◌, ◌≤◌, ◌<◌, Ok, Err, MatchResult, length};
-ghost use Rattle.norm_ext.specs.Numbers.{octet};
-ghost use Rattle.norm_ext.specs.Reading.{words_of, command_read, command_by, sub_type_in, flush_read, eot_read, squelch_read, repair_adv_read, ack_req_read, opaque_read};
+ghost use Rattle.std.specs.Prelude.{◌≡◌, ◌+◌, ◌*◌, ◌≤◌, ◌<◌, Ok, Err, MatchResult, IfOk, length};
+ghost use Rattle.norm_ext.specs.Numbers.{octet, sub_type_number};
+ghost use Rattle.norm_ext.specs.Reading.{words_of, least_words, command_read, command_by, sub_type_in, flush_read, eot_read, squelch_read, repair_adv_read, ack_req_read, opaque_read};
 ghost use Rattle.norm_cmdmsg.specs.View.{command_of};
 
 use crate::command::CommandMsg;
@@ -134,7 +134,8 @@ fn read_opaque(bytes: &[u8]) -> Result<CommandMsg<'_>, Refusal>
 /// The sub-type of a command.
 fn known_sub_type(bytes: &[u8]) -> Result<SubType, Refusal>
     requires { 16 ≤ length bytes.now }
-    ensures { result ≡ sub_type_in bytes.now }
+    ensures exact { result ≡ sub_type_in bytes.now }
+    ensures number { IfOk result (λ sub_type. sub_type_number sub_type ≡ octet 12 bytes.now) }
 {
     let s = bytes[12];
     match SubType::of(s) {
@@ -146,8 +147,8 @@ fn known_sub_type(bytes: &[u8]) -> Result<SubType, Refusal>
 /// The command of this sub-type.
 fn read_by(sub_type: SubType, bytes: &[u8], end: usize) -> Result<CommandMsg<'_>, Refusal>
     requires end { end ≡ 4 * words_of bytes.now }
-    requires least { 16 ≤ end }
-    requires named { HasRoom sub_type end }
+    requires least { 4 * least_words MessageType.Command bytes.now ≤ end }
+    requires named { sub_type_number sub_type ≡ octet 12 bytes.now }
     requires long { end ≤ length bytes.now }
     ensures { MatchResult result (λ m. command_by sub_type bytes.now ≡ Ok (command_of m)) (λ refusal. command_by sub_type bytes.now ≡ Err refusal) }
 {

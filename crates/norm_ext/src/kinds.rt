@@ -1,6 +1,6 @@
 //! The numbers of a message's type, of a command's sub-type, of a request's form and of flags (RFC 5740 section 4).
 
-ghost use Rattle.std.specs.Prelude.{◌≡◌};
+ghost use Rattle.std.specs.Prelude.{◌≡◌, IfSome};
 ghost use Rattle.norm_ext.specs.Numbers.{type_number, type_of, sub_type_number, sub_type_of, form_number, form_of};
 
 /// The type of a message (RFC 5740 section 4.1).
@@ -60,7 +60,8 @@ impl SubType {
 
     /// The sub-type with this number. `None` where no sub-type has it.
     pub fn of(number: u8) -> Option<SubType>
-        ensures { result ≡ sub_type_of number }
+        ensures exact { result ≡ sub_type_of number }
+        ensures number { IfSome result (λ sub_type. sub_type_number sub_type ≡ number) }
     {
         match number {
             1 => Some(SubType::Flush),
