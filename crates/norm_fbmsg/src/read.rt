@@ -1,6 +1,6 @@
 //! Reading of feedback (RFC 5740 section 4.3).
 
-ghost use Rattle.std.specs.Prelude.{◌≡◌, ◌+◌, ◌*◌, ◌≤◌, ◌<◌, ◌^◌, Ok, Err, MatchResult, length};
+ghost use Rattle.std.specs.Prelude.{◌≡◌, ◌+◌, ◌*◌, ◌≤◌, ◌<◌, ◌^◌, Ok, Err, MatchResult, OnOk, length};
 ghost use Rattle.norm_ext.specs.Reading.{nack_read, ack_read, ack_encoding_checked, ack_length_checked, ack_content_of};
 ghost use Rattle.norm_fbmsg.specs.View.{nack_of, ack_of, content_of};
 
@@ -49,25 +49,30 @@ fn check_ack_encoding(ack_type: u8, at: usize, content: &[u8]) -> Result<(), Ref
     Ok(())
 }
 
-/// What an acknowledgement of a type holds, or that it is no item.
-fn read_body(ack_type: u8, content: &[u8]) -> Result<AckBody<'_>, Refusal>
-    ensures { MatchResult result
-        (λ body. (ack_length_checked ack_type content.now ≡ Ok tt) × (content_of body ≡ ack_content_of ack_type content.now))
-        (λ refusal. ack_length_checked ack_type content.now ≡ Err refusal) }
+/// The length of a flush's acknowledgement's content, which is one item.
+fn check_ack_length(ack_type: u8, content: &[u8]) -> Result<(), Refusal>
+    ensures exact { result ≡ ack_length_checked ack_type content.now }
+    ensures item { OnOk result (ack_type ≡ 2 → length content.now ≡ 8) }
+{
+    let rest = content.len();
+    if ack_type == FLUSH_ACK && rest != ITEM {
+        return Err(Refusal::BadList { rest });
+    }
+    Ok(())
+}
+
+/// What an acknowledgement of a type holds.
+fn body_of(ack_type: u8, content: &[u8]) -> AckBody<'_>
+    requires { ack_type ≡ 2 → length content.now ≡ 8 }
+    ensures { content_of result ≡ ack_content_of ack_type content.now }
 {
     if ack_type != FLUSH_ACK {
-        return Ok(AckBody::Opaque(content));
+        return AckBody::Opaque(content);
     }
-    if content.len() != ITEM {
-        return Err(Refusal::BadList {
-            rest: content.len(),
-        });
-    }
-    let item = Item {
+    AckBody::Mark(Item {
         object: read_16(content, 2),
         id: read_name(content, 4),
-    };
-    Ok(AckBody::Mark(item))
+    })
 }
 
 /// The positive acknowledgement that the octets spell, or the first refusal.
@@ -81,7 +86,8 @@ pub fn read_ack(bytes: &[u8]) -> Result<AckMsg<'_>, Refusal>
     check_ack_encoding(bytes[14], end, content)?;
     let source = check_source(bytes)?;
     let sender = check_member(read_32(bytes, 8))?;
-    let body = read_body(bytes[14], content)?;
+    check_ack_length(bytes[14], content)?;
+    let body = body_of(bytes[14], content);
     Ok(AckMsg {
         source,
         sequence: read_16(bytes, 2),
