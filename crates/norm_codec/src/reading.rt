@@ -43,11 +43,26 @@ fn read_message(kind: MessageType, bytes: &[u8]) -> Result<Message<'_>, Refusal>
     ensures { MatchResult result (λ m. read_as kind bytes.now ≡ Ok (message_of m)) (λ refusal. read_as kind bytes.now ≡ Err refusal) }
 {
     match kind {
-        MessageType::Info => read_info(bytes).map(Message::Info),
-        MessageType::Data => read_data(bytes).map(Message::Data),
-        MessageType::Command => read_command(bytes).map(Message::Command),
-        MessageType::Nack => read_nack(bytes).map(Message::Nack),
-        MessageType::Ack => read_ack(bytes).map(Message::Ack),
+        MessageType::Info => match read_info(bytes) {
+            Ok(msg) => Ok(Message::Info(msg)),
+            Err(refusal) => Err(refusal),
+        },
+        MessageType::Data => match read_data(bytes) {
+            Ok(msg) => Ok(Message::Data(msg)),
+            Err(refusal) => Err(refusal),
+        },
+        MessageType::Command => match read_command(bytes) {
+            Ok(msg) => Ok(Message::Command(msg)),
+            Err(refusal) => Err(refusal),
+        },
+        MessageType::Nack => match read_nack(bytes) {
+            Ok(msg) => Ok(Message::Nack(msg)),
+            Err(refusal) => Err(refusal),
+        },
+        MessageType::Ack => match read_ack(bytes) {
+            Ok(msg) => Ok(Message::Ack(msg)),
+            Err(refusal) => Err(refusal),
+        },
         MessageType::Report => read_report(bytes),
     }
 }
