@@ -5,3 +5,4 @@ pub mod DataText
 pub mod DataView
 pub mod DataReading
 pub mod Spells
+pub mod MessageView
