@@ -1,7 +1,7 @@
 //! How an object is cut (RFC 5052 section 9.1).
 
-ghost use Rattle.std.specs.Prelude.{◌≡◌, ◌^◌, ◌<◌, None, Some, MatchResult};
-ghost use Rattle.fec_plan.specs.Partition.{cut_of, first_fault, symbols, blocks};
+ghost use Rattle.std.specs.Prelude.{◌≡◌, ◌^◌, ◌<◌, None, Some, MatchResult, IsSome};
+ghost use Rattle.fec_plan.specs.Partition.{cut_of, stream_cut, first_fault, first_shape_fault, blocks, source_symbols, encoding_symbols, sent_octets};
 
 use std::marker::Model;
 use thiserror::Error;
@@ -21,26 +21,42 @@ pub enum PlanFault {
     TooManyBlocks { blocks: u64 },
 }
 
-/// How an object of `l` octets is cut into symbols of `e` octets and blocks of at most `b` of them, with
-/// `max_n` encoding symbols for a block of `b`.
+/// How an object of `l` octets, or a stream, is cut into symbols of `e` octets and blocks of at most `b`
+/// source symbols, with `max_n` encoding symbols for a block of `b`.
 #[derive(Clone, Copy, Debug, PartialEq, Eq)]
 pub struct Plan {
-    l: u64,
+    l: Option<u64>,
     e: u16,
     b: u8,
     max_n: u8,
 }
 
 impl Model for Plan {
-    ghost use Rattle.fec_plan.specs.Partition.{Cut, cut_of, IsSound};
+    ghost use Rattle.fec_plan.specs.Partition.{Cut, IsSound};
 
     ghost Value = { Cut };
 
-    ghost view = { λ p. cut_of p.l p.e p.b p.max_n };
+    ghost view = { λ p. record { l = p.l; e = p.e; b = p.b; max_n = p.max_n } };
 
-    ghost invariant = { λ p. IsSound (cut_of p.l p.e p.b p.max_n) };
+    ghost invariant = { λ p. IsSound (record { l = p.l; e = p.e; b = p.b; max_n = p.max_n }) };
 
     ghost inverse = { λ c. record { l = c.l; e = c.e; b = c.b; max_n = c.max_n } };
+}
+
+/// The first thing that is wrong with symbols of `e` octets and blocks of `b` with `max_n`.
+fn check_shape(e: u16, b: u8, max_n: u8) -> Result<(), PlanFault>
+    ensures { MatchResult result (λ _. first_shape_fault e b max_n ≡ None) (λ fault. first_shape_fault e b max_n ≡ Some fault) }
+{
+    if e < 64 || e > 1400 {
+        return Err(PlanFault::BadSymbol { e });
+    }
+    if b < 1 || b > 200 {
+        return Err(PlanFault::BadBlock { b });
+    }
+    if max_n < b {
+        return Err(PlanFault::BadMaxN { b, max_n });
+    }
+    Ok(())
 }
 
 impl Plan {
@@ -68,20 +84,25 @@ impl Plan {
         if blocks > 16_777_216 {
             return Err(PlanFault::TooManyBlocks { blocks });
         }
-        Ok(Plan { l, e, b, max_n })
+        Ok(Plan {
+            l: Some(l),
+            e,
+            b,
+            max_n,
+        })
     }
 
-    /// The object's source symbols.
-    pub fn symbols(&self) -> u64
-        ensures { result ≡ symbols self.now }
+    /// The plan of a stream, or the first thing that is wrong with it.
+    pub fn stream(e: u16, b: u8, max_n: u8) -> Result<Plan, PlanFault>
+        ensures { let cut = stream_cut e b max_n in
+            MatchResult result (λ plan. (first_fault cut ≡ None) × (plan ≡ cut)) (λ fault. first_fault cut ≡ Some fault) }
     {
-        self.l.div_ceil(u64::from(self.e))
-    }
-
-    /// The object's blocks, at most 16,777,216.
-    pub fn blocks(&self) -> u32
-        ensures { result ≡ blocks self.now }
-    {
-        self.symbols().div_ceil(u64::from(self.b)) as u32
+        check_shape(e, b, max_n)?;
+        Ok(Plan {
+            l: None,
+            e,
+            b,
+            max_n,
+        })
     }
 }

@@ -1,0 +1,9 @@
+pub mod Numbers
+pub mod Steps
+pub mod Extensions
+pub mod Requests
+pub mod Lists
+pub mod Segment
+pub mod Message
+pub mod Octets
+pub mod Reading
