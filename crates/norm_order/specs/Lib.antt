@@ -1,0 +1,9 @@
+pub mod Sets
+pub mod First
+pub mod Moments
+pub mod Points
+pub mod Entries
+pub mod Segments
+pub mod Shapes
+pub mod Symbols
+pub mod Upto
