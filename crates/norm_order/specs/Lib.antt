@@ -1,7 +1,6 @@
 pub mod Sets
 pub mod First
 pub mod Moments
-pub mod Points
 pub mod Entries
 pub mod Segments
 pub mod Shapes

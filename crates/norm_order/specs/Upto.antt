@@ -5,7 +5,7 @@ use Rattle.fec_plan.specs.Partition.{symbol_number}
 use Rattle.fec_plan.specs.declared.position.Position.{Position}
 use Rattle.norm_order.specs.declared.up.Up.{Up}
 use Rattle.norm_order.specs.declared.up.Up.TheVariants as up
-use Rattle.norm_order.specs.Points.{reaches}
+use Rattle.fec_plan.specs.Points.{reaches}
 use Rattle.norm_order.specs.Entries.{Object, Whole, Stream, Entry}
 use Rattle.norm_order.specs.Segments.{Segment, segments}
 use Rattle.norm_order.specs.Shapes.{shape_of, last_in}

@@ -4,15 +4,16 @@ use Rattle.std.specs.List.{range_with_len, list_any}
 use Rattle.norm_base.specs.Settings.{Settings}
 use Rattle.fec_plan.specs.Partition.{source_symbols}
 use Rattle.fec_plan.specs.declared.position.Position.{Position}
+use Rattle.norm_ext.specs.Asking.{segment_flag, block_flag, object_flag, info_flag, has_flag, named_by, Span, named_spans, Count}
 use Rattle.norm_ext.specs.Requests.{Request}
 use Rattle.norm_ext.specs.declared.kinds.Form.TheVariants as form
-use Rattle.norm_order.specs.Points.{Point, point, position, point_of, point_before, position_before}
+use Rattle.fec_plan.specs.Points.{Point, point, position, point_of, point_before, position_before}
 use Rattle.norm_order.specs.Sets.{is_member, with_members}
 use Rattle.norm_order.specs.Shapes.{Shape, symbols_of, closed_in, encoded_in, is_full}
 use Rattle.norm_send_rules.specs.Wants.{want_before}
 use Rattle.norm_send_rules.specs.SenderState.{SenderState, Asked, Round}
 use Rattle.norm_send_rules.specs.InWindow.{stands_behind, current_shapes}
-use Rattle.norm_send_rules.specs.Asking.{segment_flag, block_flag, object_flag, info_flag, has_flag, named_by, pairs, Count, wants_of, counts_of}
+use Rattle.norm_send_rules.specs.Asking.{wants_of, counts_of}
 use Rattle.norm_send_rules.specs.declared.want.Want.{Want}
 use Rattle.norm_send_rules.specs.declared.want.Want.TheVariants.{Symbol}
 
@@ -67,9 +68,8 @@ gives_something r =
 -- the items of a request, of ranges the first ends of those that are not empty
 abbrev pub begins_at : Settings → Request → List Position
 begins_at p r = elim r.form [
-  form.Items ↦ map (named_by p) r.items
-  | form.Ranges ↦ map (λ (ends : Position × Position). ends.0)
-      (filter (λ ends. not (position_before ends.1 ends.0)) (pairs (map (named_by p) r.items)))
+  form.Items ↦ map (λ (s : Span). s.first) (named_spans p r)
+  | form.Ranges ↦ map (λ (s : Span). s.first) (named_spans p r)
   | form.Erasures ↦ map (named_by p) r.items
 ]
 

@@ -3,19 +3,19 @@ use Rattle.std.specs.Prelude.{ℕ, ◌+◌, ◌*◌, ◌==◌, ◌&&◌, List, [
 use Rattle.std.specs.List.{list_any}
 use Rattle.norm_base.specs.Settings.{Settings}
 use Rattle.fec_plan.specs.declared.position.Position.{Position}
+use Rattle.norm_ext.specs.ObjectIds.{index_of}
 use Rattle.norm_ext.specs.Message.{Message, Nack, Ack, NackMessage, AckMessage, Mark, Unread}
 use Rattle.norm_ext.specs.Numbers.{flush_ack}
 use Rattle.norm_ext.specs.Reading.{decoded}
 use Rattle.norm_ext.specs.Requests.{Request}
 use Rattle.norm_ext.specs.declared.head.Item.{Item}
 use Rattle.norm_order.specs.Moments.{moment_after}
-use Rattle.norm_order.specs.Points.{position, position_before}
+use Rattle.fec_plan.specs.Points.{position, position_before}
 use Rattle.norm_order.specs.Sets.{with_member}
 use Rattle.norm_order.specs.Shapes.{Shape, is_source, last_source}
 use Rattle.norm_send_rules.specs.SenderState.{SenderState, Listing, Asked, Round}
 use Rattle.norm_send_rules.specs.InWindow.{next_index, current_shapes}
 use Rattle.norm_send_rules.specs.Requests.{is_past, counted_anew, settled}
-use Rattle.norm_send_rules.specs.Asking.{index_of}
 
 -- a NACK or an acknowledgement counts where it is a receiver's, to this sender and its current instance
 abbrev pub is_for : Settings → SenderState → ℕ → ℕ → ℕ → Bool

@@ -1,7 +1,7 @@
 -- The window of a sender: what was enqueued and not dropped (RFC 5740 section 5.1).
 use Rattle.std.specs.Prelude.{ℕ, List, length, Bool, not, nat_lt}
 use Rattle.norm_base.specs.Settings.{Settings}
-use Rattle.norm_order.specs.Points.{Point, point_of, point_before}
+use Rattle.fec_plan.specs.Points.{Point, point_of, point_before}
 use Rattle.norm_order.specs.Shapes.{Shape, shapes_of}
 use Rattle.norm_send_rules.specs.SenderState.{SenderState}
 use Rattle.norm_send_rules.specs.declared.want.Want.{Want}

@@ -6,17 +6,14 @@ use Rattle.norm_base.specs.declared.kinds.Kind.TheVariants as kind
 use Rattle.fec_plan.specs.declared.position.Position.{Position}
 use Rattle.norm_ext.specs.Extensions.{Extension, fti_extension}
 use Rattle.norm_ext.specs.Message.{Message, Info, Data, Flush, Squelch}
+use Rattle.norm_ext.specs.ObjectIds.{object_id}
 use Rattle.norm_ext.specs.declared.head.ObjHead.{ObjHead}
 use Rattle.norm_ext.specs.declared.head.CmdHead.{CmdHead}
 use Rattle.norm_ext.specs.declared.head.Fti.{Fti}
-use Rattle.norm_order.specs.Points.{Point}
+use Rattle.fec_plan.specs.Points.{Point}
 use Rattle.norm_order.specs.Entries.{Object, Whole, Stream}
 use Rattle.norm_order.specs.Symbols.{symbol_octets}
 use Rattle.norm_send_rules.specs.SenderState.{SenderState}
-
--- the object transport id of an index
-abbrev pub object_id : Settings → ℕ → ℕ
-object_id p index = (p.first + index) % 65536
 
 -- the length that an object's transmission information says: its own, and of a stream that of its buffer
 abbrev pub told_length : Settings → Object → ℕ

@@ -3,7 +3,7 @@ use Rattle.std.specs.Prelude.{ℕ, ◌==◌, ◌&&◌, List, [], ◌∷◌, leng
 use Rattle.std.specs.List.{list_all}
 use Rattle.std.specs.Prelude.{nat_lt}
 use Rattle.fec_plan.specs.declared.position.Position.{Position}
-use Rattle.norm_order.specs.Points.{reaches}
+use Rattle.fec_plan.specs.Points.{reaches}
 use Rattle.norm_order.specs.Sets.{with_member}
 use Rattle.norm_send_rules.specs.SenderState.{SenderState, Listing, Watermark}
 use Rattle.norm_send_rules.specs.declared.news.Outcome.{Outcome}

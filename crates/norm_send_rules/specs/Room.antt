@@ -5,7 +5,7 @@ use Rattle.std.specs.Int.{div_ceil}
 use Rattle.norm_base.specs.Settings.{Settings}
 use Rattle.norm_base.specs.declared.kinds.Mode.TheVariants as mode
 use Rattle.fec_plan.specs.declared.position.Position.{Position}
-use Rattle.norm_order.specs.Points.{Point, point, position, position_before}
+use Rattle.fec_plan.specs.Points.{Point, point, position, position_before}
 use Rattle.norm_order.specs.Sets.{is_member}
 use Rattle.norm_order.specs.Entries.{Object, Whole, Stream, Entry}
 use Rattle.norm_order.specs.Shapes.{Shape, shape_of, sources_in, symbols_of, last_in, is_full}

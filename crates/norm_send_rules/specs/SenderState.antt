@@ -5,7 +5,7 @@ use Rattle.norm_base.specs.Direct.{receivers_of}
 use Rattle.norm_base.specs.declared.node.Origin.{Origin}
 use Rattle.fec_plan.specs.declared.position.Position.{Position}
 use Rattle.norm_ext.specs.Requests.{Request}
-use Rattle.norm_order.specs.Points.{Point, point}
+use Rattle.fec_plan.specs.Points.{Point, point}
 use Rattle.norm_order.specs.Entries.{Entry}
 use Rattle.norm_send_rules.specs.declared.news.Outcome.{Outcome}
 use Rattle.norm_send_rules.specs.declared.want.Want.{Want}

@@ -7,7 +7,7 @@ use Rattle.fec_plan.specs.declared.position.Position.{Position}
 use Rattle.norm_ext.specs.Message.{Message}
 use Rattle.norm_ext.specs.Octets.{octets_of}
 use Rattle.norm_order.specs.Moments.{moment_after}
-use Rattle.norm_order.specs.Points.{position, position_before}
+use Rattle.fec_plan.specs.Points.{position, position_before}
 use Rattle.norm_order.specs.Sets.{with_member}
 use Rattle.norm_order.specs.Entries.{Object, Whole, Stream, Entry}
 use Rattle.norm_order.specs.Shapes.{Shape, shape_of, shapes_of, symbols_of, closed_in, is_full, closed_blocks}
