@@ -5,4 +5,5 @@ pub mod Power
 pub mod Polynomial
 pub mod Interpolation
 pub mod Symbol
+pub mod Lanes
 pub mod Laws

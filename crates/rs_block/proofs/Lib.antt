@@ -1,5 +1,5 @@
 pub mod Formula
-pub mod Places
 pub mod Words
 pub mod Parts
 pub mod Blocks
+pub mod Functions

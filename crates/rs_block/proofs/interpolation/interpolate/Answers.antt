@@ -1,6 +1,6 @@
 use Rattle.std.proofs.Common.{refl, length, arith}
 use Rattle.rs_block.proofs.Formula.{summed_begin, summed_end, summed_go_on, scale_is}
-use Rattle.rs_block.proofs.Places.{distinct_from_pairs}
+use Rattle.gf_field.proofs.Places.{distinct_from_pairs}
 use Rattle.rs_block.proofs.interpolation.interpolate.Goals as goal
 
 pub loop-i-init : goal.loop-i-init

@@ -1,5 +1,5 @@
 use Rattle.std.proofs.Common.{◌∙◌, sym, ap, length}
-use Rattle.rs_block.proofs.Words.{length-powers}
+use Rattle.gf_field.proofs.Places.{length-powers}
 use Rattle.rs_block.proofs.encode.Code.new.Goals as goal
 
 pub weigh-requires : goal.weigh-requires

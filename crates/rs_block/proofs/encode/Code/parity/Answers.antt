@@ -1,7 +1,8 @@
 use Rattle.std.proofs.Common.{◌∙◌, sym, ap, arith, length, ◌≡◌, ◌≤◌, ◌*◌}
 use Rattle.rs_block.specs.Code.{CodeShape}
 use Rattle.rs_block.specs.Points.{powers}
-use Rattle.rs_block.proofs.Words.{sources_differ, away_from_sources, symbol_from_program, length-powers}
+use Rattle.rs_block.proofs.Words.{sources_differ, away_from_sources, symbol_from_program}
+use Rattle.gf_field.proofs.Places.{length-powers}
 use Rattle.rs_block.proofs.encode.Code.parity.Goals as goal
 
 -- k and n are those of the fields
