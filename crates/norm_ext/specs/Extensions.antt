@@ -1,8 +1,9 @@
 -- Header extensions (RFC 5740 section 4.1).
 use Rattle.std.specs.Prelude.{ℕ, zero, suc, ◌+◌, ◌-◌, ◌*◌, ◌/◌, ◌==◌, ◌&&◌, ◌≡◌, ◌≤◌, ◌<◌, nat_lt, List, [], ◌∷◌, ◌++◌, length, take, drop, flat_map, Option, None, Some, Result, Ok, Err, if◌then◌else◌}
 use Rattle.byteorder.specs.Endian.{big_bytes, big_number}
+use Rattle.norm_ext.specs.Pieces.{pieces_behind, checked_behind}
 use Rattle.norm_ext.specs.Numbers.{octet, number, fti_type, first_short_type}
-use Rattle.norm_ext.specs.declared.head.Fti.{Fti}
+use Rattle.norm_ext.specs.declared.fti.Fti.{Fti}
 use Rattle.norm_ext.specs.declared.refusal.ExtFault.{ExtFault}
 use Rattle.norm_ext.specs.declared.refusal.ExtFault.TheVariants.{ZeroLength, Overrun}
 
@@ -44,15 +45,9 @@ first_extension octets =
       content = take (extension_length octets - content_at (octet 0 octets)) (drop (content_at (octet 0 octets)) octets);
     }
 
--- the extensions of a list behind so many octets
-abbrev pub extensions_behind : ℕ → List ℕ → List Extension
-extensions_behind skip [] = []
-extensions_behind zero (x ∷ rest) = first_extension (x ∷ rest) ∷ extensions_behind (extension_length (x ∷ rest) - 1) rest
-extensions_behind (suc skip) (x ∷ rest) = extensions_behind skip rest
-
 -- the extensions of a list of whole extensions
 abbrev pub extensions_of : List ℕ → List Extension
-extensions_of octets = extensions_behind 0 octets
+extensions_of octets = pieces_behind first_extension extension_length 0 octets
 
 -- what is wrong with the extension at the front, which stands at a place
 abbrev pub extension_checked : ℕ → List ℕ → Result (Unit {0}) ExtFault
@@ -61,20 +56,17 @@ extension_checked at octets =
     (if extension_length octets == 0 then Err (ZeroLength at) else
     (if nat_lt (length octets) (extension_length octets) then Err (Overrun at) else Ok tt))
 
-abbrev pub checked_then : {E : Type 0} → Result (Unit {0}) E → Result (Unit {0}) E → Result (Unit {0}) E
-checked_then (Ok x) next = next
-checked_then (Err e) next = Err e
+-- the first that is wrong with a list of extensions that begins at a place
+abbrev pub extensions_checked : ℕ → List ℕ → Result (Unit {0}) ExtFault
+extensions_checked at octets = checked_behind extension_checked extension_length at 0 octets
 
--- the first that is wrong with a list of extensions behind so many octets, which stand at a place
-abbrev pub checked_behind : ℕ → ℕ → List ℕ → Result (Unit {0}) ExtFault
-checked_behind at skip [] = Ok tt
-checked_behind at zero (x ∷ rest) =
-    checked_then (extension_checked at (x ∷ rest)) (checked_behind (suc at) (extension_length (x ∷ rest) - 1) rest)
-checked_behind at (suc skip) (x ∷ rest) = checked_behind (suc at) skip rest
+-- a list of whole extensions
+pub record IsChecked (octets : List ℕ) : Type 0 where
+  pub checked : extensions_checked 0 octets ≡ Ok tt
 
--- the first that is wrong with a list of extensions
-abbrev pub extensions_checked : List ℕ → Result (Unit {0}) ExtFault
-extensions_checked octets = checked_behind 0 0 octets
+-- an extension of its parts
+abbrev pub extension_of : ℕ → List ℕ → Extension
+extension_of kind content = record { kind = kind; content = content }
 
 -- what the FEC Object Transmission Information says (RFC 5740 section 4.1, RFC 5510 section 5.3): 48 bits of the
 -- object's length, 16 of the symbol length, 8 of the block length, 8 of the most encoding symbols of a block

@@ -1,7 +1,9 @@
 pub mod Numbers
 pub mod Steps
+pub mod Pieces
 pub mod Extensions
 pub mod Requests
+pub mod RequestView
 pub mod Lists
 pub mod Segment
 pub mod Message

@@ -1,6 +1,6 @@
 -- What octets say: the message that they spell, or the first thing that is wrong with them (RFC 5740 section 4).
 use Rattle.std.specs.Prelude.{ℕ, ◌+◌, ◌-◌, ◌*◌, ◌/◌, ◌%◌, ◌==◌, nat_lt, not, ◌&&◌, ◌||◌, List, ◌∷◌, [], length, take, drop, Option, None, Some, Result, Ok, Err, if◌then◌else◌}
-use Rattle.norm_ext.specs.Steps.{◌>>=◌, refused_if}
+use Rattle.norm_ext.specs.Steps.{◌>>=◌, refused_if, some_or}
 use Rattle.norm_ext.specs.Numbers.{octet, number, part, name_at, type_number, type_of, sub_type_of, encoding_id, flush_ack}
 use Rattle.norm_ext.specs.Extensions.{extensions_of, extensions_checked}
 use Rattle.norm_ext.specs.Requests.{requests_of, requests_checked}
@@ -60,15 +60,15 @@ header_checked kind octets = do
 abbrev pub encoding_checked : ℕ → Result (Unit {0}) Refusal
 encoding_checked id = refused_if (not (id == encoding_id)) (FecId id)
 
--- an extension that is wrong, in a list that begins at a place
-abbrev pub extension_refused : ℕ → Result (Unit {0}) ExtFault → Result (Unit {0}) Refusal
-extension_refused from (Ok x) = Ok tt
-extension_refused from (Err (ZeroLength at)) = Err (Ext (from + at))
-extension_refused from (Err (Overrun at)) = Err (Ext (from + at))
+-- a datagram with an extension that is wrong
+abbrev pub extension_refused : Result (Unit {0}) ExtFault → Result (Unit {0}) Refusal
+extension_refused (Ok x) = Ok tt
+extension_refused (Err (ZeroLength at)) = Err (Ext at)
+extension_refused (Err (Overrun at)) = Err (Ext at)
 
 -- the header's extensions, which begin at a place
 abbrev pub header_extensions_checked : ℕ → List ℕ → Result (Unit {0}) Refusal
-header_extensions_checked from octets = extension_refused from (extensions_checked (header_from from octets))
+header_extensions_checked from octets = extension_refused (extensions_checked from (header_from from octets))
 
 -- a node's id names a member
 abbrev pub member_checked : ℕ → Result (Unit {0}) Refusal

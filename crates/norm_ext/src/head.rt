@@ -35,13 +35,3 @@ pub struct Item {
     pub object: u16,
     pub id: PayloadId,
 }
-
-/// The FEC Object Transmission Information of FEC Encoding ID 5: an object's length in octets, below 2^48, its
-/// symbol length in octets, its block length in symbols, and the most encoding symbols of a block.
-#[derive(Clone, Copy, Debug, PartialEq, Eq)]
-pub struct Fti {
-    pub l: u64,
-    pub e: u16,
-    pub b: u8,
-    pub max_n: u8,
-}

@@ -1,0 +1,4 @@
+pub mod PieceLemmas
+pub mod ExtensionLemmas
+pub mod NumberLemmas
+pub mod RequestLemmas
