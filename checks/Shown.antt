@@ -160,3 +160,109 @@ cut_at p h n = record { happened = take n h.happened; now = last_world (world_op
 abbrev pub safe_along : Settings → List Event → List ℕ → Bool
 safe_along p events lengths =
     let h = history p events in is_lawful p events && is_safe p h && list_all (λ n. is_safe p (cut_at p h n)) lengths
+
+-- Small runs: a message in a few numbers, and steps that pass on what a node gave.
+
+abbrev pub brief_item : RequestItem → List ℕ
+brief_item x = x.item.object ∷ x.item.id.block ∷ x.item.id.symbol ∷ []
+
+abbrev pub brief_request : Request → List ℕ
+brief_request r = form_number r.form ∷ r.flags ∷ flat_map brief_item r.items
+
+abbrev pub brief_content : AckContent → List ℕ
+brief_content (message.Mark item) = item.object ∷ item.id.block ∷ item.id.symbol ∷ []
+brief_content (message.Unread octets) = []
+
+-- its type, of a command with the sub-type, and what it names
+abbrev pub brief_message : Message → List ℕ
+brief_message (message.Info m) = 1 ∷ m.head.flags ∷ m.head.object ∷ []
+brief_message (message.Data m) = 2 ∷ m.head.flags ∷ m.head.object ∷ m.id.block ∷ m.id.symbol ∷ []
+brief_message (message.Flush m) = 31 ∷ m.object ∷ m.id.block ∷ m.id.symbol ∷ m.nodes
+brief_message (message.Squelch m) = 33 ∷ m.object ∷ m.id.block ∷ m.id.symbol ∷ []
+brief_message (message.Nack m) = 4 ∷ flat_map brief_request m.requests
+brief_message (message.Ack m) = 5 ∷ brief_content m.content
+brief_message m = 9 ∷ []
+
+abbrev pub brief_datagram : {E : Type 0} → Result Message E → List ℕ
+brief_datagram (Ok m) = brief_message m
+brief_datagram (Err e) = 0 ∷ []
+
+abbrev pub brief : Answer → List ℕ
+brief (Sent (Some datagram)) = brief_datagram (decoded datagram)
+brief (Sent None) = []
+brief answer = shown_answer answer
+
+-- an event, of which the answer is listed; the datagram that a node gave is passed on to another, if it gave one; or a
+-- look at the world, which is listed
+pub data Step : Type 0 where
+  Do : (event : Event) → Step
+  Pass : (from to now draw : ℕ) → Step
+  Look : (numbers : World → List ℕ) → Step
+
+abbrev pub given_by : World → ℕ → Option (ℕ × List ℕ)
+given_by w node = find (λ (g : ℕ × List ℕ). g.0 == node) w.given
+
+abbrev pub passed : Settings → World → Step → World
+passed p w (Do e) = (world_step p w e).0
+passed p w (Pass from to now draw) = elim (given_by w from) [
+  Some g ↦ run_from p w (Offered from g.1 ∷ Delivered to g.1 now draw ∷ [])
+  | None ↦ w
+]
+passed p w (Look f) = w
+
+abbrev pub listed : Settings → World → Step → List (List ℕ)
+listed p w (Do e) = brief (world_step p w e).1 ∷ []
+listed p w (Pass from to now draw) = []
+listed p w (Look f) = f w ∷ []
+
+-- what the steps of a small run list
+abbrev pub played : Settings → World → List Step → List (List ℕ)
+played p w [] = []
+played p w (s ∷ steps) = listed p w s ++ played p (passed p w s) steps
+
+-- Damaged histories, which the tests of safety have to refuse.
+
+-- what happened at a place, changed
+abbrev pub changed_at : ℕ → (Happening → List Happening) → List Happening → List Happening
+changed_at n change [] = []
+changed_at zero change (h ∷ happened) = change h ++ happened
+changed_at (suc n) change (h ∷ happened) = h ∷ changed_at n change happened
+
+abbrev pub with_happened : (List Happening → List Happening) → History → History
+with_happened change h = record h { happened = change h.happened }
+
+-- another answer at a place
+abbrev pub answered_at : ℕ → Answer → List Happening → List Happening
+answered_at n answer happened = changed_at n (λ h. record h { answer = answer } ∷ []) happened
+
+-- the same once more at a place
+abbrev pub twice_at : ℕ → List Happening → List Happening
+twice_at n happened = changed_at n (λ h. h ∷ h ∷ []) happened
+
+-- what happened at a place, at the end again
+abbrev pub again_at : ℕ → List Happening → List Happening
+again_at n happened = happened ++ take 1 (drop n happened)
+
+-- another state of the sender at the end
+abbrev pub with_sender : (SenderState → SenderState) → History → History
+with_sender change h = record h { now = record (h.now) { sender = change h.now.sender } }
+
+-- all receivers listed past a position
+abbrev pub all_listed : Position → SenderState → SenderState
+all_listed at s = record s { listings = map (λ (l : Listing). record l { past = Some at }) s.listings }
+
+-- every request satisfied
+abbrev pub all_satisfied : SenderState → SenderState
+all_satisfied s = record s { requests = map (λ (w : Watermark). record w { ended = Some outcome.Satisfied }) s.requests }
+
+-- the current instance among the earlier ones
+abbrev pub instance_twice : SenderState → SenderState
+instance_twice s = record s { earlier = s.current ∷ s.earlier }
+
+-- the first entry once more
+abbrev pub entry_twice : SenderState → SenderState
+entry_twice s = record s { current = record (s.current) { order = s.current.order ++ take 1 s.current.order } }
+
+-- the tests of the four parts of safety, of the first events of a run, as they were and damaged
+abbrev pub parts_of_safety : Settings → History → List Bool
+parts_of_safety p h = is_once_each h ∷ is_in_order p h ∷ is_listed_after p h ∷ is_satisfied_exactly h ∷ []

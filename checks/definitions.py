@@ -92,7 +92,7 @@ class Workspace:
             + '\npub read : (n : ℕ) → n ≡ n\nread n = refl\n')
         shared = open(os.path.join(HERE, 'Shown.antt'), encoding='utf-8').read()
         opened = list(self.unfoldable())
-        public = re.findall(r'^abbrev pub (\S+) :', terms.NUMERALS + shared, re.M)
+        public = re.findall(r'^(?:abbrev pub|pub data) (\S+) :', terms.NUMERALS + shared, re.M) + ['Do', 'Pass', 'Look']
         put('proofs/Shared.antt', terms.USES + ''.join('use %s.{%s as open%d}\n' % (m, n, i) for i, (m, n) in enumerate(opened))
             + '\n' + terms.NUMERALS + shared + '\nunfoldable pub opened : ⊤\nunfolding %s\nopened = tt\n'
             % ' '.join('open%d' % i for i in range(len(opened))))
@@ -151,8 +151,8 @@ class Workspace:
 
 def found_in(text):
     """The value that antt computed where a case differs."""
-    m = re.search(r'the other has `(.*?)`\s', text, re.S)
-    return m.group(1) if m and 'limit' not in text.split('\n')[0] else None
+    found = re.findall(r'the other has `(.*?)`\s', text, re.S)
+    return found[-1] if found and 'limit' not in text.split('\n')[0] else None
 
 
 def runs_of(folder, names, count):
@@ -167,7 +167,7 @@ def runs_of(folder, names, count):
 
 def report(name, run, text):
     """Says where a run and its record part."""
-    m = re.match(r'Some \((\d+), (.*)\)$', found_in(text) or '', re.S)
+    m = re.match(r'\(?Some \((\d+), (.*)\)\)?$', found_in(text) or '', re.S)
     if not m:
         return '%s: undecided\n%s' % (name, text[:1500])
     n, computed = int(m.group(1)), terms.read_numbers(m.group(2))

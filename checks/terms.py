@@ -3,7 +3,7 @@ import re
 
 NONE = 4294967295
 USES = '''use Rattle.std.proofs.Common.{◌≡◌, ◌∷◌, [], Ok, Err, Option, Some, None, codes, refl}
-use Rattle.std.specs.Prelude.{ℕ, zero, suc, ◌+◌, ◌/◌, ◌%◌, ◌==◌, ◌&&◌, ⊤, Result, List, ◌++◌, Bool, true, false, not, length, map, filter, take, nat_le, cond, flat_map}
+use Rattle.std.specs.Prelude.{ℕ, zero, suc, ◌+◌, ◌/◌, ◌%◌, ◌==◌, ◌&&◌, ⊤, Result, List, ◌++◌, Bool, true, false, not, length, map, filter, find, take, drop, nat_le, cond, flat_map}
 use Rattle.std.specs.List.{list_all}
 use Rattle.norm_base.specs.Settings.{Settings}
 use Rattle.norm_base.specs.declared.kinds.Mode.TheVariants as mode
@@ -13,6 +13,14 @@ use Rattle.norm_base.specs.declared.kinds.Kind.TheVariants as kind
 use Rattle.norm_base.specs.declared.node.Origin.{Origin}
 use Rattle.fec_plan.specs.declared.position.Position.{Position}
 use Rattle.fec_plan.specs.Points.{Point, position}
+use Rattle.norm_ext.specs.Extensions.{fti_extension}
+use Rattle.norm_ext.specs.Message.{Message, AckContent}
+use Rattle.norm_ext.specs.Message as message
+use Rattle.norm_ext.specs.Numbers.{form_number}
+use Rattle.norm_ext.specs.Octets.{octets_of}
+use Rattle.norm_ext.specs.Reading.{decoded}
+use Rattle.norm_ext.specs.Requests.{Request, RequestItem}
+use Rattle.norm_ext.specs.declared.kinds.Form.TheVariants as form
 use Rattle.norm_order.specs.declared.up.Up.{Up}
 use Rattle.norm_order.specs.declared.up.Up.TheVariants as up
 use Rattle.norm_send_rules.specs.SenderState.{SenderState, Round, Listing, Watermark}
@@ -36,9 +44,13 @@ use Rattle.norm_send_rules.specs.declared.want.Want.TheVariants as want
 use Rattle.norm_receive_rules.specs.ReceiverState.{ReceiverState, Held, HeldInfo}
 use Rattle.norm_safety.specs.Events.{Event, Commanded, Delivered, Ticked, Offered, UpTaken, NewsAsked, Answer, Gave, Sent, Took, Told, Silent}
 use Rattle.norm_safety.specs.World.{World, world_opening}
-use Rattle.norm_safety.specs.WorldStep.{world_step}
+use Rattle.norm_safety.specs.WorldStep.{world_step, run_from}
 use Rattle.norm_safety.specs.History.{Happening, History, history, last_world}
 use Rattle.norm_safety.specs.Lawful.{is_lawful}
+use Rattle.norm_safety.specs.OnceEach.{is_once_each}
+use Rattle.norm_safety.specs.InOrder.{is_in_order}
+use Rattle.norm_safety.specs.ListedAfter.{is_listed_after}
+use Rattle.norm_safety.specs.SatisfiedExactly.{is_satisfied_exactly}
 use Rattle.norm_safety.specs.Safe.{is_safe}
 '''
 # a list of so many octets from one numeral, which is read several times faster than a list
@@ -127,6 +139,16 @@ def took(u):
     if word == 'bytes':
         return [43, v['index'], v['offset'], *bytes.fromhex(v['bytes'])]
     return [{'open': 42, 'end': 44, 'lost': 45}[word], v['index']]
+
+
+def up(u):
+    (word, v), = u.items()
+    if word == 'object':
+        info = None if v['info'] is None else octets(v['info'])
+        return '(up.Object %d kind.%s %s %s)' % (v['index'], v['kind'].capitalize(), opt(info), octets(v['bytes']))
+    if word == 'bytes':
+        return '(up.StreamBytes %d %d %s)' % (v['index'], v['offset'], octets(v['bytes']))
+    return '(up.%s %d)' % ({'open': 'StreamOpen', 'end': 'StreamEnd', 'lost': 'Lost'}[word], v['index'])
 
 
 def answer(e):

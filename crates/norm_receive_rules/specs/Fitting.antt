@@ -3,7 +3,7 @@ use Rattle.std.specs.Prelude.{ℕ, ◌+◌, ◌*◌, ◌==◌, ◌&&◌, ◌||�
 use Rattle.std.specs.Bool.{beq}
 use Rattle.norm_base.specs.Settings.{Settings}
 use Rattle.fec_plan.specs.Partition.{first_fault}
-use Rattle.norm_ext.specs.declared.head.Fti.{Fti}
+use Rattle.norm_ext.specs.declared.fti.Fti.{Fti}
 use Rattle.norm_order.specs.First.{first_where}
 use Rattle.norm_order.specs.Sets.{with_member}
 use Rattle.norm_receive_rules.specs.ReceiverState.{ReceiverState, Plan}

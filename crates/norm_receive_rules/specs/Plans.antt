@@ -5,7 +5,7 @@ use Rattle.fec_plan.specs.Partition.{Cut, cut_of, stream_cut, source_symbols}
 use Rattle.fec_plan.specs.Points.{Point, point, point_of, position_before}
 use Rattle.fec_plan.specs.declared.position.Position.{Position}
 use Rattle.norm_ext.specs.Asking.{has_flag}
-use Rattle.norm_ext.specs.declared.head.Fti.{Fti}
+use Rattle.norm_ext.specs.declared.fti.Fti.{Fti}
 use Rattle.norm_receive_rules.specs.ReceiverState.{ReceiverState, Plan, Held, HeldInfo}
 
 -- the flags of INFO and DATA (RFC 5740 section 4.2.1); STREAM comes before FILE

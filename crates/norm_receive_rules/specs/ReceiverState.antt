@@ -3,7 +3,7 @@ use Rattle.std.specs.Prelude.{ℕ, List, [], Option, None}
 use Rattle.fec_plan.specs.Points.{Point, position}
 use Rattle.fec_plan.specs.declared.position.Position.{Position}
 use Rattle.norm_ext.specs.Requests.{Request}
-use Rattle.norm_ext.specs.declared.head.Fti.{Fti}
+use Rattle.norm_ext.specs.declared.fti.Fti.{Fti}
 use Rattle.norm_order.specs.declared.up.Up.{Up}
 
 -- an object's plan: its transmission information, and its flags

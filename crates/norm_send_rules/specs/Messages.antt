@@ -9,7 +9,7 @@ use Rattle.norm_ext.specs.Message.{Message, Info, Data, Flush, Squelch}
 use Rattle.norm_ext.specs.ObjectIds.{object_id}
 use Rattle.norm_ext.specs.declared.head.ObjHead.{ObjHead}
 use Rattle.norm_ext.specs.declared.head.CmdHead.{CmdHead}
-use Rattle.norm_ext.specs.declared.head.Fti.{Fti}
+use Rattle.norm_ext.specs.declared.fti.Fti.{Fti}
 use Rattle.fec_plan.specs.Points.{Point}
 use Rattle.norm_order.specs.Entries.{Object, Whole, Stream}
 use Rattle.norm_order.specs.Symbols.{symbol_octets}
