@@ -1,0 +1,12 @@
+pub mod Events
+pub mod World
+pub mod WorldStep
+pub mod History
+pub mod Lawful
+pub mod Hands
+pub mod Fronts
+pub mod OnceEach
+pub mod InOrder
+pub mod ListedAfter
+pub mod SatisfiedExactly
+pub mod Safe
