@@ -1,0 +1,11 @@
+pub mod NumberLemmas
+pub mod LineLemmas
+pub mod ReadingLemmas
+pub mod NameLemmas
+pub mod ChainLemmas
+pub mod SoundLemmas
+pub mod TakingLemmas
+pub mod WordLemmas
+pub mod SpellLemmas
+pub mod AgainLemmas
+pub mod GeneratedLemmas

@@ -1,0 +1,200 @@
+use Rattle.std.proofs.Common.{◌≡◌, ◌∙◌, sym, ap, ◌+◌, ◌≤◌, ◌<◌, ◌==◌, ℕ, List, [], ◌∷◌, ◌++◌, length, Option, Some, None, Result, Ok, Err, Bool, true, false, refl, arith, cond, nat_le, nat_lt, append_assoc, length-append}
+use Rattle.std.proofs.lemmas.List.{append-nil}
+use Rattle.std.specs.Prelude.{◌&&◌, IfOk, IfSome, count_by, not}
+use Rattle.std.specs.List.{AllByRecursion}
+use Rattle.norm_base.proofs.RangeLemmas.{range_of}
+use Rattle.norm_base.specs.Given.{value_in, are_in_range, are_values, meets_rules, profile_given}
+use Rattle.norm_base.specs.Keys.{keys}
+use Rattle.norm_base.specs.Settings.{Settings, InRange, settings_with}
+use Rattle.norm_script.specs.Built.{unbuilt_object, unbuilt_command, counts}
+use Rattle.norm_script.specs.Commands.{Commands}
+use Rattle.norm_script.specs.Head.{Head, head_from, nothing_set, profile_of, settled, given_by, rule_refusal}
+use Rattle.norm_script.specs.Meaning.{meaning_of}
+use Rattle.norm_script.specs.Reading.{next_line, command_refused, take_in, take_line, take_lines, or_refuses, commands_with, commands_from, script_from, script_of}
+use Rattle.norm_script.specs.Scripts.{IsVerb, IsMeaning, IsLine, AreNumbered, IsScript, IsOneSymbol, IsBuiltLine, IsBuilt, IsOf}
+use Rattle.norm_script.specs.Steps.{◌>>=◌, unless}
+use Rattle.norm_script.specs.Text.{text_lines}
+use Rattle.norm_script.specs.declared.meaning.Meaning.{Meaning}
+use Rattle.norm_script.specs.declared.meaning.Meaning.TheVariants.{Nothing, Set, Command}
+use Rattle.norm_script.specs.declared.refusal.Extent.{Extent}
+use Rattle.norm_script.specs.declared.refusal.Extent.TheVariants.{Whole, Built}
+use Rattle.norm_script.specs.declared.refusal.Refusal.{Refusal}
+use Rattle.norm_script.specs.declared.refusal.Why.{Why}
+use Rattle.norm_script.specs.declared.refusal.Why.TheVariants as why
+use Rattle.norm_script.specs.declared.script.Line.{Line}
+use Rattle.norm_script.specs.declared.script.Verb.{Verb}
+use Rattle.norm_script.specs.declared.script.Verb.TheVariants as verb
+use Rattle.norm_script.proofs.ChainLemmas.{IfOk-bind, IfOk-itself}
+use Rattle.norm_script.proofs.SoundLemmas.{meaning-ok}
+
+-- What is read is a script.
+
+each-on : {X : Type 0} (P : X → Type 0) (xs : List X) (y : X) → AllByRecursion P xs → P y → AllByRecursion P (xs ++ y ∷ [])
+each-on P [] y h p = (p, tt)
+each-on P (x ∷ xs) y h p = (h.0, each-on P xs y h.1 p)
+
+numbered-on : (before xs : List Line) (y : Line) → AreNumbered before xs → y.number ≡ count_by (λ l. l.producer == y.producer) (before ++ xs) + 1
+    → AreNumbered before (xs ++ y ∷ [])
+numbered-on before [] y h e = (rw (append-nil before) at e, tt)
+numbered-on before (x ∷ xs) y h e = (h.0, numbered-on (before ++ x ∷ []) xs y h.1 (rw (sym (append_assoc before (x ∷ []) xs)) at e))
+
+-- of what a session can run today
+abbrev AreOf : Extent → Settings → List Line → Type 0
+AreOf Whole profile lines = Unit {0}
+AreOf Built profile lines = (length lines ≤ 256) × AllByRecursion (IsBuiltLine profile.e) lines
+
+record Taken (extent : Extent) (profile : Settings) (lines : List Line) : Type 0 where
+  few : length lines ≤ 4096
+  each : AllByRecursion (IsLine profile.producers) lines
+  numbered : AreNumbered [] lines
+  of : AreOf extent profile lines
+
+-- a command that is not refused
+record Allowed (extent : Extent) (profile : Settings) (n producer : ℕ) (verb : Verb) : Type 0 where
+  room : n < 4096
+  known : producer ≤ profile.producers
+  built : counts extent (unbuilt_command profile n producer verb) ≡ None
+
+allowed : (extent : Extent) (profile : Settings) (n producer : ℕ) (verb : Verb) → command_refused extent profile n producer verb ≡ None
+    → Allowed extent profile n producer verb
+allowed extent profile n producer verb is =
+    elim (nat_le 4096 n) as (λ a. nat_le 4096 n ≡ a → cond a (Some why.ManyCommands) (cond (nat_lt profile.producers producer) (Some (why.Producer producer profile.producers)) (counts extent (unbuilt_command profile n producer verb))) ≡ None → Allowed extent profile n producer verb) [
+      | true ↦ λ e f. absurd (cc)
+      | false ↦ λ e f.
+          elim (nat_lt profile.producers producer) as (λ b. nat_lt profile.producers producer ≡ b → cond b (Some (why.Producer producer profile.producers)) (counts extent (unbuilt_command profile n producer verb)) ≡ None → Allowed extent profile n producer verb) [
+            | true ↦ λ g h. absurd (cc)
+            | false ↦ λ g h. record { room = grind arith; known = grind arith; built = h }
+          ] refl f
+    ] refl is
+
+record Symbol (profile : Settings) (n producer octets : ℕ) : Type 0 where
+  producer_is : producer ≡ 1
+  room : n < 256
+  fits : octets ≤ profile.e
+
+symbol : (profile : Settings) (n producer octets : ℕ) → unbuilt_object profile n producer octets ≡ None → Symbol profile n producer octets
+symbol profile n producer octets is =
+    elim (not (producer == 1)) as (λ a. not (producer == 1) ≡ a → cond a (Some why.VerbUnbuilt) (cond (nat_le 256 n) (Some why.ManyUnbuilt) (cond (nat_lt profile.e octets) (Some (why.Object octets profile.e)) None)) ≡ None → Symbol profile n producer octets) [
+      | true ↦ λ e f. absurd (cc)
+      | false ↦ λ e f.
+          elim (nat_le 256 n) as (λ b. nat_le 256 n ≡ b → cond b (Some why.ManyUnbuilt) (cond (nat_lt profile.e octets) (Some (why.Object octets profile.e)) None) ≡ None → Symbol profile n producer octets) [
+            | true ↦ λ g h. absurd (cc)
+            | false ↦ λ g h.
+                elim (nat_lt profile.e octets) as (λ d. nat_lt profile.e octets ≡ d → cond d (Some (why.Object octets profile.e)) None ≡ None → Symbol profile n producer octets) [
+                  | true ↦ λ i j. absurd (cc)
+                  | false ↦ λ i j. record { producer_is = grind arith; room = grind arith; fits = grind arith }
+                ] refl h
+          ] refl f
+    ] refl is
+
+built : (profile : Settings) (n producer : ℕ) (v : Verb) (number : ℕ) → IsVerb v → unbuilt_command profile n producer v ≡ None
+    → (n < 256) × IsBuiltLine profile.e (record { producer = producer; number = number; verb = v })
+built profile n producer (verb.Data None bytes) number is e =
+    let s = symbol profile n producer (length bytes) e in (s.room, record { producer = s.producer_is; verb = (is.some, s.fits) })
+built profile n producer (verb.Data (Some info) bytes) number is e = absurd (cc)
+built profile n producer (verb.File name) number is e = absurd (cc)
+built profile n producer verb.Open number is e = absurd (cc)
+built profile n producer (verb.Write bytes) number is e = absurd (cc)
+built profile n producer verb.Close number is e = absurd (cc)
+built profile n producer verb.Mark number is e = absurd (cc)
+built profile n producer (verb.Restart instance) number is e = absurd (cc)
+
+of-on : (extent : Extent) (profile : Settings) (before : List Line) (producer : ℕ) (v : Verb) → IsVerb v → AreOf extent profile before
+    → counts extent (unbuilt_command profile (length before) producer v) ≡ None → AreOf extent profile (before ++ next_line before producer v ∷ [])
+of-on Whole profile before producer v is h e = tt
+of-on Built profile before producer v is h e =
+    let b = built profile (length before) producer v (next_line before producer v).number is e in (
+      omega (arith, length-append before (next_line before producer v ∷ []), b.0),
+      each-on (IsBuiltLine profile.e) before (next_line before producer v) h.1 b.1,
+    )
+
+IfOk-unless : {X E : Type 0} (P : X → Type 0) (o : Option E) (x : X) → (o ≡ None → P x) → IfOk (unless o x) P
+IfOk-unless P None x h = h refl
+IfOk-unless P (Some e) x h = tt
+
+taken-in : (extent : Extent) (profile : Settings) (before : List Line) (m : Meaning) → IsMeaning m → Taken extent profile before
+    → IfOk (take_in extent profile before m) (Taken extent profile)
+taken-in extent profile before Nothing is t = t
+taken-in extent profile before (Set key value) is t = tt
+taken-in extent profile before (Command producer v) is t =
+    let line = next_line before producer v in
+    IfOk-unless (Taken extent profile) (command_refused extent profile (length before) producer v) (before ++ line ∷ [])
+    (λ e.
+    let a = allowed extent profile (length before) producer v e in
+    record {
+      few = omega (arith, length-append before (line ∷ []), a.room);
+      each = each-on (IsLine profile.producers) before line t.each (record { first = is.0; last = a.known; verb = is.1 });
+      numbered = numbered-on [] before line t.numbered refl;
+      of = of-on extent profile before producer v is.1 t.of a.built;
+    })
+
+line-taken : (extent : Extent) (profile : Settings) (before : List Line) (n : ℕ) (line : List ℕ) → Taken extent profile before
+    → IfOk (take_line extent profile before n line) (Taken extent profile)
+line-taken extent profile before n line t =
+    elim (nat_lt 8192 n) as (λ b. IfOk (cond b (Err why.ManyLines) (meaning_of line >>= λ meaning. take_in extent profile before meaning)) (Taken extent profile)) [
+      | true ↦ tt
+      | false ↦
+          IfOk-bind IsMeaning (Taken extent profile) (meaning_of line) (take_in extent profile before) (meaning-ok line)
+          (λ m is. taken-in extent profile before m is t)
+    ]
+
+IfOk-or_refuses : (P : List Line → Type 0) (n : ℕ) (r : Result (List Line) Why) (go_on : List Line → Result (List Line) Refusal) → IfOk r P
+    → ((lines : List Line) → P lines → IfOk (go_on lines) P) → IfOk (or_refuses n r go_on) P
+IfOk-or_refuses P n (Ok lines) go_on h k = k lines h
+IfOk-or_refuses P n (Err reason) go_on h k = tt
+
+lines-taken : (extent : Extent) (profile : Settings) (before : List Line) (n : ℕ) (lines : List (List ℕ)) → Taken extent profile before
+    → IfOk (take_lines extent profile before n lines) (Taken extent profile)
+lines-taken extent profile before n [] t = t
+lines-taken extent profile before n (line ∷ lines) t =
+    IfOk-or_refuses (Taken extent profile) n (take_line extent profile before n line) (λ after. take_lines extent profile after (n + 1) lines)
+    (line-taken extent profile before n line t) (λ after u. lines-taken extent profile after (n + 1) lines u)
+
+nothing-taken : (extent : Extent) (profile : Settings) → Taken extent profile []
+nothing-taken Whole profile = record { few = omega arith; each = tt; numbered = tt; of = tt }
+nothing-taken Built profile = record { few = omega arith; each = tt; numbered = tt; of = (omega arith, tt) }
+
+script-of-taken : (extent : Extent) (profile : Settings) (lines : List Line) → InRange profile → Taken extent profile lines
+    → IsOf extent (record { profile = profile; lines = lines })
+script-of-taken Whole profile lines range t = record { range = range; few = t.few; each = t.each; numbered = t.numbered }
+script-of-taken Built profile lines range t =
+    (record { range = range; few = t.few; each = t.each; numbered = t.numbered }, record { few = t.of.0; each = t.of.1 })
+
+commands-are : (extent : Extent) (profile : Settings) → InRange profile → (r : Result (List Line) Refusal) → IfOk r (Taken extent profile)
+    → IfOk (commands_with profile r) (IsOf extent)
+commands-are extent profile range (Ok lines) t = script-of-taken extent profile lines range t
+commands-are extent profile range (Err refusal) t = tt
+
+-- the commands under a profile in its ranges make a script
+pub commands-sound : (extent : Extent) (profile : Settings) (n : ℕ) (lines : List (List ℕ)) → InRange profile
+    → IfOk (commands_from extent profile n lines) (IsOf extent)
+commands-sound extent profile n lines range =
+    commands-are extent profile range (take_lines extent profile [] n lines) (lines-taken extent profile [] n lines (nothing-taken extent profile))
+
+both : (a b : Bool) → (a && b) ≡ true → (a ≡ true) × (b ≡ true)
+both true b h = (refl, cc)
+both false b h = absurd (cc)
+
+pub given-range : (given : List (Option ℕ)) → IfSome (profile_given given) InRange
+given-range given =
+    elim (are_in_range (value_in given)) as (λ b. are_in_range (value_in given) ≡ b → IfSome (cond b (Some (settings_with (value_in given))) None) InRange) [
+      | true ↦ λ e.
+          let h = both (are_values (value_in given) keys) (meets_rules (value_in given)) e in range_of (value_in given) h.0 h.1
+      | false ↦ λ e. tt
+    ] refl
+
+settled-range : (refused : Option Refusal) (profile : Option Settings) (rule : Refusal) → IfSome profile InRange → IfOk (settled refused profile rule) InRange
+settled-range None (Some profile) rule h = h
+settled-range None None rule h = tt
+settled-range (Some refused) (Some profile) rule h = tt
+settled-range (Some refused) None rule h = tt
+
+-- what is read is a script
+pub script-sound : (extent : Extent) (text : List ℕ) → IfOk (script_of extent text) (IsOf extent)
+script-sound extent text =
+    let begun = head_from extent nothing_set 1 (text_lines text) in
+    IfOk-bind InRange (IsOf extent) (profile_of begun.head) (λ profile. commands_from extent profile begun.next begun.rest)
+    (settled-range begun.head.refused (profile_given (given_by begun.head.settings)) (rule_refusal begun.head.settings) (given-range (given_by begun.head.settings)))
+    (λ profile range. commands-sound extent profile begun.next begun.rest range)
+
+pub ruleset script_laws = (script-sound)

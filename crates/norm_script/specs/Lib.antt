@@ -1,0 +1,12 @@
+pub mod Text
+pub mod Words
+pub mod Steps
+pub mod Meaning
+pub mod Built
+pub mod Head
+pub mod Commands
+pub mod Scripts
+pub mod Reading
+pub mod Refused
+pub mod Written
+pub mod Generated

@@ -1,0 +1,77 @@
+use Rattle.std.specs.Prelude.{◌≡◌, ℕ, ◌+◌, ◌≤◌, ◌<◌, ◌==◌, true, List, [], ◌∷◌, ◌++◌, length, count_by, Option, None, Some}
+use Rattle.std.specs.List.{AllByRecursion}
+use Rattle.hex.specs.Hex.{IsBytes}
+use Rattle.norm_base.specs.Settings.{Settings, InRange}
+use Rattle.norm_script.specs.Commands.{Commands}
+use Rattle.norm_script.specs.Words.{is_name}
+use Rattle.norm_script.specs.declared.meaning.Meaning.{Meaning}
+use Rattle.norm_script.specs.declared.meaning.Meaning.TheVariants.{Command}
+use Rattle.norm_script.specs.declared.refusal.Extent.{Extent}
+use Rattle.norm_script.specs.declared.refusal.Extent.TheVariants.{Whole, Built}
+use Rattle.norm_script.specs.declared.script.Line.{Line}
+use Rattle.norm_script.specs.declared.script.Verb.{Verb}
+use Rattle.norm_script.specs.declared.script.Verb.TheVariants as verb
+
+-- What can be a script: exactly this is read, and exactly this can be written out.
+
+-- contents are 1 to 8,192 octets
+pub record IsContents (bytes : List ℕ) : Type 0 where
+  pub some : 1 ≤ length bytes
+  pub most : length bytes ≤ 8192
+  pub octets : IsBytes bytes
+
+-- contents and an info stand on one line
+pub record IsObject (bytes info : List ℕ) : Type 0 where
+  pub object : IsContents bytes
+  pub info_is : IsContents info
+  pub fits : length bytes + length info ≤ 8246
+
+abbrev pub IsVerb : Verb → Type 0
+IsVerb (verb.Data None bytes) = IsContents bytes
+IsVerb (verb.Data (Some info) bytes) = IsObject bytes info
+IsVerb (verb.File name) = is_name name ≡ true
+IsVerb (verb.Write bytes) = IsContents bytes
+IsVerb (verb.Restart instance) = instance ≤ 65535
+IsVerb verb = Unit {0}
+
+-- what a line by itself may mean
+abbrev pub IsMeaning : Meaning → Type 0
+IsMeaning (Command producer verb) = (1 ≤ producer) × IsVerb verb
+IsMeaning meaning = Unit {0}
+
+-- a command of one of so many producers
+pub record IsLine (producers : ℕ) (line : Line) : Type 0 where
+  pub first : 1 ≤ line.producer
+  pub last : line.producer ≤ producers
+  pub verb : IsVerb line.verb
+
+-- behind the commands before, each producer's are numbered on
+abbrev pub AreNumbered : List Line → List Line → Type 0
+AreNumbered before [] = Unit {0}
+AreNumbered before (line ∷ lines) =
+    (line.number ≡ count_by (λ l. l.producer == line.producer) before + 1) × AreNumbered (before ++ line ∷ []) lines
+
+-- a profile within its ranges, and at most 4,096 commands of its producers, each of which numbers its own from 1 on
+pub record IsScript (script : Commands) : Type 0 where
+  pub range : InRange script.profile
+  pub few : length script.lines ≤ 4096
+  pub each : AllByRecursion (IsLine script.profile.producers) script.lines
+  pub numbered : AreNumbered [] script.lines
+
+-- what a session can run today: at most 256 data objects of producer 1, without infos, each of one symbol of e octets
+abbrev pub IsOneSymbol : ℕ → Verb → Type 0
+IsOneSymbol e (verb.Data None bytes) = (1 ≤ length bytes) × (length bytes ≤ e)
+IsOneSymbol e verb = ⊥
+
+pub record IsBuiltLine (e : ℕ) (line : Line) : Type 0 where
+  pub producer : line.producer ≡ 1
+  pub verb : IsOneSymbol e line.verb
+
+pub record IsBuilt (script : Commands) : Type 0 where
+  pub few : length script.lines ≤ 256
+  pub each : AllByRecursion (IsBuiltLine script.profile.e) script.lines
+
+-- what is read of this extent of the grammar
+abbrev pub IsOf : Extent → Commands → Type 0
+IsOf Whole script = IsScript script
+IsOf Built script = IsScript script × IsBuilt script

@@ -1,0 +1,253 @@
+//! A script's head: the lines before the first command, which set keys.
+
+ghost use Rattle.std.specs.Prelude.{◌≡◌, ◌≤◌, IfOk, OnOk, is_some, unwrap_or};
+ghost use Rattle.norm_base.specs.Given.{value_in};
+ghost use Rattle.norm_script.specs.Built.{unbuilt_key, counts};
+ghost use Rattle.norm_script.specs.Head.{nothing_set, refuse, setting_of_key, set_once, set_allowed, head_after, head_line, head_from, given_by, last_set, broken_rule, rule_refusal, earlier, profile_of};
+ghost use Rattle.norm_script.specs.Text.{text_lines};
+
+use crate::built::unbuilt_key;
+use crate::lines::first_line;
+use crate::meaning::{Meaning, meaning_of};
+use crate::refusal::{Extent, Refusal, Why};
+use crate::setting::Setting;
+use norm_base::{Given, Key, Memory, Profile};
+use std::alloc::Global;
+use std::marker::Model;
+
+/// The most lines of a script.
+pub(crate) const MOST_LINES: u32 = 8192;
+
+/// What a head says so far.
+#[derive(Drop)]
+pub(crate) struct Head {
+    settings: Vec<Setting>,
+    refused: Option<Refusal>,
+}
+
+impl Model for Head {
+    ghost use Rattle.norm_script.specs.Head.{Head as HeadSpec};
+
+    ghost Value = { HeadSpec };
+
+    ghost view = { λ h. record { settings = h.settings.items; refused = h.refused } };
+}
+
+/// The setting of a key.
+fn setting_of_key(settings: &[Setting], key: Key) -> Option<Setting>
+    ensures { result ≡ setting_of_key key settings.now }
+{
+    for setting in settings {
+        if setting.key.place() == key.place() {
+            return Some(*setting);
+        }
+    }
+    None
+}
+
+impl Head {
+    /// No key is set.
+    fn new(alloc: Global) -> Head
+        ensures { result ≡ nothing_set }
+    {
+        Head {
+            settings: Vec::new(alloc),
+            refused: None,
+        }
+    }
+
+    /// A line has no meaning. The first one counts.
+    fn refuse(&mut self, line: u32, why: Why)
+        ensures { self.new ≡ refuse self.old line why }
+    {
+        if self.refused.is_none() {
+            self.refused = Some(Refusal { line, why });
+        }
+    }
+
+    /// A line sets a key, which it may where no line before it did.
+    fn set_once(&mut self, new: Setting) -> Result<(), Memory>
+        ensures { OnOk result (self.new ≡ set_once self.old new (setting_of_key new.key self.old.settings)) }
+    {
+        if let Some(old) = setting_of_key(&self.settings, new.key) {
+            self.refuse(
+                new.line,
+                Why::Twice {
+                    key: new.key,
+                    line: old.line,
+                },
+            );
+            return Ok(());
+        }
+        match self.settings.push(new) {
+            Ok(()) => Ok(()),
+            Err(_) => Err(Memory),
+        }
+    }
+
+    /// A line sets a key, where that can be read.
+    fn set(&mut self, extent: Extent, new: Setting) -> Result<(), Memory>
+        ensures { OnOk result (self.new ≡ set_allowed self.old new (counts extent (unbuilt_key new.key))) }
+    {
+        match unbuilt_key(extent, new.key) {
+            Some(why) => {
+                self.refuse(new.line, why);
+                Ok(())
+            }
+            None => self.set_once(new),
+        }
+    }
+
+    /// Takes in what line `n` means. `false` where it is a command, which ends the head.
+    fn take(
+        &mut self,
+        extent: Extent,
+        n: u32,
+        meaning: Result<Meaning, Why>,
+    ) -> Result<bool, Memory>
+        ensures { IfOk result (λ taken. let next = head_after extent self.old n meaning in
+            (taken ≡ is_some next) × (self.new ≡ unwrap_or next self.old)) }
+    {
+        match meaning {
+            Ok(Meaning::Nothing) => Ok(true),
+            Ok(Meaning::Set { key, value }) => {
+                self.set(
+                    extent,
+                    Setting {
+                        key,
+                        value,
+                        line: n,
+                    },
+                )?;
+                Ok(true)
+            }
+            Ok(Meaning::Command { .. }) => Ok(false),
+            Err(why) => {
+                self.refuse(n, why);
+                Ok(true)
+            }
+        }
+    }
+
+    /// Takes in line `n`. `false` where the head ends before it.
+    fn take_line(
+        &mut self,
+        alloc: Global,
+        extent: Extent,
+        n: u32,
+        line: &[u8],
+    ) -> Result<bool, Memory>
+        ensures { IfOk result (λ taken. let next = head_line extent self.old n line.now in
+            (taken ≡ is_some next) × (self.new ≡ unwrap_or next self.old)) }
+    {
+        if n > MOST_LINES {
+            return Ok(false);
+        }
+        let meaning = meaning_of(alloc, line)?;
+        self.take(extent, n, meaning)
+    }
+
+    /// The profile that the settings make, or the first line without meaning.
+    pub(crate) fn profile(&self) -> Result<Profile, Refusal>
+        ensures { result ≡ profile_of self.now }
+    {
+        let given = given_by(&self.settings);
+        match Profile::of(&given) {
+            Some(profile) => match self.refused {
+                None => Ok(profile),
+                Some(refused) => Err(refused),
+            },
+            None => {
+                let rule = Refusal {
+                    line: last_set(&self.settings),
+                    why: broken_rule(&given),
+                };
+                match self.refused {
+                    None => Err(rule),
+                    Some(refused) => Err(earlier(refused, rule)),
+                }
+            }
+        }
+    }
+}
+
+/// The values that are set.
+fn given_by(settings: &[Setting]) -> Given
+    ensures { result ≡ given_by settings.now }
+{
+    let mut given = Given::new();
+    for setting in settings {
+        given.set(setting.key, setting.value);
+    }
+    given
+}
+
+/// The line that sets the last key.
+fn last_set(settings: &[Setting]) -> u32
+    ensures { result ≡ last_set settings.now }
+{
+    let mut line = 0;
+    for setting in settings {
+        line = setting.line;
+    }
+    line
+}
+
+/// Which of the two rules across keys is broken.
+fn broken_rule(given: &Given) -> Why
+    ensures { result ≡ broken_rule (value_in given.now) }
+{
+    let b = given.value(Key::B);
+    let max_n = given.value(Key::MaxN);
+    if max_n < b {
+        return Why::MaxBelowB { max_n, b };
+    }
+    Why::Buffer {
+        blocks: given.value(Key::Blocks),
+        b,
+        e: given.value(Key::E),
+    }
+}
+
+/// The refusal of the earlier line.
+fn earlier(a: Refusal, b: Refusal) -> Refusal
+    ensures { result ≡ earlier a b }
+{
+    if a.line < b.line { a } else { b }
+}
+
+/// A head, and the text behind it, whose first line has this number.
+#[derive(Drop)]
+pub(crate) struct Begun<'a> {
+    pub(crate) head: Head,
+    pub(crate) next: u32,
+    pub(crate) rest: &'a [u8],
+}
+
+/// Reads a script's head.
+pub(crate) fn read_head(alloc: Global, extent: Extent, text: &[u8]) -> Result<Begun<'_>, Memory>
+    ensures head { IfOk result (λ begun. head_from extent nothing_set 1 (text_lines text.now) ≡
+        record { head = begun.head; next = begun.next; rest = text_lines begun.rest.now }) }
+    ensures few { IfOk result (λ begun. begun.next ≤ 8193) }
+{
+    let mut head = Head::new(alloc);
+    let mut rest = text;
+    let mut n = 1;
+    'lines: while !rest.is_empty() {
+        let (line, more) = first_line(rest);
+        if !head.take_line(alloc, extent, n, line)? {
+            return Ok(Begun {
+                head,
+                next: n,
+                rest,
+            });
+        }
+        rest = more;
+        n += 1;
+    }
+    Ok(Begun {
+        head,
+        next: n,
+        rest,
+    })
+}

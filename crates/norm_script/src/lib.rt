@@ -1,0 +1,27 @@
+//! What a session is told: the grammar of scripts, and its reader.
+//!
+//! `read_script` makes a `Script` (a profile and the commands) of a text, or answers the first line without
+//! meaning; `why_refused` says why that line has none. `read_commands` reads a script for a profile that is
+//! given, and `read` reads as much of the grammar as it is told to. `generate` writes a script to try a
+//! session with. The program reads with these, and `norm_session` runs what they read.
+#![tactic(auto)]
+
+mod built;
+mod head;
+mod laws;
+mod lines;
+mod meaning;
+mod reader;
+mod refusal;
+mod script;
+mod setting;
+#[cfg(test)]
+mod tests;
+mod words;
+
+pub use crate::laws::{reads_back, reads_generated, reads_scripts};
+pub use crate::meaning::Meaning;
+pub use crate::reader::{read, read_commands, read_script, why_refused};
+pub use crate::refusal::{Extent, Refusal, ScriptFault, Why};
+pub use crate::script::{Line, Script, Verb};
+pub use crate::setting::Setting;

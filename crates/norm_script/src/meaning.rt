@@ -1,0 +1,249 @@
+//! What a line of a script means by itself.
+
+ghost use Rattle.std.specs.Prelude.{◌≡◌, ◌≤◌, ◌==◌, ◌||◌, length, slice_index, IfOk};
+ghost use Rattle.norm_script.specs.Meaning.{number_for, value_for, setting_of, contents, data_of, file_of, write_of, restart_of, verb_with, verb_alone, verb_of, command_of, meaning_of_words, is_passed_over, ends_with_return, meaning_of};
+ghost use Rattle.norm_script.specs.Text.{split_at_first};
+
+use crate::refusal::Why;
+use crate::script::Verb;
+use crate::words::{contents_of, is_number, name_of, number_within, split_at_first, value_up_to};
+use norm_base::{Key, Memory, Octets};
+use std::alloc::Global;
+
+/// The most octets of a line.
+const MOST_OCTETS: usize = 16_500;
+
+/// What a line means by itself.
+#[derive(Debug, Drop)]
+pub enum Meaning {
+    /// It is empty, or a comment.
+    Nothing,
+    /// A key has this value.
+    Set { key: Key, value: u32 },
+    /// A producer's command.
+    Command { producer: u32, verb: Verb },
+}
+
+/// The number in a key's range that a word spells.
+fn number_for(key: Key, word: &[u8]) -> Result<u32, Why>
+    ensures { result ≡ number_for key word.now }
+{
+    if !is_number(word) {
+        return Err(Why::NoNumber { key });
+    }
+    let row = key.row();
+    match value_up_to(word, row.greatest) {
+        None => Err(Why::Above { key }),
+        Some(value) if value < u64::from(row.least) => Err(Why::Below {
+            key,
+            value: value as u32,
+        }),
+        Some(value) => Ok(value as u32),
+    }
+}
+
+/// The value of a key that a word spells.
+fn value_for(key: Key, word: &[u8]) -> Result<u32, Why>
+    ensures { result ≡ value_for key word.now }
+{
+    if key.row().words.is_empty() {
+        return number_for(key, word);
+    }
+    key.value_of(word).ok_or(Why::NoWord { key })
+}
+
+/// What `set` and these words mean.
+fn setting_of(words: &[u8]) -> Result<Meaning, Why>
+    ensures { result ≡ setting_of words.now }
+{
+    let Some((name, word)) = split_at_first(words, b' ') else {
+        return Err(Why::NoForm);
+    };
+    let key = Key::named(name).ok_or(Why::NoKey)?;
+    let value = value_for(key, word)?;
+    Ok(Meaning::Set { key, value })
+}
+
+/// The contents that a word spells.
+fn contents(alloc: Global, word: &[u8]) -> Result<Result<Octets, Why>, Memory>
+    ensures { IfOk result (λ bytes. bytes ≡ contents word.now) }
+{
+    Ok(contents_of(alloc, word)?.ok_or(Why::NoContents))
+}
+
+/// An object without an info.
+fn bare_data(alloc: Global, word: &[u8]) -> Result<Result<Verb, Why>, Memory>
+    ensures { IfOk result (λ verb. verb ≡ data_of None word.now) }
+{
+    match contents(alloc, word)? {
+        Ok(bytes) => Ok(Ok(Verb::Data { info: None, bytes })),
+        Err(why) => Ok(Err(why)),
+    }
+}
+
+/// An object with an info.
+fn data_with_info(alloc: Global, word: &[u8], info: &[u8]) -> Result<Result<Verb, Why>, Memory>
+    ensures { IfOk result (λ verb. verb ≡ data_of (Some (word.now, info.now)) word.now) }
+{
+    let bytes = match contents(alloc, word)? {
+        Ok(bytes) => bytes,
+        Err(why) => return Ok(Err(why)),
+    };
+    match contents(alloc, info)? {
+        Ok(info) => Ok(Ok(Verb::Data {
+            info: Some(info),
+            bytes,
+        })),
+        Err(why) => Ok(Err(why)),
+    }
+}
+
+/// What `data` and these words mean.
+fn data_of(alloc: Global, words: &[u8]) -> Result<Result<Verb, Why>, Memory>
+    ensures { IfOk result (λ verb. verb ≡ data_of (split_at_first 32 words.now) words.now) }
+{
+    match split_at_first(words, b' ') {
+        Some((word, info)) => data_with_info(alloc, word, info),
+        None => bare_data(alloc, words),
+    }
+}
+
+/// What `file` and this word mean.
+fn file_of(alloc: Global, word: &[u8]) -> Result<Result<Verb, Why>, Memory>
+    ensures { IfOk result (λ verb. verb ≡ file_of word.now) }
+{
+    match name_of(alloc, word)? {
+        Some(name) => Ok(Ok(Verb::File { name })),
+        None => Ok(Err(Why::NoName)),
+    }
+}
+
+/// What `write` and this word mean.
+fn write_of(alloc: Global, word: &[u8]) -> Result<Result<Verb, Why>, Memory>
+    ensures { IfOk result (λ verb. verb ≡ write_of word.now) }
+{
+    match contents(alloc, word)? {
+        Ok(bytes) => Ok(Ok(Verb::Write { bytes })),
+        Err(why) => Ok(Err(why)),
+    }
+}
+
+/// What `restart` and this word mean.
+fn restart_of(word: &[u8]) -> Result<Verb, Why>
+    ensures { result ≡ restart_of word.now }
+{
+    match number_within(word, 0, 65_535) {
+        Some(instance) => Ok(Verb::Restart {
+            instance: instance as u16,
+        }),
+        None => Err(Why::NoInstance),
+    }
+}
+
+/// What a verb with words after it means.
+fn verb_with(alloc: Global, name: &[u8], words: &[u8]) -> Result<Result<Verb, Why>, Memory>
+    ensures { IfOk result (λ verb. verb ≡ verb_with name.now words.now) }
+{
+    if name == b"data".as_slice() {
+        return data_of(alloc, words);
+    }
+    if name == b"file".as_slice() {
+        return file_of(alloc, words);
+    }
+    if name == b"write".as_slice() {
+        return write_of(alloc, words);
+    }
+    if name == b"restart".as_slice() {
+        return Ok(restart_of(words));
+    }
+    Ok(Err(Why::NoVerb))
+}
+
+/// The verb that a word alone is.
+fn verb_alone(word: &[u8]) -> Option<Verb>
+    ensures { result ≡ verb_alone word.now }
+{
+    if word == b"open".as_slice() {
+        return Some(Verb::Open);
+    }
+    if word == b"close".as_slice() {
+        return Some(Verb::Close);
+    }
+    if word == b"mark".as_slice() {
+        return Some(Verb::Mark);
+    }
+    None
+}
+
+/// What a verb and its words mean.
+fn verb_of(alloc: Global, words: &[u8]) -> Result<Result<Verb, Why>, Memory>
+    ensures { IfOk result (λ verb. verb ≡ verb_of words.now) }
+{
+    if let Some(verb) = verb_alone(words) {
+        return Ok(Ok(verb));
+    }
+    match split_at_first(words, b' ') {
+        Some((name, rest)) => verb_with(alloc, name, rest),
+        None => Ok(Err(Why::NoVerb)),
+    }
+}
+
+/// What a producer's number and the words after it mean.
+fn command_of(alloc: Global, first: &[u8], words: &[u8]) -> Result<Result<Meaning, Why>, Memory>
+    ensures { IfOk result (λ meaning. meaning ≡ command_of first.now words.now) }
+{
+    let Some(producer) = number_within(first, 1, u32::MAX) else {
+        return Ok(Err(Why::NoForm));
+    };
+    match verb_of(alloc, words)? {
+        Ok(verb) => Ok(Ok(Meaning::Command { producer, verb })),
+        Err(why) => Ok(Err(why)),
+    }
+}
+
+/// What a line's words mean.
+fn meaning_of_words(alloc: Global, line: &[u8]) -> Result<Result<Meaning, Why>, Memory>
+    ensures { IfOk result (λ meaning. meaning ≡ meaning_of_words line.now) }
+{
+    let Some((first, words)) = split_at_first(line, b' ') else {
+        return Ok(Err(Why::NoForm));
+    };
+    if first == b"set".as_slice() {
+        return Ok(setting_of(words));
+    }
+    command_of(alloc, first, words)
+}
+
+/// Whether a line is empty or a comment.
+fn is_passed_over(line: &[u8]) -> bool
+    ensures { result ≡ is_passed_over line.now }
+{
+    line.is_empty() || line[0] == b'#'
+}
+
+/// Whether a line's last octet is a carriage return.
+fn ends_with_return(line: &[u8]) -> bool
+    requires { 1 ≤ length line.now }
+    ensures { result ≡ ends_with_return line.now }
+{
+    line[line.len() - 1] == b'\r'
+}
+
+/// What a line means, or why it has no meaning.
+pub(crate) fn meaning_of(alloc: Global, line: &[u8]) -> Result<Result<Meaning, Why>, Memory>
+    ensures { IfOk result (λ meaning. meaning ≡ meaning_of line.now) }
+{
+    if line.len() > MOST_OCTETS {
+        return Ok(Err(Why::LongLine {
+            octets: line.len() as u64,
+        }));
+    }
+    if is_passed_over(line) {
+        return Ok(Ok(Meaning::Nothing));
+    }
+    match meaning_of_words(alloc, line)? {
+        Ok(meaning) => Ok(Ok(meaning)),
+        Err(_) if ends_with_return(line) => Ok(Err(Why::CarriageReturn)),
+        Err(why) => Ok(Err(why)),
+    }
+}

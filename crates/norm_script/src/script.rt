@@ -1,0 +1,46 @@
+//! What a session is asked to do.
+
+use norm_base::{Octets, Profile, Text};
+use std::marker::Model;
+
+/// What a command does.
+#[derive(Clone, Debug, PartialEq, Eq, Drop)]
+pub enum Verb {
+    /// Sends a data object, with its info if it has one.
+    Data { info: Option<Octets>, bytes: Octets },
+    /// Sends the file of this name, which is the object's info.
+    File { name: Text },
+    /// Begins a stream.
+    Open,
+    /// Adds octets to the open stream.
+    Write { bytes: Octets },
+    /// Ends the open stream.
+    Close,
+    /// Asks which receivers have everything up to here.
+    Mark,
+    /// Begins a new instance of the sender.
+    Restart { instance: u16 },
+}
+
+/// A command: its producer, that producer's number of it (1, 2, ..), and what it does.
+#[derive(Clone, Debug, PartialEq, Eq, Drop)]
+pub struct Line {
+    pub producer: u32,
+    pub number: u64,
+    pub verb: Verb,
+}
+
+/// A session's profile and its commands in their order.
+#[derive(Debug, Drop)]
+pub struct Script {
+    pub profile: Profile,
+    pub lines: Vec<Line>,
+}
+
+impl Model for Script {
+    ghost use Rattle.norm_script.specs.Commands.{Commands};
+
+    ghost Value = { Commands };
+
+    ghost view = { λ s. record { profile = s.profile; lines = s.lines.items } };
+}

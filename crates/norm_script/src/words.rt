@@ -1,0 +1,133 @@
+//! The words that lines are made of.
+
+ghost use Rattle.std.specs.Prelude.{◌≡◌, ◌≤◌, ◌==◌, ◌||◌, if◌then◌else◌, not, nat_le, Some, None, List, ℕ, length, slice_index, IfOk};
+ghost use Rattle.std.specs.List.{list_all};
+ghost use Rattle.std.specs.Option.{option_map};
+ghost use Rattle.norm_script.specs.Text.{split_at_first};
+ghost use Rattle.norm_script.specs.Words.{is_digit, is_number, value_of, number_within, contents_of, is_name_octet, is_name};
+
+use hex::FromHexError;
+use norm_base::{Memory, Octets, Text};
+use std::alloc::Global;
+
+/// The most digits of contents.
+const MOST_DIGITS: usize = 16_384;
+
+/// The most octets of a name.
+const MOST_NAME: usize = 64;
+
+/// The octets before the first of these, and those after it. `None` where there is none.
+pub(crate) fn split_at_first(bytes: &[u8], octet: u8) -> Option<(&[u8], &[u8])>
+    ensures { option_map (λ x. (x.0.now, x.1.now)) result ≡ split_at_first octet bytes.now }
+{
+    for (i, x) in bytes.iter().enumerate() {
+        if *x == octet {
+            let (front, back) = bytes.split_at(i);
+            return Some((front, back.split_at(1).1));
+        }
+    }
+    None
+}
+
+/// Whether all octets are decimal digits.
+fn all_digits(word: &[u8]) -> bool
+    ensures { result ≡ list_all is_digit word.now }
+{
+    word.iter().all(|c| 48 <= *c && *c <= 57)
+}
+
+/// Whether digits have no leading zero.
+fn begins_well(word: &[u8]) -> bool
+    requires { 1 ≤ length word.now }
+    ensures { result ≡ (length word.now == 1 || not (slice_index word.now 0 == 48)) }
+{
+    word.len() == 1 || word[0] != 48
+}
+
+/// Whether it is decimal digits without a sign or a leading zero.
+pub(crate) fn is_number(word: &[u8]) -> bool
+    ensures { result ≡ is_number word.now }
+{
+    1 <= word.len() && all_digits(word) && begins_well(word)
+}
+
+/// The value of digits, where it is at most `high`.
+pub(crate) fn value_up_to(word: &[u8], high: u32) -> Option<u64>
+    ensures { result ≡ (if nat_le (value_of word.now) high then Some (value_of word.now) else None) }
+{
+    let mut value = 0u64;
+    for digit in word {
+        value = 10 * value + u64::from(digit.saturating_sub(48));
+        if value > u64::from(high) {
+            return None;
+        }
+    }
+    Some(value)
+}
+
+/// The number from `low` to `high` that a word spells. `None` where it spells none.
+pub(crate) fn number_within(word: &[u8], low: u32, high: u32) -> Option<u32>
+    ensures { result ≡ number_within low high word.now }
+{
+    if !is_number(word) {
+        return None;
+    }
+    match value_up_to(word, high) {
+        Some(value) if u64::from(low) <= value => Some(value as u32),
+        _ => None,
+    }
+}
+
+/// The contents that a word spells in hexadecimal. `None` where it spells none.
+pub(crate) fn contents_of(alloc: Global, word: &[u8]) -> Result<Option<Octets>, Memory>
+    ensures { IfOk result (λ contents. contents ≡ contents_of word.now) }
+{
+    if word.len() < 2 || word.len() > MOST_DIGITS {
+        return Ok(None);
+    }
+    match hex::decode(alloc, word) {
+        Ok(bytes) => Ok(Some(Octets::of(bytes))),
+        Err(FromHexError::OutOfMemory) => Err(Memory),
+        Err(_) => Ok(None),
+    }
+}
+
+/// Whether an octet may stand in a name.
+fn is_name_octet(c: u8) -> bool
+    ensures { result ≡ is_name_octet c }
+{
+    c.is_ascii_alphanumeric() || c == b'.' || c == b'_' || c == b'-'
+}
+
+/// Whether each octet may stand in a name.
+fn all_name_octets(word: &[u8]) -> bool
+    ensures { result ≡ list_all is_name_octet word.now }
+{
+    word.iter().all(|c| is_name_octet(*c))
+}
+
+/// Whether a word is a file's name.
+fn is_name(word: &[u8]) -> bool
+    ensures { result ≡ is_name word.now }
+{
+    if word.is_empty() {
+        return false;
+    }
+    word.len() <= MOST_NAME && all_name_octets(word) && word[0] != b'.'
+}
+
+/// The file's name that a word is. `None` where it is none.
+pub(crate) fn name_of(alloc: Global, word: &[u8]) -> Result<Option<Text>, Memory>
+    ensures { IfOk result (λ name. name ≡ (if is_name word.now then Some word.now else None)) }
+{
+    if !is_name(word) {
+        return Ok(None);
+    }
+    let Ok(text) = str::from_utf8(word) else {
+        return Ok(None);
+    };
+    match String::from_str(alloc, text) {
+        Ok(name) => Ok(Some(Text::of(name))),
+        Err(_) => Err(Memory),
+    }
+}
