@@ -37,7 +37,7 @@ fn network(alloc: Global, fails: Fails) -> Result<ListFabric, Fail> {
     };
     let offers = list(alloc, offer)?;
     let takes = list(alloc, take)?;
-    match ListFabric::of(alloc, offers, takes) {
+    match ListFabric::of(alloc, Vec::new(alloc), offers, takes) {
         Ok(fabric) => Ok(fabric),
         Err(_) => Err("no memory")?,
     }
