@@ -20,11 +20,14 @@ use Rattle.normd.specs.declared.status.Ending.TheVariants.{Done, Memory, Words, 
 -- the input was not read whole
 pub read_ends : (ending : Ending) (words : List (List ℕ)) (i j : Option (List ℕ)) (u w : Pieces) (r s k t : ℕ) → is_session words ≡ true
     → IsReadEnding ending r s u w k t → EndsEarly ending words i j u w r s k t
-read_ends Memory words i j u w r s k t is h = λ n f. (is, record {
-  session = inl (record { network = refl; output = h.1 });
-  undisturbed = record { reads = h.0; calls = refl };
-  writes = h.2;
-})
+read_ends Memory words i j u w r s k t is h = λ n f. (
+  is,
+  record {
+    session = inl (record { network = refl; output = h.1 });
+    undisturbed = record { reads = h.0; calls = refl };
+    writes = h.2;
+  },
+)
 read_ends Read words i j u w r s k t is h = λ n f. (is, record { cause = h.0; network = refl; calls = refl; output = h.1 })
 read_ends Done words i j u w r s k t is h = absurd h
 read_ends Words words i j u w r s k t is h = absurd h
@@ -36,19 +39,25 @@ read_ends Spent words i j u w r s k t is h = absurd h
 -- the text is no script
 pub text_ends : (ending : Ending) (words : List (List ℕ)) (text : List ℕ) (i j : Option (List ℕ)) (u w : Pieces) (r s k t : ℕ) → is_session words ≡ true
     → IsInput text i j → s ≡ r → IsTextEnding ending text u w k t → EndsEarly ending words i j u w r s k t
-text_ends Memory words text i j u w r s k t is input quiet h = λ n f. (is, record {
-  session = inl (record { network = refl; output = h.0 });
-  undisturbed = record { reads = quiet; calls = refl };
-  writes = h.1;
-})
-text_ends (Refused line) words text i j u w r s k t is input quiet h = λ n f. (is, record {
-  text = text;
-  input = input;
-  read = h.0;
-  network = refl;
-  output = h.1;
-  undisturbed = record { reads = quiet; calls = refl };
-})
+text_ends Memory words text i j u w r s k t is input quiet h = λ n f. (
+  is,
+  record {
+    session = inl (record { network = refl; output = h.0 });
+    undisturbed = record { reads = quiet; calls = refl };
+    writes = h.1;
+  },
+)
+text_ends (Refused line) words text i j u w r s k t is input quiet h = λ n f. (
+  is,
+  record {
+    text = text;
+    input = input;
+    read = h.0;
+    network = refl;
+    output = h.1;
+    undisturbed = record { reads = quiet; calls = refl };
+  },
+)
 text_ends Done words text i j u w r s k t is input quiet h = absurd h
 text_ends Words words text i j u w r s k t is input quiet h = absurd h
 text_ends Read words text i j u w r s k t is input quiet h = absurd h
@@ -85,28 +94,34 @@ last_ends Done words script journal whole i j m n u v w r s f g k l t p reads ru
     let B = outside i m u r f k in
     let A = outside j n w s g t in
     let P : Bool → Type 0 = λ b. RanSession B A b v in
-    let Q : Pieces → Type 0 = λ x. RanSession B A true x in
-    (p.command, record {
-      session = subst Q (sym h.1) (subst P h.0 (ran_session words script journal whole i j m n u v w r s f g k t p runs));
-      undisturbed = record { reads = reads; calls = calls };
-      writes = h.2 ∙ writes;
-    })
+    let Q : Pieces → Type 0 = λ x. RanSession B A true x in (
+      p.command,
+      record {
+        session = subst Q (sym h.1) (subst P h.0 (ran_session words script journal whole i j m n u v w r s f g k t p runs));
+        undisturbed = record { reads = reads; calls = calls };
+        writes = h.2 ∙ writes;
+      },
+    )
 last_ends Spent words script journal whole i j m n u v w r s f g k l t p reads runs writes calls h =
-    let P : Bool → Type 0 = λ b. RanSession (outside i m u r f k) (outside j n w s g t) b v in
-    (p.command, record {
-      unsaid = v;
-      session = subst P h.0 (ran_session words script journal whole i j m n u v w r s f g k t p runs);
-      output = h.1;
-      undisturbed = record { reads = reads; calls = calls };
-      writes = h.2 ∙ writes;
-    })
+    let P : Bool → Type 0 = λ b. RanSession (outside i m u r f k) (outside j n w s g t) b v in (
+      p.command,
+      record {
+        unsaid = v;
+        session = subst P h.0 (ran_session words script journal whole i j m n u v w r s f g k t p runs);
+        output = h.1;
+        undisturbed = record { reads = reads; calls = calls };
+        writes = h.2 ∙ writes;
+      },
+    )
 last_ends Write words script journal whole i j m n u v w r s f g k l t p reads runs writes calls h =
-    let P : Bool → Type 0 = λ b. RanSession (outside i m u r f k) (outside j n w s g t) b v in
-    (p.command, record {
-      cause = h.2 ∙ ap one_more writes;
-      session = inr (record { unsaid = v; session = subst P h.0 (ran_session words script journal whole i j m n u v w r s f g k t p runs); output = h.1 });
-      undisturbed = record { reads = reads; calls = calls };
-    })
+    let P : Bool → Type 0 = λ b. RanSession (outside i m u r f k) (outside j n w s g t) b v in (
+      p.command,
+      record {
+        cause = h.2 ∙ ap one_more writes;
+        session = inr (record { unsaid = v; session = subst P h.0 (ran_session words script journal whole i j m n u v w r s f g k t p runs); output = h.1 });
+        undisturbed = record { reads = reads; calls = calls };
+      },
+    )
 last_ends Memory words script journal whole i j m n u v w r s f g k l t p reads runs writes calls h = absurd h
 last_ends Words words script journal whole i j m n u v w r s f g k l t p reads runs writes calls h = absurd h
 last_ends (Refused line) words script journal whole i j m n u v w r s f g k l t p reads runs writes calls h = absurd h
@@ -128,27 +143,36 @@ broken_ends T Wanting ending words script i j m n u v w r s f g k l t p reads br
     let A = outside j n w s g t in
     let P : Ending → Type 0 = λ e. Ends e words B A in
     let Q : Pieces → Type 0 = λ x. BrokeSession Wanting B A x in
-    subst P (sym h.0) (p.command, record {
-      session = inr (subst Q (sym h.1) (broke_session Wanting words script i j m n u v w r s f g k t p broke));
-      undisturbed = record { reads = reads; calls = cause.1 };
-      writes = h.2 ∙ cause.0;
-    })
+    subst P (sym h.0) (
+      p.command,
+      record {
+        session = inr (subst Q (sym h.1) (broke_session Wanting words script i j m n u v w r s f g k t p broke));
+        undisturbed = record { reads = reads; calls = cause.1 };
+        writes = h.2 ∙ cause.0;
+      },
+    )
 broken_ends T Writing ending words script i j m n u v w r s f g k l t p reads broke cause h =
     let B = outside i m u r f k in
     let A = outside j n w s g t in
     let P : Ending → Type 0 = λ e. Ends e words B A in
     let Q : Pieces → Type 0 = λ x. BrokeSession Writing B A x in
-    subst P (sym h.0) (p.command, record {
-      cause = h.2 ∙ cause.0;
-      session = inl (subst Q (sym h.1) (broke_session Writing words script i j m n u v w r s f g k t p broke));
-      undisturbed = record { reads = reads; calls = cause.1 };
-    })
+    subst P (sym h.0) (
+      p.command,
+      record {
+        cause = h.2 ∙ cause.0;
+        session = inl (subst Q (sym h.1) (broke_session Writing words script i j m n u v w r s f g k t p broke));
+        undisturbed = record { reads = reads; calls = cause.1 };
+      },
+    )
 broken_ends T Calling ending words script i j m n u v w r s f g k l t p reads broke cause h =
     let P : Ending → Type 0 = λ e. Ends e words (outside i m u r f k) (outside j n w s g t) in
-    subst P (sym h.0) (p.command, record {
-      cause = cause.1;
-      unsaid = v;
-      session = broke_session Calling words script i j m n u v w r s f g k t p broke;
-      output = rw cause.0 at h.1;
-      reads = reads;
-    })
+    subst P (sym h.0) (
+      p.command,
+      record {
+        cause = cause.1;
+        unsaid = v;
+        session = broke_session Calling words script i j m n u v w r s f g k t p broke;
+        output = rw cause.0 at h.1;
+        reads = reads;
+      },
+    )

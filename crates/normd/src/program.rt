@@ -192,13 +192,14 @@ pub(crate) fn run<R: Threads + Wait + Sync, S: Source, K: Sink, F: Fabric, D: Fi
     ensures file_faults { D.fault_count files.new ≡ D.fault_count files.old }
     ensures clock { C.moments clock.new ≡ C.moments clock.old }
 {
-    let status = match words {
-        Ok(words) => norm_main(rt, alloc, &words, input, output, fabric, files, clock),
+    let words = match words {
+        Ok(words) => words,
         Err(WordsFault::NotText) => {
             say(output, USAGE);
-            Ending::Words.status()
+            return ExitCode::from(Ending::Words.status());
         }
-        Err(WordsFault::Memory) => Ending::Memory.status(),
+        Err(WordsFault::Memory) => return ExitCode::from(Ending::Memory.status()),
     };
-    ExitCode::from(status.code())
+    let status = norm_main(rt, alloc, &words, input, output, fabric, files, clock);
+    ExitCode::from(status)
 }

@@ -1,11 +1,13 @@
 //! How the program ends.
 
 ghost use Rattle.std.specs.Prelude.{◌≡◌};
+ghost use Rattle.std.specs.Process.{exit_status};
 ghost use Rattle.normd.specs.StatusOf.{status_of};
 ghost use Rattle.normd.specs.declared.status.Ending.TheVariants as ending;
 
 use std::alloc::AllocError;
 use std::marker::Model;
+use std::process::ExitCode;
 
 /// A program's exit status.
 #[derive(Clone, Copy, Debug, PartialEq, Eq)]
@@ -29,6 +31,14 @@ impl Status {
         ensures { result ≡ self.now }
     {
         self.0
+    }
+}
+
+impl From<Status> for ExitCode {
+    ghost from_gives = { λ status code. exit_status code ≡ status };
+
+    fn from(status: Status) -> ExitCode {
+        ExitCode::from(status.0)
     }
 }
 
