@@ -9,3 +9,5 @@ pub mod Segment
 pub mod Message
 pub mod Octets
 pub mod Reading
+pub mod Spells
+pub mod Laws
