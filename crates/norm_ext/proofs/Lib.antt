@@ -5,3 +5,5 @@ pub mod RequestLemmas
 pub mod MessageLemmas
 pub mod Takes
 pub mod ReadIsSpelled
+pub mod AgainLemmas
+pub mod Again
