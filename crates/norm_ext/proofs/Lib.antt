@@ -7,3 +7,5 @@ pub mod Takes
 pub mod ReadIsSpelled
 pub mod AgainLemmas
 pub mod Again
+pub mod SpelledIsRead
+pub mod LawsHold
