@@ -8,6 +8,7 @@ mod fti;
 mod head;
 pub mod header;
 mod kinds;
+pub mod laws;
 mod numbers;
 mod refusal;
 mod requests;
