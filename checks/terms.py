@@ -41,9 +41,9 @@ use Rattle.norm_send_rules.specs.declared.news.Outcome.{Outcome}
 use Rattle.norm_send_rules.specs.declared.news.Outcome.TheVariants as outcome
 use Rattle.norm_send_rules.specs.declared.want.Want.{Want}
 use Rattle.norm_send_rules.specs.declared.want.Want.TheVariants as want
-use Rattle.norm_receive_rules.specs.ReceiverState.{ReceiverState, Held, HeldInfo}
+use Rattle.norm_receive_rules.specs.ReceiverState.{ReceiverState, Plan, Held, HeldInfo}
 use Rattle.norm_safety.specs.Events.{Event, Commanded, Delivered, Ticked, Offered, UpTaken, NewsAsked, Answer, Gave, Sent, Took, Told, Silent}
-use Rattle.norm_safety.specs.World.{World, world_opening}
+use Rattle.norm_safety.specs.World.{World, world_opening, receiver_at}
 use Rattle.norm_safety.specs.WorldStep.{world_step, run_from}
 use Rattle.norm_safety.specs.History.{Happening, History, history, last_world}
 use Rattle.norm_safety.specs.Lawful.{is_lawful}
