@@ -16,7 +16,7 @@ def put(path, text):
     open(path, 'w', encoding='utf-8').write(text)
 
 
-SHARED = '\n'.join(open(os.path.join(HERE, f), encoding='utf-8').read() for f in ('Shown.antt', 'Small.antt', 'Damage.antt'))
+SHARED = '\n'.join(open(os.path.join(HERE, f), encoding='utf-8').read() for f in ('Shown.txt', 'Small.txt', 'Damage.txt'))
 PUBLIC = re.findall(r'^(?:abbrev pub|pub data) (\S+) :', terms.NUMERALS + SHARED, re.M) + ['Do', 'Pass', 'Look']
 
 

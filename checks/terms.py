@@ -1,4 +1,4 @@
-"""Recorded runs as terms of antt, and what their answers are as lists of numbers (see Shown.antt)."""
+"""Recorded runs as terms of antt, and what their answers are as lists of numbers (see Shown.txt)."""
 import re
 
 NONE = 4294967295
