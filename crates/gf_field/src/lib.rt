@@ -1,5 +1,8 @@
 //! The field GF(2^8) of RFC 5510, section 8.1: octets, their sums by exclusive or, and their products
 //! modulo x^8 + x^4 + x^3 + x^2 + 1.
+//!
+//! `mul`, `inv`, `alpha_pow` and `alpha_log` read the tables of `tables`; `add_scaled` works on the lanes of `lanes`.
+//! `specs/Symbol.antt` has the erasure code as functions of lists of symbols, and `laws` what holds of all of it.
 #![tactic(auto)]
 
 ghost use Rattle.std.specs.Prelude.{◌≡◌, ◌≢◌, ◌<◌, EachIndex, bit_xor, length, slice_index};
