@@ -7,7 +7,7 @@ use Rattle.norm_ext.specs.Extensions.{Extension, extension_octets, extension_len
 use Rattle.norm_ext.specs.declared.refusal.ExtFault.{ExtFault}
 use Rattle.norm_ext.specs.declared.refusal.ExtFault.TheVariants.{ZeroLength, Overrun}
 use Rattle.norm_ext.specs.Pieces.{pieces_behind, checked_then, checked_behind}
-use Rattle.norm_ext.proofs.PieceLemmas.{IsOctets, IsKind, unroll, ok_first, ok_rest, unroll_checked, first_checked}
+use Rattle.norm_ext.proofs.PieceLemmas.{IsOctets, IsKind, unroll, ok_first, ok_rest, unroll_checked, first_checked, together}
 
 -- a test that refuses nothing
 passes : {A : Type 0} (b : Bool) (x : A) (r : Result (Unit {0}) A) → cond b (Err x) r ≡ Ok tt → (b ≡ false) × (r ≡ Ok tt)
@@ -243,3 +243,7 @@ extension_size [] all = refl
 extension_size (x ∷ list) all =
     let rest = extension_size list all.1 in
     omega (arith, rest, all.0.whole, length-append (extension_octets x) (flat_map extension_octets list))
+
+-- the extensions of a list put together again are the list
+pub exts_together : (exts : List ℕ) → IsOctets exts → IsChecked exts → flat_map extension_octets (extensions_of exts) ≡ exts
+exts_together exts fits is = together extension_octets first_extension extension_length extension_checked extension_kind 0 0 exts fits (omega arith) is.checked

@@ -10,6 +10,7 @@ pub mod header;
 mod kinds;
 pub mod laws;
 mod numbers;
+pub mod pushing;
 mod refusal;
 mod requests;
 

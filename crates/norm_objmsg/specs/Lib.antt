@@ -6,3 +6,4 @@ pub mod DataView
 pub mod DataReading
 pub mod Spells
 pub mod MessageView
+pub mod CanWriteMessage

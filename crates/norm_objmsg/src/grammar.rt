@@ -1,16 +1,22 @@
 //! INFO and DATA with any header extensions (RFC 5740 section 4.2.1 and 4.2.2), read by the grammar of `norm_ext`.
 //! Their parts are lent from the datagram.
 
-ghost use Rattle.std.specs.Prelude.{◌≡◌, ◌+◌, ◌*◌, ◌≤◌, ◌<◌, Ok, Err, MatchResult, MatchOption, None, length, drop, take};
+ghost use Rattle.std.specs.Prelude.{◌≡◌, ◌+◌, ◌*◌, ◌≤◌, ◌<◌, Ok, Err, MatchResult, [], length};
 ghost use Rattle.norm_ext.specs.Reading.{info_read, data_read};
 ghost use Rattle.norm_ext.specs.Segment.{segment_in};
 ghost use Rattle.norm_objmsg.specs.MessageView.{info_of, data_of, part_of};
 ghost use Rattle.std.specs.Option.{option_map};
+ghost use Rattle.norm_ext.specs.Extensions.{extensions_of};
+ghost use Rattle.norm_ext.specs.Message.{Info, Data};
+ghost use Rattle.norm_ext.specs.Octets.{octets_of};
+ghost use Rattle.norm_objmsg.specs.CanWriteMessage.{CanWrite};
 
 use fec_plan::PayloadId;
+use norm_base::Datagram;
 use norm_ext::header::{
     check_encoding, check_extensions, check_header, check_source, read_object_head,
 };
+use norm_ext::pushing::{push_front, push_name, push_object_head};
 use norm_ext::{MessageType, ObjHead, Refusal, read_16, read_32, read_name};
 
 /// NORM_INFO: an object's info.
@@ -95,4 +101,67 @@ pub fn read_part(payload: &[u8]) -> Option<StreamPart<'_>>
         offset: read_32(payload, 4),
         octets: payload.split_at(8).1.split_at(usize::from(len)).0,
     })
+}
+
+/// Writes the parts of a NORM_INFO message.
+fn write_info_parts(head: &ObjHead, exts: &[u8], info: &[u8], out: &mut Datagram)
+    requires empty { out.old ≡ [] }
+    requires parts { CanWrite 16 head.now exts.now info.now }
+    ensures { out.new ≡ octets_of (Info (record { head = head.now; extensions = extensions_of exts.now; info = info.now })) }
+{
+    let words = (4 + exts.len() / 4) as u8;
+    push_front(
+        MessageType::Info.number(),
+        words,
+        head.sequence,
+        head.source,
+        out,
+    );
+    push_object_head(head, out);
+    out.push(exts);
+    out.push(info);
+}
+
+/// Writes the message into the empty datagram: the octets that spell it.
+pub fn write_info(msg: &InfoMsg<'_>, out: &mut Datagram)
+    requires empty { out.old ≡ [] }
+    requires message { CanWrite 16 msg.now.head msg.now.exts.now msg.now.info.now }
+    ensures { out.new ≡ octets_of (info_of msg.now) }
+{
+    write_info_parts(&msg.head, msg.exts, msg.info, out);
+}
+
+/// Writes the parts of a NORM_DATA message.
+fn write_data_parts(
+    head: &ObjHead,
+    id: &PayloadId,
+    exts: &[u8],
+    payload: &[u8],
+    out: &mut Datagram,
+)
+    requires empty { out.old ≡ [] }
+    requires parts { CanWrite 20 head.now exts.now payload.now }
+    ensures { out.new ≡ octets_of (Data (record { head = head.now; id = id.now; extensions = extensions_of exts.now; payload = payload.now })) }
+{
+    let words = (5 + exts.len() / 4) as u8;
+    push_front(
+        MessageType::Data.number(),
+        words,
+        head.sequence,
+        head.source,
+        out,
+    );
+    push_object_head(head, out);
+    push_name(id, out);
+    out.push(exts);
+    out.push(payload);
+}
+
+/// Writes the message into the empty datagram: the octets that spell it.
+pub fn write_data(msg: &DataMsg<'_>, out: &mut Datagram)
+    requires empty { out.old ≡ [] }
+    requires message { CanWrite 20 msg.now.head msg.now.exts.now msg.now.payload.now }
+    ensures { out.new ≡ octets_of (data_of msg.now) }
+{
+    write_data_parts(&msg.head, &msg.id, msg.exts, msg.payload, out);
 }
