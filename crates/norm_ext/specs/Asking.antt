@@ -11,10 +11,13 @@ use Rattle.norm_ext.specs.declared.kinds.Form.TheVariants as form
 -- the flags of a request: what of each item it asks for
 abbrev pub segment_flag : ℕ
 segment_flag = 1
+
 abbrev pub block_flag : ℕ
 block_flag = 2
+
 abbrev pub info_flag : ℕ
 info_flag = 4
+
 abbrev pub object_flag : ℕ
 object_flag = 8
 
@@ -47,7 +50,7 @@ is_proper s = not (position_before s.last s.first)
 -- what a request names: of items each a span of itself, of ranges the pairs that are not empty
 abbrev pub named_spans : Settings → Request → List Span
 named_spans p r = elim r.form [
-  form.Items ↦ map (λ x. span (named_by p x) (named_by p x)) r.items
+  | form.Items ↦ map (λ x. span (named_by p x) (named_by p x)) r.items
   | form.Ranges ↦ filter is_proper (pairs (map (named_by p) r.items))
   | form.Erasures ↦ []
 ]
@@ -88,7 +91,7 @@ asks_info p r index =
 -- the encoded symbols, parity too, that a request asks for by name: items with SEGMENT
 abbrev pub asked_symbols : Settings → Request → List Position
 asked_symbols p r = elim r.form [
-  form.Items ↦ where_flag r.flags segment_flag (map (named_by p) r.items)
+  | form.Items ↦ where_flag r.flags segment_flag (map (named_by p) r.items)
   | form.Ranges ↦ []
   | form.Erasures ↦ []
 ]
@@ -101,10 +104,10 @@ pub record Count : Type 0 where
 -- with SEGMENT or BLOCK, erasures ask for as many symbols of each block as the symbol id says
 abbrev pub asked_counts : Settings → Request → List Count
 asked_counts p r = elim r.form [
-  form.Items ↦ []
+  | form.Items ↦ []
   | form.Ranges ↦ []
   | form.Erasures ↦ elim (has_flag r.flags segment_flag || has_flag r.flags block_flag) [
-    true ↦ map (λ x. record { of = point_of (named_by p x); lacking = (named_by p x).symbol }) r.items
+    | true ↦ map (λ x. record { of = point_of (named_by p x); lacking = (named_by p x).symbol }) r.items
     | false ↦ []
   ]
 ]

@@ -1,5 +1,5 @@
 -- The segments of a stream, each of them a source symbol (RFC 5740 section 4.2.1 on NORM_STREAM_OBJECT).
-use Rattle.std.specs.Prelude.{ℕ, zero, suc, ◌+◌, ◌*◌, ◌/◌, ◌%◌, List, [], ◌∷◌, ◌++◌, length, take, drop, Bool, true, false}
+use Rattle.std.specs.Prelude.{ℕ, zero, suc, ◌+◌, ◌/◌, ◌%◌, List, [], ◌∷◌, ◌++◌, length, take, drop, Bool, true, false}
 use Rattle.std.specs.Int.{div_ceil}
 use Rattle.norm_order.specs.Entries.{Part, Write, Cut, End}
 

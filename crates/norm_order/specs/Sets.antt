@@ -5,7 +5,7 @@ use Rattle.std.specs.Prelude.{Bool, true, false, not, List, [], ◌∷◌, fold}
 unfoldable pub with_member : {X : Type 0} → (X → X → Bool) → X → List X → List X
 with_member before x [] = x ∷ []
 with_member before x (y ∷ ys) = elim (before x y) [
-  true ↦ x ∷ y ∷ ys
+  | true ↦ x ∷ y ∷ ys
   | false ↦ elim (before y x) [ true ↦ y ∷ with_member before x ys | false ↦ y ∷ ys ]
 ]
 

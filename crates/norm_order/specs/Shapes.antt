@@ -1,7 +1,7 @@
 -- Which symbols an object has: its partition (RFC 5052 section 9.1), and how far it is closed.
-use Rattle.std.specs.Prelude.{ℕ, ◌+◌, ◌-◌, ◌==◌, ◌&&◌, List, [], ◌∷◌, ◌++◌, length, map, min, nat_lt, Bool, true, false, Option, None, Some, is_some, flat_map, slice_get}
+use Rattle.std.specs.Prelude.{ℕ, ◌+◌, ◌-◌, ◌==◌, List, [], ◌∷◌, length, map, min, nat_lt, Bool, true, false, Option, None, Some, is_some, flat_map, slice_get}
 use Rattle.std.specs.Int.{div_ceil}
-use Rattle.std.specs.List.{range_with_len, list_any}
+use Rattle.std.specs.List.{range_with_len}
 use Rattle.norm_base.specs.Settings.{Settings}
 use Rattle.fec_plan.specs.Partition.{Cut, cut_of, stream_cut, blocks, source_symbols, encoding_symbols, symbol_number, all_symbols}
 use Rattle.fec_plan.specs.declared.position.Position.{Position}
@@ -52,7 +52,7 @@ closed_blocks s = elim s.cut.l [ Some l ↦ blocks s.cut | None ↦ div_ceil s.c
 -- the last closed source symbol of the object with this index
 abbrev pub last_in : ℕ → Shape → Option Position
 last_in index s = elim (s.closed == 0) [
-  true ↦ None
+  | true ↦ None
   | false ↦ let block = closed_blocks s - 1 in Some (position index block (closed_in s block - 1))
 ]
 

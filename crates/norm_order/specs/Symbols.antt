@@ -1,13 +1,13 @@
 -- The octets of the symbols of a block (RFC 5740 section 4.2.1, RFC 5510 section 8).
-use Rattle.std.specs.Prelude.{ℕ, ◌+◌, ◌*◌, List, [], ◌∷◌, ◌++◌, length, map, take, drop, nat_lt, true, false, slice_get, Option, None, Some}
+use Rattle.std.specs.Prelude.{ℕ, ◌*◌, List, [], ◌++◌, length, map, take, drop, nat_lt, true, false, slice_get, None, Some}
 use Rattle.std.specs.Int.{to_be_bytes, w16, w32}
 use Rattle.std.specs.List.{range_with_len}
 use Rattle.norm_base.specs.Settings.{Settings}
-use Rattle.fec_plan.specs.Partition.{Cut, source_symbols, symbol_number, coded_octets}
+use Rattle.fec_plan.specs.Partition.{source_symbols, symbol_number, coded_octets}
 use Rattle.gf_field.specs.Symbol.{encoded_symbol}
 use Rattle.norm_order.specs.Entries.{Object, Whole, Stream}
 use Rattle.norm_order.specs.Segments.{Segment, segments}
-use Rattle.norm_order.specs.Shapes.{Shape, shape_of}
+use Rattle.norm_order.specs.Shapes.{shape_of}
 
 -- a segment as it is sent: its length, 0 for the start of a message, its offset, and its octets
 abbrev pub segment_octets : Segment → List ℕ
@@ -34,6 +34,6 @@ abbrev pub symbol_octets : Settings → Object → ℕ → ℕ → List ℕ
 symbol_octets p object block symbol =
     let cut = (shape_of p object).cut in
     elim (nat_lt symbol (source_symbols cut block)) [
-      true ↦ source_octets p object (symbol_number cut block symbol)
+      | true ↦ source_octets p object (symbol_number cut block symbol)
       | false ↦ encoded_symbol (coded_octets cut) (block_sources p object block) symbol
     ]

@@ -1,5 +1,5 @@
 -- What is handed up of an order, and what of it stands before a watermark (RFC 5740 section 5.5.3).
-use Rattle.std.specs.Prelude.{ℕ, ◌+◌, ◌==◌, ◌&&◌, List, [], ◌∷◌, ◌++◌, map, take, slice_get, Option, None, Some, Bool, true, false}
+use Rattle.std.specs.Prelude.{ℕ, ◌+◌, List, [], ◌∷◌, ◌++◌, map, take, slice_get, None, Some, Bool, true, false}
 use Rattle.norm_base.specs.Settings.{Settings}
 use Rattle.fec_plan.specs.Partition.{symbol_number}
 use Rattle.fec_plan.specs.declared.position.Position.{Position}

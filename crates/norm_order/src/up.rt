@@ -13,7 +13,9 @@ pub enum Up {
         bytes: Octets,
     },
     /// A stream begins.
-    StreamOpen { index: u32 },
+    StreamOpen {
+        index: u32,
+    },
     /// One segment of a stream, and its place in it.
     StreamBytes {
         index: u32,
@@ -21,7 +23,11 @@ pub enum Up {
         bytes: Octets,
     },
     /// A stream ended.
-    StreamEnd { index: u32 },
+    StreamEnd {
+        index: u32,
+    },
     /// The sender dropped this object, or the rest of this stream, before it was whole here.
-    Lost { index: u32 },
+    Lost {
+        index: u32,
+    },
 }

@@ -1,5 +1,5 @@
 -- Acknowledging a flush (RFC 5740 section 5.5.3).
-use Rattle.std.specs.Prelude.{ℕ, ◌==◌, ◌&&◌, List, [], ◌∷◌, Bool, true, false, Option, None, Some}
+use Rattle.std.specs.Prelude.{ℕ, ◌==◌, ◌&&◌, List, [], ◌∷◌, Bool, true, false}
 use Rattle.std.specs.List.{list_any}
 use Rattle.fec_plan.specs.Points.{position_before}
 use Rattle.fec_plan.specs.declared.position.Position.{Position}

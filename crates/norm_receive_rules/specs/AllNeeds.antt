@@ -1,5 +1,5 @@
 -- What a receiver needs (RFC 5740 section 5.3): object by object from the hand-up point on.
-use Rattle.std.specs.Prelude.{ℕ, zero, suc, ◌+◌, ◌-◌, List, max, Bool, true, false, Option, None, Some}
+use Rattle.std.specs.Prelude.{ℕ, zero, suc, ◌+◌, ◌-◌, max, Bool, true, false, None, Some}
 use Rattle.norm_base.specs.Settings.{Settings}
 use Rattle.norm_receive_rules.specs.Lazy.{Lazy, Nil, Next, followed_by, lazily}
 use Rattle.norm_receive_rules.specs.ReceiverState.{ReceiverState, Plan}
@@ -10,12 +10,12 @@ use Rattle.norm_receive_rules.specs.StreamNeeds.{stream_needs}
 -- what is needed of an object with a plan: its info, and its symbols
 abbrev pub planned_needs : Settings → ReceiverState → Plan → Lazy Need
 planned_needs p s plan = followed_by (lazily (info_needs s plan)) (λ u.
-  elim (says_stream plan.flags) [ true ↦ stream_needs p s plan | false ↦ object_needs s plan ])
+    elim (says_stream plan.flags) [ true ↦ stream_needs p s plan | false ↦ object_needs s plan ])
 
 -- what is needed of the object with this index
 abbrev pub needs_of : Settings → ReceiverState → ℕ → Lazy Need
 needs_of p s index = elim (plan_of s index) [
-  Some plan ↦ planned_needs p s plan
+  | Some plan ↦ planned_needs p s plan
   | None ↦ lazily (unknown_needs s index)
 ]
 

@@ -1,5 +1,5 @@
 -- The back-off before a NACK (RFC 5401 section 3.2.2, RFC 5740 section 5.3).
-use Rattle.std.specs.Prelude.{ℕ, ◌+◌, ◌*◌, ◌%◌, ◌&&◌, not, List, [], Bool, true, false, nat_lt, Option, None, Some, is_none}
+use Rattle.std.specs.Prelude.{ℕ, ◌+◌, ◌*◌, ◌%◌, ◌&&◌, not, [], Bool, true, false, nat_lt, Some, is_none}
 use Rattle.norm_base.specs.Settings.{Settings}
 use Rattle.norm_order.specs.Moments.{moment_after}
 use Rattle.norm_receive_rules.specs.ReceiverState.{ReceiverState}

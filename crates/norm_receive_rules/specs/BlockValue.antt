@@ -1,5 +1,5 @@
 -- The source symbols that the symbols held of a block give (RFC 5510 section 8.3).
-use Rattle.std.specs.Prelude.{ℕ, ◌==◌, ◌-◌, List, map, find, Bool, true, false, Option, None, Some}
+use Rattle.std.specs.Prelude.{ℕ, ◌==◌, List, map, find, true, false, Option, None, Some}
 use Rattle.fec_plan.specs.Partition.{coded_octets}
 use Rattle.gf_field.specs.Symbol.{solved_symbol}
 use Rattle.norm_receive_rules.specs.ReceiverState.{ReceiverState, Plan, Held}
@@ -21,6 +21,6 @@ abbrev pub block_value : ReceiverState → Plan → ℕ → ℕ → Option (List
 block_value s plan block symbol =
     let held = held_of s plan.index block in
     elim (is_done s plan block) [
-      true ↦ Some (solved_symbol (coded_octets (cut_of_plan plan)) (ids_of held) (octets_of_held held) symbol)
+      | true ↦ Some (solved_symbol (coded_octets (cut_of_plan plan)) (ids_of held) (octets_of_held held) symbol)
       | false ↦ elim (says_stream plan.flags) [ true ↦ held_symbol held symbol | false ↦ None ]
     ]

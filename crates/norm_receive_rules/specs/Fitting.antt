@@ -1,5 +1,5 @@
 -- Taking up the plan of an object (RFC 5740 section 5.3 on EXT_FTI).
-use Rattle.std.specs.Prelude.{ℕ, ◌+◌, ◌*◌, ◌==◌, ◌&&◌, ◌||◌, not, List, [], ◌∷◌, map, filter, sum, Bool, true, false, nat_lt, nat_le, Option, None, Some, is_some, is_none}
+use Rattle.std.specs.Prelude.{ℕ, ◌+◌, ◌*◌, ◌==◌, ◌&&◌, ◌||◌, not, [], ◌∷◌, map, filter, sum, Bool, true, false, nat_lt, nat_le, None, Some, is_some, is_none}
 use Rattle.std.specs.Bool.{beq}
 use Rattle.norm_base.specs.Settings.{Settings}
 use Rattle.fec_plan.specs.Partition.{first_fault}
@@ -48,11 +48,11 @@ is_unfit p s index f flags =
 -- how transmission information fits: the first word that applies
 abbrev pub fit_of : Settings → ReceiverState → ℕ → Fti → ℕ → Fit
 fit_of p s index f flags = elim (first_where (
-  (is_over s index || is_known_plan s index f flags, fit.Known)
-  ∷ (is_away p s index f flags, fit.Away)
-  ∷ (is_unfit p s index f flags, fit.Unfit)
-  ∷ []
-)) [ Some word ↦ word | None ↦ fit.Taken ]
+    (is_over s index || is_known_plan s index f flags, fit.Known)
+    ∷ (is_away p s index f flags, fit.Away)
+    ∷ (is_unfit p s index f flags, fit.Unfit)
+    ∷ []
+    )) [ Some word ↦ word | None ↦ fit.Taken ]
 
 abbrev pub plan_before : Plan → Plan → Bool
 plan_before a b = nat_lt a.index b.index

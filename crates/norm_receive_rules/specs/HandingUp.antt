@@ -1,5 +1,5 @@
 -- Handing up in transport order (RFC 5740 section 5.3): as far as it can, from the hand-up point on.
-use Rattle.std.specs.Prelude.{ℕ, zero, suc, ◌+◌, ◌==◌, ◌&&◌, List, [], ◌∷◌, ◌++◌, length, take, drop, map, min, Bool, true, false, nat_lt, Option, None, Some, flat_map, if◌then◌else◌}
+use Rattle.std.specs.Prelude.{ℕ, zero, suc, ◌+◌, ◌==◌, ◌&&◌, List, [], ◌∷◌, ◌++◌, length, take, drop, min, Bool, true, false, nat_lt, Option, None, Some, flat_map, if◌then◌else◌}
 use Rattle.std.specs.List.{list_all, range_with_len}
 use Rattle.norm_base.specs.Settings.{Settings}
 use Rattle.norm_base.specs.declared.kinds.Kind.{Kind}
@@ -29,8 +29,8 @@ is_whole s plan = has_its_info s plan && list_all (is_done s plan) (range_with_l
 -- the octets of a block's source symbols in a row
 abbrev pub block_octets : ReceiverState → Plan → ℕ → List ℕ
 block_octets s plan block = flat_map
-  (λ symbol. elim (block_value s plan block symbol) [ Some octets ↦ octets | None ↦ [] ])
-  (range_with_len 0 (source_symbols (cut_of_plan plan) block))
+    (λ symbol. elim (block_value s plan block symbol) [ Some octets ↦ octets | None ↦ [] ])
+    (range_with_len 0 (source_symbols (cut_of_plan plan) block))
 
 -- an object's octets: those of its blocks, without the padding of the last symbol
 abbrev pub object_octets : ReceiverState → Plan → List ℕ
@@ -46,7 +46,7 @@ told_info s plan = elim (says_info plan.flags) [ true ↦ info_of s plan.index |
 -- an object that is whole is handed up
 abbrev pub hands_object : ReceiverState → Plan → Option ReceiverState
 hands_object s plan = elim (is_whole s plan) [
-  true ↦ Some (handed (up.Object plan.index (kind_of plan.flags) (told_info s plan) (object_octets s plan) ∷ []) (after_object plan.index) s)
+  | true ↦ Some (handed (up.Object plan.index (kind_of plan.flags) (told_info s plan) (object_octets s plan) ∷ []) (after_object plan.index) s)
   | false ↦ None
 ]
 
@@ -57,16 +57,16 @@ segment_length p symbol = min (number 2 0 symbol) p.e
 -- a segment's hand-up; the one of no octets is the end
 abbrev pub segment_up : Settings → ℕ → List ℕ → Up
 segment_up p index symbol = elim (segment_length p symbol) [
-  zero ↦ up.StreamEnd index
+  | zero ↦ up.StreamEnd index
   | suc n ↦ up.StreamBytes index (number 4 4 symbol) (take (suc n) (drop 8 symbol))
 ]
 
 -- the source symbol behind this one in a stream, and behind its end the next object
 abbrev pub after_segment : Settings → Plan → Position → List ℕ → Position
 after_segment p plan at symbol = elim (segment_length p symbol) [
-  zero ↦ after_object at.index
+  | zero ↦ after_object at.index
   | suc n ↦ elim (nat_lt (at.symbol + 1) (source_symbols (cut_of_plan plan) at.block)) [
-    true ↦ position at.index at.block (at.symbol + 1)
+    | true ↦ position at.index at.block (at.symbol + 1)
     | false ↦ position at.index (at.block + 1) 0
   ]
 ]
@@ -87,14 +87,14 @@ hands_segment p s plan symbol =
 -- the next segment of a stream is handed up, where it and the stream's info are there
 abbrev pub hands_next : Settings → ReceiverState → Plan → Option ReceiverState
 hands_next p s plan = elim (has_its_info s plan) [
-  true ↦ elim (next_segment s plan) [ Some symbol ↦ Some (hands_segment p s plan symbol) | None ↦ None ]
+  | true ↦ elim (next_segment s plan) [ Some symbol ↦ Some (hands_segment p s plan symbol) | None ↦ None ]
   | false ↦ None
 ]
 
 -- one hand-up at the hand-up point, where there is one
 abbrev pub hands_one : Settings → ReceiverState → Option ReceiverState
 hands_one p s = elim (plan_of s s.point.index) [
-  Some plan ↦ elim (says_stream plan.flags) [ true ↦ hands_next p s plan | false ↦ hands_object s plan ]
+  | Some plan ↦ elim (says_stream plan.flags) [ true ↦ hands_next p s plan | false ↦ hands_object s plan ]
   | None ↦ None
 ]
 

@@ -1,5 +1,5 @@
 -- Lists of which only as much is made as is looked at.
-use Rattle.std.specs.Prelude.{ℕ, zero, suc, List, [], ◌∷◌, ⊤}
+use Rattle.std.specs.Prelude.{List, [], ◌∷◌, ⊤}
 
 -- nothing, or a first element and what follows it
 pub data Lazy (X : Type 0) : Type 0 where

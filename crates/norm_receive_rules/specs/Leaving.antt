@@ -22,6 +22,6 @@ enters instance s = knowing_nothing s.node (Some instance) (left_now s) s.sequen
 -- the state in which a message of this instance is received; one of an instance that was left is not
 abbrev pub entered : ReceiverState → ℕ → Option ReceiverState
 entered s instance = elim (is_in s instance) [
-  true ↦ Some s
+  | true ↦ Some s
   | false ↦ elim (has_left s instance) [ true ↦ None | false ↦ Some (enters instance s) ]
 ]

@@ -1,9 +1,9 @@
 -- What a squelch makes lost (RFC 5740 section 5.3 on NORM_CMD(SQUELCH)).
-use Rattle.std.specs.Prelude.{ℕ, zero, suc, ◌-◌, ◌==◌, ◌&&◌, List, [], ◌∷◌, ◌++◌, Bool, true, false, nat_lt, Option, None, Some, is_none}
+use Rattle.std.specs.Prelude.{ℕ, zero, suc, ◌-◌, ◌==◌, ◌&&◌, [], ◌∷◌, ◌++◌, Bool, true, false, nat_lt, None, Some, is_none}
 use Rattle.norm_base.specs.Settings.{Settings}
 use Rattle.fec_plan.specs.Points.{Point}
 use Rattle.norm_order.specs.declared.up.Up.TheVariants as up
-use Rattle.norm_receive_rules.specs.ReceiverState.{ReceiverState, Plan}
+use Rattle.norm_receive_rules.specs.ReceiverState.{ReceiverState}
 use Rattle.norm_receive_rules.specs.Plans.{says_stream, plan_of}
 use Rattle.norm_receive_rules.specs.HandingUp.{handed, after_object, next_segment, handed_up}
 
@@ -25,14 +25,14 @@ loses_before (suc n) p index s =
 -- were dropped, so that it is a stream.
 abbrev pub is_cut_off : ReceiverState → Point → Bool
 is_cut_off s first = elim (plan_of s s.point.index) [
-  Some plan ↦ says_stream plan.flags && nat_lt s.point.block first.block && is_none (next_segment s plan)
+  | Some plan ↦ says_stream plan.flags && nat_lt s.point.block first.block && is_none (next_segment s plan)
   | None ↦ nat_lt 0 first.block
 ]
 
 -- the object at the hand-up point, where the window begins within it
 abbrev pub loses_at : Settings → Point → ReceiverState → ReceiverState
 loses_at p first s = elim (s.point.index == first.index && is_cut_off s first) [
-  true ↦ handed_up p (loses_one s)
+  | true ↦ handed_up p (loses_one s)
   | false ↦ s
 ]
 

@@ -1,12 +1,11 @@
 -- The NACK and the acknowledgement that a receiver writes (RFC 5740 section 4.3).
-use Rattle.std.specs.Prelude.{ℕ, ◌+◌, ◌-◌, ◌==◌, ◌&&◌, List, [], ◌∷◌, ◌++◌, Bool, true, false, nat_lt, nat_le, Option, None, Some, unwrap_or, if◌then◌else◌}
+use Rattle.std.specs.Prelude.{ℕ, ◌+◌, ◌-◌, ◌==◌, ◌&&◌, List, [], ◌∷◌, ◌++◌, Bool, true, false, nat_le, Option, None, Some, unwrap_or}
 use Rattle.norm_base.specs.Settings.{Settings}
 use Rattle.fec_plan.specs.declared.position.Position.{Position}
 use Rattle.norm_ext.specs.Message.{Message, Nack, Ack, Mark}
 use Rattle.norm_ext.specs.Numbers.{form_number, flush_ack}
 use Rattle.norm_ext.specs.ObjectIds.{object_id}
 use Rattle.norm_ext.specs.Requests.{Request, RequestItem}
-use Rattle.norm_ext.specs.declared.head.Item.{Item}
 use Rattle.norm_receive_rules.specs.Lazy.{Lazy, Nil, Next}
 use Rattle.norm_receive_rules.specs.ReceiverState.{ReceiverState}
 use Rattle.norm_receive_rules.specs.Needs.{Need}
@@ -28,7 +27,7 @@ size_behind (Some before) need = elim (alike before need) [ true ↦ items_size 
 unfoldable pub fitting : Lazy Need → Option Need → ℕ → List Need
 fitting Nil before room = []
 fitting (Next need rest) before room = elim (nat_le (size_behind before need) room) [
-  true ↦ need ∷ fitting (rest tt) (Some need) (room - size_behind before need)
+  | true ↦ need ∷ fitting (rest tt) (Some need) (room - size_behind before need)
   | false ↦ []
 ]
 
@@ -47,7 +46,7 @@ items_of_need p need = item_of p need.first ∷ elim need.last [ Some at ↦ ite
 abbrev pub before_requests : Settings → Need → List Request → List Request
 before_requests p need [] = record { form = need.form; flags = need.flags; items = items_of_need p need } ∷ []
 before_requests p need (r ∷ requests) = elim (form_number need.form == form_number r.form && need.flags == r.flags) [
-  true ↦ record r { items = items_of_need p need ++ r.items } ∷ requests
+  | true ↦ record r { items = items_of_need p need ++ r.items } ∷ requests
   | false ↦ record { form = need.form; flags = need.flags; items = items_of_need p need } ∷ r ∷ requests
 ]
 

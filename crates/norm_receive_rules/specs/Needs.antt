@@ -1,12 +1,12 @@
 -- What a receiver needs of data and files (RFC 5740 section 5.3, RFC 5401 section 3.2.2), from what it saw of the sender.
-use Rattle.std.specs.Prelude.{ℕ, zero, suc, ◌+◌, ◌-◌, ◌==◌, ◌&&◌, ◌||◌, not, List, [], ◌∷◌, max, min, Bool, true, false, nat_lt, nat_le, Option, None, Some, is_none}
+use Rattle.std.specs.Prelude.{ℕ, zero, suc, ◌+◌, ◌==◌, ◌&&◌, ◌||◌, not, List, [], ◌∷◌, max, min, Bool, true, false, nat_lt, nat_le, Option, None, Some}
 use Rattle.fec_plan.specs.Partition.{blocks}
 use Rattle.fec_plan.specs.Points.{position}
 use Rattle.fec_plan.specs.declared.position.Position.{Position}
 use Rattle.norm_ext.specs.Asking.{segment_flag, info_flag, object_flag}
 use Rattle.norm_ext.specs.declared.kinds.Form.{Form}
 use Rattle.norm_ext.specs.declared.kinds.Form.TheVariants as form
-use Rattle.norm_receive_rules.specs.Lazy.{Lazy, Nil, Next, lazily}
+use Rattle.norm_receive_rules.specs.Lazy.{Lazy, Nil, Next}
 use Rattle.norm_receive_rules.specs.ReceiverState.{ReceiverState, Plan}
 use Rattle.norm_receive_rules.specs.Plans.{cut_of_plan, has_its_info, lacking}
 
@@ -52,21 +52,21 @@ info_needs s plan = elim (is_covered s plan.index && not (has_its_info s plan)) 
 -- of the blocks of an object: all where its index is below this one, so many where it is this one, and none above
 abbrev pub blocks_before : Plan → ℕ → ℕ → ℕ
 blocks_before plan index count = elim (nat_lt plan.index index) [
-  true ↦ blocks (cut_of_plan plan)
+  | true ↦ blocks (cut_of_plan plan)
   | false ↦ elim (plan.index == index) [ true ↦ min count (blocks (cut_of_plan plan)) | false ↦ 0 ]
 ]
 
 -- how many blocks of an object lie before the farthest point, or at most at the flush's
 abbrev pub blocks_due : ReceiverState → Plan → ℕ
 blocks_due s plan = max
-  (elim s.farthest [ Some at ↦ blocks_before plan at.index at.block | None ↦ 0 ])
-  (elim s.flush [ Some at ↦ blocks_before plan at.index (at.block + 1) | None ↦ 0 ])
+    (elim s.farthest [ Some at ↦ blocks_before plan at.index at.block | None ↦ 0 ])
+    (elim s.flush [ Some at ↦ blocks_before plan at.index (at.block + 1) | None ↦ 0 ])
 
 -- the counts of n blocks from this one on that lack symbols
 unfoldable pub counts_from : ReceiverState → Plan → ℕ → ℕ → Lazy Need
 counts_from s plan zero block = Nil
 counts_from s plan (suc n) block = elim (lacking s plan block) [
-  zero ↦ counts_from s plan n (suc block)
+  | zero ↦ counts_from s plan n (suc block)
   | suc less ↦ Next (count_need plan.index block (suc less)) (λ u. counts_from s plan n (suc block))
 ]
 

@@ -1,5 +1,5 @@
 -- What a receiver hears others ask for while it backs off (RFC 5401 section 3.2.2, RFC 5740 section 5.3).
-use Rattle.std.specs.Prelude.{ℕ, ◌==◌, ◌&&◌, not, List, ◌++◌, Bool, true, false, Option, None, Some, is_some}
+use Rattle.std.specs.Prelude.{◌==◌, ◌&&◌, not, List, ◌++◌, true, false, None, Some}
 use Rattle.norm_base.specs.Settings.{Settings}
 use Rattle.norm_ext.specs.Message.{NackMessage, RepairAdvCommand}
 use Rattle.norm_ext.specs.Requests.{Request}
@@ -13,7 +13,7 @@ overhears requests s = elim s.backoff [ Some ends ↦ record s { heard = s.heard
 -- a NACK of another node to this sender and instance
 abbrev pub nack_overheard : Settings → NackMessage → ReceiverState → ReceiverState
 nack_overheard p m s = elim (not (m.source == s.node) && m.sender == p.sender && is_in s m.instance) [
-  true ↦ overhears m.requests s
+  | true ↦ overhears m.requests s
   | false ↦ s
 ]
 

@@ -2,7 +2,6 @@
 use Rattle.std.specs.Prelude.{ℕ, ◌-◌, ◌==◌, ◌&&◌, List, length, filter, find, Bool, true, false, nat_lt, Option, None, Some, is_some}
 use Rattle.std.specs.List.{list_any}
 use Rattle.fec_plan.specs.Partition.{Cut, cut_of, stream_cut, source_symbols}
-use Rattle.fec_plan.specs.Points.{Point, point, point_of, position_before}
 use Rattle.fec_plan.specs.declared.position.Position.{Position}
 use Rattle.norm_ext.specs.Asking.{has_flag}
 use Rattle.norm_ext.specs.declared.fti.Fti.{Fti}
@@ -11,8 +10,10 @@ use Rattle.norm_receive_rules.specs.ReceiverState.{ReceiverState, Plan, Held, He
 -- the flags of INFO and DATA (RFC 5740 section 4.2.1); STREAM comes before FILE
 abbrev pub says_info : ℕ → Bool
 says_info flags = has_flag flags 4
+
 abbrev pub says_file : ℕ → Bool
 says_file flags = has_flag flags 16
+
 abbrev pub says_stream : ℕ → Bool
 says_stream flags = has_flag flags 32
 

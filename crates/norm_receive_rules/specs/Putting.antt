@@ -1,5 +1,5 @@
 -- Keeping symbols and infos (RFC 5740 section 5.3).
-use Rattle.std.specs.Prelude.{ℕ, ◌+◌, ◌==◌, ◌&&◌, ◌||◌, not, List, [], ◌∷◌, length, Bool, true, false, nat_lt, nat_le, Option, None, Some, is_some, is_none}
+use Rattle.std.specs.Prelude.{ℕ, ◌+◌, ◌==◌, ◌&&◌, ◌||◌, not, List, [], ◌∷◌, length, Bool, true, false, nat_lt, nat_le, None, Some, is_some}
 use Rattle.norm_base.specs.Settings.{Settings}
 use Rattle.fec_plan.specs.Partition.{blocks, source_symbols, encoding_symbols, sent_octets, coded_octets}
 use Rattle.fec_plan.specs.Points.{position_before}
@@ -15,21 +15,21 @@ use Rattle.norm_receive_rules.specs.declared.words.Put.TheVariants as put
 -- a stream's source payload is one segment of at most e octets, and nothing behind it
 abbrev pub is_segment : Settings → List ℕ → Bool
 is_segment p payload = elim (segment_in payload) [
-  Some s ↦ nat_le s.size p.e && length payload == 8 + s.size
+  | Some s ↦ nat_le s.size p.e && length payload == 8 + s.size
   | None ↦ false
 ]
 
 -- a stream's payload has the right length
 abbrev pub fits_stream : Settings → Plan → Position → List ℕ → Bool
 fits_stream p plan at payload = elim (nat_lt at.symbol (source_symbols (cut_of_plan plan) at.block)) [
-  true ↦ is_segment p payload
+  | true ↦ is_segment p payload
   | false ↦ length payload == coded_octets (cut_of_plan plan)
 ]
 
 -- a payload has its symbol's length
 abbrev pub has_length : Settings → Plan → Position → List ℕ → Bool
 has_length p plan at payload = elim (says_stream plan.flags) [
-  true ↦ fits_stream p plan at payload
+  | true ↦ fits_stream p plan at payload
   | false ↦ length payload == sent_octets (cut_of_plan plan) at.block at.symbol
 ]
 
@@ -46,30 +46,30 @@ is_far p s plan block = says_stream plan.flags && nat_le (first_block s plan.ind
 -- of an object with a plan: the first word that applies to a symbol
 abbrev pub put_by : Settings → ReceiverState → Plan → Position → List ℕ → Put
 put_by p s plan at payload = elim (first_where (
-  (holds s at || is_done s plan at.block, put.Had)
-  ∷ (is_far p s plan at.block, put.Away)
-  ∷ (is_misfit p plan at payload, put.Unfit)
-  ∷ []
-)) [ Some word ↦ word | None ↦ put.Kept ]
+    (holds s at || is_done s plan at.block, put.Had)
+    ∷ (is_far p s plan at.block, put.Away)
+    ∷ (is_misfit p plan at payload, put.Unfit)
+    ∷ []
+    )) [ Some word ↦ word | None ↦ put.Kept ]
 
 -- what becomes of a symbol
 abbrev pub put_of : Settings → ReceiverState → Position → List ℕ → Put
 put_of p s at payload = elim (is_over s at.index) [
-  true ↦ put.Had
+  | true ↦ put.Had
   | false ↦ elim (plan_of s at.index) [ Some plan ↦ put_by p s plan at payload | None ↦ put.Away ]
 ]
 
 -- of an object with a plan: the first word that applies to an info
 abbrev pub put_info_by : Settings → ReceiverState → Plan → List ℕ → Put
 put_info_by p s plan info = elim (is_some (info_of s plan.index)) [
-  true ↦ put.Had
+  | true ↦ put.Had
   | false ↦ elim (nat_lt p.e (length info) || not (says_info plan.flags)) [ true ↦ put.Unfit | false ↦ put.Kept ]
 ]
 
 -- what becomes of an info
 abbrev pub put_info_of : Settings → ReceiverState → ℕ → List ℕ → Put
 put_info_of p s index info = elim (is_over s index) [
-  true ↦ put.Had
+  | true ↦ put.Had
   | false ↦ elim (plan_of s index) [ Some plan ↦ put_info_by p s plan info | None ↦ put.Away ]
 ]
 

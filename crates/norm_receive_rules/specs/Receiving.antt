@@ -1,10 +1,10 @@
 -- What a receiver does with a datagram (RFC 5740 section 5.3).
-use Rattle.std.specs.Prelude.{ℕ, ◌==◌, List, Bool, true, false, Option, None, Some, Result, Ok, Err}
+use Rattle.std.specs.Prelude.{ℕ, ◌==◌, List, true, false, None, Some, Result, Ok}
 use Rattle.norm_base.specs.Settings.{Settings}
 use Rattle.fec_plan.specs.Points.{point, position, point_of}
 use Rattle.fec_plan.specs.declared.position.Position.{Position}
 use Rattle.norm_ext.specs.Extensions.{Extension, fti_of}
-use Rattle.norm_ext.specs.Message.{Message, Info, Data, Flush, Squelch, RepairAdv, Nack, InfoMessage, DataMessage, FlushCommand, SquelchCommand, RepairAdvCommand}
+use Rattle.norm_ext.specs.Message.{Message, Info, Data, Flush, Squelch, RepairAdv, Nack, InfoMessage, DataMessage, FlushCommand, SquelchCommand}
 use Rattle.norm_ext.specs.ObjectIds.{index_of}
 use Rattle.norm_ext.specs.Reading.{decoded}
 use Rattle.norm_receive_rules.specs.ReceiverState.{ReceiverState}
@@ -17,17 +17,16 @@ use Rattle.norm_receive_rules.specs.Seeing.{sees}
 use Rattle.norm_receive_rules.specs.Acknowledging.{flushed}
 use Rattle.norm_receive_rules.specs.Overhearing.{nack_overheard, adv_overheard}
 use Rattle.norm_receive_rules.specs.BackingOff.{may_need}
-use Rattle.norm_receive_rules.specs.declared.words.Fit.TheVariants as fit
 
 -- An INFO or DATA of an object: its transmission information may be taken up, its point is seen, and where the
 -- information fits, or there is none, what it brings is put. Then all that can be is handed up.
 abbrev pub object_received : Settings → Position → List Extension → ℕ → (ReceiverState → ReceiverState) → ReceiverState → ReceiverState
 object_received p at extensions flags put s = elim (fti_of extensions) [
-  Some f ↦ (
-    let word = fit_of p s at.index f flags in
-    let s' = sees (point_of at) (fitted word at.index f flags s) in
-    elim (lets_put word) [ true ↦ handed_up p (put s') | false ↦ s' ]
-  )
+  | Some f ↦ (
+      let word = fit_of p s at.index f flags in
+      let s' = sees (point_of at) (fitted word at.index f flags s) in
+      elim (lets_put word) [ true ↦ handed_up p (put s') | false ↦ s' ]
+      )
   | None ↦ handed_up p (put (sees (point_of at) s))
 ]
 
@@ -51,7 +50,7 @@ squelch_received p m s = squelched p (point (index_of p m.object) m.id.block) s
 -- message says, and may need something then.
 abbrev pub in_instance : Settings → ℕ → ℕ → ℕ → ℕ → (ReceiverState → ReceiverState) → ReceiverState → ReceiverState
 in_instance p now draw source instance received s = elim (source == p.sender) [
-  true ↦ elim (entered s instance) [ Some s' ↦ may_need p now draw (received s') | None ↦ s ]
+  | true ↦ elim (entered s instance) [ Some s' ↦ may_need p now draw (received s') | None ↦ s ]
   | false ↦ s
 ]
 

@@ -1,5 +1,5 @@
 -- How far the sender was seen to be (RFC 5740 section 5.3): the farthest point, and of each stream its greatest block.
-use Rattle.std.specs.Prelude.{ℕ, ◌==◌, ◌&&◌, List, [], ◌∷◌, max, find, Bool, true, false, nat_lt, Option, None, Some, if◌then◌else◌}
+use Rattle.std.specs.Prelude.{ℕ, ◌==◌, List, [], ◌∷◌, max, find, Bool, true, false, nat_lt, Option, None, Some, if◌then◌else◌}
 use Rattle.fec_plan.specs.Points.{Point, point, point_before, position_before}
 use Rattle.fec_plan.specs.declared.position.Position.{Position}
 use Rattle.norm_receive_rules.specs.ReceiverState.{ReceiverState}
@@ -19,7 +19,7 @@ further at (Some other) = if position_before other at then Some at else Some oth
 unfoldable pub with_block : Point → List Point → List Point
 with_block at [] = at ∷ []
 with_block at (x ∷ seen) = elim (x.index == at.index) [
-  true ↦ point at.index (max x.block at.block) ∷ seen
+  | true ↦ point at.index (max x.block at.block) ∷ seen
   | false ↦ elim (nat_lt at.index x.index) [ true ↦ at ∷ x ∷ seen | false ↦ x ∷ with_block at seen ]
 ]
 

@@ -1,8 +1,6 @@
 -- What was handed up to a node while it was in an instance: the hand-ups that were taken, in order.
-use Rattle.std.specs.Prelude.{ℕ, ◌==◌, ◌&&◌, List, [], ◌∷◌, ◌++◌, flat_map, map, filter_map, Bool, true, false, Option, None, Some}
-use Rattle.std.specs.List.{list_all}
+use Rattle.std.specs.Prelude.{ℕ, ◌==◌, List, [], ◌∷◌, flat_map, Bool, true, false, Option, None, Some}
 use Rattle.norm_order.specs.declared.up.Up.{Up}
-use Rattle.norm_receive_rules.specs.ReceiverState.{ReceiverState}
 use Rattle.norm_receive_rules.specs.Leaving.{is_in}
 use Rattle.norm_safety.specs.Events.{Event, UpTaken, Answer, Took}
 use Rattle.norm_safety.specs.World.{World, receiver_at}
@@ -20,8 +18,8 @@ taken_in node _ _ = []
 -- what was taken from a node while it was in an instance
 abbrev pub hands : List Happening → ℕ → ℕ → List Up
 hands happened node instance = flat_map
-  (λ (h : Happening). elim (is_at h.before node instance) [ true ↦ taken_in node h.event h.answer | false ↦ [] ])
-  happened
+    (λ (h : Happening). elim (is_at h.before node instance) [ true ↦ taken_in node h.event h.answer | false ↦ [] ])
+    happened
 
 -- the instance that a node is in, where it is in one
 abbrev pub instance_at : World → ℕ → Option ℕ

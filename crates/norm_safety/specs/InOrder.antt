@@ -1,6 +1,6 @@
 -- The second part of safety: a receiver hands up the transport order, with a loss only where the sender dropped data.
-use Rattle.std.specs.Prelude.{ℕ, suc, ◌≡◌, ◌+◌, ◌-◌, ◌/◌, ◌==◌, ◌&&◌, ◌||◌, ◌<◌, ◌⊎◌, List, [], ◌∷◌, ◌++◌, length, map, flat_map, find, drop, nat_lt, nat_eq, Bool, true, false, not, Option, None, Some, ⊤, IsTrue}
-use Rattle.std.specs.List.{list_all, list_any, common_prefix_len, IsDistinct, AllByRecursion}
+use Rattle.std.specs.Prelude.{ℕ, suc, ◌≡◌, ◌-◌, ◌/◌, ◌==◌, ◌&&◌, ◌||◌, List, [], ◌∷◌, ◌++◌, length, find, drop, nat_lt, nat_eq, Bool, true, false, Option, None, Some, IsTrue}
+use Rattle.std.specs.List.{list_all, common_prefix_len, IsDistinct}
 use Rattle.norm_base.specs.Settings.{Settings}
 use Rattle.norm_base.specs.Direct.{receivers_of}
 use Rattle.fec_plan.specs.Points.{Point, point}
@@ -91,7 +91,7 @@ pub record InOrder (p : Settings) (h : History) : Type 0 where
 -- after the loss of an object, where the next hand-up is that and it may be lost: what follows
 abbrev pub behind_loss : Settings → Point → ℕ → Object → ℕ → List Up → Option (List Up)
 behind_loss p dropped index object parts (up.Lost lost ∷ rest) = elim (lost == index && may_be_lost p dropped index object parts) [
-  true ↦ Some rest
+  | true ↦ Some rest
   | false ↦ None
 ]
 behind_loss p dropped index object parts _ = None
@@ -99,9 +99,9 @@ behind_loss p dropped index object parts _ = None
 -- of hand-ups that begin with so many parts of an object: what follows it, or None where it is not right
 abbrev pub behind_object : Settings → Point → ℕ → Object → ℕ → List Up → Option (List Up)
 behind_object p dropped index object common handed = elim (common == length (parts_of p index object)) [
-  true ↦ Some (drop common handed)
+  | true ↦ Some (drop common handed)
   | false ↦ elim (drop common handed) [
-    [] ↦ Some []
+    | [] ↦ Some []
     | next ∷ rest ↦ behind_loss p dropped index object common (next ∷ rest)
   ]
 ]
@@ -118,7 +118,7 @@ unfoldable pub goes_through : Settings → Point → ℕ → List Entry → List
 goes_through p dropped index order [] = true
 goes_through p dropped index [] (x ∷ handed) = false
 goes_through p dropped index (entry ∷ order) (x ∷ handed) = elim (behind p dropped index entry.object (x ∷ handed)) [
-  Some rest ↦ goes_through p dropped (suc index) order rest
+  | Some rest ↦ goes_through p dropped (suc index) order rest
   | None ↦ false
 ]
 
@@ -130,5 +130,5 @@ hands_in_order p h node id =
 -- of each receiver: in each instance that it was in
 abbrev pub is_in_order : Settings → History → Bool
 is_in_order p h = list_all
-  (λ node. let ids = came_to node None h.happened in are_distinct nat_eq ids && list_all (hands_in_order p h node) ids)
-  (receivers_of p p.receivers)
+    (λ node. let ids = came_to node None h.happened in are_distinct nat_eq ids && list_all (hands_in_order p h node) ids)
+    (receivers_of p p.receivers)

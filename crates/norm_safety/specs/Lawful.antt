@@ -1,12 +1,12 @@
 -- Which runs are lawful: what is presupposed of producers, of the network, and of who drives the nodes.
-use Rattle.std.specs.Prelude.{ℕ, ◌≡◌, ◌==◌, ◌&&◌, not, List, [], ◌∷◌, ◌++◌, Contains, Bool, true, false, Option, None, Some, Result, Ok, Err, nat_eq, ⊤}
+use Rattle.std.specs.Prelude.{ℕ, ◌≡◌, ◌==◌, ◌&&◌, not, List, [], ◌∷◌, ◌++◌, Contains, Bool, true, false, Option, None, Some, Ok, nat_eq, ⊤}
 use Rattle.std.specs.List.{list_any}
 use Rattle.std.specs.Cmp.Lexicographic.{pointwise}
 use Rattle.norm_base.specs.Settings.{Settings}
 use Rattle.norm_base.specs.Network.{WasOffered}
 use Rattle.norm_base.specs.declared.node.Origin.{Origin}
 use Rattle.norm_receive_rules.specs.ReceiverState.{ReceiverState}
-use Rattle.norm_safety.specs.Events.{Event, Commanded, Delivered, Ticked, Offered, UpTaken, NewsAsked, Answer, Gave, Sent, Took, Told, Silent}
+use Rattle.norm_safety.specs.Events.{Event, Commanded, Delivered, Ticked, Offered, UpTaken, NewsAsked, Answer, Gave}
 use Rattle.norm_safety.specs.World.{World, world_opening, receiver_at}
 use Rattle.norm_safety.specs.WorldStep.{world_step}
 

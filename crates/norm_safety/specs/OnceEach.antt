@@ -1,8 +1,8 @@
 -- The first part of safety: accepted objects enter the transport order once each.
-use Rattle.std.specs.Prelude.{ℕ, ◌≡◌, ◌==◌, ◌&&◌, List, [], ◌∷◌, ◌++◌, map, flat_map, find, slice_get, nat_eq, Bool, true, false, not, Option, None, Some, Result, Ok, Err, IsTrue}
+use Rattle.std.specs.Prelude.{ℕ, ◌==◌, ◌&&◌, List, [], ◌∷◌, ◌++◌, map, flat_map, find, slice_get, nat_eq, Bool, true, false, not, None, Some, Ok, IsTrue}
 use Rattle.std.specs.List.{list_all, list_any, IsDistinct, AllByRecursion}
 use Rattle.norm_base.specs.declared.node.Origin.{Origin}
-use Rattle.norm_order.specs.Entries.{Part, Write, Cut, End, Object, Whole, Stream, Entry}
+use Rattle.norm_order.specs.Entries.{Part, Write, Whole, Stream, Entry}
 use Rattle.norm_send_rules.specs.SenderState.{SenderState, Instance, Watermark}
 use Rattle.norm_send_rules.specs.Restarting.{instances}
 use Rattle.norm_send_rules.specs.declared.job.Receipt.TheVariants as receipt

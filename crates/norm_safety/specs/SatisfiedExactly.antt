@@ -1,5 +1,5 @@
 -- The fourth part of safety: a request is satisfied exactly when every receiver is listed past its position.
-use Rattle.std.specs.Prelude.{ℕ, ◌≡◌, ◌==◌, ◌&&◌, ◌||◌, List, [], ◌∷◌, find, Bool, true, false, not, Option, None, Some, is_none, IsTrue}
+use Rattle.std.specs.Prelude.{ℕ, ◌≡◌, ◌==◌, ◌&&◌, List, find, Bool, true, false, Option, None, Some, IsTrue}
 use Rattle.std.specs.List.{list_all, list_any, AllByRecursion}
 use Rattle.std.specs.Bool.{beq}
 use Rattle.norm_send_rules.specs.SenderState.{SenderState, Watermark}
@@ -26,7 +26,7 @@ was_past happened mark = list_any (λ (h : Happening). had_not_ended h.before.se
 
 abbrev pub is_satisfied : Watermark → Bool
 is_satisfied w = elim w.ended [
-  Some o ↦ elim o [ outcome.Open left ↦ false | outcome.Satisfied ↦ true | outcome.Expired left ↦ false | outcome.Cut ↦ false ]
+  | Some o ↦ elim o [ outcome.Open left ↦ false | outcome.Satisfied ↦ true | outcome.Expired left ↦ false | outcome.Cut ↦ false ]
   | None ↦ false
 ]
 
@@ -40,7 +40,7 @@ same_outcome _ _ = false
 -- a request that had ended has the same outcome afterwards
 abbrev pub keeps_outcome : SenderState → Watermark → Bool
 keeps_outcome after w = elim w.ended [
-  Some o ↦ elim (request_of after w.mark) [ Some v ↦ elim v.ended [ Some q ↦ same_outcome o q | None ↦ false ] | None ↦ false ]
+  | Some o ↦ elim (request_of after w.mark) [ Some v ↦ elim v.ended [ Some q ↦ same_outcome o q | None ↦ false ] | None ↦ false ]
   | None ↦ true
 ]
 

@@ -1,5 +1,5 @@
 -- A world: the states of a sender and its receivers, and what they gave to the network.
-use Rattle.std.specs.Prelude.{ℕ, ◌==◌, not, List, [], ◌∷◌, ◌++◌, map, filter, find, Bool, true, false, Option, None, Some}
+use Rattle.std.specs.Prelude.{ℕ, ◌==◌, not, List, [], ◌∷◌, ◌++◌, map, filter, find, true, false, Option, None, Some}
 use Rattle.norm_base.specs.Settings.{Settings}
 use Rattle.norm_base.specs.Direct.{receivers_of}
 use Rattle.norm_send_rules.specs.SenderState.{SenderState, sender_opening}

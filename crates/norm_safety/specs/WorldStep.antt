@@ -1,5 +1,5 @@
 -- A step of a world, and a run: a list of events from the opening on.
-use Rattle.std.specs.Prelude.{ℕ, ◌==◌, List, [], ◌∷◌, fold, Bool, true, false, Option, None, Some}
+use Rattle.std.specs.Prelude.{ℕ, ◌==◌, List, fold, true, false, Option, None, Some}
 use Rattle.norm_base.specs.Settings.{Settings}
 use Rattle.norm_send_rules.specs.SenderState.{SenderState}
 use Rattle.norm_send_rules.specs.Commanding.{commanded}
@@ -39,11 +39,11 @@ at_receiver w node step = elim (receiver_at w node) [ Some r ↦ step r | None �
 abbrev pub world_step : Settings → World → Event → World × Answer
 world_step p w (Commanded by job now) = of_sender Gave w (commanded p w.sender by job)
 world_step p w (Delivered node datagram now draw) = elim (node == p.sender) [
-  true ↦ (record w { sender = heard p w.sender datagram now }, Silent)
+  | true ↦ (record w { sender = heard p w.sender datagram now }, Silent)
   | false ↦ at_receiver w node (λ r. (with_receiver (received p r datagram now draw) w, Silent))
 ]
 world_step p w (Ticked node now) = elim (node == p.sender) [
-  true ↦ sender_ticks p now w
+  | true ↦ sender_ticks p now w
   | false ↦ at_receiver w node (receiver_ticks p now w)
 ]
 world_step p w (Offered node datagram) = (with_offer node datagram w, Silent)

@@ -29,7 +29,7 @@ asks_for p shapes r =
 abbrev pub closed_at : Option Position → ℕ → Shape → ℕ
 closed_at None index s = 0
 closed_at (Some last) index s = elim (last.index == index) [
-  true ↦ min s.closed (symbol_number s.cut last.block last.symbol + 1)
+  | true ↦ min s.closed (symbol_number s.cut last.block last.symbol + 1)
   | false ↦ elim (nat_lt last.index index) [ true ↦ 0 | false ↦ s.closed ]
 ]
 

@@ -1,15 +1,15 @@
 -- The closing of a repair round (RFC 5401 section 3.2.2, RFC 5740 section 5.4): what becomes a want.
-use Rattle.std.specs.Prelude.{ℕ, ◌+◌, ◌-◌, ◌*◌, ◌==◌, ◌&&◌, ◌||◌, not, List, [], ◌∷◌, ◌++◌, length, map, filter, min, max, take, fold, slice_get, Bool, true, false, nat_lt, nat_le, Option, None, Some, flat_map}
-use Rattle.std.specs.List.{range_with_len, list_any}
+use Rattle.std.specs.Prelude.{ℕ, ◌==◌, ◌&&◌, ◌||◌, not, List, [], ◌++◌, length, map, filter, min, max, take, fold, slice_get, Bool, true, false, nat_lt, nat_le, None, Some, flat_map}
+use Rattle.std.specs.List.{list_any}
 use Rattle.norm_base.specs.Settings.{Settings}
 use Rattle.fec_plan.specs.Partition.{source_symbols}
 use Rattle.fec_plan.specs.declared.position.Position.{Position}
 use Rattle.norm_ext.specs.Asking.{segment_flag, block_flag, object_flag, info_flag, has_flag, named_by, Span, named_spans, Count}
 use Rattle.norm_ext.specs.Requests.{Request}
 use Rattle.norm_ext.specs.declared.kinds.Form.TheVariants as form
-use Rattle.fec_plan.specs.Points.{Point, point, position, point_of, point_before, position_before}
+use Rattle.fec_plan.specs.Points.{Point, point, point_of, point_before, position_before}
 use Rattle.norm_order.specs.Sets.{is_member, with_members}
-use Rattle.norm_order.specs.Shapes.{Shape, symbols_of, closed_in, encoded_in, is_full}
+use Rattle.norm_order.specs.Shapes.{Shape, symbols_of, closed_in, encoded_in}
 use Rattle.norm_send_rules.specs.Wants.{want_before}
 use Rattle.norm_send_rules.specs.SenderState.{SenderState, Asked, Round}
 use Rattle.norm_send_rules.specs.InWindow.{stands_behind, current_shapes}
@@ -31,8 +31,8 @@ block_wants at s = map Symbol (symbols_of at.index (closed_in s at.block) at.blo
 -- the parity symbols of a block that were never sent in this instance, the lowest first
 abbrev pub fresh_parity : SenderState → Point → Shape → List Position
 fresh_parity s at shape = filter
-  (λ symbol. nat_le (source_symbols shape.cut at.block) symbol.symbol && not (is_member position_before symbol s.sent))
-  (symbols_of at.index (encoded_in shape at.block) at.block)
+    (λ symbol. nat_le (source_symbols shape.cut at.block) symbol.symbol && not (is_member position_before symbol s.sent))
+    (symbols_of at.index (encoded_in shape at.block) at.block)
 
 -- So many symbols of a block: the lowest fresh parity symbols; where fewer are left, or the block has no parity yet,
 -- all its closed source symbols.
@@ -44,7 +44,7 @@ repairs s at shape count =
 -- the repairs of a counted block, where at most all its source symbols are lacking; a count of 0 asks for nothing
 abbrev pub counted : SenderState → List Shape → List Count → Point → List Want
 counted s shapes counts at = elim (slice_get shapes at.index) [
-  Some shape ↦ repairs s at shape (min (greatest counts at) (source_symbols shape.cut at.block))
+  | Some shape ↦ repairs s at shape (min (greatest counts at) (source_symbols shape.cut at.block))
   | None ↦ []
 ]
 
@@ -60,7 +60,7 @@ abbrev pub gives_something : Request → Bool
 gives_something r =
     has_flag r.flags segment_flag || has_flag r.flags block_flag
     || elim r.form [
-      form.Items ↦ has_flag r.flags object_flag || has_flag r.flags info_flag
+      | form.Items ↦ has_flag r.flags object_flag || has_flag r.flags info_flag
       | form.Ranges ↦ has_flag r.flags object_flag || has_flag r.flags info_flag
       | form.Erasures ↦ false
     ]
@@ -68,7 +68,7 @@ gives_something r =
 -- the items of a request, of ranges the first ends of those that are not empty
 abbrev pub begins_at : Settings → Request → List Position
 begins_at p r = elim r.form [
-  form.Items ↦ map (λ (s : Span). s.first) (named_spans p r)
+  | form.Items ↦ map (λ (s : Span). s.first) (named_spans p r)
   | form.Ranges ↦ map (λ (s : Span). s.first) (named_spans p r)
   | form.Erasures ↦ map (named_by p) r.items
 ]
@@ -76,7 +76,7 @@ begins_at p r = elim r.form [
 -- where an item counts from: with OBJECT or INFO among the flags from the object's first block
 abbrev pub counts_from : ℕ → Position → Point
 counts_from flags at = elim (has_flag flags object_flag || has_flag flags info_flag) [
-  true ↦ point at.index 0
+  | true ↦ point at.index 0
   | false ↦ point_of at
 ]
 

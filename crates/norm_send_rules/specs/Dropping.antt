@@ -1,7 +1,7 @@
 -- Dropping from the front of the window (RFC 5740 section 5.2 on NORM_CMD(SQUELCH)).
-use Rattle.std.specs.Prelude.{Bool, true, false, not, ◌||◌, filter}
+use Rattle.std.specs.Prelude.{not, ◌||◌, filter}
 use Rattle.std.specs.List.{list_any}
-use Rattle.fec_plan.specs.Points.{Point, point_before}
+use Rattle.fec_plan.specs.Points.{Point}
 use Rattle.norm_send_rules.specs.SenderState.{SenderState}
 use Rattle.norm_send_rules.specs.InWindow.{stands_behind}
 

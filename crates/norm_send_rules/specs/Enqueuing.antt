@@ -39,14 +39,14 @@ info_length info = elim info [ Some octets ↦ length octets | None ↦ 0 ]
 -- Why an object is not enqueued: the first that applies.
 abbrev pub object_fault : Settings → SenderState → Option (List ℕ) → List ℕ → Option EnqueueFault
 object_fault p s info octets = first_where (
-  (length octets == 0, Empty)
-  ∷ (nat_lt p.octets (length octets), TooBig (length octets))
-  ∷ (nat_lt p.e (info_length info), InfoTooBig (info_length info))
-  ∷ (is_some (open_stream s), StreamOpen (last_index s))
-  ∷ (ids_spent s, IdsSpent)
-  ∷ (not (can_make_room p s (length octets)), WindowFull s.current.drop.index)
-  ∷ []
-)
+    (length octets == 0, Empty)
+    ∷ (nat_lt p.octets (length octets), TooBig (length octets))
+    ∷ (nat_lt p.e (info_length info), InfoTooBig (info_length info))
+    ∷ (is_some (open_stream s), StreamOpen (last_index s))
+    ∷ (ids_spent s, IdsSpent)
+    ∷ (not (can_make_room p s (length octets)), WindowFull s.current.drop.index)
+    ∷ []
+    )
 
 -- the order with one more entry
 abbrev pub with_entry : Entry → SenderState → SenderState
@@ -61,6 +61,6 @@ joined p by object s =
 -- An object is enqueued under the next index, or refused.
 abbrev pub enqueued : Settings → SenderState → Origin → Kind → Option (List ℕ) → List ℕ → SenderState × Result Receipt EnqueueFault
 enqueued p s by kind info octets = elim (object_fault p s info octets) [
-  Some fault ↦ (s, Err fault)
+  | Some fault ↦ (s, Err fault)
   | None ↦ (joined p by (Whole kind info octets) s, Ok (EnqueuedObject (next_index s) (length octets)))
 ]

@@ -3,7 +3,7 @@ use Rattle.std.specs.Prelude.{ℕ, ◌+◌, ◌*◌, ◌==◌, List, [], ◌∷�
 use Rattle.norm_base.specs.Settings.{Settings}
 use Rattle.norm_order.specs.Moments.{moment_after}
 use Rattle.norm_send_rules.specs.SenderState.{SenderState, Watermark}
-use Rattle.norm_send_rules.specs.Requests.{oldest, open_requests, pending, counted_anew, end_where}
+use Rattle.norm_send_rules.specs.Requests.{open_requests, pending, counted_anew, end_where}
 use Rattle.norm_send_rules.specs.Messages.{flush_message}
 use Rattle.norm_send_rules.specs.Sending.{sends}
 use Rattle.norm_send_rules.specs.declared.news.Outcome.TheVariants.{Expired}
@@ -30,7 +30,7 @@ expired mark s = counted_anew s (end_where (λ w. w.mark == mark) (λ w. Expired
 unfoldable pub flushed : Settings → ℕ → List Watermark → SenderState → SenderState × Option (List ℕ)
 flushed p now [] s = (s, None)
 flushed p now (w ∷ requests) s = elim (nat_lt s.flushes most_flushes) [
-  true ↦ flushes_for p now w s
+  | true ↦ flushes_for p now w s
   | false ↦ elim (is_some s.round) [ true ↦ (s, None) | false ↦ flushed p now requests (expired w.mark s) ]
 ]
 

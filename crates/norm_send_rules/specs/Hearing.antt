@@ -1,18 +1,16 @@
 -- What a sender hears (RFC 5740 sections 5.4 and 5.5.3): NACKs and acknowledgements of its receivers.
-use Rattle.std.specs.Prelude.{ℕ, ◌+◌, ◌*◌, ◌==◌, ◌&&◌, List, [], ◌∷◌, ◌++◌, map, Bool, true, false, nat_lt, not, Option, None, Some, Result, Ok, Err}
+use Rattle.std.specs.Prelude.{ℕ, ◌+◌, ◌*◌, ◌==◌, ◌&&◌, List, [], ◌∷◌, ◌++◌, map, Bool, true, false, nat_lt, not, None, Some, Result, Ok}
 use Rattle.std.specs.List.{list_any}
 use Rattle.norm_base.specs.Settings.{Settings}
 use Rattle.fec_plan.specs.declared.position.Position.{Position}
 use Rattle.norm_ext.specs.ObjectIds.{index_of}
 use Rattle.norm_ext.specs.Message.{Message, Nack, Ack, NackMessage, AckMessage, Mark, Unread}
-use Rattle.norm_ext.specs.Numbers.{flush_ack}
 use Rattle.norm_ext.specs.Reading.{decoded}
 use Rattle.norm_ext.specs.Requests.{Request}
-use Rattle.norm_ext.specs.declared.head.Item.{Item}
 use Rattle.norm_order.specs.Moments.{moment_after}
-use Rattle.fec_plan.specs.Points.{position, position_before}
+use Rattle.fec_plan.specs.Points.{position}
 use Rattle.norm_order.specs.Sets.{with_member}
-use Rattle.norm_order.specs.Shapes.{Shape, is_source, last_source}
+use Rattle.norm_order.specs.Shapes.{is_source, last_source}
 use Rattle.norm_send_rules.specs.SenderState.{SenderState, Listing, Asked, Round}
 use Rattle.norm_send_rules.specs.InWindow.{next_index, current_shapes}
 use Rattle.norm_send_rules.specs.Requests.{is_past, counted_anew, settled}
@@ -29,7 +27,7 @@ asked_now p s r = record { request = r; first = s.current.drop; next = next_inde
 -- the open round, or a new one, which closes K + 1 round trips from now
 abbrev pub round_at : Settings → SenderState → ℕ → Round
 round_at p s now = elim s.round [
-  Some r ↦ r
+  | Some r ↦ r
   | None ↦ record { closes = moment_after now ((p.k + 1) * p.grtt); asked = [] }
 ]
 
@@ -43,7 +41,7 @@ joined_round p s now (r ∷ requests) =
 -- a node's listing is the further of what it was and this position
 abbrev pub listed_past : ℕ → Position → Listing → Listing
 listed_past node at l = elim (l.node == node && is_past at l) [
-  true ↦ l
+  | true ↦ l
   | false ↦ elim (l.node == node) [ true ↦ record l { past = Some at } | false ↦ l ]
 ]
 
@@ -54,7 +52,7 @@ rises node at s = list_any (λ l. l.node == node && not (is_past at l)) s.listin
 -- a receiver confirms all through a position: its listing rises, that is to be told, and requests may be satisfied
 abbrev pub credited : ℕ → Position → SenderState → SenderState
 credited node at s = elim (rises node at s) [
-  true ↦ counted_anew s (settled (record s {
+  | true ↦ counted_anew s (settled (record s {
     listings = map (listed_past node at) s.listings;
     untold_nodes = with_member nat_lt node s.untold_nodes;
   }))
@@ -70,8 +68,8 @@ nack_heard p s now m = elim (is_for p s m.source m.sender m.instance) [ true ↦
 
 abbrev pub ack_heard : Settings → SenderState → AckMessage → SenderState
 ack_heard p s m = elim (is_for p s m.source m.sender m.instance) [
-  true ↦ elim m.content [
-    Mark item ↦ credited_at p m.source (position (index_of p item.object) item.id.block item.id.symbol) s
+  | true ↦ elim m.content [
+    | Mark item ↦ credited_at p m.source (position (index_of p item.object) item.id.block item.id.symbol) s
     | Unread octets ↦ s
   ]
   | false ↦ s

@@ -1,5 +1,5 @@
 -- A watermark request (RFC 5740 section 5.5.3): it asks that every receiver confirm all that was enqueued so far.
-use Rattle.std.specs.Prelude.{ℕ, ◌+◌, List, [], ◌∷◌, ◌++◌, length, Bool, nat_le, Option, None, Some, Result, Ok, Err, true, false}
+use Rattle.std.specs.Prelude.{ℕ, ◌+◌, [], ◌∷◌, ◌++◌, length, nat_le, Option, None, Some, Result, Ok, Err, true, false}
 use Rattle.norm_base.specs.Settings.{Settings}
 use Rattle.norm_base.specs.declared.node.Origin.{Origin}
 use Rattle.fec_plan.specs.declared.position.Position.{Position}
@@ -28,7 +28,7 @@ requested s by at =
 abbrev pub request_at : SenderState → Origin → Option Position → SenderState × Result Receipt MarkFault
 request_at s by None = (s, Err NothingEnqueued)
 request_at s by (Some at) = elim (nat_le most_open (length (open_requests s))) [
-  true ↦ (s, Err (TooMany (length (open_requests s))))
+  | true ↦ (s, Err (TooMany (length (open_requests s))))
   | false ↦ (requested s by at, Ok (Mark (length s.requests + 1) at))
 ]
 

@@ -1,10 +1,10 @@
 -- The messages that a sender writes (RFC 5740 section 4.2).
-use Rattle.std.specs.Prelude.{ℕ, ◌+◌, ◌*◌, ◌%◌, List, [], ◌∷◌, length, Bool, true, false, Option, None, Some, is_some, if◌then◌else◌}
+use Rattle.std.specs.Prelude.{ℕ, ◌+◌, ◌*◌, List, [], ◌∷◌, length, is_some, if◌then◌else◌}
 use Rattle.norm_base.specs.Settings.{Settings}
 use Rattle.norm_base.specs.declared.kinds.Kind.{Kind}
 use Rattle.norm_base.specs.declared.kinds.Kind.TheVariants as kind
 use Rattle.fec_plan.specs.declared.position.Position.{Position}
-use Rattle.norm_ext.specs.Extensions.{Extension, fti_extension}
+use Rattle.norm_ext.specs.Extensions.{fti_extension}
 use Rattle.norm_ext.specs.Message.{Message, Info, Data, Flush, Squelch}
 use Rattle.norm_ext.specs.ObjectIds.{object_id}
 use Rattle.norm_ext.specs.declared.head.ObjHead.{ObjHead}
@@ -36,6 +36,7 @@ object_flags (Stream parts) = 32
 -- REPAIR on a repaired parity symbol; REPAIR and EXPLICIT on a repaired source symbol or info
 abbrev pub parity_repair : ℕ
 parity_repair = 1
+
 abbrev pub explicit_repair : ℕ
 explicit_repair = 3
 

@@ -1,5 +1,5 @@
 -- Watermark requests and what confirms them (RFC 5740 section 5.5.3).
-use Rattle.std.specs.Prelude.{ℕ, ◌==◌, ◌&&◌, List, [], ◌∷◌, length, map, filter, filter_map, find, fold, Bool, true, false, not, is_none, is_some, Option, None, Some, if◌then◌else◌}
+use Rattle.std.specs.Prelude.{ℕ, ◌==◌, ◌&&◌, List, length, map, filter, find, fold, Bool, true, false, not, is_none, Option, None, Some, if◌then◌else◌}
 use Rattle.std.specs.List.{list_all}
 use Rattle.std.specs.Prelude.{nat_lt}
 use Rattle.fec_plan.specs.declared.position.Position.{Position}
@@ -35,7 +35,7 @@ oldest s = find is_open s.requests
 -- the two states have the same oldest request, or the second has none
 abbrev pub keeps_oldest : SenderState → SenderState → Bool
 keeps_oldest old new = elim (oldest new) [
-  Some w ↦ elim (oldest old) [ Some v ↦ v.mark == w.mark | None ↦ false ]
+  | Some w ↦ elim (oldest old) [ Some v ↦ v.mark == w.mark | None ↦ false ]
   | None ↦ true
 ]
 

@@ -1,5 +1,5 @@
 -- A restart (RFC 5740 section 4.1 on instance_id): a new instance with an order of its own.
-use Rattle.std.specs.Prelude.{ℕ, ◌==◌, List, [], ◌∷◌, ◌++◌, Bool, true, false, Option, None, Result, Ok, Err}
+use Rattle.std.specs.Prelude.{ℕ, ◌==◌, List, [], ◌∷◌, ◌++◌, Bool, true, false, None, Result, Ok, Err}
 use Rattle.std.specs.List.{list_any}
 use Rattle.norm_base.specs.Settings.{Settings}
 use Rattle.norm_send_rules.specs.SenderState.{SenderState, Instance, begun, unlisted}
@@ -40,6 +40,6 @@ begun_anew p id s = end_where (λ w. true) (λ w. Cut) (record s {
 -- An id is used once.
 abbrev pub restarted : Settings → SenderState → ℕ → SenderState × Result Receipt SendFault
 restarted p s id = elim (is_used s id) [
-  true ↦ (s, Err (IdUsed id))
+  | true ↦ (s, Err (IdUsed id))
   | false ↦ (begun_anew p id s, Ok (Restarted id))
 ]

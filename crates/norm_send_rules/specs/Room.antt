@@ -24,7 +24,7 @@ all_sent s symbols = list_all (λ at. is_member position_before at s.sent) symbo
 -- in `hold` mode every receiver has to be listed past this position
 abbrev pub is_released : Settings → SenderState → Option Position → Bool
 is_released p s last = elim p.mode [
-  mode.Hold ↦ elim last [ Some at ↦ all_past s at | None ↦ true ]
+  | mode.Hold ↦ elim last [ Some at ↦ all_past s at | None ↦ true ]
   | mode.Drop ↦ true
 ]
 
@@ -92,6 +92,6 @@ stream_has_room p s index shape segments =
 -- the drop point where the open stream keeps so many segments
 abbrev pub stream_drop : Settings → SenderState → ℕ → ℕ → Point
 stream_drop p s index segments = elim (nat_le (least_kept p segments) (first_kept s index)) [
-  true ↦ s.current.drop
+  | true ↦ s.current.drop
   | false ↦ point index (least_kept p segments)
 ]

@@ -1,15 +1,14 @@
 -- What a sender sends of its objects (RFC 5740 section 5.2): repairs, the lowest first, and then what is new.
-use Rattle.std.specs.Prelude.{ℕ, ◌+◌, ◌%◌, ◌&&◌, not, List, [], ◌∷◌, ◌++◌, length, drop, map, filter, find, min, Bool, true, false, nat_lt, slice_get, Option, None, Some, flat_map, if◌then◌else◌}
+use Rattle.std.specs.Prelude.{ℕ, ◌+◌, ◌%◌, ◌&&◌, not, List, [], ◌∷◌, ◌++◌, drop, map, find, min, true, false, nat_lt, slice_get, Option, None, Some, flat_map, if◌then◌else◌}
 use Rattle.std.specs.List.{range_with_len}
 use Rattle.norm_base.specs.Settings.{Settings}
 use Rattle.fec_plan.specs.Partition.{source_symbols, encoding_symbols}
-use Rattle.fec_plan.specs.declared.position.Position.{Position}
 use Rattle.norm_ext.specs.Message.{Message}
 use Rattle.norm_ext.specs.Octets.{octets_of}
 use Rattle.norm_order.specs.Moments.{moment_after}
 use Rattle.fec_plan.specs.Points.{position, position_before}
 use Rattle.norm_order.specs.Sets.{with_member}
-use Rattle.norm_order.specs.Entries.{Object, Whole, Stream, Entry}
+use Rattle.norm_order.specs.Entries.{Object, Whole}
 use Rattle.norm_order.specs.Shapes.{Shape, shape_of, shapes_of, symbols_of, closed_in, is_full, closed_blocks}
 use Rattle.norm_send_rules.specs.Wants.{want_before, want_index}
 use Rattle.norm_send_rules.specs.SenderState.{SenderState}
@@ -22,7 +21,7 @@ use Rattle.norm_send_rules.specs.declared.want.Want.TheVariants.{Info, Symbol}
 -- parity symbols as the profile says, or all where it has fewer
 abbrev pub sent_once : Settings → Shape → ℕ → ℕ
 sent_once p s block = elim (is_full s block) [
-  true ↦ min (source_symbols s.cut block + p.auto) (encoding_symbols s.cut block)
+  | true ↦ min (source_symbols s.cut block + p.auto) (encoding_symbols s.cut block)
   | false ↦ closed_in s block
 ]
 
@@ -73,7 +72,7 @@ message_of p s (Symbol at) object repair = data_message p s at object repair
 -- an info or symbol is sent, where its object is there
 abbrev pub sends_want : Settings → ℕ → (Object → ℕ) → Want → SenderState → SenderState × Option (List ℕ)
 sends_want p now repair w s = elim (slice_get s.current.order (want_index w)) [
-  Some entry ↦ sends p now (message_of p s w entry.object (repair entry.object)) (noted w s)
+  | Some entry ↦ sends p now (message_of p s w entry.object (repair entry.object)) (noted w s)
   | None ↦ (s, None)
 ]
 

@@ -1,11 +1,11 @@
 -- Opening a stream, writing to it and closing it (RFC 5740 section 5.1 on NORM_OBJECT_STREAM).
-use Rattle.std.specs.Prelude.{ℕ, zero, suc, ◌+◌, ◌-◌, ◌*◌, ◌==◌, ◌||◌, List, [], ◌∷◌, ◌++◌, length, reverse, min, Bool, true, false, not, nat_lt, Option, None, Some, is_none, is_some, unwrap_or, Result, Ok, Err}
+use Rattle.std.specs.Prelude.{ℕ, zero, suc, ◌+◌, ◌-◌, ◌*◌, ◌==◌, ◌||◌, List, [], ◌∷◌, ◌++◌, length, min, Bool, not, nat_lt, Option, None, Some, is_none, is_some, unwrap_or, Result, Ok, Err}
 use Rattle.norm_base.specs.Settings.{Settings}
 use Rattle.norm_base.specs.declared.node.Origin.{Origin}
 use Rattle.norm_order.specs.First.{first_where}
-use Rattle.norm_order.specs.Entries.{Part, Write, Cut, End, Object, Whole, Stream, Entry}
+use Rattle.norm_order.specs.Entries.{Part, Write, Cut, End, Object, Stream, Entry}
 use Rattle.norm_order.specs.Segments.{closed_from, unclosed, written}
-use Rattle.norm_order.specs.Shapes.{Shape, shape_of}
+use Rattle.norm_order.specs.Shapes.{shape_of}
 use Rattle.norm_send_rules.specs.SenderState.{SenderState}
 use Rattle.norm_send_rules.specs.InWindow.{next_index}
 use Rattle.norm_send_rules.specs.Dropping.{dropped_to}
@@ -20,17 +20,17 @@ use Rattle.norm_send_rules.specs.declared.job.Receipt.TheVariants.{Opened, Wrote
 -- why a stream is not opened: the first that applies
 abbrev pub open_fault : Settings → SenderState → Option EnqueueFault
 open_fault p s = first_where (
-  (nat_lt p.octets (size_of p (Stream [])), TooBig (size_of p (Stream [])))
-  ∷ (is_some (open_stream s), StreamOpen (last_index s))
-  ∷ (ids_spent s, IdsSpent)
-  ∷ (not (can_make_room p s (size_of p (Stream []))), WindowFull s.current.drop.index)
-  ∷ []
-)
+    (nat_lt p.octets (size_of p (Stream [])), TooBig (size_of p (Stream [])))
+    ∷ (is_some (open_stream s), StreamOpen (last_index s))
+    ∷ (ids_spent s, IdsSpent)
+    ∷ (not (can_make_room p s (size_of p (Stream []))), WindowFull s.current.drop.index)
+    ∷ []
+    )
 
 -- A stream is opened under the next index, or refused.
 abbrev pub opened : Settings → SenderState → Origin → SenderState × Result Receipt EnqueueFault
 opened p s by = elim (open_fault p s) [
-  Some fault ↦ (s, Err fault)
+  | Some fault ↦ (s, Err fault)
   | None ↦ (joined p by (Stream []) s, Ok (Opened (next_index s)))
 ]
 
@@ -63,22 +63,22 @@ is_crowded p s parts = not (stream_has_room p s (last_index s) (shape_of p (Stre
 -- why the open stream does not take these octets: the first that applies
 abbrev pub write_fault : Settings → SenderState → List ℕ → List Part → Option EnqueueFault
 write_fault p s octets parts = first_where (
-  (length octets == 0, Empty)
-  ∷ (nat_lt ((p.blocks - 1) * p.b * p.e) (length octets), TooBig (length octets))
-  ∷ (is_none (open_stream s), NoStream)
-  ∷ (is_spent p parts, OfStream (Spent (length (written (parts_now s)))))
-  ∷ (is_crowded p s parts, OfStream (Full (first_kept s (last_index s))))
-  ∷ []
-)
+    (length octets == 0, Empty)
+    ∷ (nat_lt ((p.blocks - 1) * p.b * p.e) (length octets), TooBig (length octets))
+    ∷ (is_none (open_stream s), NoStream)
+    ∷ (is_spent p parts, OfStream (Spent (length (written (parts_now s)))))
+    ∷ (is_crowded p s parts, OfStream (Full (first_kept s (last_index s))))
+    ∷ []
+    )
 
 -- why the open stream is not closed: the first that applies
 abbrev pub close_fault : Settings → SenderState → List Part → Option EnqueueFault
 close_fault p s parts = first_where (
-  (is_none (open_stream s), NoStream)
-  ∷ (is_spent p parts, OfStream (Spent (length (written (parts_now s)))))
-  ∷ (is_crowded p s parts, OfStream (Full (first_kept s (last_index s))))
-  ∷ []
-)
+    (is_none (open_stream s), NoStream)
+    ∷ (is_spent p parts, OfStream (Spent (length (written (parts_now s)))))
+    ∷ (is_crowded p s parts, OfStream (Full (first_kept s (last_index s))))
+    ∷ []
+    )
 
 -- room is made for the open stream with these parts, and it has them
 abbrev pub grown : Settings → SenderState → List Part → SenderState
@@ -89,7 +89,7 @@ abbrev pub wrote : Settings → SenderState → Origin → List ℕ → SenderSt
 wrote p s by octets =
     let parts = parts_now s ++ Write by octets ∷ [] in
     elim (write_fault p s octets parts) [
-      Some fault ↦ (s, Err fault)
+      | Some fault ↦ (s, Err fault)
       | None ↦ (grown p s parts, Ok (Wrote (last_index s) (length (written (parts_now s))) (length octets)))
     ]
 
@@ -98,7 +98,7 @@ abbrev pub closed : Settings → SenderState → SenderState × Result Receipt E
 closed p s =
     let parts = parts_now s ++ End ∷ [] in
     elim (close_fault p s parts) [
-      Some fault ↦ (s, Err fault)
+      | Some fault ↦ (s, Err fault)
       | None ↦ (grown p s parts, Ok (Closed (last_index s)))
     ]
 

@@ -1,5 +1,5 @@
 -- What a sender tells of its receivers: listings in order of node, and then outcomes in order of request.
-use Rattle.std.specs.Prelude.{ℕ, ◌==◌, List, [], ◌∷◌, find, Option, None, Some}
+use Rattle.std.specs.Prelude.{ℕ, ◌==◌, [], ◌∷◌, find, Option, None, Some}
 use Rattle.fec_plan.specs.declared.position.Position.{Position}
 use Rattle.norm_send_rules.specs.SenderState.{SenderState, Listing, Watermark}
 use Rattle.norm_send_rules.specs.Requests.{outcome_of}
@@ -23,9 +23,9 @@ done_news s mark (Some w) = Some (Done mark (outcome_of s w))
 -- Each change is told once, and a listing with its latest position.
 abbrev pub told : SenderState → SenderState × Option News
 told s = elim s.untold_nodes [
-  node ∷ nodes ↦ (record s { untold_nodes = nodes }, past_news node (listing_of s node))
+  | node ∷ nodes ↦ (record s { untold_nodes = nodes }, past_news node (listing_of s node))
   | [] ↦ elim s.untold_marks [
-    mark ∷ marks ↦ (record s { untold_marks = marks }, done_news s mark (find (λ (w : Watermark). w.mark == mark) s.requests))
+    | mark ∷ marks ↦ (record s { untold_marks = marks }, done_news s mark (find (λ (w : Watermark). w.mark == mark) s.requests))
     | [] ↦ (s, None)
   ]
 ]

@@ -10,7 +10,7 @@ use Rattle.norm_send_rules.specs.Flushing.{flushes}
 -- a round whose closing moment is reached is closed
 abbrev pub closed_where_due : Settings → ℕ → SenderState → SenderState
 closed_where_due p now s = elim s.round [
-  Some r ↦ elim (nat_le r.closes now) [ true ↦ round_closed p r s | false ↦ s ]
+  | Some r ↦ elim (nat_le r.closes now) [ true ↦ round_closed p r s | false ↦ s ]
   | None ↦ s
 ]
 
@@ -25,7 +25,7 @@ sends_wanted p now s = elim s.wants [ [] ↦ sends_further p now s | w ∷ wants
 -- a squelch that is due, or else what is wanted
 abbrev pub sends_first : Settings → ℕ → SenderState → SenderState × Option (List ℕ)
 sends_first p now s = elim s.squelch_due [
-  true ↦ sends p now (squelch_message p s s.current.drop) (record s { squelch_due = false })
+  | true ↦ sends p now (squelch_message p s s.current.drop) (record s { squelch_due = false })
   | false ↦ sends_wanted p now s
 ]
 
@@ -41,9 +41,9 @@ ticked p s now = sends_in_time p now (closed_where_due p now s)
 -- no squelch, want, new symbol or open round is there
 abbrev pub is_idle : Settings → SenderState → Bool
 is_idle p s = elim s.squelch_due [
-  true ↦ false
+  | true ↦ false
   | false ↦ elim s.wants [
-    w ∷ wants ↦ false
+    | w ∷ wants ↦ false
     | [] ↦ elim (next_new p s) [ Some w ↦ false | None ↦ elim s.round [ Some r ↦ false | None ↦ true ] ]
   ]
 ]
