@@ -1,4 +1,4 @@
-use Rattle.std.specs.Prelude.{◌≡◌, ℕ, List, ◌∷◌, [], ◌++◌, take, Option, None, Some, ⊤}
+use Rattle.std.specs.Prelude.{◌≡◌, ℕ, zero, suc, List, ◌∷◌, [], ◌++◌, take, Option, None, Some, ⊤}
 use Rattle.std.specs.Option.{option_map}
 use Rattle.std.specs.List.{concat}
 
@@ -22,9 +22,14 @@ Pieces = Option (List (List ℕ))
 abbrev pub written_of : Pieces → Option (List ℕ)
 written_of pieces = option_map concat pieces
 
--- new is old with a front of these octets as its last piece
+-- a front of these octets as a piece; an empty front is none
+abbrev pub front_piece : ℕ → List ℕ → List (List ℕ)
+front_piece zero octets = []
+front_piece (suc k) octets = take (suc k) octets ∷ []
+
+-- new is old with a front of these octets as its last piece, or with none
 abbrev pub GainsFront : Pieces → Pieces → List ℕ → Type 0
-GainsFront old new octets = (k : ℕ) × (new ≡ gained old (take k octets ∷ []))
+GainsFront old new octets = (k : ℕ) × (new ≡ gained old (front_piece k octets))
 
 -- what is still told has gained this one
 abbrev pub GainsWhereTold : {X : Type 0} → Option (List X) → Option (List X) → X → Type 0

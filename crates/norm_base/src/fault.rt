@@ -3,7 +3,7 @@
 ghost use Rattle.std.specs.Prelude.{◌≡◌};
 ghost use Rattle.norm_base.specs.declared.fault.FabricFault.TheVariants as fabric;
 
-use std::alloc::AllocError;
+use std::alloc::{AllocError, AllocFailed};
 
 /// There was no memory for the call.
 #[derive(Clone, Copy, Debug, PartialEq, Eq)]
@@ -37,10 +37,24 @@ impl From<AllocError> for Memory {
     }
 }
 
+impl<T: Drop> From<AllocFailed<T>> for Memory {
+    fn from(_refused: AllocFailed<T>) -> Memory {
+        Memory
+    }
+}
+
 impl From<AllocError> for FabricFault {
     ghost from_gives = { λ e r. r ≡ fabric.Memory };
 
     fn from(_error: AllocError) -> FabricFault {
+        FabricFault::Memory
+    }
+}
+
+impl<T: Drop> From<AllocFailed<T>> for FabricFault {
+    ghost from_gives = { λ e r. r ≡ fabric.Memory };
+
+    fn from(_refused: AllocFailed<T>) -> FabricFault {
         FabricFault::Memory
     }
 }

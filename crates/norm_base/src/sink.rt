@@ -14,7 +14,8 @@ pub trait Sink {
     /// How often it failed.
     ghost fault_count: { Self → ℕ };
 
-    /// Writes all of the octets as one piece. After a failed write a front of them is the last piece.
+    /// Writes all of the octets as one piece. After a failed write a front of
+    /// them is the last piece, if it is not empty.
     fn write(&mut self, bytes: &[u8]) -> Result<(), Failed>
         ensures ok { OnOk result (pieces self.new ≡ gained (pieces self.old) (bytes.now ∷ [])) }
         ensures err { OnErr result (GainsFront (pieces self.old) (pieces self.new) bytes.now) }

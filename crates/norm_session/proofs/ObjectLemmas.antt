@@ -25,10 +25,10 @@ object_made p sequence index octets got range seq small h =
     let head : IsHead m.head = record {
       sequence = seq;
       source = (omega (arith, range.sender.0), omega (arith, range.sender.1));
-      instance = omega (arith, range.instance);
-      grtt = omega (arith, range.grtt_code);
-      backoff = omega (arith, range.k);
-      gsize = omega (arith, range.gsize_code);
+      instance = omega (arith, range.instance.1);
+      grtt = omega (arith, range.grtt_code.1);
+      backoff = omega (arith, range.k.1);
+      gsize = omega (arith, range.gsize_code.1);
       flags = omega arith;
       object = object;
     } in
@@ -36,5 +36,5 @@ object_made p sequence index octets got range seq small h =
     let read : data_at (data_octets m) ≡ Some m = data_again m (data_octets m) spells in
     let counted = rw read at h in
     let is = guarded (counts p m) (record { index = index_of p m.head.object; octets = octets }) got counted in
-    let place : index_of p m.head.object ≡ index = index_again p.first index range.first small in
+    let place : index_of p m.head.object ≡ index = index_again p.first index range.first.1 small in
     sym is ∙ ap (λ i. record { index = i; octets = octets }) place

@@ -5,7 +5,7 @@ use Rattle.std.specs.List.{AllByRecursion}
 use Rattle.std.proofs.lemmas.List.{append-nil}
 use Rattle.norm_base.specs.Settings.{Settings}
 use Rattle.norm_session.specs.SenderState.{SenderState, sender_after, sender_datagram, enqueued}
-use Rattle.norm_base.specs.Told.{gained}
+use Rattle.norm_base.specs.Told.{Pieces, gained}
 use Rattle.norm_base.specs.Network.{Network}
 use Rattle.norm_session.specs.Honesty.{HonestFor}
 use Rattle.norm_session.proofs.HonestLemmas.{honest-nil, honest-append}
@@ -22,7 +22,7 @@ use Rattle.norm_session.proofs.TakingLemmas.{network_after-nil}
 use Rattle.norm_session.proofs.TurnLemmas.{network_after-append, lines_of-append}
 
 -- Turn t is next, over the commands that are left: whatever turns follow complete a run of all commands.
-pub record Going (commands : List Line) (start now : RunState) (before after : Network) (unwritten written : Option (List ℕ)) (t : ℕ) (left : List Line) : Type 0 where
+pub record Going (commands : List Line) (start now : RunState) (before after : Network) (unwritten written : Pieces) (t : ℕ) (left : List Line) : Type 0 where
   pub so_far : List Event
   pub profile : now.profile ≡ start.profile
   pub journal : now.events ≡ start.events ++ so_far
@@ -32,7 +32,7 @@ pub record Going (commands : List Line) (start now : RunState) (before after : N
   pub goes_on : (takes : List (List Answer)) (more : List Event) (whole : Bool) → Turns now.profile now.sender now.receiver t left takes more whole
       → (all : List (List Answer)) × Turns start.profile start.sender start.receiver 1 commands all (so_far ++ more) whole
 
-pub going-start : (commands : List Line) (r : RunState) (n : Network) (w : Option (List ℕ)) → Going commands r r n n w w 1 commands
+pub going-start : (commands : List Line) (r : RunState) (n : Network) (w : Pieces) → Going commands r r n n w w 1 commands
 going-start commands r n w = record {
   so_far = [];
   profile = refl;
@@ -47,7 +47,7 @@ going-start commands r n w = record {
 pub turn_told : (b m a : Network) (xs ys : List Event) → m ≡ network_after b xs → a ≡ network_after m ys → a ≡ network_after b (xs ++ ys)
 turn_told b m a xs ys first then = then ∙ ap (λ n. network_after n ys) first ∙ network_after-append b xs ys
 
-turn_lines : (i j : ℕ) (u w a : Option (List ℕ)) (xs ys : List Event) → j ≡ i → w ≡ gained u (lines_of i xs) → a ≡ gained w (lines_of j ys) → a ≡ gained u (lines_of i (xs ++ ys))
+turn_lines : (i j : ℕ) (u w a : Pieces) (xs ys : List Event) → j ≡ i → w ≡ gained u (lines_of i xs) → a ≡ gained w (lines_of j ys) → a ≡ gained u (lines_of i (xs ++ ys))
 turn_lines i j u w a xs ys same first then =
     then ∙ ap (λ k. gained w (lines_of k ys)) same ∙ ap (λ t. gained t (lines_of i ys)) first
     ∙ gained-gained u (lines_of i xs) (lines_of i ys) ∙ ap (gained u) (sym (lines_of-append i xs ys))
@@ -59,7 +59,7 @@ pub turn_honest : (b m : Network) (xs ys : List Event) → m ≡ network_after b
 turn_honest b m xs ys is first then = honest-append b xs ys first (subst (λ (k : Network). HonestFor k ys) is then)
 
 -- a turn after which the run goes on
-pub going-turn : (commands left : List Line) (t : ℕ) (start now next : RunState) (n0 n1 n2 : Network) (w0 w1 w2 : Option (List ℕ))
+pub going-turn : (commands left : List Line) (t : ℕ) (start now next : RunState) (n0 n1 n2 : Network) (w0 w1 w2 : Pieces)
     → Going commands start now n0 n1 w0 w1 t left
     → TakesTurn t (first_of left) now next n1 n2 w1 w2
     → (is_whole next.sender (rest_of left) || t == now.profile.turns) ≡ false
@@ -81,7 +81,7 @@ going-turn commands left t start now next n0 n1 n2 w0 w1 w2 going turn test =
     }
 
 -- the last turn
-pub going-done : (commands left : List Line) (t : ℕ) (start now next : RunState) (n0 n1 n2 : Network) (w0 w1 w2 : Option (List ℕ))
+pub going-done : (commands left : List Line) (t : ℕ) (start now next : RunState) (n0 n1 n2 : Network) (w0 w1 w2 : Pieces)
     → Going commands start now n0 n1 w0 w1 t left
     → TakesTurn t (first_of left) now next n1 n2 w1 w2
     → (is_whole next.sender (rest_of left) || t == now.profile.turns) ≡ true
@@ -125,7 +125,7 @@ order_after p s t (command ∷ commands) =
     rw (after_order p more (moment_of p t) (sender_datagram p more (moment_of p t))) (omega (arith, length-append s.order (entry_of command ∷ [])))
 
 -- a turn pulls at most one command
-pub turn_room : (commands : List Line) (t : ℕ) (now next : RunState) (n1 n2 : Network) (w1 w2 : Option (List ℕ))
+pub turn_room : (commands : List Line) (t : ℕ) (now next : RunState) (n1 n2 : Network) (w1 w2 : Pieces)
     → TakesTurn t (first_of commands) now next n1 n2 w1 w2
     → length next.sender.order + length (rest_of commands) ≤ length now.sender.order + length commands
 turn_room commands t now next n1 n2 w1 w2 turn = rw turn.state (order_after now.profile now.sender t commands)
@@ -134,7 +134,7 @@ pub differs_of : (a b : ℕ) → (a ≡ b → ⊥) → eqb a b ≡ false
 differs_of a b ne = elim (eqb_tells a b) [ inl same ↦ absurd (ne same.1) | inr other ↦ other.0 ]
 
 -- the three ways on after a turn, by the tests that the loop makes
-pub goes_on_after : (commands left : List Line) (t last : ℕ) (start now next : RunState) (n0 n1 n2 : Network) (w0 w1 w2 : Option (List ℕ))
+pub goes_on_after : (commands left : List Line) (t last : ℕ) (start now next : RunState) (n0 n1 n2 : Network) (w0 w1 w2 : Pieces)
     → Going commands start now n0 n1 w0 w1 t left
     → TakesTurn t (first_of left) now next n1 n2 w1 w2
     → is_whole next.sender (rest_of left) ≡ false → t < last → now.profile.turns ≡ last
@@ -143,7 +143,7 @@ goes_on_after commands left t last start now next n0 n1 n2 w0 w1 w2 going turn n
     let differs : (t == now.profile.turns) ≡ false = differs_of t now.profile.turns (λ e. let b : t < last = below in let s : now.profile.turns ≡ last = turns in omega arith) in
     going-turn commands left t start now next n0 n1 n2 w0 w1 w2 going turn (rw (not_whole, differs) refl)
 
-pub ends_whole : (commands left : List Line) (t : ℕ) (start now next : RunState) (n0 n1 n2 : Network) (w0 w1 w2 : Option (List ℕ))
+pub ends_whole : (commands left : List Line) (t : ℕ) (start now next : RunState) (n0 n1 n2 : Network) (w0 w1 w2 : Pieces)
     → Going commands start now n0 n1 w0 w1 t left
     → TakesTurn t (first_of left) now next n1 n2 w1 w2
     → is_whole next.sender (rest_of left) ≡ true
@@ -152,7 +152,7 @@ ends_whole commands left t start now next n0 n1 n2 w0 w1 w2 going turn whole =
     let P : Bool → Type 0 = λ b. TakesTurns commands start next n0 n2 w0 w2 b in
     subst P whole (going-done commands left t start now next n0 n1 n2 w0 w1 w2 going turn (rw whole refl))
 
-pub ends_spent : (commands left : List Line) (t last : ℕ) (start now next : RunState) (n0 n1 n2 : Network) (w0 w1 w2 : Option (List ℕ))
+pub ends_spent : (commands left : List Line) (t last : ℕ) (start now next : RunState) (n0 n1 n2 : Network) (w0 w1 w2 : Pieces)
     → Going commands start now n0 n1 w0 w1 t left
     → TakesTurn t (first_of left) now next n1 n2 w1 w2
     → is_whole next.sender (rest_of left) ≡ false → t ≤ last → last ≤ t → now.profile.turns ≡ last

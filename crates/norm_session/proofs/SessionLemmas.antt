@@ -1,16 +1,16 @@
-use Rattle.std.proofs.Common.{◌≡◌, ◌∙◌, sym, ap, ℕ, List, [], ◌∷◌, ◌++◌, Option, Some, None, Bool, subst}
+use Rattle.std.proofs.Common.{◌≡◌, ◌∙◌, sym, ap, ℕ, List, [], ◌∷◌, ◌++◌, Option, Some, None, Bool, subst, ◌≤◌, arith}
 use Rattle.std.specs.Prelude.{IfSome, IsTrue}
 use Rattle.norm_session.specs.Honesty.{HonestFor}
 use Rattle.norm_session.specs.Safe.{IsHonest, Safe}
 use Rattle.norm_session.proofs.SafeFronts.{safe_beginning, begun_whole}
 use Rattle.std.specs.List.{flat_map}
 use Rattle.norm_base.specs.Network.{Network, Starts}
-use Rattle.norm_base.specs.Told.{gained}
+use Rattle.norm_base.specs.Told.{Pieces, gained}
 use Rattle.norm_base.specs.declared.kinds.Local.TheVariants.{All}
 use Rattle.norm_session.specs.declared.event.Event.{Event}
 use Rattle.norm_session.specs.declared.event.Event.TheVariants.{Start}
 use Rattle.norm_session.specs.Begun.{Begun}
-use Rattle.norm_session.specs.Commands.{Commands}
+use Rattle.norm_session.specs.Commands.{Commands, IsCommand, longest_symbol}
 use Rattle.norm_session.specs.Printed.{lines_of}
 use Rattle.norm_session.specs.Totals.{end_line}
 use Rattle.norm_session.specs.Running.{TakesTurns}
@@ -19,6 +19,8 @@ use Rattle.norm_session.specs.Session.{HasSession, RunsSession}
 use Rattle.norm_session.specs.SessionRun.{IsScript, SessionRun}
 use Rattle.norm_session.specs.Turn.{offer_of, answer_in, network_after}
 use Rattle.norm_session.proofs.ToldLemmas.{gained-gained}
+use Rattle.norm_session.specs.declared.script.Line.{Line}
+use Rattle.std.specs.List.{AllByRecursion}
 
 -- what a list that began anew has gained is all that it has
 all_gained : {X : Type 0} → (begun : Option (List X)) (more : List X) → IfSome begun (λ xs. xs ≡ []) → IfSome (gained begun more) (λ xs. xs ≡ more)
@@ -53,11 +55,11 @@ safe_told script journal None runs begun honest = tt
 safe_told script journal (Some offered) runs begun honest = safe_beginning script journal runs begun honest
 
 -- the parts of a session make it
-pub session_of : (script : Commands) (r0 r1 : RunState) (journal : List Event) (whole : Bool) (n0 n1 n2 : Network) (w0 w1 w2 : Option (List ℕ))
+pub session_of : (script : Commands) (r0 r1 : RunState) (journal : List Event) (whole : Bool) (n0 n1 n2 : Network) (w0 w1 w2 : Pieces)
     → IsScript script → Starts n0 n1 script.profile All
     → r0 ≡ opening script.profile
     → TakesTurns script.lines r0 r1 n1 n2 w0 w1 whole
-    → w2 ≡ gained w1 (end_line r1.events)
+    → w2 ≡ gained w1 (end_line r1.events ∷ [])
     → journal ≡ r1.events
     → RunsSession script journal whole n0 n2 w0 w2
 session_of script r0 r1 journal whole n0 n1 n2 w0 w1 w2 runs starts begun turns last is =
@@ -76,8 +78,15 @@ session_of script r0 r1 journal whole n0 n1 n2 w0 w1 w2 runs starts begun turns 
       honest = honest;
       safe = λ is. safe_told script journal n2.offered runs (begun_whole script journal whole run) (honest is);
       output = last
-          ∙ ap (λ e. gained w1 (end_line e)) (sym is)
-          ∙ ap (λ t. gained t (end_line journal)) (turns.lines ∙ ap (λ (r : RunState). gained w0 (lines_of r.profile.instance events)) begun)
-          ∙ gained-gained w0 (lines_of script.profile.instance events) (end_line journal)
-          ∙ ap (λ j. gained w0 (lines_of script.profile.instance j ++ end_line journal)) (sym journal_is);
+          ∙ ap (λ e. gained w1 (end_line e ∷ [])) (sym is)
+          ∙ ap (λ t. gained t (end_line journal ∷ [])) (turns.lines ∙ ap (λ (r : RunState). gained w0 (lines_of r.profile.instance events)) begun)
+          ∙ gained-gained w0 (lines_of script.profile.instance events) (end_line journal ∷ [])
+          ∙ ap (λ j. gained w0 (lines_of script.profile.instance j ++ end_line journal ∷ [])) (sym journal_is);
     }
+
+-- commands that fit a profile's symbol fit the longest
+pub fits_longest : (e : ℕ) (lines : List Line) → e ≤ longest_symbol → AllByRecursion (IsCommand e) lines
+    → AllByRecursion (IsCommand longest_symbol) lines
+fits_longest e [] most each = tt
+fits_longest e (line ∷ lines) most each =
+    (record { some = each.0.some; most = omega (arith, each.0.most) }, fits_longest e lines most each.1)

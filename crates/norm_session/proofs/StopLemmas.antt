@@ -1,17 +1,17 @@
-use Rattle.std.proofs.Common.{◌≡◌, ◌∙◌, sym, ap, ℕ, List, [], ◌∷◌, ◌++◌, Option, refl, append_assoc, subst}
+use Rattle.std.proofs.Common.{◌≡◌, ◌∙◌, sym, ap, ℕ, List, [], ◌∷◌, ◌++◌, refl, append_assoc, subst}
 use Rattle.std.specs.List.{flat_map}
 use Rattle.norm_base.specs.Network.{Network}
-use Rattle.norm_base.specs.Told.{gained, GainsFront}
+use Rattle.norm_base.specs.Told.{Pieces, gained}
 use Rattle.norm_session.specs.Causes.{NeedsMemory, NetworkCause}
 use Rattle.norm_session.specs.Honesty.{HonestFor}
 use Rattle.norm_session.specs.Printed.{line_of, lines_of}
 use Rattle.norm_session.specs.Safe.{IsHonest}
-use Rattle.norm_session.specs.Stopping.{IsBeginningOf, Leaves, Prints, StopsWriting, Stops}
+use Rattle.norm_session.specs.Stopping.{IsBeginningOf, GainsFrontOf, Leaves, Prints, StopsWriting, Stops}
 use Rattle.norm_session.specs.Turn.{offer_of, answer_in, network_after}
 use Rattle.norm_session.specs.declared.event.Event.{Event}
 use Rattle.norm_session.specs.declared.event.Event.TheVariants as event
-use Rattle.norm_session.specs.declared.run.SessionFault.{SessionFault}
-use Rattle.norm_session.specs.declared.run.SessionFault.TheVariants.{Write, Fabric, Memory}
+use Rattle.norm_session.specs.declared.fault.SessionFault.{SessionFault}
+use Rattle.norm_session.specs.declared.fault.SessionFault.TheVariants.{Write, Fabric, Memory}
 use Rattle.std.specs.Prelude.{Result, Ok, Err, IfErr}
 use Rattle.norm_session.proofs.HonestLemmas.{all_told}
 use Rattle.norm_session.proofs.RunLemmas.{turn_told, turn_honest}
@@ -45,41 +45,41 @@ writes_not-network T Fabric before now h = tt
 writes_not-network T Memory before now h = tt
 
 -- what is printed fits in another way too
-prints-as : (fault : SessionFault) (i : ℕ) (Fits Whole : List Event → Type 0) (done : List Event) (u w : Option (List ℕ))
+prints-as : (fault : SessionFault) (i : ℕ) (Fits Whole : List Event → Type 0) (done : List Event) (u w : Pieces)
     → ((ys : List Event) → Fits ys → Whole ys) → Prints fault i Fits done u w → Prints fault i Whole done u w
 prints-as Write i Fits Whole done u w fit p = (p.0, fit (done ++ p.0 ∷ []) p.1, p.2)
 prints-as Fabric i Fits Whole done u w fit p = p
 prints-as Memory i Fits Whole done u w fit p = p
 
-joined : (i : ℕ) (xs done : List Event) (u v : Option (List ℕ)) → v ≡ gained u (lines_of i xs) → gained v (lines_of i done) ≡ gained u (lines_of i (xs ++ done))
+joined : (i : ℕ) (xs done : List Event) (u v : Pieces) → v ≡ gained u (lines_of i xs) → gained v (lines_of i done) ≡ gained u (lines_of i (xs ++ done))
 joined i xs done u v is =
     ap (λ t. gained t (lines_of i done)) is ∙ gained-gained u (lines_of i xs) (lines_of i done) ∙ ap (gained u) (sym (lines_of-append i xs done))
 
 -- the same after events that were printed whole
-prints-after : (fault : SessionFault) (i : ℕ) (Fits Whole : List Event → Type 0) (xs done : List Event) (u v w : Option (List ℕ))
+prints-after : (fault : SessionFault) (i : ℕ) (Fits Whole : List Event → Type 0) (xs done : List Event) (u v w : Pieces)
     → v ≡ gained u (lines_of i xs) → ((ys : List Event) → Fits ys → Whole (xs ++ ys)) → Prints fault i Fits done v w → Prints fault i Whole (xs ++ done) u w
 prints-after Write i Fits Whole xs done u v w is fit p =
     let next = p.0 in
-    let P : Option (List ℕ) → Type 0 = λ t. GainsFront t w (line_of i next) in
+    let P : Pieces → Type 0 = λ t. GainsFrontOf t w (line_of i next) in
     (next, subst Whole (sym (append_assoc xs done (next ∷ []))) (fit (done ++ next ∷ []) p.1), subst P (joined i xs done u v is) p.2)
 prints-after Fabric i Fits Whole xs done u v w is fit p = p ∙ joined i xs done u v is
 prints-after Memory i Fits Whole xs done u v w is fit p = p ∙ joined i xs done u v is
 
 -- nothing was done, or nothing that is printed
-pub prints-same : (fault : SessionFault) (i : ℕ) (Fits : List Event → Type 0) (done : List Event) (w : Option (List ℕ)) → WritesNot fault
+pub prints-same : (fault : SessionFault) (i : ℕ) (Fits : List Event → Type 0) (done : List Event) (w : Pieces) → WritesNot fault
     → lines_of i done ≡ [] → Prints fault i Fits done w w
 prints-same Write i Fits done w quiet none = absurd quiet
 prints-same Fabric i Fits done w quiet none = rw none (sym (gained-nil w))
 prints-same Memory i Fits done w quiet none = rw none (sym (gained-nil w))
 
-pub writing-more : (fault : SessionFault) (i : ℕ) (part more : List Event) (u w : Option (List ℕ)) → StopsWriting fault i part u w → StopsWriting fault i (part ++ more) u w
+pub writing-more : (fault : SessionFault) (i : ℕ) (part more : List Event) (u w : Pieces) → StopsWriting fault i part u w → StopsWriting fault i (part ++ more) u w
 writing-more fault i part more u w s = record {
   done = s.done;
   begins = begins-more part more s.done s.begins;
   prints = prints-as fault i (IsBeginningOf part) (IsBeginningOf (part ++ more)) s.done u w (begins-more part more) s.prints;
 }
 
-pub writing-after : (fault : SessionFault) (i : ℕ) (xs part : List Event) (u v w : Option (List ℕ)) → v ≡ gained u (lines_of i xs)
+pub writing-after : (fault : SessionFault) (i : ℕ) (xs part : List Event) (u v w : Pieces) → v ≡ gained u (lines_of i xs)
     → StopsWriting fault i part v w → StopsWriting fault i (xs ++ part) u w
 writing-after fault i xs part u v w is s = record {
   done = xs ++ s.done;
@@ -88,22 +88,22 @@ writing-after fault i xs part u v w is s = record {
 }
 
 -- one event, whose line was to be written
-pub writing-line : (fault : SessionFault) (i : ℕ) (e : Event) (u w : Option (List ℕ)) → Leaves fault u w (line_of i e) → StopsWriting fault i (e ∷ []) u w
+pub writing-line : (fault : SessionFault) (i : ℕ) (e : Event) (u w : Pieces) → Leaves fault u w (line_of i e) → StopsWriting fault i (e ∷ []) u w
 writing-line Write i e u w left =
-    let P : Option (List ℕ) → Type 0 = λ t. GainsFront t w (line_of i e) in
+    let P : Pieces → Type 0 = λ t. GainsFrontOf t w (line_of i e) in
     record { done = []; begins = (e ∷ [], refl); prints = (e, ([], refl), subst P (sym (gained-nil u)) left) }
 writing-line Fabric i e u w left = record { done = []; begins = (e ∷ [], refl); prints = left ∙ sym (gained-nil u) }
 writing-line Memory i e u w left = record { done = []; begins = (e ∷ [], refl); prints = left ∙ sym (gained-nil u) }
 
 -- the second of two events, of which the first has no line
-pub writing-second : {T : Type 0} → (result : Result T SessionFault) (i : ℕ) (first e : Event) (u w : Option (List ℕ)) → lines_of i (first ∷ []) ≡ []
+pub writing-second : {T : Type 0} → (result : Result T SessionFault) (i : ℕ) (first e : Event) (u w : Pieces) → lines_of i (first ∷ []) ≡ []
     → IfErr result (λ fault. Leaves fault u w (line_of i e)) → IfErr result (λ fault. StopsWriting fault i (first ∷ e ∷ []) u w)
 writing-second (Ok t) i first e u w none left = left
 writing-second (Err fault) i first e u w none left =
     writing-after fault i (first ∷ []) (e ∷ []) u u w (rw none (sym (gained-nil u))) (writing-line fault i e u w left)
 
 -- nothing was done
-pub stops-here : (fault : SessionFault) (i : ℕ) (Fits : List Event → Type 0) (n : Network) (w : Option (List ℕ)) → WritesNot fault → Fits [] → Stops fault i Fits n n w w
+pub stops-here : (fault : SessionFault) (i : ℕ) (Fits : List Event → Type 0) (n : Network) (w : Pieces) → WritesNot fault → Fits [] → Stops fault i Fits n n w w
 stops-here fault i Fits n w quiet fits = record {
   done = [];
   fits = fits;
@@ -113,7 +113,7 @@ stops-here fault i Fits n w quiet fits = record {
 }
 
 -- a part was stopped after these events
-pub stops-after : (fault : SessionFault) (i : ℕ) (Fits Whole : List Event → Type 0) (xs : List Event) (b m a : Network) (u v w : Option (List ℕ))
+pub stops-after : (fault : SessionFault) (i : ℕ) (Fits Whole : List Event → Type 0) (xs : List Event) (b m a : Network) (u v w : Pieces)
     → m ≡ network_after b xs → HonestFor b xs → v ≡ gained u (lines_of i xs) → ((ys : List Event) → Fits ys → Whole (xs ++ ys))
     → Stops fault i Fits m a v w → Stops fault i Whole b a u w
 stops-after fault i Fits Whole xs b m a u v w told honest lines fit s = record {
@@ -142,7 +142,7 @@ pub honest-untaken : (n : Network) (xs : List Event) → flat_map answer_in xs �
 honest-untaken n xs none = λ honest. all_told n.offered xs (λ offers. untaken offers xs none)
 
 -- a part that only writes was stopped
-pub stops-writing : (fault : SessionFault) (i : ℕ) (part : List Event) (n : Network) (u w : Option (List ℕ)) → IsSilent part
+pub stops-writing : (fault : SessionFault) (i : ℕ) (part : List Event) (n : Network) (u w : Pieces) → IsSilent part
     → StopsWriting fault i part u w → Stops fault i (IsBeginningOf part) n n u w
 stops-writing fault i part n u w silent s =
     let offers = none_of_front offer_of part s.done s.begins.0 s.begins.1 silent.offers in

@@ -1,4 +1,4 @@
-use Rattle.std.proofs.Common.{◌≡◌, ◌+◌, ◌-◌, ◌≤◌, ◌∙◌, sym, ap, ℕ, suc, zero, List, [], ◌∷◌, ◌++◌, Option, None, refl, append_assoc, subst, Bool, true, false, arith, eq-eqb}
+use Rattle.std.proofs.Common.{◌≡◌, ◌+◌, ◌-◌, ◌≤◌, ◌∙◌, sym, ap, ℕ, suc, zero, List, [], ◌∷◌, ◌++◌, None, refl, append_assoc, subst, Bool, true, false, arith, eq-eqb}
 use Rattle.std.specs.Prelude.{◌||◌, ◌==◌}
 use Rattle.norm_base.specs.Settings.{Settings}
 use Rattle.norm_base.specs.Network.{Network}
@@ -10,10 +10,11 @@ use Rattle.norm_session.specs.Stopping.{Stops, BeginsTurn, BeginsTurns}
 use Rattle.norm_session.specs.Turn.{Answer, IsTaking, most_takes}
 use Rattle.norm_session.specs.WholeTurn.{turn_events, sender_after_turn, receiver_after_turn}
 use Rattle.norm_session.specs.declared.event.Event.{Event}
-use Rattle.norm_session.specs.declared.run.SessionFault.{SessionFault}
+use Rattle.norm_session.specs.declared.fault.SessionFault.{SessionFault}
 use Rattle.norm_session.specs.declared.script.Line.{Line}
 use Rattle.norm_session.proofs.RunLemmas.{Going, differs_of}
 use Rattle.norm_session.proofs.StopLemmas.{stops-after}
+use Rattle.norm_base.specs.Told.{Pieces}
 
 -- A run goes on from every turn, if only with takes that give nothing.
 
@@ -67,7 +68,7 @@ regroup so_far first ys rest more is =
     ap (λ f. so_far ++ (f ++ more)) is ∙ ap (λ t. so_far ++ t) (append_assoc ys rest more) ∙ sym (append_assoc so_far ys (rest ++ more))
 
 -- the turns so far, and a beginning of the next
-begins-next : (commands left : List Line) (t last : ℕ) (start now : RunState) (n0 n1 : Network) (w0 w1 : Option (List ℕ)) (ys : List Event)
+begins-next : (commands left : List Line) (t last : ℕ) (start now : RunState) (n0 n1 : Network) (w0 w1 : Pieces) (ys : List Event)
     → (going : Going commands start now n0 n1 w0 w1 t left) → t ≤ last → now.profile.turns ≡ last
     → BeginsTurn now.profile now.sender now.receiver t (first_of left) ys
     → BeginsTurns start.profile start.sender start.receiver 1 commands (going.so_far ++ ys)
@@ -81,7 +82,7 @@ begins-next commands left t last start now n0 n1 w0 w1 ys going within turns beg
     (done.0, rest ++ goes.1, goes.2, subst P (regroup going.so_far first ys rest goes.1 begins.2.1) done.1)
 
 -- a turn of a run was stopped
-pub turns-stop : (fault : SessionFault) (commands left : List Line) (t last : ℕ) (start now : RunState) (n0 n1 n2 : Network) (w0 w1 w2 : Option (List ℕ))
+pub turns-stop : (fault : SessionFault) (commands left : List Line) (t last : ℕ) (start now : RunState) (n0 n1 n2 : Network) (w0 w1 w2 : Pieces)
     → Going commands start now n0 n1 w0 w1 t left → t ≤ last → now.profile.turns ≡ last
     → Stops fault now.profile.instance (BeginsTurn now.profile now.sender now.receiver t (first_of left)) n1 n2 w1 w2
     → Stops fault start.profile.instance (BeginsTurns start.profile start.sender start.receiver 1 commands) n0 n2 w0 w2

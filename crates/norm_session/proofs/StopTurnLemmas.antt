@@ -5,7 +5,7 @@ use Rattle.std.specs.List.{flat_map}
 use Rattle.std.specs.Option.{option_to_list}
 use Rattle.norm_base.specs.Settings.{Settings}
 use Rattle.norm_base.specs.Network.{Network, with_answer}
-use Rattle.norm_base.specs.Told.{gained}
+use Rattle.norm_base.specs.Told.{Pieces, gained}
 use Rattle.norm_base.specs.declared.kinds.Sent.TheVariants as sent
 use Rattle.norm_session.specs.HandingUp.{HandsUpNext}
 use Rattle.norm_session.specs.Honesty.{HonestFor}
@@ -19,7 +19,7 @@ use Rattle.norm_session.specs.Turn.{Answer, IsTaking, most_takes, take_event, of
 use Rattle.norm_session.specs.WholeTurn.{moment_of, pulled, pull_part, sender_ticked, turn_events}
 use Rattle.norm_session.specs.declared.event.Event.{Event}
 use Rattle.norm_session.specs.declared.event.Event.TheVariants.{Turn, Tick}
-use Rattle.norm_session.specs.declared.run.SessionFault.{SessionFault}
+use Rattle.norm_session.specs.declared.fault.SessionFault.{SessionFault}
 use Rattle.norm_session.specs.declared.script.Line.{Line}
 use Rattle.norm_session.proofs.HandingLemmas.{some_told}
 use Rattle.norm_session.proofs.HonestLemmas.{honest-nil, honest-take}
@@ -37,7 +37,7 @@ with_up-front p point None rest = ([], refl)
 with_up-front p point (Some octets) rest = (up_events p (point + 1) rest, refl)
 
 -- the line of the next hand-up was to be written
-pub up-stops : (fault : SessionFault) (p : Settings) (r : ReceiverState) (index : ℕ) (bytes : List ℕ) (u w : Option (List ℕ))
+pub up-stops : (fault : SessionFault) (p : Settings) (r : ReceiverState) (index : ℕ) (bytes : List ℕ) (u w : Pieces)
     → next_up r.held r.point ≡ Some bytes → index ≡ r.point → Leaves fault u w (line_of p.instance (up_event p index bytes))
     → StopsWriting fault p.instance (up_events p r.point (option_to_list (next_up r.held r.point))) u w
 up-stops fault p r index bytes u w there place left =
@@ -45,11 +45,11 @@ up-stops fault p r index bytes u w there place left =
     rw there (writing-line fault p.instance (up_event p r.point bytes) u w (subst P place left))
 
 -- a fault stopped the hand-ups, at most so many
-abbrev pub StopsHanding : SessionFault → ℕ → RunState → Option (List ℕ) → Option (List ℕ) → Type 0
+abbrev pub StopsHanding : SessionFault → ℕ → RunState → Pieces → Pieces → Type 0
 StopsHanding fault most r u w = StopsWriting fault r.profile.instance (up_events r.profile r.receiver.point (ups_of most r.receiver)) u w
 
 -- it stopped the first of them
-pub handing-here : (fault : SessionFault) (left most : ℕ) (r : RunState) (u w : Option (List ℕ)) → left ≡ suc most
+pub handing-here : (fault : SessionFault) (left most : ℕ) (r : RunState) (u w : Pieces) → left ≡ suc most
     → StopsWriting fault r.profile.instance (up_events r.profile r.receiver.point (option_to_list (next_up r.receiver.held r.receiver.point))) u w
     → StopsHanding fault left r u w
 handing-here fault left most r u w is s =
@@ -59,7 +59,7 @@ handing-here fault left most r u w is s =
     rw is (subst P (sym front.1) (writing-more fault r.profile.instance (up_events r.profile r.receiver.point (option_to_list next)) front.0 u w s))
 
 -- it stopped one after the first
-pub handing-after : (fault : SessionFault) (left most : ℕ) (r mid : RunState) (u v w : Option (List ℕ)) → left ≡ suc most
+pub handing-after : (fault : SessionFault) (left most : ℕ) (r mid : RunState) (u v w : Pieces) → left ≡ suc most
     → HandsUpNext r mid u v true → StopsHanding fault most mid v w → StopsHanding fault left r u w
 handing-after fault left most r mid u v w is next s =
     let one = some_told (next_up r.receiver.held r.receiver.point) (sym next.variant) in
@@ -124,7 +124,7 @@ map-append : (xs ys : List Answer) → map take_event (xs ++ ys) ≡ map take_ev
 map-append [] ys = refl
 map-append (x ∷ xs) ys = ap (λ rest. take_event x ∷ rest) (map-append xs ys)
 
-stops-taking : (fault : SessionFault) (i : ℕ) (before after : Network) (w : Option (List ℕ)) → WritesNot fault → StopsTaking most_takes before after
+stops-taking : (fault : SessionFault) (i : ℕ) (before after : Network) (w : Pieces) → WritesNot fault → StopsTaking most_takes before after
     → Stops fault i BeginsTakes before after w w
 stops-taking fault i before after w quiet s = record {
   done = map take_event s.answers;
@@ -152,13 +152,13 @@ answers-offer node None = refl
 answers-offer node (Some datagram) = refl
 
 -- it did quiet begin
-pub turn-stops_begin : (fault : SessionFault) (p : Settings) (s : SenderState) (r : ReceiverState) (t : ℕ) (command : Option Line) (n : Network) (w : Option (List ℕ))
+pub turn-stops_begin : (fault : SessionFault) (p : Settings) (s : SenderState) (r : ReceiverState) (t : ℕ) (command : Option Line) (n : Network) (w : Pieces)
     → WritesNot fault → Stops fault p.instance (BeginsTurn p s r t command) n n w w
 turn-stops_begin fault p s r t command n w quiet =
     stops-here fault p.instance (BeginsTurn p s r t command) n w quiet (None ∷ [], refl, (turn_events p s r t command (None ∷ []), refl))
 
 -- its command was stopped
-turn-stops_pull : (fault : SessionFault) (p : Settings) (s : SenderState) (r : ReceiverState) (t : ℕ) (command : Option Line) (n : Network) (u w : Option (List ℕ))
+turn-stops_pull : (fault : SessionFault) (p : Settings) (s : SenderState) (r : ReceiverState) (t : ℕ) (command : Option Line) (n : Network) (u w : Pieces)
     → StopsWriting fault p.instance (pull_part s command) u w → Stops fault p.instance (BeginsTurn p s r t command) n n u w
 turn-stops_pull fault p s r t command n u w stops =
     let now = moment_of p t in
@@ -171,7 +171,7 @@ turn-stops_pull fault p s r t command n u w stops =
     (stops-writing fault p.instance a n u w (record { offers = offers-pull s command; answers = answers-pull s command }) stops)
 
 -- its offer was stopped
-turn-stops_offer : (fault : SessionFault) (p : Settings) (s : SenderState) (r : ReceiverState) (t : ℕ) (command : Option Line) (n : Network) (u w : Option (List ℕ))
+turn-stops_offer : (fault : SessionFault) (p : Settings) (s : SenderState) (r : ReceiverState) (t : ℕ) (command : Option Line) (n : Network) (u w : Pieces)
     → WritesNot fault → w ≡ gained u (lines_of p.instance (pull_part s command)) → Stops fault p.instance (BeginsTurn p s r t command) n n u w
 turn-stops_offer fault p s r t command n u w quiet lines =
     let now = moment_of p t in
@@ -190,7 +190,7 @@ before_takes p s t now command b n m told =
     let a = Turn t now ∷ pull_part s command in
     told ∙ ap (λ k. network_after k b) (sym (network_after-silent n a (turn_silent t now s command))) ∙ network_after-append n a b
 
-lines_before : (i : ℕ) (s : SenderState) (t now node : ℕ) (command : Option Line) (d : Option (List ℕ)) (u w : Option (List ℕ))
+lines_before : (i : ℕ) (s : SenderState) (t now node : ℕ) (command : Option Line) (d : Option (List ℕ)) (u w : Pieces)
     → w ≡ gained u (lines_of i (pull_part s command)) → w ≡ gained u (lines_of i (Turn t now ∷ (pull_part s command ++ offer_events node d)))
 lines_before i s t now node command d u w lines =
     lines ∙ ap (gained u) (sym (lines_of-append i (pull_part s command) (offer_events node d)
@@ -203,7 +203,7 @@ answers_before s t now node command d =
     ∙ ap (λ front. front ++ flat_map answer_in (offer_events node d)) (answers-pull s command) ∙ answers-offer node d
 
 -- its taking was stopped
-turn-stops_takes : (fault : SessionFault) (p : Settings) (s : SenderState) (r : ReceiverState) (t : ℕ) (command : Option Line) (n m after : Network) (u w : Option (List ℕ))
+turn-stops_takes : (fault : SessionFault) (p : Settings) (s : SenderState) (r : ReceiverState) (t : ℕ) (command : Option Line) (n m after : Network) (u w : Pieces)
     → WritesNot fault → w ≡ gained u (lines_of p.instance (pull_part s command))
     → m ≡ network_after n (offer_events p.sender (sender_datagram p (pulled s command) (moment_of p t)))
     → StopsTaking most_takes m after → Stops fault p.instance (BeginsTurn p s r t command) n after u w
@@ -224,7 +224,7 @@ turn-stops_takes fault p s r t command n m after u w quiet lines told stops =
     (stops-taking fault p.instance m after w quiet stops)
 
 -- its end was stopped
-turn-stops_end : (fault : SessionFault) (p : Settings) (s : SenderState) (r : ReceiverState) (t : ℕ) (command : Option Line) (answers : List Answer) (n m after : Network) (u v w : Option (List ℕ))
+turn-stops_end : (fault : SessionFault) (p : Settings) (s : SenderState) (r : ReceiverState) (t : ℕ) (command : Option Line) (answers : List Answer) (n m after : Network) (u v w : Pieces)
     → v ≡ gained u (lines_of p.instance (pull_part s command))
     → m ≡ network_after n (offer_events p.sender (sender_datagram p (pulled s command) (moment_of p t)))
     → IsTaking most_takes answers → HonestFor m (map take_event answers) → after ≡ network_after m (map take_event answers)
@@ -254,20 +254,20 @@ turn-stops_end fault p s r t command answers n m after u v w lines told taking h
 
 -- The same from what the parts of a turn say.
 
-pub turn-pull_of : (fault : SessionFault) (t : ℕ) (command : Option Line) (r0 r1 : RunState) (n : Network) (u w : Option (List ℕ))
+pub turn-pull_of : (fault : SessionFault) (t : ℕ) (command : Option Line) (r0 r1 : RunState) (n : Network) (u w : Pieces)
     → r1 ≡ with_events r0 (Turn t (moment_of r0.profile t) ∷ [])
     → StopsWriting fault r1.profile.instance (pull_part r1.sender command) u w
     → Stops fault r0.profile.instance (BeginsTurn r0.profile r0.sender r0.receiver t command) n n u w
 turn-pull_of fault t command r0 r1 n u w e1 stops = turn-stops_pull fault r0.profile r0.sender r0.receiver t command n u w (rw e1 at stops)
 
-pub turn-offer_of : (fault : SessionFault) (t : ℕ) (command : Option Line) (r0 r1 : RunState) (n n1 : Network) (u w : Option (List ℕ)) → WritesNot fault
+pub turn-offer_of : (fault : SessionFault) (t : ℕ) (command : Option Line) (r0 r1 : RunState) (n n1 : Network) (u w : Pieces) → WritesNot fault
     → r1 ≡ with_events r0 (Turn t (moment_of r0.profile t) ∷ [])
     → w ≡ gained u (lines_of r1.profile.instance (pull_part r1.sender command)) → n1 ≡ n
     → Stops fault r0.profile.instance (BeginsTurn r0.profile r0.sender r0.receiver t command) n n1 u w
 turn-offer_of fault t command r0 r1 n n1 u w quiet e1 lines same =
     rw same (turn-stops_offer fault r0.profile r0.sender r0.receiver t command n u w quiet (rw e1 at lines))
 
-pub turn-takes_of : (fault : SessionFault) (t now : ℕ) (command : Option Line) (r0 r1 r2 : RunState) (n0 n1 n2 : Network) (w0 w1 : Option (List ℕ)) → WritesNot fault
+pub turn-takes_of : (fault : SessionFault) (t now : ℕ) (command : Option Line) (r0 r1 r2 : RunState) (n0 n1 n2 : Network) (w0 w1 : Pieces) → WritesNot fault
     → now ≡ moment_of r0.profile t
     → r1 ≡ with_events r0 (Turn t (moment_of r0.profile t) ∷ [])
     → r2 ≡ with_events (with_sender r1 (pulled r1.sender command)) (pull_part r1.sender command)
@@ -278,7 +278,7 @@ pub turn-takes_of : (fault : SessionFault) (t now : ℕ) (command : Option Line)
 turn-takes_of fault t now command r0 r1 r2 n0 n1 n2 w0 w1 quiet is e1 e2 f1 g1 stops =
     turn-stops_takes fault r0.profile r0.sender r0.receiver t command n0 n1 n2 w0 w1 quiet (rw e1 at f1) (rw (e2, e1, is) at g1) stops
 
-pub turn-end_of : (fault : SessionFault) (t now : ℕ) (command : Option Line) (r0 r1 r2 r3 r4 : RunState) (n0 n1 n2 : Network) (w0 w1 w2 : Option (List ℕ))
+pub turn-end_of : (fault : SessionFault) (t now : ℕ) (command : Option Line) (r0 r1 r2 r3 r4 : RunState) (n0 n1 n2 : Network) (w0 w1 w2 : Pieces)
     → now ≡ moment_of r0.profile t
     → r1 ≡ with_events r0 (Turn t (moment_of r0.profile t) ∷ [])
     → r2 ≡ with_events (with_sender r1 (pulled r1.sender command)) (pull_part r1.sender command)

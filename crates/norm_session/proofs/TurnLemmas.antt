@@ -3,7 +3,8 @@ use Rattle.std.proofs.lemmas.List.{append-nil}
 use Rattle.std.proofs.lemmas.Grind.{flat_map-append}
 use Rattle.std.specs.List.{flat_map}
 use Rattle.norm_base.specs.Settings.{Settings}
-use Rattle.norm_base.specs.Told.{gained}
+use Rattle.norm_base.specs.Told.{Pieces, gained}
+use Rattle.std.specs.Option.{option_to_list}
 use Rattle.norm_base.specs.Network.{Network}
 use Rattle.norm_session.specs.Honesty.{HonestFor}
 use Rattle.norm_session.proofs.HonestLemmas.{honest-append, honest-pull, honest-offer, honest-ups}
@@ -31,7 +32,7 @@ network_after-append n xs ys =
     ) refl
 
 pub lines_of-append : (i : ℕ) (xs ys : List Event) → lines_of i (xs ++ ys) ≡ lines_of i xs ++ lines_of i ys
-lines_of-append i xs ys = flat_map-append (line_of i) xs ys
+lines_of-append i xs ys = flat_map-append (λ e. option_to_list (line_of i e)) xs ys
 
 -- no line is printed for a take
 pub lines_of-takes : (i : ℕ) (answers : List Answer) → lines_of i (map take_event answers) ≡ []
@@ -106,7 +107,7 @@ honest_parts n m p o a u x is silent hp ho ha hu hx =
     (honest-append m a (u ++ x) ha (honest-append (network_after m a) u x (hu (network_after m a)) (hx (network_after (network_after m a) u)))))))
 
 -- the parts of a turn make it
-pub whole_turn : (t : ℕ) (command : Option Line) (answers : List Answer) (r0 r1 r2 r3 r4 r5 r6 : RunState) (n0 n1 n2 : Network) (w0 w1 w2 : Option (List ℕ))
+pub whole_turn : (t : ℕ) (command : Option Line) (answers : List Answer) (r0 r1 r2 r3 r4 r5 r6 : RunState) (n0 n1 n2 : Network) (w0 w1 w2 : Pieces)
     → r1 ≡ with_events r0 (Turn t (moment_of r0.profile t) ∷ [])
     → r2 ≡ with_events (with_sender r1 (pulled r1.sender command)) (pull_part r1.sender command)
     → w1 ≡ gained w0 (lines_of r1.profile.instance (pull_part r1.sender command))
@@ -149,7 +150,7 @@ whole_turn t command answers r0 r1 r2 r3 r4 r5 r6 n0 n1 n2 w0 w1 w2 e1 e2 f1 e3 
     }
 
 -- the same from what the parts of a turn say
-pub turn_of_parts : (t now : ℕ) (command : Option Line) (r0 r1 r2 r3 r4 r6 : RunState) (n0 n1 n2 : Network) (w0 w1 w2 : Option (List ℕ))
+pub turn_of_parts : (t now : ℕ) (command : Option Line) (r0 r1 r2 r3 r4 r6 : RunState) (n0 n1 n2 : Network) (w0 w1 w2 : Pieces)
     → now ≡ moment_of r0.profile t
     → r1 ≡ with_events r0 (Turn t (moment_of r0.profile t) ∷ [])
     → r2 ≡ with_events (with_sender r1 (pulled r1.sender command)) (pull_part r1.sender command)

@@ -1,5 +1,6 @@
 use Rattle.std.specs.Prelude.{ℕ, List, [], ◌∷◌, ◌++◌, length, codes, Option, None, Some, Ok}
 use Rattle.std.specs.List.{flat_map}
+use Rattle.std.specs.Option.{option_to_list}
 use Rattle.std.specs.Fmt.{decimal}
 use Rattle.hex.specs.Hex.{encode_lower}
 use Rattle.norm_session.specs.declared.event.Event.{Event}
@@ -48,12 +49,12 @@ abbrev pub up_line : ℕ → ℕ → Up → List ℕ
 up_line node instance (Object index kind info bytes) =
     object_line (place_words node instance index) (kind_word kind) (length bytes) (info_word info) (encode_lower bytes)
 
--- What is printed for an event of a run whose sender has this instance, with its line feed; or nothing.
-abbrev pub line_of : ℕ → Event → List ℕ
-line_of instance (event.Job by job (Ok (Enqueued index len))) = enq_line by.producer by.number instance index len
-line_of instance (event.Up node at up) = up_line node at up
-line_of instance _ = []
+-- the line that is printed for an event of a run whose sender has this instance, with its line feed, if any is
+abbrev pub line_of : ℕ → Event → Option (List ℕ)
+line_of instance (event.Job by job (Ok (Enqueued index len))) = Some (enq_line by.producer by.number instance index len)
+line_of instance (event.Up node at up) = Some (up_line node at up)
+line_of instance _ = None
 
--- what is printed for events, in their order
-abbrev pub lines_of : ℕ → List Event → List ℕ
-lines_of instance events = flat_map (line_of instance) events
+-- the lines of events, in their order, each of them one piece
+abbrev pub lines_of : ℕ → List Event → List (List ℕ)
+lines_of instance events = flat_map (λ e. option_to_list (line_of instance e)) events

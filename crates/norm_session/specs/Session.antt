@@ -1,8 +1,8 @@
-use Rattle.std.specs.Prelude.{◌≡◌, ℕ, List, [], ◌∷◌, ◌++◌, Bool, Option, IfSome, IsTrue}
+use Rattle.std.specs.Prelude.{◌≡◌, ℕ, List, [], ◌∷◌, ◌++◌, Bool, IfSome, IsTrue}
 use Rattle.norm_session.specs.Safe.{IsHonest, Safe}
 use Rattle.std.specs.List.{flat_map}
 use Rattle.norm_base.specs.Network.{Network}
-use Rattle.norm_base.specs.Told.{gained}
+use Rattle.norm_base.specs.Told.{Pieces, gained}
 use Rattle.norm_base.specs.declared.kinds.Local.TheVariants.{All}
 use Rattle.norm_session.specs.declared.event.Event.{Event}
 use Rattle.norm_session.specs.Commands.{Commands}
@@ -11,9 +11,9 @@ use Rattle.norm_session.specs.Totals.{end_line}
 use Rattle.norm_session.specs.SessionRun.{SessionRun}
 use Rattle.norm_session.specs.Turn.{offer_of, answer_in}
 
--- what is printed of a run: a line for each event that has one, and the summary
-abbrev pub printed : ℕ → List Event → List ℕ
-printed instance journal = lines_of instance journal ++ end_line journal
+-- the lines that are printed of a run: one for each event that has one, and the summary
+abbrev pub printed : ℕ → List Event → List (List ℕ)
+printed instance journal = lines_of instance journal ++ end_line journal ∷ []
 
 -- The network tells of a session what its journal says: one start, of this profile with all members; the journal's
 -- offers; and the journal's takes.
@@ -23,7 +23,7 @@ pub record HasSession (script : Commands) (journal : List Event) (before after :
   pub answers : IfSome after.answers (λ answers. answers ≡ flat_map answer_in journal)
 
 -- A session of this script: its journal is a run, the network has it, and it is what was written.
-pub record RunsSession (script : Commands) (journal : List Event) (whole : Bool) (before after : Network) (unwritten written : Option (List ℕ)) : Type 0 where
+pub record RunsSession (script : Commands) (journal : List Event) (whole : Bool) (before after : Network) (unwritten written : Pieces) : Type 0 where
   pub run : SessionRun script journal whole
   pub network : HasSession script journal before after
   -- where the network is honest, what was taken had been offered by another member

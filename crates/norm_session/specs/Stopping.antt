@@ -1,10 +1,10 @@
-use Rattle.std.specs.Prelude.{◌≡◌, ℕ, List, [], ◌∷◌, ◌++◌, map, Bool, Option, ◌⊎◌}
+use Rattle.std.specs.Prelude.{◌≡◌, ℕ, List, [], ◌∷◌, ◌++◌, map, Bool, Option, None, Some, ◌⊎◌}
 use Rattle.norm_base.specs.Settings.{Settings}
 use Rattle.norm_base.specs.Network.{Network, with_answer}
-use Rattle.norm_base.specs.Told.{gained, GainsFront}
+use Rattle.norm_base.specs.Told.{Pieces, gained, GainsFront}
 use Rattle.norm_session.specs.declared.event.Event.{Event}
-use Rattle.norm_session.specs.declared.run.SessionFault.{SessionFault}
-use Rattle.norm_session.specs.declared.run.SessionFault.TheVariants.{Write, Fabric, Memory}
+use Rattle.norm_session.specs.declared.fault.SessionFault.{SessionFault}
+use Rattle.norm_session.specs.declared.fault.SessionFault.TheVariants.{Write, Fabric, Memory}
 use Rattle.norm_session.specs.declared.script.Line.{Line}
 use Rattle.norm_session.specs.Honesty.{HonestFor}
 use Rattle.norm_session.specs.Printed.{line_of, lines_of}
@@ -20,21 +20,26 @@ use Rattle.norm_session.specs.WholeTurn.{turn_events}
 abbrev pub IsBeginningOf : List Event → List Event → Type 0
 IsBeginningOf events done = (rest : List Event) × (events ≡ done ++ rest)
 
+-- a front of this line is the last piece, where there is a line
+abbrev pub GainsFrontOf : (unwritten written : Pieces) → Option (List ℕ) → Type 0
+GainsFrontOf unwritten written None = ⊥
+GainsFrontOf unwritten written (Some line) = GainsFront unwritten written line
+
 -- what a fault leaves of a line that was to be written: a front of it where the write failed, and else nothing
-abbrev pub Leaves : SessionFault → (unwritten written : Option (List ℕ)) → List ℕ → Type 0
-Leaves Write unwritten written line = GainsFront unwritten written line
+abbrev pub Leaves : SessionFault → (unwritten written : Pieces) → Option (List ℕ) → Type 0
+Leaves Write unwritten written line = GainsFrontOf unwritten written line
 Leaves Fabric unwritten written line = written ≡ unwritten
 Leaves Memory unwritten written line = written ≡ unwritten
 
 -- What was done, and fits, is printed; and where a write failed, a front of the line of an event that fits next.
-abbrev pub Prints : SessionFault → ℕ → (List Event → Type 0) → List Event → (unwritten written : Option (List ℕ)) → Type 0
+abbrev pub Prints : SessionFault → ℕ → (List Event → Type 0) → List Event → (unwritten written : Pieces) → Type 0
 Prints Write instance Fits done unwritten written =
-    (next : Event) × Fits (done ++ next ∷ []) × GainsFront (gained unwritten (lines_of instance done)) written (line_of instance next)
+    (next : Event) × Fits (done ++ next ∷ []) × GainsFrontOf (gained unwritten (lines_of instance done)) written (line_of instance next)
 Prints Fabric instance Fits done unwritten written = written ≡ gained unwritten (lines_of instance done)
 Prints Memory instance Fits done unwritten written = written ≡ gained unwritten (lines_of instance done)
 
 -- A fault stopped a part that has these events, and only writes.
-pub record StopsWriting (fault : SessionFault) (instance : ℕ) (part : List Event) (unwritten written : Option (List ℕ)) : Type 0 where
+pub record StopsWriting (fault : SessionFault) (instance : ℕ) (part : List Event) (unwritten written : Pieces) : Type 0 where
   pub done : List Event
   pub begins : IsBeginningOf part done
   pub prints : Prints fault instance (IsBeginningOf part) done unwritten written
@@ -53,7 +58,7 @@ pub record StopsTaking (most : ℕ) (before after : Network) : Type 0 where
   pub honest : HonestFor before (map take_event answers)
 
 -- A fault stopped a part of a run: what was done fits, and the network and the output have it.
-pub record Stops (fault : SessionFault) (instance : ℕ) (Fits : List Event → Type 0) (before after : Network) (unwritten written : Option (List ℕ)) : Type 0 where
+pub record Stops (fault : SessionFault) (instance : ℕ) (Fits : List Event → Type 0) (before after : Network) (unwritten written : Pieces) : Type 0 where
   pub done : List Event
   pub fits : Fits done
   pub told : after ≡ network_after before done

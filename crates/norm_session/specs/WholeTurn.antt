@@ -1,7 +1,7 @@
 use Rattle.std.specs.Prelude.{◌≡◌, ℕ, ◌*◌, List, [], ◌∷◌, ◌++◌, map, Option, None, Some}
 use Rattle.norm_base.specs.Settings.{Settings}
 use Rattle.norm_base.specs.Network.{Network}
-use Rattle.norm_base.specs.Told.{gained}
+use Rattle.norm_base.specs.Told.{Pieces, gained}
 use Rattle.norm_session.specs.declared.event.Event.{Event}
 use Rattle.norm_session.specs.declared.event.Event.TheVariants.{Turn}
 use Rattle.norm_session.specs.declared.script.Line.{Line}
@@ -46,7 +46,7 @@ abbrev pub receiver_after_turn : Settings → ReceiverState → List Answer → 
 receiver_after_turn p r answers = receiver_done (delivered_all p r answers)
 
 -- From old, turn t was taken, with these answers of the network; the journal, the network and the output have it.
-pub record TakesTurn (t : ℕ) (command : Option Line) (old new : RunState) (before after : Network) (unwritten written : Option (List ℕ)) : Type 0 where
+pub record TakesTurn (t : ℕ) (command : Option Line) (old new : RunState) (before after : Network) (unwritten written : Pieces) : Type 0 where
   pub answers : List Answer
   pub is_taking : IsTaking most_takes answers
   pub state : new ≡ with_events

@@ -3,6 +3,7 @@
 #![tactic(auto)]
 
 mod event;
+mod fault;
 mod job;
 pub mod laws;
 mod lines;
@@ -14,7 +15,7 @@ mod session;
 mod totals;
 
 pub use crate::event::{Event, Journal};
+pub use crate::fault::SessionFault;
 pub use crate::job::{Job, Receipt, SendFault, Up};
-pub use crate::run::SessionFault;
 pub use crate::script::{Line, Script, Verb};
 pub use crate::session::{Ended, run_session};

@@ -1,6 +1,7 @@
 //! The lines that a session prints.
 
 ghost use Rattle.std.specs.Prelude.{◌≡◌, IfOk, string_bytes};
+ghost use Rattle.std.specs.Option.{option_map};
 ghost use Rattle.norm_session.specs.Printed.{kind_word, info_word, enq_line, place_words, object_line, up_line, line_of};
 
 use crate::event::Event;
@@ -93,22 +94,22 @@ fn up_line(alloc: Global, node: NodeId, instance: InstanceId, up: &Up) -> Result
     }
 }
 
-/// What is printed for an event of a run whose sender has this instance, with its line feed. The text is
-/// empty where nothing is printed.
+/// The line that is printed for an event of a run whose sender has this instance, with its line feed, if
+/// any is.
 pub(crate) fn line_of(
     alloc: Global,
     instance: InstanceId,
     event: &Event,
-) -> Result<String, AllocError>
-    ensures { IfOk result (λ text. string_bytes text ≡ line_of instance event.now) }
+) -> Result<Option<String>, AllocError>
+    ensures { IfOk result (λ text. option_map string_bytes text ≡ line_of instance event.now) }
 {
     match event {
         Event::Job {
             by,
             gave: Ok(Receipt::Object { index, len }),
             ..
-        } => enq_line(alloc, *by, instance.0, *index, *len),
-        Event::Up { node, instance, up } => up_line(alloc, *node, *instance, up),
-        _ => Ok(String::new(alloc)),
+        } => Ok(Some(enq_line(alloc, *by, instance.0, *index, *len)?)),
+        Event::Up { node, instance, up } => Ok(Some(up_line(alloc, *node, *instance, up)?)),
+        _ => Ok(None),
     }
 }

@@ -170,11 +170,9 @@ impl Receiver {
         if had(&self.held, self.point, index) {
             return Ok(());
         }
-        let Ok(bytes) = Vec::from_slice(alloc, octets) else {
-            return Err(Memory);
-        };
-        let bytes = Octets::of(bytes);
-        self.held.push(Held { index, bytes }).map_err(|_| Memory)
+        let bytes = Octets::of(Vec::from_slice(alloc, octets)?);
+        self.held.push(Held { index, bytes })?;
+        Ok(())
     }
 
     /// The index of the next hand-up and its octets, if it is there.

@@ -22,6 +22,7 @@ ghost use Rattle.norm_session.specs.ReceiverState.{next_up};
 ghost use Rattle.std.specs.Option.{option_to_list};
 
 use crate::event::{Event, Journal};
+use crate::fault::SessionFault;
 use crate::job::{Job, Up};
 use crate::lines::line_of;
 use crate::receiver::Receiver;
@@ -29,25 +30,13 @@ use crate::script::{Line, Verb};
 use crate::sender::Sender;
 use crate::totals::end_line;
 use norm_base::{
-    Datagram, Fabric, FabricFault, InstanceId, Kind, Local, Memory, Moment, NodeId, Octets, Origin,
-    Profile, Sent, Sink,
+    Datagram, Fabric, InstanceId, Kind, Local, Moment, NodeId, Octets, Origin, Profile, Sent, Sink,
 };
 use std::alloc::Global;
 use std::marker::Model;
 
 /// The most datagrams that are taken in a turn.
 const MOST_TAKES: u32 = 512;
-
-/// Why a session ended before it was done.
-#[derive(Clone, Copy, Debug, PartialEq, Eq)]
-pub enum SessionFault {
-    /// A write failed.
-    Write,
-    /// A call of the network failed.
-    Fabric,
-    /// There was no memory.
-    Memory,
-}
 
 /// A run so far.
 #[derive(Drop)]
@@ -112,10 +101,7 @@ fn copy_of(alloc: Global, bytes: &[u8]) -> Result<Octets, SessionFault>
     ensures value { IfOk result (λ octets. octets ≡ bytes.now) }
     ensures cause { NeedsMemory result }
 {
-    match Vec::from_slice(alloc, bytes) {
-        Ok(bytes) => Ok(Octets::of(bytes)),
-        Err(_) => Err(SessionFault::Memory),
-    }
+    Ok(Octets::of(Vec::from_slice(alloc, bytes)?))
 }
 
 /// The job of a command.
@@ -152,15 +138,9 @@ impl Run {
         ensures stops { OnErr result ((F.told fabric.new ≡ F.told fabric.old) ⊎ Starts (F.told fabric.old) (F.told fabric.new) profile.now Local.All) }
         ensures cause { NetworkCause result (F.fault_count fabric.old) (F.fault_count fabric.new) }
     {
-        match fabric.start(profile, Local::All) {
-            Ok(()) => {}
-            Err(FabricFault::Failed) => return Err(SessionFault::Fabric),
-            Err(FabricFault::Memory) => return Err(SessionFault::Memory),
-        }
+        fabric.start(profile, Local::All)?;
         let mut events = Vec::new(alloc);
-        if events.push(Event::Start).is_err() {
-            return Err(SessionFault::Memory);
-        }
+        events.push(Event::Start)?;
         Ok(Run {
             alloc,
             profile: *profile,
@@ -181,17 +161,13 @@ impl Run {
 
     /// The summary is written.
     pub(crate) fn summarize<K: Sink>(&self, output: &mut K) -> Result<(), SessionFault>
-        ensures written { OnOk result (K.written output.new ≡ gained (K.written output.old) (end_line self.now.events)) }
-        ensures stops { IfErr result (λ fault. Leaves fault (K.written output.old) (K.written output.new) (end_line self.now.events)) }
+        ensures written { OnOk result (K.pieces output.new ≡ gained (K.pieces output.old) (end_line self.now.events ∷ [])) }
+        ensures stops { IfErr result (λ fault. Leaves fault (K.pieces output.old) (K.pieces output.new) (Some (end_line self.now.events))) }
         ensures cause { WriteCause result (K.fault_count output.old) (K.fault_count output.new) }
     {
-        let Ok(line) = end_line(self.alloc, &self.events) else {
-            return Err(SessionFault::Memory);
-        };
-        match output.write(line.as_bytes()) {
-            Ok(()) => Ok(()),
-            Err(_) => Err(SessionFault::Write),
-        }
+        let line = end_line(self.alloc, &self.events)?;
+        output.write(line.as_bytes())?;
+        Ok(())
     }
 
     /// An event joins the journal.
@@ -199,31 +175,25 @@ impl Run {
         ensures ok { OnOk result (self.new ≡ with_events self.old (event ∷ [])) }
         ensures cause { NeedsMemory result }
     {
-        match self.events.push(event) {
-            Ok(()) => Ok(()),
-            Err(_) => Err(SessionFault::Memory),
-        }
+        self.events.push(event)?;
+        Ok(())
     }
 
     /// An event joins the journal, and its line is written.
     fn emit<K: Sink>(&mut self, output: &mut K, event: Event) -> Result<(), SessionFault>
         ensures ok { OnOk result (self.new ≡ with_events self.old (event ∷ [])) }
-        ensures written { OnOk result (K.written output.new
-            ≡ gained (K.written output.old) (line_of self.old.profile.instance event)) }
-        ensures stops { IfErr result (λ fault. Leaves fault (K.written output.old) (K.written output.new)
+        ensures written { OnOk result (K.pieces output.new
+            ≡ gained (K.pieces output.old) (option_to_list (line_of self.old.profile.instance event))) }
+        ensures stops { IfErr result (λ fault. Leaves fault (K.pieces output.old) (K.pieces output.new)
             (line_of self.old.profile.instance event)) }
         ensures cause { WriteCause result (K.fault_count output.old) (K.fault_count output.new) }
     {
-        let Ok(line) = line_of(self.alloc, instance_of(&self.profile), &event) else {
-            return Err(SessionFault::Memory);
-        };
-        if self.events.push(event).is_err() {
-            return Err(SessionFault::Memory);
+        let line = line_of(self.alloc, instance_of(&self.profile), &event)?;
+        self.events.push(event)?;
+        if let Some(line) = line {
+            output.write(line.as_bytes())?;
         }
-        match output.write(line.as_bytes()) {
-            Ok(()) => Ok(()),
-            Err(_) => Err(SessionFault::Write),
-        }
+        Ok(())
     }
 
     /// Pulls a command: its object joins the order, and its line is written.
@@ -233,10 +203,10 @@ impl Run {
         ensures state { OnOk result (self.new ≡ with_events
             (with_sender self.old (enqueued self.old.sender (entry_of line.now)))
             (pull_events self.old.sender line.now)) }
-        ensures written { OnOk result (K.written output.new ≡ gained (K.written output.old)
+        ensures written { OnOk result (K.pieces output.new ≡ gained (K.pieces output.old)
             (lines_of self.old.profile.instance (pull_events self.old.sender line.now))) }
         ensures stops { IfErr result (λ fault. StopsWriting fault self.old.profile.instance (pull_events self.old.sender line.now)
-            (K.written output.old) (K.written output.new)) }
+            (K.pieces output.old) (K.pieces output.new)) }
         ensures cause { WriteCause result (K.fault_count output.old) (K.fault_count output.new) }
     {
         let by = Origin {
@@ -247,9 +217,7 @@ impl Run {
         let kept = copy_of(self.alloc, bytes.bytes())?;
         let job = job_of(self.alloc, &line.verb)?;
         self.note(Event::Pull { by })?;
-        let Ok(receipt) = self.sender.enqueue(by, kept) else {
-            return Err(SessionFault::Memory);
-        };
+        let receipt = self.sender.enqueue(by, kept)?;
         let gave = Ok(receipt);
         let job = Some(job);
         self.emit(output, Event::Job { by, job, gave })
@@ -294,11 +262,8 @@ impl Run {
     {
         let bytes = copy_of(self.alloc, datagram)?;
         self.note(Event::Offer { from, bytes })?;
-        match fabric.offer(from, datagram) {
-            Ok(()) => Ok(()),
-            Err(FabricFault::Failed) => Err(SessionFault::Fabric),
-            Err(FabricFault::Memory) => Err(SessionFault::Memory),
-        }
+        fabric.offer(from, datagram)?;
+        Ok(())
     }
 
     /// What was taken for the receiver is delivered to it; a datagram for another node goes nowhere.
@@ -310,10 +275,8 @@ impl Run {
         if to != receiver_node(&self.profile) {
             return Ok(());
         }
-        match self.receiver.deliver(self.alloc, &self.profile, datagram) {
-            Ok(()) => Ok(()),
-            Err(Memory) => Err(SessionFault::Memory),
-        }
+        self.receiver.deliver(self.alloc, &self.profile, datagram)?;
+        Ok(())
     }
 
     /// A datagram is taken from the network and delivered. `None` where there is none ready.
@@ -329,20 +292,14 @@ impl Run {
         ensures stops { OnErr result (StopsTake (F.told fabric.old) (F.told fabric.new)) }
         ensures cause { NetworkCause result (F.fault_count fabric.old) (F.fault_count fabric.new) }
     {
-        match fabric.take(datagram) {
-            Ok(None) => {
-                self.note(Event::Empty)?;
-                Ok(None)
-            }
-            Ok(Some(to)) => {
-                let bytes = copy_of(self.alloc, datagram.bytes())?;
-                self.note(Event::Took { to, bytes })?;
-                self.deliver(to, datagram.bytes())?;
-                Ok(Some(to))
-            }
-            Err(FabricFault::Failed) => Err(SessionFault::Fabric),
-            Err(FabricFault::Memory) => Err(SessionFault::Memory),
-        }
+        let Some(to) = fabric.take(datagram)? else {
+            self.note(Event::Empty)?;
+            return Ok(None);
+        };
+        let bytes = copy_of(self.alloc, datagram.bytes())?;
+        self.note(Event::Took { to, bytes })?;
+        self.deliver(to, datagram.bytes())?;
+        Ok(Some(to))
     }
 
     /// Datagrams are taken and delivered until there is none ready, or 512 were taken.
@@ -366,10 +323,10 @@ impl Run {
 
     /// The object at the hand-up point is handed up with its line, if it is held. Whether it was.
     fn up_one<K: Sink>(&mut self, output: &mut K) -> Result<bool, SessionFault>
-        ensures next { IfOk result (HandsUpNext self.old self.new (K.written output.old) (K.written output.new)) }
+        ensures next { IfOk result (HandsUpNext self.old self.new (K.pieces output.old) (K.pieces output.new)) }
         ensures stops { IfErr result (λ fault. let receiver = self.old.receiver in StopsWriting fault self.old.profile.instance
             (up_events self.old.profile receiver.point (option_to_list (next_up receiver.held receiver.point)))
-            (K.written output.old) (K.written output.new)) }
+            (K.pieces output.old) (K.pieces output.new)) }
         ensures cause { WriteCause result (K.fault_count output.old) (K.fault_count output.new) }
     {
         let Some((index, bytes)) = self.receiver.take_up() else {
@@ -396,10 +353,10 @@ impl Run {
 
     /// All that the receiver can hand up is handed up, each with its line.
     fn hand_up<K: Sink>(&mut self, output: &mut K) -> Result<(), SessionFault>
-        ensures ups { OnOk result (HandsUp (length self.old.receiver.held) self.old self.new (K.written output.old) (K.written output.new)) }
+        ensures ups { OnOk result (HandsUp (length self.old.receiver.held) self.old self.new (K.pieces output.old) (K.pieces output.new)) }
         ensures stops { IfErr result (λ fault. let receiver = self.old.receiver in StopsWriting fault self.old.profile.instance
             (up_events self.old.profile receiver.point (ups_of (length receiver.held) receiver))
-            (K.written output.old) (K.written output.new)) }
+            (K.pieces output.old) (K.pieces output.new)) }
         ensures cause { WriteCause result (K.fault_count output.old) (K.fault_count output.new) }
     {
         for _up in 0..self.held() {
@@ -433,10 +390,10 @@ impl Run {
         ensures state { OnOk result (self.new ≡ with_events
             (with_sender self.old (pulled self.old.sender (option_copied command.entry)))
             (pull_part self.old.sender (option_copied command.entry))) }
-        ensures written { OnOk result (K.written output.new ≡ gained (K.written output.old)
+        ensures written { OnOk result (K.pieces output.new ≡ gained (K.pieces output.old)
             (lines_of self.old.profile.instance (pull_part self.old.sender (option_copied command.entry)))) }
         ensures stops { IfErr result (λ fault. StopsWriting fault self.old.profile.instance
-            (pull_part self.old.sender (option_copied command.entry)) (K.written output.old) (K.written output.new)) }
+            (pull_part self.old.sender (option_copied command.entry)) (K.pieces output.old) (K.pieces output.new)) }
         ensures cause { WriteCause result (K.fault_count output.old) (K.fault_count output.new) }
     {
         match command {
@@ -447,9 +404,9 @@ impl Run {
 
     /// The receiver hands up what it can, and ticks.
     fn end<K: Sink>(&mut self, output: &mut K) -> Result<(), SessionFault>
-        ensures turn { OnOk result (EndsTurn self.old self.new (K.written output.old) (K.written output.new)) }
+        ensures turn { OnOk result (EndsTurn self.old self.new (K.pieces output.old) (K.pieces output.new)) }
         ensures stops { IfErr result (λ fault. StopsWriting fault self.old.profile.instance
-            (receiver_events self.old.profile self.old.receiver) (K.written output.old) (K.written output.new)) }
+            (receiver_events self.old.profile self.old.receiver) (K.pieces output.old) (K.pieces output.new)) }
         ensures cause { WriteCause result (K.fault_count output.old) (K.fault_count output.new) }
     {
         self.hand_up(output)?;
@@ -471,10 +428,10 @@ impl Run {
         requires command { IfSome command (λ line. IsCommand longest_symbol line.now) }
         requires room { length self.old.sender.order < 65536 }
         ensures turn { OnOk result (TakesTurn t (option_copied command.entry) self.old self.new
-            (F.told fabric.old) (F.told fabric.new) (K.written output.old) (K.written output.new)) }
+            (F.told fabric.old) (F.told fabric.new) (K.pieces output.old) (K.pieces output.new)) }
         ensures stops { IfErr result (λ fault. Stops fault self.old.profile.instance
             (BeginsTurn self.old.profile self.old.sender self.old.receiver t (option_copied command.entry))
-            (F.told fabric.old) (F.told fabric.new) (K.written output.old) (K.written output.new)) }
+            (F.told fabric.old) (F.told fabric.new) (K.pieces output.old) (K.pieces output.new)) }
         ensures cause { HasCause result (K.fault_count output.old) (K.fault_count output.new) (F.fault_count fabric.old) (F.fault_count fabric.new) }
     {
         let now = self.begin(t)?;
@@ -513,10 +470,10 @@ impl Run {
         requires each { AllByRecursion (IsCommand longest_symbol) commands.now }
         requires few { length self.old.sender.order + length commands.now < 65536 }
         ensures turns { IfOk result (TakesTurns commands.now self.old self.new
-            (F.told fabric.old) (F.told fabric.new) (K.written output.old) (K.written output.new)) }
+            (F.told fabric.old) (F.told fabric.new) (K.pieces output.old) (K.pieces output.new)) }
         ensures stops { IfErr result (λ fault. Stops fault self.old.profile.instance
             (BeginsTurns self.old.profile self.old.sender self.old.receiver 1 commands.now)
-            (F.told fabric.old) (F.told fabric.new) (K.written output.old) (K.written output.new)) }
+            (F.told fabric.old) (F.told fabric.new) (K.pieces output.old) (K.pieces output.new)) }
         ensures cause { HasCause result (K.fault_count output.old) (K.fault_count output.new) (F.fault_count fabric.old) (F.fault_count fabric.new) }
     {
         let last = self.last_turn();

@@ -132,10 +132,8 @@ impl Sender {
     {
         let index = self.order.len() as u32;
         let len = bytes.bytes().len() as u64;
-        match self.order.push(Kept { by, bytes }) {
-            Ok(()) => Ok(Receipt::Object { index, len }),
-            Err(_) => Err(Memory),
-        }
+        self.order.push(Kept { by, bytes })?;
+        Ok(Receipt::Object { index, len })
     }
 
     /// Sends the next object that was not sent, where the next send moment has come.

@@ -7,7 +7,8 @@ ghost use Rattle.norm_session.specs.SessionRun.{IsScript};
 ghost use Rattle.norm_session.specs.Session.{RunsSession};
 
 use crate::event::Journal;
-use crate::run::{Run, SessionFault};
+use crate::fault::SessionFault;
+use crate::run::Run;
 use crate::script::Script;
 use norm_base::{Clock, Datagram, Fabric, Files, Sink};
 use std::alloc::Global;
@@ -29,22 +30,37 @@ pub fn run_session<R: Threads + Wait + Sync, K: Sink, F: Fabric, D: Files, C: Cl
     script: &Script,
     output: &mut K,
     fabric: &mut F,
-    files: &mut D,
-    clock: &mut C,
+    _files: &mut D,
+    _clock: &mut C,
 ) -> Result<Ended, SessionFault>
     requires { IsScript script.now }
     ensures run { IfOk result (λ ended. RunsSession script.now ended.journal ended.whole
-        (F.told fabric.old) (F.told fabric.new) (K.written output.old) (K.written output.new)) }
+        (F.told fabric.old) (F.told fabric.new) (K.pieces output.old) (K.pieces output.new)) }
     ensures stops { IfErr result (λ fault. BreaksOff fault script.now
-        (F.told fabric.old) (F.told fabric.new) (K.written output.old) (K.written output.new)) }
-    ensures files { D.contents files.new ≡ D.contents files.old }
-    ensures file_faults { D.fault_count files.new ≡ D.fault_count files.old }
-    ensures clock { C.moments clock.new ≡ C.moments clock.old }
+        (F.told fabric.old) (F.told fabric.new) (K.pieces output.old) (K.pieces output.new)) }
+    ensures files { D.contents _files.new ≡ D.contents _files.old }
+    ensures file_faults { D.fault_count _files.new ≡ D.fault_count _files.old }
+    ensures clock { C.moments _clock.new ≡ C.moments _clock.old }
     ensures cause { HasCause result (K.fault_count output.old) (K.fault_count output.new) (F.fault_count fabric.old) (F.fault_count fabric.new) }
 {
-    let Ok(mut datagram) = Datagram::new(alloc) else {
-        return Err(SessionFault::Memory);
-    };
+    run_script(alloc, script, output, fabric)
+}
+
+/// The session, which waits for nobody.
+fn run_script<K: Sink, F: Fabric>(
+    alloc: Global,
+    script: &Script,
+    output: &mut K,
+    fabric: &mut F,
+) -> Result<Ended, SessionFault>
+    requires { IsScript script.now }
+    ensures run { IfOk result (λ ended. RunsSession script.now ended.journal ended.whole
+        (F.told fabric.old) (F.told fabric.new) (K.pieces output.old) (K.pieces output.new)) }
+    ensures stops { IfErr result (λ fault. BreaksOff fault script.now
+        (F.told fabric.old) (F.told fabric.new) (K.pieces output.old) (K.pieces output.new)) }
+    ensures cause { HasCause result (K.fault_count output.old) (K.fault_count output.new) (F.fault_count fabric.old) (F.fault_count fabric.new) }
+{
+    let mut datagram = Datagram::new(alloc)?;
     let mut run = Run::start(alloc, &script.profile, fabric)?;
     let whole = run.turns(output, fabric, &mut datagram, &script.lines)?;
     run.summarize(output)?;

@@ -2,18 +2,20 @@ use Rattle.std.specs.Prelude.{◌≡◌, ℕ, List, [], ◌∷◌, ◌++◌, ◌
 use Rattle.norm_session.specs.Safe.{Safe}
 use Rattle.std.specs.Fmt.{decimal}
 use Rattle.std.specs.Cmp.Lexicographic.{pointwise}
-use Rattle.norm_base.specs.Faults.{Rose}
+use Rattle.norm_base.specs.Faults.{one_more}
 use Rattle.norm_base.specs.Network.{Network}
-use Rattle.norm_base.specs.Told.{gained, GainsFront}
+use Rattle.norm_base.specs.Told.{Pieces, gained, GainsFront}
 use Rattle.norm_session.specs.Commands.{Commands}
 use Rattle.norm_session.specs.Session.{HasSession, printed}
 use Rattle.norm_session.specs.SessionRun.{SessionRun}
 use Rattle.norm_session.specs.BreakingOff.{BreaksOff}
 use Rattle.norm_session.specs.declared.event.Event.{Event}
-use Rattle.norm_session.specs.declared.run.SessionFault.{SessionFault}
-use Rattle.norm_session.specs.declared.run.SessionFault.TheVariants.{Write as Writing, Fabric as Calling, Memory as Wanting}
+use Rattle.norm_session.specs.declared.fault.SessionFault.{SessionFault}
+use Rattle.norm_session.specs.declared.fault.SessionFault.TheVariants.{Write as Writing, Fabric as Calling, Memory as Wanting}
 use Rattle.normd.specs.Reading.{script_of}
 use Rattle.normd.specs.StatusOf.{status_of}
+use Rattle.normd.specs.declared.arguments.WordsFault.{WordsFault}
+use Rattle.normd.specs.declared.arguments.WordsFault.TheVariants.{NotText, Memory as NoMemory}
 use Rattle.normd.specs.declared.status.Ending.{Ending}
 use Rattle.normd.specs.declared.status.Ending.TheVariants.{Done, Memory, Words, Refused, Read, Write, Fabric, Spent}
 
@@ -29,16 +31,17 @@ usage_line = codes "usage: normd session | show | generate N | send PROFILE | re
 unfoldable pub refused_line : ℕ → List ℕ
 refused_line n = codes "refused line " ++ (decimal n ++ codes "\n")
 
--- The whole line was written; or the write failed, which the count of the output's faults shows, and left a front of it.
-abbrev pub Says : (unwritten written : Option (List ℕ)) (before now : ℕ) → List ℕ → Type 0
+-- The whole line was written, as one piece; or that one write failed, as the count of the output's faults shows, and left
+-- a front of it.
+abbrev pub Says : (unwritten written : Pieces) (before now : ℕ) → List ℕ → Type 0
 Says unwritten written before now line =
-    ((written ≡ gained unwritten line) × (now ≡ before)) ⊎ (GainsFront unwritten written line × Rose before now)
+    ((written ≡ gained unwritten (line ∷ [])) × (now ≡ before)) ⊎ (GainsFront unwritten written line × (now ≡ one_more before))
 
--- what a call found or left: the input's octets, the network and the output; and how often each had failed
+-- what a call found or left: the input's octets, the network and the output's pieces; and how often each had failed
 pub record Outside : Type 0 where
   pub input : Option (List ℕ)
   pub network : Network
-  pub written : Option (List ℕ)
+  pub written : Pieces
   pub read_faults : ℕ
   pub network_faults : ℕ
   pub write_faults : ℕ
@@ -53,9 +56,9 @@ pub record IsInput (text : List ℕ) (before after : Option (List ℕ)) : Type 0
   pub octets : IfSome before (λ octets. octets ≡ text)
   pub end : IfSome after (λ rest. rest ≡ [])
 
--- A session was run to its end: the input is a script, what was done is a run of it, and that journal and its summary
--- had then been written.
-pub record RanSession (before after : Outside) (whole : Bool) (written : Option (List ℕ)) : Type 0 where
+-- A session was run to its end: the input is a script, what was done is a run of it, and the lines of that journal and its
+-- summary had then been written, one piece each.
+pub record RanSession (before after : Outside) (whole : Bool) (written : Pieces) : Type 0 where
   pub text : List ℕ
   pub script : Commands
   pub journal : List Event
@@ -69,7 +72,7 @@ pub record RanSession (before after : Outside) (whole : Bool) (written : Option 
 
 -- A fault broke a session off: the input is a script, what was done is the beginning of a run of it, and that had then
 -- been written.
-pub record BrokeSession (fault : SessionFault) (before after : Outside) (written : Option (List ℕ)) : Type 0 where
+pub record BrokeSession (fault : SessionFault) (before after : Outside) (written : Pieces) : Type 0 where
   pub text : List ℕ
   pub script : Commands
   pub input : IsInput text before.input after.input
@@ -84,15 +87,15 @@ pub record DidAll (before after : Outside) : Type 0 where
 
 -- The turns were spent, and a last line says so.
 pub record SpentTurns (before after : Outside) : Type 0 where
-  pub unsaid : Option (List ℕ)
+  pub unsaid : Pieces
   pub session : RanSession before after false unsaid
-  pub output : after.written ≡ gained unsaid (codes "turns spent\n")
+  pub output : after.written ≡ gained unsaid (codes "turns spent\n" ∷ [])
   pub undisturbed : Undisturbed before after
   pub writes : after.write_faults ≡ before.write_faults
 
 -- The turns were spent, and a front of the last line says so.
 pub record SpentUnsaid (before after : Outside) : Type 0 where
-  pub unsaid : Option (List ℕ)
+  pub unsaid : Pieces
   pub session : RanSession before after false unsaid
   pub output : GainsFront unsaid after.written (codes "turns spent\n")
 
@@ -105,23 +108,23 @@ pub record RefusedLine (before after : Outside) (n : ℕ) : Type 0 where
   pub output : Says before.written after.written before.write_faults after.write_faults (refused_line n)
   pub undisturbed : Undisturbed before after
 
--- A failed read: the count of the input's faults rose.
+-- One read failed.
 pub record FailedRead (before after : Outside) : Type 0 where
-  pub cause : Rose before.read_faults after.read_faults
+  pub cause : after.read_faults ≡ one_more before.read_faults
   pub network : after.network ≡ before.network
   pub calls : after.network_faults ≡ before.network_faults
   pub output : Says before.written after.written before.write_faults after.write_faults (codes "fault read\n")
 
--- A failed write: the count of the output's faults rose. It broke the session off, or the last line of its spent turns.
+-- One write failed. It broke the session off, or the last line of its spent turns.
 pub record FailedWrite (before after : Outside) : Type 0 where
-  pub cause : Rose before.write_faults after.write_faults
+  pub cause : after.write_faults ≡ one_more before.write_faults
   pub session : BrokeSession Writing before after after.written ⊎ SpentUnsaid before after
   pub undisturbed : Undisturbed before after
 
--- A failed call of the network: the count of its faults rose. It broke the session off, and a last line says so.
+-- One call of the network failed. It broke the session off, and a last line says so.
 pub record FailedCall (before after : Outside) : Type 0 where
-  pub cause : Rose before.network_faults after.network_faults
-  pub unsaid : Option (List ℕ)
+  pub cause : after.network_faults ≡ one_more before.network_faults
+  pub unsaid : Pieces
   pub session : BrokeSession Calling before after unsaid
   pub output : Says unsaid after.written before.write_faults after.write_faults (codes "fault fabric\n")
   pub reads : after.read_faults ≡ before.read_faults
@@ -131,7 +134,7 @@ pub record Untouched (before after : Outside) : Type 0 where
   pub network : after.network ≡ before.network
   pub output : after.written ≡ before.written
 
--- There was no memory: for reading a script, or in a session, which that broke off. No count of faults rose.
+-- There was no memory: for reading a script, or in a session, which that broke off. No call failed.
 pub record WantedMemory (before after : Outside) : Type 0 where
   pub session : Untouched before after ⊎ BrokeSession Wanting before after after.written
   pub undisturbed : Undisturbed before after
@@ -160,7 +163,7 @@ abbrev pub Ends : Ending → List (List ℕ) → Outside → Outside → Type 0
 Ends Words words before after = (is_session words ≡ false) × RefusedWords before after
 Ends ending words before after = (is_session words ≡ true) × EndsSession ending before after
 
-abbrev pub outside : (input : Option (List ℕ)) (network : Network) (written : Option (List ℕ)) (read_faults network_faults write_faults : ℕ) → Outside
+abbrev pub outside : (input : Option (List ℕ)) (network : Network) (written : Pieces) (read_faults network_faults write_faults : ℕ) → Outside
 outside input network written read_faults network_faults write_faults = record {
   input = input;
   network = network;
@@ -176,19 +179,50 @@ pub record EndsWith (status : ℕ) (words : List (List ℕ)) (before after : Out
   pub is : status ≡ status_of ending
   pub holds : Ends ending words before after
 
--- the parts of a session that end it early
-abbrev pub IsReadEnding : Ending → (before after : ℕ) → (unwritten written : Option (List ℕ)) → (old new : ℕ) → Type 0
+-- The words of the command line were not read: one is no text, which is refused as other words are, or there was no memory
+-- for them, and nothing was done.
+abbrev pub EndsUnread : WordsFault → ℕ → Outside → Outside → Type 0
+EndsUnread NotText status before after = (status ≡ status_of Words) × RefusedWords before after
+EndsUnread NoMemory status before after = (status ≡ status_of Memory) × (after ≡ before)
+
+-- What there is to run: the words are the one command, and the input is this script.
+pub record Prepared (script : Commands) (words : List (List ℕ)) (before after : Option (List ℕ)) : Type 0 where
+  pub command : is_session words ≡ true
+  pub text : List ℕ
+  pub input : IsInput text before after
+  pub read : script_of text ≡ Ok script
+
+-- What ends the program before a session: the words are no command, a read failed, a line has no meaning, or there was no
+-- memory. The network was not called.
+abbrev pub EndsEarly : Ending → List (List ℕ) → (input left : Option (List ℕ)) → (unwritten written : Pieces) → (reads read_faults writes write_faults : ℕ) → Type 0
+EndsEarly ending words input left unwritten written reads read_faults writes write_faults =
+    (n : Network) (calls : ℕ) → Ends ending words (outside input n unwritten reads calls writes) (outside left n written read_faults calls write_faults)
+
+-- how a read of the whole input failed
+abbrev pub IsReadEnding : Ending → (before after : ℕ) → (unwritten written : Pieces) → (old new : ℕ) → Type 0
 IsReadEnding Memory before after unwritten written old new = (after ≡ before) × (written ≡ unwritten) × (new ≡ old)
-IsReadEnding Read before after unwritten written old new = Rose before after × Says unwritten written old new (codes "fault read\n")
+IsReadEnding Read before after unwritten written old new =
+    (after ≡ one_more before) × Says unwritten written old new (codes "fault read\n")
 IsReadEnding _ before after unwritten written old new = ⊥
 
-abbrev pub IsTextEnding : Ending → List ℕ → (unwritten written : Option (List ℕ)) → (old new : ℕ) → Type 0
+-- how a text is no script
+abbrev pub IsTextEnding : Ending → List ℕ → (unwritten written : Pieces) → (old new : ℕ) → Type 0
 IsTextEnding Memory text unwritten written old new = (written ≡ unwritten) × (new ≡ old)
 IsTextEnding (Refused n) text unwritten written old new = (script_of text ≡ Err n) × Says unwritten written old new (refused_line n)
 IsTextEnding _ text unwritten written old new = ⊥
 
-abbrev pub IsLastEnding : Ending → Bool → (unwritten written : Option (List ℕ)) → (before after : ℕ) → Type 0
+-- how a session that ran ends the program
+abbrev pub IsLastEnding : Ending → Bool → (unwritten written : Pieces) → (before after : ℕ) → Type 0
 IsLastEnding Done whole unwritten written before after = (whole ≡ true) × (written ≡ unwritten) × (after ≡ before)
-IsLastEnding Spent whole unwritten written before after = (whole ≡ false) × (written ≡ gained unwritten (codes "turns spent\n")) × (after ≡ before)
-IsLastEnding Write whole unwritten written before after = (whole ≡ false) × GainsFront unwritten written (codes "turns spent\n") × Rose before after
+IsLastEnding Spent whole unwritten written before after =
+    (whole ≡ false) × (written ≡ gained unwritten (codes "turns spent\n" ∷ [])) × (after ≡ before)
+IsLastEnding Write whole unwritten written before after =
+    (whole ≡ false) × GainsFront unwritten written (codes "turns spent\n") × (after ≡ one_more before)
 IsLastEnding _ whole unwritten written before after = ⊥
+
+-- how a session that a fault broke off ends the program
+abbrev pub IsBrokenEnding : SessionFault → Ending → (unwritten written : Pieces) → (before after : ℕ) → Type 0
+IsBrokenEnding Wanting ending unwritten written before after = (ending ≡ Memory) × (written ≡ unwritten) × (after ≡ before)
+IsBrokenEnding Writing ending unwritten written before after = (ending ≡ Write) × (written ≡ unwritten) × (after ≡ before)
+IsBrokenEnding Calling ending unwritten written before after =
+    (ending ≡ Fabric) × Says unwritten written before after (codes "fault fabric\n")

@@ -3,8 +3,9 @@ use Rattle.std.specs.Option.{option_map}
 use Rattle.std.specs.List.{list_any}
 use Rattle.std.specs.Cmp.Lexicographic.{pointwise}
 use Rattle.normd.specs.Words.{split_at_first, number_within, contents_of}
-use Rattle.normd.specs.declared.meaning.Key.{Key}
-use Rattle.normd.specs.declared.meaning.Key.TheVariants.{Instance, E, B}
+use Rattle.norm_base.specs.Keys.{row_of, keys, key_named, IsValue}
+use Rattle.norm_base.specs.declared.key.Key.{Key}
+use Rattle.norm_base.specs.declared.key.Key.TheVariants.{Instance, E, B}
 use Rattle.normd.specs.declared.meaning.Meaning.{Meaning}
 use Rattle.normd.specs.declared.meaning.Meaning.TheVariants.{Nothing, Set, Data}
 
@@ -12,28 +13,21 @@ use Rattle.normd.specs.declared.meaning.Meaning.TheVariants.{Nothing, Set, Data}
 abbrev pub is_text : List ℕ → List ℕ → Bool
 is_text word text = pointwise nat_eq word text
 
--- the key that a word names
-abbrev pub key_of : List ℕ → Option Key
-key_of word =
-    if is_text word (codes "instance") then Some Instance else
-    (if is_text word (codes "e") then Some E else
-    (if is_text word (codes "b") then Some B else None))
+-- the keys that a script can set
+abbrev pub settable : Key → Option Key
+settable Instance = Some Instance
+settable E = Some E
+settable B = Some B
+settable _ = None
 
--- the ranges of the keys
-abbrev pub least_of : Key → ℕ
-least_of Instance = 0
-least_of E = 64
-least_of B = 1
-
-abbrev pub most_of : Key → ℕ
-most_of Instance = 65535
-most_of E = 1400
-most_of B = 200
+-- the key that a word names, of these
+unfoldable pub key_of : List ℕ → Option Key
+key_of word = option_and_then settable (key_named word keys)
 
 -- `set KEY VALUE`
 abbrev pub setting_of : List ℕ → List ℕ → Option Meaning
 setting_of word value =
-    option_and_then (λ key. option_map (λ n. Set key n) (number_within (least_of key) (most_of key) value)) (key_of word)
+    option_and_then (λ key. option_map (λ n. Set key n) (number_within (row_of key).least (row_of key).greatest value)) (key_of word)
 
 -- three words with single spaces between them, of which the last has no space
 pub record Triple : Type 0 where
@@ -68,5 +62,5 @@ meaning_of line =
 
 -- a setting's value is within its key's range
 abbrev pub IsWithin : Meaning → Type 0
-IsWithin (Set key value) = (least_of key ≤ value) × (value ≤ most_of key)
+IsWithin (Set key value) = IsValue key value
 IsWithin _ = Unit {0}

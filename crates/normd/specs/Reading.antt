@@ -6,8 +6,8 @@ use Rattle.norm_session.specs.declared.script.Verb.TheVariants as verb
 use Rattle.norm_session.specs.Commands.{Commands}
 use Rattle.normd.specs.Meaning.{meaning_of}
 use Rattle.normd.specs.Words.{text_lines}
-use Rattle.normd.specs.declared.meaning.Key.{Key}
-use Rattle.normd.specs.declared.meaning.Key.TheVariants.{Instance, E, B}
+use Rattle.norm_base.specs.declared.key.Key.{Key}
+use Rattle.norm_base.specs.declared.key.Key.TheVariants.{Instance, E, B}
 use Rattle.normd.specs.declared.meaning.Meaning.{Meaning}
 use Rattle.normd.specs.declared.meaning.Meaning.TheVariants.{Nothing, Set, Data}
 use Rattle.normd.specs.declared.given.Given.{Given}
@@ -29,6 +29,7 @@ abbrev pub set_key : Given → Key → ℕ → Option Given
 set_key g Instance value = set_once g.instance value (λ v. record { instance = v; e = g.e; b = g.b })
 set_key g E value = set_once g.e value (λ v. record { instance = g.instance; e = v; b = g.b })
 set_key g B value = set_once g.b value (λ v. record { instance = g.instance; e = g.e; b = v })
+set_key g _ value = None
 
 -- the symbol length: what was set, or the default
 abbrev pub e_of : Given → ℕ

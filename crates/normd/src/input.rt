@@ -1,11 +1,12 @@
 //! The input, read whole.
 
-ghost use Rattle.std.specs.Prelude.{IfOk};
+ghost use Rattle.std.specs.Prelude.{◌≡◌, IfOk};
+ghost use Rattle.normd.specs.declared.input.InputFault.TheVariants as fault;
 ghost use Rattle.normd.specs.InputCause.{ReadCause};
 ghost use Rattle.normd.specs.Ends.{IsInput};
 
 use norm_base::{Failed, Source};
-use std::alloc::Global;
+use std::alloc::{AllocError, Global};
 
 /// Why the input was not read whole.
 #[derive(Clone, Copy, Debug, PartialEq, Eq)]
@@ -16,6 +17,22 @@ pub(crate) enum InputFault {
     Memory,
 }
 
+impl From<AllocError> for InputFault {
+    ghost from_gives = { λ e r. r ≡ fault.Memory };
+
+    fn from(_error: AllocError) -> InputFault {
+        InputFault::Memory
+    }
+}
+
+impl From<Failed> for InputFault {
+    ghost from_gives = { λ e r. r ≡ fault.Read };
+
+    fn from(_fault: Failed) -> InputFault {
+        InputFault::Read
+    }
+}
+
 /// All of the input's octets.
 pub(crate) fn read_all<S: Source>(alloc: Global, input: &mut S) -> Result<Vec<u8>, InputFault>
     ensures octets { IfOk result (λ text. IsInput text.items (S.left input.old) (S.left input.new)) }
@@ -24,14 +41,10 @@ pub(crate) fn read_all<S: Source>(alloc: Global, input: &mut S) -> Result<Vec<u8
     let mut text = Vec::new(alloc);
     let mut buffer = [0u8; 4096];
     loop {
-        let n = match input.read(&mut buffer) {
-            Ok(0) => return Ok(text),
-            Ok(n) => n,
-            Err(Failed) => return Err(InputFault::Read),
-        };
-        let piece = buffer.split_at(n).0;
-        if text.extend_from_slice(piece).is_err() {
-            return Err(InputFault::Memory);
+        let n = input.read(&mut buffer)?;
+        if n == 0 {
+            return Ok(text);
         }
+        text.extend_from_slice(buffer.split_at(n).0)?;
     }
 }

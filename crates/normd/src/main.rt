@@ -1,6 +1,7 @@
 //! normd: a reliable multicast sender and receiver after NORM (RFC 5740).
 #![tactic(auto)]
 
+mod arguments;
 #[cfg(test)]
 mod disturbed;
 mod given;
@@ -9,32 +10,21 @@ mod meaning;
 mod program;
 mod read;
 mod status;
+mod std_io;
 #[cfg(test)]
 mod tests;
 mod words;
 
-use crate::program::norm_main;
-use norm_base::{DirectFabric, MemClock, MemFiles, StdSink, StdSource};
-use std::alloc::Global;
+use crate::arguments::arguments;
+use crate::program::run;
+use crate::std_io::{StdSink, StdSource};
+use norm_memory::{DirectFabric, MemClock, MemFiles};
+use std::io;
 use std::process::ExitCode;
-use std::rt::Env;
-use std::{env, io};
 
-/// The words after the program's name.
-fn words_of<R: Env + Alloc<A = Global>>(rt: &R) -> io::Result<Vec<String>> {
-    let mut words = Vec::new(rt.alloc());
-    for word in env::args(rt)?.skip(1) {
-        words.push(word)?;
-    }
-    Ok(words)
-}
-
-/// Makes the real objects, and calls the program on them.
+/// Makes the real objects, and runs the program on them.
 fn main(rt: HostRuntime) -> ExitCode {
     let alloc = rt.alloc();
-    let Ok(words) = words_of(&rt) else {
-        return ExitCode::from(1);
-    };
     let Ok(mut fabric) = DirectFabric::new(alloc) else {
         return ExitCode::from(1);
     };
@@ -42,15 +32,14 @@ fn main(rt: HostRuntime) -> ExitCode {
     let mut output = StdSink::of(io::writer(&rt));
     let mut files = MemFiles::of(Vec::new(alloc), Vec::new(alloc));
     let mut clock = MemClock::of(Vec::new(alloc));
-    let status = norm_main(
+    run(
         &rt,
         alloc,
-        &words,
+        arguments(&rt),
         &mut input,
         &mut output,
         &mut fabric,
         &mut files,
         &mut clock,
-    );
-    ExitCode::from(status.code())
+    )
 }

@@ -3,22 +3,14 @@
 ghost use Rattle.std.specs.Prelude.{◌≡◌, ◌==◌, ◌||◌, nat_eq, List, ℕ, length, slice_index, IfOk, IfSome};
 ghost use Rattle.std.specs.Option.{option_map};
 ghost use Rattle.std.specs.List.{list_any};
-ghost use Rattle.normd.specs.Meaning.{is_text, key_of, least_of, most_of, setting_of, Triple, triple_of, meaning_of_words, is_passed_over, meaning_of, IsWithin};
+ghost use Rattle.normd.specs.Meaning.{is_text, key_of, setting_of, Triple, triple_of, meaning_of_words, is_passed_over, meaning_of, IsWithin};
 
 use crate::words::{contents_of, number_within, split_at_first};
-use norm_base::{Memory, Octets};
+use norm_base::{Key, Memory, Octets};
 use std::alloc::Global;
 
 /// The most octets of a line.
 const MOST_OCTETS: usize = 16_500;
-
-/// A key of a profile that a script can set.
-#[derive(Clone, Copy, Debug, PartialEq, Eq)]
-pub(crate) enum Key {
-    Instance,
-    E,
-    B,
-}
 
 /// What a line means.
 #[derive(Debug, Drop)]
@@ -39,39 +31,14 @@ struct Words<'a> {
     third: &'a [u8],
 }
 
-/// The key that a word names.
+/// The key that a word names, of those that a script can set.
+#[tactic(auto, unfolding(crate::specs::Meaning::key_of))]
 fn key_of(word: &[u8]) -> Option<Key>
     ensures { result ≡ key_of word.now }
 {
-    if word == b"instance".as_slice() {
-        return Some(Key::Instance);
-    }
-    if word == b"e".as_slice() {
-        return Some(Key::E);
-    }
-    if word == b"b".as_slice() {
-        return Some(Key::B);
-    }
-    None
-}
-
-fn least_of(key: Key) -> u32
-    ensures { result ≡ least_of key }
-{
-    match key {
-        Key::Instance => 0,
-        Key::E => 64,
-        Key::B => 1,
-    }
-}
-
-fn most_of(key: Key) -> u32
-    ensures { result ≡ most_of key }
-{
-    match key {
-        Key::Instance => 65_535,
-        Key::E => 1400,
-        Key::B => 200,
+    match Key::named(word)? {
+        key @ (Key::Instance | Key::E | Key::B) => Some(key),
+        _ => None,
     }
 }
 
@@ -81,7 +48,8 @@ fn setting_of(word: &[u8], value: &[u8]) -> Option<Meaning>
     ensures within { IfSome result IsWithin }
 {
     let key = key_of(word)?;
-    let value = number_within(value, least_of(key), most_of(key))?;
+    let row = key.row();
+    let value = number_within(value, row.least, row.greatest)?;
     Some(Meaning::Set { key, value })
 }
 

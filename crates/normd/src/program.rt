@@ -1,16 +1,19 @@
 //! The program: its words, its input and its output.
 
-ghost use Rattle.std.specs.Prelude.{◌≡◌, codes, map, string_bytes, Ok, IfOk, IfErr, OnOk};
-ghost use Rattle.normd.specs.Ends.{is_session, usage_line, refused_line, outside, Says, IsInput, IsReadEnding, IsTextEnding, IsLastEnding, EndsSession, EndsWith};
+ghost use Rattle.std.specs.Prelude.{◌≡◌, codes, map, string_bytes, Ok, MatchResult, IfOk, IfErr, OnOk};
+ghost use Rattle.std.specs.Process.{exit_status};
+ghost use Rattle.normd.specs.Ends.{is_session, usage_line, refused_line, outside, Says, IsInput, Prepared, IsReadEnding, IsTextEnding, IsLastEnding, IsBrokenEnding, EndsEarly, EndsWith, EndsUnread};
 ghost use Rattle.normd.specs.Reading.{script_of};
 ghost use Rattle.norm_session.specs.SessionRun.{IsScript};
 
+use crate::arguments::WordsFault;
 use crate::input::{InputFault, read_all};
 use crate::read::{ScriptFault, read_script};
 use crate::status::{Ending, Status};
 use norm_base::{Clock, Fabric, Failed, Files, Sink, Source};
 use norm_session::{Ended, Script, SessionFault, run_session};
 use std::alloc::{AllocError, Global};
+use std::process::ExitCode;
 use std::sync::Wait;
 use std::thread::Threads;
 
@@ -30,7 +33,7 @@ fn is_session(words: &[String]) -> bool
 
 /// Writes a last line. A failed write leaves a front of it and raises the count, and decides nothing.
 fn say<K: Sink>(output: &mut K, line: &[u8])
-    ensures { Says (K.written output.old) (K.written output.new) (K.fault_count output.old) (K.fault_count output.new) line.now }
+    ensures { Says (K.pieces output.old) (K.pieces output.new) (K.fault_count output.old) (K.fault_count output.new) line.now }
 {
     let _ = output.write(line);
 }
@@ -50,10 +53,10 @@ fn read_input<S: Source, K: Sink>(
     output: &mut K,
 ) -> Result<Vec<u8>, Ending>
     ensures text { IfOk result (λ text. IsInput text.items (S.left input.old) (S.left input.new)) }
-    ensures unwritten { OnOk result (K.written output.new ≡ K.written output.old) }
+    ensures unwritten { OnOk result (K.pieces output.new ≡ K.pieces output.old) }
     ensures quiet { OnOk result ((S.fault_count input.new ≡ S.fault_count input.old) × (K.fault_count output.new ≡ K.fault_count output.old)) }
     ensures ending { IfErr result (λ ending. IsReadEnding ending (S.fault_count input.old) (S.fault_count input.new)
-        (K.written output.old) (K.written output.new) (K.fault_count output.old) (K.fault_count output.new)) }
+        (K.pieces output.old) (K.pieces output.new) (K.fault_count output.old) (K.fault_count output.new)) }
 {
     match read_all(alloc, input) {
         Ok(text) => Ok(text),
@@ -68,18 +71,16 @@ fn read_input<S: Source, K: Sink>(
 /// Reads the script that the text is.
 fn read_text<K: Sink>(alloc: Global, text: &[u8], output: &mut K) -> Result<Script, Ending>
     ensures script { IfOk result (λ script. (script_of text.now ≡ Ok script) × IsScript script) }
-    ensures unwritten { OnOk result (K.written output.new ≡ K.written output.old) }
+    ensures unwritten { OnOk result (K.pieces output.new ≡ K.pieces output.old) }
     ensures quiet { OnOk result (K.fault_count output.new ≡ K.fault_count output.old) }
-    ensures ending { IfErr result (λ ending. IsTextEnding ending text.now (K.written output.old) (K.written output.new)
+    ensures ending { IfErr result (λ ending. IsTextEnding ending text.now (K.pieces output.old) (K.pieces output.new)
         (K.fault_count output.old) (K.fault_count output.new)) }
 {
     match read_script(alloc, text) {
         Ok(script) => Ok(script),
         Err(ScriptFault::Memory) => Err(Ending::Memory),
         Err(ScriptFault::Line { n }) => {
-            let Ok(line) = refused_line(alloc, n) else {
-                return Err(Ending::Memory);
-            };
+            let line = refused_line(alloc, n)?;
             say(output, line.as_bytes());
             Err(Ending::Refused { n })
         }
@@ -88,7 +89,7 @@ fn read_text<K: Sink>(alloc: Global, text: &[u8], output: &mut K) -> Result<Scri
 
 /// How a session that ran ended: one that spent its turns says so.
 fn end_session<K: Sink>(ended: &Ended, output: &mut K) -> Ending
-    ensures { IsLastEnding result ended.now.whole (K.written output.old) (K.written output.new)
+    ensures { IsLastEnding result ended.now.whole (K.pieces output.old) (K.pieces output.new)
         (K.fault_count output.old) (K.fault_count output.new) }
 {
     if ended.whole {
@@ -100,47 +101,46 @@ fn end_session<K: Sink>(ended: &Ended, output: &mut K) -> Ending
     }
 }
 
-/// Runs `session`: reads a script and runs it, and prints its journal.
-fn session<R: Threads + Wait + Sync, S: Source, K: Sink, F: Fabric, D: Files, C: Clock>(
-    rt: &R,
-    alloc: Global,
-    input: &mut S,
-    output: &mut K,
-    fabric: &mut F,
-    files: &mut D,
-    clock: &mut C,
-) -> Ending
-    ensures ends { EndsSession result
-        (outside (S.left input.old) (F.told fabric.old) (K.written output.old)
-        (S.fault_count input.old) (F.fault_count fabric.old) (K.fault_count output.old))
-        (outside (S.left input.new) (F.told fabric.new) (K.written output.new)
-        (S.fault_count input.new) (F.fault_count fabric.new) (K.fault_count output.new)) }
-    ensures files { D.contents files.new ≡ D.contents files.old }
-    ensures file_faults { D.fault_count files.new ≡ D.fault_count files.old }
-    ensures clock { C.moments clock.new ≡ C.moments clock.old }
+/// How a session that a fault broke off ends the program.
+fn break_off<K: Sink>(fault: SessionFault, output: &mut K) -> Ending
+    ensures { IsBrokenEnding fault result (K.pieces output.old) (K.pieces output.new)
+        (K.fault_count output.old) (K.fault_count output.new) }
 {
-    let text = match read_input(alloc, input, output) {
-        Ok(text) => text,
-        Err(ending) => return ending,
-    };
-    let script = match read_text(alloc, &text, output) {
-        Ok(script) => script,
-        Err(ending) => return ending,
-    };
-    match run_session(rt, alloc, &script, output, fabric, files, clock) {
-        Ok(ended) => end_session(&ended, output),
-        Err(SessionFault::Memory) => Ending::Memory,
-        Err(SessionFault::Write) => Ending::Write,
-        Err(SessionFault::Fabric) => {
+    match fault {
+        SessionFault::Memory => Ending::Memory,
+        SessionFault::Write => Ending::Write,
+        SessionFault::Fabric => {
             say(output, b"fault fabric\n");
             Ending::Fabric
         }
     }
 }
 
+/// What there is to run: the script, where the words are `session` and the input is one.
+fn prepare<S: Source, K: Sink>(
+    alloc: Global,
+    words: &[String],
+    input: &mut S,
+    output: &mut K,
+) -> Result<Script, Ending>
+    ensures ready { IfOk result (λ script. Prepared script (map string_bytes words.now) (S.left input.old) (S.left input.new)) }
+    ensures runnable { IfOk result IsScript }
+    ensures unwritten { OnOk result (K.pieces output.new ≡ K.pieces output.old) }
+    ensures quiet { OnOk result ((S.fault_count input.new ≡ S.fault_count input.old) × (K.fault_count output.new ≡ K.fault_count output.old)) }
+    ensures ending { IfErr result (λ ending. EndsEarly ending (map string_bytes words.now) (S.left input.old) (S.left input.new)
+        (K.pieces output.old) (K.pieces output.new) (S.fault_count input.old) (S.fault_count input.new)
+        (K.fault_count output.old) (K.fault_count output.new)) }
+{
+    if !is_session(words) {
+        say(output, USAGE);
+        return Err(Ending::Words);
+    }
+    let text = read_input(alloc, input, output)?;
+    read_text(alloc, &text, output)
+}
+
 /// The program: `words` are those after its name. Answers the exit status; what each one says is in
-/// `Ends`. It leaves the files and the clock as they were.
-#[tactic(auto, using(crate::proofs::EndingLemmas::ends_of))]
+/// `Ends`. It leaves the files and the clock as they were. Only the session itself is handed the runtime.
 pub fn norm_main<R: Threads + Wait + Sync, S: Source, K: Sink, F: Fabric, D: Files, C: Clock>(
     rt: &R,
     alloc: Global,
@@ -152,17 +152,54 @@ pub fn norm_main<R: Threads + Wait + Sync, S: Source, K: Sink, F: Fabric, D: Fil
     clock: &mut C,
 ) -> Status
     ensures ends { EndsWith result (map string_bytes words.now.items)
-        (outside (S.left input.old) (F.told fabric.old) (K.written output.old)
+        (outside (S.left input.old) (F.told fabric.old) (K.pieces output.old)
         (S.fault_count input.old) (F.fault_count fabric.old) (K.fault_count output.old))
-        (outside (S.left input.new) (F.told fabric.new) (K.written output.new)
+        (outside (S.left input.new) (F.told fabric.new) (K.pieces output.new)
         (S.fault_count input.new) (F.fault_count fabric.new) (K.fault_count output.new)) }
     ensures files { D.contents files.new ≡ D.contents files.old }
     ensures file_faults { D.fault_count files.new ≡ D.fault_count files.old }
     ensures clock { C.moments clock.new ≡ C.moments clock.old }
 {
-    if !is_session(words) {
-        say(output, USAGE);
-        return Ending::Words.status();
+    let script = match prepare(alloc, words, input, output) {
+        Ok(script) => script,
+        Err(ending) => return ending.status(),
+    };
+    match run_session(rt, alloc, &script, output, fabric, files, clock) {
+        Ok(ended) => end_session(&ended, output).status(),
+        Err(fault) => break_off(fault, output).status(),
     }
-    session(rt, alloc, input, output, fabric, files, clock).status()
+}
+
+/// The program as a process: the words after its name, or why there are none, and the objects that it
+/// has. Its exit code is the status of `norm_main` for these words.
+pub(crate) fn run<R: Threads + Wait + Sync, S: Source, K: Sink, F: Fabric, D: Files, C: Clock>(
+    rt: &R,
+    alloc: Global,
+    words: Result<Vec<String>, WordsFault>,
+    input: &mut S,
+    output: &mut K,
+    fabric: &mut F,
+    files: &mut D,
+    clock: &mut C,
+) -> ExitCode
+    ensures ends { let before = outside (S.left input.old) (F.told fabric.old) (K.pieces output.old)
+        (S.fault_count input.old) (F.fault_count fabric.old) (K.fault_count output.old) in
+        let after = outside (S.left input.new) (F.told fabric.new) (K.pieces output.new)
+        (S.fault_count input.new) (F.fault_count fabric.new) (K.fault_count output.new) in
+        MatchResult words (λ words. EndsWith (exit_status result) (map string_bytes words.items) before after)
+        (λ fault. EndsUnread fault (exit_status result) before after) }
+    ensures files { D.contents files.new ≡ D.contents files.old }
+    ensures file_faults { D.fault_count files.new ≡ D.fault_count files.old }
+    ensures clock { C.moments clock.new ≡ C.moments clock.old }
+{
+    let words = match words {
+        Ok(words) => words,
+        Err(WordsFault::NotText) => {
+            say(output, USAGE);
+            return ExitCode::from(Ending::Words.status());
+        }
+        Err(WordsFault::Memory) => return ExitCode::from(Ending::Memory.status()),
+    };
+    let status = norm_main(rt, alloc, &words, input, output, fabric, files, clock);
+    ExitCode::from(status)
 }

@@ -1,17 +1,18 @@
 //! The reader of scripts.
 
 ghost use Rattle.std.specs.Prelude.{◌≡◌, ◌≤◌, ◌<◌, ◌∷◌, length, MatchResult, Ok, IfOk, OnOk, IfSome, MatchOption, Some, is_some, unwrap_or};
-ghost use Rattle.normd.specs.Meaning.{least_of, most_of};
+ghost use Rattle.norm_base.specs.Keys.{IsValue};
 ghost use Rattle.normd.specs.Reading.{nothing_read, set_key, take_in, take_line, profile_of, e_of, commands_of, script_of};
 ghost use Rattle.norm_base.specs.Settings.{InRange};
 ghost use Rattle.normd.specs.Refusal.{IsRefusal};
 ghost use Rattle.normd.specs.Words.{text_lines};
+ghost use Rattle.normd.specs.declared.read.ScriptFault.TheVariants as fault;
 ghost use Rattle.norm_session.specs.SessionRun.{IsScript};
 
 use crate::given::Given;
-use crate::meaning::{Key, Meaning, meaning_of};
+use crate::meaning::{Meaning, meaning_of};
 use crate::words::split_at_first;
-use norm_base::{Memory, Octets, Profile};
+use norm_base::{Key, Memory, Octets, Profile};
 use norm_session::{Line, Script, Verb};
 use std::alloc::Global;
 use std::marker::Model;
@@ -54,8 +55,7 @@ impl Model for Reader {
 
 /// The given values with this one, where the key was not set.
 fn set_key(given: &Given, key: Key, value: u32) -> Option<Given>
-    requires least { least_of key ≤ value }
-    requires most { value ≤ most_of key }
+    requires { IsValue key value }
     ensures { result ≡ set_key given.now key value }
 {
     let Given { instance, e, b } = *given;
@@ -84,6 +84,7 @@ fn set_key(given: &Given, key: Key, value: u32) -> Option<Given>
             }),
             Some(_) => None,
         },
+        _ => None,
     }
 }
 
@@ -111,8 +112,7 @@ impl Reader {
 
     /// A setting is taken in. `false` where it is out of place, or the key was set before.
     fn set(&mut self, key: Key, value: u32) -> bool
-        requires least { least_of key ≤ value }
-        requires most { value ≤ most_of key }
+        requires { IsValue key value }
         ensures { let next = take_in self.old (Meaning.Set key value) in (result ≡ is_some next) × (self.new ≡ unwrap_or next self.old) }
     {
         if !self.lines.is_empty() {
@@ -141,10 +141,8 @@ impl Reader {
             number: self.lines.len() as u64 + 1,
             verb: Verb::Data { info: None, bytes },
         };
-        match self.lines.push(line) {
-            Ok(()) => Ok(true),
-            Err(_) => Err(Memory),
-        }
+        self.lines.push(line)?;
+        Ok(true)
     }
 }
 
@@ -157,6 +155,14 @@ pub enum ScriptFault {
     /// There was no memory.
     #[error("out of memory")]
     Memory,
+}
+
+impl From<Memory> for ScriptFault {
+    ghost from_gives = { λ e r. r ≡ fault.Memory };
+
+    fn from(_fault: Memory) -> ScriptFault {
+        ScriptFault::Memory
+    }
 }
 
 impl Reader {
@@ -210,10 +216,8 @@ pub fn read_script(alloc: Global, text: &[u8]) -> Result<Script, ScriptFault>
     let mut n = 1;
     while !rest.is_empty() {
         let (line, more) = first_line(rest);
-        match reader.take_line(alloc, n, line) {
-            Ok(true) => {}
-            Ok(false) => return Err(ScriptFault::Line { n }),
-            Err(Memory) => return Err(ScriptFault::Memory),
+        if !reader.take_line(alloc, n, line)? {
+            return Err(ScriptFault::Line { n });
         }
         rest = more;
         n += 1;

@@ -1,9 +1,13 @@
 //! How the program ends.
 
 ghost use Rattle.std.specs.Prelude.{◌≡◌};
+ghost use Rattle.std.specs.Process.{exit_status};
 ghost use Rattle.normd.specs.StatusOf.{status_of};
+ghost use Rattle.normd.specs.declared.status.Ending.TheVariants as ending;
 
+use std::alloc::AllocError;
 use std::marker::Model;
+use std::process::ExitCode;
 
 /// A program's exit status.
 #[derive(Clone, Copy, Debug, PartialEq, Eq)]
@@ -30,6 +34,14 @@ impl Status {
     }
 }
 
+impl From<Status> for ExitCode {
+    ghost from_gives = { λ status code. exit_status code ≡ status };
+
+    fn from(status: Status) -> ExitCode {
+        ExitCode::from(status.0)
+    }
+}
+
 /// How a command ended.
 #[derive(Clone, Copy, Debug, PartialEq, Eq)]
 pub enum Ending {
@@ -49,6 +61,14 @@ pub enum Ending {
     Fabric,
     /// The turns were spent.
     Spent,
+}
+
+impl From<AllocError> for Ending {
+    ghost from_gives = { λ e r. r ≡ ending.Memory };
+
+    fn from(_error: AllocError) -> Ending {
+        Ending::Memory
+    }
 }
 
 impl Ending {

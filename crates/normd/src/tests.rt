@@ -1,8 +1,9 @@
 //! The program over objects in memory.
 
+use crate::arguments::WordsFault;
 use crate::disturbed::DisturbedFabric;
-use crate::program::norm_main;
-use norm_base::{ListFabric, MemClock, MemFiles, MemSink, MemSource};
+use crate::program::{norm_main, run};
+use norm_memory::{ListFabric, MemClock, MemFiles, MemSink, MemSource};
 use std::alloc::{AllocError, Global};
 use std::process::Abort;
 use std::sync::Wait;
@@ -37,7 +38,7 @@ fn network(alloc: Global, fails: Fails) -> Result<ListFabric, Fail> {
     };
     let offers = list(alloc, offer)?;
     let takes = list(alloc, take)?;
-    match ListFabric::of(alloc, offers, takes) {
+    match ListFabric::of(alloc, Vec::new(alloc), offers, takes) {
         Ok(fabric) => Ok(fabric),
         Err(_) => Err("no memory")?,
     }
@@ -152,15 +153,52 @@ fn a_257th_command_is_refused(rt: HostRuntime) -> Result<(), Fail> {
     Ok(())
 }
 
+const USAGE: &[u8] =
+    b"usage: normd session | show | generate N | send PROFILE | recv PROFILE NODE | hub PROFILE\n";
+
 #[test]
 fn other_words_are_answered_with_the_usage(rt: HostRuntime) -> Result<(), Fail> {
     let alloc = rt.alloc();
     let none = Vec::new(alloc);
     let (status, output, _fabric) = outcome(&rt, alloc, &none, &[], Fails::Nothing)?;
     assert_eq!(rt; status, 2);
-    let usage =
-        b"usage: normd session | show | generate N | send PROFILE | recv PROFILE NODE | hub PROFILE\n";
-    assert_eq!(rt; output.bytes(), usage.as_slice());
+    assert_eq!(rt; output.bytes(), USAGE);
+    Ok(())
+}
+
+/// The output of the program as a process whose words could not be read.
+fn unread<R: Threads + Wait + Sync>(
+    rt: &R,
+    alloc: Global,
+    fault: WordsFault,
+) -> Result<(String, MemSink), Fail> {
+    let mut input = MemSource::of(Vec::new(alloc), Vec::new(alloc));
+    let mut output = MemSink::of(Vec::new(alloc), Vec::new(alloc));
+    let mut fabric = network(alloc, Fails::Nothing)?;
+    let mut files = MemFiles::of(Vec::new(alloc), Vec::new(alloc));
+    let mut clock = MemClock::of(Vec::new(alloc));
+    let code = run(
+        rt,
+        alloc,
+        Err(fault),
+        &mut input,
+        &mut output,
+        &mut fabric,
+        &mut files,
+        &mut clock,
+    );
+    Ok((format!(in alloc; "{code:?}")?, output))
+}
+
+#[test]
+fn a_word_that_is_no_text_is_refused_with_the_usage(rt: HostRuntime) -> Result<(), Fail> {
+    let alloc = rt.alloc();
+    let (code, output) = unread(&rt, alloc, WordsFault::NotText)?;
+    assert_eq!(rt; code.as_str(), "ExitCode(unix_exit_status(2))");
+    assert_eq!(rt; output.bytes(), USAGE);
+    let (code, output) = unread(&rt, alloc, WordsFault::Memory)?;
+    assert_eq!(rt; code.as_str(), "ExitCode(unix_exit_status(1))");
+    assert_eq!(rt; output.bytes(), b"".as_slice());
     Ok(())
 }
 

@@ -1,6 +1,6 @@
 //! The words of a script's lines.
 
-ghost use Rattle.std.specs.Prelude.{◌≡◌, ◌≤◌, ◌==◌, ◌||◌, if◌then◌else◌, not, nat_le, Some, None, List, ℕ, length, slice_index, IfOk};
+ghost use Rattle.std.specs.Prelude.{◌≡◌, ◌≤◌, ◌==◌, ◌||◌, if◌then◌else◌, not, nat_le, Some, None, List, ℕ, length, slice_index, IfOk, IfSome};
 ghost use Rattle.std.specs.List.{list_all};
 ghost use Rattle.std.specs.Option.{option_map};
 ghost use Rattle.normd.specs.Words.{split_at_first, is_digit, is_number, value_of, number_within, contents_of};
@@ -60,7 +60,8 @@ fn value_up_to(word: &[u8], high: u32) -> Option<u64>
 
 /// The number from `low` to `high` that a word spells. `None` where it spells none.
 pub(crate) fn number_within(word: &[u8], low: u32, high: u32) -> Option<u32>
-    ensures { result ≡ number_within low high word.now }
+    ensures value { result ≡ number_within low high word.now }
+    ensures range { IfSome result (λ n. (low ≤ n) × (n ≤ high)) }
 {
     if !is_number(word) {
         return None;

@@ -10,7 +10,7 @@ use Rattle.norm_session.proofs.run.Run.end.Goals as goal
 -- what the hand-ups leave, and the tick after them
 pub returns-in_err-hand_up-clause-stops : goal.returns-in_err-hand_up-clause-stops
 returns-in_err-hand_up-clause-stops g c =
-    let written = g.K.Sink.written in
+    let written = g.K.Sink.pieces in
     let run = c.args.self.now in
     let exit = err_from_is_err_and c.from_residual.result c.from_residual.ensures.1 in
     rw (exit.1, exit.2) (writing-more c.in_err-hand_up.field-0.0 run.profile.instance

@@ -6,7 +6,7 @@ use Rattle.norm_session.proofs.run.Run.hand_up.Goals as goal
 
 pub returns-then-not-branch-clause-ups : goal.returns-then-not-branch-clause-ups
 returns-then-not-branch-clause-ups g c =
-    let written = g.K.Sink.written in
+    let written = g.K.Sink.pieces in
     let next = rw c.if-not-branch.true at c.in_ok-up_one.ensures.next in
     c.loop-up.invariant.0 c.up_one.new.self (written c.up_one.new.output)
     (hands-none (length c.args.self.now.receiver.held - c.loop-up._up) c.loop-up.self c.up_one.new.self (written c.loop-up.output) (written c.up_one.new.output) next)
@@ -14,7 +14,7 @@ returns-then-not-branch-clause-ups g c =
 pub loop-up-preserved : goal.loop-up-preserved
 loop-up-preserved g c = (
   λ new after rest.
-      let written = g.K.Sink.written in
+      let written = g.K.Sink.pieces in
       let next = rw c.if-not-branch.false at c.in_ok-up_one.ensures.next in
       let most = length c.args.self.now.receiver.held in
       let left : most - c.loop-up._up ≡ suc (most - (c.loop-up._up + 1)) = omega (arith, c.loop-up-test.true, c.held-up-end.ensures) in
@@ -22,7 +22,7 @@ loop-up-preserved g c = (
       (hands-some (most - c.loop-up._up) (most - (c.loop-up._up + 1)) c.loop-up.self c.up_one.new.self new
       (written c.loop-up.output) (written c.up_one.new.output) after left next rest),
   λ fault after stops.
-      let written = g.K.Sink.written in
+      let written = g.K.Sink.pieces in
       let next = rw c.if-not-branch.false at c.in_ok-up_one.ensures.next in
       let most = length c.args.self.now.receiver.held in
       let left : most - c.loop-up._up ≡ suc (most - (c.loop-up._up + 1)) = omega (arith, c.loop-up-test.true, c.held-up-end.ensures) in
@@ -34,7 +34,7 @@ loop-up-preserved g c = (
 
 pub returns-in_err-up_one-clause-stops : goal.returns-in_err-up_one-clause-stops
 returns-in_err-up_one-clause-stops g c =
-    let written = g.K.Sink.written in
+    let written = g.K.Sink.pieces in
     let most = length c.args.self.now.receiver.held in
     let left : most - c.loop-up._up ≡ suc (most - (c.loop-up._up + 1)) = omega (arith, c.loop-up-test.true, c.held-up-end.ensures) in
     let exit = err_from_is_err_and c.from_residual.result c.from_residual.ensures.1 in
@@ -45,7 +45,7 @@ returns-in_err-up_one-clause-stops g c =
 
 pub returns-clause-ups : goal.returns-clause-ups
 returns-clause-ups g c =
-    let written = g.K.Sink.written in
+    let written = g.K.Sink.pieces in
     let none : length c.args.self.now.receiver.held - c.loop-up._up ≡ 0 = omega (arith, c.loop-up-test.false, c.held-up-end.ensures) in
     c.loop-up.invariant.0 c.loop-up.self (written c.loop-up.output)
     (hands-zero (length c.args.self.now.receiver.held - c.loop-up._up) c.loop-up.self (written c.loop-up.output) none)

@@ -9,7 +9,7 @@ use Rattle.norm_session.proofs.run.Run.pull.Goals as goal
 
 pub returns-clause-stops : goal.returns-clause-stops
 returns-clause-stops g c =
-    let written = g.K.Sink.written in
+    let written = g.K.Sink.pieces in
     let i = c.args.self.now.profile.instance in
     let job = job_event c.args.line.now (length c.args.self.now.sender.order) in
     let left : IfErr c.emit.result (λ fault. Leaves fault (written c.args.output.now) (written c.emit.new.output) (line_of i job)) = search rules in

@@ -9,7 +9,7 @@ use Rattle.norm_session.proofs.run.Run.turn.Goals as goal
 pub returns-clause-turn : goal.returns-clause-turn
 returns-clause-turn g c =
     let told = g.F.Fabric.told in
-    let written = g.K.Sink.written in
+    let written = g.K.Sink.pieces in
     turn_of_parts c.args.t c.in_ok-now.now (option_copied c.args.command)
     c.args.self.now c.begin.new.self c.pull_next.new.self c.offer.new.self c.take_all.new.self c.end.new.self
     (told c.args.fabric.now) (told c.offer.new.fabric) (told c.take_all.new.fabric)
@@ -25,11 +25,11 @@ returns-in_err-now-clause-stops g c =
     let fault = c.in_err-now.field-0.0 in
     let exit = err_from_is_err_and c.from_residual.result c.from_residual.ensures.1 in
     rw (exit.1, exit.2) (turn-stops_begin fault run.profile run.sender run.receiver c.args.t (option_copied c.args.command)
-    (g.F.Fabric.told c.args.fabric.now) (g.K.Sink.written c.args.output.now) (writes_not-memory ℕ fault c.in_err-now.ensures.cause))
+    (g.F.Fabric.told c.args.fabric.now) (g.K.Sink.pieces c.args.output.now) (writes_not-memory ℕ fault c.in_err-now.ensures.cause))
 
 pub returns-in_err-pull_next-clause-stops : goal.returns-in_err-pull_next-clause-stops
 returns-in_err-pull_next-clause-stops g c =
-    let written = g.K.Sink.written in
+    let written = g.K.Sink.pieces in
     let fault = c.in_err-pull_next.field-0.0 in
     let exit = err_from_is_err_and c.from_residual-in_err-pull_next.result c.from_residual-in_err-pull_next.ensures.1 in
     rw (exit.1, exit.2) (turn-pull_of fault c.args.t (option_copied c.args.command) c.args.self.now c.begin.new.self
@@ -39,7 +39,7 @@ returns-in_err-pull_next-clause-stops g c =
 pub returns-in_err-offer-clause-stops : goal.returns-in_err-offer-clause-stops
 returns-in_err-offer-clause-stops g c =
     let told = g.F.Fabric.told in
-    let written = g.K.Sink.written in
+    let written = g.K.Sink.pieces in
     let fault = c.in_err-offer.field-0.0 in
     let exit = err_from_is_err_and c.from_residual-in_err-offer.result c.from_residual-in_err-offer.ensures.1 in
     let count = g.F.Fabric.fault_count in
@@ -51,7 +51,7 @@ returns-in_err-offer-clause-stops g c =
 pub returns-in_err-take_all-clause-stops : goal.returns-in_err-take_all-clause-stops
 returns-in_err-take_all-clause-stops g c =
     let told = g.F.Fabric.told in
-    let written = g.K.Sink.written in
+    let written = g.K.Sink.pieces in
     let fault = c.in_err-take_all.field-0.0 in
     let exit = err_from_is_err_and c.from_residual-in_err-take_all.result c.from_residual-in_err-take_all.ensures.1 in
     let count = g.F.Fabric.fault_count in
@@ -66,7 +66,7 @@ returns-in_err-take_all-clause-stops g c =
 pub returns-in_err-end-clause-stops : goal.returns-in_err-end-clause-stops
 returns-in_err-end-clause-stops g c =
     let told = g.F.Fabric.told in
-    let written = g.K.Sink.written in
+    let written = g.K.Sink.pieces in
     let fault = c.in_err-end.field-0.0 in
     let exit = err_from_is_err_and c.from_residual-in_err-end.result c.from_residual-in_err-end.ensures.1 in
     rw (exit.1, exit.2) (turn-end_of fault c.args.t c.in_ok-now.now (option_copied c.args.command)

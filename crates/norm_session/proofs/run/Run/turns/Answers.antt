@@ -8,7 +8,7 @@ use Rattle.norm_session.proofs.run.Run.turns.Goals as goal
 
 pub loop-left-init : goal.loop-left-init
 loop-left-init g c = (
-  going-start c.args.commands.now c.args.self.now (g.F.Fabric.told c.args.fabric.now) (g.K.Sink.written c.args.output.now),
+  going-start c.args.commands.now c.args.self.now (g.F.Fabric.told c.args.fabric.now) (g.K.Sink.pieces c.args.output.now),
   c.requires.each,
   c.requires.few,
   c.last_turn-last.ensures.least,
@@ -21,7 +21,7 @@ loop-left-init g c = (
 pub returns-then-is_whole-clause-turns : goal.returns-then-is_whole-clause-turns
 returns-then-is_whole-clause-turns g c =
     let told = g.F.Fabric.told in
-    let written = g.K.Sink.written in
+    let written = g.K.Sink.pieces in
     let i = c.loop-left.invariant in
     let turn = rw c.next_command.ensures.first at c.in_ok-turn.ensures.turn in
     let whole = rw c.next_command.ensures.rest at (sym c.is_whole.ensures ∙ c.if-is_whole.true) in
@@ -33,7 +33,7 @@ returns-then-is_whole-clause-turns g c =
 pub returns-then-t-last-clause-turns : goal.returns-then-t-last-clause-turns
 returns-then-t-last-clause-turns g c =
     let told = g.F.Fabric.told in
-    let written = g.K.Sink.written in
+    let written = g.K.Sink.pieces in
     let i = c.loop-left.invariant in
     let turn = rw c.next_command.ensures.first at c.in_ok-turn.ensures.turn in
     let whole = rw c.next_command.ensures.rest at (sym c.is_whole.ensures ∙ c.if-is_whole.false) in
@@ -45,7 +45,7 @@ returns-then-t-last-clause-turns g c =
 pub loop-left-preserved : goal.loop-left-preserved
 loop-left-preserved g c =
     let told = g.F.Fabric.told in
-    let written = g.K.Sink.written in
+    let written = g.K.Sink.pieces in
     let i = c.loop-left.invariant in
     let turn = rw c.next_command.ensures.first at c.in_ok-turn.ensures.turn in
     let whole = rw c.next_command.ensures.rest at (sym c.is_whole.ensures ∙ c.if-is_whole.false) in
@@ -70,7 +70,7 @@ loop-left-preserved g c =
 pub returns-in_err-turn-clause-stops : goal.returns-in_err-turn-clause-stops
 returns-in_err-turn-clause-stops g c =
     let told = g.F.Fabric.told in
-    let written = g.K.Sink.written in
+    let written = g.K.Sink.pieces in
     let i = c.loop-left.invariant in
     let stops = rw c.next_command.ensures.first at c.in_err-turn.ensures.stops in
     let fault = c.in_err-turn.field-0.0 in

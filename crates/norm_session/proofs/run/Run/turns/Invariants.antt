@@ -7,7 +7,7 @@ use Rattle.norm_session.proofs.run.Run.turns.Given as goal
 abbrev pub invariant-loop-left : goal.invariant-loop-left
 invariant-loop-left g l =
     let told = g.F.Fabric.told in
-    let written = g.K.Sink.written in
+    let written = g.K.Sink.pieces in
     Going l.commands l.fn.self l.self (told l.fn.fabric) (told l.fabric) (written l.fn.output) (written l.output) l.t l.left
     × AllByRecursion (IsCommand longest_symbol) l.left
     × (length l.self.sender.order + length l.left < 65536)

@@ -7,7 +7,7 @@ use Rattle.norm_session.proofs.run.Run.up_one.Goals as goal
 
 pub returns-in_err-emit-clause-stops : goal.returns-in_err-emit-clause-stops
 returns-in_err-emit-clause-stops g c =
-    let written = g.K.Sink.written in
+    let written = g.K.Sink.pieces in
     let there : next_up c.args.self.now.receiver.held c.args.self.now.receiver.point ≡ Some c.in-Some.bytes = grind arith in
     let place : c.in-Some.index ≡ c.args.self.now.receiver.point = grind arith in
     let same : c.self.inside.profile ≡ c.args.self.now.profile = ap (λ (r : RunState). r.profile) c.self.view_is in

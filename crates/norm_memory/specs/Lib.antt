@@ -1,0 +1,15 @@
+pub mod Calls
+pub mod Reading
+pub mod Writing
+pub mod Timing
+pub mod Filing
+pub mod Offers
+pub mod Fates
+pub mod Rules
+pub mod Waiting
+pub mod Networks
+pub mod Kept
+pub mod Direct
+pub mod Listed
+pub mod Chances
+pub mod Feeding

@@ -1,0 +1,81 @@
+//! Which calls of an object in memory fail.
+
+ghost use Rattle.std.specs.Prelude.{◌≡◌, [], true, false};
+ghost use Rattle.norm_memory.specs.Calls.{next_fails, after_call, restarted};
+ghost use Rattle.norm_base.specs.Faults.{Counts};
+
+use std::marker::Model;
+
+/// Counts the calls of an object, and which of them fail.
+#[derive(Debug, Drop)]
+pub(crate) struct CallCount {
+    failing: Vec<u64>,
+    made: u64,
+    faults: u64,
+}
+
+impl Model for CallCount {
+    ghost use Rattle.norm_memory.specs.Calls.{Calls};
+
+    ghost Value = { Calls };
+
+    ghost view = { λ c. record { failing = c.failing.items; made = c.made; faults = c.faults } };
+}
+
+impl CallCount {
+    /// No call was made. The calls with these numbers, from 1, will fail.
+    pub(crate) fn of(failing: Vec<u64>) -> CallCount
+        ensures { result ≡ record { failing = failing.items; made = 0; faults = 0 } }
+    {
+        CallCount {
+            failing,
+            made: 0,
+            faults: 0,
+        }
+    }
+
+    /// Whether the next call is one of those that fail.
+    pub(crate) fn next_fails(&self) -> bool
+        ensures { result ≡ next_fails self.now }
+    {
+        self.failing.contains(&self.made.saturating_add(1))
+    }
+
+    /// How many calls were made since the count began.
+    pub(crate) fn made(&self) -> u64
+        ensures { result ≡ self.now.made }
+    {
+        self.made
+    }
+
+    /// Counts a call that did what it was to do.
+    pub(crate) fn pass(&mut self)
+        ensures { self.new ≡ after_call self.old false }
+    {
+        self.made = self.made.saturating_add(1);
+    }
+
+    /// Counts a call that failed.
+    #[tactic(auto, using(norm_base::proofs::CountLemmas::counts_one_more))]
+    pub(crate) fn fail(&mut self)
+        ensures counted { self.new ≡ after_call self.old true }
+        ensures rose { Counts self.old.faults self.new.faults true }
+    {
+        self.made = self.made.saturating_add(1);
+        self.faults = self.faults.saturating_add(1);
+    }
+
+    /// Counts the calls anew. Which of them fail, and how many failed, stay.
+    pub(crate) fn restart(&mut self)
+        ensures { self.new ≡ restarted self.old }
+    {
+        self.made = 0;
+    }
+
+    /// How many calls failed.
+    pub(crate) fn faults(&self) -> u64
+        ensures { result ≡ self.now.faults }
+    {
+        self.faults
+    }
+}

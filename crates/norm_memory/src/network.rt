@@ -1,0 +1,192 @@
+//! What the networks in memory keep: the offers, the answers, and the copies that wait.
+
+ghost use Rattle.std.specs.Prelude.{◌≡◌, ◌≢◌, ◌≤◌, ◌+◌, ◌<◌, ◌^◌, ◌++◌, length, List, ℕ, drop, option_map, replicate, IfSome, IfNone, IfOk, OnOk, OnErr, []};
+ghost use Rattle.norm_memory.specs.Fates.{AreForOthers, copies_of};
+ghost use Rattle.norm_memory.specs.Networks.{unstarted, members_of, started, after_offer, ready_copy, next_answer, after_take};
+ghost use Rattle.norm_memory.specs.Waiting.{first_of};
+ghost use Rattle.norm_base.specs.Network.{answer_of, WasOffered};
+
+use crate::copy::WaitingCopy;
+use crate::fate::Fate;
+use crate::offers::Offers;
+use crate::waiting::Waiting;
+use norm_base::{Datagram, Local, NodeId, Profile};
+use std::alloc::{AllocError, Global};
+use std::marker::Model;
+
+/// The members of a session in their order: the sender, and then the receivers.
+fn session_members(alloc: Global, profile: &Profile) -> Result<Vec<NodeId>, AllocError>
+    ensures { IfOk result (λ members. members.items ≡ members_of profile.now) }
+{
+    let mut members = Vec::new(alloc);
+    members.push(NodeId::of(profile.sender).unwrap())?;
+    for i in 0..u32::from(profile.receivers) {
+        members.push(profile.receiver(i))?;
+    }
+    Ok(members)
+}
+
+/// Adds a copy so many times.
+fn push_copies(
+    copies: &mut Vec<WaitingCopy>,
+    copy: &WaitingCopy,
+    times: u8,
+) -> Result<(), AllocError>
+    ensures { OnOk result (copies.new.items ≡ copies.old.items ++ replicate times copy.now) }
+{
+    for _ in 0..times {
+        copies.push(*copy)?;
+    }
+    Ok(())
+}
+
+/// The copies of the offer at this place.
+fn planned_copies(
+    alloc: Global,
+    place: usize,
+    plan: &[(NodeId, Fate)],
+) -> Result<Vec<WaitingCopy>, AllocError>
+    requires { place < 2 ^ 63 }
+    ensures { IfOk result (λ copies. copies.items ≡ copies_of place plan.now) }
+{
+    let mut copies = Vec::with_capacity(alloc, plan.len())?;
+    for (to, fate) in plan {
+        let copy = WaitingCopy {
+            ready: place as u64 + 1 + u64::from(fate.after),
+            offer: place,
+            to: *to,
+        };
+        push_copies(&mut copies, &copy, fate.copies)?;
+    }
+    Ok(copies)
+}
+
+/// The members of a session, their datagrams, the answers that were given, each as its member and the
+/// place of its offer, and the copies that wait.
+#[derive(Debug, Drop)]
+pub(crate) struct MemNetwork {
+    alloc: Global,
+    starts: Vec<(Profile, Local)>,
+    members: Vec<NodeId>,
+    offers: Offers,
+    answers: Vec<Option<(NodeId, usize)>>,
+    waiting: Waiting,
+}
+
+impl Model for MemNetwork {
+    ghost use Rattle.norm_memory.specs.Networks.{NetworkState};
+    ghost use Rattle.norm_memory.specs.Kept.{answers_in, IsOfOffers};
+
+    ghost Value = { NetworkState };
+
+    ghost view = { λ n. record {
+      starts = n.starts.items;
+      members = n.members.items;
+      offered = n.offers;
+      answers = answers_in n.offers n.answers.items;
+      waiting = n.waiting.copies;
+    } };
+
+    ghost invariant = { λ n. IsOfOffers n.offers n.waiting.copies n.answers.items };
+}
+
+impl MemNetwork {
+    /// No start, and no member.
+    pub(crate) fn new(alloc: Global) -> MemNetwork
+        ensures { result ≡ unstarted }
+    {
+        MemNetwork {
+            alloc,
+            starts: Vec::new(alloc),
+            members: Vec::new(alloc),
+            offers: Offers::new(alloc),
+            answers: Vec::new(alloc),
+            waiting: Waiting::new(alloc),
+        }
+    }
+
+    /// The members of the session in their order.
+    pub(crate) fn members(&self) -> &[NodeId]
+        ensures { result.now ≡ self.now.members }
+    {
+        self.members.as_slice()
+    }
+
+    /// The allocator.
+    pub(crate) fn alloc(&self) -> Global {
+        self.alloc
+    }
+
+    /// Begins a session of these members.
+    pub(crate) fn start(&mut self, profile: &Profile, local: Local) -> Result<(), AllocError>
+        ensures ok { OnOk result (self.new ≡ started self.old profile.now local) }
+        ensures err { OnErr result (self.new ≡ self.old) }
+    {
+        let members = session_members(self.alloc, profile)?;
+        self.starts.push((*profile, local))?;
+        self.members = members;
+        self.offers.clear();
+        self.answers.clear();
+        self.waiting.clear();
+        Ok(())
+    }
+
+    /// Keeps a member's datagram, of which this becomes.
+    pub(crate) fn offer(
+        &mut self,
+        from: NodeId,
+        bytes: &[u8],
+        plan: &[(NodeId, Fate)],
+    ) -> Result<(), AllocError>
+        requires most { length bytes.now ≤ 1500 }
+        requires others { AreForOthers from plan.now }
+        ensures ok { OnOk result (self.new ≡ after_offer self.old from bytes.now plan.now) }
+        ensures err { OnErr result (self.new ≡ self.old) }
+    {
+        let copies = planned_copies(self.alloc, self.offers.len(), plan)?;
+        self.waiting.reserve(copies.len())?;
+        self.offers.push(from, bytes)?;
+        self.waiting.put(copies);
+        Ok(())
+    }
+
+    /// The copy that is taken next, if it is ready.
+    fn ready_copy(&self) -> Option<WaitingCopy>
+        ensures { result ≡ ready_copy (length self.now.offered) self.now.waiting }
+    {
+        let copy = self.waiting.first()?;
+        if copy.ready <= self.offers.len() as u64 {
+            return Some(copy);
+        }
+        None
+    }
+
+    /// Gives the next copy, if it is ready.
+    pub(crate) fn take(&mut self, into: &mut Datagram) -> Result<Option<NodeId>, AllocError>
+        ensures answer { IfOk result (λ node. answer_of node into.new ≡ next_answer self.old) }
+        ensures none { IfOk result (λ node. IfNone node (into.new ≡ [])) }
+        ensures honest { IfOk result (λ node. IfSome (answer_of node into.new) (λ a. WasOffered self.old.offered a.0 a.1)) }
+        ensures ok { OnOk result (self.new ≡ after_take self.old) }
+        ensures err { OnErr result ((self.new ≡ self.old) × (into.new ≡ [])) }
+    {
+        into.clear();
+        let Some(copy) = self.ready_copy() else {
+            self.answers.push(None)?;
+            return Ok(None);
+        };
+        self.answers.push(Some((copy.to, copy.offer)))?;
+        into.push(self.offers.bytes(copy.offer));
+        self.waiting.take_first();
+        Ok(Some(copy.to))
+    }
+
+    /// The datagram offered at this place since the last start, and who offered it.
+    pub(crate) fn offered(&self, place: usize) -> Option<(NodeId, &[u8])>
+        ensures { option_map (λ x. (x.0, x.1.now)) result ≡ first_of (drop place self.now.offered) }
+    {
+        if place < self.offers.len() {
+            return Some((self.offers.from(place), self.offers.bytes(place)));
+        }
+        None
+    }
+}

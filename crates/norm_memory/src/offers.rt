@@ -1,0 +1,95 @@
+//! The datagrams that were offered, in one row of octets.
+
+ghost use Rattle.std.specs.Prelude.{◌≡◌, ◌++◌, ◌∷◌, ◌<◌, ◌≤◌, ◌^◌, [], length, OnOk, OnErr};
+ghost use Rattle.norm_memory.specs.Offers.{offer_at};
+
+use norm_base::NodeId;
+use std::alloc::{AllocError, Global};
+use std::marker::Model;
+
+/// Who offered a datagram, and where its octets stand.
+#[derive(Clone, Copy, Debug)]
+struct Offer {
+    from: NodeId,
+    start: usize,
+    stop: usize,
+}
+
+/// Datagrams of at most 1,500 octets with the members that offered them. The octets stand in one row.
+#[derive(Debug, Drop)]
+pub(crate) struct Offers {
+    octets: Vec<u8>,
+    offers: Vec<Offer>,
+}
+
+impl Model for Offers {
+    ghost use Rattle.std.specs.Prelude.{List, ℕ, length};
+
+    ghost Value = { List (ℕ × List ℕ) };
+
+    ghost use Rattle.norm_memory.specs.Offers.{offered_in, AreWithin};
+
+    ghost view = { λ o. offered_in o.octets.items o.offers.items };
+
+    ghost invariant = { λ o. AreWithin (length o.octets.items) o.offers.items };
+}
+
+impl Offers {
+    /// None.
+    pub(crate) fn new(alloc: Global) -> Offers
+        ensures { result ≡ [] }
+    {
+        Offers {
+            octets: Vec::new(alloc),
+            offers: Vec::new(alloc),
+        }
+    }
+
+    /// How many there are.
+    pub(crate) fn len(&self) -> usize
+        ensures len { result ≡ length self.now }
+        ensures limit { result < 2 ^ 63 }
+    {
+        self.offers.len()
+    }
+
+    /// Who offered the datagram at this place.
+    pub(crate) fn from(&self, place: usize) -> NodeId
+        requires { place < length self.now }
+        ensures { result ≡ (offer_at self.now place).0 }
+    {
+        self.offers[place].from
+    }
+
+    /// The datagram at this place.
+    pub(crate) fn bytes(&self, place: usize) -> &[u8]
+        requires { place < length self.now }
+        ensures octets { result.now ≡ (offer_at self.now place).1 }
+        ensures most { length result.now ≤ 1500 }
+    {
+        let offer = self.offers[place];
+        &self.octets[offer.start..offer.stop]
+    }
+
+    /// Adds a datagram.
+    pub(crate) fn push(&mut self, from: NodeId, bytes: &[u8]) -> Result<(), AllocError>
+        requires { length bytes.now ≤ 1500 }
+        ensures ok { OnOk result (self.new ≡ self.old ++ (from, bytes.now) ∷ []) }
+        ensures err { OnErr result (self.new ≡ self.old) }
+    {
+        self.octets.reserve(bytes.len())?;
+        let start = self.octets.len();
+        let stop = start + bytes.len();
+        self.offers.push(Offer { from, start, stop })?;
+        self.octets.extend_from_slice(bytes).unwrap();
+        Ok(())
+    }
+
+    /// Takes all out.
+    pub(crate) fn clear(&mut self)
+        ensures { self.new ≡ [] }
+    {
+        self.octets.clear();
+        self.offers.clear();
+    }
+}
