@@ -71,6 +71,7 @@ fn the_first_line_without_meaning_is_named(rt: HostRuntime) {
 }
 
 /// A sink that counts what it is given.
+#[derive(Drop)]
 struct Tally {
     pieces: u64,
     octets: u64,
