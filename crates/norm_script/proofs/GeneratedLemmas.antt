@@ -1,13 +1,15 @@
-use Rattle.std.proofs.Common.{◌≡◌, ◌∙◌, sym, ap, subst, ◌+◌, ◌*◌, ◌%◌, ◌^◌, ◌≤◌, ◌<◌, ◌==◌, ℕ, zero, suc, List, [], ◌∷◌, ◌++◌, length, Option, Some, None, Ok, Bool, true, false, refl, arith, map, slice_index, lit≤, length-append}
+use Rattle.std.proofs.Common.{◌≡◌, ◌∙◌, sym, ap, subst, ◌+◌, ◌*◌, ◌%◌, ◌^◌, ◌≤◌, ◌<◌, ◌==◌, ℕ, zero, suc, List, [], ◌∷◌, ◌++◌, length, Option, Some, None, Ok, Bool, true, false, refl, arith, map, slice_index, lit≤, ◌/◌, append_assoc}
 use Rattle.std.specs.Prelude.{◌&&◌, IfSome, count_by}
-use Rattle.std.specs.List.{AllByRecursion, flat_map, range_with_len}
+use Rattle.std.specs.List.{AllByRecursion, concat, range_with_len}
 use Rattle.std.proofs.lemmas.Bool.{eqb-true}
 use Rattle.norm_base.specs.Given.{profile_given}
 use Rattle.norm_base.specs.Settings.{Settings, InRange}
-use Rattle.norm_script.specs.Generated.{generated_settings, generated_octets, generated_kind, generated_verb, generated_lines, generate_text, generated_profile, generated_script}
+use Rattle.norm_script.specs.Generated.{generated_settings, generated_octets, generated_kind, generated_verb, generated_command, generated_lines, generated_pieces, setting_piece, command_piece, generate_text, generated_profile, generated_script}
 use Rattle.norm_script.specs.Head.{given_by}
 use Rattle.norm_script.specs.Reading.{script_of}
 use Rattle.norm_script.specs.Scripts.{IsContents, IsVerb, IsLine, AreNumbered, IsScript}
+use Rattle.norm_base.specs.declared.key.Key.{Key}
+use Rattle.norm_script.specs.Written.{setting_line, command_line, ended}
 use Rattle.norm_script.specs.declared.refusal.Extent.TheVariants.{Whole}
 use Rattle.norm_script.specs.declared.script.Line.{Line}
 use Rattle.norm_script.proofs.AgainLemmas.{AreFresh, numbered, written-read}
@@ -16,13 +18,9 @@ use Rattle.norm_script.proofs.WordLemmas.{at_least, both}
 
 -- The generated script means what it was made of.
 
-all_map : {X Y : Type 0} (P : Y → Type 0) (f : X → Y) → ((x : X) → P (f x)) → (xs : List X) → AllByRecursion P (map f xs)
-all_map P f h [] = tt
-all_map P f h (x ∷ xs) = (h x, all_map P f h xs)
-
-all_append : {X : Type 0} (P : X → Type 0) (xs ys : List X) → AllByRecursion P xs → AllByRecursion P ys → AllByRecursion P (xs ++ ys)
-all_append P [] ys h k = k
-all_append P (x ∷ xs) ys h k = (h.0, all_append P xs ys h.1 k)
+all_ranged : {Y : Type 0} (P : Y → Type 0) (f : ℕ → Y) (a k b : ℕ) → a + k ≤ b → ((x : ℕ) → x < b → P (f x)) → AllByRecursion P (map f (range_with_len a k))
+all_ranged P f a zero b within h = tt
+all_ranged P f a (suc k) b within h = (h a (omega arith), all_ranged P f (a + 1) k b (omega arith) h)
 
 octets_are : (f : ℕ → ℕ) (xs : List ℕ) (i : ℕ) → slice_index (map (λ j. f j % 256) xs) i < 256
 octets_are f [] i = omega arith
@@ -47,20 +45,15 @@ verb-generated : (tenth : Bool) (octets : List ℕ) → IsContents octets → Is
 verb-generated true octets h = tt
 verb-generated false octets h = h
 
-abbrev lines_of : ℕ → ℕ → List Line
-lines_of n p = map (λ i. record { producer = p; number = i + 1; verb = generated_verb n p i }) (range_with_len 0 100)
-
-lines-generated : (n p : ℕ) → 1 ≤ p → p ≤ 3 → AllByRecursion (IsLine 3) (lines_of n p)
-lines-generated n p first last =
-    all_map (IsLine 3) (λ i. record { producer = p; number = i + 1; verb = generated_verb n p i })
-    (λ i. record { first = first; last = last; verb = verb-generated (i % 10 == 9) (generated_octets n p i) (contents-generated n p i) }) (range_with_len 0 100)
-
 all-generated : (n : ℕ) → AllByRecursion (IsLine 3) (generated_lines n)
 unfolding generated_lines
 all-generated n =
-    all_append (IsLine 3) (lines_of n 1) (lines_of n 2 ++ (lines_of n 3 ++ [])) (lines-generated n 1 (omega arith) (omega arith))
-    (all_append (IsLine 3) (lines_of n 2) (lines_of n 3 ++ []) (lines-generated n 2 (omega arith) (omega arith))
-    (all_append (IsLine 3) (lines_of n 3) [] (lines-generated n 3 (omega arith) (omega arith)) tt))
+    all_ranged (IsLine 3) (generated_command n) 0 300 300 (omega arith)
+    (λ k h. record {
+      first = omega arith;
+      last = omega arith;
+      verb = verb-generated (k % 100 % 10 == 9) (generated_octets n (k / 100 + 1) (k % 100)) (contents-generated n (k / 100 + 1) (k % 100));
+    })
 
 abbrev are_numbered : List Line → List Line → Bool
 are_numbered before [] = true
@@ -143,5 +136,35 @@ pub generated-read : (n : ℕ) → n ≤ 4294967295 → script_of Whole (generat
 unfolding generate_text
 generated-read n h =
     written-read (generated_settings n) (generated_profile n) (generated_lines n) (fresh-generated n h) (lit≤ tt) (given-generated n h) (script-generated n h)
+
+-- the pieces that are written are the text
+
+ended_piece : (line pieces rest : List ℕ) → line ++ 10 ∷ (pieces ++ rest) ≡ ((line ++ 10 ∷ []) ++ pieces) ++ rest
+ended_piece line pieces rest = sym (append_assoc (line ++ 10 ∷ []) pieces rest ∙ append_assoc line (10 ∷ []) (pieces ++ rest))
+
+ended_settings : (settings : List (Key × ℕ)) (rest : List (List ℕ))
+    → ended (map (λ (s : Key × ℕ). setting_line s.0 s.1) settings ++ rest) ≡ concat (map setting_piece settings) ++ ended rest
+ended_settings [] rest = refl
+ended_settings (s ∷ settings) rest =
+    ap (λ t. setting_line s.0 s.1 ++ 10 ∷ t) (ended_settings settings rest)
+    ∙ ended_piece (setting_line s.0 s.1) (concat (map setting_piece settings)) (ended rest)
+
+ended_commands : (n : ℕ) (ks : List ℕ)
+    → ended (map (λ l. command_line l.producer l.verb) (map (generated_command n) ks)) ≡ concat (map (command_piece n) ks)
+ended_commands n [] = refl
+ended_commands n (k ∷ ks) =
+    let line = command_line (k / 100 + 1) (generated_verb n (k / 100 + 1) (k % 100)) in
+    ap (λ t. line ++ 10 ∷ t) (ended_commands n ks) ∙ sym (append_assoc line (10 ∷ []) (concat (map (command_piece n) ks)))
+
+concat_append : (xs ys : List (List ℕ)) → concat (xs ++ ys) ≡ concat xs ++ concat ys
+concat_append [] ys = refl
+concat_append (x ∷ xs) ys = ap (λ t. x ++ t) (concat_append xs ys) ∙ sym (append_assoc x (concat xs) (concat ys))
+
+pub pieces-text : (n : ℕ) → concat (generated_pieces n) ≡ generate_text n
+unfolding generated_pieces generate_text generated_lines
+pieces-text n =
+    concat_append (map setting_piece (generated_settings n)) (map (command_piece n) (range_with_len 0 300))
+    ∙ ap (λ t. concat (map setting_piece (generated_settings n)) ++ t) (sym (ended_commands n (range_with_len 0 300)))
+    ∙ sym (ended_settings (generated_settings n) (map (λ l. command_line l.producer l.verb) (map (generated_command n) (range_with_len 0 300))))
 
 pub ruleset generated_laws = (generated-read)

@@ -9,3 +9,4 @@ pub mod WordLemmas
 pub mod SpellLemmas
 pub mod AgainLemmas
 pub mod GeneratedLemmas
+pub mod RowLemmas

@@ -7,6 +7,7 @@
 #![tactic(auto)]
 
 mod built;
+mod generator;
 mod head;
 mod laws;
 mod lines;
@@ -19,6 +20,7 @@ mod setting;
 mod tests;
 mod words;
 
+pub use crate::generator::generate;
 pub use crate::laws::{reads_back, reads_generated, reads_scripts};
 pub use crate::meaning::Meaning;
 pub use crate::reader::{read, read_commands, read_script, why_refused};

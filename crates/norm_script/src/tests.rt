@@ -1,7 +1,7 @@
 //! The ends of each key's range, refused lines, the reasons as people read them, and each call once with ample memory.
 
 use super::*;
-use norm_base::{Octets, Profile, Text};
+use norm_base::{Failed, Octets, Profile, Sink, Text};
 use std::alloc::Global;
 use std::process::Abort;
 use std::test::Fail;
@@ -68,6 +68,48 @@ fn the_first_line_without_meaning_is_named(rt: HostRuntime) {
     assert_eq!(rt; refused(&rt, alloc, b"set max_n 10\nbogus\nset b 4"), 2);
     assert_eq!(rt; refused(&rt, alloc, b"1 mark\nset e 64"), 2);
     assert_eq!(rt; refused(&rt, alloc, b"\n\n1 mark\n2 mark"), 4);
+}
+
+/// A sink that counts what it is given.
+#[derive(Drop)]
+struct Tally {
+    pieces: u64,
+    octets: u64,
+    sum: u64,
+}
+
+impl Sink for Tally {
+    ghost use Rattle.std.specs.Prelude.{None};
+
+    ghost pieces = { λ _. None };
+
+    ghost fault_count = { λ _. 0 };
+
+    fn write(&mut self, bytes: &[u8]) -> Result<(), Failed> {
+        self.pieces = self.pieces.saturating_add(1);
+        self.octets = self.octets.saturating_add(bytes.len() as u64);
+        for octet in bytes {
+            self.sum = self.sum.saturating_add(u64::from(*octet));
+        }
+        Ok(())
+    }
+
+    fn faults(&self) -> u64 {
+        0
+    }
+}
+
+#[test]
+fn the_generated_script_is_written_line_by_line(rt: HostRuntime) {
+    let mut tally = Tally {
+        pieces: 0,
+        octets: 0,
+        sum: 0,
+    };
+    assert!(rt; generate(42, &mut tally).is_ok());
+    assert_eq!(rt; tally.pieces, 311);
+    assert_eq!(rt; tally.octets, 146163);
+    assert_eq!(rt; tally.sum, 10331059);
 }
 
 /// Why a script is refused, as people read it.
