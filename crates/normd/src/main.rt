@@ -17,6 +17,7 @@ mod words;
 
 use crate::arguments::arguments;
 use crate::program::run;
+use crate::status::Ending;
 use crate::std_io::{StdSink, StdSource};
 use norm_memory::{DirectFabric, MemClock, MemFiles};
 use std::io;
@@ -26,7 +27,7 @@ use std::process::ExitCode;
 fn main(rt: HostRuntime) -> ExitCode {
     let alloc = rt.alloc();
     let Ok(mut fabric) = DirectFabric::new(alloc) else {
-        return ExitCode::from(1);
+        return ExitCode::from(Ending::Memory.status());
     };
     let mut input = StdSource::of(rt.reader());
     let mut output = StdSink::of(io::writer(&rt));
