@@ -156,7 +156,7 @@ end_state rows w = first_unlike 1000000 (shown_world w) rows
 abbrev pub cut_at : Settings → History → ℕ → History
 cut_at p h n = record { happened = take n h.happened; now = last_world (world_opening p) (take n h.happened) }
 
--- a lawful run that is safe after each of these numbers of events
+-- a lawful run that is safe after each of these numbers of events, and tied at its end
 abbrev pub safe_along : Settings → List Event → List ℕ → Bool
 safe_along p events lengths =
-    let h = history p events in is_lawful p events && is_safe p h && list_all (λ n. is_safe p (cut_at p h n)) lengths
+    let h = history p events in is_lawful p events && is_safe p h && is_tied p h && list_all (λ n. is_safe p (cut_at p h n)) lengths
