@@ -10,5 +10,4 @@ pub mod Places
 pub mod Symbols
 pub mod LaneLemmas
 pub mod TableLemmas
-pub mod Steps
 pub mod LawsHold

@@ -1,9 +1,9 @@
 -- The tables of powers and logarithms have what their names say.
-use Rattle.std.proofs.Common.{◌≡◌, ◌≢◌, ℕ, zero, suc, ◌+◌, ◌-◌, ◌<◌, ◌≤◌, refl, Bool, true, sym, ap, ◌∙◌, arith, List, [], ◌∷◌, length, get_or, zero-add, add-suc, ltb}
+use Rattle.std.proofs.Common.{◌≡◌, ℕ, zero, suc, ◌+◌, ◌-◌, ◌<◌, refl, Bool, true, sym, ap, ◌∙◌, arith, List, [], ◌∷◌, length, get_or, zero-add, ltb}
 use Rattle.std.specs.Prelude.{◌==◌, ◌&&◌, ◌||◌}
 use Rattle.std.proofs.lemmas.Bool.{eqb-true}
 use borrow.Author.Tests.{ltb-true}
-use Rattle.gf_field.specs.Product.{product, shift, shifts, sum_at_bits}
+use Rattle.gf_field.specs.Product.{product, shift, sum_at_bits}
 use Rattle.gf_field.specs.Power.{power}
 use Rattle.gf_field.specs.declared.tables.TheConstants.{POWERS, LOGARITHMS}
 use Rattle.gf_field.proofs.Octets.{octet_passes, passes_at_octets}

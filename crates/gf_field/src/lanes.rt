@@ -127,7 +127,8 @@ impl Multiples {
     fn times(&self, lanes: u8x16) -> u8x16
         ensures { (c : ℕ) → HasProducts 16 c self.now.low self.now.high → result ≡ map (product c) lanes }
     {
-        self.low.swizzle_dyn(lanes & u8x16::splat(15)) ^ self.high.swizzle_dyn(lanes >> u8x16::splat(4))
+        self.low.swizzle_dyn(lanes & u8x16::splat(15))
+            ^ self.high.swizzle_dyn(lanes >> u8x16::splat(4))
     }
 
     /// Adds sixteen products from `at` on.
@@ -148,10 +149,8 @@ impl WideMultiples {
     fn times(&self, lanes: u8x64) -> u8x64
         ensures { (c : ℕ) → HasProducts 64 c self.now.low self.now.high → result ≡ map (product c) lanes }
     {
-        self.low
-            .swizzle_dyn_within::<16>(lanes & u8x64::splat(15))
-            ^ self.high
-                .swizzle_dyn_within::<16>(lanes >> u8x64::splat(4))
+        self.low.swizzle_dyn_within::<16>(lanes & u8x64::splat(15))
+            ^ self.high.swizzle_dyn_within::<16>(lanes >> u8x64::splat(4))
     }
 
     /// Adds 64 products from `at` on.

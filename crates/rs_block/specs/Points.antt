@@ -1,5 +1,6 @@
 -- What Lagrange's formula keeps of its places.
 use Rattle.std.specs.Prelude.{ℕ, List, ◌≡◌, ◌<◌, length, slice_index}
+use Rattle.gf_field.specs.Power.{power}
 pub use Rattle.gf_field.specs.Power.{powers}
 use Rattle.gf_field.specs.Inverse.{inverse}
 use Rattle.gf_field.specs.Interpolation.{differences, others}
@@ -8,7 +9,7 @@ use Rattle.gf_field.specs.Interpolation.{differences, others}
 unfoldable pub weight_at : List ℕ → ℕ → ℕ
 weight_at places m = inverse (differences (others m places) m)
 
--- the weights of the places, in their order
+-- the logarithms of the places' weights, in their order
 pub record AreWeights (places weights : List ℕ) : Type 0 where
   pub count : length weights ≡ length places
-  pub each : (i : ℕ) → i < length places → slice_index weights i ≡ weight_at places (slice_index places i)
+  pub each : (i : ℕ) → i < length places → power (slice_index weights i) ≡ weight_at places (slice_index places i)

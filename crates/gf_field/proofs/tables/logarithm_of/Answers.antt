@@ -1,4 +1,4 @@
-use Rattle.std.proofs.Common.{◌∙◌, ap, arith, get_or, sym, ◌<◌, ◌≡◌, subst, ℕ}
+use Rattle.std.proofs.Common.{◌∙◌, ap, arith, get_or, ◌<◌, ◌≡◌}
 use Rattle.gf_field.specs.Power.{power}
 use Rattle.gf_field.specs.declared.tables.TheConstants.{LOGARITHMS}
 use Rattle.gf_field.proofs.TableLemmas.{logarithm_below, logarithm_is}

@@ -1,4 +1,4 @@
-use Rattle.std.proofs.Common.{arith, ◌≡◌, ◌≤◌, length, sym, ◌∙◌, subst, ℕ}
+use Rattle.std.proofs.Common.{arith, ◌≡◌, ◌≤◌, length, ◌∙◌, subst}
 use Rattle.gf_field.specs.Lanes.{IsAdded}
 use Rattle.gf_field.proofs.LaneLemmas.{added_on}
 use Rattle.gf_field.proofs.lanes.Multiples.add_all.Goals as goal

@@ -6,7 +6,7 @@ abbrev pub invariant-loop-dst : goal.invariant-loop-dst
 invariant-loop-dst l = record {
   begun : l.from ≤ l.at;
   within : l.at ≤ length l.dst;
-  added : (k : ℕ) → HasProducts 16 k l.self.low l.self.high → IsAdded k l.from l.at l.fn.dst l.src l.dst
+  added : (k : ℕ) → HasProducts 16 k l.self.low l.self.high → IsAdded k l.from l.at l.fn.dst l.src l.dst;
 }
 
 abbrev pub decreases-loop-dst : goal.decreases-loop-dst

@@ -6,7 +6,7 @@ abbrev pub invariant-loop-dst : goal.invariant-loop-dst
 invariant-loop-dst l = record {
   begun : 0 ≤ l.at;
   within : l.at ≤ length l.dst;
-  added : (k : ℕ) → HasProducts 64 k l.self.low l.self.high → IsAdded k 0 l.at l.fn.dst l.src l.dst
+  added : (k : ℕ) → HasProducts 64 k l.self.low l.self.high → IsAdded k 0 l.at l.fn.dst l.src l.dst;
 }
 
 abbrev pub decreases-loop-dst : goal.decreases-loop-dst
