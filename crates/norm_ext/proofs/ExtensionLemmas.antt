@@ -1,12 +1,13 @@
 -- Header extensions as pieces.
-use Rattle.std.proofs.Common.{◌≡◌, ℕ, zero, suc, ◌+◌, ◌-◌, ◌*◌, ◌/◌, ◌<◌, ◌≤◌, cond, ltb, eqb, Bool, true, false, List, [], ◌∷◌, ◌++◌, length, get_or, take, drop, Result, Ok, Err, refl, sym, ap, ◌∙◌, arith, inl, inr, lt-ltb, ne_eqb, length-append, length-drop}
+use Rattle.std.proofs.Common.{◌≡◌, ℕ, zero, suc, ◌+◌, ◌-◌, ◌*◌, ◌/◌, ◌%◌, ◌<◌, ◌≤◌, cond, ltb, eqb, Bool, true, false, List, [], ◌∷◌, ◌++◌, length, get_or, take, drop, Result, Ok, Err, refl, sym, ap, ◌∙◌, arith, inl, inr, lt-ltb, ne_eqb, length-append, length-drop}
+use Rattle.std.specs.List.{flat_map, AllByRecursion}
 use Rattle.std.proofs.lemmas.Bool.{cases_lt, ltb-false, ltb-true, le-ltb, eqb-true}
 use Rattle.std.proofs.lemmas.List.{take_at, drop_at, drop-take, length-take}
 use Rattle.norm_ext.specs.Extensions.{Extension, extension_octets, extension_length, first_extension, extension_checked, extensions_of, extensions_checked, IsExtension, IsChecked, most_words, extension_of, content_at}
 use Rattle.norm_ext.specs.declared.refusal.ExtFault.{ExtFault}
 use Rattle.norm_ext.specs.declared.refusal.ExtFault.TheVariants.{ZeroLength, Overrun}
 use Rattle.norm_ext.specs.Pieces.{pieces_behind, checked_then, checked_behind}
-use Rattle.norm_ext.proofs.PieceLemmas.{IsOctets, IsKind, unroll, ok_first, ok_rest, unroll_checked, first_checked}
+use Rattle.norm_ext.proofs.PieceLemmas.{IsOctets, IsKind, unroll, ok_first, ok_rest, unroll_checked, first_checked, together}
 
 -- a test that refuses nothing
 passes : {A : Type 0} (b : Bool) (x : A) (r : Result (Unit {0}) A) → cond b (Err x) r ≡ Ok tt → (b ≡ false) × (r ≡ Ok tt)
@@ -235,3 +236,14 @@ cut_parts words some is =
       u.parts ∙ ap (λ (t : List ℕ). extension_of (get_or words 0 0) t ∷ extensions_of (drop len words)) (sym cut),
       u.rest,
     )
+
+-- extensions are whole words
+pub extension_size : (list : List Extension) → AllByRecursion IsExtension list → length (flat_map extension_octets list) % 4 ≡ 0
+extension_size [] all = refl
+extension_size (x ∷ list) all =
+    let rest = extension_size list all.1 in
+    omega (arith, rest, all.0.whole, length-append (extension_octets x) (flat_map extension_octets list))
+
+-- the extensions of a list put together again are the list
+pub exts_together : (exts : List ℕ) → IsOctets exts → IsChecked exts → flat_map extension_octets (extensions_of exts) ≡ exts
+exts_together exts fits is = together extension_octets first_extension extension_length extension_checked extension_kind 0 0 exts fits (omega arith) is.checked

@@ -11,3 +11,5 @@ pub mod Octets
 pub mod Reading
 pub mod ObjectIds
 pub mod Asking
+pub mod Spells
+pub mod Laws

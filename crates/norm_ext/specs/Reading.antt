@@ -216,7 +216,7 @@ command_by commands.Application octets = opaque_read octets
 
 -- the sub-type of a command
 abbrev pub sub_type_in : List ℕ → Result CommandType Refusal
-sub_type_in octets = elim (sub_type_of (octet 12 octets)) [ Some sub_type ↦ Ok sub_type | None ↦ Err (SubType (octet 12 octets)) ]
+sub_type_in octets = some_or (sub_type_of (octet 12 octets)) (SubType (octet 12 octets))
 
 -- a command
 unfoldable pub command_read : List ℕ → Result Message Refusal
@@ -295,7 +295,7 @@ read_as types.Report octets = report_read octets
 
 -- the type of a message
 abbrev pub known_type : List ℕ → Result MessageType Refusal
-known_type octets = elim (type_of (type_in octets)) [ Some kind ↦ Ok kind | None ↦ Err (BadType (type_in octets)) ]
+known_type octets = some_or (type_of (type_in octets)) (BadType (type_in octets))
 
 -- the message that the octets spell, or the first refusal
 unfoldable pub decoded : List ℕ → Result Message Refusal

@@ -8,7 +8,9 @@ mod fti;
 mod head;
 pub mod header;
 mod kinds;
+pub mod laws;
 mod numbers;
+pub mod pushing;
 mod refusal;
 mod requests;
 
