@@ -35,6 +35,7 @@ DueIsHanded p h r = IfSome r.instance (λ id. IfSome r.due (λ at. IsFront (upto
 abbrev pub SaidIsHanded : Settings → History → AckMessage → Type 0
 SaidIsHanded p h m = IfSome (acknowledged p m) (λ at. IsFront (upto_in p h m.instance at) (hands h.happened m.source m.instance))
 
+-- the acknowledgements that are due, and those that were said
 pub record AcknowledgesHanded (p : Settings) (h : History) : Type 0 where
   pub due : AllByRecursion (DueIsHanded p h) h.now.receivers
   pub said : AllByRecursion (SaidIsHanded p h) (said_acks h.now)
@@ -46,11 +47,13 @@ due_is_handed p h r = elim r.instance [
   | None ↦ true
 ]
 
+-- everything before an acknowledgement that was said was taken
 abbrev pub said_is_handed : Settings → History → AckMessage → Bool
 said_is_handed p h m = elim (acknowledged p m) [
   | Some at ↦ is_front (upto_in p h m.instance at) (hands h.happened m.source m.instance)
   | None ↦ true
 ]
 
+-- of all of them
 abbrev pub acknowledges_handed : Settings → History → Bool
 acknowledges_handed p h = list_all (due_is_handed p h) h.now.receivers && list_all (said_is_handed p h) (said_acks h.now)

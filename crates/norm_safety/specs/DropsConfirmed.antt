@@ -31,6 +31,7 @@ HandedDropped p h i r = IfSome (last_dropped p i) (λ at. IsFront (upto p i.orde
 abbrev pub InHold : Settings → Type 0 → Type 0
 InHold p Claim = elim p.mode as (λ m. Type 0) [ mode.Hold ↦ Claim | mode.Drop ↦ ⊤ ]
 
+-- of each instance and each receiver
 pub record DropsConfirmed (p : Settings) (h : History) : Type 0 where
   pub each : InHold p (AllByRecursion (λ i. AllByRecursion (HandedDropped p h i) h.now.receivers) (instances h.now.sender))
 
@@ -38,6 +39,7 @@ pub record DropsConfirmed (p : Settings) (h : History) : Type 0 where
 abbrev pub handed_dropped : Settings → History → Instance → ReceiverState → Bool
 handed_dropped p h i r = elim (last_dropped p i) [ Some at ↦ is_front (upto p i.order at) (hands h.happened r.node i.id) | None ↦ true ]
 
+-- of each instance and each receiver
 abbrev pub drops_confirmed : Settings → History → Bool
 drops_confirmed p h = elim p.mode [
   | mode.Hold ↦ list_all (λ i. list_all (handed_dropped p h i) h.now.receivers) (instances h.now.sender)

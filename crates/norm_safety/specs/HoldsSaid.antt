@@ -63,6 +63,7 @@ pub record HoldsIn (p : Settings) (h : History) (r : ReceiverState) (id : ℕ) :
   pub order : GoesThrough p (drop_of h.now.sender id) 0 (order_of h.now.sender id) (handed_by h r id)
   pub lost : r.lost ≡ losses_in (handed_by h r id)
 
+-- of each receiver that is in an instance
 pub record HoldsSaid (p : Settings) (h : History) : Type 0 where
   pub each : AllByRecursion (λ (r : ReceiverState). IfSome r.instance (HoldsIn p h r)) h.now.receivers
 
@@ -73,5 +74,6 @@ holds_in p h r id =
     && goes_through p (drop_of h.now.sender id) 0 (order_of h.now.sender id) (handed_by h r id)
     && pointwise nat_eq r.lost (losses_in (handed_by h r id))
 
+-- of each receiver that is in an instance
 abbrev pub holds_said : Settings → History → Bool
 holds_said p h = list_all (λ (r : ReceiverState). elim r.instance [ Some id ↦ holds_in p h r id | None ↦ true ]) h.now.receivers

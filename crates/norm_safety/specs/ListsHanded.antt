@@ -9,6 +9,7 @@ use Rattle.norm_safety.specs.ListedAfter.{ListedAfter, is_listed_after}
 use Rattle.norm_safety.specs.OnceEach.{instance_ids, are_distinct}
 use Rattle.norm_safety.specs.SatisfiedExactly.{SatisfiedExactly, is_satisfied_exactly}
 
+-- listings, outcomes, the ids of instances, and those that each receiver was in
 pub record ListsHanded (p : Settings) (h : History) : Type 0 where
   pub listed : ListedAfter p h
   pub satisfied : SatisfiedExactly h

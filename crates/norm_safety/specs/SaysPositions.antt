@@ -27,6 +27,7 @@ squelches_dropped p s m =
     let index = index_of p m.object in
     not (point_before (drop_of s m.head.instance) (point index m.id.block)) && (m.id.block == 0 || is_stream_at s m.head.instance index)
 
+-- of each flush and each squelch that was said
 pub record SaysPositions (p : Settings) (h : History) : Type 0 where
   pub flushes : AllByRecursion (λ m. IsTrue (flushes_source p h.now.sender m)) (said_flushes h.now)
   pub squelches : AllByRecursion (λ m. IsTrue (squelches_dropped p h.now.sender m)) (said_squelches h.now)

@@ -57,6 +57,7 @@ OrderGrows p order later = (index : ℕ) → IfSome (slice_get order index) (λ 
 abbrev pub OrdersGrow : Settings → Happening → Type 0
 OrdersGrow p h = AllByRecursion (λ (i : Instance). OrderGrows p i.order (order_of h.after.sender i.id)) (instances h.before.sender)
 
+-- of each DATA and INFO that was said; and orders only grow
 pub record SaysSymbols (p : Settings) (h : History) : Type 0 where
   pub symbols : AllByRecursion (SaysSymbol p h.now.sender) (said_data h.now)
   pub infos : AllByRecursion (SaysInfo p h.now.sender) (said_infos h.now)
@@ -64,13 +65,16 @@ pub record SaysSymbols (p : Settings) (h : History) : Type 0 where
 
 -- What is said of objects, as a test.
 
+-- two of transmission information are equal
 abbrev pub same_fti : Fti → Fti → Bool
 same_fti f g = f.l == g.l && f.e == g.e && f.b == g.b && f.max_n == g.max_n
 
+-- transmission information and flags are an object's
 abbrev pub says_object : Settings → Object → List Extension → ℕ → Bool
 says_object p object extensions flags =
     option_eq same_fti (fti_of extensions) (Some (fti_of_object p object)) && 4 * (flags / 4) == object_flags object
 
+-- a DATA carries an encoded symbol of its entry
 abbrev pub says_symbol : Settings → SenderState → DataMessage → Bool
 says_symbol p s m = elim (entry_at s m.head.instance (place_of p m).index) [
   | Some entry ↦
@@ -80,6 +84,7 @@ says_symbol p s m = elim (entry_at s m.head.instance (place_of p m).index) [
   | None ↦ false
 ]
 
+-- an INFO carries the info of its entry
 abbrev pub says_info : Settings → SenderState → InfoMessage → Bool
 says_info p s m = elim (entry_at s m.head.instance (index_of p m.head.object)) [
   | Some entry ↦
@@ -87,5 +92,6 @@ says_info p s m = elim (entry_at s m.head.instance (index_of p m.head.object)) [
   | None ↦ false
 ]
 
+-- of each DATA and INFO that was said
 abbrev pub says_symbols : Settings → History → Bool
 says_symbols p h = list_all (says_symbol p h.now.sender) (said_data h.now) && list_all (says_info p h.now.sender) (said_infos h.now)

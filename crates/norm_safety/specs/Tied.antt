@@ -10,6 +10,7 @@ use Rattle.norm_safety.specs.SaysPositions.{SaysPositions, says_positions}
 use Rattle.norm_safety.specs.SaysSymbols.{SaysSymbols, says_symbols}
 use Rattle.norm_safety.specs.WantsSent.{WantsSent, wants_sent}
 
+-- all seven
 pub record Tied (p : Settings) (h : History) : Type 0 where
   pub symbols : SaysSymbols p h
   pub positions : SaysPositions p h

@@ -31,6 +31,7 @@ is_there shapes (Symbol at) = is_encoded shapes at
 abbrev pub is_wanted_well : Settings → SenderState → Want → Bool
 is_wanted_well p s w = stands_behind s.current.drop w && is_there (current_shapes p s) w
 
+-- of each symbol and info that was said, and of each want
 pub record WantsSent (p : Settings) (h : History) : Type 0 where
   pub symbols : AllByRecursion (λ m. IsTrue (symbol_counts p h.now.sender m)) (said_data h.now)
   pub infos : AllByRecursion (λ m. IsTrue (info_counts p h.now.sender m)) (said_infos h.now)
