@@ -1,7 +1,7 @@
 """Deliberate errors in the definitions. Each is one changed text in one file, and a run or a case has to part from it."""
 import cases
 import terms
-from evaluating import Variant
+from evaluating import Failed, Variant
 
 S, R, X = 'norm_send_rules', 'norm_receive_rules', 'norm_ext'
 # what is wrong, the crate, the file, the text, and what stands in its place
@@ -150,7 +150,7 @@ ERRORS = [
     ('a flush symbol past the sources counts', R, 'StreamNeeds', 'min (at.symbol + 1) (source_symbols (cut_of_plan plan) at.block)', 'at.symbol + 1'),
     ('symbols of a block that is done are asked for', R, 'StreamNeeds', 'elim (is_done s plan block) [\n  | true ↦ []', 'elim (false && is_done s plan block) [\n  | true ↦ []'),
     ('symbols before the end are not asked for', R, 'StreamNeeds', '[ Some at ↦ missing_symbols s plan at.block at.symbol | None ↦ [] ]', '[ Some at ↦ [] | None ↦ [] ]'),
-    ('a symbol stands twice', R, 'StreamNeeds', 'first ++ filter (λ at. not (list_any (same_place at) first)) (end_symbols s plan end)', 'first ++ end_symbols s plan end'),
+    ('a symbol stands twice', R, 'StreamNeeds', 'first ++ filter (λ at. not (list_any (same_position at) first)) (end_symbols s plan end)', 'first ++ end_symbols s plan end'),
     ('the rest is asked for from the whole block on', R, 'StreamNeeds', 'elim (is_done s plan block) [ true ↦ block + 1 | false ↦ block ]', 'elim (is_done s plan block) [ true ↦ block | false ↦ block ]'),
     ('the rest is asked for behind the greatest block', R, 'StreamNeeds', 'elim (is_done s plan block) [ true ↦ block + 1 | false ↦ block ]', 'elim (is_done s plan block) [ true ↦ block + 1 | false ↦ block + 1 ]'),
     ('the rest is asked for though the end is held', R, 'StreamNeeds', 'elim (is_none end && ', 'elim ('),
@@ -185,10 +185,20 @@ def look(space, runs, names, at_once=6):
     missed = 0
     for i in range(0, len(errors), at_once):
         part = errors[i:i + at_once]
-        variants = [Variant(space, e[1:], '_v%d' % n) for n, e in enumerate(part)]
-        for (what, _, name, _, _), said in zip(part, space.evaluate_variants(variants, everything)):
+        for (what, _, name, _, _), said in zip(part, evaluated(space, part, everything)):
             seen = [case for case, text in said.items() if text]
             more = ' and %d more' % (len(seen) - 3) if len(seen) > 3 else ''
             print('| %s | `%s` | %s |' % (what, name, ', '.join(seen[:3]) + more or 'NOT NOTICED'), flush=True)
             missed += not seen
     return '%d errors' % len(errors), missed
+
+
+def evaluated(space, errors, everything):
+    """What is said of each error. Where one of several can't be read, each is evaluated alone."""
+    try:
+        return space.evaluate_variants([Variant(space, e[1:], '_v%d' % n) for n, e in enumerate(errors)], everything)
+    except Failed as e:
+        if len(errors) > 1:
+            return [evaluated(space, [one], everything)[0] for one in errors]
+        print('%s: %s' % (errors[0][0], str(e)[:500]), flush=True)
+        return [{}]

@@ -20,6 +20,18 @@ SHARED = '\n'.join(open(os.path.join(HERE, f), encoding='utf-8').read() for f in
 PUBLIC = re.findall(r'^(?:abbrev pub|pub data) (\S+) :', terms.NUMERALS + SHARED, re.M) + ['Do', 'Pass', 'Look']
 
 
+# names that a changed text may need, and where they are
+NAMES = {
+    'Rattle.std.specs.Prelude': ['None', 'Some', 'true', 'false', 'not', '◌&&◌', '◌||◌', '◌+◌', '◌*◌', 'max', 'min', 'length', 'map', 'filter', 'reverse', 'take',
+                                 'nat_lt', 'nat_le', '[]', '◌∷◌', '◌++◌'],
+    'Rattle.std.specs.List': ['list_any'],
+    'Rattle.fec_plan.specs.Partition': ['source_symbols'],
+    'Rattle.norm_order.specs.Shapes': ['is_encoded'],
+    'Rattle.norm_send_rules.specs.SenderState': ['Listing'],
+    'Rattle.norm_receive_rules.specs.ReceiverState': ['Held'],
+}
+
+
 class Variant:
     """The definitions as they are; or with one text of a file changed, in copies of its crate and of those above it."""
 
@@ -38,7 +50,8 @@ class Variant:
             text = open(path, encoding='utf-8').read()
             if text.count(self.named(old)) != 1:
                 raise Failed('its text stands %d times in %s' % (text.count(old), name))
-            put(path, text.replace(self.named(old), self.named(new)))
+            text = text.replace(self.named(old), self.named(new))
+            put(path, self.named(self.uses(text, new)) + text)
 
     def copy(self, source, target):
         shutil.rmtree(target, ignore_errors=True)
@@ -47,6 +60,14 @@ class Variant:
             for n in names:
                 path = os.path.join(folder, n)
                 put(path, self.named(open(path, encoding='utf-8').read()))
+
+    @staticmethod
+    def uses(text, new):
+        """The `use` lines that the changed text needs."""
+        named = ' '.join(re.findall(r'^use .*', text, re.M))
+        has = lambda name: re.search(r'[{, ]%s[,}]' % re.escape(name), named)
+        needs = lambda name: re.search(r'(?<!\S)\(?%s(?![\w_])' % re.escape(name.strip('◌')), new)
+        return ''.join('use %s.{%s}\n' % (module, name) for module, names in NAMES.items() for name in names if needs(name) and not has(name))
 
     def name_of(self, crate):
         return self.changed.get(crate, crate)

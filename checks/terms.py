@@ -52,6 +52,7 @@ use Rattle.norm_safety.specs.InOrder.{is_in_order}
 use Rattle.norm_safety.specs.ListedAfter.{is_listed_after}
 use Rattle.norm_safety.specs.SatisfiedExactly.{is_satisfied_exactly}
 use Rattle.norm_safety.specs.Safe.{is_safe}
+use Rattle.norm_safety.specs.Tied.{is_tied}
 '''
 # a list of so many octets from one numeral, which is read several times faster than a list
 NUMERALS = '''

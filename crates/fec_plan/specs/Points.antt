@@ -26,6 +26,10 @@ abbrev pub position_before : Position → Position → Bool
 position_before a b =
     point_before (point_of a) (point_of b) || (a.index == b.index && a.block == b.block && nat_lt a.symbol b.symbol)
 
+-- the same position
+abbrev pub same_position : Position → Position → Bool
+same_position a b = a.index == b.index && a.block == b.block && a.symbol == b.symbol
+
 -- at this position or behind it
 abbrev pub reaches : Position → Position → Bool
 reaches at goal = not (position_before at goal)

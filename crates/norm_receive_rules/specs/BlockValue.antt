@@ -5,9 +5,11 @@ use Rattle.gf_field.specs.Symbol.{solved_symbol}
 use Rattle.norm_receive_rules.specs.ReceiverState.{ReceiverState, Plan, Held}
 use Rattle.norm_receive_rules.specs.Plans.{cut_of_plan, says_stream, held_of, is_done}
 
+-- the ids of held symbols
 abbrev pub ids_of : List Held → List ℕ
 ids_of held = map (λ (h : Held). h.at.symbol) held
 
+-- the octets of held symbols
 abbrev pub octets_of_held : List Held → List (List ℕ)
 octets_of_held held = map (λ (h : Held). h.octets) held
 

@@ -54,6 +54,7 @@ fit_of p s index f flags = elim (first_where (
     ∷ []
     )) [ Some word ↦ word | None ↦ fit.Taken ]
 
+-- plans are ordered by index
 abbrev pub plan_before : Plan → Plan → Bool
 plan_before a b = nat_lt a.index b.index
 

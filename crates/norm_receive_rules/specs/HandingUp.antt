@@ -36,6 +36,7 @@ block_octets s plan block = flat_map
 abbrev pub object_octets : ReceiverState → Plan → List ℕ
 object_octets s plan = take plan.fti.l (flat_map (block_octets s plan) (range_with_len 0 (blocks (cut_of_plan plan))))
 
+-- the kind that flags say
 abbrev pub kind_of : ℕ → Kind
 kind_of flags = if says_file flags then kind.File else kind.Data
 

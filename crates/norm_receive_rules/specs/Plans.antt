@@ -11,9 +11,11 @@ use Rattle.norm_receive_rules.specs.ReceiverState.{ReceiverState, Plan, Held, He
 abbrev pub says_info : ℕ → Bool
 says_info flags = has_flag flags 4
 
+-- FILE
 abbrev pub says_file : ℕ → Bool
 says_file flags = has_flag flags 16
 
+-- STREAM
 abbrev pub says_stream : ℕ → Bool
 says_stream flags = has_flag flags 32
 
@@ -21,6 +23,7 @@ says_stream flags = has_flag flags 32
 abbrev pub cut_by : Fti → ℕ → Cut
 cut_by f flags = elim (says_stream flags) [ true ↦ stream_cut f.e f.b f.max_n | false ↦ cut_of f.l f.e f.b f.max_n ]
 
+-- a plan's partition
 abbrev pub cut_of_plan : Plan → Cut
 cut_of_plan plan = cut_by plan.fti plan.flags
 

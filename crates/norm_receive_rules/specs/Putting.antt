@@ -73,9 +73,11 @@ put_info_of p s index info = elim (is_over s index) [
   | false ↦ elim (plan_of s index) [ Some plan ↦ put_info_by p s plan info | None ↦ put.Away ]
 ]
 
+-- held symbols are ordered by position
 abbrev pub held_before : Held → Held → Bool
 held_before a b = position_before a.at b.at
 
+-- held infos are ordered by index
 abbrev pub info_before : HeldInfo → HeldInfo → Bool
 info_before a b = nat_lt a.index b.index
 
@@ -89,8 +91,10 @@ abbrev pub with_info : Put → ℕ → List ℕ → ReceiverState → ReceiverSt
 with_info put.Kept index info s = record s { infos = with_member info_before (record { index = index; info = info }) s.infos }
 with_info _ index info s = s
 
+-- a symbol comes
 abbrev pub put_symbol : Settings → Position → List ℕ → ReceiverState → ReceiverState
 put_symbol p at payload s = with_symbol (put_of p s at payload) at payload s
 
+-- an info comes
 abbrev pub put_info : Settings → ℕ → List ℕ → ReceiverState → ReceiverState
 put_info p index info s = with_info (put_info_of p s index info) index info s

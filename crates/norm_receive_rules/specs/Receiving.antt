@@ -30,19 +30,23 @@ object_received p at extensions flags put s = elim (fti_of extensions) [
   | None ↦ handed_up p (put (sees (point_of at) s))
 ]
 
+-- an INFO counts as block 0, symbol 0 of its object
 abbrev pub info_received : Settings → InfoMessage → ReceiverState → ReceiverState
 info_received p m s =
     let index = index_of p m.head.object in
     object_received p (position index 0 0) m.extensions m.head.flags (put_info p index m.info) s
 
+-- a DATA
 abbrev pub data_received : Settings → DataMessage → ReceiverState → ReceiverState
 data_received p m s =
     let at = position (index_of p m.head.object) m.id.block m.id.symbol in
     object_received p at m.extensions m.head.flags (put_symbol p at m.payload) s
 
+-- a flush
 abbrev pub flush_received : Settings → FlushCommand → ReceiverState → ReceiverState
 flush_received p m s = flushed (position (index_of p m.object) m.id.block m.id.symbol) m.nodes s
 
+-- a squelch
 abbrev pub squelch_received : Settings → SquelchCommand → ReceiverState → ReceiverState
 squelch_received p m s = squelched p (point (index_of p m.object) m.id.block) s
 

@@ -3,7 +3,7 @@ use Rattle.std.specs.Prelude.{ℕ, ◌+◌, ◌-◌, ◌==◌, ◌&&◌, ◌||�
 use Rattle.std.specs.List.{range_with_len, list_any}
 use Rattle.norm_base.specs.Settings.{Settings}
 use Rattle.fec_plan.specs.Partition.{source_symbols}
-use Rattle.fec_plan.specs.Points.{position}
+use Rattle.fec_plan.specs.Points.{position, same_position}
 use Rattle.fec_plan.specs.declared.position.Position.{Position}
 use Rattle.norm_ext.specs.Asking.{block_flag}
 use Rattle.norm_ext.specs.declared.kinds.Form.TheVariants as form
@@ -76,14 +76,11 @@ end_symbols s plan end = elim (is_covered s plan.index) [
   | false ↦ []
 ]
 
-abbrev pub same_place : Position → Position → Bool
-same_place a b = a.block == b.block && a.symbol == b.symbol
-
 -- the symbols of the flush's block, and those of the end's block that are not among them
 abbrev pub last_symbols : ReceiverState → Plan → Option Position → List Position
 last_symbols s plan end =
     let first = flush_symbols s plan in
-    first ++ filter (λ at. not (list_any (same_place at) first)) (end_symbols s plan end)
+    first ++ filter (λ at. not (list_any (same_position at) first)) (end_symbols s plan end)
 
 -- the sender was seen or heard to be past the stream
 abbrev pub is_behind : ReceiverState → ℕ → Bool

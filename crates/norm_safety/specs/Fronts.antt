@@ -11,6 +11,7 @@ use Rattle.norm_order.specs.declared.up.Up.TheVariants as up
 abbrev pub IsFront : {X : Type 0} → List X → List X → Type 0
 IsFront {X} front whole = (rest : List X) × (whole ≡ front ++ rest)
 
+-- two kinds are equal
 abbrev pub same_kind : Kind → Kind → Bool
 same_kind kind.Data kind.Data = true
 same_kind kind.File kind.File = true

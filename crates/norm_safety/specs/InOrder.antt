@@ -114,6 +114,7 @@ parts_handed p index object handed = common_prefix_len same_up (parts_of p index
 abbrev pub behind : Settings → Point → ℕ → Object → List Up → Option (List Up)
 behind p dropped index object handed = behind_object p dropped index object (parts_handed p index object handed) handed
 
+-- hand-ups go through an order, from an index on
 unfoldable pub goes_through : Settings → Point → ℕ → List Entry → List Up → Bool
 goes_through p dropped index order [] = true
 goes_through p dropped index [] (x ∷ handed) = false

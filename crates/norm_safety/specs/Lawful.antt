@@ -40,24 +40,30 @@ LawfulFrom p w accepted [] = ⊤
 LawfulFrom p w accepted (e ∷ events) =
     let step = world_step p w e in MayCome w accepted e × LawfulFrom p step.0 (accepted_with accepted e step.1) events
 
+-- a run is lawful where each of its events may come
 abbrev pub Lawful : Settings → List Event → Type 0
 Lawful p events = LawfulFrom p (world_opening p) [] events
 
 -- The same as tests.
 
+-- two origins are equal
 abbrev pub same_origin : Origin → Origin → Bool
 same_origin a b = a.producer == b.producer && a.number == b.number
 
+-- two lists of octets are equal
 abbrev pub same_octets : List ℕ → List ℕ → Bool
 same_octets a b = pointwise nat_eq a b
 
+-- all that was handed up to a node was taken
 abbrev pub all_taken : Option ReceiverState → Bool
 all_taken (Some r) = elim r.ups [ [] ↦ true | up ∷ ups ↦ false ]
 all_taken None = true
 
+-- another node offered the datagram before
 abbrev pub is_lawful_delivery : World → ℕ → List ℕ → Bool
 is_lawful_delivery w node datagram = list_any (λ (o : ℕ × List ℕ). not (o.0 == node) && same_octets o.1 datagram) w.offered
 
+-- an event may come
 abbrev pub may_come : World → List Origin → Event → Bool
 may_come w accepted (Commanded by job now) = not (list_any (same_origin by) accepted)
 may_come w accepted (Delivered node datagram now draw) = is_lawful_delivery w node datagram
@@ -66,11 +72,13 @@ may_come w accepted (Offered node datagram) = list_any (λ (g : ℕ × List ℕ)
 may_come w accepted (UpTaken node) = true
 may_come w accepted NewsAsked = true
 
+-- each event may come
 unfoldable pub is_lawful_from : Settings → World → List Origin → List Event → Bool
 is_lawful_from p w accepted [] = true
 is_lawful_from p w accepted (e ∷ events) =
     let step = world_step p w e in
     elim (may_come w accepted e) [ true ↦ is_lawful_from p step.0 (accepted_with accepted e step.1) events | false ↦ false ]
 
+-- a run is lawful
 abbrev pub is_lawful : Settings → List Event → Bool
 is_lawful p events = is_lawful_from p (world_opening p) [] events

@@ -10,3 +10,12 @@ pub mod InOrder
 pub mod ListedAfter
 pub mod SatisfiedExactly
 pub mod Safe
+pub mod Said
+pub mod SaysSymbols
+pub mod SaysPositions
+pub mod HoldsSaid
+pub mod AcknowledgesHanded
+pub mod ListsHanded
+pub mod WantsSent
+pub mod DropsConfirmed
+pub mod Tied

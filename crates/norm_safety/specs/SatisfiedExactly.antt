@@ -24,12 +24,14 @@ stood_past s mark = elim (request_of s mark) [ Some w ↦ all_past s w.at | None
 abbrev pub was_past : List Happening → ℕ → Bool
 was_past happened mark = list_any (λ (h : Happening). had_not_ended h.before.sender mark && stood_past h.after.sender mark) happened
 
+-- a request ended as satisfied
 abbrev pub is_satisfied : Watermark → Bool
 is_satisfied w = elim w.ended [
   | Some o ↦ elim o [ outcome.Open left ↦ false | outcome.Satisfied ↦ true | outcome.Expired left ↦ false | outcome.Cut ↦ false ]
   | None ↦ false
 ]
 
+-- two outcomes are equal
 abbrev pub same_outcome : Outcome → Outcome → Bool
 same_outcome (outcome.Open a) (outcome.Open b) = a == b
 same_outcome outcome.Satisfied outcome.Satisfied = true

@@ -25,9 +25,11 @@ of_receiver word w step = (with_receiver step.0 w, word step.1)
 abbrev pub gives : ℕ → Option (List ℕ) → World → World × Answer
 gives node datagram w = (with_given node datagram w, Sent datagram)
 
+-- the sender ticks
 abbrev pub sender_ticks : Settings → ℕ → World → World × Answer
 sender_ticks p now w = let step = sender_ticked p w.sender now in gives p.sender step.1 (record w { sender = step.0 })
 
+-- a receiver ticks
 abbrev pub receiver_ticks : Settings → ℕ → World → ReceiverState → World × Answer
 receiver_ticks p now w r = let step = receiver_ticked p r now in gives r.node step.1 (with_receiver step.0 w)
 
@@ -54,5 +56,6 @@ world_step p w NewsAsked = of_sender Told w (told w.sender)
 abbrev pub run_from : Settings → World → List Event → World
 run_from p w events = fold (λ w e. (world_step p w e).0) w events
 
+-- the world after a run
 abbrev pub run : Settings → List Event → World
 run p events = run_from p (world_opening p) events

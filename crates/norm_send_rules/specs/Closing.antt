@@ -17,6 +17,7 @@ use Rattle.norm_send_rules.specs.Asking.{wants_of, counts_of}
 use Rattle.norm_send_rules.specs.declared.want.Want.{Want}
 use Rattle.norm_send_rules.specs.declared.want.Want.TheVariants.{Symbol}
 
+-- two points are equal
 abbrev pub same_point : Point → Point → Bool
 same_point a b = a.index == b.index && a.block == b.block
 

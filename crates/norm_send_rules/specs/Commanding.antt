@@ -19,6 +19,7 @@ abbrev pub refused_as : {E : Type 0} → (E → SendFault) → Result Receipt E 
 refused_as word (Ok receipt) = Ok receipt
 refused_as word (Err fault) = Err (word fault)
 
+-- a part's step, as the sender's
 abbrev pub answered : {E : Type 0} → (E → SendFault) → SenderState × Result Receipt E → SenderState × Result Receipt SendFault
 answered word step = (step.0, refused_as word step.1)
 

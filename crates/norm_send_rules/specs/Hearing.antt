@@ -63,9 +63,11 @@ credited node at s = elim (rises node at s) [
 abbrev pub credited_at : Settings → ℕ → Position → SenderState → SenderState
 credited_at p node at s = elim (is_source (current_shapes p s) at) [ true ↦ credited node at s | false ↦ s ]
 
+-- a NACK
 abbrev pub nack_heard : Settings → SenderState → ℕ → NackMessage → SenderState
 nack_heard p s now m = elim (is_for p s m.source m.sender m.instance) [ true ↦ joined_round p s now m.requests | false ↦ s ]
 
+-- an acknowledgement: of a flush the position counts, and others change nothing
 abbrev pub ack_heard : Settings → SenderState → AckMessage → SenderState
 ack_heard p s m = elim (is_for p s m.source m.sender m.instance) [
   | true ↦ elim m.content [

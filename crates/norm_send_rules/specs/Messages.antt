@@ -24,6 +24,7 @@ told_length p (Stream parts) = p.blocks * p.b * p.e
 abbrev pub fti_of_object : Settings → Object → Fti
 fti_of_object p object = record { l = told_length p object; e = p.e; b = p.b; max_n = p.max_n }
 
+-- FILE
 abbrev pub file_flag : Kind → ℕ
 file_flag kind.Data = 0
 file_flag kind.File = 16
@@ -37,6 +38,7 @@ object_flags (Stream parts) = 32
 abbrev pub parity_repair : ℕ
 parity_repair = 1
 
+-- REPAIR and EXPLICIT
 abbrev pub explicit_repair : ℕ
 explicit_repair = 3
 

@@ -21,6 +21,7 @@ pending s at = map (λ (l : Listing). l.node) (filter (λ l. not (is_past at l))
 abbrev pub all_past : SenderState → Position → Bool
 all_past s at = list_all (is_past at) s.listings
 
+-- a request did not end
 abbrev pub is_open : Watermark → Bool
 is_open w = is_none w.ended
 
