@@ -1,7 +1,7 @@
 #!/usr/bin/env python3
 """Evaluates the definitions of the protocol (crates/*/specs) on recorded runs.
 
-    checks/definitions.py [--traces DIR] [--count N] [--safe] [--cases] [--damaged] [--errors] [NAME ..]
+    checks/definitions.py [--traces DIR] [--count N] [--safe] [--cases] [--damaged] [--errors] [--gate] [NAME ..]
 
 A recorded run is a list of events with what each gave, and where the nodes stood at its end (checks/traces). For each run
 antt computes the defined steps, event by event, and compares each answer and the end state with the record: the proof of
@@ -9,8 +9,8 @@ the statement "they never part" is `refl`. Nothing is proved or built of the cra
 
 Without a flag the runs are compared. `--safe` evaluates the tests of lawfulness and safety along each run, `--cases` the
 small runs and values of checks/cases.py, `--damaged` the tests of safety on damaged runs, and `--errors` looks whether
-each deliberate error of checks/errors.py in a definition is noticed. NAME is a part of a run's name, and `--count N` takes
-N runs evenly. Exit status: 0 where all is as expected, 1 where something differs, 2 where the evaluation failed.
+each deliberate error of checks/errors.py in a definition is noticed. `--gate` compares ten runs and evaluates the cases and
+the damaged runs. NAME is a part of a run's name, and `--count N` takes N runs evenly. Exit status: 0 where all is as expected, 1 where something differs, 2 where the evaluation failed.
 """
 import argparse, glob, json, os, re, sys, tempfile, time
 
@@ -44,22 +44,17 @@ def report(name, run, text):
     return '%s: event %d: %s\n    recorded %s\n    defined  %s' % (name, n, json.dumps(event)[:300], terms.answer(event), computed)
 
 
-def compare(space, runs):
-    cases = [(name, *terms.run_case(name, run)) for name, run in runs]
-    said = space.evaluate(cases)
+def compare(space, runs, more=()):
+    """Compares runs, and evaluates further cases with them."""
+    said = space.evaluate([(name, *terms.run_case(name, run)) for name, run in runs] + list(more))
     for name, run in runs:
         if said[name]:
             print(report(name, run, said[name]))
+    for name, *_ in more:
+        if said[name]:
+            print('%s: computed %s' % (name, found_in(said[name]) or said[name][:1500]))
     events = sum(len(run['events']) for _, run in runs)
-    return '%d runs of %d events' % (len(runs), events), sum(1 for x in said.values() if x)
-
-
-def simple(space, cases, what, expected=None):
-    said = space.evaluate(cases)
-    for name, text in said.items():
-        if text:
-            print('%s: computed %s' % (name, found_in(text) or text[:1500]))
-    return '%d %s' % (len(cases), what), sum(1 for x in said.values() if x)
+    return '%d runs of %d events, %d cases' % (len(runs), events, len(more)), sum(1 for x in said.values() if x)
 
 
 def main():
@@ -68,10 +63,10 @@ def main():
     a.add_argument('--traces', default=os.path.join(HERE, 'traces'))
     a.add_argument('--count', type=int, default=0)
     a.add_argument('--work')
-    for flag in ('safe', 'cases', 'damaged', 'errors'):
+    for flag in ('safe', 'cases', 'damaged', 'errors', 'gate'):
         a.add_argument('--' + flag, action='store_true')
     a = a.parse_args()
-    runs = list(runs_of(a.traces, [] if a.errors else a.names, a.count))
+    runs = list(runs_of(a.traces, [] if a.errors else a.names, 0 if a.gate else a.count))
     began = time.time()
     with tempfile.TemporaryDirectory() as scratch:
         try:
@@ -80,13 +75,12 @@ def main():
                 import errors
                 said, differ = errors.look(space, runs, a.names)
             elif a.safe:
-                said, differ = simple(space, [(n, *terms.safe_case(n, r)) for n, r in runs], 'runs lawful and safe')
-            elif a.damaged:
-                import damaged
-                said, differ = simple(space, damaged.cases(runs), 'damaged runs')
-            elif a.cases:
+                said, differ = compare(space, [], [(n, *terms.safe_case(n, r)) for n, r in runs])
+            elif a.gate or a.damaged or a.cases:
                 import cases
-                said, differ = simple(space, cases.cases(), 'cases')
+                import damaged
+                more = (cases.cases() if a.gate or a.cases else []) + (damaged.cases(runs) if a.gate or a.damaged else [])
+                said, differ = compare(space, [runs[i * len(runs) // 10] for i in range(10)] if a.gate else [], more)
             else:
                 said, differ = compare(space, runs)
         except Failed as e:

@@ -7,9 +7,11 @@ pub record Point : Type 0 where
   pub index : ℕ
   pub block : ℕ
 
+-- a point by its parts
 abbrev pub point : ℕ → ℕ → Point
 point index block = record { index = index; block = block }
 
+-- a position by its parts
 abbrev pub position : ℕ → ℕ → ℕ → Position
 position index block symbol = record { index = index; block = block; symbol = symbol }
 

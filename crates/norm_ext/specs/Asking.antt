@@ -12,12 +12,15 @@ use Rattle.norm_ext.specs.declared.kinds.Form.TheVariants as form
 abbrev pub segment_flag : ℕ
 segment_flag = 1
 
+-- BLOCK
 abbrev pub block_flag : ℕ
 block_flag = 2
 
+-- INFO
 abbrev pub info_flag : ℕ
 info_flag = 4
 
+-- OBJECT
 abbrev pub object_flag : ℕ
 object_flag = 8
 
@@ -34,6 +37,7 @@ pub record Span : Type 0 where
   pub first : Position
   pub last : Position
 
+-- a span by its ends
 abbrev pub span : Position → Position → Span
 span first last = record { first = first; last = last }
 

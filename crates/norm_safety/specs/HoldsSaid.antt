@@ -35,14 +35,14 @@ plan_said p w id plan =
 -- a symbol that is held was said in an instance
 abbrev pub symbol_said : Settings → World → ℕ → Held → Bool
 symbol_said p w id held = list_any
-  (λ (m : DataMessage). m.head.instance == id && same_position (place_of p m) held.at && pointwise nat_eq m.payload held.octets)
-  (said_data w)
+    (λ (m : DataMessage). m.head.instance == id && same_position (place_of p m) held.at && pointwise nat_eq m.payload held.octets)
+    (said_data w)
 
 -- an info that is held was said in an instance
 abbrev pub info_said_of : Settings → World → ℕ → HeldInfo → Bool
 info_said_of p w id held = list_any
-  (λ (m : InfoMessage). m.head.instance == id && index_of p m.head.object == held.index && pointwise nat_eq m.info held.info)
-  (said_infos w)
+    (λ (m : InfoMessage). m.head.instance == id && index_of p m.head.object == held.index && pointwise nat_eq m.info held.info)
+    (said_infos w)
 
 -- what a node handed up in an instance, with what it handed up and was not taken yet
 abbrev pub handed_by : History → ReceiverState → ℕ → List Up

@@ -33,14 +33,14 @@ SaysObject p object extensions flags =
 -- a DATA carries an encoded symbol of its entry
 abbrev pub SaysSymbol : Settings → SenderState → DataMessage → Type 0
 SaysSymbol p s m = IsSomeAnd (entry_at s m.head.instance (place_of p m).index) (λ entry.
-  IsTrue (nat_lt m.id.symbol (encoded_in (shape_of p entry.object) m.id.block))
-  × (m.payload ≡ symbol_octets p entry.object m.id.block m.id.symbol)
-  × SaysObject p entry.object m.extensions m.head.flags)
+    IsTrue (nat_lt m.id.symbol (encoded_in (shape_of p entry.object) m.id.block))
+    × (m.payload ≡ symbol_octets p entry.object m.id.block m.id.symbol)
+    × SaysObject p entry.object m.extensions m.head.flags)
 
 -- an INFO carries the info of its entry
 abbrev pub SaysInfo : Settings → SenderState → InfoMessage → Type 0
 SaysInfo p s m = IsSomeAnd (entry_at s m.head.instance (index_of p m.head.object)) (λ entry.
-  (info_of_object entry.object ≡ Some m.info) × SaysObject p entry.object m.extensions m.head.flags)
+    (info_of_object entry.object ≡ Some m.info) × SaysObject p entry.object m.extensions m.head.flags)
 
 -- an object stays, or is a stream with more parts, of which the closed segments stay
 abbrev pub ObjectGrows : Settings → Object → Object → Type 0
@@ -51,7 +51,7 @@ ObjectGrows p (Stream parts) later =
 -- each entry of an order is in a later one, by the same command, and grew at most
 abbrev pub OrderGrows : Settings → List Entry → List Entry → Type 0
 OrderGrows p order later = (index : ℕ) → IfSome (slice_get order index) (λ entry.
-  IsSomeAnd (slice_get later index) (λ after. (after.by ≡ entry.by) × ObjectGrows p entry.object after.object))
+    IsSomeAnd (slice_get later index) (λ after. (after.by ≡ entry.by) × ObjectGrows p entry.object after.object))
 
 -- each instance's order grew at most
 abbrev pub OrdersGrow : Settings → Happening → Type 0
@@ -78,9 +78,9 @@ says_object p object extensions flags =
 abbrev pub says_symbol : Settings → SenderState → DataMessage → Bool
 says_symbol p s m = elim (entry_at s m.head.instance (place_of p m).index) [
   | Some entry ↦
-    nat_lt m.id.symbol (encoded_in (shape_of p entry.object) m.id.block)
-    && pointwise nat_eq m.payload (symbol_octets p entry.object m.id.block m.id.symbol)
-    && says_object p entry.object m.extensions m.head.flags
+      nat_lt m.id.symbol (encoded_in (shape_of p entry.object) m.id.block)
+      && pointwise nat_eq m.payload (symbol_octets p entry.object m.id.block m.id.symbol)
+      && says_object p entry.object m.extensions m.head.flags
   | None ↦ false
 ]
 
@@ -88,7 +88,7 @@ says_symbol p s m = elim (entry_at s m.head.instance (place_of p m).index) [
 abbrev pub says_info : Settings → SenderState → InfoMessage → Bool
 says_info p s m = elim (entry_at s m.head.instance (index_of p m.head.object)) [
   | Some entry ↦
-    option_eq (pointwise nat_eq) (info_of_object entry.object) (Some m.info) && says_object p entry.object m.extensions m.head.flags
+      option_eq (pointwise nat_eq) (info_of_object entry.object) (Some m.info) && says_object p entry.object m.extensions m.head.flags
   | None ↦ false
 ]
 
