@@ -12,10 +12,10 @@ some_blocks t b ht hb =
     elim (cases_lt 0 (blocks_in t b)) [
       | inl some ↦ some
       | inr none ↦
-        let zero-is : blocks_in t b ≡ 0 = omega arith in
-        let up : t ≤ blocks_in t b * b = (div_ceil_times t b hb).0 in
-        let no : blocks_in t b * b ≡ 0 * b = ap (λ (n : ℕ). n * b) zero-is in
-        absurd (omega (arith, up, no))
+          let zero-is : blocks_in t b ≡ 0 = omega arith in
+          let up : t ≤ blocks_in t b * b = (div_ceil_times t b hb).0 in
+          let no : blocks_in t b * b ≡ 0 * b = ap (λ (n : ℕ). n * b) zero-is in
+          absurd (omega (arith, up, no))
     ]
 
 -- no block is larger than it may be

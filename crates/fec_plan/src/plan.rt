@@ -141,15 +141,7 @@ impl Plan {
         if l == 0 {
             return Err(PlanFault::ZeroLength);
         }
-        if e < 64 || e > 1400 {
-            return Err(PlanFault::BadSymbol { e });
-        }
-        if b < 1 || b > 200 {
-            return Err(PlanFault::BadBlock { b });
-        }
-        if max_n < b {
-            return Err(PlanFault::BadMaxN { b, max_n });
-        }
+        check_shape(e, b, max_n)?;
         let symbols = l.div_ceil(u64::from(e));
         let blocks = symbols.div_ceil(u64::from(b));
         if blocks > 16_777_216 {

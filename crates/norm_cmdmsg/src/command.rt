@@ -18,7 +18,10 @@ pub enum CommandMsg<'a> {
         nodes: &'a [u8],
     },
     /// The transmission ends.
-    Eot { head: CmdHead, exts: &'a [u8] },
+    Eot {
+        head: CmdHead,
+        exts: &'a [u8],
+    },
     /// What stands before a symbol is not repaired any more, nor are these objects.
     Squelch {
         head: CmdHead,

@@ -101,13 +101,7 @@ fn write_squelch(
 }
 
 /// Writes a REPAIR_ADV.
-fn write_repair_adv(
-    head: &CmdHead,
-    flags: u8,
-    exts: &[u8],
-    requests: &[u8],
-    out: &mut Datagram,
-)
+fn write_repair_adv(head: &CmdHead, flags: u8, exts: &[u8], requests: &[u8], out: &mut Datagram)
     requires empty { out.old ≡ [] }
     requires head { IsNarrow head.now }
     requires room { HasRoom 16 exts.now requests.now }

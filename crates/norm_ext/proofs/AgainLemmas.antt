@@ -87,7 +87,7 @@ tail_again words octets list content is words-is long behind =
     ap (λ (n : ℕ). take n (drop (4 * words) octets)) size ∙ ap (take (length exts)) behind ∙ take_at exts content (length exts) refl in
     record {
       checked = ap (λ (t : List ℕ). extension_refused (extensions_checked (4 * words) t)) header-is
-        ∙ ap extension_refused (checked_again extension_octets IsExtension first_extension extension_length extension_checked extension_kind (4 * words) list is.each);
+          ∙ ap extension_refused (checked_again extension_octets IsExtension first_extension extension_length extension_checked extension_kind (4 * words) list is.each);
       list_is = ap extensions_of header-is ∙ pieces_again extension_octets IsExtension first_extension extension_length extension_checked extension_kind list is.each;
       content_is = ap (λ (n : ℕ). drop n octets) end ∙ sym (drop-drop (length exts) (4 * words) octets) ∙ ap (drop (length exts)) behind ∙ drop_at exts content (length exts) refl;
       least = omega (arith, words-is);

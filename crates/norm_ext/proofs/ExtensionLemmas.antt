@@ -89,10 +89,10 @@ first_spelled at (kind ∷ []) p = absurd (omega (arith, p.four))
 first_spelled at (kind ∷ words ∷ rest) p =
     elim (cases_lt kind 128) [
       | inl low ↦
-        let e = length_long kind words rest low in
-        let some : 0 < 4 * words = omega (arith, p.some, e) in
-        let within : 4 * words ≤ length (kind ∷ words ∷ rest) = omega (arith, p.within, e) in
-        spelled_long kind words rest low some within ∙ ap (λ (n : ℕ). take n (kind ∷ words ∷ rest)) (sym e)
+          let e = length_long kind words rest low in
+          let some : 0 < 4 * words = omega (arith, p.some, e) in
+          let within : 4 * words ≤ length (kind ∷ words ∷ rest) = omega (arith, p.within, e) in
+          spelled_long kind words rest low some within ∙ ap (λ (n : ℕ). take n (kind ∷ words ∷ rest)) (sym e)
       | inr high ↦ spelled_short kind (words ∷ rest) high ∙ ap (λ (n : ℕ). take n (kind ∷ words ∷ rest)) (sym (length_short kind (words ∷ rest) high))
     ]
 
@@ -103,23 +103,23 @@ first_fits at (kind ∷ words ∷ rest) fits p =
     let spelled = first_spelled at (kind ∷ words ∷ rest) p in
     elim (cases_lt kind 128) [
       | inl low ↦
-        let e = length_long kind words rest low in
-        let most = most_long kind low in
-        record {
-          kind = fits 0;
-          words = words;
-          whole = ap length spelled ∙ omega (arith, p.within, e, length-take (extension_length (kind ∷ words ∷ rest)) (kind ∷ words ∷ rest));
-          most = rw most (omega (arith, fits 1));
-        }
+          let e = length_long kind words rest low in
+          let most = most_long kind low in
+          record {
+            kind = fits 0;
+            words = words;
+            whole = ap length spelled ∙ omega (arith, p.within, e, length-take (extension_length (kind ∷ words ∷ rest)) (kind ∷ words ∷ rest));
+            most = rw most (omega (arith, fits 1));
+          }
       | inr high ↦
-        let e = length_short kind (words ∷ rest) high in
-        let most = most_short kind high in
-        record {
-          kind = fits 0;
-          words = 1;
-          whole = ap length spelled ∙ omega (arith, p.within, e, length-take (extension_length (kind ∷ words ∷ rest)) (kind ∷ words ∷ rest));
-          most = rw most (omega arith);
-        }
+          let e = length_short kind (words ∷ rest) high in
+          let most = most_short kind high in
+          record {
+            kind = fits 0;
+            words = 1;
+            whole = ap length spelled ∙ omega (arith, p.within, e, length-take (extension_length (kind ∷ words ∷ rest)) (kind ∷ words ∷ rest));
+            most = rw most (omega arith);
+          }
     ]
 
 -- ---- an extension that is spelled is there again
@@ -157,7 +157,7 @@ again_short x rest is high =
     }
 
 again : (x : Extension) (rest : List ℕ) → IsExtension x → Again x rest
-again x rest is = elim (cases_lt x.kind 128) [ | inl low ↦ again_long x rest is low | inr high ↦ again_short x rest is high ]
+again x rest is = elim (cases_lt x.kind 128) [ inl low ↦ again_long x rest is low | inr high ↦ again_short x rest is high ]
 
 again_passes : (x : Extension) (rest : List ℕ) → IsExtension x → Passes (extension_octets x ++ rest)
 again_passes x rest is =
@@ -211,7 +211,7 @@ checks_on from words rest at some ok so_far =
 
 content_small : (kind : ℕ) → content_at kind ≤ 2
 content_small kind =
-    elim (cases_lt kind 128) [ | inl low ↦ rw (lt-ltb kind 128 low) (omega arith) | inr high ↦ rw (le-ltb kind 128 high) (omega arith) ]
+    elim (cases_lt kind 128) [ inl low ↦ rw (lt-ltb kind 128 low) (omega arith) | inr high ↦ rw (le-ltb kind 128 high) (omega arith) ]
 
 long_enough : (xs : List ℕ) → Passes xs → 2 ≤ extension_length xs
 long_enough [] p = absurd (omega (arith, p.four))
@@ -231,8 +231,7 @@ cut_parts words some is =
     let at : ℕ = content_at (get_or words 0 0) in
     let len : ℕ = extension_length words in
     let e : at + (len - at) ≡ len = omega (arith, content_small (get_or words 0 0), long_enough words u.long) in
-    let cut : drop at (take len words) ≡ take (len - at) (drop at words) = ap (λ (n : ℕ). drop at (take n words)) (sym e) ∙ drop-take at (len - at) words in
-    (
+    let cut : drop at (take len words) ≡ take (len - at) (drop at words) = ap (λ (n : ℕ). drop at (take n words)) (sym e) ∙ drop-take at (len - at) words in (
       u.parts ∙ ap (λ (t : List ℕ). extension_of (get_or words 0 0) t ∷ extensions_of (drop len words)) (sym cut),
       u.rest,
     )

@@ -188,8 +188,8 @@ pub mark_spelled : (xs : List ℕ) → IsOctets xs → length xs ≡ 8 → octet
     → (item_octets (record { reserved = octet 1 xs; item = mark_in xs }) ++ [] ≡ xs) × IsItem (mark_in xs)
 mark_spelled (a ∷ b ∷ c ∷ d ∷ e ∷ f ∷ g ∷ h ∷ []) fits eight five = (
   ap (λ (t : List ℕ). (5 ∷ b ∷ t ++ name_octets (name_at 0 (e ∷ f ∷ g ∷ h ∷ []))) ++ []) (spelled_2 c d [] (fits 2) (fits 3))
-  ∙ ap (λ (t : List ℕ). (5 ∷ b ∷ c ∷ d ∷ t) ++ []) (spelled_name e f g h [] (fits 4) (fits 5) (fits 6) (fits 7))
-  ∙ ap (λ (n : ℕ). n ∷ b ∷ c ∷ d ∷ e ∷ f ∷ g ∷ h ∷ []) (sym five),
+      ∙ ap (λ (t : List ℕ). (5 ∷ b ∷ c ∷ d ∷ t) ++ []) (spelled_name e f g h [] (fits 4) (fits 5) (fits 6) (fits 7))
+      ∙ ap (λ (n : ℕ). n ∷ b ∷ c ∷ d ∷ e ∷ f ∷ g ∷ h ∷ []) (sym five),
   record { object = below_2 c d [] (fits 2) (fits 3); id = name_fits e f g h [] (fits 4) (fits 5) (fits 6) (fits 7) },
 )
 mark_spelled _ fits eight five = absurd (omega (arith, eight))

@@ -13,7 +13,7 @@ use Rattle.norm_ext.specs.declared.kinds.MessageType.TheVariants as types
 use Rattle.norm_ext.specs.declared.kinds.SubType.{SubType}
 use Rattle.norm_ext.specs.declared.kinds.SubType.TheVariants as commands
 use Rattle.norm_ext.specs.declared.refusal.Refusal.{Refusal}
-use Rattle.norm_ext.specs.declared.refusal.Refusal.TheVariants.{BadType, BadList, ItemFec} 
+use Rattle.norm_ext.specs.declared.refusal.Refusal.TheVariants.{BadType, BadList, ItemFec}
 use Rattle.norm_ext.specs.declared.refusal.Refusal.TheVariants as refusals
 use Rattle.norm_ext.proofs.PieceLemmas.{IsOctets}
 use Rattle.norm_ext.proofs.RequestLemmas.{not_refused, so_not, chosen}
@@ -143,16 +143,16 @@ ack_by : (two : Bool) (octets : List ℕ) → IsOctets octets → octet 0 octets
     → eqb (octet 14 octets) 2 ≡ two
     → ack_encoding_checked (octet 14 octets) (4 * words_of octets) (content_of octets) ≡ Ok tt → ack_length_checked (octet 14 octets) (content_of octets) ≡ Ok tt
     → Spells (Ack (
-      record {
-        source = source_of octets;
-        sequence = sequence_of octets;
-        sender = number 4 8 octets;
-        instance = number 2 12 octets;
-        ack_type = octet 14 octets;
-        ack_id = octet 15 octets;
-        extensions = extensions_of (header_from 24 octets);
-        content = cond two (Mark (mark_in (content_of octets))) (Unread (content_of octets));
-      })) octets
+    record {
+      source = source_of octets;
+      sequence = sequence_of octets;
+      sender = number 4 8 octets;
+      instance = number 2 12 octets;
+      ack_type = octet 14 octets;
+      ack_id = octet 15 octets;
+      extensions = extensions_of (header_from 24 octets);
+      content = cond two (Mark (mark_in (content_of octets))) (Unread (content_of octets));
+    })) octets
 ack_by true octets fits first least most extensions source sender is encoding size =
     let content : List ℕ = content_of octets in
     let t = tests (eqb (octet 14 octets) 2) (eqb (length content) 8) (octet 0 content) (ItemFec (4 * words_of octets) (octet 0 content)) (BadList (length content)) encoding size is in
@@ -196,31 +196,31 @@ sub_type_is n sub_type e =
     elim (chosen (eqb n 1) (Some commands.Flush) _ (Some sub_type) e) [
       | inl w ↦ (let f : commands.Flush ≡ sub_type = cc in ap sub_type_number (sym f)) ∙ sym (eqb-true n 1 w.0)
       | inr v0 ↦
-        elim (chosen (eqb n 2) (Some commands.EndOfTransmission) _ (Some sub_type) v0.1) [
-          | inl w ↦ (let f : commands.EndOfTransmission ≡ sub_type = cc in ap sub_type_number (sym f)) ∙ sym (eqb-true n 2 w.0)
-          | inr v1 ↦
-            elim (chosen (eqb n 3) (Some commands.Squelch) _ (Some sub_type) v1.1) [
-              | inl w ↦ (let f : commands.Squelch ≡ sub_type = cc in ap sub_type_number (sym f)) ∙ sym (eqb-true n 3 w.0)
-              | inr v2 ↦
-                elim (chosen (eqb n 4) (Some commands.CongestionControl) _ (Some sub_type) v2.1) [
-                  | inl w ↦ (let f : commands.CongestionControl ≡ sub_type = cc in ap sub_type_number (sym f)) ∙ sym (eqb-true n 4 w.0)
-                  | inr v3 ↦
-                    elim (chosen (eqb n 5) (Some commands.RepairAdvertisement) _ (Some sub_type) v3.1) [
-                      | inl w ↦ (let f : commands.RepairAdvertisement ≡ sub_type = cc in ap sub_type_number (sym f)) ∙ sym (eqb-true n 5 w.0)
-                      | inr v4 ↦
-                        elim (chosen (eqb n 6) (Some commands.AckRequest) _ (Some sub_type) v4.1) [
-                          | inl w ↦ (let f : commands.AckRequest ≡ sub_type = cc in ap sub_type_number (sym f)) ∙ sym (eqb-true n 6 w.0)
-                          | inr v5 ↦
-                            elim (chosen (eqb n 7) (Some commands.Application) _ (Some sub_type) v5.1) [
-                              | inl w ↦ (let f : commands.Application ≡ sub_type = cc in ap sub_type_number (sym f)) ∙ sym (eqb-true n 7 w.0)
-                              | inr v6 ↦
-                                absurd (let no : None ≡ Some sub_type = v6.1 in cc)
+          elim (chosen (eqb n 2) (Some commands.EndOfTransmission) _ (Some sub_type) v0.1) [
+            | inl w ↦ (let f : commands.EndOfTransmission ≡ sub_type = cc in ap sub_type_number (sym f)) ∙ sym (eqb-true n 2 w.0)
+            | inr v1 ↦
+                elim (chosen (eqb n 3) (Some commands.Squelch) _ (Some sub_type) v1.1) [
+                  | inl w ↦ (let f : commands.Squelch ≡ sub_type = cc in ap sub_type_number (sym f)) ∙ sym (eqb-true n 3 w.0)
+                  | inr v2 ↦
+                      elim (chosen (eqb n 4) (Some commands.CongestionControl) _ (Some sub_type) v2.1) [
+                        | inl w ↦ (let f : commands.CongestionControl ≡ sub_type = cc in ap sub_type_number (sym f)) ∙ sym (eqb-true n 4 w.0)
+                        | inr v3 ↦
+                            elim (chosen (eqb n 5) (Some commands.RepairAdvertisement) _ (Some sub_type) v3.1) [
+                              | inl w ↦ (let f : commands.RepairAdvertisement ≡ sub_type = cc in ap sub_type_number (sym f)) ∙ sym (eqb-true n 5 w.0)
+                              | inr v4 ↦
+                                  elim (chosen (eqb n 6) (Some commands.AckRequest) _ (Some sub_type) v4.1) [
+                                    | inl w ↦ (let f : commands.AckRequest ≡ sub_type = cc in ap sub_type_number (sym f)) ∙ sym (eqb-true n 6 w.0)
+                                    | inr v5 ↦
+                                        elim (chosen (eqb n 7) (Some commands.Application) _ (Some sub_type) v5.1) [
+                                          | inl w ↦ (let f : commands.Application ≡ sub_type = cc in ap sub_type_number (sym f)) ∙ sym (eqb-true n 7 w.0)
+                                          | inr v6 ↦
+                                              absurd (let no : None ≡ Some sub_type = v6.1 in cc)
+                                        ]
+                                  ]
                             ]
-                        ]
-                    ]
+                      ]
                 ]
-            ]
-        ]
+          ]
     ]
 
 command_takes_by : (sub_type : SubType) (octets : List ℕ) (m : Message) → IsOctets octets → IsHeader types.Command octets → octet 12 octets ≡ sub_type_number sub_type

@@ -67,10 +67,10 @@ items_spelled at (a ∷ b ∷ c ∷ d ∷ e ∷ f ∷ g ∷ h ∷ rest) fits who
     let others = items_spelled (at + 8) rest (λ i. fits (suc (suc (suc (suc (suc (suc (suc (suc i))))))))) (omega (arith, whole)) both.1 in
     record {
       together =
-        ap (λ (t : List ℕ). (5 ∷ b ∷ t ++ name_octets (name_at 0 (e ∷ f ∷ g ∷ h ∷ []))) ++ flat_map item_octets (items_of rest)) (spelled_2 c d [] (fits 2) (fits 3))
-        ∙ ap (λ (t : List ℕ). (5 ∷ b ∷ c ∷ d ∷ t) ++ flat_map item_octets (items_of rest)) (spelled_name e f g h [] (fits 4) (fits 5) (fits 6) (fits 7))
-        ∙ ap (λ (t : List ℕ). 5 ∷ b ∷ c ∷ d ∷ e ∷ f ∷ g ∷ h ∷ t) others.together
-        ∙ ap (λ (n : ℕ). n ∷ b ∷ c ∷ d ∷ e ∷ f ∷ g ∷ h ∷ rest) (sym five);
+          ap (λ (t : List ℕ). (5 ∷ b ∷ t ++ name_octets (name_at 0 (e ∷ f ∷ g ∷ h ∷ []))) ++ flat_map item_octets (items_of rest)) (spelled_2 c d [] (fits 2) (fits 3))
+          ∙ ap (λ (t : List ℕ). (5 ∷ b ∷ c ∷ d ∷ t) ++ flat_map item_octets (items_of rest)) (spelled_name e f g h [] (fits 4) (fits 5) (fits 6) (fits 7))
+          ∙ ap (λ (t : List ℕ). 5 ∷ b ∷ c ∷ d ∷ e ∷ f ∷ g ∷ h ∷ t) others.together
+          ∙ ap (λ (n : ℕ). n ∷ b ∷ c ∷ d ∷ e ∷ f ∷ g ∷ h ∷ rest) (sym five);
       many = omega (arith, others.many);
       fit = (
         record { reserved = fits 1; item = record { object = below_2 c d [] (fits 2) (fits 3); id = name_fits e f g h [] (fits 4) (fits 5) (fits 6) (fits 7) } },
@@ -197,11 +197,11 @@ first_of (a ∷ b ∷ c ∷ d ∷ rest) fits p =
     let many : 8 * length (items_of (take n rest)) ≡ n = items.many ∙ size in
     record {
       spelled =
-        ap (λ (k : ℕ). k ∷ b ∷ big_bytes 2 (8 * length (items_of (take n rest))) ++ flat_map item_octets (items_of (take n rest))) number-is
-        ∙ ap (λ (k : ℕ). a ∷ b ∷ big_bytes 2 k ++ flat_map item_octets (items_of (take n rest))) many
-        ∙ ap (λ (t : List ℕ). a ∷ b ∷ t ++ flat_map item_octets (items_of (take n rest))) (spelled_2 c d rest (fits 2) (fits 3))
-        ∙ ap (λ (t : List ℕ). a ∷ b ∷ c ∷ d ∷ t) items.together
-        ∙ sym (take_four n a b c d rest);
+          ap (λ (k : ℕ). k ∷ b ∷ big_bytes 2 (8 * length (items_of (take n rest))) ++ flat_map item_octets (items_of (take n rest))) number-is
+          ∙ ap (λ (k : ℕ). a ∷ b ∷ big_bytes 2 k ++ flat_map item_octets (items_of (take n rest))) many
+          ∙ ap (λ (t : List ℕ). a ∷ b ∷ t ++ flat_map item_octets (items_of (take n rest))) (spelled_2 c d rest (fits 2) (fits 3))
+          ∙ ap (λ (t : List ℕ). a ∷ b ∷ c ∷ d ∷ t) items.together
+          ∙ sym (take_four n a b c d rest);
       fits = record {
         flags = fits 1;
         items = items.fit;
@@ -304,10 +304,9 @@ pub cut_is : (list : List ℕ) (form : Form) → 0 < length list → IsRequests 
     × IsRequests (drop (request_length list) list)
 cut_is list form some is form-is =
     let c = cut_parts list some is in
-    let at : form_at list ≡ form = ap form_or_any form-is in
-    (
+    let at : form_at list ≡ form = ap form_or_any form-is in (
       c.parts
-      ∙ ap (λ (f : Form). (let r : Request = record { form = f; flags = octet 1 list; items = items_of (take (items_length list) (drop 4 list)) } in r) ∷ requests_of (drop (request_length list) list)) at
-      ∙ ap (λ (t : List ℕ). (let r : Request = record { form = form; flags = octet 1 list; items = items_of t } in r) ∷ requests_of (drop (request_length list) list)) (sym (drop-take 4 (items_length list) list)),
+          ∙ ap (λ (f : Form). (let r : Request = record { form = f; flags = octet 1 list; items = items_of (take (items_length list) (drop 4 list)) } in r) ∷ requests_of (drop (request_length list) list)) at
+          ∙ ap (λ (t : List ℕ). (let r : Request = record { form = form; flags = octet 1 list; items = items_of t } in r) ∷ requests_of (drop (request_length list) list)) (sym (drop-take 4 (items_length list) list)),
       c.rest,
     )

@@ -26,10 +26,10 @@ info_spelled (c0 ∷ c1 ∷ c2 ∷ c3 ∷ c4 ∷ c5 ∷ c6 ∷ c7 ∷ c8 ∷ c9 
       reserved = [];
       many = refl;
       spelled = sym (
-        ap (λ (t : List ℕ). (((t) ++ (object_octets (object_head_of octets))) ++ extensions_octets list) ++ content_of octets) (front_spelled 1 (words_with 4 list) c0 c1 c2 c3 c4 c5 c6 c7 first tail.words_is (fits 2) (fits 3) (fits 4) (fits 5) (fits 6) (fits 7))
-        ∙ ap (λ (t : List ℕ). ((((c0 ∷ c1 ∷ c2 ∷ c3 ∷ c4 ∷ c5 ∷ c6 ∷ c7 ∷ [])) ++ t) ++ extensions_octets list) ++ content_of octets) (object_spelled (object_head_of octets) c8 c9 c10 c11 c12 c13 c14 c15 (fits 8) (fits 9) (fits 14) (fits 15) five refl refl refl refl refl refl)
-        ∙ ap (λ (t : List ℕ). ((((c0 ∷ c1 ∷ c2 ∷ c3 ∷ c4 ∷ c5 ∷ c6 ∷ c7 ∷ [])) ++ (c8 ∷ c9 ∷ c10 ∷ c11 ∷ c12 ∷ c13 ∷ c14 ∷ c15 ∷ [])) ++ t) ++ content_of octets) (tail.spelled)
-        ∙ ap (λ (t : List ℕ). c0 ∷ c1 ∷ c2 ∷ c3 ∷ c4 ∷ c5 ∷ c6 ∷ c7 ∷ c8 ∷ c9 ∷ c10 ∷ c11 ∷ c12 ∷ c13 ∷ c14 ∷ c15 ∷ t) (tail.joined));
+          ap (λ (t : List ℕ). (((t) ++ (object_octets (object_head_of octets))) ++ extensions_octets list) ++ content_of octets) (front_spelled 1 (words_with 4 list) c0 c1 c2 c3 c4 c5 c6 c7 first tail.words_is (fits 2) (fits 3) (fits 4) (fits 5) (fits 6) (fits 7))
+          ∙ ap (λ (t : List ℕ). ((((c0 ∷ c1 ∷ c2 ∷ c3 ∷ c4 ∷ c5 ∷ c6 ∷ c7 ∷ [])) ++ t) ++ extensions_octets list) ++ content_of octets) (object_spelled (object_head_of octets) c8 c9 c10 c11 c12 c13 c14 c15 (fits 8) (fits 9) (fits 14) (fits 15) five refl refl refl refl refl refl)
+          ∙ ap (λ (t : List ℕ). ((((c0 ∷ c1 ∷ c2 ∷ c3 ∷ c4 ∷ c5 ∷ c6 ∷ c7 ∷ [])) ++ (c8 ∷ c9 ∷ c10 ∷ c11 ∷ c12 ∷ c13 ∷ c14 ∷ c15 ∷ [])) ++ t) ++ content_of octets) (tail.spelled)
+          ∙ ap (λ (t : List ℕ). c0 ∷ c1 ∷ c2 ∷ c3 ∷ c4 ∷ c5 ∷ c6 ∷ c7 ∷ c8 ∷ c9 ∷ c10 ∷ c11 ∷ c12 ∷ c13 ∷ c14 ∷ c15 ∷ t) (tail.joined));
     }
 info_spelled _ fits first least most five extensions source = absurd (omega arith)
 
@@ -44,11 +44,11 @@ data_spelled (c0 ∷ c1 ∷ c2 ∷ c3 ∷ c4 ∷ c5 ∷ c6 ∷ c7 ∷ c8 ∷ c9 
       reserved = [];
       many = refl;
       spelled = sym (
-        ap (λ (t : List ℕ). ((((t) ++ (object_octets (object_head_of octets))) ++ (name_octets (name_at 16 octets))) ++ extensions_octets list) ++ content_of octets) (front_spelled 2 (words_with 5 list) c0 c1 c2 c3 c4 c5 c6 c7 first tail.words_is (fits 2) (fits 3) (fits 4) (fits 5) (fits 6) (fits 7))
-        ∙ ap (λ (t : List ℕ). (((((c0 ∷ c1 ∷ c2 ∷ c3 ∷ c4 ∷ c5 ∷ c6 ∷ c7 ∷ [])) ++ t) ++ (name_octets (name_at 16 octets))) ++ extensions_octets list) ++ content_of octets) (object_spelled (object_head_of octets) c8 c9 c10 c11 c12 c13 c14 c15 (fits 8) (fits 9) (fits 14) (fits 15) five refl refl refl refl refl refl)
-        ∙ ap (λ (t : List ℕ). (((((c0 ∷ c1 ∷ c2 ∷ c3 ∷ c4 ∷ c5 ∷ c6 ∷ c7 ∷ [])) ++ (c8 ∷ c9 ∷ c10 ∷ c11 ∷ c12 ∷ c13 ∷ c14 ∷ c15 ∷ [])) ++ t) ++ extensions_octets list) ++ content_of octets) (spelled_name c16 c17 c18 c19 [] (fits 16) (fits 17) (fits 18) (fits 19))
-        ∙ ap (λ (t : List ℕ). (((((c0 ∷ c1 ∷ c2 ∷ c3 ∷ c4 ∷ c5 ∷ c6 ∷ c7 ∷ [])) ++ (c8 ∷ c9 ∷ c10 ∷ c11 ∷ c12 ∷ c13 ∷ c14 ∷ c15 ∷ [])) ++ (c16 ∷ c17 ∷ c18 ∷ c19 ∷ [])) ++ t) ++ content_of octets) (tail.spelled)
-        ∙ ap (λ (t : List ℕ). c0 ∷ c1 ∷ c2 ∷ c3 ∷ c4 ∷ c5 ∷ c6 ∷ c7 ∷ c8 ∷ c9 ∷ c10 ∷ c11 ∷ c12 ∷ c13 ∷ c14 ∷ c15 ∷ c16 ∷ c17 ∷ c18 ∷ c19 ∷ t) (tail.joined));
+          ap (λ (t : List ℕ). ((((t) ++ (object_octets (object_head_of octets))) ++ (name_octets (name_at 16 octets))) ++ extensions_octets list) ++ content_of octets) (front_spelled 2 (words_with 5 list) c0 c1 c2 c3 c4 c5 c6 c7 first tail.words_is (fits 2) (fits 3) (fits 4) (fits 5) (fits 6) (fits 7))
+          ∙ ap (λ (t : List ℕ). (((((c0 ∷ c1 ∷ c2 ∷ c3 ∷ c4 ∷ c5 ∷ c6 ∷ c7 ∷ [])) ++ t) ++ (name_octets (name_at 16 octets))) ++ extensions_octets list) ++ content_of octets) (object_spelled (object_head_of octets) c8 c9 c10 c11 c12 c13 c14 c15 (fits 8) (fits 9) (fits 14) (fits 15) five refl refl refl refl refl refl)
+          ∙ ap (λ (t : List ℕ). (((((c0 ∷ c1 ∷ c2 ∷ c3 ∷ c4 ∷ c5 ∷ c6 ∷ c7 ∷ [])) ++ (c8 ∷ c9 ∷ c10 ∷ c11 ∷ c12 ∷ c13 ∷ c14 ∷ c15 ∷ [])) ++ t) ++ extensions_octets list) ++ content_of octets) (spelled_name c16 c17 c18 c19 [] (fits 16) (fits 17) (fits 18) (fits 19))
+          ∙ ap (λ (t : List ℕ). (((((c0 ∷ c1 ∷ c2 ∷ c3 ∷ c4 ∷ c5 ∷ c6 ∷ c7 ∷ [])) ++ (c8 ∷ c9 ∷ c10 ∷ c11 ∷ c12 ∷ c13 ∷ c14 ∷ c15 ∷ [])) ++ (c16 ∷ c17 ∷ c18 ∷ c19 ∷ [])) ++ t) ++ content_of octets) (tail.spelled)
+          ∙ ap (λ (t : List ℕ). c0 ∷ c1 ∷ c2 ∷ c3 ∷ c4 ∷ c5 ∷ c6 ∷ c7 ∷ c8 ∷ c9 ∷ c10 ∷ c11 ∷ c12 ∷ c13 ∷ c14 ∷ c15 ∷ c16 ∷ c17 ∷ c18 ∷ c19 ∷ t) (tail.joined));
     }
 data_spelled _ fits first least most five extensions source = absurd (omega arith)
 
@@ -64,13 +64,13 @@ flush_spelled (c0 ∷ c1 ∷ c2 ∷ c3 ∷ c4 ∷ c5 ∷ c6 ∷ c7 ∷ c8 ∷ c9
       reserved = [];
       many = refl;
       spelled = sym (
-        ap (λ (t : List ℕ). (((((t) ++ (command_octets (command_head_of octets) 1)) ++ (5 ∷ big_bytes 2 (number 2 14 octets))) ++ (name_octets (name_at 16 octets))) ++ extensions_octets list) ++ nodes_octets (nodes_of (content_of octets))) (front_spelled 3 (words_with 5 list) c0 c1 c2 c3 c4 c5 c6 c7 first tail.words_is (fits 2) (fits 3) (fits 4) (fits 5) (fits 6) (fits 7))
-        ∙ ap (λ (t : List ℕ). ((((((c0 ∷ c1 ∷ c2 ∷ c3 ∷ c4 ∷ c5 ∷ c6 ∷ c7 ∷ [])) ++ t) ++ (5 ∷ big_bytes 2 (number 2 14 octets))) ++ (name_octets (name_at 16 octets))) ++ extensions_octets list) ++ nodes_octets (nodes_of (content_of octets))) (command_spelled (command_head_of octets) 1 c8 c9 c10 c11 c12 (fits 8) (fits 9) sub refl refl refl refl)
-        ∙ ap (λ (t : List ℕ). ((((((c0 ∷ c1 ∷ c2 ∷ c3 ∷ c4 ∷ c5 ∷ c6 ∷ c7 ∷ [])) ++ (c8 ∷ c9 ∷ c10 ∷ c11 ∷ c12 ∷ [])) ++ t) ++ (name_octets (name_at 16 octets))) ++ extensions_octets list) ++ nodes_octets (nodes_of (content_of octets))) (ap (λ (t : List ℕ). 5 ∷ t) (spelled_2 c14 c15 [] (fits 14) (fits 15)) ∙ ap (λ (n : ℕ). n ∷ c14 ∷ c15 ∷ []) (sym five))
-        ∙ ap (λ (t : List ℕ). ((((((c0 ∷ c1 ∷ c2 ∷ c3 ∷ c4 ∷ c5 ∷ c6 ∷ c7 ∷ [])) ++ (c8 ∷ c9 ∷ c10 ∷ c11 ∷ c12 ∷ [])) ++ (c13 ∷ c14 ∷ c15 ∷ [])) ++ t) ++ extensions_octets list) ++ nodes_octets (nodes_of (content_of octets))) (spelled_name c16 c17 c18 c19 [] (fits 16) (fits 17) (fits 18) (fits 19))
-        ∙ ap (λ (t : List ℕ). ((((((c0 ∷ c1 ∷ c2 ∷ c3 ∷ c4 ∷ c5 ∷ c6 ∷ c7 ∷ [])) ++ (c8 ∷ c9 ∷ c10 ∷ c11 ∷ c12 ∷ [])) ++ (c13 ∷ c14 ∷ c15 ∷ [])) ++ (c16 ∷ c17 ∷ c18 ∷ c19 ∷ [])) ++ t) ++ nodes_octets (nodes_of (content_of octets))) (tail.spelled)
-        ∙ ap (λ (t : List ℕ). ((((((c0 ∷ c1 ∷ c2 ∷ c3 ∷ c4 ∷ c5 ∷ c6 ∷ c7 ∷ [])) ++ (c8 ∷ c9 ∷ c10 ∷ c11 ∷ c12 ∷ [])) ++ (c13 ∷ c14 ∷ c15 ∷ [])) ++ (c16 ∷ c17 ∷ c18 ∷ c19 ∷ [])) ++ header_from 20 octets) ++ t) (nodes_together (content_of octets) content-fits whole)
-        ∙ ap (λ (t : List ℕ). c0 ∷ c1 ∷ c2 ∷ c3 ∷ c4 ∷ c5 ∷ c6 ∷ c7 ∷ c8 ∷ c9 ∷ c10 ∷ c11 ∷ c12 ∷ c13 ∷ c14 ∷ c15 ∷ c16 ∷ c17 ∷ c18 ∷ c19 ∷ t) (tail.joined));
+          ap (λ (t : List ℕ). (((((t) ++ (command_octets (command_head_of octets) 1)) ++ (5 ∷ big_bytes 2 (number 2 14 octets))) ++ (name_octets (name_at 16 octets))) ++ extensions_octets list) ++ nodes_octets (nodes_of (content_of octets))) (front_spelled 3 (words_with 5 list) c0 c1 c2 c3 c4 c5 c6 c7 first tail.words_is (fits 2) (fits 3) (fits 4) (fits 5) (fits 6) (fits 7))
+          ∙ ap (λ (t : List ℕ). ((((((c0 ∷ c1 ∷ c2 ∷ c3 ∷ c4 ∷ c5 ∷ c6 ∷ c7 ∷ [])) ++ t) ++ (5 ∷ big_bytes 2 (number 2 14 octets))) ++ (name_octets (name_at 16 octets))) ++ extensions_octets list) ++ nodes_octets (nodes_of (content_of octets))) (command_spelled (command_head_of octets) 1 c8 c9 c10 c11 c12 (fits 8) (fits 9) sub refl refl refl refl)
+          ∙ ap (λ (t : List ℕ). ((((((c0 ∷ c1 ∷ c2 ∷ c3 ∷ c4 ∷ c5 ∷ c6 ∷ c7 ∷ [])) ++ (c8 ∷ c9 ∷ c10 ∷ c11 ∷ c12 ∷ [])) ++ t) ++ (name_octets (name_at 16 octets))) ++ extensions_octets list) ++ nodes_octets (nodes_of (content_of octets))) (ap (λ (t : List ℕ). 5 ∷ t) (spelled_2 c14 c15 [] (fits 14) (fits 15)) ∙ ap (λ (n : ℕ). n ∷ c14 ∷ c15 ∷ []) (sym five))
+          ∙ ap (λ (t : List ℕ). ((((((c0 ∷ c1 ∷ c2 ∷ c3 ∷ c4 ∷ c5 ∷ c6 ∷ c7 ∷ [])) ++ (c8 ∷ c9 ∷ c10 ∷ c11 ∷ c12 ∷ [])) ++ (c13 ∷ c14 ∷ c15 ∷ [])) ++ t) ++ extensions_octets list) ++ nodes_octets (nodes_of (content_of octets))) (spelled_name c16 c17 c18 c19 [] (fits 16) (fits 17) (fits 18) (fits 19))
+          ∙ ap (λ (t : List ℕ). ((((((c0 ∷ c1 ∷ c2 ∷ c3 ∷ c4 ∷ c5 ∷ c6 ∷ c7 ∷ [])) ++ (c8 ∷ c9 ∷ c10 ∷ c11 ∷ c12 ∷ [])) ++ (c13 ∷ c14 ∷ c15 ∷ [])) ++ (c16 ∷ c17 ∷ c18 ∷ c19 ∷ [])) ++ t) ++ nodes_octets (nodes_of (content_of octets))) (tail.spelled)
+          ∙ ap (λ (t : List ℕ). ((((((c0 ∷ c1 ∷ c2 ∷ c3 ∷ c4 ∷ c5 ∷ c6 ∷ c7 ∷ [])) ++ (c8 ∷ c9 ∷ c10 ∷ c11 ∷ c12 ∷ [])) ++ (c13 ∷ c14 ∷ c15 ∷ [])) ++ (c16 ∷ c17 ∷ c18 ∷ c19 ∷ [])) ++ header_from 20 octets) ++ t) (nodes_together (content_of octets) content-fits whole)
+          ∙ ap (λ (t : List ℕ). c0 ∷ c1 ∷ c2 ∷ c3 ∷ c4 ∷ c5 ∷ c6 ∷ c7 ∷ c8 ∷ c9 ∷ c10 ∷ c11 ∷ c12 ∷ c13 ∷ c14 ∷ c15 ∷ c16 ∷ c17 ∷ c18 ∷ c19 ∷ t) (tail.joined));
     }
 flush_spelled _ fits first least most sub five extensions source whole = absurd (omega arith)
 
@@ -86,13 +86,13 @@ squelch_spelled (c0 ∷ c1 ∷ c2 ∷ c3 ∷ c4 ∷ c5 ∷ c6 ∷ c7 ∷ c8 ∷ 
       reserved = [];
       many = refl;
       spelled = sym (
-        ap (λ (t : List ℕ). (((((t) ++ (command_octets (command_head_of octets) 3)) ++ (5 ∷ big_bytes 2 (number 2 14 octets))) ++ (name_octets (name_at 16 octets))) ++ extensions_octets list) ++ objects_octets (objects_of (content_of octets))) (front_spelled 3 (words_with 5 list) c0 c1 c2 c3 c4 c5 c6 c7 first tail.words_is (fits 2) (fits 3) (fits 4) (fits 5) (fits 6) (fits 7))
-        ∙ ap (λ (t : List ℕ). ((((((c0 ∷ c1 ∷ c2 ∷ c3 ∷ c4 ∷ c5 ∷ c6 ∷ c7 ∷ [])) ++ t) ++ (5 ∷ big_bytes 2 (number 2 14 octets))) ++ (name_octets (name_at 16 octets))) ++ extensions_octets list) ++ objects_octets (objects_of (content_of octets))) (command_spelled (command_head_of octets) 3 c8 c9 c10 c11 c12 (fits 8) (fits 9) sub refl refl refl refl)
-        ∙ ap (λ (t : List ℕ). ((((((c0 ∷ c1 ∷ c2 ∷ c3 ∷ c4 ∷ c5 ∷ c6 ∷ c7 ∷ [])) ++ (c8 ∷ c9 ∷ c10 ∷ c11 ∷ c12 ∷ [])) ++ t) ++ (name_octets (name_at 16 octets))) ++ extensions_octets list) ++ objects_octets (objects_of (content_of octets))) (ap (λ (t : List ℕ). 5 ∷ t) (spelled_2 c14 c15 [] (fits 14) (fits 15)) ∙ ap (λ (n : ℕ). n ∷ c14 ∷ c15 ∷ []) (sym five))
-        ∙ ap (λ (t : List ℕ). ((((((c0 ∷ c1 ∷ c2 ∷ c3 ∷ c4 ∷ c5 ∷ c6 ∷ c7 ∷ [])) ++ (c8 ∷ c9 ∷ c10 ∷ c11 ∷ c12 ∷ [])) ++ (c13 ∷ c14 ∷ c15 ∷ [])) ++ t) ++ extensions_octets list) ++ objects_octets (objects_of (content_of octets))) (spelled_name c16 c17 c18 c19 [] (fits 16) (fits 17) (fits 18) (fits 19))
-        ∙ ap (λ (t : List ℕ). ((((((c0 ∷ c1 ∷ c2 ∷ c3 ∷ c4 ∷ c5 ∷ c6 ∷ c7 ∷ [])) ++ (c8 ∷ c9 ∷ c10 ∷ c11 ∷ c12 ∷ [])) ++ (c13 ∷ c14 ∷ c15 ∷ [])) ++ (c16 ∷ c17 ∷ c18 ∷ c19 ∷ [])) ++ t) ++ objects_octets (objects_of (content_of octets))) (tail.spelled)
-        ∙ ap (λ (t : List ℕ). ((((((c0 ∷ c1 ∷ c2 ∷ c3 ∷ c4 ∷ c5 ∷ c6 ∷ c7 ∷ [])) ++ (c8 ∷ c9 ∷ c10 ∷ c11 ∷ c12 ∷ [])) ++ (c13 ∷ c14 ∷ c15 ∷ [])) ++ (c16 ∷ c17 ∷ c18 ∷ c19 ∷ [])) ++ header_from 20 octets) ++ t) (objects_together (content_of octets) content-fits whole)
-        ∙ ap (λ (t : List ℕ). c0 ∷ c1 ∷ c2 ∷ c3 ∷ c4 ∷ c5 ∷ c6 ∷ c7 ∷ c8 ∷ c9 ∷ c10 ∷ c11 ∷ c12 ∷ c13 ∷ c14 ∷ c15 ∷ c16 ∷ c17 ∷ c18 ∷ c19 ∷ t) (tail.joined));
+          ap (λ (t : List ℕ). (((((t) ++ (command_octets (command_head_of octets) 3)) ++ (5 ∷ big_bytes 2 (number 2 14 octets))) ++ (name_octets (name_at 16 octets))) ++ extensions_octets list) ++ objects_octets (objects_of (content_of octets))) (front_spelled 3 (words_with 5 list) c0 c1 c2 c3 c4 c5 c6 c7 first tail.words_is (fits 2) (fits 3) (fits 4) (fits 5) (fits 6) (fits 7))
+          ∙ ap (λ (t : List ℕ). ((((((c0 ∷ c1 ∷ c2 ∷ c3 ∷ c4 ∷ c5 ∷ c6 ∷ c7 ∷ [])) ++ t) ++ (5 ∷ big_bytes 2 (number 2 14 octets))) ++ (name_octets (name_at 16 octets))) ++ extensions_octets list) ++ objects_octets (objects_of (content_of octets))) (command_spelled (command_head_of octets) 3 c8 c9 c10 c11 c12 (fits 8) (fits 9) sub refl refl refl refl)
+          ∙ ap (λ (t : List ℕ). ((((((c0 ∷ c1 ∷ c2 ∷ c3 ∷ c4 ∷ c5 ∷ c6 ∷ c7 ∷ [])) ++ (c8 ∷ c9 ∷ c10 ∷ c11 ∷ c12 ∷ [])) ++ t) ++ (name_octets (name_at 16 octets))) ++ extensions_octets list) ++ objects_octets (objects_of (content_of octets))) (ap (λ (t : List ℕ). 5 ∷ t) (spelled_2 c14 c15 [] (fits 14) (fits 15)) ∙ ap (λ (n : ℕ). n ∷ c14 ∷ c15 ∷ []) (sym five))
+          ∙ ap (λ (t : List ℕ). ((((((c0 ∷ c1 ∷ c2 ∷ c3 ∷ c4 ∷ c5 ∷ c6 ∷ c7 ∷ [])) ++ (c8 ∷ c9 ∷ c10 ∷ c11 ∷ c12 ∷ [])) ++ (c13 ∷ c14 ∷ c15 ∷ [])) ++ t) ++ extensions_octets list) ++ objects_octets (objects_of (content_of octets))) (spelled_name c16 c17 c18 c19 [] (fits 16) (fits 17) (fits 18) (fits 19))
+          ∙ ap (λ (t : List ℕ). ((((((c0 ∷ c1 ∷ c2 ∷ c3 ∷ c4 ∷ c5 ∷ c6 ∷ c7 ∷ [])) ++ (c8 ∷ c9 ∷ c10 ∷ c11 ∷ c12 ∷ [])) ++ (c13 ∷ c14 ∷ c15 ∷ [])) ++ (c16 ∷ c17 ∷ c18 ∷ c19 ∷ [])) ++ t) ++ objects_octets (objects_of (content_of octets))) (tail.spelled)
+          ∙ ap (λ (t : List ℕ). ((((((c0 ∷ c1 ∷ c2 ∷ c3 ∷ c4 ∷ c5 ∷ c6 ∷ c7 ∷ [])) ++ (c8 ∷ c9 ∷ c10 ∷ c11 ∷ c12 ∷ [])) ++ (c13 ∷ c14 ∷ c15 ∷ [])) ++ (c16 ∷ c17 ∷ c18 ∷ c19 ∷ [])) ++ header_from 20 octets) ++ t) (objects_together (content_of octets) content-fits whole)
+          ∙ ap (λ (t : List ℕ). c0 ∷ c1 ∷ c2 ∷ c3 ∷ c4 ∷ c5 ∷ c6 ∷ c7 ∷ c8 ∷ c9 ∷ c10 ∷ c11 ∷ c12 ∷ c13 ∷ c14 ∷ c15 ∷ c16 ∷ c17 ∷ c18 ∷ c19 ∷ t) (tail.joined));
     }
 squelch_spelled _ fits first least most sub five extensions source whole = absurd (omega arith)
 
@@ -107,10 +107,10 @@ eot_spelled (c0 ∷ c1 ∷ c2 ∷ c3 ∷ c4 ∷ c5 ∷ c6 ∷ c7 ∷ c8 ∷ c9 �
       reserved = c13 ∷ c14 ∷ c15 ∷ [];
       many = refl;
       spelled = sym (
-        ap (λ (t : List ℕ). (((t) ++ (command_octets (command_head_of octets) 2)) ++ (c13 ∷ c14 ∷ c15 ∷ [])) ++ extensions_octets list) (front_spelled 3 (words_with 4 list) c0 c1 c2 c3 c4 c5 c6 c7 first tail.words_is (fits 2) (fits 3) (fits 4) (fits 5) (fits 6) (fits 7))
-        ∙ ap (λ (t : List ℕ). ((((c0 ∷ c1 ∷ c2 ∷ c3 ∷ c4 ∷ c5 ∷ c6 ∷ c7 ∷ [])) ++ t) ++ (c13 ∷ c14 ∷ c15 ∷ [])) ++ extensions_octets list) (command_spelled (command_head_of octets) 2 c8 c9 c10 c11 c12 (fits 8) (fits 9) sub refl refl refl refl)
-        ∙ ap (λ (t : List ℕ). ((((c0 ∷ c1 ∷ c2 ∷ c3 ∷ c4 ∷ c5 ∷ c6 ∷ c7 ∷ [])) ++ (c8 ∷ c9 ∷ c10 ∷ c11 ∷ c12 ∷ [])) ++ (c13 ∷ c14 ∷ c15 ∷ [])) ++ t) (tail.spelled)
-        ∙ ap (λ (t : List ℕ). c0 ∷ c1 ∷ c2 ∷ c3 ∷ c4 ∷ c5 ∷ c6 ∷ c7 ∷ c8 ∷ c9 ∷ c10 ∷ c11 ∷ c12 ∷ c13 ∷ c14 ∷ c15 ∷ t) (sym (append_none (header_from 16 octets) (content_of octets) none) ∙ tail.joined));
+          ap (λ (t : List ℕ). (((t) ++ (command_octets (command_head_of octets) 2)) ++ (c13 ∷ c14 ∷ c15 ∷ [])) ++ extensions_octets list) (front_spelled 3 (words_with 4 list) c0 c1 c2 c3 c4 c5 c6 c7 first tail.words_is (fits 2) (fits 3) (fits 4) (fits 5) (fits 6) (fits 7))
+          ∙ ap (λ (t : List ℕ). ((((c0 ∷ c1 ∷ c2 ∷ c3 ∷ c4 ∷ c5 ∷ c6 ∷ c7 ∷ [])) ++ t) ++ (c13 ∷ c14 ∷ c15 ∷ [])) ++ extensions_octets list) (command_spelled (command_head_of octets) 2 c8 c9 c10 c11 c12 (fits 8) (fits 9) sub refl refl refl refl)
+          ∙ ap (λ (t : List ℕ). ((((c0 ∷ c1 ∷ c2 ∷ c3 ∷ c4 ∷ c5 ∷ c6 ∷ c7 ∷ [])) ++ (c8 ∷ c9 ∷ c10 ∷ c11 ∷ c12 ∷ [])) ++ (c13 ∷ c14 ∷ c15 ∷ [])) ++ t) (tail.spelled)
+          ∙ ap (λ (t : List ℕ). c0 ∷ c1 ∷ c2 ∷ c3 ∷ c4 ∷ c5 ∷ c6 ∷ c7 ∷ c8 ∷ c9 ∷ c10 ∷ c11 ∷ c12 ∷ c13 ∷ c14 ∷ c15 ∷ t) (sym (append_none (header_from 16 octets) (content_of octets) none) ∙ tail.joined));
     }
 eot_spelled _ fits first least most sub extensions source none = absurd (omega arith)
 
@@ -126,11 +126,11 @@ repair_adv_spelled (c0 ∷ c1 ∷ c2 ∷ c3 ∷ c4 ∷ c5 ∷ c6 ∷ c7 ∷ c8 �
       reserved = c14 ∷ c15 ∷ [];
       many = refl;
       spelled = sym (
-        ap (λ (t : List ℕ). ((((t) ++ (command_octets (command_head_of octets) 5)) ++ (c13 ∷ c14 ∷ c15 ∷ [])) ++ extensions_octets list) ++ requests_octets (requests_of (content_of octets))) (front_spelled 3 (words_with 4 list) c0 c1 c2 c3 c4 c5 c6 c7 first tail.words_is (fits 2) (fits 3) (fits 4) (fits 5) (fits 6) (fits 7))
-        ∙ ap (λ (t : List ℕ). (((((c0 ∷ c1 ∷ c2 ∷ c3 ∷ c4 ∷ c5 ∷ c6 ∷ c7 ∷ [])) ++ t) ++ (c13 ∷ c14 ∷ c15 ∷ [])) ++ extensions_octets list) ++ requests_octets (requests_of (content_of octets))) (command_spelled (command_head_of octets) 5 c8 c9 c10 c11 c12 (fits 8) (fits 9) sub refl refl refl refl)
-        ∙ ap (λ (t : List ℕ). (((((c0 ∷ c1 ∷ c2 ∷ c3 ∷ c4 ∷ c5 ∷ c6 ∷ c7 ∷ [])) ++ (c8 ∷ c9 ∷ c10 ∷ c11 ∷ c12 ∷ [])) ++ (c13 ∷ c14 ∷ c15 ∷ [])) ++ t) ++ requests_octets (requests_of (content_of octets))) (tail.spelled)
-        ∙ ap (λ (t : List ℕ). (((((c0 ∷ c1 ∷ c2 ∷ c3 ∷ c4 ∷ c5 ∷ c6 ∷ c7 ∷ [])) ++ (c8 ∷ c9 ∷ c10 ∷ c11 ∷ c12 ∷ [])) ++ (c13 ∷ c14 ∷ c15 ∷ [])) ++ header_from 16 octets) ++ t) (requests_together (4 * words_of octets) (content_of octets) content-fits requests)
-        ∙ ap (λ (t : List ℕ). c0 ∷ c1 ∷ c2 ∷ c3 ∷ c4 ∷ c5 ∷ c6 ∷ c7 ∷ c8 ∷ c9 ∷ c10 ∷ c11 ∷ c12 ∷ c13 ∷ c14 ∷ c15 ∷ t) (tail.joined));
+          ap (λ (t : List ℕ). ((((t) ++ (command_octets (command_head_of octets) 5)) ++ (c13 ∷ c14 ∷ c15 ∷ [])) ++ extensions_octets list) ++ requests_octets (requests_of (content_of octets))) (front_spelled 3 (words_with 4 list) c0 c1 c2 c3 c4 c5 c6 c7 first tail.words_is (fits 2) (fits 3) (fits 4) (fits 5) (fits 6) (fits 7))
+          ∙ ap (λ (t : List ℕ). (((((c0 ∷ c1 ∷ c2 ∷ c3 ∷ c4 ∷ c5 ∷ c6 ∷ c7 ∷ [])) ++ t) ++ (c13 ∷ c14 ∷ c15 ∷ [])) ++ extensions_octets list) ++ requests_octets (requests_of (content_of octets))) (command_spelled (command_head_of octets) 5 c8 c9 c10 c11 c12 (fits 8) (fits 9) sub refl refl refl refl)
+          ∙ ap (λ (t : List ℕ). (((((c0 ∷ c1 ∷ c2 ∷ c3 ∷ c4 ∷ c5 ∷ c6 ∷ c7 ∷ [])) ++ (c8 ∷ c9 ∷ c10 ∷ c11 ∷ c12 ∷ [])) ++ (c13 ∷ c14 ∷ c15 ∷ [])) ++ t) ++ requests_octets (requests_of (content_of octets))) (tail.spelled)
+          ∙ ap (λ (t : List ℕ). (((((c0 ∷ c1 ∷ c2 ∷ c3 ∷ c4 ∷ c5 ∷ c6 ∷ c7 ∷ [])) ++ (c8 ∷ c9 ∷ c10 ∷ c11 ∷ c12 ∷ [])) ++ (c13 ∷ c14 ∷ c15 ∷ [])) ++ header_from 16 octets) ++ t) (requests_together (4 * words_of octets) (content_of octets) content-fits requests)
+          ∙ ap (λ (t : List ℕ). c0 ∷ c1 ∷ c2 ∷ c3 ∷ c4 ∷ c5 ∷ c6 ∷ c7 ∷ c8 ∷ c9 ∷ c10 ∷ c11 ∷ c12 ∷ c13 ∷ c14 ∷ c15 ∷ t) (tail.joined));
     }
 repair_adv_spelled _ fits first least most sub extensions source requests = absurd (omega arith)
 
@@ -146,11 +146,11 @@ ack_req_spelled (c0 ∷ c1 ∷ c2 ∷ c3 ∷ c4 ∷ c5 ∷ c6 ∷ c7 ∷ c8 ∷ 
       reserved = c13 ∷ [];
       many = refl;
       spelled = sym (
-        ap (λ (t : List ℕ). ((((t) ++ (command_octets (command_head_of octets) 6)) ++ (c13 ∷ [])) ++ (c14 ∷ c15 ∷ extensions_octets list)) ++ nodes_octets (nodes_of (content_of octets))) (front_spelled 3 (words_with 4 list) c0 c1 c2 c3 c4 c5 c6 c7 first tail.words_is (fits 2) (fits 3) (fits 4) (fits 5) (fits 6) (fits 7))
-        ∙ ap (λ (t : List ℕ). (((((c0 ∷ c1 ∷ c2 ∷ c3 ∷ c4 ∷ c5 ∷ c6 ∷ c7 ∷ [])) ++ t) ++ (c13 ∷ [])) ++ (c14 ∷ c15 ∷ extensions_octets list)) ++ nodes_octets (nodes_of (content_of octets))) (command_spelled (command_head_of octets) 6 c8 c9 c10 c11 c12 (fits 8) (fits 9) sub refl refl refl refl)
-        ∙ ap (λ (t : List ℕ). (((((c0 ∷ c1 ∷ c2 ∷ c3 ∷ c4 ∷ c5 ∷ c6 ∷ c7 ∷ [])) ++ (c8 ∷ c9 ∷ c10 ∷ c11 ∷ c12 ∷ [])) ++ (c13 ∷ [])) ++ t) ++ nodes_octets (nodes_of (content_of octets))) (ap (λ (u : List ℕ). c14 ∷ c15 ∷ u) tail.spelled)
-        ∙ ap (λ (t : List ℕ). (((((c0 ∷ c1 ∷ c2 ∷ c3 ∷ c4 ∷ c5 ∷ c6 ∷ c7 ∷ [])) ++ (c8 ∷ c9 ∷ c10 ∷ c11 ∷ c12 ∷ [])) ++ (c13 ∷ [])) ++ (c14 ∷ c15 ∷ header_from 16 octets)) ++ t) (nodes_together (content_of octets) content-fits whole)
-        ∙ ap (λ (t : List ℕ). c0 ∷ c1 ∷ c2 ∷ c3 ∷ c4 ∷ c5 ∷ c6 ∷ c7 ∷ c8 ∷ c9 ∷ c10 ∷ c11 ∷ c12 ∷ c13 ∷ c14 ∷ c15 ∷ t) (tail.joined));
+          ap (λ (t : List ℕ). ((((t) ++ (command_octets (command_head_of octets) 6)) ++ (c13 ∷ [])) ++ (c14 ∷ c15 ∷ extensions_octets list)) ++ nodes_octets (nodes_of (content_of octets))) (front_spelled 3 (words_with 4 list) c0 c1 c2 c3 c4 c5 c6 c7 first tail.words_is (fits 2) (fits 3) (fits 4) (fits 5) (fits 6) (fits 7))
+          ∙ ap (λ (t : List ℕ). (((((c0 ∷ c1 ∷ c2 ∷ c3 ∷ c4 ∷ c5 ∷ c6 ∷ c7 ∷ [])) ++ t) ++ (c13 ∷ [])) ++ (c14 ∷ c15 ∷ extensions_octets list)) ++ nodes_octets (nodes_of (content_of octets))) (command_spelled (command_head_of octets) 6 c8 c9 c10 c11 c12 (fits 8) (fits 9) sub refl refl refl refl)
+          ∙ ap (λ (t : List ℕ). (((((c0 ∷ c1 ∷ c2 ∷ c3 ∷ c4 ∷ c5 ∷ c6 ∷ c7 ∷ [])) ++ (c8 ∷ c9 ∷ c10 ∷ c11 ∷ c12 ∷ [])) ++ (c13 ∷ [])) ++ t) ++ nodes_octets (nodes_of (content_of octets))) (ap (λ (u : List ℕ). c14 ∷ c15 ∷ u) tail.spelled)
+          ∙ ap (λ (t : List ℕ). (((((c0 ∷ c1 ∷ c2 ∷ c3 ∷ c4 ∷ c5 ∷ c6 ∷ c7 ∷ [])) ++ (c8 ∷ c9 ∷ c10 ∷ c11 ∷ c12 ∷ [])) ++ (c13 ∷ [])) ++ (c14 ∷ c15 ∷ header_from 16 octets)) ++ t) (nodes_together (content_of octets) content-fits whole)
+          ∙ ap (λ (t : List ℕ). c0 ∷ c1 ∷ c2 ∷ c3 ∷ c4 ∷ c5 ∷ c6 ∷ c7 ∷ c8 ∷ c9 ∷ c10 ∷ c11 ∷ c12 ∷ c13 ∷ c14 ∷ c15 ∷ t) (tail.joined));
     }
 ack_req_spelled _ fits first least most sub extensions source whole = absurd (omega arith)
 
@@ -163,8 +163,8 @@ opaque_spelled (c0 ∷ c1 ∷ c2 ∷ c3 ∷ c4 ∷ c5 ∷ c6 ∷ c7 ∷ c8 ∷ c
       reserved = [];
       many = refl;
       spelled = sym (
-        ap (λ (t : List ℕ). ((t) ++ (command_octets (command_head_of octets) c12)) ++ (c13 ∷ c14 ∷ c15 ∷ rest)) (front_spelled 3 c1 c0 c1 c2 c3 c4 c5 c6 c7 first refl (fits 2) (fits 3) (fits 4) (fits 5) (fits 6) (fits 7))
-        ∙ ap (λ (t : List ℕ). (((c0 ∷ c1 ∷ c2 ∷ c3 ∷ c4 ∷ c5 ∷ c6 ∷ c7 ∷ [])) ++ t) ++ (c13 ∷ c14 ∷ c15 ∷ rest)) (command_spelled (command_head_of octets) c12 c8 c9 c10 c11 c12 (fits 8) (fits 9) refl refl refl refl refl));
+          ap (λ (t : List ℕ). ((t) ++ (command_octets (command_head_of octets) c12)) ++ (c13 ∷ c14 ∷ c15 ∷ rest)) (front_spelled 3 c1 c0 c1 c2 c3 c4 c5 c6 c7 first refl (fits 2) (fits 3) (fits 4) (fits 5) (fits 6) (fits 7))
+          ∙ ap (λ (t : List ℕ). (((c0 ∷ c1 ∷ c2 ∷ c3 ∷ c4 ∷ c5 ∷ c6 ∷ c7 ∷ [])) ++ t) ++ (c13 ∷ c14 ∷ c15 ∷ rest)) (command_spelled (command_head_of octets) c12 c8 c9 c10 c11 c12 (fits 8) (fits 9) refl refl refl refl refl));
     }
 opaque_spelled _ fits first least most sub source = absurd (omega arith)
 
@@ -180,12 +180,12 @@ nack_spelled (c0 ∷ c1 ∷ c2 ∷ c3 ∷ c4 ∷ c5 ∷ c6 ∷ c7 ∷ c8 ∷ c9 
       reserved = c14 ∷ c15 ∷ c16 ∷ c17 ∷ c18 ∷ c19 ∷ c20 ∷ c21 ∷ c22 ∷ c23 ∷ [];
       many = refl;
       spelled = sym (
-        ap (λ (t : List ℕ). (((((t) ++ (big_bytes 4 (number 4 8 octets))) ++ (big_bytes 2 (number 2 12 octets))) ++ (c14 ∷ c15 ∷ c16 ∷ c17 ∷ c18 ∷ c19 ∷ c20 ∷ c21 ∷ c22 ∷ c23 ∷ [])) ++ extensions_octets list) ++ requests_octets (requests_of (content_of octets))) (front_spelled 4 (words_with 6 list) c0 c1 c2 c3 c4 c5 c6 c7 first tail.words_is (fits 2) (fits 3) (fits 4) (fits 5) (fits 6) (fits 7))
-        ∙ ap (λ (t : List ℕ). ((((((c0 ∷ c1 ∷ c2 ∷ c3 ∷ c4 ∷ c5 ∷ c6 ∷ c7 ∷ [])) ++ t) ++ (big_bytes 2 (number 2 12 octets))) ++ (c14 ∷ c15 ∷ c16 ∷ c17 ∷ c18 ∷ c19 ∷ c20 ∷ c21 ∷ c22 ∷ c23 ∷ [])) ++ extensions_octets list) ++ requests_octets (requests_of (content_of octets))) (spelled_4 c8 c9 c10 c11 [] (fits 8) (fits 9) (fits 10) (fits 11))
-        ∙ ap (λ (t : List ℕ). ((((((c0 ∷ c1 ∷ c2 ∷ c3 ∷ c4 ∷ c5 ∷ c6 ∷ c7 ∷ [])) ++ (c8 ∷ c9 ∷ c10 ∷ c11 ∷ [])) ++ t) ++ (c14 ∷ c15 ∷ c16 ∷ c17 ∷ c18 ∷ c19 ∷ c20 ∷ c21 ∷ c22 ∷ c23 ∷ [])) ++ extensions_octets list) ++ requests_octets (requests_of (content_of octets))) (spelled_2 c12 c13 [] (fits 12) (fits 13))
-        ∙ ap (λ (t : List ℕ). ((((((c0 ∷ c1 ∷ c2 ∷ c3 ∷ c4 ∷ c5 ∷ c6 ∷ c7 ∷ [])) ++ (c8 ∷ c9 ∷ c10 ∷ c11 ∷ [])) ++ (c12 ∷ c13 ∷ [])) ++ (c14 ∷ c15 ∷ c16 ∷ c17 ∷ c18 ∷ c19 ∷ c20 ∷ c21 ∷ c22 ∷ c23 ∷ [])) ++ t) ++ requests_octets (requests_of (content_of octets))) (tail.spelled)
-        ∙ ap (λ (t : List ℕ). ((((((c0 ∷ c1 ∷ c2 ∷ c3 ∷ c4 ∷ c5 ∷ c6 ∷ c7 ∷ [])) ++ (c8 ∷ c9 ∷ c10 ∷ c11 ∷ [])) ++ (c12 ∷ c13 ∷ [])) ++ (c14 ∷ c15 ∷ c16 ∷ c17 ∷ c18 ∷ c19 ∷ c20 ∷ c21 ∷ c22 ∷ c23 ∷ [])) ++ header_from 24 octets) ++ t) (requests_together (4 * words_of octets) (content_of octets) content-fits requests)
-        ∙ ap (λ (t : List ℕ). c0 ∷ c1 ∷ c2 ∷ c3 ∷ c4 ∷ c5 ∷ c6 ∷ c7 ∷ c8 ∷ c9 ∷ c10 ∷ c11 ∷ c12 ∷ c13 ∷ c14 ∷ c15 ∷ c16 ∷ c17 ∷ c18 ∷ c19 ∷ c20 ∷ c21 ∷ c22 ∷ c23 ∷ t) (tail.joined));
+          ap (λ (t : List ℕ). (((((t) ++ (big_bytes 4 (number 4 8 octets))) ++ (big_bytes 2 (number 2 12 octets))) ++ (c14 ∷ c15 ∷ c16 ∷ c17 ∷ c18 ∷ c19 ∷ c20 ∷ c21 ∷ c22 ∷ c23 ∷ [])) ++ extensions_octets list) ++ requests_octets (requests_of (content_of octets))) (front_spelled 4 (words_with 6 list) c0 c1 c2 c3 c4 c5 c6 c7 first tail.words_is (fits 2) (fits 3) (fits 4) (fits 5) (fits 6) (fits 7))
+          ∙ ap (λ (t : List ℕ). ((((((c0 ∷ c1 ∷ c2 ∷ c3 ∷ c4 ∷ c5 ∷ c6 ∷ c7 ∷ [])) ++ t) ++ (big_bytes 2 (number 2 12 octets))) ++ (c14 ∷ c15 ∷ c16 ∷ c17 ∷ c18 ∷ c19 ∷ c20 ∷ c21 ∷ c22 ∷ c23 ∷ [])) ++ extensions_octets list) ++ requests_octets (requests_of (content_of octets))) (spelled_4 c8 c9 c10 c11 [] (fits 8) (fits 9) (fits 10) (fits 11))
+          ∙ ap (λ (t : List ℕ). ((((((c0 ∷ c1 ∷ c2 ∷ c3 ∷ c4 ∷ c5 ∷ c6 ∷ c7 ∷ [])) ++ (c8 ∷ c9 ∷ c10 ∷ c11 ∷ [])) ++ t) ++ (c14 ∷ c15 ∷ c16 ∷ c17 ∷ c18 ∷ c19 ∷ c20 ∷ c21 ∷ c22 ∷ c23 ∷ [])) ++ extensions_octets list) ++ requests_octets (requests_of (content_of octets))) (spelled_2 c12 c13 [] (fits 12) (fits 13))
+          ∙ ap (λ (t : List ℕ). ((((((c0 ∷ c1 ∷ c2 ∷ c3 ∷ c4 ∷ c5 ∷ c6 ∷ c7 ∷ [])) ++ (c8 ∷ c9 ∷ c10 ∷ c11 ∷ [])) ++ (c12 ∷ c13 ∷ [])) ++ (c14 ∷ c15 ∷ c16 ∷ c17 ∷ c18 ∷ c19 ∷ c20 ∷ c21 ∷ c22 ∷ c23 ∷ [])) ++ t) ++ requests_octets (requests_of (content_of octets))) (tail.spelled)
+          ∙ ap (λ (t : List ℕ). ((((((c0 ∷ c1 ∷ c2 ∷ c3 ∷ c4 ∷ c5 ∷ c6 ∷ c7 ∷ [])) ++ (c8 ∷ c9 ∷ c10 ∷ c11 ∷ [])) ++ (c12 ∷ c13 ∷ [])) ++ (c14 ∷ c15 ∷ c16 ∷ c17 ∷ c18 ∷ c19 ∷ c20 ∷ c21 ∷ c22 ∷ c23 ∷ [])) ++ header_from 24 octets) ++ t) (requests_together (4 * words_of octets) (content_of octets) content-fits requests)
+          ∙ ap (λ (t : List ℕ). c0 ∷ c1 ∷ c2 ∷ c3 ∷ c4 ∷ c5 ∷ c6 ∷ c7 ∷ c8 ∷ c9 ∷ c10 ∷ c11 ∷ c12 ∷ c13 ∷ c14 ∷ c15 ∷ c16 ∷ c17 ∷ c18 ∷ c19 ∷ c20 ∷ c21 ∷ c22 ∷ c23 ∷ t) (tail.joined));
     }
 nack_spelled _ fits first least most extensions source sender requests = absurd (omega arith)
 
@@ -201,12 +201,12 @@ ack_mark_spelled (c0 ∷ c1 ∷ c2 ∷ c3 ∷ c4 ∷ c5 ∷ c6 ∷ c7 ∷ c8 ∷
       reserved = c16 ∷ c17 ∷ c18 ∷ c19 ∷ c20 ∷ c21 ∷ c22 ∷ c23 ∷ octet 1 (content_of octets) ∷ [];
       many = refl;
       spelled = sym (
-        ap (λ (t : List ℕ). (((((t) ++ (big_bytes 4 (number 4 8 octets))) ++ (big_bytes 2 (number 2 12 octets))) ++ (c14 ∷ c15 ∷ c16 ∷ c17 ∷ c18 ∷ c19 ∷ c20 ∷ c21 ∷ c22 ∷ c23 ∷ [])) ++ extensions_octets list) ++ (item_octets (record { reserved = octet 1 (content_of octets); item = mark_in (content_of octets) }) ++ [])) (front_spelled 5 (words_with 6 list) c0 c1 c2 c3 c4 c5 c6 c7 first tail.words_is (fits 2) (fits 3) (fits 4) (fits 5) (fits 6) (fits 7))
-        ∙ ap (λ (t : List ℕ). ((((((c0 ∷ c1 ∷ c2 ∷ c3 ∷ c4 ∷ c5 ∷ c6 ∷ c7 ∷ [])) ++ t) ++ (big_bytes 2 (number 2 12 octets))) ++ (c14 ∷ c15 ∷ c16 ∷ c17 ∷ c18 ∷ c19 ∷ c20 ∷ c21 ∷ c22 ∷ c23 ∷ [])) ++ extensions_octets list) ++ (item_octets (record { reserved = octet 1 (content_of octets); item = mark_in (content_of octets) }) ++ [])) (spelled_4 c8 c9 c10 c11 [] (fits 8) (fits 9) (fits 10) (fits 11))
-        ∙ ap (λ (t : List ℕ). ((((((c0 ∷ c1 ∷ c2 ∷ c3 ∷ c4 ∷ c5 ∷ c6 ∷ c7 ∷ [])) ++ (c8 ∷ c9 ∷ c10 ∷ c11 ∷ [])) ++ t) ++ (c14 ∷ c15 ∷ c16 ∷ c17 ∷ c18 ∷ c19 ∷ c20 ∷ c21 ∷ c22 ∷ c23 ∷ [])) ++ extensions_octets list) ++ (item_octets (record { reserved = octet 1 (content_of octets); item = mark_in (content_of octets) }) ++ [])) (spelled_2 c12 c13 [] (fits 12) (fits 13))
-        ∙ ap (λ (t : List ℕ). ((((((c0 ∷ c1 ∷ c2 ∷ c3 ∷ c4 ∷ c5 ∷ c6 ∷ c7 ∷ [])) ++ (c8 ∷ c9 ∷ c10 ∷ c11 ∷ [])) ++ (c12 ∷ c13 ∷ [])) ++ (c14 ∷ c15 ∷ c16 ∷ c17 ∷ c18 ∷ c19 ∷ c20 ∷ c21 ∷ c22 ∷ c23 ∷ [])) ++ t) ++ (item_octets (record { reserved = octet 1 (content_of octets); item = mark_in (content_of octets) }) ++ [])) (tail.spelled)
-        ∙ ap (λ (t : List ℕ). ((((((c0 ∷ c1 ∷ c2 ∷ c3 ∷ c4 ∷ c5 ∷ c6 ∷ c7 ∷ [])) ++ (c8 ∷ c9 ∷ c10 ∷ c11 ∷ [])) ++ (c12 ∷ c13 ∷ [])) ++ (c14 ∷ c15 ∷ c16 ∷ c17 ∷ c18 ∷ c19 ∷ c20 ∷ c21 ∷ c22 ∷ c23 ∷ [])) ++ header_from 24 octets) ++ t) (mark.0)
-        ∙ ap (λ (t : List ℕ). c0 ∷ c1 ∷ c2 ∷ c3 ∷ c4 ∷ c5 ∷ c6 ∷ c7 ∷ c8 ∷ c9 ∷ c10 ∷ c11 ∷ c12 ∷ c13 ∷ c14 ∷ c15 ∷ c16 ∷ c17 ∷ c18 ∷ c19 ∷ c20 ∷ c21 ∷ c22 ∷ c23 ∷ t) (tail.joined));
+          ap (λ (t : List ℕ). (((((t) ++ (big_bytes 4 (number 4 8 octets))) ++ (big_bytes 2 (number 2 12 octets))) ++ (c14 ∷ c15 ∷ c16 ∷ c17 ∷ c18 ∷ c19 ∷ c20 ∷ c21 ∷ c22 ∷ c23 ∷ [])) ++ extensions_octets list) ++ (item_octets (record { reserved = octet 1 (content_of octets); item = mark_in (content_of octets) }) ++ [])) (front_spelled 5 (words_with 6 list) c0 c1 c2 c3 c4 c5 c6 c7 first tail.words_is (fits 2) (fits 3) (fits 4) (fits 5) (fits 6) (fits 7))
+          ∙ ap (λ (t : List ℕ). ((((((c0 ∷ c1 ∷ c2 ∷ c3 ∷ c4 ∷ c5 ∷ c6 ∷ c7 ∷ [])) ++ t) ++ (big_bytes 2 (number 2 12 octets))) ++ (c14 ∷ c15 ∷ c16 ∷ c17 ∷ c18 ∷ c19 ∷ c20 ∷ c21 ∷ c22 ∷ c23 ∷ [])) ++ extensions_octets list) ++ (item_octets (record { reserved = octet 1 (content_of octets); item = mark_in (content_of octets) }) ++ [])) (spelled_4 c8 c9 c10 c11 [] (fits 8) (fits 9) (fits 10) (fits 11))
+          ∙ ap (λ (t : List ℕ). ((((((c0 ∷ c1 ∷ c2 ∷ c3 ∷ c4 ∷ c5 ∷ c6 ∷ c7 ∷ [])) ++ (c8 ∷ c9 ∷ c10 ∷ c11 ∷ [])) ++ t) ++ (c14 ∷ c15 ∷ c16 ∷ c17 ∷ c18 ∷ c19 ∷ c20 ∷ c21 ∷ c22 ∷ c23 ∷ [])) ++ extensions_octets list) ++ (item_octets (record { reserved = octet 1 (content_of octets); item = mark_in (content_of octets) }) ++ [])) (spelled_2 c12 c13 [] (fits 12) (fits 13))
+          ∙ ap (λ (t : List ℕ). ((((((c0 ∷ c1 ∷ c2 ∷ c3 ∷ c4 ∷ c5 ∷ c6 ∷ c7 ∷ [])) ++ (c8 ∷ c9 ∷ c10 ∷ c11 ∷ [])) ++ (c12 ∷ c13 ∷ [])) ++ (c14 ∷ c15 ∷ c16 ∷ c17 ∷ c18 ∷ c19 ∷ c20 ∷ c21 ∷ c22 ∷ c23 ∷ [])) ++ t) ++ (item_octets (record { reserved = octet 1 (content_of octets); item = mark_in (content_of octets) }) ++ [])) (tail.spelled)
+          ∙ ap (λ (t : List ℕ). ((((((c0 ∷ c1 ∷ c2 ∷ c3 ∷ c4 ∷ c5 ∷ c6 ∷ c7 ∷ [])) ++ (c8 ∷ c9 ∷ c10 ∷ c11 ∷ [])) ++ (c12 ∷ c13 ∷ [])) ++ (c14 ∷ c15 ∷ c16 ∷ c17 ∷ c18 ∷ c19 ∷ c20 ∷ c21 ∷ c22 ∷ c23 ∷ [])) ++ header_from 24 octets) ++ t) (mark.0)
+          ∙ ap (λ (t : List ℕ). c0 ∷ c1 ∷ c2 ∷ c3 ∷ c4 ∷ c5 ∷ c6 ∷ c7 ∷ c8 ∷ c9 ∷ c10 ∷ c11 ∷ c12 ∷ c13 ∷ c14 ∷ c15 ∷ c16 ∷ c17 ∷ c18 ∷ c19 ∷ c20 ∷ c21 ∷ c22 ∷ c23 ∷ t) (tail.joined));
     }
 ack_mark_spelled _ fits first least most extensions source sender two eight five = absurd (omega arith)
 
@@ -221,11 +221,11 @@ ack_unread_spelled (c0 ∷ c1 ∷ c2 ∷ c3 ∷ c4 ∷ c5 ∷ c6 ∷ c7 ∷ c8 �
       reserved = c16 ∷ c17 ∷ c18 ∷ c19 ∷ c20 ∷ c21 ∷ c22 ∷ c23 ∷ [];
       many = refl;
       spelled = sym (
-        ap (λ (t : List ℕ). (((((t) ++ (big_bytes 4 (number 4 8 octets))) ++ (big_bytes 2 (number 2 12 octets))) ++ (c14 ∷ c15 ∷ c16 ∷ c17 ∷ c18 ∷ c19 ∷ c20 ∷ c21 ∷ c22 ∷ c23 ∷ [])) ++ extensions_octets list) ++ content_of octets) (front_spelled 5 (words_with 6 list) c0 c1 c2 c3 c4 c5 c6 c7 first tail.words_is (fits 2) (fits 3) (fits 4) (fits 5) (fits 6) (fits 7))
-        ∙ ap (λ (t : List ℕ). ((((((c0 ∷ c1 ∷ c2 ∷ c3 ∷ c4 ∷ c5 ∷ c6 ∷ c7 ∷ [])) ++ t) ++ (big_bytes 2 (number 2 12 octets))) ++ (c14 ∷ c15 ∷ c16 ∷ c17 ∷ c18 ∷ c19 ∷ c20 ∷ c21 ∷ c22 ∷ c23 ∷ [])) ++ extensions_octets list) ++ content_of octets) (spelled_4 c8 c9 c10 c11 [] (fits 8) (fits 9) (fits 10) (fits 11))
-        ∙ ap (λ (t : List ℕ). ((((((c0 ∷ c1 ∷ c2 ∷ c3 ∷ c4 ∷ c5 ∷ c6 ∷ c7 ∷ [])) ++ (c8 ∷ c9 ∷ c10 ∷ c11 ∷ [])) ++ t) ++ (c14 ∷ c15 ∷ c16 ∷ c17 ∷ c18 ∷ c19 ∷ c20 ∷ c21 ∷ c22 ∷ c23 ∷ [])) ++ extensions_octets list) ++ content_of octets) (spelled_2 c12 c13 [] (fits 12) (fits 13))
-        ∙ ap (λ (t : List ℕ). ((((((c0 ∷ c1 ∷ c2 ∷ c3 ∷ c4 ∷ c5 ∷ c6 ∷ c7 ∷ [])) ++ (c8 ∷ c9 ∷ c10 ∷ c11 ∷ [])) ++ (c12 ∷ c13 ∷ [])) ++ (c14 ∷ c15 ∷ c16 ∷ c17 ∷ c18 ∷ c19 ∷ c20 ∷ c21 ∷ c22 ∷ c23 ∷ [])) ++ t) ++ content_of octets) (tail.spelled)
-        ∙ ap (λ (t : List ℕ). c0 ∷ c1 ∷ c2 ∷ c3 ∷ c4 ∷ c5 ∷ c6 ∷ c7 ∷ c8 ∷ c9 ∷ c10 ∷ c11 ∷ c12 ∷ c13 ∷ c14 ∷ c15 ∷ c16 ∷ c17 ∷ c18 ∷ c19 ∷ c20 ∷ c21 ∷ c22 ∷ c23 ∷ t) (tail.joined));
+          ap (λ (t : List ℕ). (((((t) ++ (big_bytes 4 (number 4 8 octets))) ++ (big_bytes 2 (number 2 12 octets))) ++ (c14 ∷ c15 ∷ c16 ∷ c17 ∷ c18 ∷ c19 ∷ c20 ∷ c21 ∷ c22 ∷ c23 ∷ [])) ++ extensions_octets list) ++ content_of octets) (front_spelled 5 (words_with 6 list) c0 c1 c2 c3 c4 c5 c6 c7 first tail.words_is (fits 2) (fits 3) (fits 4) (fits 5) (fits 6) (fits 7))
+          ∙ ap (λ (t : List ℕ). ((((((c0 ∷ c1 ∷ c2 ∷ c3 ∷ c4 ∷ c5 ∷ c6 ∷ c7 ∷ [])) ++ t) ++ (big_bytes 2 (number 2 12 octets))) ++ (c14 ∷ c15 ∷ c16 ∷ c17 ∷ c18 ∷ c19 ∷ c20 ∷ c21 ∷ c22 ∷ c23 ∷ [])) ++ extensions_octets list) ++ content_of octets) (spelled_4 c8 c9 c10 c11 [] (fits 8) (fits 9) (fits 10) (fits 11))
+          ∙ ap (λ (t : List ℕ). ((((((c0 ∷ c1 ∷ c2 ∷ c3 ∷ c4 ∷ c5 ∷ c6 ∷ c7 ∷ [])) ++ (c8 ∷ c9 ∷ c10 ∷ c11 ∷ [])) ++ t) ++ (c14 ∷ c15 ∷ c16 ∷ c17 ∷ c18 ∷ c19 ∷ c20 ∷ c21 ∷ c22 ∷ c23 ∷ [])) ++ extensions_octets list) ++ content_of octets) (spelled_2 c12 c13 [] (fits 12) (fits 13))
+          ∙ ap (λ (t : List ℕ). ((((((c0 ∷ c1 ∷ c2 ∷ c3 ∷ c4 ∷ c5 ∷ c6 ∷ c7 ∷ [])) ++ (c8 ∷ c9 ∷ c10 ∷ c11 ∷ [])) ++ (c12 ∷ c13 ∷ [])) ++ (c14 ∷ c15 ∷ c16 ∷ c17 ∷ c18 ∷ c19 ∷ c20 ∷ c21 ∷ c22 ∷ c23 ∷ [])) ++ t) ++ content_of octets) (tail.spelled)
+          ∙ ap (λ (t : List ℕ). c0 ∷ c1 ∷ c2 ∷ c3 ∷ c4 ∷ c5 ∷ c6 ∷ c7 ∷ c8 ∷ c9 ∷ c10 ∷ c11 ∷ c12 ∷ c13 ∷ c14 ∷ c15 ∷ c16 ∷ c17 ∷ c18 ∷ c19 ∷ c20 ∷ c21 ∷ c22 ∷ c23 ∷ t) (tail.joined));
     }
 ack_unread_spelled _ fits first least most extensions source sender other = absurd (omega arith)
 
@@ -238,6 +238,6 @@ report_spelled (c0 ∷ c1 ∷ c2 ∷ c3 ∷ c4 ∷ c5 ∷ c6 ∷ c7 ∷ rest) fi
       reserved = [];
       many = refl;
       spelled = sym (
-        ap (λ (t : List ℕ). (t) ++ (rest)) (front_spelled 6 c1 c0 c1 c2 c3 c4 c5 c6 c7 first refl (fits 2) (fits 3) (fits 4) (fits 5) (fits 6) (fits 7)));
+          ap (λ (t : List ℕ). (t) ++ (rest)) (front_spelled 6 c1 c0 c1 c2 c3 c4 c5 c6 c7 first refl (fits 2) (fits 3) (fits 4) (fits 5) (fits 6) (fits 7)));
     }
 report_spelled _ fits first least most source = absurd (omega arith)

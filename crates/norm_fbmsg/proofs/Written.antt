@@ -18,8 +18,8 @@ pub nack_written : (source sequence sender instance : ℕ) (exts requests : List
     ≡ octets_of (Nack (record { source = source; sequence = sequence; sender = sender; instance = instance; extensions = extensions_of exts; requests = requests_of requests }))
 nack_written source sequence sender instance exts requests fits is requests-fit are =
     sym (
-      ap (λ (t : List ℕ). front 4 source sequence sender instance t ++ zero_list 10 ++ t ++ requests_octets (requests_of requests)) (exts_together exts fits is)
-      ∙ ap (λ (t : List ℕ). front 4 source sequence sender instance exts ++ zero_list 10 ++ exts ++ t) (requests_together 0 requests requests-fit are.checked))
+    ap (λ (t : List ℕ). front 4 source sequence sender instance t ++ zero_list 10 ++ t ++ requests_octets (requests_of requests)) (exts_together exts fits is)
+    ∙ ap (λ (t : List ℕ). front 4 source sequence sender instance exts ++ zero_list 10 ++ exts ++ t) (requests_together 0 requests requests-fit are.checked))
 
 pub ack_written : (source sequence sender instance ack_type ack_id : ℕ) (exts : List ℕ) (content : AckContent) → IsOctets exts → IsChecked exts
     → front_octets 5 (6 + length exts / 4) sequence source ++ big_bytes 4 sender ++ big_bytes 2 instance ++ ack_type ∷ ack_id ∷ [] ++ zero_list 8 ++ exts ++ content_octets content (zero_list 1)

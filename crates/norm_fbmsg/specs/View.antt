@@ -10,14 +10,14 @@ use Rattle.norm_fbmsg.specs.declared.message.AckBody.TheVariants as lent
 abbrev pub nack_of : NackMsg → Message
 nack_of m =
     Nack (
-      record {
-        source = m.source;
-        sequence = m.sequence;
-        sender = m.sender;
-        instance = m.instance;
-        extensions = extensions_of m.exts.now;
-        requests = requests_of m.requests.now;
-      })
+    record {
+      source = m.source;
+      sequence = m.sequence;
+      sender = m.sender;
+      instance = m.instance;
+      extensions = extensions_of m.exts.now;
+      requests = requests_of m.requests.now;
+    })
 
 abbrev pub content_of : AckBody → AckContent
 content_of (lent.Mark item) = Mark item
@@ -26,13 +26,13 @@ content_of (lent.Opaque octets) = Unread octets.now
 abbrev pub ack_of : AckMsg → Message
 ack_of m =
     Ack (
-      record {
-        source = m.source;
-        sequence = m.sequence;
-        sender = m.sender;
-        instance = m.instance;
-        ack_type = m.ack_type;
-        ack_id = m.ack_id;
-        extensions = extensions_of m.exts.now;
-        content = content_of m.body;
-      })
+    record {
+      source = m.source;
+      sequence = m.sequence;
+      sender = m.sender;
+      instance = m.instance;
+      ack_type = m.ack_type;
+      ack_id = m.ack_id;
+      extensions = extensions_of m.exts.now;
+      content = content_of m.body;
+    })

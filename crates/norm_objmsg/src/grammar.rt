@@ -132,13 +132,7 @@ pub fn write_info(msg: &InfoMsg<'_>, out: &mut Datagram)
 }
 
 /// Writes the parts of a NORM_DATA message.
-fn write_data_parts(
-    head: &ObjHead,
-    id: &PayloadId,
-    exts: &[u8],
-    payload: &[u8],
-    out: &mut Datagram,
-)
+fn write_data_parts(head: &ObjHead, id: &PayloadId, exts: &[u8], payload: &[u8], out: &mut Datagram)
     requires empty { out.old ≡ [] }
     requires parts { CanWrite 20 head.now exts.now payload.now }
     ensures { out.new ≡ octets_of (Data (record { head = head.now; id = id.now; extensions = extensions_of exts.now; payload = payload.now })) }
