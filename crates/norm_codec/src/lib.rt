@@ -4,7 +4,11 @@
 
 mod message;
 mod reading;
+#[cfg(test)]
+mod tests;
+mod writing;
 
 pub use crate::message::Message;
 pub use crate::reading::decode;
+pub use crate::writing::encode;
 pub use norm_ext::Refusal;

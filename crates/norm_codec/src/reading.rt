@@ -1,6 +1,8 @@
 //! Reading of any message.
 
-ghost use Rattle.std.specs.Prelude.{◌≡◌, ◌≤◌, Ok, Err, MatchResult, length};
+ghost use Rattle.std.specs.Prelude.{◌≡◌, ◌≤◌, Ok, Err, MatchResult, IfOk, IfErr, length};
+ghost use Rattle.norm_ext.specs.Message.{Message as Meaning};
+ghost use Rattle.norm_ext.specs.Spells.{Spells};
 ghost use Rattle.norm_ext.specs.Reading.{decoded, report_read, read_as, known_type};
 ghost use Rattle.norm_codec.specs.View.{message_of};
 
@@ -67,12 +69,24 @@ fn read_message(kind: MessageType, bytes: &[u8]) -> Result<Message<'_>, Refusal>
     }
 }
 
-/// The message that the octets spell, or the first thing that is wrong with them.
+/// Reads by the type.
 #[tactic(auto, unfolding(norm_ext::specs::Reading::decoded))]
-pub fn decode(bytes: &[u8]) -> Result<Message<'_>, Refusal>
+fn read_any(bytes: &[u8]) -> Result<Message<'_>, Refusal>
     ensures { MatchResult result (λ m. decoded bytes.now ≡ Ok (message_of m)) (λ refusal. decoded bytes.now ≡ Err refusal) }
 {
     check_version(bytes)?;
     let kind = read_type(bytes)?;
     read_message(kind, bytes)
+}
+
+/// The message that the octets spell, or the first thing that is wrong with them.
+pub fn decode(bytes: &[u8]) -> Result<Message<'_>, Refusal>
+    // It is what the grammar's reading gives.
+    ensures exact { MatchResult result (λ m. decoded bytes.now ≡ Ok (message_of m)) (λ refusal. decoded bytes.now ≡ Err refusal) }
+    // A message that is given is spelled by the octets.
+    ensures found { IfOk result (λ m. Spells (message_of m) bytes.now) }
+    // Octets that are refused spell no message.
+    ensures none { IfErr result (λ refusal. (m : Meaning) → Spells m bytes.now → ⊥) }
+{
+    read_any(bytes)
 }

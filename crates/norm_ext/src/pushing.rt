@@ -9,7 +9,7 @@ use crate::head::{CmdHead, ObjHead};
 use crate::header::{ENCODING_ID, VERSION};
 use byteorder::{BigEndian, ByteOrder};
 use fec_plan::PayloadId;
-use norm_base::{Datagram, NodeId};
+use norm_base::{Datagram, InstanceId, NodeId};
 
 /// Adds a number of 16 bits.
 pub fn push_16(n: u16, out: &mut Datagram)
@@ -29,6 +29,22 @@ pub fn push_32(n: u32, out: &mut Datagram)
     let mut octets = [0u8; 4];
     BigEndian::write_u32(&mut octets, n);
     out.push(&octets);
+}
+
+/// Adds a node's id.
+pub fn push_node(node: NodeId, out: &mut Datagram)
+    requires { length out.old + 4 ≤ 1500 }
+    ensures { out.new ≡ out.old ++ big_bytes 4 node }
+{
+    push_32(node.number(), out);
+}
+
+/// Adds an instance's id.
+pub fn push_instance(instance: InstanceId, out: &mut Datagram)
+    requires { length out.old + 2 ≤ 1500 }
+    ensures { out.new ≡ out.old ++ big_bytes 2 instance }
+{
+    push_16(instance.0, out);
 }
 
 /// Adds a symbol's name.

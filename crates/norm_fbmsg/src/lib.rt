@@ -5,6 +5,8 @@
 
 mod message;
 mod read;
+mod write;
 
 pub use crate::message::{AckBody, AckMsg, NackMsg};
 pub use crate::read::{read_ack, read_nack};
+pub use crate::write::{write_ack, write_nack};
