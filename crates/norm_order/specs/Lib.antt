@@ -7,3 +7,4 @@ pub mod Segments
 pub mod Shapes
 pub mod Symbols
 pub mod Upto
+pub mod Laws
