@@ -1,8 +1,10 @@
 pub mod Sets
 pub mod First
 pub mod Moments
+pub mod Receivers
 pub mod Entries
 pub mod Segments
 pub mod Shapes
 pub mod Symbols
 pub mod Upto
+pub mod Laws

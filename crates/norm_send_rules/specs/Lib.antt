@@ -18,3 +18,4 @@ pub mod Flushing
 pub mod Ticking
 pub mod Telling
 pub mod SenderStep
+pub mod Laws

@@ -5,6 +5,7 @@
 
 mod fault;
 mod job;
+pub mod laws;
 mod news;
 mod want;
 

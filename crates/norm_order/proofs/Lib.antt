@@ -1,0 +1,3 @@
+pub mod SegmentLemmas
+pub mod PositionLemmas
+pub mod UptoLemmas

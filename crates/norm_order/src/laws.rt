@@ -1,0 +1,21 @@
+//! What is promised of the order's definitions. Each law is the contract of a function that does nothing.
+
+ghost use Rattle.norm_order.specs.Laws.{SegmentLaws, GrowsWithPosition, KeptAsOrderGrows};
+
+/// The segments of a stream concatenate to its octets.
+#[tactic(auto, using(crate::proofs::SegmentLemmas::segment_laws))]
+pub fn segments()
+    ensures { SegmentLaws }
+{}
+
+/// What stands before a watermark is a front of what stands before a later one.
+#[tactic(auto, using(crate::proofs::UptoLemmas::grows_with_position))]
+pub fn later_watermarks()
+    ensures { GrowsWithPosition }
+{}
+
+/// Entries that join the order leave what stands before a watermark as it is.
+#[tactic(auto, using(crate::proofs::UptoLemmas::kept_as_order_grows))]
+pub fn later_entries()
+    ensures { KeptAsOrderGrows }
+{}

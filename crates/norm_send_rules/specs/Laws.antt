@@ -1,0 +1,44 @@
+-- What is promised of the sender's rules.
+use Rattle.std.specs.Prelude.{◌≡◌, List, [], ◌∷◌, ⊤, true, Err}
+use Rattle.std.specs.List.{AllByRecursion}
+use Rattle.norm_base.specs.Settings.{Settings}
+use Rattle.norm_base.specs.declared.node.Origin.{Origin}
+use Rattle.norm_send_rules.specs.Wants.{want_before}
+use Rattle.norm_send_rules.specs.SenderState.{SenderState, Round}
+use Rattle.norm_send_rules.specs.InWindow.{stands_behind}
+use Rattle.norm_send_rules.specs.Streaming.{cut}
+use Rattle.norm_send_rules.specs.Commanding.{commanded}
+use Rattle.norm_send_rules.specs.Closing.{round_closed}
+use Rattle.norm_send_rules.specs.declared.fault.SendFault.{SendFault}
+use Rattle.norm_send_rules.specs.declared.job.Job.{Job}
+use Rattle.norm_send_rules.specs.declared.job.Job.TheVariants as job
+use Rattle.norm_send_rules.specs.declared.want.Want.{Want}
+
+-- the state that a refused command leaves: the old one, where a refused mark cuts the open stream
+abbrev pub left_by : Settings → SenderState → Job → SenderState
+left_by p s (job.Data info bytes) = s
+left_by p s (job.File name bytes) = s
+left_by p s job.Open = s
+left_by p s (job.Write bytes) = s
+left_by p s job.Close = s
+left_by p s job.Mark = cut p s
+left_by p s (job.Restart instance) = s
+
+-- a refused command leaves the state but for the cut
+abbrev pub RefusedLeaves : Type 0
+RefusedLeaves = (p : Settings) (s : SenderState) (by : Origin) (job : Job) (fault : SendFault)
+    → (commanded p s by job).1 ≡ Err fault → (commanded p s by job).0 ≡ left_by p s job
+
+-- each want is before all that follow it: none is there twice, and the first is the lowest
+abbrev pub Rise : List Want → Type 0
+Rise [] = ⊤
+Rise (w ∷ wants) = AllByRecursion (λ other. want_before w other ≡ true) wants × Rise wants
+
+-- each want stands behind the drop point
+abbrev pub AreInWindow : SenderState → List Want → Type 0
+AreInWindow s wants = AllByRecursion (λ want. stands_behind s.current.drop want ≡ true) wants
+
+-- the closing of a round keeps the wants in order, none twice, and in the window
+pub record ClosingLaws : Type 0 where
+  pub rise : (p : Settings) (r : Round) (s : SenderState) → Rise s.wants → Rise (round_closed p r s).wants
+  pub in_window : (p : Settings) (r : Round) (s : SenderState) → AreInWindow s s.wants → AreInWindow s (round_closed p r s).wants

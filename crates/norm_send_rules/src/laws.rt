@@ -1,0 +1,15 @@
+//! What is promised of the sender's rules. Each law is the contract of a function that does nothing.
+
+ghost use Rattle.norm_send_rules.specs.Laws.{RefusedLeaves, ClosingLaws};
+
+/// A refused command leaves the state but for the cut of the open stream, which a refused mark makes too.
+#[tactic(auto, using(crate::proofs::RefusedLemmas::refused_leaves))]
+pub fn refused_leaves()
+    ensures { RefusedLeaves }
+{}
+
+/// The closing of a round keeps the wants in their order, none of them twice, and in the window.
+#[tactic(auto, using(crate::proofs::ClosingLemmas::closing_laws))]
+pub fn closings()
+    ensures { ClosingLaws }
+{}
