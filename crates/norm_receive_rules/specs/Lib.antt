@@ -20,3 +20,4 @@ pub mod Receiving
 pub mod Ticking
 pub mod Taking
 pub mod ReceiverStep
+pub mod Laws

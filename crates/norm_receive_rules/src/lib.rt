@@ -4,6 +4,7 @@
 //! ([`Missing`]).
 #![tactic(auto)]
 
+pub mod laws;
 mod words;
 
 pub use crate::words::{Fit, Missing, Put};

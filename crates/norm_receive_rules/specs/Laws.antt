@@ -1,0 +1,19 @@
+-- What is promised of the receiver's rules.
+use Rattle.std.specs.Prelude.{◌≡◌, List, ◌++◌, true, Some}
+use Rattle.norm_base.specs.Settings.{Settings}
+use Rattle.fec_plan.specs.Points.{position_before, reaches}
+use Rattle.norm_order.specs.declared.up.Up.{Up}
+use Rattle.norm_receive_rules.specs.ReceiverState.{ReceiverState}
+use Rattle.norm_receive_rules.specs.HandingUp.{hands_one, handed_up}
+
+-- the hand-ups are those that were there, and further ones
+abbrev pub HasMore : ReceiverState → ReceiverState → Type 0
+HasMore s after = (more : List Up) × (after.ups ≡ s.ups ++ more)
+
+-- Hand-ups go on from the hand-up point: each joins those before it and moves the point on, so that no place is handed
+-- up twice.
+pub record HandUpLaws : Type 0 where
+  pub each_joins : (p : Settings) (s after : ReceiverState) → hands_one p s ≡ Some after → HasMore s after
+  pub each_moves_on : (p : Settings) (s after : ReceiverState) → hands_one p s ≡ Some after → position_before s.point after.point ≡ true
+  pub all_join : (p : Settings) (s : ReceiverState) → HasMore s (handed_up p s)
+  pub never_back : (p : Settings) (s : ReceiverState) → reaches (handed_up p s).point s.point ≡ true
