@@ -32,7 +32,6 @@ ERRORS = [
     ('a NACK to another sender counts', S, 'Hearing', ' && sender == p.sender', ''),
     ('an acknowledgement of another instance counts', S, 'Hearing', ' && instance == s.current.id', ''),
     ('an acknowledgement of a parity symbol counts', S, 'Hearing', 'elim (is_source (current_shapes p s) at)', 'elim (is_encoded (current_shapes p s) at)'),
-    ('a listing goes back', S, 'Hearing', 'elim (l.node == node && is_past at l) [', 'elim (l.node == node && false) ['),
     ('a listing that did not rise is told', S, 'Hearing', 'l.node == node && not (is_past at l)', 'l.node == node'),
     ('the round closes a round trip early', S, 'Hearing', '(p.k + 1) * p.grtt', 'p.k * p.grtt'),
     ('a second NACK moves the closing moment', S, 'Hearing', '  | Some r ↦ r\n', '  | Some r ↦ record r { closes = moment_after now ((p.k + 1) * p.grtt) }\n'),
