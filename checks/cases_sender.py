@@ -97,6 +97,24 @@ def a_stream_has_its_buffer():
 
 
 @small
+def an_info_that_was_not_sent_holds_its_object():
+    """Its symbol was sent as a repair, before the info: nothing of it may be dropped."""
+    r = Run(mode='drop', window=1, k=0, grtt=1, gap=1).data(1, 0, [1, 0, 1], info='(Some (9 ∷ []))').hears(1, nack(2, request('Items', 1, (0, 0, 0))))
+    return r.tick(1, 10, [2, 7, 0, 0, 0]).data(1, 20, [7, 9, 0]).tick(1, 30, [1, 4, 0]).data(1, 40, [1, 1, 1])
+
+
+@small
+def a_restart_ends_repairs():
+    """No want, no round and no squelch outlives it."""
+    r = Run(mode='drop', window=1, k=0, grtt=1).data(1, 0, [1, 0, 1]).tick(1, 0, [2, 0, 0, 0, 0])
+    r.hears(1, nack(2, request('Items', 1, (0, 0, 0))), 10).tick(1, 12).wants([0, 0, 0]).data(1, 20, [1, 1, 1]).wants([])
+    r.tick(1, 1000, [33, 1, 0, 0]).tick(1, 2000, [2, 0, 1, 0, 0])
+    r.hears(1, nack(2, request('Items', 1, (0, 0, 0)), request('Items', 1, (1, 0, 0))), 2010).tick(1, 2012).wants([1, 0, 0])
+    r.hears(1, nack(2, request('Items', 1, (1, 0, 0))), 2013).job('(job.Restart 8)', 2013, [6, 8]).wants([])
+    return r.look('shown_option (λ (r : Round). r.closes ∷ []) w.sender.round', [NONE]).tick(1, 3000).tick(1, 4000)
+
+
+@small
 def which_messages_a_sender_hears():
     """A listed receiver's, to this sender and its current instance."""
     look = 'shown_option (λ (r : Round). r.closes ∷ []) w.sender.round'

@@ -32,7 +32,6 @@ ERRORS = [
     ('a NACK to another sender counts', S, 'Hearing', ' && sender == p.sender', ''),
     ('an acknowledgement of another instance counts', S, 'Hearing', ' && instance == s.current.id', ''),
     ('an acknowledgement of a parity symbol counts', S, 'Hearing', 'elim (is_source (current_shapes p s) at)', 'elim (is_encoded (current_shapes p s) at)'),
-    ('a listing goes back', S, 'Hearing', 'elim (l.node == node && is_past at l) [', 'elim (l.node == node && false) ['),
     ('a listing that did not rise is told', S, 'Hearing', 'l.node == node && not (is_past at l)', 'l.node == node'),
     ('the round closes a round trip early', S, 'Hearing', '(p.k + 1) * p.grtt', 'p.k * p.grtt'),
     ('a second NACK moves the closing moment', S, 'Hearing', '  | Some r ↦ r\n', '  | Some r ↦ record r { closes = moment_after now ((p.k + 1) * p.grtt) }\n'),
@@ -177,20 +176,30 @@ ERRORS = [
 ERRORS = [e for e in ERRORS if e[3]]
 
 
+UNREAD = 'CANNOT BE READ'
+
+
 def look(space, runs, names, at_once=6):
-    """Of each error the runs and cases that part from it. NAMEs are parts of errors' words; the runs are the shorter ones."""
-    short = sorted(runs, key=lambda x: len(x[1]['events']))[:24]
-    everything = [('case ' + c[0], *c[1:]) for c in cases.cases()] + [(n, *terms.run_case(n, r)) for n, r in short]
+    """Of each error the cases that part from it; or, where none does, the shorter runs. NAMEs are parts of errors' words."""
+    small = [('case ' + c[0], *c[1:]) for c in cases.cases()]
+    short = [(n, *terms.run_case(n, r)) for n, r in sorted(runs, key=lambda x: len(x[1]['events']))[:24]]
     errors = [e for e in ERRORS if not names or any(n in e[0] for n in names)]
     missed = 0
     for i in range(0, len(errors), at_once):
-        part = errors[i:i + at_once]
-        for (what, _, name, _, _), said in zip(part, evaluated(space, part, everything)):
-            seen = [case for case, text in said.items() if text]
-            more = ' and %d more' % (len(seen) - 3) if len(seen) > 3 else ''
-            print('| %s | `%s` | %s |' % (what, name, ', '.join(seen[:3]) + more or 'NOT NOTICED'), flush=True)
-            missed += not seen
+        seen = noticed(space, errors[i:i + at_once], small)
+        unseen = [e for e in errors[i:i + at_once] if not seen[e[0]]]
+        if unseen:
+            seen.update(noticed(space, unseen, short))
+        for what, _, name, _, _ in errors[i:i + at_once]:
+            more = ' and %d more' % (len(seen[what]) - 3) if len(seen[what]) > 3 else ''
+            print('| %s | `%s` | %s |' % (what, name, ', '.join(seen[what][:3]) + more or 'NOT NOTICED'), flush=True)
+            missed += seen[what] in ([], [UNREAD])
     return '%d errors' % len(errors), missed
+
+
+def noticed(space, errors, everything):
+    """{error's words: the cases and runs that part from it}."""
+    return {e[0]: [case for case, text in said.items() if text] for e, said in zip(errors, evaluated(space, errors, everything))}
 
 
 def evaluated(space, errors, everything):
@@ -201,4 +210,4 @@ def evaluated(space, errors, everything):
         if len(errors) > 1:
             return [evaluated(space, [one], everything)[0] for one in errors]
         print('%s: %s' % (errors[0][0], str(e)[:500]), flush=True)
-        return [{}]
+        return [{UNREAD: True}]

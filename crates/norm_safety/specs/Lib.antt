@@ -19,3 +19,4 @@ pub mod ListsHanded
 pub mod WantsSent
 pub mod DropsConfirmed
 pub mod Tied
+pub mod Laws
