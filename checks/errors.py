@@ -39,7 +39,7 @@ ERRORS = [
     ('the round closes late', S, 'Ticking', 'nat_le r.closes now', 'nat_lt r.closes now'),
     ('a datagram is sent too late', S, 'Ticking', 'elim (nat_lt now s.next_send)', 'elim (nat_le now s.next_send)'),
     ('a squelch stays due', S, 'Ticking', '(record s { squelch_due = false })', 's'),
-    ('a squelch waits for wants', S, 'Ticking', 'elim s.squelch_due [\n  | true ↦ sends', 'elim (elim s.wants [ [] ↦ s.squelch_due | w ∷ wants ↦ false ]) [\n  | true ↦ sends'),
+    ('a squelch waits for wants', S, 'Ticking', 'elim s.squelch_due [\n  | true ↦ sends', 'elim (nat_le (length s.wants) 0 && s.squelch_due) [\n  | true ↦ sends'),
     ('symbols are wanted before the info', S, 'Wants', 'want_before (Info i) (Symbol at) = nat_le i at.index\nwant_before (Symbol at) (Info j) = nat_lt at.index j', 'want_before (Info i) (Symbol at) = nat_lt i at.index\nwant_before (Symbol at) (Info j) = nat_le at.index j'),
     ('a want stays after it was sent', S, 'Ticking', 'repairs_next p now w wants s', 'repairs_next p now w (w ∷ wants) s'),
     ('a repaired parity symbol has EXPLICIT', S, 'Messages', 'parity_repair = 1', 'parity_repair = 3'),
