@@ -68,7 +68,7 @@ pub record IsChecked (octets : List ℕ) : Type 0 where
 abbrev pub extension_of : ℕ → List ℕ → Extension
 extension_of kind content = record { kind = kind; content = content }
 
--- what the FEC Object Transmission Information says (RFC 5740 section 4.1, RFC 5510 section 5.3): 48 bits of the
+-- what the FEC Object Transmission Information says (RFC 5740 section 4.1, RFC 5510 section 5.2.4.1): 48 bits of the
 -- object's length, 16 of the symbol length, 8 of the block length, 8 of the most encoding symbols of a block
 abbrev pub fti_in : List ℕ → Fti
 fti_in content = record { l = number 6 0 content; e = number 2 6 content; b = octet 8 content; max_n = octet 9 content }

@@ -1,4 +1,4 @@
-//! The FEC Object Transmission Information of FEC Encoding ID 5, as a header extension (RFC 5510 section 5.3).
+//! The FEC Object Transmission Information of FEC Encoding ID 5, as a header extension (RFC 5510 section 5.2.4.1).
 
 ghost use Rattle.std.specs.Prelude.{◌≡◌, ◌+◌, ◌≤◌, ◌<◌, ◌^◌, ◌++◌, length};
 ghost use Rattle.norm_ext.specs.Extensions.{fti_in, fti_of, fti_extension, extension_octets};
