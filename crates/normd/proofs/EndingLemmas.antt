@@ -5,7 +5,7 @@ use Rattle.norm_base.specs.Network.{Network}
 use Rattle.norm_base.specs.Told.{Pieces}
 use Rattle.norm_session.specs.BreakingOff.{BreaksOff}
 use Rattle.norm_session.specs.Causes.{HasCause}
-use Rattle.norm_session.specs.Commands.{Commands}
+use Rattle.norm_script.specs.Commands.{Commands}
 use Rattle.norm_session.specs.Session.{RunsSession}
 use Rattle.norm_session.specs.declared.event.Event.{Event}
 use Rattle.norm_session.specs.declared.fault.SessionFault.{SessionFault}

@@ -4,16 +4,12 @@
 mod arguments;
 #[cfg(test)]
 mod disturbed;
-mod given;
 mod input;
-mod meaning;
 mod program;
-mod read;
 mod status;
 mod std_io;
 #[cfg(test)]
 mod tests;
-mod words;
 
 use crate::arguments::arguments;
 use crate::program::run;
