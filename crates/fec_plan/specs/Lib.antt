@@ -1,3 +1,4 @@
 pub mod Partition
 pub mod Payload
 pub mod Places
+pub mod Points

@@ -1,10 +1,13 @@
 //! How an object is cut (RFC 5052 section 9.1).
 
-ghost use Rattle.std.specs.Prelude.{◌≡◌, ◌^◌, ◌<◌, None, Some, MatchResult};
-ghost use Rattle.fec_plan.specs.Partition.{cut_of, first_fault, symbols, blocks};
+ghost use Rattle.std.specs.Prelude.{◌≡◌, ◌^◌, ◌<◌, None, Some, MatchResult, ◌≤◌};
+ghost use Rattle.fec_plan.specs.Partition.{cut_of, stream_cut, first_fault, first_shape_fault, symbols_in, blocks_in, large_block, small_block, larger_blocks, block_size, symbols_before, blocks, source_symbols, encoding_symbols, sent_octets};
 
 use std::marker::Model;
 use thiserror::Error;
+
+/// The most blocks that 24 bits name.
+const MOST_BLOCKS: u32 = 16_777_216;
 
 /// Why an object can't be cut so.
 #[derive(Clone, Copy, Debug, PartialEq, Eq, Error)]
@@ -21,26 +24,110 @@ pub enum PlanFault {
     TooManyBlocks { blocks: u64 },
 }
 
-/// How an object of `l` octets is cut into symbols of `e` octets and blocks of at most `b` of them, with
-/// `max_n` encoding symbols for a block of `b`.
+/// How an object of `l` octets, or a stream, is cut into symbols of `e` octets and blocks of at most `b`
+/// source symbols, with `max_n` encoding symbols for a block of `b`.
 #[derive(Clone, Copy, Debug, PartialEq, Eq)]
 pub struct Plan {
-    l: u64,
+    l: Option<u64>,
     e: u16,
     b: u8,
     max_n: u8,
 }
 
 impl Model for Plan {
-    ghost use Rattle.fec_plan.specs.Partition.{Cut, cut_of, IsSound};
+    ghost use Rattle.fec_plan.specs.Partition.{Cut, IsSound};
 
     ghost Value = { Cut };
 
-    ghost view = { λ p. cut_of p.l p.e p.b p.max_n };
+    ghost view = { λ p. record { l = p.l; e = p.e; b = p.b; max_n = p.max_n } };
 
-    ghost invariant = { λ p. IsSound (cut_of p.l p.e p.b p.max_n) };
+    ghost invariant = { λ p. IsSound (record { l = p.l; e = p.e; b = p.b; max_n = p.max_n }) };
 
     ghost inverse = { λ c. record { l = c.l; e = c.e; b = c.b; max_n = c.max_n } };
+}
+
+/// The first thing that is wrong with symbols of `e` octets and blocks of `b` with `max_n`.
+fn check_shape(e: u16, b: u8, max_n: u8) -> Result<(), PlanFault>
+    ensures { MatchResult result (λ _. first_shape_fault e b max_n ≡ None) (λ fault. first_shape_fault e b max_n ≡ Some fault) }
+{
+    if e < 64 || e > 1400 {
+        return Err(PlanFault::BadSymbol { e });
+    }
+    if b < 1 || b > 200 {
+        return Err(PlanFault::BadBlock { b });
+    }
+    if max_n < b {
+        return Err(PlanFault::BadMaxN { b, max_n });
+    }
+    Ok(())
+}
+
+/// The blocks of an object of so many octets.
+fn blocks_of(l: u64, e: u16, b: u8) -> u64
+    requires symbol { 0 < e }
+    requires block { 0 < b }
+    ensures { result ≡ blocks_in (symbols_in l e) b }
+{
+    l.div_ceil(u64::from(e)).div_ceil(u64::from(b))
+}
+
+/// The source symbols of a larger block of an object of so many source symbols, in blocks of at most `b`.
+fn large_size(symbols: u64, b: u8) -> u8
+    requires some { 0 < symbols }
+    requires block { 0 < b }
+    ensures exact { result ≡ large_block symbols (blocks_in symbols b) }
+    ensures most { result ≤ b }
+{
+    symbols.div_ceil(symbols.div_ceil(u64::from(b))) as u8
+}
+
+/// The source symbols of a smaller block.
+fn small_size(symbols: u64, b: u8) -> u8
+    requires some { 0 < symbols }
+    requires block { 0 < b }
+    ensures exact { result ≡ small_block symbols (blocks_in symbols b) }
+    ensures most { result ≤ b }
+{
+    (symbols / symbols.div_ceil(u64::from(b))) as u8
+}
+
+/// How many blocks are larger; they are the first ones.
+fn larger_count(symbols: u64, b: u8) -> u64
+    requires some { 0 < symbols }
+    requires block { 0 < b }
+    ensures { result ≡ larger_blocks symbols (blocks_in symbols b) }
+{
+    let blocks = symbols.div_ceil(u64::from(b));
+    symbols - symbols / blocks * blocks
+}
+
+/// The source symbols of a block.
+fn size_of_block(symbols: u64, b: u8, block: u32) -> u8
+    requires some { 0 < symbols }
+    requires block { 0 < b }
+    ensures exact { result ≡ block_size symbols (blocks_in symbols b) block }
+    ensures most { result ≤ b }
+{
+    if u64::from(block) < larger_count(symbols, b) {
+        large_size(symbols, b)
+    } else {
+        small_size(symbols, b)
+    }
+}
+
+/// The source symbols of all blocks before one.
+fn count_before(symbols: u64, b: u8, block: u32) -> u64
+    requires some { 0 < symbols }
+    requires block { 0 < b }
+    ensures exact { result ≡ symbols_before symbols (blocks_in symbols b) block }
+    ensures most { result < 2 ^ 42 }
+{
+    let larger = larger_count(symbols, b);
+    let first = u64::from(block).min(larger);
+    let last = u64::from(block).saturating_sub(larger);
+    let in_first = first * u64::from(large_size(symbols, b));
+    let in_last = last * u64::from(small_size(symbols, b));
+    in_first + in_last
 }
 
 impl Plan {
@@ -54,34 +141,81 @@ impl Plan {
         if l == 0 {
             return Err(PlanFault::ZeroLength);
         }
-        if e < 64 || e > 1400 {
-            return Err(PlanFault::BadSymbol { e });
-        }
-        if b < 1 || b > 200 {
-            return Err(PlanFault::BadBlock { b });
-        }
-        if max_n < b {
-            return Err(PlanFault::BadMaxN { b, max_n });
-        }
+        check_shape(e, b, max_n)?;
         let symbols = l.div_ceil(u64::from(e));
         let blocks = symbols.div_ceil(u64::from(b));
         if blocks > 16_777_216 {
             return Err(PlanFault::TooManyBlocks { blocks });
         }
-        Ok(Plan { l, e, b, max_n })
+        Ok(Plan {
+            l: Some(l),
+            e,
+            b,
+            max_n,
+        })
     }
 
-    /// The object's source symbols.
-    pub fn symbols(&self) -> u64
-        ensures { result ≡ symbols self.now }
+    /// The plan of a stream, or the first thing that is wrong with it.
+    pub fn stream(e: u16, b: u8, max_n: u8) -> Result<Plan, PlanFault>
+        ensures { let cut = stream_cut e b max_n in
+            MatchResult result (λ plan. (first_fault cut ≡ None) × (plan ≡ cut)) (λ fault. first_fault cut ≡ Some fault) }
     {
-        self.l.div_ceil(u64::from(self.e))
+        check_shape(e, b, max_n)?;
+        Ok(Plan {
+            l: None,
+            e,
+            b,
+            max_n,
+        })
     }
 
-    /// The object's blocks, at most 16,777,216.
+    /// The number of blocks, at most 16,777,216; a stream has them all.
     pub fn blocks(&self) -> u32
-        ensures { result ≡ blocks self.now }
+        ensures exact { result ≡ blocks self.now }
+        ensures most { result ≤ 16777216 }
     {
-        self.symbols().div_ceil(u64::from(self.b)) as u32
+        match self.l {
+            Some(l) => blocks_of(l, self.e, self.b) as u32,
+            None => MOST_BLOCKS,
+        }
+    }
+
+    /// The source symbols of a block.
+    pub fn source_len(&self, block: u32) -> u8
+        ensures exact { result ≡ source_symbols self.now block }
+        ensures most { result ≤ self.now.b }
+    {
+        match self.l {
+            Some(l) => {
+                let symbols = l.div_ceil(u64::from(self.e));
+                size_of_block(symbols, self.b, block)
+            }
+            None => self.b,
+        }
+    }
+
+    /// The encoding symbols of a block: its source symbols and its parity.
+    pub fn encoded_len(&self, block: u32) -> u8
+        ensures { result ≡ encoding_symbols self.now block }
+    {
+        let sources = self.source_len(block);
+        (u16::from(sources) * u16::from(self.max_n) / u16::from(self.b)) as u8
+    }
+
+    /// The octets of a symbol as it is sent: of an object the last source symbol at its own length, of a stream the
+    /// most that a segment's symbol has.
+    pub fn symbol_octets(&self, block: u32, symbol: u8) -> u16
+        ensures { result ≡ sent_octets self.now block symbol }
+    {
+        let Some(l) = self.l else {
+            return self.e + 8;
+        };
+        if symbol >= self.source_len(block) {
+            return self.e;
+        }
+        let symbols = l.div_ceil(u64::from(self.e));
+        let number = count_before(symbols, self.b, block) + u64::from(symbol);
+        let left = l.saturating_sub(number * u64::from(self.e));
+        u64::from(self.e).min(left) as u16
     }
 }

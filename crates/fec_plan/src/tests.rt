@@ -5,17 +5,49 @@ use std::test::Fail;
 
 #[test]
 fn objects_are_cut_as_in_worked_rows(rt: HostRuntime) -> Result<(), Fail> {
-    for (l, e, b, max_n, symbols, blocks) in [
-        (1000, 64, 6, 8, 16, 3),
-        (257, 64, 4, 6, 5, 2),
-        (256, 64, 4, 6, 4, 1),
-        (16_777_216, 1400, 200, 255, 11_984, 60),
-        (5, 64, 4, 6, 1, 1),
+    // Length, e, b, max_n; the blocks; of one block its number, source and encoding symbols, and the octets of its
+    // last source symbol.
+    for (l, e, b, max_n, blocks, block, sources, encoded, last) in [
+        (1000, 64, 6, 8, 3, 0, 6, 8, 64),
+        (1000, 64, 6, 8, 3, 1, 5, 6, 64),
+        (1000, 64, 6, 8, 3, 2, 5, 6, 40),
+        (257, 64, 4, 6, 2, 0, 3, 4, 64),
+        (257, 64, 4, 6, 2, 1, 2, 3, 1),
+        (256, 64, 4, 6, 1, 0, 4, 6, 64),
+        (16_777_216, 1400, 200, 255, 60, 43, 200, 255, 1400),
+        (16_777_216, 1400, 200, 255, 60, 44, 199, 253, 1400),
+        (16_777_216, 1400, 200, 255, 60, 59, 199, 253, 1016),
     ] {
         let plan = Plan::of(l, e, b, max_n)?;
-        assert_eq!(rt; plan.symbols(), symbols, "symbols of {l}");
         assert_eq!(rt; plan.blocks(), blocks, "blocks of {l}");
+        assert_eq!(rt;
+            plan.source_len(block),
+            sources,
+            "sources of {l} at {block}"
+        );
+        assert_eq!(rt;
+            plan.encoded_len(block),
+            encoded,
+            "symbols of {l} at {block}"
+        );
+        let symbol = u8::saturating_sub(sources, 1);
+        assert_eq!(rt;
+            plan.symbol_octets(block, symbol),
+            last,
+            "octets of {l} at {block}"
+        );
     }
+    Ok(())
+}
+
+#[test]
+fn blocks_of_a_stream_are_alike(rt: HostRuntime) -> Result<(), Fail> {
+    let plan = Plan::stream(64, 4, 6)?;
+    assert_eq!(rt; plan.blocks(), 16_777_216);
+    assert_eq!(rt; plan.source_len(77), 4);
+    assert_eq!(rt; plan.encoded_len(77), 6);
+    assert_eq!(rt; plan.symbol_octets(77, 0), 72);
+    assert_eq!(rt; Plan::stream(63, 4, 6), Err(PlanFault::BadSymbol { e: 63 }));
     Ok(())
 }
 

@@ -16,11 +16,11 @@ inverse_rows : passes_at_octets inverse_test ≡ true
 unfolding inverse_test inverse ones_power product shift shifts sum_at_bits
 inverse_rows = refl
 
-other_true : (a b : Bool) → a ≡ false → (a || b) ≡ true → b ≡ true
+pub other_true : (a b : Bool) → a ≡ false → (a || b) ≡ true → b ≡ true
 other_true true b p h = absurd (cc p)
 other_true false b p h = h
 
-zero_differs : (a : ℕ) → 0 < a → (a == 0) ≡ false
+pub zero_differs : (a : ℕ) → 0 < a → (a == 0) ≡ false
 zero_differs zero h = absurd (omega arith)
 zero_differs (suc a) h = eqb-suc-zero a
 

@@ -6,5 +6,8 @@ pub mod Inverses
 pub mod Powers
 pub mod Polynomials
 pub mod Interpolations
-pub mod Steps
+pub mod Places
+pub mod Symbols
+pub mod LaneLemmas
+pub mod TableLemmas
 pub mod LawsHold

@@ -41,9 +41,6 @@ power_mod n =
     ∙ sym (power-add (255 * (n / 255)) (n % 255))
     ∙ ap power (div-add-mod n 255)
 
-pub power_ends : (i j : ℕ) → i ≡ j % 255 → power i ≡ power j
-power_ends i j h = ap power h ∙ power_mod j
-
 -- none of the n octets p, 2 p, 4 p and so on is 1
 none_is_one : ℕ → ℕ → Bool
 none_is_one zero p = true

@@ -1,11 +1,12 @@
 -- The laws of the field, stated for octets: numbers below 256.
-use Rattle.std.specs.Prelude.{ℕ, List, ◌≡◌, ◌<◌, ◌≤◌, length, bit_xor, nat_eq}
+use Rattle.std.specs.Prelude.{ℕ, List, [], ◌≡◌, ◌<◌, ◌≤◌, length, map, slice_index, slice_index_or, bit_xor, nat_eq}
 use Rattle.std.specs.List.{AllByRecursion, IsDistinct}
 use Rattle.gf_field.specs.Octet.{AreOctets}
 use Rattle.gf_field.specs.Product.{product}
-use Rattle.gf_field.specs.Power.{power}
+use Rattle.gf_field.specs.Power.{power, powers}
 use Rattle.gf_field.specs.Polynomial.{value_at, GoesThrough}
 use Rattle.gf_field.specs.Interpolation.{interpolated}
+use Rattle.gf_field.specs.Symbol.{AreSymbols, AreIds, octets_at, encoded_symbol, solved_symbol, solved_sources}
 
 -- the sum makes the octets a commutative group, in which each octet is its own opposite
 pub record SumLaws : Type 0 where
@@ -63,3 +64,21 @@ FormulaLaw =
     (places values coefficients : List ℕ) (x : ℕ) → ArePoints places values
     → GoesThrough coefficients places values
     → value_at coefficients x ≡ interpolated places values x
+
+-- at each octet's place, the symbols that are computed are values of the polynomial through those that they come from
+pub record SymbolValues : Type 0 where
+  pub encoded : (k size j t : ℕ) (sources : List (List ℕ)) (coefficients : List ℕ) → k ≤ 255 → t < size → AreSymbols k size sources
+      → GoesThrough coefficients (powers k) (octets_at t sources)
+      → slice_index (encoded_symbol size sources j) t ≡ value_at coefficients (power j)
+  pub solved : (k size j t : ℕ) (ids : List ℕ) (symbols : List (List ℕ)) (coefficients : List ℕ) → t < size → AreSymbols k size symbols
+      → AreIds k 255 ids → GoesThrough coefficients (map power ids) (octets_at t symbols)
+      → slice_index (solved_symbol size ids symbols j) t ≡ value_at coefficients (power j)
+
+-- any k encoded symbols of a block with different ids give its source symbols, each of which is an encoded symbol
+pub record SymbolLaws : Type 0 where
+  pub size : (size j : ℕ) (sources : List (List ℕ)) → length (encoded_symbol size sources j) ≡ size
+  pub octets : (size j : ℕ) (sources : List (List ℕ)) → AreOctets (encoded_symbol size sources j)
+  pub own : (k size j : ℕ) (sources : List (List ℕ)) → k ≤ 255 → j < k → AreSymbols k size sources
+      → encoded_symbol size sources j ≡ slice_index_or sources j []
+  pub solved : (k size : ℕ) (ids : List ℕ) (sources : List (List ℕ)) → k ≤ 255 → AreSymbols k size sources → AreIds k 255 ids
+      → solved_sources size ids (map (encoded_symbol size sources) ids) ≡ sources

@@ -4,4 +4,6 @@ pub mod Inverse
 pub mod Power
 pub mod Polynomial
 pub mod Interpolation
+pub mod Symbol
+pub mod Lanes
 pub mod Laws

@@ -1,6 +1,6 @@
 //! The laws of the field, RFC 5510 section 8.1. Each function's contract is a law, and it does nothing.
 
-ghost use Rattle.gf_field.specs.Laws.{SumLaws, ProductLaws, InverseLaws, PowerLaws, ZerosLaw, PointsLaw, FormulaLaw};
+ghost use Rattle.gf_field.specs.Laws.{SumLaws, ProductLaws, InverseLaws, PowerLaws, ZerosLaw, PointsLaw, FormulaLaw, SymbolValues, SymbolLaws};
 
 /// Octets with exclusive or are a commutative group.
 #[tactic(auto, using(crate::proofs::LawsHold::sum_laws))]
@@ -42,4 +42,16 @@ pub fn points()
 #[tactic(auto, using(crate::proofs::LawsHold::formula_law))]
 pub fn formula()
     ensures { FormulaLaw }
+{}
+
+/// The symbols that are computed by the formula are values of the polynomial through those that they come from.
+#[tactic(auto, using(crate::proofs::Symbols::symbol_values))]
+pub fn symbol_values()
+    ensures { SymbolValues }
+{}
+
+/// Any k encoded symbols of a block with different ids give its source symbols.
+#[tactic(auto, using(crate::proofs::Symbols::symbol_laws))]
+pub fn symbols()
+    ensures { SymbolLaws }
 {}

@@ -1,4 +1,4 @@
-//! Rows of RFC 5510's field from outside, and products by logarithms.
+//! Rows of RFC 5510's field from outside, and products as polynomials.
 
 use super::*;
 use std::test::Fail;
@@ -35,40 +35,48 @@ fn products_powers_and_inverses_are_those_of_the_field(rt: HostRuntime) {
     assert_eq!(rt; inv(0x04), 0x47);
 }
 
-#[test]
-fn all_products_are_those_by_logarithms(rt: HostRuntime) {
-    let mut powers = [0u8; 255];
-    let mut logarithms = [0usize; 256];
-    let mut power: u8 = 1;
-    for j in 0..255usize {
-        powers[j] = power;
-        logarithms[power as usize] = j;
-        power = if power < 128 {
-            power * 2
-        } else {
-            (power - 128) * 2 ^ 0x1d
-        };
+/// The product as polynomials over two elements, reduced afterwards from the highest bit on.
+fn reduced_product(a: u8, b: u8) -> u8 {
+    let mut product = 0u32;
+    for place in 0..8u32 {
+        if b >> place & 1 == 1 {
+            product ^= u32::from(a) << place;
+        }
     }
+    for place in 0..7u32 {
+        let shift = 6 - place;
+        if product >> (shift + 8) & 1 == 1 {
+            product ^= 0x11d << shift;
+        }
+    }
+    (product & 0xff) as u8
+}
+
+#[test]
+fn all_products_are_those_of_polynomials(rt: HostRuntime) {
     for a in 0..=255u8 {
         for b in 0..=255u8 {
-            let sum = logarithms[a as usize] % 255 + logarithms[b as usize] % 255;
-            let product = if a == 0 || b == 0 {
-                0
-            } else {
-                powers[sum % 255]
-            };
-            assert_eq!(rt; mul(a, b), product, "at {a} and {b}");
+            assert_eq!(rt; mul(a, b), reduced_product(a, b), "at {a} and {b}");
         }
+    }
+}
+
+#[test]
+fn a_power_of_the_logarithm_is_the_octet(rt: HostRuntime) {
+    for a in 1..=255u8 {
+        assert!(rt; a != 0);
+        assert_eq!(rt; alpha_pow(alpha_log(a)), a);
+        assert_eq!(rt; reduced_product(a, inv(a)), 1, "at {a}");
     }
 }
 
 #[test]
 fn each_octet_of_a_scaled_sum_is_the_sum_with_the_product(rt: HostRuntime) -> Result<(), Fail> {
     let mut octets = Vec::new(rt.alloc());
-    for i in 0..70u8 {
-        octets.push(i * 3)?;
+    for i in 0..200u8 {
+        octets.push(i.wrapping_mul(37) ^ 0x5a)?;
     }
-    for len in 0..=70usize {
+    for len in 0..=200usize {
         for c in [0, 1, 2, 0x8e] {
             let mut sums = octets.clone()?;
             sums.reverse();
@@ -78,7 +86,11 @@ fn each_octet_of_a_scaled_sum_is_the_sum_with_the_product(rt: HostRuntime) -> Re
             assert_eq!(rt; sums.len(), len);
             add_scaled(&mut sums, &octets[..len], c);
             for ((sum, was), octet) in sums.iter().zip(&before).zip(&octets) {
-                assert_eq!(rt; *sum, *was ^ mul(c, *octet), "at {len} octets times {c}");
+                assert_eq!(rt;
+                    *sum,
+                    *was ^ reduced_product(c, *octet),
+                    "at {len} octets times {c}"
+                );
             }
         }
     }

@@ -40,11 +40,11 @@ copies-new : (offered : List (ℕ × List ℕ)) (from : ℕ) (bytes : List ℕ) 
 copies-new offered from bytes [] others = tt
 copies-new offered from bytes (p ∷ plan) others =
     all_append (IsCopyOf (offered ++ (from, bytes) ∷ [])) _ (copies_of (length offered) plan)
-        (all_replicate (IsCopyOf (offered ++ (from, bytes) ∷ [])) p.1.copies _ (record {
-          inside = simp length-append (omega arith);
-          other = rw (offer_at-last offered (from, bytes)) (λ e. others.0 (sym e));
-        }))
-        (copies-new offered from bytes plan others.1)
+    (all_replicate (IsCopyOf (offered ++ (from, bytes) ∷ [])) p.1.copies _ (record {
+      inside = simp length-append (omega arith);
+      other = rw (offer_at-last offered (from, bytes)) (λ e. others.0 (sym e));
+    }))
+    (copies-new offered from bytes plan others.1)
 
 answers-kept : (offered : List (ℕ × List ℕ)) (o : ℕ × List ℕ) (answers : List (Option (ℕ × ℕ))) → AllByRecursion (AnswersFrom offered) answers → AllByRecursion (AnswersFrom (offered ++ o ∷ [])) answers
 answers-kept offered o [] all = tt

@@ -39,6 +39,7 @@ same_numbers : (a b : ℕ) → nat_cmp a b ≡ Equal → a ≡ b
 same_numbers a b e = by_ranked _ _ _ (nat_cmp a b) (ranked a b (nat_cmp a b) refl) (λ l _. absurd (less_equal (sym l ∙ e))) (λ _ s. s) (λ g _. absurd (greater_equal (sym g ∙ e))) where
   less_equal : Less ≡ Equal → ⊥
   less_equal h = cc
+
   greater_equal : Greater ≡ Equal → ⊥
   greater_equal h = cc
 
@@ -174,7 +175,7 @@ in_turn-joined old new copies fresh p q =
         sum_by-IsPermutation f copies fresh p,
         sum_by-IsPermutation f (old ++ fresh) new q,
         sum_by-append f old fresh,
-      )
+      );
     })
 
 -- what a heap holds, once its greatest left it
@@ -188,7 +189,7 @@ in_turn-left old new x least p =
         sum_by-IsPermutation f old (x ∷ new) p,
         sum_by-cons f x new,
         sum_by-cons f x (in_turn new),
-      )
+      );
     })
 
 put_first : (x : WaitingCopy) (xs : List WaitingCopy) → AllByRecursion (λ y. before y x ≡ false) xs → put_copy x xs ≡ x ∷ xs

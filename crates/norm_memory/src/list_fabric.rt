@@ -94,7 +94,13 @@ impl Fabric for ListFabric {
         self.offers.pass();
         let network = &mut self.network;
         let number = self.offers.made();
-        let plan = plan_by_rules(network.alloc(), &self.rules, number, from, network.members())?;
+        let plan = plan_by_rules(
+            network.alloc(),
+            &self.rules,
+            number,
+            from,
+            network.members(),
+        )?;
         network.offer(from, bytes, &plan)?;
         Ok(())
     }

@@ -5,8 +5,7 @@ ghost use Rattle.norm_base.specs.Faults.{one_more};
 ghost use Rattle.norm_memory.specs.Timing.{moment_at, told_moments};
 ghost use Rattle.norm_base.specs.Told.{GainsWhereTold};
 
-use norm_base::Clock;
-use norm_base::Moment;
+use norm_base::{Clock, Moment};
 use std::marker::Model;
 
 /// Gives the moments of a list, after them its last one again, and 0 where the list is empty.

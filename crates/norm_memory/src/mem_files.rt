@@ -7,9 +7,8 @@ ghost use Rattle.norm_memory.specs.Calls.{next_fails, after_call};
 ghost use Rattle.norm_base.specs.Faults.{Counts, file_failed};
 
 use crate::calls::CallCount;
-use norm_base::{Failed, FileFault};
-use norm_base::Files;
 use crate::mem_source::copy_front;
+use norm_base::{Failed, FileFault, Files};
 use std::alloc::{AllocError, Global};
 use std::marker::Model;
 

@@ -7,8 +7,7 @@ ghost use Rattle.norm_memory.specs.Reading.{after_read};
 ghost use Rattle.norm_base.specs.Told.{before_taking};
 
 use crate::calls::CallCount;
-use norm_base::Failed;
-use norm_base::Source;
+use norm_base::{Failed, Source};
 use std::marker::Model;
 
 /// Octets in memory, of which the calls with the listed numbers fail and leave all as it was.

@@ -19,7 +19,10 @@ pub enum Rule {
         after: u32,
     },
     /// Offers of this member with this number or a greater one are lost.
-    Mute { from: NodeId, since: u64 },
+    Mute {
+        from: NodeId,
+        since: u64,
+    },
 }
 
 /// What becomes of the offer of this number on its way to a member.

@@ -4,9 +4,9 @@ use Rattle.norm_objmsg.specs.Fields.{octet_at, number_at}
 use Rattle.norm_objmsg.specs.Chain.{◌>>=◌}
 use Rattle.norm_objmsg.specs.declared.fti.Fti.{Fti}
 
--- The FEC Object Transmission Information as a header extension (RFC 5740 section 4.1, RFC 5510 section 5.3): its
--- type 64, its length of 3 words, 48 bits of the object's length, 16 of the symbol length, 8 of the block length, and
--- 8 of the most encoding symbols of a block.
+-- The FEC Object Transmission Information as a header extension (after RFC 5740 section 4.1 and RFC 5510 section 5.2.4.1;
+-- fields and widths are our own): its type 64, its length of 3 words, 48 bits of the object's length, 16 of the symbol
+-- length, 8 of the block length, and 8 of the most encoding symbols of a block.
 abbrev pub fti_octets : Fti → List ℕ
 fti_octets f =
     64 ∷ 3 ∷ to_be_bytes w16 (f.l / 4294967296) ++ to_be_bytes w32 (f.l % 4294967296)

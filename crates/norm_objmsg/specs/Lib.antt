@@ -5,3 +5,5 @@ pub mod DataText
 pub mod DataView
 pub mod DataReading
 pub mod Spells
+pub mod MessageView
+pub mod CanWriteMessage

@@ -1,5 +1,5 @@
-//! The FEC Object Transmission Information of FEC Encoding ID 5, as a header extension (RFC 5510
-//! section 5.3).
+//! The FEC Object Transmission Information of FEC Encoding ID 5 as a header extension, after RFC 5510 section 5.2.4.1; its fields
+//! and widths are this project's own choice.
 
 ghost use Rattle.std.specs.Prelude.{◌≡◌, ◌<◌, ◌^◌, ℕ, List};
 ghost use Rattle.std.specs.Option.{option_map};

@@ -3,6 +3,7 @@
 
 mod fields;
 mod fti;
+pub mod grammar;
 mod message;
 mod read;
 

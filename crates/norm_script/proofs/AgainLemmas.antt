@@ -1,8 +1,8 @@
-use Rattle.std.proofs.Common.{◌≡◌, ◌∙◌, sym, ap, ◌+◌, ◌*◌, ◌≤◌, ◌<◌, ◌==◌, ℕ, List, [], ◌∷◌, ◌++◌, length, Option, Some, None, Result, Ok, Err, Bool, true, false, refl, arith, cond, nat_eq, nat_le, nat_lt, map, append_assoc, length-append}
+use Rattle.std.proofs.Common.{◌≡◌, ◌∙◌, sym, ap, ◌+◌, ◌*◌, ◌≤◌, ◌<◌, ◌==◌, ℕ, List, [], ◌∷◌, ◌++◌, length, Some, None, Ok, true, false, refl, arith, nat_eq, nat_le, nat_lt, map, append_assoc, length-append}
 use Rattle.std.proofs.lemmas.List.{append-nil}
-use Rattle.std.specs.Prelude.{◌&&◌, IfOk, count_by}
+use Rattle.std.specs.Prelude.{◌&&◌, count_by}
 use Rattle.std.specs.List.{AllByRecursion, list_all}
-use Rattle.norm_base.specs.Given.{value_in, are_values, meets_rules, profile_given}
+use Rattle.norm_base.specs.Given.{are_values, meets_rules, profile_given}
 use Rattle.norm_base.specs.Keys.{row_of, keys, is_value, IsValue}
 use Rattle.norm_base.specs.Settings.{Settings, InRange, settings_with, mode_at, fabric_at}
 use Rattle.norm_base.specs.declared.key.Key.{Key}
@@ -12,10 +12,10 @@ use Rattle.norm_base.specs.declared.kinds.Mode.TheVariants.{Hold, Drop}
 use Rattle.norm_base.specs.declared.kinds.FabricKind.{FabricKind}
 use Rattle.norm_base.specs.declared.kinds.FabricKind.TheVariants.{Direct, Chance, Udp}
 use Rattle.norm_script.specs.Commands.{Commands}
-use Rattle.norm_script.specs.Head.{Head, Begun, head_from, head_line, nothing_set, setting_of_key, profile_of, given_by}
-use Rattle.norm_script.specs.Reading.{next_line, take_lines, take_line, commands_with, commands_from, script_from, script_of}
+use Rattle.norm_script.specs.Head.{Head, head_from, setting_of_key, given_by}
+use Rattle.norm_script.specs.Reading.{next_line, take_lines, script_of}
 use Rattle.norm_script.specs.Scripts.{IsLine, AreNumbered, IsScript}
-use Rattle.norm_script.specs.Text.{text_lines, onto_first}
+use Rattle.norm_script.specs.Text.{text_lines}
 use Rattle.norm_script.specs.Written.{setting_line, command_line, ended, written, mode_value, fabric_value, value_of_key, script_octets}
 use Rattle.norm_script.specs.declared.refusal.Extent.TheVariants.{Whole}
 use Rattle.norm_script.specs.declared.script.Line.{Line}

@@ -1,4 +1,4 @@
-use Rattle.std.proofs.Common.{◌≡◌, ◌+◌, ℕ, List, [], ◌∷◌, length, Option, Some, None, Result, Ok, Err, Bool, true, false, refl, cond}
+use Rattle.std.proofs.Common.{◌≡◌, Option, Some, None, Result, Ok, Err, Bool, true, false, refl, cond}
 use Rattle.std.specs.Option.{ok_or}
 use Rattle.std.specs.Prelude.{IfOk, IfSome}
 use Rattle.norm_script.specs.Steps.{◌>>=◌}

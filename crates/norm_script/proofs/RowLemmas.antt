@@ -1,4 +1,4 @@
-use Rattle.std.proofs.Common.{◌≡◌, ◌∙◌, sym, ap, ◌+◌, ◌*◌, ◌-◌, ◌/◌, ◌%◌, ◌^◌, ◌≤◌, ◌<◌, ◌==◌, ℕ, List, [], ◌∷◌, ◌++◌, length, Option, Some, None, true, false, refl, arith, codes, map, take, get_or, length-append, append_assoc, slice_index, nat_eq}
+use Rattle.std.proofs.Common.{◌≡◌, ◌∙◌, sym, ap, ◌+◌, ◌*◌, ◌-◌, ◌/◌, ◌%◌, ◌≤◌, ◌<◌, ℕ, List, [], ◌∷◌, ◌++◌, length, Some, None, true, false, refl, arith, codes, map, take, length-append, append_assoc, slice_index, nat_eq}
 use Rattle.std.specs.Prelude.{slice_index_or, OnErr, Result, Ok, Err}
 use Rattle.std.specs.List.{concat, range_with_len}
 use Rattle.std.proofs.lemmas.Bool.{eq-eqb}
@@ -7,7 +7,7 @@ use Rattle.std.proofs.lemmas.List.{append-nil, get_or_append_left, get_or-append
 use Rattle.std.proofs.lemmas.List.Folds.{concat-append}
 use Rattle.std.proofs.lemmas.List.FromFn.{map-range_with_len_more, length-map-range_with_len, get_or-map-range_with_len}
 use Rattle.hex.specs.Hex.{encode_with, encode_lower, lower_digits}
-use Rattle.norm_base.specs.Told.{Pieces, gained, written_of, GainsFront}
+use Rattle.norm_base.specs.Told.{Pieces, gained, written_of, GainsFront, front_piece}
 use Rattle.norm_script.specs.Generated.{generated_settings, generated_octets, setting_piece, command_piece, generated_pieces, generate_text, StopsWithin}
 use Rattle.norm_script.proofs.WordLemmas.{hex-length}
 use Rattle.norm_script.proofs.GeneratedLemmas.{pieces-text}
@@ -88,9 +88,15 @@ all_written told now n k h is = is ∙ ap (gained told) (take_all k (generated_p
 -- a write failed within a row
 pub stops : (told now after : Pieces) (n k : ℕ) (row : List ℕ) → k < 311 → now ≡ gained told (take k (generated_pieces n))
     → row ≡ slice_index_or (generated_pieces n) k [] → GainsFront now after row → StopsWithin (generated_pieces n) told after
-stops told now after n k row h so_far is front =
-    (k, omega (arith, pieces_count n), (front.0, front.1 ∙ ap (λ t. gained t (take front.0 row ∷ [])) so_far
-    ∙ ap (λ r. gained (gained told (take k (generated_pieces n))) (take front.0 r ∷ [])) is))
+stops told now after n k row h so_far is front = (
+  k,
+  omega (arith, pieces_count n),
+  (
+    front.0,
+    front.1 ∙ ap (λ t. gained t (front_piece front.0 row)) so_far
+        ∙ ap (λ r. gained (gained told (take k (generated_pieces n))) (front_piece front.0 r)) is,
+  ),
+)
 
 pub at_err : {T E : Type 0} (r : Result T E) (P : Type 0) → P → OnErr r P
 at_err (Ok x) P p = tt

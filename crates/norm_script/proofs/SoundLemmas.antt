@@ -1,4 +1,4 @@
-use Rattle.std.proofs.Common.{◌≡◌, ◌∙◌, sym, ap, ◌+◌, ◌*◌, ◌≤◌, ℕ, List, [], ◌∷◌, ◌++◌, length, Option, Some, None, Result, Ok, Err, Bool, true, false, refl, arith, nat_eq, nat_le, cond, codes}
+use Rattle.std.proofs.Common.{◌≡◌, sym, ap, ◌+◌, ◌*◌, ◌≤◌, ℕ, List, [], ◌∷◌, length, Option, Some, None, Result, Ok, Err, Bool, refl, arith, nat_eq, nat_le, cond, codes}
 use Rattle.std.specs.Prelude.{◌&&◌, IfOk, IfSome, not}
 use Rattle.std.specs.Option.{ok_or, option_map}
 use Rattle.std.specs.Result.{result_ok}
@@ -7,7 +7,7 @@ use Rattle.hex.specs.Hex.{decode_of}
 use Rattle.hex.proofs.HexLemmas.{decode_of-ok}
 use Rattle.norm_base.specs.Keys.{keys, key_named}
 use Rattle.norm_script.specs.Meaning.{contents, data_of, file_of, write_of, restart_of, verb_with, verb_alone, verb_of_words, verb_of, command_of, meaning_of_words, meaning_of, is_passed_over, ends_with_return, or_return, setting_of, value_for}
-use Rattle.norm_script.specs.Scripts.{IsContents, IsObject, IsVerb, IsMeaning}
+use Rattle.norm_script.specs.Scripts.{IsContents, IsVerb, IsMeaning}
 use Rattle.norm_script.specs.Steps.{◌>>=◌}
 use Rattle.norm_script.specs.Text.{split_at_first}
 use Rattle.norm_script.specs.Words.{is_text, is_number, value_of, number_within, contents_of, is_name}
@@ -15,7 +15,6 @@ use Rattle.norm_script.specs.declared.meaning.Meaning.{Meaning}
 use Rattle.norm_script.specs.declared.meaning.Meaning.TheVariants.{Nothing, Set, Command}
 use Rattle.norm_script.specs.declared.refusal.Why.{Why}
 use Rattle.norm_script.specs.declared.refusal.Why.TheVariants as why
-use Rattle.norm_script.specs.declared.script.Verb.{Verb}
 use Rattle.norm_script.specs.declared.script.Verb.TheVariants as verb
 use Rattle.norm_script.proofs.ChainLemmas.{IfOk-bind, IfOk-ok_or, IfOk-cond, IfSome-cond, IfOk-unit, IfOk-given}
 

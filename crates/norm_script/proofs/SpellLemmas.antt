@@ -1,5 +1,4 @@
-use Rattle.std.proofs.Common.{◌≡◌, ◌∙◌, sym, ap, ◌+◌, ◌*◌, ◌^◌, ◌≤◌, ◌<◌, ◌==◌, ℕ, List, [], ◌∷◌, ◌++◌, length, Option, Some, None, Result, Ok, Err, Bool, true, false, refl, arith, cond, codes, nat_eq, nat_le, nat_lt, decimal, zero, suc, lit<, length-append}
-use Rattle.std.specs.Prelude.{◌&&◌}
+use Rattle.std.proofs.Common.{◌≡◌, ◌∙◌, ◌^◌, ◌≤◌, ◌<◌, ℕ, List, [], ◌∷◌, ◌++◌, length, Some, None, Ok, Bool, true, false, refl, arith, codes, nat_eq, nat_lt, decimal, zero, suc, lit<, length-append}
 use Rattle.std.specs.List.{list_all}
 use Rattle.std.proofs.lemmas.Fmt.{decimal_nonempty, length-decimal-le}
 use Rattle.std.proofs.lemmas.List.Folds.{list_all-append}
@@ -7,7 +6,7 @@ use Rattle.hex.specs.Hex.{encode_lower}
 use Rattle.norm_base.specs.Keys.{row_of, keys, key_named, IsValue}
 use Rattle.norm_base.specs.declared.key.Key.{Key}
 use Rattle.norm_base.specs.declared.key.Key.TheVariants as key
-use Rattle.norm_script.specs.Meaning.{number_for, value_for, setting_of, verb_of, command_of, meaning_of_words, meaning_of, is_passed_over}
+use Rattle.norm_script.specs.Meaning.{value_for, setting_of, verb_of, meaning_of_words, meaning_of, is_passed_over}
 use Rattle.norm_script.specs.Scripts.{IsVerb}
 use Rattle.norm_script.specs.Words.{is_text, is_digit}
 use Rattle.norm_script.specs.Written.{value_words, setting_line, verb_line, command_line}

@@ -1,4 +1,4 @@
-use Rattle.std.proofs.Common.{◌≡◌, ◌∙◌, sym, ap, ◌+◌, ◌≤◌, ◌<◌, ◌==◌, ℕ, List, [], ◌∷◌, ◌++◌, length, Option, Some, None, Result, Ok, Err, Bool, true, false, refl, arith, cond, nat_le, nat_lt, append_assoc, length-append}
+use Rattle.std.proofs.Common.{◌≡◌, sym, ◌+◌, ◌≤◌, ◌<◌, ◌==◌, ℕ, List, [], ◌∷◌, ◌++◌, length, Option, Some, None, Result, Ok, Err, Bool, true, false, refl, arith, cond, nat_le, nat_lt, append_assoc, length-append}
 use Rattle.std.proofs.lemmas.List.{append-nil}
 use Rattle.std.specs.Prelude.{◌&&◌, IfOk, IfSome, count_by, not}
 use Rattle.std.specs.List.{AllByRecursion}
@@ -7,11 +7,10 @@ use Rattle.norm_base.specs.Given.{value_in, are_in_range, are_values, meets_rule
 use Rattle.norm_base.specs.Keys.{keys}
 use Rattle.norm_base.specs.Settings.{Settings, InRange, settings_with}
 use Rattle.norm_script.specs.Built.{unbuilt_object, unbuilt_command, counts}
-use Rattle.norm_script.specs.Commands.{Commands}
-use Rattle.norm_script.specs.Head.{Head, head_from, nothing_set, profile_of, settled, given_by, rule_refusal}
+use Rattle.norm_script.specs.Head.{head_from, nothing_set, profile_of, settled, given_by, rule_refusal}
 use Rattle.norm_script.specs.Meaning.{meaning_of}
-use Rattle.norm_script.specs.Reading.{next_line, command_refused, take_in, take_line, take_lines, or_refuses, commands_with, commands_from, script_from, script_of}
-use Rattle.norm_script.specs.Scripts.{IsVerb, IsMeaning, IsLine, AreNumbered, IsScript, IsOneSymbol, IsBuiltLine, IsBuilt, IsOf}
+use Rattle.norm_script.specs.Reading.{next_line, command_refused, take_in, take_line, take_lines, or_refuses, commands_with, commands_from, script_of}
+use Rattle.norm_script.specs.Scripts.{IsVerb, IsMeaning, IsLine, AreNumbered, IsBuiltLine, IsOf}
 use Rattle.norm_script.specs.Steps.{◌>>=◌, unless}
 use Rattle.norm_script.specs.Text.{text_lines}
 use Rattle.norm_script.specs.declared.meaning.Meaning.{Meaning}
@@ -24,7 +23,7 @@ use Rattle.norm_script.specs.declared.refusal.Why.TheVariants as why
 use Rattle.norm_script.specs.declared.script.Line.{Line}
 use Rattle.norm_script.specs.declared.script.Verb.{Verb}
 use Rattle.norm_script.specs.declared.script.Verb.TheVariants as verb
-use Rattle.norm_script.proofs.ChainLemmas.{IfOk-bind, IfOk-itself}
+use Rattle.norm_script.proofs.ChainLemmas.{IfOk-bind}
 use Rattle.norm_script.proofs.SoundLemmas.{meaning-ok}
 
 -- What is read is a script.

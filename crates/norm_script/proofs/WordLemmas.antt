@@ -1,18 +1,15 @@
-use Rattle.std.proofs.Common.{◌≡◌, ◌∙◌, sym, ap, ◌+◌, ◌*◌, ◌-◌, ◌/◌, ◌%◌, ◌^◌, ◌≤◌, ◌<◌, ◌==◌, ℕ, List, [], ◌∷◌, ◌++◌, length, Option, Some, None, Result, Ok, Err, Bool, true, false, refl, arith, cond, nat_eq, nat_le, nat_lt, slice_index, decimal, zero, suc, fold}
+use Rattle.std.proofs.Common.{◌≡◌, ◌∙◌, ◌+◌, ◌*◌, ◌/◌, ◌%◌, ◌^◌, ◌≤◌, ◌<◌, ◌==◌, ℕ, List, [], ◌∷◌, ◌++◌, length, Some, None, Ok, Bool, true, false, refl, arith, nat_eq, nat_le, nat_lt, slice_index, decimal, zero, suc}
 use Rattle.std.specs.Prelude.{◌&&◌, ◌||◌, not}
 use Rattle.std.specs.List.{list_all}
-use Rattle.std.specs.Char.{is_ascii_alphanumeric}
-use Rattle.std.specs.Result.{result_ok}
 use Rattle.std.proofs.lemmas.Fmt.{decimal_by_steps, first_decimal, decimal_nonempty, decimal_digit}
 use Rattle.std.proofs.lemmas.List.Folds.{list_all-append}
 use Rattle.std.proofs.lemmas.List.Sums.{fold-append, list_all-from_AllPass}
-use Rattle.hex.specs.Hex.{IsBytes, decode_of, encode_lower, is_hex_digit, hex_digit_value, lower_digits}
+use Rattle.hex.specs.Hex.{IsBytes, encode_lower, is_hex_digit, lower_digits}
 use Rattle.hex.proofs.HexLemmas.{decode_of-ok, decode_of-encode_lower, length-encode_with}
 use Rattle.norm_script.specs.Meaning.{contents}
 use Rattle.norm_script.specs.Scripts.{IsContents}
 use Rattle.norm_script.specs.Text.{split_at_first}
-use Rattle.norm_script.specs.Words.{is_digit, is_number, value_of, with_digit, number_within, contents_of, is_name_octet, is_name}
-use Rattle.norm_script.specs.declared.refusal.Why.TheVariants as why
+use Rattle.norm_script.specs.Words.{is_digit, is_number, value_of, with_digit, number_within, is_name_octet, is_name}
 
 -- Words that are written out read back as what they stand for.
 

@@ -1,4 +1,4 @@
-use Rattle.std.specs.Prelude.{ℕ, ◌+◌, ◌==◌, List, [], ◌∷◌, ◌++◌, nat_le, nat_lt, unwrap_or, Option, None, Some, Result, Ok, Err, find, fold, if◌then◌else◌}
+use Rattle.std.specs.Prelude.{ℕ, ◌+◌, ◌==◌, List, [], ◌∷◌, ◌++◌, nat_lt, unwrap_or, Option, None, Some, Result, Ok, Err, find, fold, if◌then◌else◌}
 use Rattle.norm_base.specs.Given.{nothing_given, give, value_in, profile_given}
 use Rattle.norm_base.specs.Keys.{row_of}
 use Rattle.norm_base.specs.Settings.{Settings}

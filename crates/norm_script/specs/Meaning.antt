@@ -1,4 +1,4 @@
-use Rattle.std.specs.Prelude.{ℕ, ◌-◌, ◌==◌, ◌||◌, Bool, true, false, not, List, length, codes, nat_le, Option, None, Some, Result, Ok, Err, if◌then◌else◌, slice_index}
+use Rattle.std.specs.Prelude.{ℕ, ◌-◌, ◌==◌, ◌||◌, Bool, not, List, length, codes, nat_le, Option, None, Some, Result, Ok, Err, if◌then◌else◌, slice_index}
 use Rattle.std.specs.Option.{ok_or}
 use Rattle.norm_base.specs.Keys.{row_of, keys, key_named, place_of_word}
 use Rattle.norm_base.specs.declared.key.Key.{Key}

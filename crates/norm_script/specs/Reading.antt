@@ -1,4 +1,4 @@
-use Rattle.std.specs.Prelude.{ℕ, ◌+◌, ◌==◌, List, [], ◌∷◌, ◌++◌, length, count_by, nat_le, nat_lt, Option, None, Some, Result, Ok, Err, if◌then◌else◌}
+use Rattle.std.specs.Prelude.{ℕ, ◌+◌, ◌==◌, List, [], ◌∷◌, ◌++◌, length, count_by, nat_le, nat_lt, Option, Some, Result, Ok, Err, if◌then◌else◌}
 use Rattle.norm_base.specs.Settings.{Settings}
 use Rattle.norm_script.specs.Built.{unbuilt_command, counts}
 use Rattle.norm_script.specs.Commands.{Commands}

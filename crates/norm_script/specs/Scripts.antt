@@ -1,7 +1,7 @@
-use Rattle.std.specs.Prelude.{◌≡◌, ℕ, ◌+◌, ◌≤◌, ◌<◌, ◌==◌, true, List, [], ◌∷◌, ◌++◌, length, count_by, Option, None, Some}
+use Rattle.std.specs.Prelude.{◌≡◌, ℕ, ◌+◌, ◌≤◌, ◌==◌, true, List, [], ◌∷◌, ◌++◌, length, count_by, None, Some}
 use Rattle.std.specs.List.{AllByRecursion}
 use Rattle.hex.specs.Hex.{IsBytes}
-use Rattle.norm_base.specs.Settings.{Settings, InRange}
+use Rattle.norm_base.specs.Settings.{InRange}
 use Rattle.norm_script.specs.Commands.{Commands}
 use Rattle.norm_script.specs.Words.{is_name}
 use Rattle.norm_script.specs.declared.meaning.Meaning.{Meaning}

@@ -1,4 +1,4 @@
-use Rattle.std.specs.Prelude.{ℕ, ◌==◌, List, [], ◌∷◌, ◌++◌, codes, decimal, length, map, Option, None, Some, if◌then◌else◌, slice_index_or}
+use Rattle.std.specs.Prelude.{ℕ, ◌==◌, List, [], ◌∷◌, ◌++◌, codes, decimal, length, map, None, Some, if◌then◌else◌, slice_index_or}
 use Rattle.norm_base.specs.Keys.{row_of, keys}
 use Rattle.norm_base.specs.Settings.{Settings}
 use Rattle.norm_base.specs.declared.key.Key.{Key}

@@ -30,17 +30,17 @@ pub fn run_session<R: Threads + Wait + Sync, K: Sink, F: Fabric, D: Files, C: Cl
     script: &Script,
     output: &mut K,
     fabric: &mut F,
-    _files: &mut D,
-    _clock: &mut C,
+    files: &mut D,
+    clock: &mut C,
 ) -> Result<Ended, SessionFault>
     requires { IsScript script.now }
     ensures run { IfOk result (λ ended. RunsSession script.now ended.journal ended.whole
         (F.told fabric.old) (F.told fabric.new) (K.pieces output.old) (K.pieces output.new)) }
     ensures stops { IfErr result (λ fault. BreaksOff fault script.now
         (F.told fabric.old) (F.told fabric.new) (K.pieces output.old) (K.pieces output.new)) }
-    ensures files { D.contents _files.new ≡ D.contents _files.old }
-    ensures file_faults { D.fault_count _files.new ≡ D.fault_count _files.old }
-    ensures clock { C.moments _clock.new ≡ C.moments _clock.old }
+    ensures files { D.contents files.new ≡ D.contents files.old }
+    ensures file_faults { D.fault_count files.new ≡ D.fault_count files.old }
+    ensures clock { C.moments clock.new ≡ C.moments clock.old }
     ensures cause { HasCause result (K.fault_count output.old) (K.fault_count output.new) (F.fault_count fabric.old) (F.fault_count fabric.new) }
 {
     run_script(alloc, script, output, fabric)

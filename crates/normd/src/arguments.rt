@@ -1,6 +1,8 @@
 //! The words of the command line.
 
-ghost use Rattle.std.specs.Prelude.{◌≡◌};
+ghost use Rattle.std.specs.Prelude.{◌≡◌, ◌↔◌};
+ghost use Rattle.std.specs.IoError.{error_kind};
+ghost use Rattle.std.specs.declared.io.ErrorKind.TheVariants.{OutOfMemory};
 ghost use Rattle.normd.specs.declared.arguments.WordsFault.TheVariants as fault;
 
 use std::alloc::{AllocFailed, Global};
@@ -17,6 +19,8 @@ pub enum WordsFault {
 }
 
 impl From<io::Error> for WordsFault {
+    ghost from_gives = { λ error r. (error_kind error ≡ OutOfMemory) ↔ (r ≡ fault.Memory) };
+
     fn from(error: io::Error) -> WordsFault {
         match error.kind() {
             io::ErrorKind::OutOfMemory => WordsFault::Memory,

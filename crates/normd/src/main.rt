@@ -7,27 +7,28 @@ mod disturbed;
 mod input;
 mod program;
 mod status;
-mod std_io;
 #[cfg(test)]
 mod tests;
 
 use crate::arguments::arguments;
 use crate::program::run;
-use crate::std_io::{StdSink, StdSource};
-use norm_memory::{DirectFabric, MemClock, MemFiles};
+use crate::status::Ending;
+use norm_host::{FolderFiles, HostClock, HostFabric, StdSink, StdSource};
 use std::io;
 use std::process::ExitCode;
 
-/// Makes the real objects, and runs the program on them.
+/// Makes the real objects, and runs the program on them. Its files are those of the folder that it runs in.
 fn main(rt: HostRuntime) -> ExitCode {
     let alloc = rt.alloc();
-    let Ok(mut fabric) = DirectFabric::new(alloc) else {
-        return ExitCode::from(1);
+    let Ok(mut fabric) = HostFabric::new(alloc) else {
+        return ExitCode::from(Ending::Memory.status());
+    };
+    let Ok(mut files) = FolderFiles::of(alloc, rt, ".") else {
+        return ExitCode::from(Ending::Memory.status());
     };
     let mut input = StdSource::of(rt.reader());
     let mut output = StdSink::of(io::writer(&rt));
-    let mut files = MemFiles::of(Vec::new(alloc), Vec::new(alloc));
-    let mut clock = MemClock::of(Vec::new(alloc));
+    let mut clock = HostClock::of(rt);
     run(
         &rt,
         alloc,

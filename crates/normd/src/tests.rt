@@ -227,7 +227,18 @@ fn a_session_offers_the_one_datagram_of_its_object(rt: HostRuntime) -> Result<()
 const TWO: &[u8] =
     b"enq 1 1 1 0 data 1\nup 2 1 0 data 1 - 61\nenq 1 2 1 1 data 1\nup 2 1 1 data 1 - 62\nend objects 2 octets 2 handed 2 lost 0 satisfied 0 expired 0 cut 0\n";
 
-/// Two commands of which one call fails: the status, the lines that stand, and the last line.
+/// How many datagrams were offered, at most three.
+fn offers_in(fabric: &ListFabric) -> usize {
+    for place in 0..3usize {
+        if fabric.offered(place).is_none() {
+            return place;
+        }
+    }
+    3
+}
+
+/// Two commands of which one call fails: the status, the lines that stand, the last line, and how many
+/// datagrams the network has: a body that asks again after a failed call leaves more.
 fn leaves<R: Threads + Wait + Sync + Abort>(
     rt: &R,
     alloc: Global,
@@ -235,10 +246,12 @@ fn leaves<R: Threads + Wait + Sync + Abort>(
     end: usize,
     last: &[u8],
     want: u8,
+    offered: usize,
 ) -> Result<(), Fail> {
     let words = session(alloc)?;
-    let (status, output, _fabric) = outcome(rt, alloc, &words, b"1 data 61\n1 data 62\n", fails)?;
+    let (status, output, fabric) = outcome(rt, alloc, &words, b"1 data 61\n1 data 62\n", fails)?;
     assert_eq!(rt; status, want);
+    assert_eq!(rt; offers_in(&fabric), offered);
     let mut text = Vec::from_slice(alloc, TWO.get(..end).ok_or("too short")?)?;
     text.extend_from_slice(last)?;
     assert_eq!(rt; output.bytes(), text.as_slice());
@@ -249,10 +262,17 @@ fn leaves<R: Threads + Wait + Sync + Abort>(
 fn a_failing_read_or_write_leaves_the_lines_so_far(rt: HostRuntime) -> Result<(), Fail> {
     let alloc = rt.alloc();
     for number in [1u64, 2] {
-        leaves(&rt, alloc, Fails::Read(number), 0, b"fault read\n", 4)?;
+        leaves(&rt, alloc, Fails::Read(number), 0, b"fault read\n", 4, 0)?;
     }
-    for (number, end) in [(1u64, 0usize), (2, 19), (3, 40), (4, 59), (5, 80)] {
-        leaves(&rt, alloc, Fails::Write(number), end, b"", 5)?;
+    let writes = [
+        (1u64, 0usize, 0usize),
+        (2, 19, 1),
+        (3, 40, 1),
+        (4, 59, 2),
+        (5, 80, 2),
+    ];
+    for (number, end, offered) in writes {
+        leaves(&rt, alloc, Fails::Write(number), end, b"", 5, offered)?;
     }
     Ok(())
 }
@@ -260,11 +280,27 @@ fn a_failing_read_or_write_leaves_the_lines_so_far(rt: HostRuntime) -> Result<()
 #[test]
 fn a_failing_call_of_the_network_leaves_the_lines_so_far(rt: HostRuntime) -> Result<(), Fail> {
     let alloc = rt.alloc();
-    for (number, end) in [(1u64, 19usize), (2, 59)] {
-        leaves(&rt, alloc, Fails::Offer(number), end, b"fault fabric\n", 6)?;
+    for (number, end, offered) in [(1u64, 19usize, 0usize), (2, 59, 1)] {
+        leaves(
+            &rt,
+            alloc,
+            Fails::Offer(number),
+            end,
+            b"fault fabric\n",
+            6,
+            offered,
+        )?;
     }
-    for (number, end) in [(1u64, 19usize), (2, 19), (3, 59), (4, 59)] {
-        leaves(&rt, alloc, Fails::Take(number), end, b"fault fabric\n", 6)?;
+    for (number, end, offered) in [(1u64, 19usize, 1usize), (2, 19, 1), (3, 59, 2), (4, 59, 2)] {
+        leaves(
+            &rt,
+            alloc,
+            Fails::Take(number),
+            end,
+            b"fault fabric\n",
+            6,
+            offered,
+        )?;
     }
     Ok(())
 }

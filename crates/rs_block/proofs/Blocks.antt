@@ -1,10 +1,11 @@
 -- Any k symbols of a block have its sources.
-use Rattle.std.proofs.Common.{◌≡◌, ℕ, zero, suc, ◌+◌, ◌*◌, ◌<◌, ◌≤◌, sym, ap, ◌∙◌, arith, List, [], ◌∷◌, get_or, take}
+use Rattle.std.proofs.Common.{◌≡◌, ℕ, ◌+◌, ◌*◌, ◌<◌, ◌≤◌, sym, ap, ◌∙◌, arith, List, get_or, take}
 use Rattle.std.specs.List.{slice_range}
 use Rattle.std.proofs.lemmas.List.{get_or-take, length-take-le}
 use Rattle.std.proofs.lemmas.List.Edits.{get_or-between}
 use Rattle.std.proofs.lemmas.List.Elements.{All-from_get_or}
 use Rattle.gf_field.specs.Octet.{AreOctets}
+use Rattle.gf_field.proofs.Symbols.{each_octet}
 use Rattle.rs_block.specs.Column.{column}
 use Rattle.rs_block.specs.Codeword.{Codeword, HasSymbolAt, IsSymbol, GoesThroughAt, AreSources, AreIds}
 use Rattle.rs_block.specs.Laws.{SymbolLaws}
@@ -25,11 +26,6 @@ codeword-take k n m s w fits most p = record {
 
 symbol-octet : (symbols : List ℕ) (size i t : ℕ) → t < size → get_or (slice_range symbols (i * size) (i * size + size)) t 0 ≡ get_or symbols (i * size + t) 0
 symbol-octet symbols size i t h = get_or-between symbols (i * size) (i * size + size) t 0 (omega arith)
-
-each_octet : (xs : List ℕ) → AreOctets xs → (i : ℕ) → get_or xs i 0 < 256
-each_octet [] h i = omega arith
-each_octet (x ∷ xs) h zero = h.0
-each_octet (x ∷ xs) h (suc i) = each_octet xs h.1 i
 
 own_symbol : (k n size j : ℕ) (source : List ℕ) → k ≤ n → n ≤ 255 → j < k → AreOctets source → IsSymbol k n size source j (slice_range source (j * size) (j * size + size))
 own_symbol k n size j source fits most lt octets t t_lt =

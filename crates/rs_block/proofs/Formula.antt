@@ -1,24 +1,28 @@
 -- Steps of the loops over places.
-use Rattle.std.proofs.Common.{◌≡◌, ℕ, suc, ◌+◌, ◌*◌, ◌<◌, ◌≤◌, refl, sym, ap, ◌∙◌, arith, List, ◌∷◌, length, get_or, drop, zero-add}
+use Rattle.std.proofs.Common.{◌≡◌, ℕ, suc, ◌+◌, ◌-◌, ◌*◌, ◌%◌, ◌<◌, ◌≤◌, refl, sym, ap, ◌∙◌, ◌⊎◌, inl, inr, arith, List, [], ◌∷◌, ◌++◌, map, set, length, get_or, drop, zero-add}
 use Rattle.std.specs.Prelude.{bit_xor, nat_eq}
 use Rattle.std.specs.List.{IsDistinct}
-use Rattle.std.specs.Int.Bits.{xor_assoc, xor_zero_r}
+use Rattle.std.specs.Int.Bits.{xor_assoc, xor_zero_l, xor_zero_r}
 use Rattle.std.proofs.Math.Seq.{drop-cons}
-use Rattle.std.proofs.Math.Nat.{mod-eq_of_lt}
+use Rattle.std.proofs.Math.Nat.{mod-eq_of_lt, mod-lt}
 use Rattle.std.proofs.lemmas.Nat.{xor_lt}
-use Rattle.std.proofs.lemmas.List.{drop_all}
+use Rattle.std.proofs.lemmas.Bool.{cases_lt}
+use Rattle.std.proofs.lemmas.List.{drop_all, ext_get_or, get_or-map, get_or-set_other, get_or-set_same, length-map}
 use Rattle.std.proofs.lemmas.List.Elements.{recursion_from_All, All-from_get_or, All-from_recursion}
 use Rattle.gf_field.specs.Octet.{AreOctets}
 use Rattle.gf_field.specs.Product.{product}
+use Rattle.gf_field.specs.Power.{power}
 use Rattle.gf_field.specs.Inverse.{inverse}
 use Rattle.gf_field.specs.Interpolation.{differences, others, coefficient, weighted_sum, interpolated}
 use Rattle.rs_block.specs.Column.{column}
 use Rattle.rs_block.specs.Points.{AreWeights, weight_at}
+use Rattle.rs_block.specs.Row.{coefficients, combined}
+use Rattle.gf_field.proofs.Powers.{power-lt, power-add, power_255, power_mod}
 use Rattle.std.proofs.lemmas.List.FromFn.{length-map-range_with_len, get_or-map-range_with_len}
-use Rattle.gf_field.proofs.Products.{product-lt, product_assoc, product_comm, one-product_octet, product-one_octet}
+use Rattle.gf_field.proofs.Products.{product_assoc, product_comm, one-product_octet, product-one_octet}
 use Rattle.gf_field.proofs.Inverses.{cancel, same_inverse, positive_from_product}
 use Rattle.gf_field.proofs.Polynomials.{difference-pos}
-use Rattle.gf_field.proofs.Interpolations.{Among, all_among, differences-lt, differences-pos, differences-others, others-same, others-other, others-octets, others-apart}
+use Rattle.gf_field.proofs.Interpolations.{Among, all_among, differences-lt, differences-others, others-same, others-other}
 
 -- numbers that are octets at each index
 pub octets_from_each : (xs : List ℕ) → ((i : ℕ) → get_or xs i 0 < 256) → AreOctets xs
@@ -27,63 +31,68 @@ octets_from_each xs h = recursion_from_All (λ a. a < 256) xs (All-from_get_or (
 drop_next : (xs : List ℕ) (i : ℕ) → i < length xs → drop i xs ≡ get_or xs i 0 ∷ drop (i + 1) xs
 drop_next xs i h = drop-cons xs i 0 h ∙ ap (λ n. get_or xs i 0 ∷ drop n xs) (let e : suc i ≡ i + 1 = omega arith in e)
 
--- ---- the product of all differences
+-- ---- the logarithm of the product of all differences
 
-pub differences_go_on : (ps : List ℕ) (i v x : ℕ) → i < length ps → product (product v (bit_xor x (get_or ps i 0))) (differences (drop (i + 1) ps) x) ≡ product v (differences (drop i ps) x)
-unfolding differences
-differences_go_on ps i v x h =
-    product_assoc v (bit_xor x (get_or ps i 0)) (differences (drop (i + 1) ps) x)
-    ∙ ap (λ qs. product v (differences qs x)) (sym (drop_next ps i h))
-
-pub differences_begin : (ps : List ℕ) (x : ℕ) → product 1 (differences (drop 0 ps) x) ≡ differences ps x
+pub differences_begin : (ps : List ℕ) (x : ℕ) → product (power 0) (differences (drop 0 ps) x) ≡ differences ps x
+unfolding power
 differences_begin ps x = one-product_octet (differences ps x) (differences-lt ps x)
 
-pub differences_end : (ps : List ℕ) (i v x : ℕ) → length ps ≤ i → v < 256 → product v (differences (drop i ps) x) ≡ v
+pub differences_go_on : (ps : List ℕ) (i total log x : ℕ) → i < length ps → power log ≡ bit_xor x (get_or ps i 0)
+    → product (power (total + log)) (differences (drop (i + 1) ps) x) ≡ product (power total) (differences (drop i ps) x)
 unfolding differences
-differences_end ps i v x h low =
-    ap (λ qs. product v (differences qs x)) (drop_all i ps h) ∙ product-one_octet v low
+differences_go_on ps i total log x h is =
+    ap (λ n. product n (differences (drop (i + 1) ps) x)) (power-add total log)
+    ∙ product_assoc (power total) (power log) (differences (drop (i + 1) ps) x)
+    ∙ ap (λ d. product (power total) (product d (differences (drop (i + 1) ps) x))) is
+    ∙ ap (λ qs. product (power total) (differences qs x)) (sym (drop_next ps i h))
 
-pub ruleset difference_steps = (differences_begin, differences_go_on, product-lt)
+pub differences_end : (ps : List ℕ) (i total x : ℕ) → length ps ≤ i → product (power total) (differences (drop i ps) x) ≡ power total
+unfolding differences
+differences_end ps i total x h =
+    ap (λ qs. product (power total) (differences qs x)) (drop_all i ps h) ∙ product-one_octet (power total) (power-lt total)
 
--- ---- the product of the other differences
+-- ---- the logarithm of the product of the other differences
 
-pub others_begin : (ps : List ℕ) (m : ℕ) → product 1 (differences (others m (drop 0 ps)) m) ≡ differences (others m ps) m
+pub others_begin : (ps : List ℕ) (m : ℕ) → product (power 0) (differences (others m (drop 0 ps)) m) ≡ differences (others m ps) m
+unfolding power
 others_begin ps m = one-product_octet (differences (others m ps) m) (differences-lt (others m ps) m)
 
-pub others_go_on : (ps : List ℕ) (i v m : ℕ) → i < length ps → (get_or ps i 0 ≡ m → ⊥) → product (product v (bit_xor m (get_or ps i 0))) (differences (others m (drop (i + 1) ps)) m) ≡ product v (differences (others m (drop i ps)) m)
+pub others_go_on : (ps : List ℕ) (i total log m : ℕ) → i < length ps → (get_or ps i 0 ≡ m → ⊥) → power log ≡ bit_xor m (get_or ps i 0)
+    → product (power (total + log)) (differences (others m (drop (i + 1) ps)) m) ≡ product (power total) (differences (others m (drop i ps)) m)
 unfolding differences
-others_go_on ps i v m h differ =
-    product_assoc v (bit_xor m (get_or ps i 0)) (differences (others m (drop (i + 1) ps)) m)
-    ∙ ap (λ qs. product v (differences qs m)) (sym (ap (others m) (drop_next ps i h) ∙ others-other m (get_or ps i 0) (drop (i + 1) ps) differ))
+others_go_on ps i total log m h differ is =
+    ap (λ n. product n (differences (others m (drop (i + 1) ps)) m)) (power-add total log)
+    ∙ product_assoc (power total) (power log) (differences (others m (drop (i + 1) ps)) m)
+    ∙ ap (λ d. product (power total) (product d (differences (others m (drop (i + 1) ps)) m))) is
+    ∙ ap (λ qs. product (power total) (differences qs m)) (sym (ap (others m) (drop_next ps i h) ∙ others-other m (get_or ps i 0) (drop (i + 1) ps) differ))
 
-pub others_pass : (ps : List ℕ) (i v m : ℕ) → i < length ps → get_or ps i 0 ≡ m → product v (differences (others m (drop (i + 1) ps)) m) ≡ product v (differences (others m (drop i ps)) m)
-others_pass ps i v m h same =
-    ap (λ qs. product v (differences qs m)) (sym (ap (others m) (drop_next ps i h) ∙ others-same m (get_or ps i 0) (drop (i + 1) ps) (sym same)))
+pub others_pass : (ps : List ℕ) (i total m : ℕ) → i < length ps → get_or ps i 0 ≡ m
+    → product (power total) (differences (others m (drop (i + 1) ps)) m) ≡ product (power total) (differences (others m (drop i ps)) m)
+others_pass ps i total m h same =
+    ap (λ qs. product (power total) (differences qs m)) (sym (ap (others m) (drop_next ps i h) ∙ others-same m (get_or ps i 0) (drop (i + 1) ps) (sym same)))
 
-pub others_end : (ps : List ℕ) (i v m : ℕ) → length ps ≤ i → v < 256 → product v (differences (others m (drop i ps)) m) ≡ v
+pub others_end : (ps : List ℕ) (i total m : ℕ) → length ps ≤ i → product (power total) (differences (others m (drop i ps)) m) ≡ power total
 unfolding differences
-others_end ps i v m h low =
-    ap (λ qs. product v (differences (others m qs) m)) (drop_all i ps h) ∙ product-one_octet v low
+others_end ps i total m h =
+    ap (λ qs. product (power total) (differences (others m qs) m)) (drop_all i ps h) ∙ product-one_octet (power total) (power-lt total)
 
-pub ruleset other_steps = (others_begin, others_go_on, others_pass, product-lt)
-
--- it is not 0
-pub others_not_zero : (ps : List ℕ) (m : ℕ) → AreOctets ps → m < 256 → differences (others m ps) m ≡ 0 → ⊥
-others_not_zero ps m o low z =
-    let above : 0 < differences (others m ps) m = differences-pos (others m ps) m (others-octets m ps o) low (others-apart m ps) in
-    absurd (omega arith)
-
--- what gives 1 is the inverse
-pub inverse_is : (a r : ℕ) → a < 256 → r < 256 → product a r ≡ 1 → r ≡ inverse a
-inverse_is a r low small h = same_inverse a r (positive_from_product a r h) low small h
+-- an exponent and the one that fills it up to the order give inverses
+pub inverse_power : (a i : ℕ) → a < 256 → i ≤ 255 → power i ≡ a → power (255 - i) ≡ inverse a
+inverse_power a i low most is =
+    let one : product a (power (255 - i)) ≡ 1 =
+    ap (λ n. product n (power (255 - i))) (sym is) ∙ sym (power-add i (255 - i)) ∙ ap power (let e : i + (255 - i) ≡ 255 = omega arith in e) ∙ power_255 in
+    same_inverse a (power (255 - i)) (positive_from_product a (power (255 - i)) one) low (power-lt (255 - i)) one
 
 -- octets that differ have a difference
 pub differ : (x m : ℕ) → (m ≡ x → ⊥) → bit_xor x m ≡ 0 → ⊥
 differ x m h z = let above : 0 < bit_xor x m = difference-pos x m h in absurd (omega arith)
 
-pub weight_is : (ps : List ℕ) (m d r : ℕ) → d ≡ differences (others m ps) m → d < 256 → r < 256 → product d r ≡ 1 → r ≡ weight_at ps m
+pub ruleset others_steps = (others_go_on, others_pass, differ)
+
+pub weight_is : (ps : List ℕ) (m log : ℕ) → power log ≡ differences (others m ps) m → power (255 - log % 255) ≡ weight_at ps m
 unfolding weight_at
-weight_is ps m d r e low small h = inverse_is d r low small h ∙ ap inverse e
+weight_is ps m log is =
+    inverse_power (differences (others m ps) m) (log % 255) (differences-lt (others m ps) m) (let h : log % 255 < 255 = mod-lt log (omega arith) in omega arith) (power_mod log ∙ is)
 
 -- ---- a coefficient from the product of all differences and a weight
 
@@ -97,25 +106,13 @@ coefficient_from_all ps m x o d h m_low x_low differ =
     ∙ cancel (bit_xor x m) (differences (others m ps) x) (difference-pos x m differ) (xor_lt 8 x m x_low m_low)
     ∙ mod-eq_of_lt (differences-lt (others m ps) x))
 
--- ---- the sum of the values
-
-pub sum_goes_on : (ps ms vs : List ℕ) (i x sum : ℕ) → i < length ms → i < length vs
-    → bit_xor (bit_xor sum (product (coefficient ps (get_or ms i 0) x) (get_or vs i 0))) (weighted_sum ps (drop (i + 1) ms) (drop (i + 1) vs) x)
-    ≡ bit_xor sum (weighted_sum ps (drop i ms) (drop i vs) x)
-unfolding weighted_sum
-sum_goes_on ps ms vs i x sum h l =
-    xor_assoc sum (product (coefficient ps (get_or ms i 0) x) (get_or vs i 0)) (weighted_sum ps (drop (i + 1) ms) (drop (i + 1) vs) x)
-    ∙ sym (ap (λ qs. bit_xor sum (weighted_sum ps qs (drop i vs) x)) (drop_next ms i h)
-    ∙ ap (λ ws. bit_xor sum (weighted_sum ps (get_or ms i 0 ∷ drop (i + 1) ms) ws x)) (drop_next vs i l))
-
-pub sum_ends : (ps ms vs : List ℕ) (i x sum : ℕ) → length ms ≤ i → bit_xor sum (weighted_sum ps (drop i ms) (drop i vs) x) ≡ sum
-unfolding weighted_sum
-sum_ends ps ms vs i x sum h =
-    ap (λ qs. bit_xor sum (weighted_sum ps qs (drop i vs) x)) (drop_all i ms h) ∙ xor_zero_r sum
-
-pub sum_begins : (ps vs : List ℕ) (x : ℕ) → bit_xor 0 (weighted_sum ps (drop 0 ps) (drop 0 vs) x) ≡ interpolated ps vs x
-unfolding interpolated
-sum_begins ps vs x = refl
+-- the same by logarithms
+pub coefficient_by_logs : (all log weight x m : ℕ) → x < 256 → m < 256 → log ≤ 255 → power log ≡ bit_xor x m
+    → power (all + (255 - log) + weight) ≡ product (product (power all) (inverse (bit_xor x m))) (power weight)
+coefficient_by_logs all log weight x m x_low m_low most is =
+    power-add (all + (255 - log)) weight
+    ∙ ap (λ n. product n (power weight)) (power-add all (255 - log))
+    ∙ ap (λ n. product (product (power all) n) (power weight)) (inverse_power (bit_xor x m) log (xor_lt 8 x m x_low m_low) most is)
 
 -- ---- columns
 
@@ -128,42 +125,106 @@ unfolding column
 get_or-column k size symbols t i h =
     get_or-map-range_with_len (λ j. get_or symbols (j * size + t) 0) 0 k i i 0 h (zero-add i)
 
--- the symbols from place i on, by their coefficients, added to what stands in `out`, are the value
-abbrev pub IsSummed : List ℕ → List ℕ → ℕ → ℕ → ℕ → List ℕ → Type 0
-IsSummed ps symbols size x i out =
-    (t : ℕ) → t < size → bit_xor (get_or out t 0) (weighted_sum ps (drop i ps) (drop i (column (length ps) size symbols t)) x)
-    ≡ interpolated ps (column (length ps) size symbols t) x
-
-pub summed_begin : (ps symbols : List ℕ) (size x : ℕ) (out : List ℕ) → ((t : ℕ) → t < size → get_or out t 0 ≡ 0) → IsSummed ps symbols size x 0 out
-summed_begin ps symbols size x out h t lt =
-    ap (λ n. bit_xor n (weighted_sum ps ps (column (length ps) size symbols t) x)) (h t lt)
-    ∙ sum_begins ps (column (length ps) size symbols t) x
-
-pub summed_end : (ps symbols : List ℕ) (size x i : ℕ) (out : List ℕ) → length ps ≤ i → IsSummed ps symbols size x i out → (t : ℕ) → t < size → get_or out t 0 ≡ interpolated ps (column (length ps) size symbols t) x
-summed_end ps symbols size x i out end h t lt =
-    sym (sum_ends ps ps (column (length ps) size symbols t) i x (get_or out t 0) end) ∙ h t lt
-
-pub scale_is : (ps ws : List ℕ) (i x all scale : ℕ) → ((j : ℕ) → get_or ps j 0 < 256) → IsDistinct nat_eq ps → AreWeights ps ws → i < length ps → x < 256 → (get_or ps i 0 ≡ x → ⊥) → all ≡ differences ps x
-    → scale ≡ product (product all (inverse (bit_xor x (get_or ps i 0)))) (get_or ws i 0) → scale ≡ coefficient ps (get_or ps i 0) x
+pub entry_is : (ps ws : List ℕ) (i x all entry : ℕ) → ((j : ℕ) → get_or ps j 0 < 256) → IsDistinct nat_eq ps → AreWeights ps ws → i < length ps → x < 256 → (get_or ps i 0 ≡ x → ⊥) → power all ≡ differences ps x
+    → entry ≡ product (product (power all) (inverse (bit_xor x (get_or ps i 0)))) (power (get_or ws i 0)) → entry ≡ coefficient ps (get_or ps i 0) x
 unfolding weight_at
-scale_is ps ws i x all scale o d w h low away e scale_e =
-    scale_e
-    ∙ ap (λ n. product (product all (inverse (bit_xor x (get_or ps i 0)))) n) (w.each i h)
+entry_is ps ws i x all entry o d w h low away e entry_e =
+    entry_e
+    ∙ ap (λ n. product (product (power all) (inverse (bit_xor x (get_or ps i 0)))) n) (w.each i h)
     ∙ ap (λ n. product (product n (inverse (bit_xor x (get_or ps i 0)))) (inverse (differences (others (get_or ps i 0) ps) (get_or ps i 0)))) e
     ∙ coefficient_from_all ps (get_or ps i 0) x (octets_from_each ps o) d
     (All-from_recursion (λ q. Among q ps) ps (all_among ps) i 0 h) (o i) low away
 
-pub summed_go_on : (ps symbols : List ℕ) (size x i scale : ℕ) (out next symbol : List ℕ) → i < length ps → scale ≡ coefficient ps (get_or ps i 0) x
-    → ((t : ℕ) → t < size → get_or next t 0 ≡ bit_xor (get_or out t 0) (product scale (get_or symbol t 0)))
+-- a row that has each coefficient is the row
+pub row_is : (ps row : List ℕ) (x : ℕ) → length row ≡ length ps → ((i : ℕ) → i < length ps → get_or row i 0 ≡ coefficient ps (get_or ps i 0) x) → row ≡ coefficients ps x
+row_is ps row x count each =
+    ext_get_or 0 row (coefficients ps x) (count ∙ sym (length-map ps (λ m. coefficient ps m x)))
+    (λ i h. each i (omega arith) ∙ sym (get_or-map (λ m. coefficient ps m x) ps i 0 0 (omega arith)))
+
+-- ---- sums by a row
+
+pub combined_begins : (old : ℕ) (row vs : List ℕ) → bit_xor old (combined (drop 0 row) (drop 0 vs)) ≡ bit_xor old (combined row vs)
+combined_begins old row vs = refl
+
+combined_goes_on : (row vs : List ℕ) (i sum : ℕ) → i < length row → i < length vs
+    → bit_xor (bit_xor sum (product (get_or row i 0) (get_or vs i 0))) (combined (drop (i + 1) row) (drop (i + 1) vs)) ≡ bit_xor sum (combined (drop i row) (drop i vs))
+unfolding combined
+combined_goes_on row vs i sum h l =
+    xor_assoc sum (product (get_or row i 0) (get_or vs i 0)) (combined (drop (i + 1) row) (drop (i + 1) vs))
+    ∙ sym (ap (λ cs. bit_xor sum (combined cs (drop i vs))) (drop_next row i h)
+    ∙ ap (λ ws. bit_xor sum (combined (get_or row i 0 ∷ drop (i + 1) row) ws)) (drop_next vs i l))
+
+combined_ends : (row vs : List ℕ) (i sum : ℕ) → length row ≤ i → bit_xor sum (combined (drop i row) (drop i vs)) ≡ sum
+unfolding combined
+combined_ends row vs i sum h =
+    ap (λ cs. bit_xor sum (combined cs (drop i vs))) (drop_all i row h) ∙ xor_zero_r sum
+
+-- the rest of the sum, from place i on, added to what stands in `out`, is the whole sum added to what stood there
+abbrev pub IsSummed : List ℕ → List ℕ → List ℕ → ℕ → ℕ → List ℕ → Type 0
+IsSummed row symbols old size i out =
+    (t : ℕ) → t < size → bit_xor (get_or out t 0) (combined (drop i row) (drop i (column (length row) size symbols t)))
+    ≡ bit_xor (get_or old t 0) (combined row (column (length row) size symbols t))
+
+pub summed_end : (row symbols old : List ℕ) (size i : ℕ) (out : List ℕ) → length row ≤ i → IsSummed row symbols old size i out
+    → (t : ℕ) → t < size → get_or out t 0 ≡ bit_xor (get_or old t 0) (combined row (column (length row) size symbols t))
+summed_end row symbols old size i out end h t lt =
+    sym (combined_ends row (column (length row) size symbols t) i (get_or out t 0) end) ∙ h t lt
+
+pub summed_go_on : (row symbols old : List ℕ) (size i : ℕ) (out next symbol : List ℕ) → i < length row
+    → ((t : ℕ) → t < size → get_or next t 0 ≡ bit_xor (get_or out t 0) (product (get_or row i 0) (get_or symbol t 0)))
     → ((t : ℕ) → t < size → get_or symbol t 0 ≡ get_or symbols (i * size + t) 0)
-    → IsSummed ps symbols size x i out → IsSummed ps symbols size x (i + 1) next
-summed_go_on ps symbols size x i scale out next symbol h scale_e next_e symbol_e before t lt =
-    let values : List ℕ = column (length ps) size symbols t in
-    let rest : ℕ = weighted_sum ps (drop (i + 1) ps) (drop (i + 1) values) x in
-    let fits : i < length values = omega (arith, length-column (length ps) size symbols t) in
+    → IsSummed row symbols old size i out → IsSummed row symbols old size (i + 1) next
+summed_go_on row symbols old size i out next symbol h next_e symbol_e before t lt =
+    let values : List ℕ = column (length row) size symbols t in
+    let rest : ℕ = combined (drop (i + 1) row) (drop (i + 1) values) in
+    let fits : i < length values = omega (arith, length-column (length row) size symbols t) in
     ap (λ n. bit_xor n rest) (next_e t lt)
-    ∙ ap (λ n. bit_xor (bit_xor (get_or out t 0) (product n (get_or symbol t 0))) rest) scale_e
-    ∙ ap (λ n. bit_xor (bit_xor (get_or out t 0) (product (coefficient ps (get_or ps i 0) x) n)) rest)
-    (symbol_e t lt ∙ sym (get_or-column (length ps) size symbols t i h))
-    ∙ sum_goes_on ps ps values i x (get_or out t 0) h fits
+    ∙ ap (λ n. bit_xor (bit_xor (get_or out t 0) (product (get_or row i 0) n)) rest) (symbol_e t lt ∙ sym (get_or-column (length row) size symbols t i h))
+    ∙ combined_goes_on row values i (get_or out t 0) h fits
     ∙ before t lt
+
+-- the sum by the row of coefficients is the formula's value
+pub combined_is : (places ms vs : List ℕ) (x : ℕ) → combined (map (λ m. coefficient places m x) ms) vs ≡ weighted_sum places ms vs x
+unfolding combined weighted_sum
+combined_is places [] vs x = refl
+combined_is places (m ∷ ms) [] x = refl
+combined_is places (m ∷ ms) (v ∷ vs) x = ap (bit_xor (product (coefficient places m x) v)) (combined_is places ms vs x)
+
+pub interpolated_by_row : (places vs : List ℕ) (x : ℕ) → combined (coefficients places x) vs ≡ interpolated places vs x
+unfolding interpolated
+interpolated_by_row places vs x = combined_is places places vs x
+
+-- two sums one after the other
+pub combined-append : (cs ds vs ws : List ℕ) → length cs ≡ length vs → combined (cs ++ ds) (vs ++ ws) ≡ bit_xor (combined cs vs) (combined ds ws)
+unfolding combined
+combined-append [] ds [] ws e = sym (xor_zero_l (combined ds ws))
+combined-append [] ds (v ∷ vs) ws e = absurd (omega arith)
+combined-append (c ∷ cs) ds [] ws e = absurd (omega arith)
+combined-append (c ∷ cs) ds (v ∷ vs) ws e =
+    ap (bit_xor (product c v)) (combined-append cs ds vs ws (omega arith)) ∙ sym (xor_assoc (product c v) (combined cs vs) (combined ds ws))
+
+-- what the loops and calls leave
+
+pub entry_set : (ps : List ℕ) (x : ℕ) (row : List ℕ) (i entry : ℕ) → i < length row
+    → ((k : ℕ) → k < i → get_or row k 0 ≡ coefficient ps (get_or ps k 0) x) → entry ≡ coefficient ps (get_or ps i 0) x
+    → (k : ℕ) → k < i + 1 → get_or (set row i entry) k 0 ≡ coefficient ps (get_or ps k 0) x
+entry_set ps x row i entry h before is k lt = go (cases_lt k i)
+  where
+    go : (k < i) ⊎ (i ≤ k) → get_or (set row i entry) k 0 ≡ coefficient ps (get_or ps k 0) x
+    go (inl l) = get_or-set_other row i k entry 0 (λ e. absurd (omega (arith, e))) ∙ before k l
+    go (inr g) =
+        let e : k ≡ i = omega arith in
+        ap (λ n. get_or (set row i entry) n 0) e ∙ get_or-set_same row i entry 0 h ∙ is ∙ ap (λ n. coefficient ps (get_or ps n 0) x) (sym e)
+
+pub recovered_octet : (ids places row symbols : List ℕ) (filled width size j t x v : ℕ) → row ≡ coefficients places x → places ≡ map power ids → x ≡ power j → filled ≡ 0 → width ≡ size
+    → v ≡ bit_xor filled (combined row (column (length row) width symbols t)) → v ≡ interpolated (map power ids) (column (length ids) size symbols t) (power j)
+recovered_octet ids places row symbols filled width size j t x v row_e places_e at zero wide is =
+    let row_at : row ≡ coefficients (map power ids) (power j) = row_e ∙ ap (λ ps. coefficients ps x) places_e ∙ ap (coefficients (map power ids)) at in
+    let count : length row ≡ length ids = ap (λ r. length r) row_at ∙ length-map (map power ids) (λ m. coefficient (map power ids) m (power j)) ∙ length-map ids power in
+    is
+    ∙ ap (λ n. bit_xor n (combined row (column (length row) width symbols t))) zero
+    ∙ xor_zero_l (combined row (column (length row) width symbols t))
+    ∙ ap (λ n. combined row (column n width symbols t)) count
+    ∙ ap (λ n. combined row (column (length ids) n symbols t)) wide
+    ∙ ap (λ r. combined r (column (length ids) size symbols t)) row_at
+    ∙ interpolated_by_row (map power ids) (column (length ids) size symbols t) (power j)

@@ -1,5 +1,6 @@
 pub mod Formula
-pub mod Places
 pub mod Words
 pub mod Parts
+pub mod Rows
 pub mod Blocks
+pub mod Functions

@@ -6,27 +6,27 @@ use Rattle.std.proofs.lemmas.List.FromFn.{length-range_with_len, get_or-range_wi
 use Rattle.std.proofs.lemmas.List.Elements.{recursion_from_All, All-map}
 use Rattle.gf_field.specs.Octet.{AreOctets}
 use Rattle.gf_field.specs.Power.{power}
-use Rattle.gf_field.specs.Polynomial.{value_at, GoesThrough}
+use Rattle.gf_field.specs.Polynomial.{value_at}
 use Rattle.gf_field.specs.Interpolation.{interpolated}
 use Rattle.gf_field.proofs.Powers.{same_from_power}
 use Rattle.gf_field.proofs.Polynomials.{same_polynomial}
-use Rattle.gf_field.proofs.Interpolations.{FormulaHolds, formula_holds, interpolated-meets}
+use Rattle.gf_field.proofs.Interpolations.{FormulaHolds, interpolated-meets}
 use Rattle.rs_block.specs.Column.{column}
 use Rattle.rs_block.specs.Points.{powers}
 use Rattle.rs_block.specs.Codeword.{Codeword, HasSymbolAt, GoesThroughAt, AreIds}
 use Rattle.rs_block.specs.Laws.{CodewordLaws}
 use Rattle.rs_block.proofs.Formula.{length-column, get_or-column}
-use Rattle.rs_block.proofs.Places.{distinct_from_pairs, powers_differ, powers_octets, range_differs, range_below}
+use Rattle.gf_field.proofs.Places.{distinct_from_pairs, powers_differ, powers_octets, range_differs, range_below, range_ids, length-powers, value_at_id, formula_at_ids, starts_at_range, value_at_place}
 
 -- the first n values of a polynomial
-word_of : List ℕ → ℕ → List ℕ
+pub word_of : List ℕ → ℕ → List ℕ
 word_of cs n = map (λ j. value_at cs (power j)) (range_with_len 0 n)
 
 get_or-word_of : (cs : List ℕ) (n j : ℕ) → j < n → get_or (word_of cs n) j 0 ≡ value_at cs (power j)
 unfolding word_of
 get_or-word_of cs n j h = get_or-map-range_with_len (λ i. value_at cs (power i)) 0 n j j 0 h (zero-add j)
 
-codeword_of : (k n : ℕ) (s cs : List ℕ) → k ≤ n → length s ≡ k → AreOctets cs → length cs ≡ k → ((j : ℕ) → j < k → value_at cs (power j) ≡ get_or s j 0) → Codeword k n s (word_of cs n)
+pub codeword_of : (k n : ℕ) (s cs : List ℕ) → k ≤ n → length s ≡ k → AreOctets cs → length cs ≡ k → ((j : ℕ) → j < k → value_at cs (power j) ≡ get_or s j 0) → Codeword k n s (word_of cs n)
 unfolding word_of
 codeword_of k n s cs fits count octets few starts = record {
   sources = count;
@@ -37,34 +37,6 @@ codeword_of k n s cs fits count octets few starts = record {
   values = λ j h. sym (get_or-word_of cs n j h);
   starts = λ j h. get_or-word_of cs n j (omega arith) ∙ starts j h;
 }
-
--- what a polynomial through points has at the place of an id
-value_at_id : (cs ids vs : List ℕ) (i : ℕ) → GoesThrough cs (map power ids) vs → i < length ids → value_at cs (power (get_or ids i 0)) ≡ get_or vs i 0
-value_at_id cs ids vs i h lt =
-    ap (value_at cs) (sym (get_or-map power ids i 0 0 lt))
-    ∙ sym (get_or-map (value_at cs) (map power ids) i 0 0 (omega (arith, length-map ids power)))
-    ∙ ap (λ ws. get_or ws i 0) h.meets
-
--- the formula for the points at ids
-formula_at_ids : (k n : ℕ) (ids vs : List ℕ) → n ≤ 255 → AreIds k n ids → length vs ≡ k → AreOctets vs → FormulaHolds (map power ids) vs
-formula_at_ids k n ids vs fits are count octets =
-    formula_holds (map power ids) vs (powers_octets ids) octets
-    (distinct_from_pairs (map power ids) (powers_differ ids are.different (λ i d h. below i d h)))
-    (count ∙ sym are.count ∙ sym (length-map ids power))
-  where
-    below : All (λ j. j < 255) ids
-    below i d h = let low : get_or ids i d < n = are.below i d h in omega arith
-
-range_ids : (k n : ℕ) → k ≤ n → AreIds k n (range_with_len 0 k)
-range_ids k n h = record { count = length-range_with_len 0 k; different = range_differs k; below = range_below k n h }
-
-starts_at_range : (k j : ℕ) (cs vs : List ℕ) → GoesThrough cs (powers k) vs → j < k → value_at cs (power j) ≡ get_or vs j 0
-starts_at_range k j cs vs h lt =
-    ap (λ i. value_at cs (power i)) (sym (get_or-range_with_len 0 k j 0 lt ∙ zero-add j))
-    ∙ value_at_id cs (range_with_len 0 k) vs j h (omega (arith, length-range_with_len 0 k))
-
-pub length-powers : (n : ℕ) → length (powers n) ≡ n
-length-powers n = length-map-range_with_len power 0 n
 
 pub column-octets : (k size : ℕ) (symbols : List ℕ) (t : ℕ) → ((i : ℕ) → get_or symbols i 0 < 256) → AreOctets (column k size symbols t)
 unfolding column
@@ -170,11 +142,6 @@ codeword_exists k n s fits most count octets =
       codeword_of k n s f.coefficients fits count f.through.octets (f.through.few ∙ length-powers k)
           (λ j h. starts_at_range k j f.coefficients s f.through h),
     )
-
-value_at_place : (cs ids : List ℕ) (i : ℕ) → i < length ids → get_or (map (value_at cs) (map power ids)) i 0 ≡ value_at cs (power (get_or ids i 0))
-value_at_place cs ids i h =
-    get_or-map (value_at cs) (map power ids) i 0 0 (omega (arith, length-map ids power))
-    ∙ ap (value_at cs) (get_or-map power ids i 0 0 h)
 
 -- words that agree at the ids come from polynomials that agree at the places
 alike_at_ids : (k n : ℕ) (ids s w s' w' : List ℕ) → AreIds k n ids → (p : Codeword k n s w) → (q : Codeword k n s' w')

@@ -1,8 +1,8 @@
 -- The codewords of RFC 5510 section 8.2: symbol j is the value at the power j of alpha of a polynomial of
 -- degree below k, and the first k symbols are the source symbols.
-use Rattle.std.specs.Prelude.{ℕ, List, ◌≡◌, ◌≢◌, ◌<◌, ◌+◌, ◌*◌, length, slice_index}
-use Rattle.std.specs.List.{All, AllPairs}
+use Rattle.std.specs.Prelude.{ℕ, List, ◌≡◌, ◌<◌, ◌+◌, ◌*◌, length, slice_index}
 use Rattle.gf_field.specs.Octet.{AreOctets}
+pub use Rattle.gf_field.specs.Symbol.{AreIds}
 use Rattle.gf_field.specs.Power.{power}
 use Rattle.gf_field.specs.Polynomial.{value_at}
 use Rattle.rs_block.specs.Column.{column}
@@ -36,9 +36,3 @@ pub record GoesThroughAt (k size : ℕ) (ids symbols source : List ℕ) (t : ℕ
 -- `source` are the source symbols of the codeword that has the given symbols at their ids
 abbrev pub AreSources : ℕ → ℕ → List ℕ → List ℕ → List ℕ → Type 0
 AreSources k size ids symbols source = (t : ℕ) → t < size → GoesThroughAt k size ids symbols source t
-
--- k different ids of symbols among the first n
-pub record AreIds (k n : ℕ) (ids : List ℕ) : Type 0 where
-  pub count : length ids ≡ k
-  pub different : AllPairs (λ x y. x ≢ y) ids
-  pub below : All (λ j. j < n) ids

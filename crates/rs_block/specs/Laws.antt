@@ -1,7 +1,8 @@
 -- The laws of codewords.
 use Rattle.std.specs.Prelude.{ℕ, List, ◌≡◌, ◌<◌, ◌≤◌, ◌+◌, ◌*◌, length, slice_index}
-use Rattle.std.specs.List.{All, slice_range}
+use Rattle.std.specs.List.{All, concat, slice_range}
 use Rattle.gf_field.specs.Octet.{AreOctets}
+use Rattle.gf_field.specs.Symbol.{AreSymbols, encoded_symbol, solved_sources}
 use Rattle.rs_block.specs.Codeword.{Codeword, IsSymbol, AreSources, AreIds}
 
 -- any k octets have a codeword, and no other one; and codewords with the same octets at k different ids are one
@@ -22,3 +23,14 @@ pub record SymbolLaws : Type 0 where
       → ((i : ℕ) → i < k → IsSymbol k n size source (slice_index ids i) (slice_range symbols (i * size) (i * size + size)))
       → AreSources k size ids symbols solved
       → (j t : ℕ) → j < k → t < size → slice_index solved (j * size + t) ≡ slice_index source (j * size + t)
+
+-- the functions of a list of symbols give the codeword's symbol and the sources, and nothing else is these
+pub record FunctionLaws : Type 0 where
+  pub encoded : (k n size j : ℕ) (sources : List (List ℕ)) → k ≤ n → n ≤ 255 → j < n → AreSymbols k size sources
+      → IsSymbol k n size (concat sources) j (encoded_symbol size sources j)
+  pub encoded_only : (k n size j : ℕ) (sources : List (List ℕ)) (symbol : List ℕ) → k ≤ n → n ≤ 255 → j < n → AreSymbols k size sources
+      → length symbol ≡ size → IsSymbol k n size (concat sources) j symbol → symbol ≡ encoded_symbol size sources j
+  pub solved : (k size : ℕ) (ids : List ℕ) (symbols : List (List ℕ)) → k ≤ 255 → AreSymbols k size symbols → AreIds k 255 ids
+      → AreSources k size ids (concat symbols) (concat (solved_sources size ids symbols))
+  pub solved_only : (k size : ℕ) (ids : List ℕ) (symbols : List (List ℕ)) (out : List ℕ) → k ≤ 255 → AreSymbols k size symbols → AreIds k 255 ids
+      → length out ≡ k * size → AreSources k size ids (concat symbols) out → out ≡ concat (solved_sources size ids symbols)

@@ -1,19 +1,15 @@
 -- What Lagrange's formula keeps of its places.
-use Rattle.std.specs.Prelude.{ℕ, List, ◌≡◌, ◌<◌, length, map, slice_index}
-use Rattle.std.specs.List.{range_with_len}
+use Rattle.std.specs.Prelude.{ℕ, List, ◌≡◌, ◌<◌, length, slice_index}
 use Rattle.gf_field.specs.Power.{power}
+pub use Rattle.gf_field.specs.Power.{powers}
 use Rattle.gf_field.specs.Inverse.{inverse}
 use Rattle.gf_field.specs.Interpolation.{differences, others}
-
--- the powers of alpha with exponents below n
-abbrev pub powers : ℕ → List ℕ
-powers n = map power (range_with_len 0 n)
 
 -- the weight of the place m: the inverse of the product of its differences to the others
 unfoldable pub weight_at : List ℕ → ℕ → ℕ
 weight_at places m = inverse (differences (others m places) m)
 
--- the weights of the places, in their order
+-- the logarithms of the places' weights, in their order
 pub record AreWeights (places weights : List ℕ) : Type 0 where
   pub count : length weights ≡ length places
-  pub each : (i : ℕ) → i < length places → slice_index weights i ≡ weight_at places (slice_index places i)
+  pub each : (i : ℕ) → i < length places → power (slice_index weights i) ≡ weight_at places (slice_index places i)

@@ -6,9 +6,10 @@ pub record SolverShape : Type 0 where
   pub k : ℕ
   pub size : ℕ
 
--- room for k places and k weights
-pub record IsSolver (k : ℕ) (places weights : List ℕ) : Type 0 where
+-- room for k places, k weights and a row
+pub record IsSolver (k : ℕ) (places weights row : List ℕ) : Type 0 where
   pub some : 1 ≤ k
   pub most : k ≤ 255
   pub places_room : length places ≡ k
   pub weights_room : length weights ≡ k
+  pub row_room : length row ≡ k

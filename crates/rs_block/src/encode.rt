@@ -1,20 +1,23 @@
 //! The code of a block, RFC 5510 section 8.2.
 
-ghost use Rattle.std.specs.Prelude.{ℕ, ◌≡◌, ◌<◌, ◌≤◌, ◌*◌, IfOk, length};
-ghost use Rattle.rs_block.specs.Points.{powers};
+ghost use Rattle.std.specs.Prelude.{ℕ, ◌≡◌, ◌<◌, ◌≤◌, ◌+◌, ◌-◌, ◌*◌, ◌%◌, ◌++◌, EachIndex, IfOk, length, slice_index};
+ghost use Rattle.gf_field.specs.Power.{power};
+ghost use Rattle.rs_block.specs.Points.{powers, AreWeights};
+ghost use Rattle.rs_block.specs.Row.{coefficients};
+ghost use Rattle.rs_block.specs.Code.{IsCode};
 
-use crate::interpolation::{interpolate, place_of, weigh};
+use crate::interpolation::{add_combined, place_of, put_coefficients, weigh};
+use norm_base::Memory;
 use std::alloc::{AllocError, Global};
 use std::marker::Model;
 
 /// A code of blocks of k source symbols and n encoded symbols: symbols 0 to k - 1 of a block are its source
-/// symbols, and the others are parity.
-#[derive(Drop)]
+/// symbols, and the others are parity. It keeps k octets for each parity symbol.
+#[derive(Debug, Drop)]
 pub struct Code {
     k: u8,
     n: u8,
-    places: Vec<u8>,
-    weights: Vec<u8>,
+    rows: Vec<u8>,
 }
 
 impl Model for Code {
@@ -24,7 +27,7 @@ impl Model for Code {
 
     ghost view = { λ c. record { k = c.k; n = c.n } };
 
-    ghost invariant = { λ c. IsCode c.k c.n c.places.items c.weights.items };
+    ghost invariant = { λ c. IsCode c.k c.n c.rows.items };
 }
 
 /// The powers of alpha with exponents below `n`.
@@ -38,6 +41,41 @@ fn powers_below(alloc: Global, n: u8) -> Result<Vec<u8>, AllocError>
     Ok(places)
 }
 
+/// Puts the row of each parity symbol into `rows`.
+fn put_rows(k: u8, n: u8, places: &[u8], weights: &[u8], rows: &mut [u8])
+    requires some { 1 ≤ k }
+    requires fits { k ≤ n }
+    requires places { places.now ≡ powers k }
+    requires weighted { AreWeights places.now weights.now }
+    requires room { length rows.old ≡ (n - k) * k }
+    ensures { IsCode k n rows.new }
+{
+    let width = usize::from(k);
+    for m in 0..n - k {
+        let start = usize::from(m) * width;
+        put_coefficients(
+            places,
+            weights,
+            place_of(k + m),
+            &mut rows[start..start + width],
+        );
+    }
+}
+
+/// The rows of all parity symbols, one after the other.
+fn rows_of(alloc: Global, k: u8, n: u8) -> Result<Vec<u8>, AllocError>
+    requires some { 1 ≤ k }
+    requires fits { k ≤ n }
+    ensures { IfOk result (λ rows. IsCode k n rows.items) }
+{
+    let places = powers_below(alloc, k)?;
+    let mut weights = vec![in alloc; 0; usize::from(k)]?;
+    let mut rows = vec![in alloc; 0; usize::from(n - k) * usize::from(k)]?;
+    weigh(&places, &mut weights);
+    put_rows(k, n, &places, &weights, &mut rows);
+    Ok(rows)
+}
+
 impl Code {
     ghost use Rattle.rs_block.specs.Codeword.{IsSymbol};
     ghost use Rattle.rs_block.specs.Code.{CodeShape};
@@ -46,21 +84,27 @@ impl Code {
     ///
     /// # Errors
     ///
-    /// `AllocError` where memory runs out.
-    pub fn new(alloc: Global, k: u8, n: u8) -> Result<Code, AllocError>
+    /// `Memory` where memory runs out.
+    pub fn new(alloc: Global, k: u8, n: u8) -> Result<Code, Memory>
         requires some { 1 ≤ k }
         requires fits { k ≤ n }
         ensures { IfOk result (λ code. code ≡ record { k = k; n = n }) }
     {
-        let places = powers_below(alloc, k)?;
-        let mut weights = vec![in alloc; 0; usize::from(k)]?;
-        weigh(&places, &mut weights);
-        Ok(Code {
-            k,
-            n,
-            places,
-            weights,
-        })
+        let rows = rows_of(alloc, k, n).map_err(|_| Memory)?;
+        Ok(Code { k, n, rows })
+    }
+
+    /// The row of parity symbol `j`.
+    fn row(&self, j: u8) -> &[u8]
+        requires parity { self.now.k ≤ j }
+        requires encoded { j < self.now.n }
+        ensures most { self.now.n ≤ 255 }
+        ensures len { length result.now ≡ self.now.k }
+        ensures entries { result.now ≡ coefficients (powers self.now.k) (power j) }
+    {
+        let width = usize::from(self.k);
+        let start = usize::from(j - self.k) * width;
+        &self.rows[start..start + width]
     }
 
     /// Puts symbol `j` of the codeword of the source symbols into `out`. `source` is k symbols of `size`
@@ -72,6 +116,25 @@ impl Code {
         requires room { length out.old ≡ size }
         ensures { IsSymbol self.now.k self.now.n size source.now j out.new }
     {
-        interpolate(&self.places, &self.weights, source, place_of(j), out);
+        self.parity_in_two(source, &[], size, j, out);
+    }
+
+    /// The same, where the source symbols lie in two pieces: `front` is whole symbols in a row, and `back` the
+    /// others. Together they are k symbols of `size` octets. It takes no memory.
+    pub fn parity_in_two(&self, front: &[u8], back: &[u8], size: usize, j: u8, out: &mut [u8])
+        requires parity { self.now.k ≤ j }
+        requires encoded { j < self.now.n }
+        requires sources { length front.now + length back.now ≡ self.now.k * size }
+        requires whole { length front.now % size ≡ 0 }
+        requires room { length out.old ≡ size }
+        ensures { IsSymbol self.now.k self.now.n size (front.now ++ back.now) j out.new }
+    {
+        if size == 0 {
+            return;
+        }
+        let (row, rest) = self.row(j).split_at(front.len() / size);
+        out.fill(0);
+        add_combined(row, front, out);
+        add_combined(rest, back, out);
     }
 }

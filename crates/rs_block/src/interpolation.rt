@@ -6,11 +6,15 @@ ghost use Rattle.std.specs.List.{AllPairs};
 ghost use Rattle.gf_field.specs.Product.{product};
 ghost use Rattle.gf_field.specs.Power.{power};
 ghost use Rattle.gf_field.specs.Inverse.{inverse};
-ghost use Rattle.gf_field.specs.Interpolation.{differences, others, interpolated};
+ghost use Rattle.gf_field.specs.Interpolation.{differences, others};
 ghost use Rattle.rs_block.specs.Column.{column};
 ghost use Rattle.rs_block.specs.Points.{AreWeights, weight_at};
+ghost use Rattle.rs_block.specs.Row.{coefficients, combined};
 
-use gf_field::{add_scaled, alpha_pow, inv, mul};
+use gf_field::{add_scaled, alpha_log, alpha_pow};
+
+/// The order of alpha: exponents count up to it.
+const ORDER: u32 = 255;
 
 /// The place of the symbol with this id.
 pub fn place_of(id: u8) -> u8
@@ -19,56 +23,80 @@ pub fn place_of(id: u8) -> u8
     alpha_pow(u32::from(id))
 }
 
-/// The product of the differences of `x` and each place.
-#[tactic(auto, using(crate::proofs::Formula::difference_steps))]
-fn difference_product(places: &[u8], x: u8) -> u8
-    ensures { result ≡ differences places.now x }
+/// The logarithm of the product of the differences of `x` and each place, which is none of them.
+#[tactic(auto, using(crate::proofs::Formula::differ))]
+fn difference_log(places: &[u8], x: u8) -> u32
+    requires few { length places.now ≤ 255 }
+    requires away { EachIndex places.now (λ i. slice_index places.now i ≢ x) }
+    ensures small { result ≤ 254 * length places.now }
+    ensures exponent { power result ≡ differences places.now x }
 {
-    let mut product = 1;
+    let mut total = 0;
     for place in places {
-        product = mul(product, x ^ *place);
+        total += alpha_log(x ^ *place);
     }
-    product
+    total
 }
 
-/// The product of the differences of `place` and each other place.
-#[tactic(auto, using(crate::proofs::Formula::other_steps))]
-fn others_product(places: &[u8], place: u8) -> u8
-    ensures { result ≡ differences (others place places.now) place }
+/// The logarithm of the product of the differences of `place` and each other place.
+#[tactic(auto, using(crate::proofs::Formula::others_steps))]
+fn others_log(places: &[u8], place: u8) -> u32
+    requires { length places.now ≤ 255 }
+    ensures { power result ≡ differences (others place places.now) place }
 {
-    let mut product = 1;
+    let mut total = 0;
     for other in places {
         if *other != place {
-            product = mul(product, place ^ *other);
+            total += alpha_log(place ^ *other);
         }
     }
-    product
+    total
 }
 
-/// The weight of a place: what its coefficient has for its denominator, inverted.
-fn weight_of(places: &[u8], place: u8) -> u8
-    ensures { result ≡ weight_at places.now place }
+/// The logarithm of the weight of a place: what its coefficient has for its denominator, inverted.
+#[tactic(auto, using(crate::proofs::Formula::weight_is))]
+fn weight_log(places: &[u8], place: u8) -> u8
+    requires { length places.now ≤ 255 }
+    ensures { power result ≡ weight_at places.now place }
 {
-    inv(others_product(places, place))
+    (ORDER - others_log(places, place) % ORDER) as u8
 }
 
-/// Puts the weight of each place into `weights`.
+/// Puts the logarithm of each place's weight into `weights`.
 pub fn weigh(places: &[u8], weights: &mut [u8])
-    requires { length weights.old ≡ length places.now }
+    requires count { length weights.old ≡ length places.now }
+    requires few { length places.now ≤ 255 }
     ensures { AreWeights places.now weights.new }
 {
     for (i, weight) in weights.iter_mut().enumerate() {
-        *weight = weight_of(places, places[i]);
+        *weight = weight_log(places, places[i]);
     }
 }
 
-/// The coefficient of a place at `x`, from the product of all differences at `x` and the place's weight.
+/// The coefficient of a place at `x`, from the logarithms of the product of all differences at `x` and of the
+/// place's weight.
 #[tactic(auto, using(crate::proofs::Formula::differ))]
-fn coefficient(all: u8, x: u8, place: u8, weight: u8) -> u8
-    requires { place ≢ x }
-    ensures { result ≡ product (product all (inverse (bit_xor x place))) weight }
+fn coefficient(all: u32, x: u8, place: u8, weight: u8) -> u8
+    requires away { place ≢ x }
+    requires small { all < 65536 }
+    ensures { result ≡ product (product (power all) (inverse (bit_xor x place))) (power weight) }
 {
-    mul(mul(all, inv(x ^ place)), weight)
+    alpha_pow(all + (ORDER - alpha_log(x ^ place)) + u32::from(weight))
+}
+
+/// Puts into `row` the coefficient at `x` of each place. `x` is none of them.
+pub fn put_coefficients(places: &[u8], weights: &[u8], x: u8, row: &mut [u8])
+    requires weighted { AreWeights places.now weights.now }
+    requires different { AllPairs (λ p q. p ≢ q) places.now }
+    requires away { EachIndex places.now (λ i. slice_index places.now i ≢ x) }
+    requires few { length places.now ≤ 255 }
+    requires count { length row.old ≡ length places.now }
+    ensures { row.new ≡ coefficients places.now x }
+{
+    let all = difference_log(places, x);
+    for (i, entry) in row.iter_mut().enumerate() {
+        *entry = coefficient(all, x, places[i], weights[i]);
+    }
 }
 
 /// Symbol `i` of symbols of `size` octets in a row.
@@ -82,22 +110,15 @@ pub fn symbol_at(symbols: &[u8], size: usize, i: usize) -> &[u8]
     &symbols[start..start + size]
 }
 
-/// Puts into `out`, octet by octet, the value at `x` of the polynomial that has the symbols' octets at the
-/// places. `x` is none of them.
-pub fn interpolate(places: &[u8], weights: &[u8], symbols: &[u8], x: u8, out: &mut [u8])
-    requires weighted { AreWeights places.now weights.now }
-    requires different { AllPairs (λ p q. p ≢ q) places.now }
-    requires away { EachIndex places.now (λ i. slice_index places.now i ≢ x) }
-    requires symbols { length symbols.now ≡ length places.now * length out.old }
+/// Adds to `out`, octet by octet, the sum of the symbols, each times its entry of the row.
+pub fn add_combined(row: &[u8], symbols: &[u8], out: &mut [u8])
+    requires { length symbols.now ≡ length row.now * length out.old }
     ensures { EachIndex out.new (λ t.
-        let values = column (length places.now) (length out.old) symbols.now t in
-        slice_index out.new t ≡ interpolated places.now values x) }
+        let octets = column (length row.now) (length out.old) symbols.now t in
+        slice_index out.new t ≡ bit_xor (slice_index out.old t) (combined row.now octets)) }
 {
-    let all = difference_product(places, x);
     let size = out.len();
-    out.fill(0);
-    for (i, place) in places.iter().enumerate() {
-        let scale = coefficient(all, x, *place, weights[i]);
-        add_scaled(out, symbol_at(symbols, size, i), scale);
+    for (i, entry) in row.iter().enumerate() {
+        add_scaled(out, symbol_at(symbols, size, i), *entry);
     }
 }

@@ -7,17 +7,19 @@ ghost use Rattle.rs_block.specs.Codeword.{AreIds, AreSources};
 ghost use Rattle.rs_block.specs.Column.{column};
 ghost use Rattle.rs_block.specs.Points.{AreWeights};
 
-use crate::interpolation::{interpolate, place_of, symbol_at, weigh};
+use crate::interpolation::{add_combined, place_of, put_coefficients, symbol_at, weigh};
+use norm_base::Memory;
 use std::alloc::{AllocError, Global};
 use std::marker::Model;
 
 /// Room to solve blocks of k source symbols: all memory that solving takes is made once.
-#[derive(Drop)]
+#[derive(Debug, Drop)]
 pub struct Solver {
     k: u8,
     size: usize,
     places: Vec<u8>,
     weights: Vec<u8>,
+    row: Vec<u8>,
 }
 
 impl Model for Solver {
@@ -27,7 +29,7 @@ impl Model for Solver {
 
     ghost view = { λ s. record { k = s.k; size = s.size } };
 
-    ghost invariant = { λ s. IsSolver s.k s.places.items s.weights.items };
+    ghost invariant = { λ s. IsSolver s.k s.places.items s.weights.items s.row.items };
 }
 
 impl Solver {
@@ -37,20 +39,22 @@ impl Solver {
     ///
     /// # Errors
     ///
-    /// `AllocError` where memory runs out.
-    pub fn new(alloc: Global, k: u8, size: usize) -> Result<Solver, AllocError>
+    /// `Memory` where memory runs out.
+    pub fn new(alloc: Global, k: u8, size: usize) -> Result<Solver, Memory>
         requires some { 1 ≤ k }
         requires octets { 1 ≤ size }
         requires most { size ≤ 1408 }
         ensures { IfOk result (λ solver. solver ≡ record { k = k; size = size }) }
     {
-        let places = vec![in alloc; 0; usize::from(k)]?;
-        let weights = vec![in alloc; 0; usize::from(k)]?;
+        let places = room_for(alloc, k).map_err(|_| Memory)?;
+        let weights = room_for(alloc, k).map_err(|_| Memory)?;
+        let row = room_for(alloc, k).map_err(|_| Memory)?;
         Ok(Solver {
             k,
             size,
             places,
             weights,
+            row,
         })
     }
 
@@ -72,10 +76,17 @@ impl Solver {
             &self.weights,
             symbols,
             self.size,
-            self.k,
+            &mut self.row,
             out,
         );
     }
+}
+
+/// k octets.
+fn room_for(alloc: Global, k: u8) -> Result<Vec<u8>, AllocError>
+    ensures { IfOk result (λ v. length v.items ≡ k) }
+{
+    vec![in alloc; 0; usize::from(k)]
 }
 
 /// Puts the powers of alpha with the exponents `ids` into `places`.
@@ -97,13 +108,24 @@ fn position_of(ids: &[u8], id: u8) -> Option<usize>
     ids.iter().position(|other| *other == id)
 }
 
-/// Puts symbol `j` of the block into `out`: a symbol that was given is copied.
-fn recover(ids: &[u8], places: &[u8], weights: &[u8], symbols: &[u8], j: u8, out: &mut [u8])
+/// Puts symbol `j` of the block into `out`: a symbol that was given is copied, and another one is summed up by a row,
+/// which is put into `row`.
+fn recover(
+    ids: &[u8],
+    places: &[u8],
+    weights: &[u8],
+    symbols: &[u8],
+    j: u8,
+    row: &mut [u8],
+    out: &mut [u8],
+)
     requires ids { AreIds (length ids.now) 255 ids.now }
+    requires few { length ids.now ≤ 255 }
     requires places { places.now ≡ map power ids.now }
     requires weighted { AreWeights places.now weights.now }
     requires symbols { length symbols.now ≡ length ids.now * length out.old }
     requires below { j < 255 }
+    requires room { length row.old ≡ length ids.now }
     ensures { EachIndex out.new (λ t.
         let values = column (length ids.now) (length out.old) symbols.now t in
         slice_index out.new t ≡ interpolated (map power ids.now) values (power j)) }
@@ -111,28 +133,34 @@ fn recover(ids: &[u8], places: &[u8], weights: &[u8], symbols: &[u8], j: u8, out
     let size = out.len();
     match position_of(ids, j) {
         Some(i) => out.copy_from_slice(symbol_at(symbols, size, i)),
-        None => interpolate(places, weights, symbols, place_of(j), out),
+        None => {
+            put_coefficients(places, weights, place_of(j), row);
+            out.fill(0);
+            add_combined(row, symbols, out);
+        }
     }
 }
 
-/// Puts the k source symbols of the block into `out`.
+/// Puts the source symbols of the block, as many as there are ids, into `out`.
 fn recover_all(
     ids: &[u8],
     places: &[u8],
     weights: &[u8],
     symbols: &[u8],
     size: usize,
-    k: u8,
+    row: &mut [u8],
     out: &mut [u8],
 )
-    requires ids { AreIds k 255 ids.now }
+    requires ids { AreIds (length ids.now) 255 ids.now }
+    requires few { length ids.now ≤ 255 }
     requires places { places.now ≡ map power ids.now }
     requires weighted { AreWeights places.now weights.now }
-    requires symbols { length symbols.now ≡ k * size }
-    requires room { length out.old ≡ k * size }
-    ensures { AreSources k size ids.now symbols.now out.new }
+    requires symbols { length symbols.now ≡ length ids.now * size }
+    requires row { length row.old ≡ length ids.now }
+    requires room { length out.old ≡ length ids.now * size }
+    ensures { AreSources (length ids.now) size ids.now symbols.now out.new }
 {
-    for j in 0..k {
+    for j in 0..ids.len() as u8 {
         let start = usize::from(j) * size;
         recover(
             ids,
@@ -140,6 +168,7 @@ fn recover_all(
             weights,
             symbols,
             j,
+            row,
             &mut out[start..start + size],
         );
     }

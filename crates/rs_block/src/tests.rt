@@ -29,7 +29,7 @@ fn encoded(
     n: u8,
     size: usize,
     source: &[u8],
-) -> Result<Vec<u8>, AllocError> {
+) -> Result<Vec<u8>, Fail> {
     assert!(rt; 1 <= k && k <= n && size <= 1408);
     assert_eq!(rt; source.len(), usize::from(k) * size);
     let code = Code::new(alloc, k, n)?;
@@ -49,7 +49,7 @@ fn solved(
     size: usize,
     ids: &[u8],
     symbols: &[u8],
-) -> Result<Vec<u8>, AllocError> {
+) -> Result<Vec<u8>, Fail> {
     assert!(rt; 1 <= ids.len() && ids.len() < 256 && 1 <= size && size <= 1408);
     assert!(rt; are_ids(ids));
     assert_eq!(rt; symbols.len(), ids.len() * size);
@@ -115,6 +115,21 @@ fn symbols_of_short_codes_are_those_of_the_rows(rt: HostRuntime) -> Result<(), F
     Ok(())
 }
 
+#[test]
+fn parity_of_two_pieces_is_that_of_the_rows(rt: HostRuntime) -> Result<(), Fail> {
+    let code = Code::new(rt.alloc(), 3, 5)?;
+    let source = [0x01, 0x04, 0x10];
+    for cut in 0..=3usize {
+        let (front, back) = source.split_at(cut);
+        let mut symbol = [0];
+        code.parity_in_two(front, back, 1, 3, &mut symbol);
+        assert_eq!(rt; symbol, [0x40], "cut at {cut}");
+        code.parity_in_two(front, back, 1, 4, &mut symbol);
+        assert_eq!(rt; symbol, [0x1d], "cut at {cut}");
+    }
+    Ok(())
+}
+
 /// Source octets of no pattern.
 fn octets(alloc: Global, count: u8) -> Result<Vec<u8>, AllocError> {
     let mut source = Vec::new(alloc);
@@ -144,12 +159,7 @@ fn parity_is_the_value_by_divided_differences(rt: HostRuntime) -> Result<(), Fai
 }
 
 /// The sources from the symbols whose bits are set in the mask.
-fn solved_from(
-    rt: &impl Abort,
-    alloc: Global,
-    mask: u32,
-    symbols: &[u8],
-) -> Result<Vec<u8>, AllocError> {
+fn solved_from(rt: &impl Abort, alloc: Global, mask: u32, symbols: &[u8]) -> Result<Vec<u8>, Fail> {
     let mut ids = Vec::new(alloc);
     let mut given = Vec::new(alloc);
     for (id, symbol) in symbols.iter().enumerate() {

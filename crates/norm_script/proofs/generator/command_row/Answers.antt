@@ -17,7 +17,7 @@ put-requires-3 c =
     let begun = c.put-2.ensures ∙ ap (λ r. r ++ codes " data ") (c.put.ensures ∙ ap (λ r. r ++ digit) c.new-row.ensures) in
     let seven : length c.put-2.new.row.items ≡ 7 = ap length begun in
     let all : length c.put_octets.new.row.items ≡ length c.put-2.new.row.items + length octets =
-        ap length c.put_octets.ensures ∙ length-append c.put-2.new.row.items octets in
+    ap length c.put_octets.ensures ∙ length-append c.put-2.new.row.items octets in
     omega (arith, seven, all, octets_few c.args.n (c.args.k / 100 + 1) (c.args.k % 100))
 
 pub returns : goal.returns

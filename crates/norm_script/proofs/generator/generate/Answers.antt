@@ -1,4 +1,4 @@
-use Rattle.std.proofs.Common.{◌∙◌, sym, ap, arith}
+use Rattle.std.proofs.Common.{◌∙◌}
 use Rattle.norm_script.specs.Generated.{StopsWithin, generated_pieces}
 use Rattle.norm_script.proofs.RowLemmas.{row_written, all_written, text_written, stops, at_err}
 use Rattle.norm_script.proofs.generator.generate.Goals as goal

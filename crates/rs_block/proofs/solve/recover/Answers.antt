@@ -1,13 +1,14 @@
-use Rattle.std.proofs.Common.{◌∙◌, ap, arith, length, get_or, ◌<◌}
+use Rattle.std.proofs.Common.{◌∙◌, ap, arith, length, get_or, ◌<◌, refl}
 use Rattle.rs_block.proofs.Words.{places_differ, away_from_ids, given_octet}
+use Rattle.rs_block.proofs.Formula.{recovered_octet}
 use Rattle.rs_block.proofs.solve.recover.Goals as goal
 
-pub interpolate-requires-clause-different : goal.interpolate-requires-clause-different
-interpolate-requires-clause-different c =
+pub put_coefficients-requires-clause-different : goal.put_coefficients-requires-clause-different
+put_coefficients-requires-clause-different c =
     places_differ (length c.args.ids.now) c.args.ids.now c.args.places.now c.requires.ids c.requires.places
 
-pub interpolate-requires-clause-away : goal.interpolate-requires-clause-away
-interpolate-requires-clause-away c =
+pub put_coefficients-requires-clause-away : goal.put_coefficients-requires-clause-away
+put_coefficients-requires-clause-away c =
     away_from_ids c.args.ids.now c.args.places.now c.args.j c.place_of.result c.requires.places
     c.place_of.ensures c.requires.ids.below c.requires.below c.in-None.ensures
 
@@ -18,3 +19,11 @@ returns-in-Some c = λ t lt.
     ∙ c.symbol_at.ensures.octets t (omega arith)
     ∙ given_octet c.args.ids.now c.args.symbols.now (length c.args.out.now) c.in-Some.i c.args.j t c.requires.ids
     (λ n. (c.type_inv.symbols n).fits) c.in-Some.ensures.0 c.in-Some.ensures.1
+
+pub returns-in-None : goal.returns-in-None
+returns-in-None c = λ t lt.
+    recovered_octet c.args.ids.now c.args.places.now c.put_coefficients.new.row c.args.symbols.now
+    (get_or c.fill.new.self t 0) (length c.fill.new.self) (length c.args.out.now) c.args.j t c.place_of.result (get_or c.add_combined.new.out t 0)
+    c.put_coefficients.ensures c.requires.places c.place_of.ensures
+    (c.fill.ensures.clones t 0 (omega arith) refl) c.fill.auto.self
+    (c.add_combined.ensures t lt)

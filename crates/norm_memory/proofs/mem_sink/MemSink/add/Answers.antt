@@ -18,5 +18,5 @@ pub returns-clause-ok : goal.returns-clause-ok
 returns-clause-ok c =
     let octets : c.extend_from_slice.new.self.items ≡ c.self.inside.octets.items ++ c.args.bytes.now = search rules in
     rw (c.in_ok-push.ensures.items, octets, ← c.self.view_is) (
-      ap (λ pieces. record { pieces = pieces; calls = c.self.inside.calls })
-        (pieces-more c.self.inside.octets.items c.args.bytes.now c.self.inside.before c.self.inside.stops.items (c.len.result + length c.args.bytes.now) (stop c) (climbs c)))
+    ap (λ pieces. record { pieces = pieces; calls = c.self.inside.calls })
+    (pieces-more c.self.inside.octets.items c.args.bytes.now c.self.inside.before c.self.inside.stops.items (c.len.result + length c.args.bytes.now) (stop c) (climbs c)))

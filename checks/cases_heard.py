@@ -1,0 +1,51 @@
+"""What a receiver that needs something hears of others, and whether it is silent then."""
+from steps import SMALL, Run, data, head, nack, request, segment
+from terms import lst
+
+
+def repair_adv(*requests):
+    return ('octets_of (message.RepairAdv (record { head = %s; flags = 0; extensions = []; requests = %s }))' % (head('command'), lst(requests)))
+
+
+HEARD_PROFILE = dict(b=2, max_n=3, receivers=2)
+
+
+def heard_by(name, needing, heard, silent):
+    """A receiver that needs something hears requests of node 3 while it backs off; then it is silent or not."""
+    def make():
+        r = Run(**HEARD_PROFILE)
+        for datagram in needing:
+            r.hears(2, datagram, 0, 0)
+        for h in heard:
+            r.hears(2, h if h.startswith('octets') else nack(3, h))
+        return r.look('gives_datagram (world_step PROFILE w (Ticked 2 0)).1', [0 if silent else 1])
+    SMALL[name] = make
+
+
+UNKNOWN = [data(1, 0, 0, 'hx 1 0x41')]                                            # object 0 is needed whole
+LACKS = [data(0, 0, 0, 'hx 64 0x%s' % ('41' * 64), l=256, b=2, max_n=3), data(0, 1, 0, 'hx 64 0x%s' % ('41' * 64), b=2, max_n=3)]     # one of block 0
+OPEN_END = [data(0, 1, 0, segment(128, 64), l=2048, flags=32, b=2, max_n=3), data(0, 0, 0, segment(0, 64), flags=32), data(0, 0, 1, segment(64, 64), flags=32),
+            data(0, 1, 1, segment(192, 64), flags=32), data(1, 0, 0, 'hx 1 0x41', l=1, b=2, max_n=3)]                                # from block 2 on
+heard_by('heard all of an object', UNKNOWN, [request('Items', 12, (0, 0, 0))], True)
+heard_by('heard without the info', UNKNOWN, [request('Items', 8, (0, 0, 0))], False)
+heard_by('heard without the symbols', UNKNOWN, [request('Items', 4, (0, 0, 0))], False)
+heard_by('heard all blocks of an object', UNKNOWN, [request('Ranges', 6, (0, 0, 0), (0, 16777215, 0))], True)
+heard_by('heard all blocks but the last', UNKNOWN, [request('Ranges', 6, (0, 0, 0), (0, 16777214, 0))], False)
+heard_by('heard all symbols in two ranges', UNKNOWN, [request('Ranges', 5, (0, 0, 0), (0, 5, 255), (0, 6, 0), (0, 16777215, 255))], True)
+heard_by('heard all symbols but one', UNKNOWN, [request('Ranges', 5, (0, 0, 0), (0, 5, 254), (0, 6, 0), (0, 16777215, 255))], False)
+heard_by('heard another object', UNKNOWN, [request('Items', 12, (1, 0, 0))], False)
+heard_by('heard a range of objects', UNKNOWN, [request('Ranges', 12, (0, 0, 0), (3, 0, 0))], True)
+heard_by('heard an equal count', LACKS, [request('Erasures', 1, (0, 0, 1))], True)
+heard_by('heard a count of another block', LACKS, [request('Erasures', 1, (0, 1, 1))], False)
+heard_by('heard a count of 0', LACKS, [request('Erasures', 1, (0, 0, 0))], False)
+heard_by('heard the sources of the block', LACKS, [request('Items', 1, (0, 0, 0)), request('Items', 1, (0, 0, 1))], True)
+heard_by('heard one source of the block', LACKS, [request('Items', 1, (0, 0, 1))], False)
+heard_by('heard the block', LACKS, [request('Items', 2, (0, 0, 0))], True)
+heard_by('heard the rest of a stream', OPEN_END, [request('Ranges', 2, (0, 2, 0), (0, 16777215, 0))], True)
+heard_by('heard more than the rest', OPEN_END, [request('Ranges', 2, (0, 0, 0), (0, 3, 0), (0, 4, 0), (0, 16777215, 0))], True)
+heard_by('heard less than the rest', OPEN_END, [request('Ranges', 2, (0, 3, 0), (0, 16777215, 0))], False)
+heard_by('heard nothing', UNKNOWN, [], False)
+heard_by('heard the own NACK', UNKNOWN, [nack(2, request('Items', 12, (0, 0, 0)))], False)
+heard_by('heard a NACK of another instance', UNKNOWN, [nack(3, request('Items', 12, (0, 0, 0)), instance=8)], False)
+heard_by('heard a NACK to another sender', UNKNOWN, [nack(3, request('Items', 12, (0, 0, 0)), sender=9)], False)
+heard_by('heard the sender', UNKNOWN, [repair_adv(request('Items', 12, (0, 0, 0)))], True)

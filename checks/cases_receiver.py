@@ -1,0 +1,130 @@
+"""Small runs of the receiver's rules: plans, symbols, hand-ups, needs."""
+from cases_heard import HEARD_PROFILE
+from steps import NONE, STREAM, Run, command, data, info, nack, request, segment, small, stream_data
+
+
+def receiver_look(r, row, gives):
+    return r.look('flat_map (λ (r : ReceiverState). %s) w.receivers' % row, gives)
+
+
+@small
+def which_messages_a_receiver_hears():
+    """INFO, DATA and commands of the profile's sender; and it never goes back to an instance."""
+    wrong = data(0, 0, 0, 'hx 1 0x41', l=1).replace('source = 1;', 'source = 9;')
+    r = Run().hears(2, wrong).hears(2, '[]').take(2, [40])
+    r.hears(2, data(0, 0, 0, 'hx 1 0x41', l=1)).take(2, [41, 0, 0, 0, 0x41]).hears(2, data(0, 0, 0, 'hx 1 0x42', l=1, instance=8)).take(2, [41, 0, 0, 0, 0x42])
+    r.hears(2, data(1, 0, 0, 'hx 1 0x43', l=1)).take(2, [40])
+    return receiver_look(r, 'shown_option (λ i. i ∷ []) r.instance ++ r.left ++ at_numbers r.point', [8, 7, 1, 0, 0])
+
+
+@small
+def a_segment_of_too_many_octets():
+    """One that says more than e octets counts with e."""
+    payload = '(0 ∷ 100 ∷ hx 70 0x0000000000005a%s)' % ('5a' * 63)
+    r = Run(b=1, max_n=2).hears(2, data(0, 0, 1, payload, l=1024, flags=32, b=1, max_n=2))
+    return r.take(2, [42, 0]).take(2, [43, 0, 0, *[0x5a] * 64]).take(2, [40])
+
+
+@small
+def fitting_plans():
+    """Too far ahead, no room, not of the profile, another one than is known."""
+    r = Run(octets=256)
+    for index, keys in ((256, {}), (255, {'l': 257}), (1, {'e': 128}), (1, {'b': 5}), (1, {'max_n': 7}), (1, {'l': 0})):
+        r.hears(2, data(index, 0, 0, 'hx 1 0x41', **{'l': 1, **keys}))
+        receiver_look(r, 'map (λ (x : Plan). x.index) r.plans', [])
+    r.hears(2, data(255, 0, 0, 'hx 64 0x%s' % ('41' * 64), l=200))
+    receiver_look(r, 'map (λ (x : Plan). x.index) r.plans', [255]).hears(2, data(254, 0, 0, 'hx 57 0x%s' % ('41' * 57), l=57))
+    receiver_look(r, 'map (λ (x : Plan). x.index) r.plans', [255]).hears(2, data(254, 0, 0, 'hx 56 0x%s' % ('41' * 56), l=56))
+    receiver_look(r, 'map (λ (x : Plan). x.index) r.plans', [254, 255]).hears(2, data(254, 0, 0, 'hx 55 0x%s' % ('41' * 55), l=55))
+    r.hears(2, data(254, 0, 0, segment(0, 1), l=56, flags=32))
+    return receiver_look(r, 'flat_map (λ (h : Held). at_numbers h.at) r.held', [254, 0, 0, 255, 0, 0])
+
+
+@small
+def symbols_that_do_not_fit():
+    """No encoded symbol of its block, or not of its length; a stream's block too far ahead."""
+    r = Run(b=2, max_n=3, blocks=2).hears(2, info(0, '[]', l=129, b=2, max_n=3))
+    for block, symbol, size in ((2, 0, 64), (0, 3, 64), (0, 0, 63), (0, 2, 63), (1, 0, 64), (1, 1, 64)):
+        r.hears(2, data(0, block, symbol, 'hx %d 0x%s' % (size, '41' * size), flags=4))
+    receiver_look(r, 'flat_map (λ (h : Held). at_numbers h.at) r.held', [])
+    r.hears(2, data(0, 1, 0, 'hx 1 0x41', flags=4)).hears(2, data(0, 0, 2, 'hx 64 0x%s' % ('41' * 64), flags=4))
+    receiver_look(r, 'flat_map (λ (h : Held). at_numbers h.at) r.held', [0, 0, 2, 0, 1, 0])
+    r.hears(2, data(1, 1, 0, segment(64, 64), l=256, flags=32, b=2, max_n=3)).hears(2, data(1, 2, 0, segment(0, 64), flags=32))
+    r.hears(2, data(1, 0, 0, '(%s ++ 0 ∷ [])' % segment(0, 3), flags=32)).hears(2, data(1, 0, 2, segment(0, 63), flags=32))
+    return receiver_look(r, 'flat_map (λ (h : Held). at_numbers h.at) r.held', [0, 0, 2, 0, 1, 0, 1, 1, 0])
+
+
+@small
+def a_file_waits_for_its_info():
+    r = Run().hears(2, data(0, 0, 0, 'hx 1 0x41', l=1, flags=20)).take(2, [40]).hears(2, command('Flush', 0, 0, 0, nodes=[2]))
+    return r.tick(2, 0, [4, 1, 4, 0, 0, 0]).hears(2, info(0, '(1 ∷ 2 ∷ [])', l=1, flags=20)).take(2, [41, 0, 1, 1, 2, 1, 2, 0x41])
+
+
+@small
+def acknowledging():
+    """What is asked of this node, handed up, and nothing lost; the further of two stays."""
+    r = Run().hears(2, data(0, 0, 0, 'hx 1 0x41', l=1)).hears(2, data(1, 0, 0, 'hx 1 0x42', l=1)).take(2, [41, 0, 0, 0, 0x41]).take(2, [41, 1, 0, 0, 0x42])
+    r.hears(2, command('Flush', 0, 0, 0, nodes=[3])).tick(2, 0).hears(2, command('Flush', 1, 0, 0, nodes=[3, 2])).hears(2, command('Flush', 0, 0, 0, nodes=[2]))
+    r.tick(2, 0, [5, 1, 0, 0]).tick(2, 0).hears(2, command('Flush', 2, 0, 0, nodes=[2])).tick(2, 100000, [4, 1, 12, 2, 0, 0])
+    return r.hears(2, command('Squelch', 3, 0, 0)).take(2, [45, 2]).hears(2, command('Flush', 1, 0, 0, nodes=[2])).tick(2, 100000)
+
+
+@small
+def the_longest_prefix():
+    """Of nine needs of eight octets behind a head of four, seven fit 64 octets."""
+    r = Run().hears(2, data(9, 0, 0, 'hx 1 0x41'), 0, 5)
+    return r.tick(2, 4).tick(2, 5, [4, 1, 12, *[n for i in range(7) for n in (i, 0, 0)]]).hears(2, data(9, 0, 0, 'hx 1 0x41'), 60004).tick(2, 70000)
+
+
+@small
+def the_hold_off():
+    """K + 2 round trips after a NACK no back-off begins; a draw is taken modulo K round trips and one."""
+    r = Run().hears(2, data(1, 0, 0, 'hx 1 0x41'), 0, 40001).tick(2, 0, [4, 1, 12, 0, 0, 0]).hears(2, data(1, 0, 0, 'hx 1 0x41'), 59999, 0).tick(2, 59999)
+    return r.hears(2, data(1, 0, 0, 'hx 1 0x41'), 60000, 40000).tick(2, 99999).tick(2, 100000, [4, 1, 12, 0, 0, 0])
+
+
+@small
+def what_was_heard_is_forgotten():
+    """With the next back-off; and what is heard while none runs does not count."""
+    r = Run(**HEARD_PROFILE).hears(2, nack(3, request('Items', 12, (0, 0, 0)))).hears(2, data(1, 0, 0, 'hx 1 0x41'))
+    r.hears(2, nack(3, request('Items', 12, (0, 0, 0)))).tick(2, 0).hears(2, data(1, 0, 0, 'hx 1 0x41'), 60000, 0)
+    return r.tick(2, 60000, [4, 1, 12, 0, 0, 0])
+
+
+@small
+def needs_of_objects():
+    """Blocks before the farthest point, or at most at the flush's."""
+    r = Run(b=2, max_n=3).hears(2, data(0, 1, 0, 'hx 64 0x%s' % ('41' * 64), l=320, b=2, max_n=3))
+    r.tick(2, 0, [4, 3, 1, 0, 0, 2]).hears(2, command('Flush', 0, 1, 1), 60000, 0).tick(2, 60000, [4, 3, 1, 0, 0, 2, 0, 1, 1])
+    return r.hears(2, data(1, 0, 0, 'hx 1 0x41'), 120000, 0).tick(2, 120000, [4, 3, 1, 0, 0, 2, 0, 1, 1, 0, 2, 1])
+
+
+@small
+def needs_of_a_stream():
+    """Earlier blocks by count, the flush's and the end's block by symbols, and the rest where the end is not held."""
+    def make(block, symbol, payload):
+        return data(0, block, symbol, payload, l=2048, flags=32, b=3, max_n=4)
+    r = Run(b=3, max_n=4).hears(2, make(1, 2, segment(64 * 5, 64)), 0, 0).tick(2, 0, [4, 3, 1, 0, 0, 3])
+    r.hears(2, command('Flush', 0, 1, 1), 60000, 0).tick(2, 60000, [4, 3, 1, 0, 0, 3, 1, 1, 0, 1, 0, 0, 1, 1])
+    r.hears(2, command('Flush', 0, 1, 3), 120000, 0).tick(2, 120000, [4, 3, 1, 0, 0, 3, 1, 1, 0, 1, 0, 0, 1, 1])
+    r.hears(2, data(1, 0, 0, 'hx 1 0x41'), 180000, 0).tick(2, 180000, [4, 3, 1, 0, 0, 3, 1, 1, 0, 1, 0, 0, 1, 1, 2, 2, 0, 1, 0, 0, 16777215, 0])
+    r.hears(2, make(3, 2, segment(0, 0)), 240000, 0)
+    r.tick(2, 240000, [4, 3, 1, 0, 0, 3, 0, 1, 2, 0, 2, 3, 1, 1, 0, 1, 0, 0, 1, 1, 0, 3, 0, 0, 3, 1])
+    return r
+
+
+@small
+def the_end_of_a_stream():
+    """In the block of a held end each symbol before it is missing; a symbol stands once."""
+    def make(block, symbol, payload):
+        return data(0, block, symbol, payload, l=2048, flags=32, b=4, max_n=4)
+    r = Run(b=4, max_n=4).hears(2, make(0, 3, segment(0, 0)), 0, 0).tick(2, 0).hears(2, command('Flush', 0, 0, 1), 0, 0)
+    r.tick(2, 0, [4, 1, 1, 0, 0, 0, 0, 0, 1, 0, 0, 2]).hears(2, make(0, 0, segment(0, 64)), 60000, 0)
+    return r.tick(2, 60000, [4, 1, 1, 0, 0, 1, 0, 0, 2])
+
+
+@small
+def the_block_behind_a_whole_one():
+    """From a whole greatest block on the rest begins behind it."""
+    r = Run(**STREAM).hears(2, stream_data(0, 0, 64)).take(2, [42, 0]).take(2, [43, 0, 0, *[0x5a] * 64])
+    return r.hears(2, data(1, 0, 0, 'hx 1 0x41'), 0, 0).tick(2, 0, [4, 2, 2, 0, 1, 0, 0, 16777215, 0])

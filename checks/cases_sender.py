@@ -1,0 +1,107 @@
+"""Small runs of the sender's rules: rounds, drops, flushes, refusals."""
+from cases_asked import many_objects
+from steps import NONE, Run, command, nack, request, small
+
+
+@small
+def asked_before_it_was_there():
+    """What a NACK asks for is decided by what stood as it came."""
+    r = many_objects().hears(1, nack(2, request('Items', 12, (3, 0, 0)), request('Ranges', 8, (2, 1, 0), (4, 0, 0))), 10)
+    return r.data(1, 11, [1, 3, 1], info='(Some (9 ∷ []))').tick(1, 12).wants([2, 0, 0, 2, 0, 1, 2, 1, 0])
+
+
+@small
+def asked_of_a_stream():
+    """Only segments that were closed as the NACK came; but a count, where one was, is answered by all that are at the end."""
+    def begun():
+        r = Run(b=3, max_n=4, k=0, grtt=1, gap=1000000).job('job.Open', 0, [2, 0]).write(65, 0, [3, 0, 0, 65])
+        return r.tick(1, 0, [2, 32, 0, 0, 0])
+    r = begun().hears(1, nack(2, request('Items', 8, (0, 0, 0)), request('Erasures', 1, (0, 1, 1))), 10).write(64, 11, [3, 0, 65, 64])
+    r.tick(1, 12).wants([0, 0, 0]).hears(1, nack(2, request('Erasures', 1, (0, 0, 1))), 20).write(3, 21, [3, 0, 129, 3])
+    r.job('job.Close', 21, [4, 0]).tick(1, 22).wants([0, 0, 0, 0, 0, 3])
+    return r.hears(1, nack(2, request('Erasures', 1, (0, 1, 1)), request('Erasures', 1, (0, 0, 0))), 30).tick(1, 32).wants([0, 0, 0, 0, 0, 3, 0, 1, 0])
+
+
+@small
+def a_count_of_an_open_block():
+    """A stream's block without parity is answered by its closed segments."""
+    r = Run(b=3, max_n=4, k=0, grtt=1, gap=1000000).job('job.Open', 0, [2, 0]).write(129, 0, [3, 0, 0, 129]).tick(1, 0, [2, 32, 0, 0, 0])
+    return r.hears(1, nack(2, request('Erasures', 1, (0, 0, 1))), 10).tick(1, 12).wants([0, 0, 0, 0, 0, 1])
+
+
+@small
+def dropped_before_the_round_closed():
+    """What is not in the window any more is no want, and its item makes a squelch due."""
+    r = Run(mode='drop', window=1, k=0, grtt=1).data(1, 0, [1, 0, 1]).tick(1, 0, [2, 0, 0, 0, 0]).hears(1, nack(2, request('Items', 1, (0, 0, 0))), 10)
+    r.data(1, 10, [1, 1, 1]).tick(1, 11).wants([]).tick(1, 1000, [33, 1, 0, 0]).tick(1, 2000, [2, 0, 1, 0, 0])
+    return r.hears(1, nack(2, request('Items', 1, (1, 0, 0))), 3000).tick(1, 3001, [2, 3, 1, 0, 0]).tick(1, 9000)
+
+
+@small
+def a_want_that_is_dropped():
+    """It is removed, and a squelch is due; a new symbol that was dropped is passed over."""
+    r = Run(mode='drop', window=1, k=0, grtt=1, auto=2, gap=1000).data(256, 0, [1, 0, 256])
+    for i in range(4):
+        r.tick(1, 1000 * i, [2, 0, 0, 0, i])
+    r.hears(1, nack(2, request('Items', 1, (0, 0, 2))), 3000).tick(1, 3001).wants([0, 0, 2]).data(1, 3500, [1, 1, 1]).wants([])
+    return r.tick(1, 4000, [33, 1, 0, 0]).tick(1, 5000, [2, 0, 1, 0, 0]).tick(1, 6000)
+
+
+@small
+def the_closing_moment():
+    """K + 1 round trips after the first NACK; a second one joins and does not move it."""
+    r = Run(k=2, grtt=1000, gap=1).data(1, 0, [1, 0, 1]).tick(1, 0, [2, 0, 0, 0, 0]).hears(1, nack(2, request('Items', 1, (0, 0, 0))), 10)
+    return r.hears(1, nack(2, request('Items', 1, (0, 0, 0))), 2000).tick(1, 3009).tick(1, 3010, [2, 3, 0, 0, 0]).tick(1, 8000)
+
+
+@small
+def expiry_waits_for_the_round():
+    """After 20 flushes nothing is sent while a round is open; then the request expires, and the next has its turn."""
+    r = Run(grtt=1000, gap=1).data(1, 0, [1, 0, 1]).tick(1, 0, [2, 0, 0, 0, 0]).job('job.Mark', 0, [5, 1, 0, 0, 0]).job('job.Mark', 0, [5, 2, 0, 0, 0])
+    for i in range(20):
+        r.tick(1, 1000 + 2000 * i, [31, 0, 0, 0, 2]).tick(1, 2999 + 2000 * i)
+    r.hears(1, nack(2, request('Items', 1, (9, 0, 0))), 40000).tick(1, 41000).news([20])
+    return r.tick(1, 45000, [31, 0, 0, 0, 2]).news([22, 1, 2, 1]).look('w.sender.flushes ∷ []', [1])
+
+
+@small
+def the_count_of_flushes_and_a_round():
+    """A round that added a want makes it begin anew, and one that added none does not."""
+    r = Run(k=0, grtt=1, gap=1).data(1, 0, [1, 0, 1]).tick(1, 0, [2, 0, 0, 0, 0]).job('job.Mark', 0, [5, 1, 0, 0, 0])
+    r.tick(1, 10, [31, 0, 0, 0, 2]).tick(1, 20, [31, 0, 0, 0, 2]).look('w.sender.flushes ∷ []', [2])
+    r.hears(1, nack(2, request('Items', 1, (9, 0, 0))), 20).tick(1, 21).look('w.sender.flushes ∷ []', [2])
+    return r.hears(1, nack(2, request('Items', 1, (0, 0, 0))), 21).tick(1, 22, [2, 3, 0, 0, 0]).look('w.sender.flushes ∷ []', [0])
+
+
+@small
+def a_refused_mark_leaves_its_cut():
+    r = Run().job('job.Open', 0, [2, 0]).write(64, 0, [3, 0, 0, 64])
+    for i in range(16):
+        r.job('job.Mark', 0, [5, i + 1, 0, 0, 0])
+    r.write(3, 0, [3, 0, 64, 3]).job('job.Mark', 0, [7, 11, 16]).tick(1, 0, [2, 32, 0, 0, 0]).tick(1, 1000, [2, 32, 0, 0, 1])
+    return r.job('(job.Write [])', 1000, [7, 1]).job('(job.Data None [])', 1000, [7, 1]).tick(1, 2000, [31, 0, 0, 0, 2])
+
+
+@small
+def refusals_of_commands():
+    r = Run(octets=4096, blocks=2, window=2).job('job.Close', 0, [7, 5]).write(1, 0, [7, 5]).data(4097, 0, [7, 2, 4097])
+    r.data(1, 0, [7, 3, 65], info='(Some (hx 65 0x%s))' % ('00' * 65)).write(257, 0, [7, 2, 257]).job('job.Open', 0, [2, 0])
+    r.data(1, 0, [7, 4, 0]).job('job.Open', 0, [7, 4, 0]).write(256, 0, [3, 0, 0, 256]).write(256, 0, [3, 0, 256, 256]).write(1, 0, [7, 8, 0])
+    return r.job('job.Close', 0, [7, 8, 0])
+
+
+@small
+def a_stream_has_its_buffer():
+    r = Run(octets=511, blocks=2).job('job.Open', 0, [7, 2, 512])
+    return r
+
+
+@small
+def which_messages_a_sender_hears():
+    """A listed receiver's, to this sender and its current instance."""
+    look = 'shown_option (λ (r : Round). r.closes ∷ []) w.sender.round'
+    r = Run(k=0, grtt=1).data(1, 0, [1, 0, 1])
+    for bad in (nack(3, request('Items', 1, (0, 0, 0))), nack(2, request('Items', 1, (0, 0, 0)), instance=8), nack(2, request('Items', 1, (0, 0, 0)), sender=9),
+                command('Flush', 0, 0, 0, nodes=[2]), '[]'):
+        r.hears(1, bad).look(look, [NONE])
+    return r.hears(1, nack(2, request('Items', 1, (0, 0, 0)))).look(look, [1])

@@ -1,0 +1,94 @@
+#!/usr/bin/env python3
+"""Evaluates the definitions of the protocol (crates/*/specs) on recorded runs.
+
+    checks/definitions.py [--traces DIR] [--count N] [--safe] [--cases] [--damaged] [--errors] [--gate] [NAME ..]
+
+A recorded run is a list of events with what each gave, and where the nodes stood at its end (checks/traces). For each run
+antt computes the defined steps, event by event, and compares each answer and the end state with the record: the proof of
+the statement "they never part" is `refl`. Nothing is proved or built of the crates, and no code of theirs is run.
+
+Without a flag the runs are compared. `--safe` evaluates the tests of lawfulness and safety along each run, `--cases` the
+small runs and values of checks/cases.py, `--damaged` the tests of safety on damaged runs, and `--errors` looks whether
+each deliberate error of checks/errors.py in a definition is noticed. `--gate` compares ten runs and evaluates the cases and
+the damaged runs. NAME is a part of a run's name, and `--count N` takes N runs evenly. Exit status: 0 where all is as expected, 1 where something differs, 2 where the evaluation failed.
+"""
+import argparse, glob, json, os, re, sys, tempfile, time
+
+sys.dont_write_bytecode = True
+HERE = os.path.dirname(os.path.abspath(__file__))
+sys.path.insert(0, HERE)
+import terms                                                    # noqa: E402
+from evaluating import Failed, Workspace, found_in              # noqa: E402
+
+
+def runs_of(folder, names, count):
+    paths = sorted(p for p in glob.glob(os.path.join(folder, '*.json')) if not names or any(n in os.path.basename(p) for n in names))
+    if count and count < len(paths):
+        paths = [paths[i * len(paths) // count] for i in range(count)]
+    for p in paths:
+        run = json.load(open(p, encoding='utf-8'))
+        if 'after' in run:
+            yield os.path.basename(p)[:-5], run
+
+
+def report(name, run, text):
+    """Says where a run and its record part."""
+    m = re.match(r'\(?Some \((\d+), (.*)\)\)?$', found_in(text) or '', re.S)
+    if not m:
+        return '%s: undecided\n%s' % (name, text[:1500])
+    n, computed = int(m.group(1)), terms.read_numbers(m.group(2))
+    if n >= 1000000:
+        row, record = terms.rows(run)[n - 1000000]
+        return '%s: at the end, %s: recorded %s, defined %s' % (name, row, record, computed)
+    event = run['events'][n]
+    return '%s: event %d: %s\n    recorded %s\n    defined  %s' % (name, n, json.dumps(event)[:300], terms.answer(event), computed)
+
+
+def compare(space, runs, more=()):
+    """Compares runs, and evaluates further cases with them."""
+    said = space.evaluate([(name, *terms.run_case(name, run)) for name, run in runs] + list(more))
+    for name, run in runs:
+        if said[name]:
+            print(report(name, run, said[name]))
+    for name, *_ in more:
+        if said[name]:
+            print('%s: computed %s' % (name, found_in(said[name]) or said[name][:1500]))
+    events = sum(len(run['events']) for _, run in runs)
+    return '%d runs of %d events, %d cases' % (len(runs), events, len(more)), sum(1 for x in said.values() if x)
+
+
+def main():
+    a = argparse.ArgumentParser(description=__doc__, formatter_class=argparse.RawDescriptionHelpFormatter)
+    a.add_argument('names', nargs='*')
+    a.add_argument('--traces', default=os.path.join(HERE, 'traces'))
+    a.add_argument('--count', type=int, default=0)
+    a.add_argument('--work')
+    for flag in ('safe', 'cases', 'damaged', 'errors', 'gate'):
+        a.add_argument('--' + flag, action='store_true')
+    a = a.parse_args()
+    runs = list(runs_of(a.traces, [] if a.errors else a.names, 0 if a.gate else a.count))
+    began = time.time()
+    with tempfile.TemporaryDirectory() as scratch:
+        try:
+            space = Workspace(a.work or scratch)
+            if a.errors:
+                import errors
+                said, differ = errors.look(space, runs, a.names)
+            elif a.safe:
+                said, differ = compare(space, [], [(n, *terms.safe_case(n, r)) for n, r in runs])
+            elif a.gate or a.damaged or a.cases:
+                import cases
+                import damaged
+                more = (cases.cases() if a.gate or a.cases else []) + (damaged.cases(runs) if a.gate or a.damaged else [])
+                said, differ = compare(space, [runs[i * len(runs) // 10] for i in range(10)] if a.gate else [], more)
+            else:
+                said, differ = compare(space, runs)
+        except Failed as e:
+            print('definitions: ' + str(e)[:4000])
+            return 2
+    print('definitions: %s, %d differ, %.0f s' % (said, differ, time.time() - began))
+    return 1 if differ else 0
+
+
+if __name__ == '__main__':
+    sys.exit(main())

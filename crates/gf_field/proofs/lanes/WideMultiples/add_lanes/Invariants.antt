@@ -1,0 +1,13 @@
+use Rattle.std.proofs.Common.{◌-◌, ◌≤◌, ℕ, length}
+use Rattle.gf_field.specs.Lanes.{HasProducts, IsAdded}
+use Rattle.gf_field.proofs.lanes.WideMultiples.add_lanes.Given as goal
+
+abbrev pub invariant-loop-dst : goal.invariant-loop-dst
+invariant-loop-dst l = record {
+  begun : 0 ≤ l.at;
+  within : l.at ≤ length l.dst;
+  added : (k : ℕ) → HasProducts 64 k l.self.low l.self.high → IsAdded k 0 l.at l.fn.dst l.src l.dst;
+}
+
+abbrev pub decreases-loop-dst : goal.decreases-loop-dst
+decreases-loop-dst l = length l.dst - l.at

@@ -1,0 +1,248 @@
+//! Lanes of octets, each times one factor: both halves of an octet are looked up in tables of sixteen products.
+
+ghost use Rattle.std.specs.Prelude.{ℕ, ◌≡◌, ◌<◌, ◌≤◌, ◌+◌, ◌-◌, ◌%◌, [], ◌∷◌, ◌++◌, length, map, replicate, slice_index};
+ghost use Rattle.gf_field.specs.Product.{product, shift};
+ghost use Rattle.gf_field.specs.Lanes.{HasSums, HasProducts, IsAdded};
+
+use std::simd::prelude::*;
+
+/// All ones in each lane whose number has bit 0.
+const LANES_WITH_1: [u8; 16] = [
+    0, 255, 0, 255, 0, 255, 0, 255, 0, 255, 0, 255, 0, 255, 0, 255,
+];
+
+/// All ones in each lane whose number has bit 1.
+const LANES_WITH_2: [u8; 16] = [
+    0, 0, 255, 255, 0, 0, 255, 255, 0, 0, 255, 255, 0, 0, 255, 255,
+];
+
+/// All ones in each lane whose number has bit 2.
+const LANES_WITH_4: [u8; 16] = [
+    0, 0, 0, 0, 255, 255, 255, 255, 0, 0, 0, 0, 255, 255, 255, 255,
+];
+
+/// All ones in each lane whose number has bit 3.
+const LANES_WITH_8: [u8; 16] = [
+    0, 0, 0, 0, 0, 0, 0, 0, 255, 255, 255, 255, 255, 255, 255, 255,
+];
+
+/// The numbers of sixteen lanes, four times over.
+const FOUR_TIMES: [usize; 64] = [
+    0, 1, 2, 3, 4, 5, 6, 7, 8, 9, 10, 11, 12, 13, 14, 15, 0, 1, 2, 3, 4, 5, 6, 7, 8, 9, 10, 11, 12,
+    13, 14, 15, 0, 1, 2, 3, 4, 5, 6, 7, 8, 9, 10, 11, 12, 13, 14, 15, 0, 1, 2, 3, 4, 5, 6, 7, 8, 9,
+    10, 11, 12, 13, 14, 15,
+];
+
+/// Sixteen zeros and sixteen times all ones.
+const EDGE: [u8; 32] = [
+    0, 0, 0, 0, 0, 0, 0, 0, 0, 0, 0, 0, 0, 0, 0, 0, 255, 255, 255, 255, 255, 255, 255, 255, 255,
+    255, 255, 255, 255, 255, 255, 255,
+];
+
+/// The products of one octet with 0 to 15, and with 16 times 0 to 15.
+#[derive(Clone, Copy, Drop)]
+pub struct Multiples {
+    low: u8x16,
+    high: u8x16,
+}
+
+/// The products of one octet, four times over.
+#[derive(Clone, Copy, Drop)]
+struct WideMultiples {
+    low: u8x64,
+    high: u8x64,
+}
+
+/// The octet times x: shifted by one place and reduced.
+#[inline(always)]
+#[tactic(auto, using(crate::proofs::Octets::shift_parts))]
+pub fn double(a: u8) -> u8
+    ensures { result ≡ shift a }
+{
+    (a % 128 * 2) ^ (a / 128 * 29)
+}
+
+/// In lane i, the sum of those of the four octets whose bit is set in i.
+#[inline(always)]
+fn sums_at_bits(a: u8, b: u8, c: u8, d: u8) -> u8x16
+    ensures { HasSums (a ∷ b ∷ c ∷ d ∷ []) result }
+{
+    let first = u8x16::from_array(LANES_WITH_1) & u8x16::splat(a);
+    let second = u8x16::from_array(LANES_WITH_2) & u8x16::splat(b);
+    let third = u8x16::from_array(LANES_WITH_4) & u8x16::splat(c);
+    let fourth = u8x16::from_array(LANES_WITH_8) & u8x16::splat(d);
+    (first ^ second) ^ (third ^ fourth)
+}
+
+/// The tables of the products of `c`: its doublings, under the masks of the lanes' bits.
+#[inline(always)]
+#[tactic(auto, using(crate::proofs::LaneLemmas::tables_from))]
+pub fn multiples_of(c: u8) -> Multiples
+    ensures { HasProducts 16 c result.low result.high }
+{
+    let c2 = double(c);
+    let c4 = double(c2);
+    let c8 = double(c4);
+    let c16 = double(c8);
+    let c32 = double(c16);
+    let c64 = double(c32);
+    Multiples {
+        low: sums_at_bits(c, c2, c4, c8),
+        high: sums_at_bits(c16, c32, c64, double(c64)),
+    }
+}
+
+/// A vector of sixteen lanes, four times over.
+#[inline(always)]
+fn four_times(lanes: u8x16) -> u8x64
+    ensures { (i : ℕ) → i < 64 → slice_index result i ≡ slice_index lanes (i % 16) }
+{
+    lanes.swizzle(FOUR_TIMES)
+}
+
+/// All ones in the last `count` of sixteen lanes, and zeros before them.
+#[inline(always)]
+fn last_lanes(count: usize) -> u8x16
+    requires { count < 16 }
+    ensures len { length result ≡ 16 }
+    ensures zeros { (i : ℕ) → i + count < 16 → slice_index result i ≡ 0 }
+    ensures ones { (i : ℕ) → i < 16 → 16 ≤ i + count → slice_index result i ≡ 255 }
+{
+    u8x16::from_slice(&EDGE[count..])
+}
+
+impl Multiples {
+    #[inline(always)]
+    fn widened(&self) -> WideMultiples
+        ensures { (c : ℕ) → HasProducts 16 c self.now.low self.now.high → HasProducts 64 c result.low result.high }
+    {
+        WideMultiples {
+            low: four_times(self.low),
+            high: four_times(self.high),
+        }
+    }
+
+    /// Each lane times the octet whose products these are.
+    #[inline(always)]
+    fn times(&self, lanes: u8x16) -> u8x16
+        ensures { (c : ℕ) → HasProducts 16 c self.now.low self.now.high → result ≡ map (product c) lanes }
+    {
+        self.low.swizzle_dyn(lanes & u8x16::splat(15))
+            ^ self.high.swizzle_dyn(lanes >> u8x16::splat(4))
+    }
+
+    /// Adds sixteen products from `at` on.
+    #[inline(always)]
+    fn add_lane(&self, dst: &mut [u8], src: &[u8], at: usize)
+        requires room { at + 16 ≤ length dst.old }
+        requires same { length dst.old ≡ length src.now }
+        ensures { (c : ℕ) → HasProducts 16 c self.now.low self.now.high → IsAdded c at (at + 16) dst.old src.now dst.new }
+    {
+        let sum = u8x16::from_slice(&dst[at..]) ^ self.times(u8x16::from_slice(&src[at..]));
+        sum.copy_to_slice(&mut dst[at..]);
+    }
+}
+
+impl WideMultiples {
+    /// Each lane times the octet whose products these are.
+    #[inline(always)]
+    fn times(&self, lanes: u8x64) -> u8x64
+        ensures { (c : ℕ) → HasProducts 64 c self.now.low self.now.high → result ≡ map (product c) lanes }
+    {
+        self.low.swizzle_dyn_within::<16>(lanes & u8x64::splat(15))
+            ^ self.high.swizzle_dyn_within::<16>(lanes >> u8x64::splat(4))
+    }
+
+    /// Adds 64 products from `at` on.
+    #[inline(always)]
+    fn add_lane(&self, dst: &mut [u8], src: &[u8], at: usize)
+        requires room { at + 64 ≤ length dst.old }
+        requires same { length dst.old ≡ length src.now }
+        ensures { (c : ℕ) → HasProducts 64 c self.now.low self.now.high → IsAdded c at (at + 64) dst.old src.now dst.new }
+    {
+        let sum = u8x64::from_slice(&dst[at..]) ^ self.times(u8x64::from_slice(&src[at..]));
+        sum.copy_to_slice(&mut dst[at..]);
+    }
+
+    /// Adds the products in lanes of 64 octets, and says where fewer than 64 are left.
+    fn add_lanes(&self, dst: &mut [u8], src: &[u8]) -> usize
+        requires { length dst.old ≡ length src.now }
+        ensures within { result ≤ length dst.old }
+        ensures added { (c : ℕ) → HasProducts 64 c self.now.low self.now.high → IsAdded c 0 result dst.old src.now dst.new }
+    {
+        let mut at = 0;
+        while dst.len() - at >= 64 {
+            self.add_lane(dst, src, at);
+            at += 64;
+        }
+        at
+    }
+}
+
+impl Multiples {
+    /// Adds the products from `from` on in lanes of sixteen octets, and says where fewer than sixteen are left.
+    fn add_lanes(&self, dst: &mut [u8], src: &[u8], from: usize) -> usize
+        requires same { length dst.old ≡ length src.now }
+        requires begins { from ≤ length dst.old }
+        ensures within { result ≤ length dst.old }
+        ensures on { from ≤ result }
+        ensures few { length dst.old < result + 16 }
+        ensures added { (c : ℕ) → HasProducts 16 c self.now.low self.now.high → IsAdded c from result dst.old src.now dst.new }
+    {
+        let mut at = from;
+        while dst.len() - at >= 16 {
+            self.add_lane(dst, src, at);
+            at += 16;
+        }
+        at
+    }
+
+    /// Adds the products from `at` on, fewer than sixteen, in the lane of the last sixteen octets: the products of those
+    /// before `at` are masked.
+    fn add_last_lane(&self, dst: &mut [u8], src: &[u8], at: usize)
+        requires same { length dst.old ≡ length src.now }
+        requires long { 16 ≤ length dst.old }
+        requires begins { at ≤ length dst.old }
+        requires few { length dst.old < at + 16 }
+        ensures { (c : ℕ) → HasProducts 16 c self.now.low self.now.high → IsAdded c at (length dst.old) dst.old src.now dst.new }
+    {
+        let start = dst.len() - 16;
+        let products = self.times(u8x16::from_slice(&src[start..])) & last_lanes(dst.len() - at);
+        let sum = u8x16::from_slice(&dst[start..]) ^ products;
+        sum.copy_to_slice(&mut dst[start..]);
+    }
+
+    /// Adds the products of fewer than sixteen octets, in a lane that is padded with zeros.
+    fn add_few(&self, dst: &mut [u8], src: &[u8])
+        requires same { length dst.old ≡ length src.now }
+        requires few { length dst.old < 16 }
+        ensures { (c : ℕ) → HasProducts 16 c self.now.low self.now.high → IsAdded c 0 (length dst.old) dst.old src.now dst.new }
+    {
+        let sums = (padded(dst) ^ self.times(padded(src))).to_array();
+        dst.copy_from_slice(&sums[..dst.len()]);
+    }
+
+    /// Adds the products of all octets.
+    pub fn add_all(&self, dst: &mut [u8], src: &[u8])
+        requires { length dst.old ≡ length src.now }
+        ensures { (c : ℕ) → HasProducts 16 c self.now.low self.now.high → IsAdded c 0 (length dst.old) dst.old src.now dst.new }
+    {
+        if dst.len() < 16 {
+            self.add_few(dst, src);
+            return;
+        }
+        let at = self.widened().add_lanes(dst, src);
+        let at = self.add_lanes(dst, src, at);
+        self.add_last_lane(dst, src, at);
+    }
+}
+
+/// Fewer than sixteen octets, and zeros behind them.
+fn padded(octets: &[u8]) -> u8x16
+    requires { length octets.now < 16 }
+    ensures { result ≡ octets.now ++ replicate (16 - length octets.now) 0 }
+{
+    let mut lane = [0; 16];
+    lane[..octets.len()].copy_from_slice(octets);
+    u8x16::from_array(lane)
+}

@@ -1,0 +1,3 @@
+pub mod View
+pub mod CanWrite
+pub mod SymbolOctets

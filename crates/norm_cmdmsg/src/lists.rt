@@ -1,0 +1,119 @@
+//! Lists of numbers: node ids of 32 bits, object transport ids of 16.
+
+ghost use Rattle.std.specs.Prelude.{◌≡◌, ◌%◌, [], ◌∷◌, MatchOption, length};
+ghost use Rattle.norm_ext.specs.Lists.{nodes_of as all_nodes, objects_of as all_objects};
+
+use norm_ext::{read_16, read_32};
+use std::marker::Model;
+
+/// The node ids of a list that are left, in their order.
+#[derive(Debug, Drop)]
+pub struct Nodes<'a> {
+    list: &'a [u8],
+}
+
+impl<'a> Model for Nodes<'a> {
+    ghost use Rattle.std.specs.Prelude.{ℕ, List, ◌≡◌, ◌%◌, length};
+    ghost use Rattle.norm_ext.specs.Lists.{nodes_of as all_nodes};
+
+    ghost Value = { List ℕ };
+
+    ghost view = { λ n. all_nodes n.list.now };
+
+    ghost invariant = { λ n. length n.list.now % 4 ≡ 0 };
+}
+
+/// The node ids of a list whose length is a multiple of 4.
+pub fn nodes_of(list: &[u8]) -> Nodes<'_>
+    requires { length list.now % 4 ≡ 0 }
+    ensures { result ≡ all_nodes list.now }
+{
+    Nodes { list }
+}
+
+/// The first node id of a list, and the list behind it.
+fn cut_node(list: &[u8]) -> Option<(u32, &[u8])>
+    requires { length list.now % 4 ≡ 0 }
+    ensures { MatchOption result
+        (all_nodes list.now ≡ [])
+        (λ x. (all_nodes list.now ≡ x.0 ∷ all_nodes x.1.now) × (length x.1.now % 4 ≡ 0)) }
+{
+    if list.is_empty() {
+        return None;
+    }
+    Some((read_32(list, 0), list.split_at(4).1))
+}
+
+impl<'a> Iterator for Nodes<'a> {
+    ghost use Rattle.std.specs.Prelude.{slice_get, drop, length};
+    ghost use Rattle.std.specs.Iterator.{at_most};
+
+    type Item = u32;
+
+    ghost remaining = { λ list. at_most (length list) };
+
+    ghost next_gives = { λ old given new. (given ≡ slice_get old 0) × (new ≡ drop 1 old) };
+
+    /// The next node id.
+    fn next(&mut self) -> Option<u32> {
+        let (node, rest) = cut_node(self.list)?;
+        self.list = rest;
+        Some(node)
+    }
+}
+
+/// The object transport ids of a list that are left, in their order.
+#[derive(Debug, Drop)]
+pub struct Objects<'a> {
+    list: &'a [u8],
+}
+
+impl<'a> Model for Objects<'a> {
+    ghost use Rattle.std.specs.Prelude.{ℕ, List, ◌≡◌, ◌%◌, length};
+    ghost use Rattle.norm_ext.specs.Lists.{objects_of as all_objects};
+
+    ghost Value = { List ℕ };
+
+    ghost view = { λ n. all_objects n.list.now };
+
+    ghost invariant = { λ n. length n.list.now % 2 ≡ 0 };
+}
+
+/// The object transport ids of a list whose length is a multiple of 2.
+pub fn objects_of(list: &[u8]) -> Objects<'_>
+    requires { length list.now % 2 ≡ 0 }
+    ensures { result ≡ all_objects list.now }
+{
+    Objects { list }
+}
+
+/// The first object transport id of a list, and the list behind it.
+fn cut_object(list: &[u8]) -> Option<(u16, &[u8])>
+    requires { length list.now % 2 ≡ 0 }
+    ensures { MatchOption result
+        (all_objects list.now ≡ [])
+        (λ x. (all_objects list.now ≡ x.0 ∷ all_objects x.1.now) × (length x.1.now % 2 ≡ 0)) }
+{
+    if list.is_empty() {
+        return None;
+    }
+    Some((read_16(list, 0), list.split_at(2).1))
+}
+
+impl<'a> Iterator for Objects<'a> {
+    ghost use Rattle.std.specs.Prelude.{slice_get, drop, length};
+    ghost use Rattle.std.specs.Iterator.{at_most};
+
+    type Item = u16;
+
+    ghost remaining = { λ list. at_most (length list) };
+
+    ghost next_gives = { λ old given new. (given ≡ slice_get old 0) × (new ≡ drop 1 old) };
+
+    /// The next object transport id.
+    fn next(&mut self) -> Option<u16> {
+        let (object, rest) = cut_object(self.list)?;
+        self.list = rest;
+        Some(object)
+    }
+}

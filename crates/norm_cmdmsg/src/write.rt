@@ -1,0 +1,193 @@
+//! Writing of commands (RFC 5740 section 4.2.3).
+
+ghost use Rattle.std.specs.Prelude.{◌≡◌, ◌+◌, ◌≤◌, ◌<◌, ◌%◌, ◌++◌, [], length};
+ghost use Rattle.norm_ext.specs.Octets.{octets_of, front_octets, command_octets};
+ghost use Rattle.norm_ext.specs.Message.{Flush, Eot, Squelch, RepairAdv, AckReq, Opaque};
+ghost use Rattle.norm_ext.specs.Extensions.{extensions_of};
+ghost use Rattle.norm_ext.specs.Requests.{requests_of, IsRequests};
+ghost use Rattle.norm_ext.specs.Lists.{nodes_of, objects_of};
+ghost use Rattle.norm_cmdmsg.specs.View.{command_of};
+ghost use Rattle.norm_cmdmsg.specs.CanWrite.{CanWrite, IsNarrow, HasRoom, IsUnread};
+ghost use Rattle.norm_cmdmsg.specs.SymbolOctets.{symbol_octets};
+
+use crate::command::CommandMsg;
+use fec_plan::PayloadId;
+use norm_base::Datagram;
+use norm_ext::header::ENCODING_ID;
+use norm_ext::pushing::{push_16, push_command_head, push_front, push_name};
+use norm_ext::{CmdHead, MessageType, SubType};
+
+/// Writes the common header and the fields that a command begins with.
+fn push_head(head: &CmdHead, words: u8, sub_type: u8, out: &mut Datagram)
+    requires empty { out.old ≡ [] }
+    requires head { IsNarrow head.now }
+    ensures { out.new ≡ front_octets 3 words head.now.sequence head.now.source ++ command_octets head.now sub_type }
+{
+    push_front(
+        MessageType::Command.number(),
+        words,
+        head.sequence,
+        head.source,
+        out,
+    );
+    push_command_head(head, sub_type, out);
+}
+
+/// Adds the FEC Encoding ID, an object and a symbol of it.
+fn push_symbol(object: u16, id: &PayloadId, out: &mut Datagram)
+    requires { length out.old + 7 ≤ 1500 }
+    ensures { out.new ≡ out.old ++ symbol_octets object id.now }
+{
+    out.push(&[ENCODING_ID]);
+    push_16(object, out);
+    push_name(id, out);
+}
+
+/// Writes a FLUSH.
+fn write_flush(
+    head: &CmdHead,
+    object: u16,
+    id: &PayloadId,
+    exts: &[u8],
+    nodes: &[u8],
+    out: &mut Datagram,
+)
+    requires empty { out.old ≡ [] }
+    requires head { IsNarrow head.now }
+    requires room { HasRoom 20 exts.now nodes.now }
+    requires whole { length nodes.now % 4 ≡ 0 }
+    ensures { out.new ≡ octets_of (Flush (record { head = head.now; object = object; id = id.now; extensions = extensions_of exts.now; nodes = nodes_of nodes.now })) }
+{
+    let words = (5 + exts.len() / 4) as u8;
+    push_head(head, words, SubType::Flush.number(), out);
+    push_symbol(object, id, out);
+    out.push(exts);
+    out.push(nodes);
+}
+
+/// Writes an EOT.
+fn write_eot(head: &CmdHead, exts: &[u8], out: &mut Datagram)
+    requires empty { out.old ≡ [] }
+    requires head { IsNarrow head.now }
+    requires room { HasRoom 16 exts.now [] }
+    ensures { out.new ≡ octets_of (Eot (record { head = head.now; extensions = extensions_of exts.now })) }
+{
+    let words = (4 + exts.len() / 4) as u8;
+    push_head(head, words, SubType::EndOfTransmission.number(), out);
+    out.push(&[0; 3]);
+    out.push(exts);
+}
+
+/// Writes a SQUELCH.
+fn write_squelch(
+    head: &CmdHead,
+    object: u16,
+    id: &PayloadId,
+    exts: &[u8],
+    invalid: &[u8],
+    out: &mut Datagram,
+)
+    requires empty { out.old ≡ [] }
+    requires head { IsNarrow head.now }
+    requires room { HasRoom 20 exts.now invalid.now }
+    requires whole { length invalid.now % 2 ≡ 0 }
+    ensures { out.new ≡ octets_of (Squelch (record { head = head.now; object = object; id = id.now; extensions = extensions_of exts.now; invalid = objects_of invalid.now })) }
+{
+    let words = (5 + exts.len() / 4) as u8;
+    push_head(head, words, SubType::Squelch.number(), out);
+    push_symbol(object, id, out);
+    out.push(exts);
+    out.push(invalid);
+}
+
+/// Writes a REPAIR_ADV.
+fn write_repair_adv(head: &CmdHead, flags: u8, exts: &[u8], requests: &[u8], out: &mut Datagram)
+    requires empty { out.old ≡ [] }
+    requires head { IsNarrow head.now }
+    requires room { HasRoom 16 exts.now requests.now }
+    requires whole { IsRequests requests.now }
+    ensures { out.new ≡ octets_of (RepairAdv (record { head = head.now; flags = flags; extensions = extensions_of exts.now; requests = requests_of requests.now })) }
+{
+    let words = (4 + exts.len() / 4) as u8;
+    push_head(head, words, SubType::RepairAdvertisement.number(), out);
+    out.push(&[flags, 0, 0]);
+    out.push(exts);
+    out.push(requests);
+}
+
+/// Writes an ACK_REQ.
+fn write_ack_req(
+    head: &CmdHead,
+    ack_type: u8,
+    ack_id: u8,
+    exts: &[u8],
+    nodes: &[u8],
+    out: &mut Datagram,
+)
+    requires empty { out.old ≡ [] }
+    requires head { IsNarrow head.now }
+    requires room { HasRoom 16 exts.now nodes.now }
+    requires whole { length nodes.now % 4 ≡ 0 }
+    ensures { out.new ≡ octets_of (AckReq (record { head = head.now; ack_type = ack_type; ack_id = ack_id; extensions = extensions_of exts.now; nodes = nodes_of nodes.now })) }
+{
+    let words = (4 + exts.len() / 4) as u8;
+    push_head(head, words, SubType::AckRequest.number(), out);
+    out.push(&[0, ack_type, ack_id]);
+    out.push(exts);
+    out.push(nodes);
+}
+
+/// Writes a command that is not read.
+fn write_opaque(head: &CmdHead, sub_type: u8, words: u8, rest: &[u8], out: &mut Datagram)
+    requires empty { out.old ≡ [] }
+    requires head { IsNarrow head.now }
+    requires room { IsUnread sub_type words rest.now }
+    ensures { out.new ≡ octets_of (Opaque (record { head = head.now; sub_type = sub_type; words = words; rest = rest.now })) }
+{
+    push_head(head, words, sub_type, out);
+    out.push(rest);
+}
+
+/// Writes the command into the empty datagram: the octets that spell it, with zeros in the reserved places.
+pub fn write_command(msg: &CommandMsg<'_>, out: &mut Datagram)
+    requires empty { out.old ≡ [] }
+    requires message { CanWrite msg.now }
+    ensures { out.new ≡ octets_of (command_of msg.now) }
+{
+    match msg {
+        CommandMsg::Flush {
+            head,
+            object,
+            id,
+            exts,
+            nodes,
+        } => write_flush(head, *object, id, exts, nodes, out),
+        CommandMsg::Eot { head, exts } => write_eot(head, exts, out),
+        CommandMsg::Squelch {
+            head,
+            object,
+            id,
+            exts,
+            invalid,
+        } => write_squelch(head, *object, id, exts, invalid, out),
+        CommandMsg::RepairAdv {
+            head,
+            flags,
+            exts,
+            requests,
+        } => write_repair_adv(head, *flags, exts, requests, out),
+        CommandMsg::AckReq {
+            head,
+            ack_type,
+            ack_id,
+            exts,
+            nodes,
+        } => write_ack_req(head, *ack_type, *ack_id, exts, nodes, out),
+        CommandMsg::Opaque {
+            head,
+            sub_type,
+            words,
+            rest,
+        } => write_opaque(head, *sub_type, *words, rest, out),
+    }
+}

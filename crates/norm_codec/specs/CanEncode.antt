@@ -1,0 +1,21 @@
+-- Which messages can be written.
+use Rattle.std.specs.Prelude.{ℕ, ◌+◌, ◌*◌, ◌≤◌, List, length}
+use Rattle.norm_objmsg.specs.CanWriteMessage.{CanWrite as CanWriteObject}
+use Rattle.norm_cmdmsg.specs.CanWrite.{CanWrite as CanWriteCommand}
+use Rattle.norm_fbmsg.specs.CanWrite.{CanWriteNack, CanWriteAck}
+use Rattle.norm_codec.specs.declared.message.Message.{Message}
+use Rattle.norm_codec.specs.declared.message.Message.TheVariants as lent
+
+-- a report whose header its octets have
+pub record IsReport (words : ℕ) (rest : List ℕ) : Type 0 where
+  pub least : 2 ≤ words
+  pub header : 4 * words ≤ 8 + length rest
+  pub most : 8 + length rest ≤ 1500
+
+abbrev pub CanEncode : Message → Type 0
+CanEncode (lent.Info m) = CanWriteObject 16 m.head m.exts.now m.info.now
+CanEncode (lent.Data m) = CanWriteObject 20 m.head m.exts.now m.payload.now
+CanEncode (lent.Command m) = CanWriteCommand m
+CanEncode (lent.Nack m) = CanWriteNack m
+CanEncode (lent.Ack m) = CanWriteAck m
+CanEncode (lent.Report source sequence words rest) = IsReport words rest.now

@@ -1,0 +1,92 @@
+//! Reading of any message.
+
+ghost use Rattle.std.specs.Prelude.{◌≡◌, ◌≤◌, Ok, Err, MatchResult, IfOk, IfErr, length};
+ghost use Rattle.norm_ext.specs.Message.{Message as Meaning};
+ghost use Rattle.norm_ext.specs.Spells.{Spells};
+ghost use Rattle.norm_ext.specs.Reading.{decoded, report_read, read_as, known_type};
+ghost use Rattle.norm_codec.specs.View.{message_of};
+
+use crate::message::Message;
+use norm_cmdmsg::read_command;
+use norm_ext::header::{check_header, check_source, check_version};
+use norm_ext::{MessageType, Refusal, read_16};
+use norm_fbmsg::{read_ack, read_nack};
+use norm_objmsg::grammar::{read_data, read_info};
+
+/// The report that the octets spell, or the first refusal.
+#[tactic(auto, unfolding(norm_ext::specs::Reading::report_read))]
+fn read_report(bytes: &[u8]) -> Result<Message<'_>, Refusal>
+    ensures { MatchResult result (λ m. report_read bytes.now ≡ Ok (message_of m)) (λ refusal. report_read bytes.now ≡ Err refusal) }
+{
+    check_header(MessageType::Report, bytes)?;
+    let source = check_source(bytes)?;
+    Ok(Message::Report {
+        source,
+        sequence: read_16(bytes, 2),
+        words: bytes[1],
+        rest: bytes.split_at(8).1,
+    })
+}
+
+/// The type that the octets name.
+fn read_type(bytes: &[u8]) -> Result<MessageType, Refusal>
+    requires { 8 ≤ length bytes.now }
+    ensures { result ≡ known_type bytes.now }
+{
+    let t = bytes[0] % 16;
+    match MessageType::of(t) {
+        Some(kind) => Ok(kind),
+        None => Err(Refusal::BadType { t }),
+    }
+}
+
+/// The message of this type that the octets spell, or the first refusal.
+fn read_message(kind: MessageType, bytes: &[u8]) -> Result<Message<'_>, Refusal>
+    ensures { MatchResult result (λ m. read_as kind bytes.now ≡ Ok (message_of m)) (λ refusal. read_as kind bytes.now ≡ Err refusal) }
+{
+    match kind {
+        MessageType::Info => match read_info(bytes) {
+            Ok(msg) => Ok(Message::Info(msg)),
+            Err(refusal) => Err(refusal),
+        },
+        MessageType::Data => match read_data(bytes) {
+            Ok(msg) => Ok(Message::Data(msg)),
+            Err(refusal) => Err(refusal),
+        },
+        MessageType::Command => match read_command(bytes) {
+            Ok(msg) => Ok(Message::Command(msg)),
+            Err(refusal) => Err(refusal),
+        },
+        MessageType::Nack => match read_nack(bytes) {
+            Ok(msg) => Ok(Message::Nack(msg)),
+            Err(refusal) => Err(refusal),
+        },
+        MessageType::Ack => match read_ack(bytes) {
+            Ok(msg) => Ok(Message::Ack(msg)),
+            Err(refusal) => Err(refusal),
+        },
+        MessageType::Report => read_report(bytes),
+    }
+}
+
+/// Reads by the type.
+#[tactic(auto, unfolding(norm_ext::specs::Reading::decoded))]
+fn read_any(bytes: &[u8]) -> Result<Message<'_>, Refusal>
+    ensures { MatchResult result (λ m. decoded bytes.now ≡ Ok (message_of m)) (λ refusal. decoded bytes.now ≡ Err refusal) }
+{
+    check_version(bytes)?;
+    let kind = read_type(bytes)?;
+    read_message(kind, bytes)
+}
+
+/// The message that the octets spell, or the first thing that is wrong with them.
+pub fn decode(bytes: &[u8]) -> Result<Message<'_>, Refusal>
+    // It is what the grammar's reading gives.
+    ensures exact { MatchResult result (λ m. decoded bytes.now ≡ Ok (message_of m)) (λ refusal. decoded bytes.now ≡ Err refusal) }
+    // A message that is given is spelled by the octets.
+    ensures found { IfOk result (λ m. Spells (message_of m) bytes.now) }
+    // Octets that are refused spell no message.
+    ensures none { IfErr result (λ refusal. (m : Meaning) → Spells m bytes.now → ⊥) }
+{
+    read_any(bytes)
+}

@@ -1,0 +1,47 @@
+//! Writing of any message.
+
+ghost use Rattle.std.specs.Prelude.{◌≡◌, []};
+ghost use Rattle.norm_ext.specs.Message.{Report};
+ghost use Rattle.norm_ext.specs.Octets.{octets_of};
+ghost use Rattle.norm_codec.specs.View.{message_of};
+ghost use Rattle.norm_codec.specs.CanEncode.{CanEncode, IsReport};
+
+use crate::message::Message;
+use norm_base::{Datagram, NodeId};
+use norm_cmdmsg::write_command;
+use norm_ext::MessageType;
+use norm_ext::pushing::push_front;
+use norm_fbmsg::{write_ack, write_nack};
+use norm_objmsg::grammar::{write_data, write_info};
+
+/// Writes a report.
+fn write_report(source: NodeId, sequence: u16, words: u8, rest: &[u8], out: &mut Datagram)
+    requires empty { out.old ≡ [] }
+    requires room { IsReport words rest.now }
+    ensures { out.new ≡ octets_of (Report (record { source = source; sequence = sequence; words = words; rest = rest.now })) }
+{
+    push_front(MessageType::Report.number(), words, sequence, source, out);
+    out.push(rest);
+}
+
+/// Writes the message into the empty datagram: the octets that spell it, with zeros in the reserved places and the
+/// time stamps.
+pub fn encode(msg: &Message<'_>, out: &mut Datagram)
+    requires empty { out.old ≡ [] }
+    requires message { CanEncode msg.now }
+    ensures { out.new ≡ octets_of (message_of msg.now) }
+{
+    match msg {
+        Message::Info(m) => write_info(m, out),
+        Message::Data(m) => write_data(m, out),
+        Message::Command(m) => write_command(m, out),
+        Message::Nack(m) => write_nack(m, out),
+        Message::Ack(m) => write_ack(m, out),
+        Message::Report {
+            source,
+            sequence,
+            words,
+            rest,
+        } => write_report(*source, *sequence, *words, rest, out),
+    }
+}

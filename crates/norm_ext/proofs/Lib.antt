@@ -1,0 +1,11 @@
+pub mod PieceLemmas
+pub mod ExtensionLemmas
+pub mod NumberLemmas
+pub mod RequestLemmas
+pub mod MessageLemmas
+pub mod Takes
+pub mod ReadIsSpelled
+pub mod AgainLemmas
+pub mod Again
+pub mod SpelledIsRead
+pub mod LawsHold

@@ -1,0 +1,12 @@
+use Rattle.std.proofs.Common.{◌≡◌, ◌<◌, length, rules, arith}
+use Rattle.norm_ext.proofs.ExtensionLemmas.{checks_on}
+use Rattle.norm_ext.proofs.extensions.check_list.Goals as goal
+
+pub loop-rest-preserved : goal.loop-rest-preserved
+loop-rest-preserved c =
+    let some : 0 < length c.loop-rest.rest.now = search rules in
+    let k = c.in_ok-len.ensures in
+    record {
+      so_far = rw (c.split_at.ensures.back, k.1) (checks_on c.args.from c.args.words.now c.loop-rest.rest.now c.loop-rest.at some k.0 c.loop-rest.invariant.so_far);
+      place = omega (arith, c.split_at.ensures.back_len);
+    }

@@ -1,0 +1,26 @@
+-- What is promised of the grammar.
+use Rattle.std.specs.Prelude.{◌≡◌, ◌<◌, ℕ, List, slice_index, Ok}
+use Rattle.norm_ext.specs.Message.{Message}
+use Rattle.norm_ext.specs.Octets.{octets_of}
+use Rattle.norm_ext.specs.Reading.{decoded}
+use Rattle.norm_ext.specs.Spells.{Spells, IsMessage}
+
+-- each of them is an octet
+abbrev pub AreOctets : List ℕ → Type 0
+AreOctets octets = (i : ℕ) → slice_index octets i < 256
+
+-- what is read of octets is spelled by them
+abbrev pub ReadIsSpelled : Type 0
+ReadIsSpelled = (m : Message) (octets : List ℕ) → AreOctets octets → decoded octets ≡ Ok m → Spells m octets
+
+-- what octets spell is read of them
+abbrev pub SpelledIsRead : Type 0
+SpelledIsRead = (m : Message) (octets : List ℕ) → Spells m octets → decoded octets ≡ Ok m
+
+-- octets spell at most one message
+abbrev pub SpellsOne : Type 0
+SpellsOne = (m n : Message) (octets : List ℕ) → Spells m octets → Spells n octets → m ≡ n
+
+-- a message whose fields fit is read again of its octets
+abbrev pub ReadAgain : Type 0
+ReadAgain = (m : Message) → IsMessage m → decoded (octets_of m) ≡ Ok m

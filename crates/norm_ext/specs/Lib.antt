@@ -1,0 +1,15 @@
+pub mod Numbers
+pub mod Steps
+pub mod Pieces
+pub mod Extensions
+pub mod Requests
+pub mod RequestView
+pub mod Lists
+pub mod Segment
+pub mod Message
+pub mod Octets
+pub mod Reading
+pub mod ObjectIds
+pub mod Asking
+pub mod Spells
+pub mod Laws

@@ -1,0 +1,129 @@
+//! Header extensions (RFC 5740 section 4.1): a list of them, and a walk over it.
+
+ghost use Rattle.std.specs.Prelude.{◌≡◌, ◌+◌, ◌≤◌, ◌<◌, ◌^◌, [], ◌∷◌, MatchOption, MatchResult, OnOk, length, drop, take};
+ghost use Rattle.norm_ext.specs.Extensions.{extensions_of, extensions_checked, extension_checked, extension_length, extension_of, content_at as content_place, IsChecked};
+
+use crate::refusal::ExtFault;
+use std::marker::Model;
+
+/// The first type of the extensions that are one word and say no length.
+const FIRST_SHORT_TYPE: u8 = 128;
+
+/// The extensions of a list that are left, in their order.
+#[derive(Debug, Drop)]
+pub struct Extensions<'a> {
+    words: &'a [u8],
+}
+
+impl<'a> Model for Extensions<'a> {
+    ghost use Rattle.std.specs.Prelude.{List, ◌≡◌, Ok};
+    ghost use Rattle.norm_ext.specs.Extensions.{Extension, extensions_of, IsChecked};
+
+    ghost Value = { List Extension };
+
+    ghost view = { λ e. extensions_of e.words.now };
+
+    ghost invariant = { λ e. IsChecked e.words.now };
+}
+
+/// The octets that the extension at the front says it has.
+fn length_of(words: &[u8]) -> usize
+    requires { 2 ≤ length words.now }
+    ensures { result ≡ extension_length words.now }
+{
+    if words[0] < FIRST_SHORT_TYPE {
+        4 * usize::from(words[1])
+    } else {
+        4
+    }
+}
+
+/// The octets before an extension's content.
+fn content_at(kind: u8) -> usize
+    ensures { result ≡ content_place kind }
+{
+    if kind < FIRST_SHORT_TYPE { 2 } else { 1 }
+}
+
+/// The octets of the extension at the front, or what is wrong with it. It stands at a place.
+fn check_first(words: &[u8], at: usize) -> Result<usize, ExtFault>
+    ensures { MatchResult result
+        (λ len. (extension_checked at words.now ≡ Ok tt) × (len ≡ extension_length words.now) × (len ≤ length words.now) × (0 < len))
+        (λ fault. extension_checked at words.now ≡ Err fault) }
+{
+    if words.len() < 4 {
+        return Err(ExtFault::Overrun { at });
+    }
+    let len = length_of(words);
+    if len == 0 {
+        return Err(ExtFault::ZeroLength { at });
+    }
+    if words.len() < len {
+        return Err(ExtFault::Overrun { at });
+    }
+    Ok(len)
+}
+
+/// The first that is wrong with a list of extensions, which begins at a place.
+pub(crate) fn check_list(words: &[u8], from: usize) -> Result<(), ExtFault>
+    requires { from + length words.now < 2 ^ 64 }
+    ensures { result ≡ extensions_checked from words.now }
+{
+    let mut rest = words;
+    let mut at = from;
+    while !rest.is_empty() {
+        let len = check_first(rest, at)?;
+        rest = rest.split_at(len).1;
+        at += len;
+    }
+    Ok(())
+}
+
+/// The type and the content of the extension at the front of a list of whole extensions, and the list behind it.
+/// `None` where the list is empty.
+fn cut_first(words: &[u8]) -> Option<(u8, &[u8], &[u8])>
+    requires { IsChecked words.now }
+    ensures { MatchOption result
+        (extensions_of words.now ≡ [])
+        (λ x. (extensions_of words.now ≡ extension_of x.0 x.1.now ∷ extensions_of x.2.now) × IsChecked x.2.now) }
+{
+    if words.is_empty() {
+        return None;
+    }
+    let kind = words[0];
+    let (first, rest) = words.split_at(length_of(words));
+    let content = first.split_at(content_at(kind)).1;
+    Some((kind, content, rest))
+}
+
+impl<'a> Extensions<'a> {
+    /// The extensions of a list, or the first that is wrong with it.
+    pub fn check(words: &'a [u8]) -> Result<Extensions<'a>, ExtFault>
+        ensures { MatchResult result
+            (λ exts. (extensions_checked 0 words.now ≡ Ok tt) × (exts ≡ extensions_of words.now))
+            (λ fault. extensions_checked 0 words.now ≡ Err fault) }
+    {
+        check_list(words, 0)?;
+        Ok(Extensions { words })
+    }
+}
+
+impl<'a> Iterator for Extensions<'a> {
+    ghost use Rattle.std.specs.Prelude.{slice_get, drop, length};
+    ghost use Rattle.std.specs.Option.{option_map};
+    ghost use Rattle.std.specs.Iterator.{at_most};
+    ghost use Rattle.norm_ext.specs.Extensions.{extension_of};
+
+    type Item = (u8, &'a [u8]);
+
+    ghost remaining = { λ exts. at_most (length exts) };
+
+    ghost next_gives = { λ old given new. (option_map (λ x. extension_of x.0 x.1.now) given ≡ slice_get old 0) × (new ≡ drop 1 old) };
+
+    /// The type and the content of the next extension.
+    fn next(&mut self) -> Option<(u8, &'a [u8])> {
+        let (kind, content, rest) = cut_first(self.words)?;
+        self.words = rest;
+        Some((kind, content))
+    }
+}

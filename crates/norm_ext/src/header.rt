@@ -1,0 +1,201 @@
+//! What is looked at in every message: its header, its FEC Encoding ID, its extensions, its nodes and its lists.
+//! The reads of the crates above call these in the order in which refusals come.
+
+ghost use Rattle.std.specs.Prelude.{◌≡◌, ◌+◌, ◌*◌, ◌≤◌, ◌<◌, Ok, Err, MatchResult, OnOk, length};
+ghost use Rattle.norm_base.specs.Member.{IsMember};
+ghost use Rattle.norm_ext.specs.Numbers.{number, octet};
+ghost use Rattle.norm_ext.specs.Extensions.{IsChecked};
+ghost use Rattle.norm_ext.specs.Reading.{version_checked, header_checked, words_of, least_words, content_of, header_from, encoding_checked, header_extensions_checked, member_checked, list_checked, object_head_of, command_head_of, source_of};
+
+use crate::extensions::check_list;
+use crate::head::{CmdHead, ObjHead};
+use crate::kinds::{MessageType, SubType};
+use crate::numbers::{read_16, read_32};
+use crate::refusal::{ExtFault, Refusal};
+use norm_base::{InstanceId, NodeId};
+
+/// The version of NORM.
+pub const VERSION: u8 = 1;
+/// The FEC Encoding ID of Reed-Solomon over GF(2^8) (RFC 5510).
+pub const ENCODING_ID: u8 = 5;
+/// The octets of the common header.
+const COMMON: usize = 8;
+/// The place of a command's sub-type.
+const SUB_TYPE: usize = 12;
+
+/// The version, in octets that have a common header.
+pub fn check_version(bytes: &[u8]) -> Result<(), Refusal>
+    ensures exact { result ≡ version_checked bytes.now }
+    ensures long { OnOk result (8 ≤ length bytes.now) }
+{
+    if bytes.len() < COMMON {
+        return Err(Refusal::Short { len: bytes.len() });
+    }
+    let v = bytes[0] / 16;
+    if v != VERSION {
+        return Err(Refusal::Version { v });
+    }
+    Ok(())
+}
+
+/// The octet at a place, or 0 where there is none.
+fn octet_or_zero(bytes: &[u8], at: usize) -> u8
+    ensures { result ≡ octet at bytes.now }
+{
+    match bytes.get(at) {
+        Some(octet) => *octet,
+        None => 0,
+    }
+}
+
+/// The least words of a message's header: a flush and a squelch name a symbol.
+fn least_of(kind: MessageType, bytes: &[u8]) -> u8
+    ensures { result ≡ least_words kind bytes.now }
+{
+    match kind {
+        MessageType::Info => 4,
+        MessageType::Data => 5,
+        MessageType::Command => {
+            let sub_type = octet_or_zero(bytes, SUB_TYPE);
+            if sub_type == SubType::Flush.number() || sub_type == SubType::Squelch.number() {
+                5
+            } else {
+                4
+            }
+        }
+        MessageType::Nack | MessageType::Ack => 6,
+        MessageType::Report => 2,
+    }
+}
+
+/// The header of a message of this type: its version, its type and its length.
+#[tactic(auto, unfolding(crate::specs::Reading::header_checked))]
+fn check_fields(kind: MessageType, bytes: &[u8]) -> Result<(), Refusal>
+    ensures exact { result ≡ header_checked kind bytes.now }
+    ensures long { OnOk result ((least_words kind bytes.now ≤ words_of bytes.now) × (4 * words_of bytes.now ≤ length bytes.now)) }
+{
+    check_version(bytes)?;
+    let t = bytes[0] % 16;
+    if t != kind.number() {
+        return Err(Refusal::BadType { t });
+    }
+    let words = bytes[1];
+    let least = least_of(kind, bytes);
+    if words < least {
+        return Err(Refusal::HeaderLength { words, least });
+    }
+    if bytes.len() < 4 * usize::from(words) {
+        return Err(Refusal::PastEnd {
+            words,
+            len: bytes.len(),
+        });
+    }
+    Ok(())
+}
+
+/// The octets of the header of a message of this type, or what is wrong with its version, type or length.
+pub fn check_header(kind: MessageType, bytes: &[u8]) -> Result<usize, Refusal>
+    ensures { MatchResult result
+        (λ end. (header_checked kind bytes.now ≡ Ok tt) × (end ≡ 4 * words_of bytes.now) × (4 * least_words kind bytes.now ≤ end) × (end ≤ length bytes.now))
+        (λ refusal. header_checked kind bytes.now ≡ Err refusal) }
+{
+    check_fields(kind, bytes)?;
+    Ok(4 * usize::from(bytes[1]))
+}
+
+/// The FEC Encoding ID.
+pub fn check_encoding(id: u8) -> Result<(), Refusal>
+    ensures { result ≡ encoding_checked id }
+{
+    if id != ENCODING_ID {
+        return Err(Refusal::FecId { id });
+    }
+    Ok(())
+}
+
+/// The header's extensions, from a place on up to the header's end.
+pub fn check_extensions(bytes: &[u8], from: usize, end: usize) -> Result<&[u8], Refusal>
+    requires end { end ≡ 4 * words_of bytes.now }
+    requires from { from ≤ end }
+    requires long { end ≤ length bytes.now }
+    ensures { MatchResult result
+        (λ exts. (header_extensions_checked from bytes.now ≡ Ok tt) × (exts.now ≡ header_from from bytes.now))
+        (λ refusal. header_extensions_checked from bytes.now ≡ Err refusal) }
+{
+    let exts = bytes.split_at(from).1.split_at(end - from).0;
+    match check_list(exts, from) {
+        Ok(()) => Ok(exts),
+        Err(ExtFault::ZeroLength { at }) => Err(Refusal::Ext { at }),
+        Err(ExtFault::Overrun { at }) => Err(Refusal::Ext { at }),
+    }
+}
+
+/// The member with this number.
+pub fn check_member(number: u32) -> Result<NodeId, Refusal>
+    ensures { MatchResult result
+        (λ node. (member_checked number ≡ Ok tt) × (node ≡ number))
+        (λ refusal. member_checked number ≡ Err refusal) }
+{
+    match NodeId::of(number) {
+        Some(node) => Ok(node),
+        None => Err(Refusal::BadNode),
+    }
+}
+
+/// The source.
+pub fn check_source(bytes: &[u8]) -> Result<NodeId, Refusal>
+    requires { 8 ≤ length bytes.now }
+    ensures { MatchResult result
+        (λ node. (member_checked (source_of bytes.now) ≡ Ok tt) × (node ≡ source_of bytes.now))
+        (λ refusal. member_checked (source_of bytes.now) ≡ Err refusal) }
+{
+    check_member(read_32(bytes, 4))
+}
+
+/// A list of numbers of so many octets.
+pub fn check_numbers(width: usize, list: &[u8]) -> Result<(), Refusal>
+    requires { 0 < width }
+    ensures { result ≡ list_checked width list.now }
+{
+    let rest = list.len() % width;
+    if rest != 0 {
+        return Err(Refusal::BadList { rest });
+    }
+    Ok(())
+}
+
+/// The fields that INFO and DATA begin with, with the source that was read.
+pub fn read_object_head(bytes: &[u8], source: NodeId) -> ObjHead
+    requires long { 16 ≤ length bytes.now }
+    requires source { source ≡ source_of bytes.now }
+    ensures { result ≡ object_head_of bytes.now }
+{
+    let sizes = bytes[11];
+    ObjHead {
+        source,
+        sequence: read_16(bytes, 2),
+        instance: InstanceId(read_16(bytes, 8)),
+        grtt: bytes[10],
+        backoff: sizes / 16,
+        gsize: sizes % 16,
+        flags: bytes[12],
+        object: read_16(bytes, 14),
+    }
+}
+
+/// The fields that a command begins with, with the source that was read.
+pub fn read_command_head(bytes: &[u8], source: NodeId) -> CmdHead
+    requires long { 12 ≤ length bytes.now }
+    requires source { source ≡ source_of bytes.now }
+    ensures { result ≡ command_head_of bytes.now }
+{
+    let sizes = bytes[11];
+    CmdHead {
+        source,
+        sequence: read_16(bytes, 2),
+        instance: InstanceId(read_16(bytes, 8)),
+        grtt: bytes[10],
+        backoff: sizes / 16,
+        gsize: sizes % 16,
+    }
+}

@@ -1,0 +1,130 @@
+//! The numbers of a message's type, of a command's sub-type, of a request's form and of flags (RFC 5740 section 4).
+
+ghost use Rattle.std.specs.Prelude.{◌≡◌, IfSome};
+ghost use Rattle.norm_ext.specs.Numbers.{type_number, type_of, sub_type_number, sub_type_of, form_number, form_of};
+
+/// The type of a message (RFC 5740 section 4.1).
+#[derive(Clone, Copy, Debug, PartialEq, Eq)]
+pub enum MessageType {
+    Info = 1,
+    Data = 2,
+    Command = 3,
+    Nack = 4,
+    Ack = 5,
+    Report = 6,
+}
+
+impl MessageType {
+    /// The type's number.
+    pub fn number(self) -> u8
+        ensures { result ≡ type_number self }
+    {
+        self as u8
+    }
+
+    /// The type with this number. `None` where no type has it.
+    pub fn of(number: u8) -> Option<MessageType>
+        ensures { result ≡ type_of number }
+    {
+        match number {
+            1 => Some(MessageType::Info),
+            2 => Some(MessageType::Data),
+            3 => Some(MessageType::Command),
+            4 => Some(MessageType::Nack),
+            5 => Some(MessageType::Ack),
+            6 => Some(MessageType::Report),
+            _ => None,
+        }
+    }
+}
+
+/// The sub-type of a command (RFC 5740 section 4.2.3).
+#[derive(Clone, Copy, Debug, PartialEq, Eq)]
+pub enum SubType {
+    Flush = 1,
+    EndOfTransmission = 2,
+    Squelch = 3,
+    CongestionControl = 4,
+    RepairAdvertisement = 5,
+    AckRequest = 6,
+    Application = 7,
+}
+
+impl SubType {
+    /// The sub-type's number.
+    pub fn number(self) -> u8
+        ensures { result ≡ sub_type_number self }
+    {
+        self as u8
+    }
+
+    /// The sub-type with this number. `None` where no sub-type has it.
+    pub fn of(number: u8) -> Option<SubType>
+        ensures exact { result ≡ sub_type_of number }
+        ensures number { IfSome result (λ sub_type. sub_type_number sub_type ≡ number) }
+    {
+        match number {
+            1 => Some(SubType::Flush),
+            2 => Some(SubType::EndOfTransmission),
+            3 => Some(SubType::Squelch),
+            4 => Some(SubType::CongestionControl),
+            5 => Some(SubType::RepairAdvertisement),
+            6 => Some(SubType::AckRequest),
+            7 => Some(SubType::Application),
+            _ => None,
+        }
+    }
+}
+
+/// The form of a repair request (RFC 5740 section 4.3.1).
+#[derive(Clone, Copy, Debug, PartialEq, Eq)]
+pub enum Form {
+    Items = 1,
+    Ranges = 2,
+    Erasures = 3,
+}
+
+impl Form {
+    /// The form's number.
+    pub fn number(self) -> u8
+        ensures { result ≡ form_number self }
+    {
+        self as u8
+    }
+
+    /// The form with this number. `None` where no form has it.
+    pub fn of(number: u8) -> Option<Form>
+        ensures { result ≡ form_of number }
+    {
+        match number {
+            1 => Some(Form::Items),
+            2 => Some(Form::Ranges),
+            3 => Some(Form::Erasures),
+            _ => None,
+        }
+    }
+}
+
+/// Flags, as they stand in their octets.
+pub mod flags {
+    /// INFO and DATA: sent again.
+    pub const REPAIR: u8 = 0x01;
+    /// INFO and DATA: asked for by its own name.
+    pub const EXPLICIT: u8 = 0x02;
+    /// INFO and DATA: the object has an info.
+    pub const INFO: u8 = 0x04;
+    /// INFO and DATA: nothing is repaired.
+    pub const UNRELIABLE: u8 = 0x08;
+    /// INFO and DATA: the object is a file.
+    pub const FILE: u8 = 0x10;
+    /// INFO and DATA: the object is a stream.
+    pub const STREAM: u8 = 0x20;
+    /// A request: symbols.
+    pub const WANT_SEGMENT: u8 = 0x01;
+    /// A request: blocks.
+    pub const WANT_BLOCK: u8 = 0x02;
+    /// A request: infos.
+    pub const WANT_INFO: u8 = 0x04;
+    /// A request: objects.
+    pub const WANT_OBJECT: u8 = 0x08;
+}

@@ -1,0 +1,23 @@
+//! The grammar of NORM messages (RFC 5740 section 4), and what all messages share: header extensions, the FEC
+//! Object Transmission Information, and repair requests. `specs/` has the whole grammar; the crates above read and
+//! write its messages with the calls of `header`, `Extensions` and `requests_of`.
+#![tactic(auto)]
+
+mod extensions;
+mod fti;
+mod head;
+pub mod header;
+mod kinds;
+pub mod laws;
+mod numbers;
+pub mod pushing;
+mod refusal;
+mod requests;
+
+pub use crate::extensions::Extensions;
+pub use crate::fti::{Fti, read_fti, write_fti};
+pub use crate::head::{CmdHead, Item, ObjHead};
+pub use crate::kinds::{Form, MessageType, SubType, flags};
+pub use crate::numbers::{read_16, read_32, read_name};
+pub use crate::refusal::{ExtFault, Refusal};
+pub use crate::requests::{Request, Requests, check_requests, requests_of};

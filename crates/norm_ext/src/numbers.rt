@@ -1,0 +1,43 @@
+//! Big-endian numbers at a place of octets.
+
+ghost use Rattle.std.specs.Prelude.{◌≡◌, ◌+◌, ◌≤◌, ◌<◌, length};
+ghost use Rattle.norm_ext.specs.Numbers.{number, name_at};
+
+use byteorder::{BigEndian, ByteOrder};
+use fec_plan::PayloadId;
+
+/// The number of 16 bits at a place.
+pub fn read_16(bytes: &[u8], at: usize) -> u16
+    requires { at + 2 ≤ length bytes.now }
+    ensures { result ≡ number 2 at bytes.now }
+{
+    BigEndian::read_u16(bytes.split_at(at).1)
+}
+
+/// The number of 32 bits at a place.
+pub fn read_32(bytes: &[u8], at: usize) -> u32
+    requires { at + 4 ≤ length bytes.now }
+    ensures { result ≡ number 4 at bytes.now }
+{
+    BigEndian::read_u32(bytes.split_at(at).1)
+}
+
+/// The number of 48 bits at a place.
+pub(crate) fn read_48(bytes: &[u8], at: usize) -> u64
+    requires { at + 6 ≤ length bytes.now }
+    ensures { result ≡ number 6 at bytes.now }
+{
+    BigEndian::read_u48(bytes.split_at(at).1)
+}
+
+/// The symbol that is named at a place.
+pub fn read_name(bytes: &[u8], at: usize) -> PayloadId
+    requires { at + 4 ≤ length bytes.now }
+    ensures { result ≡ name_at at bytes.now }
+{
+    let name = read_32(bytes, at);
+    PayloadId {
+        block: name / 256,
+        symbol: (name % 256) as u8,
+    }
+}

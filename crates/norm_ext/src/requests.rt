@@ -1,0 +1,183 @@
+//! Repair requests (RFC 5740 section 4.3.1): a list of them, checked and walked.
+
+ghost use Rattle.std.specs.Prelude.{◌≡◌, ◌+◌, ◌*◌, ◌/◌, ◌≤◌, ◌<◌, ◌^◌, [], ◌∷◌, Ok, Err, Some, MatchOption, MatchResult, OnOk, min, length, drop, take, slice_get};
+ghost use Rattle.norm_ext.specs.Requests.{requests_of as all_requests, requests_checked, request_checked, request_length, request_length_checked, items_length, items_checked, items_of, items_named, item_size, IsRequests};
+ghost use Rattle.norm_ext.specs.RequestView.{request_of};
+
+use crate::head::Item;
+use crate::header::ENCODING_ID;
+use crate::kinds::Form;
+use crate::numbers::{read_16, read_name};
+use crate::refusal::Refusal;
+use std::marker::Model;
+
+/// The octets before a request's items.
+const FRONT: usize = 4;
+/// The octets of an item.
+const ITEM: usize = 8;
+
+/// A request: its form, its flags, and the octets of its items.
+#[derive(Clone, Copy, Debug)]
+pub struct Request<'a> {
+    pub form: Form,
+    pub flags: u8,
+    pub items: &'a [u8],
+}
+
+impl<'a> Request<'a> {
+    /// The number of its items, or the greatest number where there are more than 32 bits count.
+    pub fn count(&self) -> u32
+        ensures { result ≡ min (length self.now.items.now / 8) 4294967295 }
+    {
+        (self.items.len() / ITEM).min(u32::MAX as usize) as u32
+    }
+
+    /// The item with this number, from 0.
+    pub fn item(&self, i: u32) -> Item
+        requires { 8 * i + 8 ≤ length self.now.items.now }
+        ensures { slice_get (items_named self.now.items.now) i ≡ Some result }
+    {
+        let at = ITEM * i as usize;
+        Item {
+            object: read_16(self.items, at + 2),
+            id: read_name(self.items, at + 4),
+        }
+    }
+}
+
+/// The octets of an item of a form: of ranges a pair.
+fn size_of_item(form: Form) -> usize
+    ensures { result ≡ item_size form }
+{
+    match form {
+        Form::Items | Form::Erasures => ITEM,
+        Form::Ranges => 2 * ITEM,
+    }
+}
+
+/// The first item of another FEC Encoding ID.
+fn check_items(items: &[u8], at: usize) -> Result<(), Refusal>
+    requires { at + length items.now < 2 ^ 64 }
+    ensures { result ≡ items_checked at items.now }
+{
+    let mut rest = items;
+    let mut place = at;
+    while rest.len() >= ITEM {
+        let id = rest[0];
+        if id != ENCODING_ID {
+            return Err(Refusal::ItemFec { at: place, id });
+        }
+        rest = rest.split_at(ITEM).1;
+        place += ITEM;
+    }
+    Ok(())
+}
+
+/// The octets of the items of the request at the front, or what is wrong with its length.
+fn check_length(octets: &[u8], form: Form, at: usize) -> Result<usize, Refusal>
+    ensures { MatchResult result
+        (λ len. (request_length_checked at form octets.now ≡ Ok tt) × (len ≡ items_length octets.now) × (4 + len ≤ length octets.now))
+        (λ refusal. request_length_checked at form octets.now ≡ Err refusal) }
+{
+    if octets.len() < FRONT {
+        return Err(Refusal::RequestLength { at });
+    }
+    let len = usize::from(read_16(octets, 2));
+    if octets.len() < FRONT + len || len % size_of_item(form) != 0 {
+        return Err(Refusal::RequestLength { at });
+    }
+    Ok(len)
+}
+
+/// The octets of the request at the front, or what is wrong with it. It stands at a place.
+fn check_first(octets: &[u8], at: usize) -> Result<usize, Refusal>
+    requires some { 0 < length octets.now }
+    requires place { at + length octets.now < 2 ^ 64 }
+    ensures { MatchResult result
+        (λ len. (request_checked at octets.now ≡ Ok tt) × (len ≡ request_length octets.now) × (len ≤ length octets.now) × (0 < len))
+        (λ refusal. request_checked at octets.now ≡ Err refusal) }
+{
+    let Some(form) = Form::of(octets[0]) else {
+        return Err(Refusal::RequestForm { at });
+    };
+    let len = check_length(octets, form, at)?;
+    check_items(octets.split_at(FRONT).1.split_at(len).0, at + FRONT)?;
+    Ok(FRONT + len)
+}
+
+/// The first that is wrong with a list of requests, which begins at this octet of its datagram.
+pub fn check_requests(list: &[u8], at: usize) -> Result<(), Refusal>
+    requires { at + length list.now < 2 ^ 64 }
+    ensures exact { result ≡ requests_checked at list.now }
+    ensures whole { OnOk result (IsRequests list.now) }
+{
+    let mut rest = list;
+    let mut place = at;
+    while !rest.is_empty() {
+        let len = check_first(rest, place)?;
+        rest = rest.split_at(len).1;
+        place += len;
+    }
+    Ok(())
+}
+
+/// The requests of a list that are left, in their order.
+#[derive(Debug, Drop)]
+pub struct Requests<'a> {
+    list: &'a [u8],
+}
+
+impl<'a> Model for Requests<'a> {
+    ghost use Rattle.std.specs.Prelude.{List};
+    ghost use Rattle.norm_ext.specs.Requests.{Request as Asked, requests_of as all_requests, IsRequests};
+
+    ghost Value = { List Asked };
+
+    ghost view = { λ r. all_requests r.list.now };
+
+    ghost invariant = { λ r. IsRequests r.list.now };
+}
+
+/// The requests of a list that `check_requests` passes, in their order.
+pub fn requests_of(list: &[u8]) -> Requests<'_>
+    requires { IsRequests list.now }
+    ensures { result ≡ all_requests list.now }
+{
+    Requests { list }
+}
+
+/// The request at the front of a list of whole requests, and the list behind it. `None` where the list is empty.
+fn cut_first(list: &[u8]) -> Option<(Request<'_>, &[u8])>
+    requires { IsRequests list.now }
+    ensures { MatchOption result
+        (all_requests list.now ≡ [])
+        (λ x. (all_requests list.now ≡ request_of x.0 ∷ all_requests x.1.now) × IsRequests x.1.now) }
+{
+    if list.is_empty() {
+        return None;
+    }
+    let form = Form::of(list[0])?;
+    let flags = list[1];
+    let (first, rest) = list.split_at(FRONT + usize::from(read_16(list, 2)));
+    let items = first.split_at(FRONT).1;
+    Some((Request { form, flags, items }, rest))
+}
+
+impl<'a> Iterator for Requests<'a> {
+    ghost use Rattle.std.specs.Prelude.{slice_get, drop, length};
+    ghost use Rattle.std.specs.Option.{option_map};
+    ghost use Rattle.std.specs.Iterator.{at_most};
+
+    type Item = Request<'a>;
+
+    ghost remaining = { λ list. at_most (length list) };
+
+    ghost next_gives = { λ old given new. (option_map request_of given ≡ slice_get old 0) × (new ≡ drop 1 old) };
+
+    /// The next request.
+    fn next(&mut self) -> Option<Request<'a>> {
+        let (request, rest) = cut_first(self.list)?;
+        self.list = rest;
+        Some(request)
+    }
+}

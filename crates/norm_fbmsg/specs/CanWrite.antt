@@ -1,0 +1,38 @@
+-- Which feedback can be written.
+use Rattle.std.specs.Prelude.{ℕ, ◌+◌, ◌≡◌, ◌≢◌, ◌≤◌, List, [], ◌∷◌, length}
+use Rattle.std.specs.List.{repeat}
+use Rattle.norm_ext.specs.Numbers.{flush_ack}
+use Rattle.norm_ext.specs.Extensions.{IsChecked}
+use Rattle.norm_ext.specs.Requests.{IsRequests}
+use Rattle.norm_fbmsg.specs.declared.message.NackMsg.{NackMsg}
+use Rattle.norm_fbmsg.specs.declared.message.AckMsg.{AckMsg}
+use Rattle.norm_fbmsg.specs.declared.message.AckBody.{AckBody}
+use Rattle.norm_fbmsg.specs.declared.message.AckBody.TheVariants as lent
+
+-- so many zeros
+abbrev pub zero_list : ℕ → List ℕ
+zero_list n = repeat n (0 ∷ [])
+
+-- whole extensions, a header of at most 255 words, and 1,500 octets in all
+pub record CanWriteParts (exts : List ℕ) (content : ℕ) : Type 0 where
+  pub extensions : IsChecked exts
+  pub header : 24 + length exts ≤ 1020
+  pub most : 24 + length exts + content ≤ 1500
+
+pub record CanWriteNack (m : NackMsg) : Type 0 where
+  pub parts : CanWriteParts m.exts.now (length m.requests.now)
+  pub requests : IsRequests m.requests.now
+
+-- the octets of what an acknowledgement holds
+abbrev pub body_length : AckBody → ℕ
+body_length (lent.Mark item) = 8
+body_length (lent.Opaque octets) = length octets.now
+
+-- a flush's acknowledgement, and no other, holds an item
+abbrev pub HasBody : ℕ → AckBody → Type 0
+HasBody ack_type (lent.Mark item) = ack_type ≡ flush_ack
+HasBody ack_type (lent.Opaque octets) = ack_type ≢ flush_ack
+
+pub record CanWriteAck (m : AckMsg) : Type 0 where
+  pub parts : CanWriteParts m.exts.now (body_length m.body)
+  pub body : HasBody m.ack_type m.body

@@ -1,0 +1,12 @@
+//! The feedback of receivers (RFC 5740 section 4.3): negative and positive acknowledgements, read and written by
+//! the grammar of `norm_ext`. `read_nack` gives a `NackMsg` and `read_ack` an `AckMsg`, whose parts are lent from the
+//! datagram.
+#![tactic(auto)]
+
+mod message;
+mod read;
+mod write;
+
+pub use crate::message::{AckBody, AckMsg, NackMsg};
+pub use crate::read::{read_ack, read_nack};
+pub use crate::write::{write_ack, write_nack};

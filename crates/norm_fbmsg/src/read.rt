@@ -1,0 +1,101 @@
+//! Reading of feedback (RFC 5740 section 4.3).
+
+ghost use Rattle.std.specs.Prelude.{◌≡◌, ◌+◌, ◌*◌, ◌≤◌, ◌<◌, ◌^◌, Ok, Err, MatchResult, OnOk, length};
+ghost use Rattle.norm_ext.specs.Reading.{nack_read, ack_read, ack_encoding_checked, ack_length_checked, ack_content_of};
+ghost use Rattle.norm_fbmsg.specs.View.{nack_of, ack_of, content_of};
+
+use crate::message::{AckBody, AckMsg, NackMsg};
+use norm_base::InstanceId;
+use norm_ext::header::{ENCODING_ID, check_extensions, check_header, check_member, check_source};
+use norm_ext::{Item, MessageType, Refusal, check_requests, read_16, read_32, read_name};
+
+/// The type of an acknowledgement that answers a FLUSH (RFC 5740 section 4.3.2).
+const FLUSH_ACK: u8 = 2;
+/// The octets of an item.
+const ITEM: usize = 8;
+
+/// The negative acknowledgement that the octets spell, or the first refusal.
+#[tactic(auto, unfolding(norm_ext::specs::Reading::nack_read))]
+pub fn read_nack(bytes: &[u8]) -> Result<NackMsg<'_>, Refusal>
+    ensures { MatchResult result (λ m. nack_read bytes.now ≡ Ok (nack_of m)) (λ refusal. nack_read bytes.now ≡ Err refusal) }
+{
+    let end = check_header(MessageType::Nack, bytes)?;
+    let exts = check_extensions(bytes, 24, end)?;
+    let requests = bytes.split_at(end).1;
+    check_requests(requests, end)?;
+    let source = check_source(bytes)?;
+    let sender = check_member(read_32(bytes, 8))?;
+    Ok(NackMsg {
+        source,
+        sequence: read_16(bytes, 2),
+        sender,
+        instance: InstanceId(read_16(bytes, 12)),
+        exts,
+        requests,
+    })
+}
+
+/// The FEC Encoding ID of a flush's acknowledgement, where its content is one item.
+fn check_ack_encoding(ack_type: u8, at: usize, content: &[u8]) -> Result<(), Refusal>
+    ensures { result ≡ ack_encoding_checked ack_type at content.now }
+{
+    if ack_type != FLUSH_ACK || content.len() != ITEM {
+        return Ok(());
+    }
+    let id = content[0];
+    if id != ENCODING_ID {
+        return Err(Refusal::ItemFec { at, id });
+    }
+    Ok(())
+}
+
+/// The length of a flush's acknowledgement's content, which is one item.
+fn check_ack_length(ack_type: u8, content: &[u8]) -> Result<(), Refusal>
+    ensures exact { result ≡ ack_length_checked ack_type content.now }
+    ensures item { OnOk result (ack_type ≡ 2 → length content.now ≡ 8) }
+{
+    let rest = content.len();
+    if ack_type == FLUSH_ACK && rest != ITEM {
+        return Err(Refusal::BadList { rest });
+    }
+    Ok(())
+}
+
+/// What an acknowledgement of a type holds.
+fn body_of(ack_type: u8, content: &[u8]) -> AckBody<'_>
+    requires { ack_type ≡ 2 → length content.now ≡ 8 }
+    ensures { content_of result ≡ ack_content_of ack_type content.now }
+{
+    if ack_type != FLUSH_ACK {
+        return AckBody::Opaque(content);
+    }
+    AckBody::Mark(Item {
+        object: read_16(content, 2),
+        id: read_name(content, 4),
+    })
+}
+
+/// The positive acknowledgement that the octets spell, or the first refusal.
+#[tactic(auto, unfolding(norm_ext::specs::Reading::ack_read))]
+pub fn read_ack(bytes: &[u8]) -> Result<AckMsg<'_>, Refusal>
+    ensures { MatchResult result (λ m. ack_read bytes.now ≡ Ok (ack_of m)) (λ refusal. ack_read bytes.now ≡ Err refusal) }
+{
+    let end = check_header(MessageType::Ack, bytes)?;
+    let exts = check_extensions(bytes, 24, end)?;
+    let content = bytes.split_at(end).1;
+    check_ack_encoding(bytes[14], end, content)?;
+    let source = check_source(bytes)?;
+    let sender = check_member(read_32(bytes, 8))?;
+    check_ack_length(bytes[14], content)?;
+    let body = body_of(bytes[14], content);
+    Ok(AckMsg {
+        source,
+        sequence: read_16(bytes, 2),
+        sender,
+        instance: InstanceId(read_16(bytes, 12)),
+        ack_type: bytes[14],
+        ack_id: bytes[15],
+        exts,
+        body,
+    })
+}

@@ -1,0 +1,94 @@
+//! Writing of feedback (RFC 5740 section 4.3).
+
+ghost use Rattle.std.specs.Prelude.{◌≡◌, ◌+◌, ◌≤◌, ◌++◌, [], length};
+ghost use Rattle.norm_ext.specs.Octets.{octets_of, content_octets};
+ghost use Rattle.norm_fbmsg.specs.View.{nack_of, ack_of, content_of};
+ghost use Rattle.norm_fbmsg.specs.CanWrite.{CanWriteParts, CanWriteNack, CanWriteAck, body_length, zero_list};
+ghost use Rattle.norm_ext.specs.Extensions.{extensions_of};
+ghost use Rattle.norm_ext.specs.Requests.{requests_of, IsRequests};
+ghost use Rattle.norm_ext.specs.Message.{Nack, Ack};
+
+use crate::message::{AckBody, AckMsg, NackMsg};
+use norm_base::Datagram;
+use norm_ext::MessageType;
+use norm_ext::header::ENCODING_ID;
+use norm_ext::pushing::{push_16, push_front, push_instance, push_name, push_node};
+
+/// Writes a negative acknowledgement with these extensions and requests.
+fn write_nack_parts(msg: &NackMsg<'_>, exts: &[u8], requests: &[u8], out: &mut Datagram)
+    requires empty { out.old ≡ [] }
+    requires parts { CanWriteParts exts.now (length requests.now) }
+    requires whole { IsRequests requests.now }
+    ensures { out.new ≡ octets_of (Nack (record { source = msg.now.source; sequence = msg.now.sequence; sender = msg.now.sender; instance = msg.now.instance; extensions = extensions_of exts.now; requests = requests_of requests.now })) }
+{
+    let words = (6 + exts.len() / 4) as u8;
+    push_front(
+        MessageType::Nack.number(),
+        words,
+        msg.sequence,
+        msg.source,
+        out,
+    );
+    push_node(msg.sender, out);
+    push_instance(msg.instance, out);
+    out.push(&[0; 10]);
+    out.push(exts);
+    out.push(requests);
+}
+
+/// Writes the message into the empty datagram: the octets that spell it, with zeros in the reserved places and the
+/// time stamps.
+pub fn write_nack(msg: &NackMsg<'_>, out: &mut Datagram)
+    requires empty { out.old ≡ [] }
+    requires message { CanWriteNack msg.now }
+    ensures { out.new ≡ octets_of (nack_of msg.now) }
+{
+    write_nack_parts(msg, msg.exts, msg.requests, out);
+}
+
+/// Adds what an acknowledgement holds.
+fn push_body(body: &AckBody<'_>, out: &mut Datagram)
+    requires { length out.old + body_length body.now ≤ 1500 }
+    ensures { out.new ≡ out.old ++ content_octets (content_of body.now) (zero_list 1) }
+{
+    match body {
+        AckBody::Mark(item) => {
+            out.push(&[ENCODING_ID, 0]);
+            push_16(item.object, out);
+            push_name(&item.id, out);
+        }
+        AckBody::Opaque(octets) => out.push(octets),
+    }
+}
+
+/// Writes a positive acknowledgement with these extensions.
+fn write_ack_parts(msg: &AckMsg<'_>, exts: &[u8], out: &mut Datagram)
+    requires empty { out.old ≡ [] }
+    requires parts { CanWriteParts exts.now (body_length msg.now.body) }
+    ensures { out.new ≡ octets_of (Ack (record { source = msg.now.source; sequence = msg.now.sequence; sender = msg.now.sender; instance = msg.now.instance; ack_type = msg.now.ack_type; ack_id = msg.now.ack_id; extensions = extensions_of exts.now; content = content_of msg.now.body })) }
+{
+    let words = (6 + exts.len() / 4) as u8;
+    push_front(
+        MessageType::Ack.number(),
+        words,
+        msg.sequence,
+        msg.source,
+        out,
+    );
+    push_node(msg.sender, out);
+    push_instance(msg.instance, out);
+    out.push(&[msg.ack_type, msg.ack_id]);
+    out.push(&[0; 8]);
+    out.push(exts);
+    push_body(&msg.body, out);
+}
+
+/// Writes the message into the empty datagram: the octets that spell it, with zeros in the reserved places and the
+/// time stamps.
+pub fn write_ack(msg: &AckMsg<'_>, out: &mut Datagram)
+    requires empty { out.old ≡ [] }
+    requires message { CanWriteAck msg.now }
+    ensures { out.new ≡ octets_of (ack_of msg.now) }
+{
+    write_ack_parts(msg, msg.exts, out);
+}

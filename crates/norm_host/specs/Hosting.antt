@@ -1,0 +1,75 @@
+use Rattle.std.specs.Prelude.{ℕ, List, [], ◌∷◌, ◌++◌, Bool, true, false, Option, Some, if◌then◌else◌}
+use Rattle.norm_base.specs.Faults.{one_more}
+use Rattle.norm_base.specs.Network.{Network}
+use Rattle.norm_base.specs.Settings.{Settings}
+use Rattle.norm_base.specs.declared.kinds.FabricKind.{FabricKind}
+use Rattle.norm_base.specs.declared.kinds.FabricKind.TheVariants as kind
+use Rattle.norm_base.specs.declared.kinds.Local.{Local}
+use Rattle.norm_memory.specs.Chances.{ChanceState, chance_unstarted, chance_started, chance_offer, chance_take}
+use Rattle.norm_memory.specs.Direct.{direct_offer}
+use Rattle.norm_memory.specs.Networks.{NetworkState, unstarted, started, next_answer, after_take}
+
+-- A network that is one of two by the profile of its last start: its starts, which of the two it is, and how often a
+-- call failed.
+pub record HostState : Type 0 where
+  pub starts : List (Settings × Local)
+  pub kind : FabricKind
+  pub direct : NetworkState
+  pub chance : ChanceState
+  pub faults : ℕ
+
+abbrev pub is_chance : FabricKind → Bool
+is_chance kind.Direct = false
+is_chance kind.Chance = true
+is_chance kind.Udp = false
+
+-- the one that it is
+abbrev pub network_of : HostState → NetworkState
+network_of s = if is_chance s.kind then s.chance.network else s.direct
+
+-- it tells its starts and what that one tells, and is honest
+abbrev pub host_told : HostState → Network
+host_told s = record {
+  starts = Some s.starts;
+  offered = Some (network_of s).offered;
+  answers = Some (network_of s).answers;
+  honest = true;
+}
+
+-- as it was made
+abbrev pub host_unstarted : HostState
+host_unstarted = record { starts = []; kind = kind.Direct; direct = unstarted; chance = chance_unstarted; faults = 0 }
+
+-- a start that was Ok: the one that the profile names begins a session
+abbrev pub host_started : HostState → Settings → Local → HostState
+host_started s profile local = record {
+  starts = s.starts ++ (profile, local) ∷ [];
+  kind = profile.fabric;
+  direct = if is_chance profile.fabric then s.direct else started s.direct profile local;
+  chance = if is_chance profile.fabric then chance_started s.chance profile local else s.chance;
+  faults = s.faults;
+}
+
+-- a start that failed
+abbrev pub host_failed : HostState → HostState
+host_failed s = record { starts = s.starts; kind = s.kind; direct = s.direct; chance = s.chance; faults = one_more s.faults }
+
+-- an offer
+abbrev pub host_offer : HostState → ℕ → List ℕ → HostState
+host_offer s from bytes = record {
+  starts = s.starts;
+  kind = s.kind;
+  direct = if is_chance s.kind then s.direct else direct_offer s.direct from bytes;
+  chance = if is_chance s.kind then chance_offer s.chance from bytes else s.chance;
+  faults = s.faults;
+}
+
+-- a take
+abbrev pub host_take : HostState → HostState
+host_take s = record {
+  starts = s.starts;
+  kind = s.kind;
+  direct = if is_chance s.kind then s.direct else after_take s.direct;
+  chance = if is_chance s.kind then chance_take s.chance else s.chance;
+  faults = s.faults;
+}

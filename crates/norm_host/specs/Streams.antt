@@ -1,0 +1,12 @@
+use Rattle.norm_host.specs.declared.std_source.StdSource.{StdSource}
+use Rattle.norm_host.specs.declared.std_sink.StdSink.{StdSink}
+
+-- What stands under a source and a sink of the process.
+
+-- the reader under a source
+abbrev pub reader_of : {R : Type 0} → StdSource R → R
+reader_of s = s.reader
+
+-- the writer under a sink
+abbrev pub writer_of : {W : Type 0} → StdSink W → W
+writer_of s = s.writer

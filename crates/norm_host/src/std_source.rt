@@ -1,0 +1,76 @@
+//! A reader of std as a source.
+
+ghost use Rattle.std.specs.Prelude.{◌≡◌, ◌+◌, ◌^◌, ◌<◌, ◌≤◌, None, Some, IsTrue, length, is_err, IfOk, OnOk, OnErr};
+ghost use Rattle.std.specs.Io.KnownBytes.{ReadConsumes};
+ghost use Rattle.norm_base.specs.Faults.{Counts};
+ghost use Rattle.norm_host.specs.Streams.{reader_of};
+
+use norm_base::{Failed, Source};
+use std::io::Read;
+
+/// The octets that a source gives at most.
+const MOST: u64 = (1 << 63) - 1;
+
+/// A reader of std as a source. It tells nothing of what is left, but what the reader tells goes on: a
+/// read that was Ok consumed what it gave, 0 octets into a buffer with room is the reader's end, and a
+/// failed read consumed nothing. It gives fewer than 2^63 octets, and fails from then on.
+#[derive(Drop)]
+pub struct StdSource<R> {
+    reader: R,
+    given: u64,
+    faults: u64,
+}
+
+impl<R: Read> StdSource<R> {
+    /// A source that reads from there. It gave nothing yet, and has not failed.
+    pub fn of(reader: R) -> StdSource<R>
+        ensures reader { reader_of result ≡ reader }
+        ensures given { ⟦<StdSource<R> as Source>⟧.given result ≡ 0 }
+        ensures faults { ⟦<StdSource<R> as Source>⟧.fault_count result ≡ 0 }
+    {
+        StdSource {
+            reader,
+            given: 0,
+            faults: 0,
+        }
+    }
+
+    /// Whether it may give so many octets more.
+    fn has_room(&self, more: u64) -> bool
+        ensures { IsTrue result → self.now.given + more < 2 ^ 63 }
+    {
+        more <= MOST && self.given <= MOST - more
+    }
+}
+
+impl<R: Read> Source for StdSource<R> {
+    ghost left = { λ _. None };
+
+    ghost given = { λ s. s.given };
+
+    ghost fault_count = { λ s. s.faults };
+
+    fn read(&mut self, buf: &mut [u8]) -> Result<usize, Failed>
+        ensures passes { ReadConsumes (R.remaining (reader_of self.old)) (R.remaining (reader_of self.new)) result buf.new }
+        ensures count { IfOk result (λ n. n ≤ length buf.old) }
+        ensures given { IfOk result (λ n. self.new.given ≡ self.old.given + n) }
+        ensures limit { OnOk result (self.new.given < 2 ^ 63) }
+        ensures err { OnErr result (self.new.given ≡ self.old.given) }
+        ensures cause { Counts self.old.faults self.new.faults (is_err result) }
+    {
+        if !self.has_room(buf.len() as u64) {
+            self.faults = self.faults.saturating_add(1);
+            return Err(Failed);
+        }
+        let Ok(n) = self.reader.read(buf) else {
+            self.faults = self.faults.saturating_add(1);
+            return Err(Failed);
+        };
+        self.given += n as u64;
+        Ok(n)
+    }
+
+    fn faults(&self) -> u64 {
+        self.faults
+    }
+}

@@ -1,0 +1,161 @@
+//! INFO and DATA with any header extensions (RFC 5740 section 4.2.1 and 4.2.2), read by the grammar of `norm_ext`.
+//! Their parts are lent from the datagram.
+
+ghost use Rattle.std.specs.Prelude.{◌≡◌, ◌+◌, ◌*◌, ◌≤◌, ◌<◌, Ok, Err, MatchResult, [], length};
+ghost use Rattle.norm_ext.specs.Reading.{info_read, data_read};
+ghost use Rattle.norm_ext.specs.Segment.{segment_in};
+ghost use Rattle.norm_objmsg.specs.MessageView.{info_of, data_of, part_of};
+ghost use Rattle.std.specs.Option.{option_map};
+ghost use Rattle.norm_ext.specs.Extensions.{extensions_of};
+ghost use Rattle.norm_ext.specs.Message.{Info, Data};
+ghost use Rattle.norm_ext.specs.Octets.{octets_of};
+ghost use Rattle.norm_objmsg.specs.CanWriteMessage.{CanWrite};
+
+use fec_plan::PayloadId;
+use norm_base::Datagram;
+use norm_ext::header::{
+    check_encoding, check_extensions, check_header, check_source, read_object_head,
+};
+use norm_ext::pushing::{push_front, push_name, push_object_head};
+use norm_ext::{MessageType, ObjHead, Refusal, read_16, read_32, read_name};
+
+/// NORM_INFO: an object's info.
+#[derive(Clone, Copy, Debug, PartialEq, Eq)]
+pub struct InfoMsg<'a> {
+    pub head: ObjHead,
+    /// The header extensions, whole words.
+    pub exts: &'a [u8],
+    pub info: &'a [u8],
+}
+
+/// NORM_DATA: one symbol of an object.
+#[derive(Clone, Copy, Debug, PartialEq, Eq)]
+pub struct DataMsg<'a> {
+    pub head: ObjHead,
+    pub id: PayloadId,
+    /// The header extensions, whole words.
+    pub exts: &'a [u8],
+    pub payload: &'a [u8],
+}
+
+/// The payload of a stream's symbol: a segment and where it stands.
+#[derive(Clone, Copy, Debug, PartialEq, Eq)]
+pub struct StreamPart<'a> {
+    /// The length that the payload says.
+    pub len: u16,
+    pub msg_start: u16,
+    /// The offset in the stream.
+    pub offset: u32,
+    /// The first `len` octets behind the eight that say so.
+    pub octets: &'a [u8],
+}
+
+/// The NORM_INFO message that the octets spell, or the first refusal.
+#[tactic(auto, unfolding(norm_ext::specs::Reading::info_read))]
+pub fn read_info(bytes: &[u8]) -> Result<InfoMsg<'_>, Refusal>
+    ensures { MatchResult result (λ m. info_read bytes.now ≡ Ok (info_of m)) (λ refusal. info_read bytes.now ≡ Err refusal) }
+{
+    let end = check_header(MessageType::Info, bytes)?;
+    check_encoding(bytes[13])?;
+    let exts = check_extensions(bytes, 16, end)?;
+    let source = check_source(bytes)?;
+    Ok(InfoMsg {
+        head: read_object_head(bytes, source),
+        exts,
+        info: bytes.split_at(end).1,
+    })
+}
+
+/// The NORM_DATA message that the octets spell, or the first refusal.
+#[tactic(auto, unfolding(norm_ext::specs::Reading::data_read))]
+pub fn read_data(bytes: &[u8]) -> Result<DataMsg<'_>, Refusal>
+    ensures { MatchResult result (λ m. data_read bytes.now ≡ Ok (data_of m)) (λ refusal. data_read bytes.now ≡ Err refusal) }
+{
+    let end = check_header(MessageType::Data, bytes)?;
+    check_encoding(bytes[13])?;
+    let exts = check_extensions(bytes, 20, end)?;
+    let source = check_source(bytes)?;
+    Ok(DataMsg {
+        head: read_object_head(bytes, source),
+        id: read_name(bytes, 16),
+        exts,
+        payload: bytes.split_at(end).1,
+    })
+}
+
+/// The segment that a stream's payload has. `None` exactly where there are fewer than 8 octets, or fewer behind these
+/// than the payload says.
+pub fn read_part(payload: &[u8]) -> Option<StreamPart<'_>>
+    ensures { option_map part_of result ≡ segment_in payload.now }
+{
+    if payload.len() < 8 {
+        return None;
+    }
+    let len = read_16(payload, 0);
+    if payload.len() < 8 + usize::from(len) {
+        return None;
+    }
+    Some(StreamPart {
+        len,
+        msg_start: read_16(payload, 2),
+        offset: read_32(payload, 4),
+        octets: payload.split_at(8).1.split_at(usize::from(len)).0,
+    })
+}
+
+/// Writes the parts of a NORM_INFO message.
+fn write_info_parts(head: &ObjHead, exts: &[u8], info: &[u8], out: &mut Datagram)
+    requires empty { out.old ≡ [] }
+    requires parts { CanWrite 16 head.now exts.now info.now }
+    ensures { out.new ≡ octets_of (Info (record { head = head.now; extensions = extensions_of exts.now; info = info.now })) }
+{
+    let words = (4 + exts.len() / 4) as u8;
+    push_front(
+        MessageType::Info.number(),
+        words,
+        head.sequence,
+        head.source,
+        out,
+    );
+    push_object_head(head, out);
+    out.push(exts);
+    out.push(info);
+}
+
+/// Writes the message into the empty datagram: the octets that spell it.
+pub fn write_info(msg: &InfoMsg<'_>, out: &mut Datagram)
+    requires empty { out.old ≡ [] }
+    requires message { CanWrite 16 msg.now.head msg.now.exts.now msg.now.info.now }
+    ensures { out.new ≡ octets_of (info_of msg.now) }
+{
+    write_info_parts(&msg.head, msg.exts, msg.info, out);
+}
+
+/// Writes the parts of a NORM_DATA message.
+fn write_data_parts(head: &ObjHead, id: &PayloadId, exts: &[u8], payload: &[u8], out: &mut Datagram)
+    requires empty { out.old ≡ [] }
+    requires parts { CanWrite 20 head.now exts.now payload.now }
+    ensures { out.new ≡ octets_of (Data (record { head = head.now; id = id.now; extensions = extensions_of exts.now; payload = payload.now })) }
+{
+    let words = (5 + exts.len() / 4) as u8;
+    push_front(
+        MessageType::Data.number(),
+        words,
+        head.sequence,
+        head.source,
+        out,
+    );
+    push_object_head(head, out);
+    push_name(id, out);
+    out.push(exts);
+    out.push(payload);
+}
+
+/// Writes the message into the empty datagram: the octets that spell it.
+pub fn write_data(msg: &DataMsg<'_>, out: &mut Datagram)
+    requires empty { out.old ≡ [] }
+    requires message { CanWrite 20 msg.now.head msg.now.exts.now msg.now.payload.now }
+    ensures { out.new ≡ octets_of (data_of msg.now) }
+{
+    write_data_parts(&msg.head, &msg.id, msg.exts, msg.payload, out);
+}

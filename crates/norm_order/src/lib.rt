@@ -1,0 +1,8 @@
+//! The transport order of a sender's instance (RFC 5740 sections 4.1 and 5.1), as definitions: its entries, the
+//! segments of a stream, the symbols of a block, and what is handed up through a position. Its one type is [`Up`],
+//! a hand-up, which receivers give and the definitions list.
+#![tactic(auto)]
+
+mod up;
+
+pub use crate::up::Up;

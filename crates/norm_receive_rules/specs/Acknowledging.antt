@@ -1,0 +1,27 @@
+-- Acknowledging a flush (RFC 5740 section 5.5.3).
+use Rattle.std.specs.Prelude.{ℕ, ◌==◌, ◌&&◌, List, [], ◌∷◌, Bool, true, false}
+use Rattle.std.specs.List.{list_any}
+use Rattle.fec_plan.specs.Points.{position_before}
+use Rattle.fec_plan.specs.declared.position.Position.{Position}
+use Rattle.norm_receive_rules.specs.ReceiverState.{ReceiverState}
+use Rattle.norm_receive_rules.specs.Seeing.{further}
+
+-- nothing was lost in this instance
+abbrev pub lost_nothing : ReceiverState → Bool
+lost_nothing s = elim s.lost [ [] ↦ true | index ∷ lost ↦ false ]
+
+-- all through a position was handed up; what was lost never was
+abbrev pub has_handed_up : ReceiverState → Position → Bool
+has_handed_up s at = position_before at s.point && lost_nothing s
+
+-- the nodes that a flush asks have this one
+abbrev pub names_this : ReceiverState → List ℕ → Bool
+names_this s nodes = list_any (λ node. node == s.node) nodes
+
+-- The greatest flush position is raised. Where the flush asks this node and all through its position was handed up, an
+-- acknowledgement of it is due; of two that are due the further stays.
+abbrev pub flushed : Position → List ℕ → ReceiverState → ReceiverState
+flushed at nodes s = record s {
+  flush = further at s.flush;
+  due = elim (names_this s nodes && has_handed_up s at) [ true ↦ further at s.due | false ↦ s.due ];
+}

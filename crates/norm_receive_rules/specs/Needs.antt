@@ -1,0 +1,79 @@
+-- What a receiver needs of data and files (RFC 5740 section 5.3, RFC 5401 section 3.2.2), from what it saw of the sender.
+use Rattle.std.specs.Prelude.{ℕ, zero, suc, ◌+◌, ◌==◌, ◌&&◌, ◌||◌, not, List, [], ◌∷◌, max, min, Bool, true, false, nat_lt, nat_le, Option, None, Some}
+use Rattle.fec_plan.specs.Partition.{blocks}
+use Rattle.fec_plan.specs.Points.{position}
+use Rattle.fec_plan.specs.declared.position.Position.{Position}
+use Rattle.norm_ext.specs.Asking.{segment_flag, info_flag, object_flag}
+use Rattle.norm_ext.specs.declared.kinds.Form.{Form}
+use Rattle.norm_ext.specs.declared.kinds.Form.TheVariants as form
+use Rattle.norm_receive_rules.specs.Lazy.{Lazy, Nil, Next}
+use Rattle.norm_receive_rules.specs.ReceiverState.{ReceiverState, Plan}
+use Rattle.norm_receive_rules.specs.Plans.{cut_of_plan, has_its_info, lacking}
+
+-- a need: a form and flags, an item, and of a range its last end
+pub record Need : Type 0 where
+  pub form : Form
+  pub flags : ℕ
+  pub first : Position
+  pub last : Option Position
+
+-- one item
+abbrev pub item_need : Form → ℕ → Position → Need
+item_need form flags at = record { form = form; flags = flags; first = at; last = None }
+
+-- an object of which nothing is known, and its info
+abbrev pub object_need : ℕ → Need
+object_need index = item_need form.Items (object_flag + info_flag) (position index 0 0)
+
+-- an info
+abbrev pub info_need : ℕ → Need
+info_need index = item_need form.Items info_flag (position index 0 0)
+
+-- so many symbols of a block
+abbrev pub count_need : ℕ → ℕ → ℕ → Need
+count_need index block wanted = item_need form.Erasures segment_flag (position index block wanted)
+
+-- one source symbol
+abbrev pub symbol_need : Position → Need
+symbol_need at = item_need form.Items segment_flag at
+
+-- the index of the farthest point seen, or 0
+abbrev pub farthest_index : ReceiverState → ℕ
+farthest_index s = elim s.farthest [ Some at ↦ at.index | None ↦ 0 ]
+
+-- the sender was seen to be past the object, or flushed it or a later one
+abbrev pub is_covered : ReceiverState → ℕ → Bool
+is_covered s index = nat_lt index (farthest_index s) || elim s.flush [ Some at ↦ nat_le index at.index | None ↦ false ]
+
+-- the info of a covered object that is missing
+abbrev pub info_needs : ReceiverState → Plan → List Need
+info_needs s plan = elim (is_covered s plan.index && not (has_its_info s plan)) [ true ↦ info_need plan.index ∷ [] | false ↦ [] ]
+
+-- of the blocks of an object: all where its index is below this one, so many where it is this one, and none above
+abbrev pub blocks_before : Plan → ℕ → ℕ → ℕ
+blocks_before plan index count = elim (nat_lt plan.index index) [
+  | true ↦ blocks (cut_of_plan plan)
+  | false ↦ elim (plan.index == index) [ true ↦ min count (blocks (cut_of_plan plan)) | false ↦ 0 ]
+]
+
+-- how many blocks of an object lie before the farthest point, or at most at the flush's
+abbrev pub blocks_due : ReceiverState → Plan → ℕ
+blocks_due s plan = max
+    (elim s.farthest [ Some at ↦ blocks_before plan at.index at.block | None ↦ 0 ])
+    (elim s.flush [ Some at ↦ blocks_before plan at.index (at.block + 1) | None ↦ 0 ])
+
+-- the counts of n blocks from this one on that lack symbols
+unfoldable pub counts_from : ReceiverState → Plan → ℕ → ℕ → Lazy Need
+counts_from s plan zero block = Nil
+counts_from s plan (suc n) block = elim (lacking s plan block) [
+  | zero ↦ counts_from s plan n (suc block)
+  | suc less ↦ Next (count_need plan.index block (suc less)) (λ u. counts_from s plan n (suc block))
+]
+
+-- what is needed of data or a file
+abbrev pub object_needs : ReceiverState → Plan → Lazy Need
+object_needs s plan = counts_from s plan (blocks_due s plan) 0
+
+-- what is needed of an object without a plan: all of it, where it is covered
+abbrev pub unknown_needs : ReceiverState → ℕ → List Need
+unknown_needs s index = elim (is_covered s index) [ true ↦ object_need index ∷ [] | false ↦ [] ]

@@ -1,0 +1,73 @@
+-- What a receiver does with a datagram (RFC 5740 section 5.3).
+use Rattle.std.specs.Prelude.{ℕ, ◌==◌, List, true, false, None, Some, Result, Ok}
+use Rattle.norm_base.specs.Settings.{Settings}
+use Rattle.fec_plan.specs.Points.{point, position, point_of}
+use Rattle.fec_plan.specs.declared.position.Position.{Position}
+use Rattle.norm_ext.specs.Extensions.{Extension, fti_of}
+use Rattle.norm_ext.specs.Message.{Message, Info, Data, Flush, Squelch, RepairAdv, Nack, InfoMessage, DataMessage, FlushCommand, SquelchCommand}
+use Rattle.norm_ext.specs.ObjectIds.{index_of}
+use Rattle.norm_ext.specs.Reading.{decoded}
+use Rattle.norm_receive_rules.specs.ReceiverState.{ReceiverState}
+use Rattle.norm_receive_rules.specs.Fitting.{fit_of, fitted, lets_put}
+use Rattle.norm_receive_rules.specs.Putting.{put_symbol, put_info}
+use Rattle.norm_receive_rules.specs.HandingUp.{handed_up}
+use Rattle.norm_receive_rules.specs.Losing.{squelched}
+use Rattle.norm_receive_rules.specs.Leaving.{entered}
+use Rattle.norm_receive_rules.specs.Seeing.{sees}
+use Rattle.norm_receive_rules.specs.Acknowledging.{flushed}
+use Rattle.norm_receive_rules.specs.Overhearing.{nack_overheard, adv_overheard}
+use Rattle.norm_receive_rules.specs.BackingOff.{may_need}
+
+-- An INFO or DATA of an object: its transmission information may be taken up, its point is seen, and where the
+-- information fits, or there is none, what it brings is put. Then all that can be is handed up.
+abbrev pub object_received : Settings → Position → List Extension → ℕ → (ReceiverState → ReceiverState) → ReceiverState → ReceiverState
+object_received p at extensions flags put s = elim (fti_of extensions) [
+  | Some f ↦ (
+      let word = fit_of p s at.index f flags in
+      let s' = sees (point_of at) (fitted word at.index f flags s) in
+      elim (lets_put word) [ true ↦ handed_up p (put s') | false ↦ s' ]
+      )
+  | None ↦ handed_up p (put (sees (point_of at) s))
+]
+
+-- an INFO counts as block 0, symbol 0 of its object
+abbrev pub info_received : Settings → InfoMessage → ReceiverState → ReceiverState
+info_received p m s =
+    let index = index_of p m.head.object in
+    object_received p (position index 0 0) m.extensions m.head.flags (put_info p index m.info) s
+
+-- a DATA
+abbrev pub data_received : Settings → DataMessage → ReceiverState → ReceiverState
+data_received p m s =
+    let at = position (index_of p m.head.object) m.id.block m.id.symbol in
+    object_received p at m.extensions m.head.flags (put_symbol p at m.payload) s
+
+-- a flush
+abbrev pub flush_received : Settings → FlushCommand → ReceiverState → ReceiverState
+flush_received p m s = flushed (position (index_of p m.object) m.id.block m.id.symbol) m.nodes s
+
+-- a squelch
+abbrev pub squelch_received : Settings → SquelchCommand → ReceiverState → ReceiverState
+squelch_received p m s = squelched p (point (index_of p m.object) m.id.block) s
+
+-- A message of the profile's sender in an instance that was not left: the receiver enters the instance, does what the
+-- message says, and may need something then.
+abbrev pub in_instance : Settings → ℕ → ℕ → ℕ → ℕ → (ReceiverState → ReceiverState) → ReceiverState → ReceiverState
+in_instance p now draw source instance received s = elim (source == p.sender) [
+  | true ↦ elim (entered s instance) [ Some s' ↦ may_need p now draw (received s') | None ↦ s ]
+  | false ↦ s
+]
+
+-- of what a datagram spells
+abbrev pub message_received : {E : Type 0} → Settings → ℕ → ℕ → Result Message E → ReceiverState → ReceiverState
+message_received p now draw (Ok (Info m)) s = in_instance p now draw m.head.source m.head.instance (info_received p m) s
+message_received p now draw (Ok (Data m)) s = in_instance p now draw m.head.source m.head.instance (data_received p m) s
+message_received p now draw (Ok (Flush m)) s = in_instance p now draw m.head.source m.head.instance (flush_received p m) s
+message_received p now draw (Ok (Squelch m)) s = in_instance p now draw m.head.source m.head.instance (squelch_received p m) s
+message_received p now draw (Ok (RepairAdv m)) s = elim (m.head.source == p.sender) [ true ↦ adv_overheard m s | false ↦ s ]
+message_received p now draw (Ok (Nack m)) s = nack_overheard p m s
+message_received p now draw _ s = s
+
+-- Octets that spell no message change nothing.
+abbrev pub received : Settings → ReceiverState → List ℕ → ℕ → ℕ → ReceiverState
+received p s bytes now draw = message_received p now draw (decoded bytes) s

@@ -1,0 +1,62 @@
+-- The first part of safety: accepted objects enter the transport order once each.
+use Rattle.std.specs.Prelude.{ℕ, ◌==◌, ◌&&◌, List, [], ◌∷◌, ◌++◌, map, flat_map, find, slice_get, nat_eq, Bool, true, false, not, None, Some, Ok, IsTrue}
+use Rattle.std.specs.List.{list_all, list_any, IsDistinct, AllByRecursion}
+use Rattle.norm_base.specs.declared.node.Origin.{Origin}
+use Rattle.norm_order.specs.Entries.{Part, Write, Whole, Stream, Entry}
+use Rattle.norm_send_rules.specs.SenderState.{SenderState, Instance, Watermark}
+use Rattle.norm_send_rules.specs.Restarting.{instances}
+use Rattle.norm_send_rules.specs.declared.job.Receipt.TheVariants as receipt
+use Rattle.norm_safety.specs.Events.{Event, Commanded, Answer, Gave}
+use Rattle.norm_safety.specs.History.{Happening, History}
+use Rattle.norm_safety.specs.Lawful.{same_origin}
+
+-- the origin of a part of a stream, where it has one
+abbrev pub origin_of_part : Part → List Origin
+origin_of_part (Write by octets) = by ∷ []
+origin_of_part _ = []
+
+-- the origins of an entry and of its parts
+abbrev pub origins_of : Entry → List Origin
+origins_of entry = entry.by ∷ elim entry.object [ Whole kind info octets ↦ [] | Stream parts ↦ flat_map origin_of_part parts ]
+
+-- all origins among the entries, parts and requests of a sender
+abbrev pub origins : SenderState → List Origin
+origins s =
+    flat_map (λ (i : Instance). flat_map origins_of i.order) (instances s)
+    ++ map (λ (w : Watermark). w.by) s.requests
+
+-- the ids of all instances
+abbrev pub instance_ids : SenderState → List ℕ
+instance_ids s = map (λ (i : Instance). i.id) (instances s)
+
+-- the order of an instance
+abbrev pub order_of : SenderState → ℕ → List Entry
+order_of s id = elim (find (λ (i : Instance). i.id == id) (instances s)) [ Some i ↦ i.order | None ↦ [] ]
+
+-- the entry of an instance at an index came by this origin
+abbrev pub is_entry_by : SenderState → ℕ → ℕ → Origin → Bool
+is_entry_by s id index by = elim (slice_get (order_of s id) index) [ Some entry ↦ same_origin entry.by by | None ↦ false ]
+
+-- an accepted object has its answered index in the order
+abbrev pub has_its_place : SenderState → Happening → Event → Answer → Bool
+has_its_place s h (Commanded by job now) (Gave (Ok (receipt.Object index len))) = is_entry_by s h.before.sender.current.id index by
+has_its_place s h (Commanded by job now) (Gave (Ok (receipt.Opened index))) = is_entry_by s h.before.sender.current.id index by
+has_its_place s h _ _ = true
+
+-- Each command stands at most once among all orders and requests, instances have different ids, and the index that an
+-- accepted object was answered is its place.
+pub record OnceEach (h : History) : Type 0 where
+  pub origins : IsDistinct same_origin (origins h.now.sender)
+  pub ids : IsDistinct nat_eq (instance_ids h.now.sender)
+  pub places : AllByRecursion (λ x. IsTrue (has_its_place h.now.sender x x.event x.answer)) h.happened
+
+-- no element is equal to a later one
+unfoldable pub are_distinct : {X : Type 0} → (X → X → Bool) → List X → Bool
+are_distinct same [] = true
+are_distinct same (x ∷ xs) = not (list_any (same x) xs) && are_distinct same xs
+
+-- The same as a test.
+abbrev pub is_once_each : History → Bool
+is_once_each h =
+    are_distinct same_origin (origins h.now.sender) && are_distinct nat_eq (instance_ids h.now.sender)
+    && list_all (λ (x : Happening). has_its_place h.now.sender x x.event x.answer) h.happened

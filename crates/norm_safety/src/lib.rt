@@ -1,0 +1,3 @@
+//! What is claimed of a sender and its receivers as one world (RFC 5740 section 5), as definitions over their rules:
+//! runs of events, which runs are lawful, what was handed up, and when a run is safe. It has no code of its own.
+#![tactic(auto)]

@@ -1,0 +1,45 @@
+-- A restart (RFC 5740 section 4.1 on instance_id): a new instance with an order of its own.
+use Rattle.std.specs.Prelude.{ℕ, ◌==◌, List, [], ◌∷◌, ◌++◌, Bool, true, false, None, Result, Ok, Err}
+use Rattle.std.specs.List.{list_any}
+use Rattle.norm_base.specs.Settings.{Settings}
+use Rattle.norm_send_rules.specs.SenderState.{SenderState, Instance, begun, unlisted}
+use Rattle.norm_send_rules.specs.Requests.{end_where}
+use Rattle.norm_send_rules.specs.declared.want.Want.TheVariants.{Info}
+use Rattle.norm_send_rules.specs.declared.news.Outcome.TheVariants.{Cut}
+use Rattle.norm_send_rules.specs.declared.fault.SendFault.{SendFault}
+use Rattle.norm_send_rules.specs.declared.fault.SendFault.TheVariants.{IdUsed}
+use Rattle.norm_send_rules.specs.declared.job.Receipt.{Receipt}
+use Rattle.norm_send_rules.specs.declared.job.Receipt.TheVariants.{Restarted}
+
+-- all instances, in the order in which they began
+abbrev pub instances : SenderState → List Instance
+instances s = s.earlier ++ s.current ∷ []
+
+-- an instance had this id
+abbrev pub is_used : SenderState → ℕ → Bool
+is_used s id = list_any (λ (i : Instance). i.id == id) (instances s)
+
+-- The new instance begins: window, wants, round and listings are empty, no squelch is due, nothing was flushed, and
+-- every open request is cut. The next send moment, the sequence number and the numbers of requests go on.
+abbrev pub begun_anew : Settings → ℕ → SenderState → SenderState
+begun_anew p id s = end_where (λ w. true) (λ w. Cut) (record s {
+  earlier = instances s;
+  current = begun id;
+  next = Info 0;
+  wants = [];
+  sent = [];
+  sent_infos = [];
+  round = None;
+  squelch_due = false;
+  listings = unlisted p;
+  flushes = 0;
+  last_flush = None;
+  untold_nodes = [];
+})
+
+-- An id is used once.
+abbrev pub restarted : Settings → SenderState → ℕ → SenderState × Result Receipt SendFault
+restarted p s id = elim (is_used s id) [
+  | true ↦ (s, Err (IdUsed id))
+  | false ↦ (begun_anew p id s, Ok (Restarted id))
+]

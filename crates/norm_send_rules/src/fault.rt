@@ -1,0 +1,60 @@
+//! Why a sender refuses a command. Where several faults apply, the first in the order of these lists counts.
+
+use norm_base::InstanceId;
+use thiserror::Error;
+
+/// Why a stream takes no more.
+#[derive(Clone, Copy, Debug, PartialEq, Eq, Error)]
+pub enum StreamFault {
+    #[error("the stream was closed")]
+    Closed,
+    #[error("after {octets} octets the stream can't take so many more")]
+    Spent { octets: u32 },
+    #[error("no room: the first block that is kept is {first}")]
+    Full { first: u32 },
+}
+
+/// Why nothing is enqueued.
+#[derive(Clone, Copy, Debug, PartialEq, Eq)]
+pub enum EnqueueFault {
+    /// There are no octets.
+    Empty,
+    /// An object, a write or a stream's buffer of so many octets is more than the profile allows.
+    TooBig { len: u64 },
+    /// The info has more octets than a symbol.
+    InfoTooBig { len: u64 },
+    /// The stream with this index is open.
+    StreamOpen { index: u32 },
+    /// No stream is open.
+    NoStream,
+    /// The instance has used all its object transport ids.
+    IdsSpent,
+    /// The stream takes no more.
+    Stream(StreamFault),
+    /// There is no room, and the object with this index, the window's first, may not go.
+    WindowFull { first: u32 },
+    /// There was no memory for it.
+    Memory,
+}
+
+/// Why no watermark request is made.
+#[derive(Clone, Copy, Debug, PartialEq, Eq)]
+pub enum MarkFault {
+    /// Nothing was sent or waits to be sent in this instance.
+    NothingEnqueued,
+    /// So many requests are open.
+    TooMany { count: u32 },
+    /// There was no memory for it.
+    Memory,
+}
+
+/// Why a sender refuses a command.
+#[derive(Clone, Copy, Debug, PartialEq, Eq)]
+pub enum SendFault {
+    Enqueue(EnqueueFault),
+    Mark(MarkFault),
+    /// This id was an instance of this sender before, or is now.
+    IdUsed { instance: InstanceId },
+    /// There was no memory for it. Every want of memory is told by this word.
+    Memory,
+}

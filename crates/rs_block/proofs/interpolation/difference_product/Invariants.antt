@@ -1,7 +1,0 @@
-use Rattle.std.proofs.Common.{◌≡◌, ◌<◌, drop}
-use Rattle.gf_field.specs.Product.{product}
-use Rattle.gf_field.specs.Interpolation.{differences}
-use Rattle.rs_block.proofs.interpolation.difference_product.Given as goal
-
-abbrev pub invariant-loop-place : goal.invariant-loop-place
-invariant-loop-place l = (product l.product (differences (drop l.place-index l.places) l.x) ≡ differences l.places l.x) × (l.product < 256)

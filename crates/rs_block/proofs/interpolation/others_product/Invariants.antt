@@ -1,7 +1,0 @@
-use Rattle.std.proofs.Common.{◌≡◌, ◌<◌, drop}
-use Rattle.gf_field.specs.Product.{product}
-use Rattle.gf_field.specs.Interpolation.{differences, others}
-use Rattle.rs_block.proofs.interpolation.others_product.Given as goal
-
-abbrev pub invariant-loop-other : goal.invariant-loop-other
-invariant-loop-other l = (product l.product (differences (others l.place (drop l.other-index l.places)) l.place) ≡ differences (others l.place l.places) l.place) × (l.product < 256)
