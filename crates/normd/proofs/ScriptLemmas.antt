@@ -1,6 +1,6 @@
 use Rattle.std.proofs.Common.{◌≡◌, ℕ, List, [], ◌∷◌, Ok}
 use Rattle.std.specs.List.{AllByRecursion}
-use Rattle.std.specs.Prelude.{Option, None, Some}
+use Rattle.std.specs.Prelude.{None, Some}
 use Rattle.std.proofs.lemmas.Result.{IfOk-at_ok}
 use Rattle.norm_session.specs.Commands.{IsCommand}
 use Rattle.norm_session.specs.SessionRun.{IsScript}
@@ -33,5 +33,3 @@ pub runnable : (text : List ℕ) (script : Commands) → script_of Built text �
 runnable text script is =
     let s = IfOk-at_ok (IsOf Built) is (script-sound Built text) in
     record { range = s.0.range; few = s.1.few; each = commands script.profile.e script.lines s.1.each }
-
-pub ruleset running = (runnable)

@@ -101,7 +101,7 @@ pub record SpentUnsaid (before after : Outside) : Type 0 where
   pub session : RanSession before after false unsaid
   pub output : GainsFront unsaid after.written (codes "turns spent\n")
 
--- A line is the input's first that has no meaning today, or none that a session can run.
+-- A line is the input's first that has no meaning, or none that a session can run today.
 pub record RefusedLine (before after : Outside) (refusal : Refusal) : Type 0 where
   pub text : List ℕ
   pub input : IsInput text before.input after.input
