@@ -1,6 +1,6 @@
 #!/bin/sh
-# Runs the built program at the statuses 0, 2, 3, 4 and 5, and compares what it writes. It is run after `rt ci`, which
-# leaves the program; the first row that differs is named, and ends it with status 1.
+# Runs the built program at the statuses 0, 2, 3, 4 and 5, and compares what it writes on standard output and standard error.
+# It is run after `rt ci`, which leaves the program; the first row that differs is named, and ends it with status 1.
 cd "$(dirname "$0")/.." || exit 1
 program=crates/normd/out/normd
 usage='usage: normd session | show | generate N | send PROFILE | recv PROFILE NODE | hub PROFILE'
@@ -10,13 +10,16 @@ rows=0
 scratch=$(mktemp -d) || exit 1
 trap 'rm -rf "$scratch"' EXIT
 
-# row NAME STATUS OUTPUT WORD..: the input stands in $scratch/in. The output is compared with its line feeds.
+# row NAME STATUS OUTPUT WORD..: the input stands in $scratch/in. The output is compared with its line feeds, and so is
+# standard error with $reason, the one line that may stand there.
+reason=
 row() {
     name=$1 wanted=$2 output=$3
     shift 3
     "$program" "$@" <"$scratch/in" >"$scratch/out" 2>"$scratch/err"
     ended $? "$name" "$wanted"
     printf '%b' "$output" | cmp -s - "$scratch/out" || { echo "program: $name wrote"; cat "$scratch/out"; exit 1; }
+    printf '%b' "$reason" | cmp -s - "$scratch/err" || { echo "program: $name said"; cat "$scratch/err"; exit 1; }
 }
 
 # ended STATUS NAME WANTED
@@ -33,7 +36,15 @@ row 'a word that is no text' 2 "$usage\n" "$(printf '\377\376')"
 : >"$scratch/in"
 row 'an empty script' 0 'end objects 0 octets 0 handed 0 lost 0 satisfied 0 expired 0 cut 0\n' session
 printf 'set e 64\n1 data 6\n' >"$scratch/in"
+reason='line 2: contents are an even number of hexadecimal digits, 2 to 16384\n'
 row 'a line without meaning' 3 'refused line 2\n' session
+printf 'set e 64\r\n' >"$scratch/in"
+reason='line 1 ends with a carriage return: write lines that end with a line feed alone\n'
+row 'a carriage return' 3 'refused line 1\n' session
+printf '1 data 61\n1 mark\n' >"$scratch/in"
+reason='line 2: a session runs only `1 data HEX` yet\n'
+row 'a command that is not built' 3 'refused line 2\n' session
+reason=
 
 "$program" session <. >"$scratch/out" 2>"$scratch/err"
 ended $? 'a folder as input' 4

@@ -42,6 +42,10 @@ run / "$scratch/again" session
 row 'the proved program through links' 0 "$hello" 0
 run / "$scratch/again" sessions
 row 'the proved program at other words' 2 "$usage" 0
+echo '1 mark' >"$scratch/in"
+run / "$scratch/again" session
+row 'the proved program at a refused line' 3 'refused line 1' 1
+cp examples/hello.norm "$scratch/in"
 
 # A copy without the program: its tool is first none, then one that says what a test wants, and then the real one.
 copy="$scratch/a copy"

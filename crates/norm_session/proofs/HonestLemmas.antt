@@ -12,7 +12,7 @@ use Rattle.norm_session.specs.Turn.{Answer, take_event, offer_events, offer_of, 
 use Rattle.norm_session.specs.WholeTurn.{pull_part}
 use Rattle.norm_session.specs.declared.event.Event.{Event}
 use Rattle.norm_session.specs.declared.event.Event.TheVariants.{Start, Turn, Pull, Job, Tick, Offer, Took, Empty, Up, Fault}
-use Rattle.norm_session.specs.declared.script.Line.{Line}
+use Rattle.norm_script.specs.declared.script.Line.{Line}
 
 -- two honest parts of a journal, one after the other
 honest-join : (offers : List (ℕ × List ℕ)) (xs ys : List Event) → IsHonest offers xs → IsHonest (offers ++ flat_map offer_of xs) ys → IsHonest offers (xs ++ ys)

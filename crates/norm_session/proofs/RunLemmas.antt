@@ -16,7 +16,7 @@ use Rattle.norm_session.specs.SessionRun.{Turns, first_of, rest_of, is_whole}
 use Rattle.norm_session.specs.Turn.{Answer, entry_of, network_after}
 use Rattle.norm_session.specs.WholeTurn.{TakesTurn, moment_of, turn_events, sender_after_turn}
 use Rattle.norm_session.specs.declared.event.Event.{Event}
-use Rattle.norm_session.specs.declared.script.Line.{Line}
+use Rattle.norm_script.specs.declared.script.Line.{Line}
 use Rattle.norm_session.proofs.ToldLemmas.{gained-nil, gained-gained}
 use Rattle.norm_session.proofs.TakingLemmas.{network_after-nil}
 use Rattle.norm_session.proofs.TurnLemmas.{network_after-append, lines_of-append}

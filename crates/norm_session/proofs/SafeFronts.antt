@@ -6,7 +6,7 @@ use Rattle.std.proofs.lemmas.Grind.{flat_map-append}
 use Rattle.norm_base.specs.Settings.{Settings, InRange}
 use Rattle.norm_base.specs.declared.kinds.Sent.TheVariants as sent
 use Rattle.norm_session.specs.Begun.{Begun}
-use Rattle.norm_session.specs.Commands.{Commands}
+use Rattle.norm_script.specs.Commands.{Commands}
 use Rattle.norm_session.specs.ReceiverState.{ReceiverState, receiver_opening}
 use Rattle.norm_session.specs.Safe.{accepted_in, handed_in, IsHonest, Safe}
 use Rattle.norm_session.specs.SenderState.{Entry, SenderState, sender_opening, sender_datagram, sender_after}
@@ -15,7 +15,7 @@ use Rattle.norm_session.specs.Turn.{Answer, take_event, delivered_all, receiver_
 use Rattle.norm_session.specs.WholeTurn.{pulled, pull_part, moment_of, turn_events, sender_after_turn, receiver_after_turn}
 use Rattle.norm_session.specs.declared.event.Event.{Event}
 use Rattle.norm_session.specs.declared.event.Event.TheVariants.{Turn, Tick, Start}
-use Rattle.norm_session.specs.declared.script.Line.{Line}
+use Rattle.norm_script.specs.declared.script.Line.{Line}
 use Rattle.norm_session.proofs.SafeLemmas.{takes-keep, delivered_all-point}
 use Rattle.norm_session.proofs.HandLemmas.{Handed, IsFrontOf, hand-all}
 use Rattle.norm_session.proofs.SafeRun.{Kept, Final, kept-pull, kept-sent, kept-turn, kept_opening, final_of, final_after, offered_by, honest-pull, honest-offer, accepted-pull, accepted-offer, accepted-takes, accepted-ups, handed-pull, handed-offer, handed-takes}

@@ -18,8 +18,8 @@ use Rattle.norm_session.specs.declared.event.Event.{Event}
 use Rattle.norm_session.specs.declared.event.Event.TheVariants.{Turn, Tick, Start}
 use Rattle.norm_session.specs.declared.event.Event.TheVariants as event
 use Rattle.norm_session.specs.declared.job.Receipt.TheVariants as receipt
-use Rattle.norm_session.specs.declared.script.Line.{Line}
-use Rattle.norm_session.specs.declared.script.Verb.TheVariants as verb
+use Rattle.norm_script.specs.declared.script.Line.{Line}
+use Rattle.norm_script.specs.declared.script.Verb.TheVariants as verb
 use Rattle.norm_session.proofs.SafeLemmas.{IsOffer, held-grows, offers-grow, all-append, takes-keep, delivered_all-point}
 use Rattle.norm_session.proofs.HandLemmas.{Handed, IsFrontOf, numbered-append, hand-all}
 
@@ -36,7 +36,7 @@ pub record Kept (p : Settings) (all : List Entry) (s : SenderState) (r : Receive
 pub accepted-pull : (s : SenderState) (command : Line) → flat_map accepted_in (pull_events s command) ≡ (length s.order, entry_of command) ∷ []
 accepted-pull s command =
     elim command.verb as (λ v. accepted_in (event.Job (origin_of command) (Some (job_of v)) (Ok (receipt.Object (length s.order) (length (octets_of v))))) ++ []
-    ≡ (length s.order, record { producer = command.producer; number = command.number; octets = octets_of v }) ∷ []) [ verb.Data info bytes ↦ refl ]
+    ≡ (length s.order, record { producer = command.producer; number = command.number; octets = octets_of v }) ∷ []) [ verb.Data info bytes ↦ refl | verb.File name ↦ refl | verb.Open ↦ refl | verb.Write bytes ↦ refl | verb.Close ↦ refl | verb.Mark ↦ refl | verb.Restart instance ↦ refl ]
 
 octets-append : (order : List Entry) (y : Entry) → octets_in (order ++ y ∷ []) ≡ octets_in order ++ y.octets ∷ []
 octets-append [] y = refl

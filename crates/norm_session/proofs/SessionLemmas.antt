@@ -10,7 +10,8 @@ use Rattle.norm_base.specs.declared.kinds.Local.TheVariants.{All}
 use Rattle.norm_session.specs.declared.event.Event.{Event}
 use Rattle.norm_session.specs.declared.event.Event.TheVariants.{Start}
 use Rattle.norm_session.specs.Begun.{Begun}
-use Rattle.norm_session.specs.Commands.{Commands, IsCommand, longest_symbol}
+use Rattle.norm_script.specs.Commands.{Commands}
+use Rattle.norm_session.specs.Commands.{IsCommand, longest_symbol}
 use Rattle.norm_session.specs.Printed.{lines_of}
 use Rattle.norm_session.specs.Totals.{end_line}
 use Rattle.norm_session.specs.Running.{TakesTurns}
@@ -19,7 +20,7 @@ use Rattle.norm_session.specs.Session.{HasSession, RunsSession}
 use Rattle.norm_session.specs.SessionRun.{IsScript, SessionRun}
 use Rattle.norm_session.specs.Turn.{offer_of, answer_in, network_after}
 use Rattle.norm_session.proofs.ToldLemmas.{gained-gained}
-use Rattle.norm_session.specs.declared.script.Line.{Line}
+use Rattle.norm_script.specs.declared.script.Line.{Line}
 use Rattle.std.specs.List.{AllByRecursion}
 
 -- what a list that began anew has gained is all that it has

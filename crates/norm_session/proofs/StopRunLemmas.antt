@@ -11,7 +11,7 @@ use Rattle.norm_session.specs.Turn.{Answer, IsTaking, most_takes}
 use Rattle.norm_session.specs.WholeTurn.{turn_events, sender_after_turn, receiver_after_turn}
 use Rattle.norm_session.specs.declared.event.Event.{Event}
 use Rattle.norm_session.specs.declared.fault.SessionFault.{SessionFault}
-use Rattle.norm_session.specs.declared.script.Line.{Line}
+use Rattle.norm_script.specs.declared.script.Line.{Line}
 use Rattle.norm_session.proofs.RunLemmas.{Going, differs_of}
 use Rattle.norm_session.proofs.StopLemmas.{stops-after}
 use Rattle.norm_base.specs.Told.{Pieces}

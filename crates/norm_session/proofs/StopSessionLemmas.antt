@@ -6,7 +6,7 @@ use Rattle.norm_base.specs.Told.{Pieces, gained, GainsFront}
 use Rattle.norm_base.specs.declared.kinds.Local.TheVariants.{All}
 use Rattle.norm_session.specs.Begun.{Begun}
 use Rattle.norm_session.specs.BreakingOff.{BreaksOff, HasLines}
-use Rattle.norm_session.specs.Commands.{Commands}
+use Rattle.norm_script.specs.Commands.{Commands}
 use Rattle.norm_session.specs.Honesty.{HonestFor}
 use Rattle.norm_session.specs.Printed.{line_of, lines_of}
 use Rattle.norm_session.specs.ReceiverState.{receiver_opening}

@@ -20,7 +20,7 @@ use Rattle.norm_session.specs.WholeTurn.{moment_of, pulled, pull_part, sender_ti
 use Rattle.norm_session.specs.declared.event.Event.{Event}
 use Rattle.norm_session.specs.declared.event.Event.TheVariants.{Turn, Tick}
 use Rattle.norm_session.specs.declared.fault.SessionFault.{SessionFault}
-use Rattle.norm_session.specs.declared.script.Line.{Line}
+use Rattle.norm_script.specs.declared.script.Line.{Line}
 use Rattle.norm_session.proofs.HandingLemmas.{some_told}
 use Rattle.norm_session.proofs.HonestLemmas.{honest-nil, honest-take}
 use Rattle.norm_session.proofs.RunLemmas.{turn_honest}

@@ -17,7 +17,7 @@ use Rattle.norm_session.specs.Turn.{Answer, IsTaking, most_takes, take_event, of
 use Rattle.norm_session.specs.WholeTurn.{TakesTurn, moment_of, pulled, pull_part, sender_ticked}
 use Rattle.norm_session.specs.declared.event.Event.{Event}
 use Rattle.norm_session.specs.declared.event.Event.TheVariants.{Turn, Tick}
-use Rattle.norm_session.specs.declared.script.Line.{Line}
+use Rattle.norm_script.specs.declared.script.Line.{Line}
 use Rattle.norm_base.specs.declared.kinds.Sent.TheVariants as sent
 use Rattle.norm_session.proofs.ToldLemmas.{gained-nil, gained-gained}
 

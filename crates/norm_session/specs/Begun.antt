@@ -1,6 +1,6 @@
 use Rattle.std.specs.Prelude.{List, ◌++◌, Bool}
 use Rattle.norm_session.specs.declared.event.Event.{Event}
-use Rattle.norm_session.specs.Commands.{Commands}
+use Rattle.norm_script.specs.Commands.{Commands}
 use Rattle.norm_session.specs.SessionRun.{SessionRun}
 
 -- The beginning of a run of these commands: some run goes on from it. A whole run is one too.

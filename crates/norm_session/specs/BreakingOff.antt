@@ -5,7 +5,7 @@ use Rattle.norm_session.specs.declared.event.Event.{Event}
 use Rattle.norm_session.specs.declared.fault.SessionFault.{SessionFault}
 use Rattle.norm_session.specs.declared.fault.SessionFault.TheVariants.{Write, Fabric, Memory}
 use Rattle.norm_session.specs.Begun.{Begun}
-use Rattle.norm_session.specs.Commands.{Commands}
+use Rattle.norm_script.specs.Commands.{Commands}
 use Rattle.norm_session.specs.Printed.{line_of, lines_of}
 use Rattle.norm_session.specs.Safe.{IsHonest, Safe}
 use Rattle.norm_session.specs.Session.{HasSession}

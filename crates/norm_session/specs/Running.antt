@@ -2,7 +2,7 @@ use Rattle.std.specs.Prelude.{◌≡◌, List, ◌++◌, Bool}
 use Rattle.norm_base.specs.Network.{Network}
 use Rattle.norm_base.specs.Told.{Pieces, gained}
 use Rattle.norm_session.specs.declared.event.Event.{Event}
-use Rattle.norm_session.specs.declared.script.Line.{Line}
+use Rattle.norm_script.specs.declared.script.Line.{Line}
 use Rattle.norm_session.specs.Printed.{lines_of}
 use Rattle.norm_session.specs.Honesty.{HonestFor}
 use Rattle.norm_session.specs.RunState.{RunState}

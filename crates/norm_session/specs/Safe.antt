@@ -6,7 +6,7 @@ use Rattle.norm_session.specs.declared.event.Event.TheVariants as event
 use Rattle.norm_session.specs.declared.job.Job.TheVariants as job
 use Rattle.norm_session.specs.declared.job.Receipt.TheVariants as receipt
 use Rattle.norm_session.specs.declared.job.Up.TheVariants as up
-use Rattle.norm_session.specs.Commands.{Commands}
+use Rattle.norm_script.specs.Commands.{Commands}
 use Rattle.norm_session.specs.SenderState.{Entry}
 use Rattle.norm_session.specs.Turn.{entry_of}
 

@@ -5,7 +5,7 @@ use Rattle.norm_base.specs.Network.{Network}
 use Rattle.norm_base.specs.Told.{Pieces, gained}
 use Rattle.norm_base.specs.declared.kinds.Local.TheVariants.{All}
 use Rattle.norm_session.specs.declared.event.Event.{Event}
-use Rattle.norm_session.specs.Commands.{Commands}
+use Rattle.norm_script.specs.Commands.{Commands}
 use Rattle.norm_session.specs.Printed.{lines_of}
 use Rattle.norm_session.specs.Totals.{end_line}
 use Rattle.norm_session.specs.SessionRun.{SessionRun}

@@ -3,8 +3,9 @@ use Rattle.std.specs.List.{AllByRecursion}
 use Rattle.norm_base.specs.Settings.{Settings, InRange}
 use Rattle.norm_session.specs.declared.event.Event.{Event}
 use Rattle.norm_session.specs.declared.event.Event.TheVariants.{Start}
-use Rattle.norm_session.specs.declared.script.Line.{Line}
-use Rattle.norm_session.specs.Commands.{Commands, IsCommand}
+use Rattle.norm_script.specs.declared.script.Line.{Line}
+use Rattle.norm_script.specs.Commands.{Commands}
+use Rattle.norm_session.specs.Commands.{IsCommand}
 use Rattle.norm_session.specs.SenderState.{SenderState, sender_opening}
 use Rattle.norm_session.specs.ReceiverState.{ReceiverState, receiver_opening}
 use Rattle.norm_session.specs.Turn.{Answer, IsTaking, most_takes}

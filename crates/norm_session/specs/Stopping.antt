@@ -5,7 +5,7 @@ use Rattle.norm_base.specs.Told.{Pieces, gained, GainsFront}
 use Rattle.norm_session.specs.declared.event.Event.{Event}
 use Rattle.norm_session.specs.declared.fault.SessionFault.{SessionFault}
 use Rattle.norm_session.specs.declared.fault.SessionFault.TheVariants.{Write, Fabric, Memory}
-use Rattle.norm_session.specs.declared.script.Line.{Line}
+use Rattle.norm_script.specs.declared.script.Line.{Line}
 use Rattle.norm_session.specs.Honesty.{HonestFor}
 use Rattle.norm_session.specs.Printed.{line_of, lines_of}
 use Rattle.norm_session.specs.ReceiverState.{ReceiverState}

@@ -13,9 +13,9 @@ use Rattle.norm_session.specs.declared.job.Job.{Job}
 use Rattle.norm_session.specs.declared.job.Job.TheVariants as job
 use Rattle.norm_session.specs.declared.job.Receipt.TheVariants as receipt
 use Rattle.norm_session.specs.declared.job.Up.TheVariants as up
-use Rattle.norm_session.specs.declared.script.Line.{Line}
-use Rattle.norm_session.specs.declared.script.Verb.{Verb}
-use Rattle.norm_session.specs.declared.script.Verb.TheVariants as verb
+use Rattle.norm_script.specs.declared.script.Line.{Line}
+use Rattle.norm_script.specs.declared.script.Verb.{Verb}
+use Rattle.norm_script.specs.declared.script.Verb.TheVariants as verb
 use Rattle.norm_session.specs.SenderState.{SenderState, Entry}
 use Rattle.norm_session.specs.ReceiverState.{ReceiverState, receiver_got, receiver_took, next_up, object_in}
 
@@ -30,9 +30,10 @@ receiver_node p = p.sender + 1
 abbrev pub origin_of : Line → Origin
 origin_of line = record { producer = line.producer; number = line.number }
 
--- the octets of a command's object
+-- the octets of a command's object; a session runs no other command today
 abbrev pub octets_of : Verb → List ℕ
 octets_of (verb.Data info bytes) = bytes
+octets_of other = []
 
 abbrev pub entry_of : Line → Entry
 entry_of line = record { producer = line.producer; number = line.number; octets = octets_of line.verb }
@@ -40,6 +41,7 @@ entry_of line = record { producer = line.producer; number = line.number; octets 
 -- the job of a command
 abbrev pub job_of : Verb → Job
 job_of (verb.Data info bytes) = job.Data info bytes
+job_of other = job.Data None []
 
 abbrev pub job_event : Line → ℕ → Event
 job_event line index =

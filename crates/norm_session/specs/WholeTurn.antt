@@ -4,7 +4,7 @@ use Rattle.norm_base.specs.Network.{Network}
 use Rattle.norm_base.specs.Told.{Pieces, gained}
 use Rattle.norm_session.specs.declared.event.Event.{Event}
 use Rattle.norm_session.specs.declared.event.Event.TheVariants.{Turn}
-use Rattle.norm_session.specs.declared.script.Line.{Line}
+use Rattle.norm_script.specs.declared.script.Line.{Line}
 use Rattle.norm_session.specs.SenderState.{SenderState, enqueued, sender_datagram, sender_after}
 use Rattle.norm_session.specs.ReceiverState.{ReceiverState}
 use Rattle.norm_session.specs.Printed.{lines_of}

@@ -2,7 +2,7 @@
 
 ghost use Rattle.std.specs.Prelude.{List, [], Bool};
 ghost use Rattle.norm_session.specs.declared.event.Event.{Event as Happening};
-ghost use Rattle.norm_session.specs.Commands.{Commands};
+ghost use Rattle.norm_script.specs.Commands.{Commands};
 ghost use Rattle.norm_session.specs.SessionRun.{IsScript, SessionRun};
 ghost use Rattle.norm_session.specs.Begun.{Begun};
 ghost use Rattle.norm_session.specs.Safe.{IsHonest, Safe};

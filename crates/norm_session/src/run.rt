@@ -26,12 +26,12 @@ use crate::fault::SessionFault;
 use crate::job::{Job, Up};
 use crate::lines::line_of;
 use crate::receiver::Receiver;
-use crate::script::{Line, Verb};
 use crate::sender::Sender;
 use crate::totals::end_line;
 use norm_base::{
     Datagram, Fabric, InstanceId, Kind, Local, Moment, NodeId, Octets, Origin, Profile, Sent, Sink,
 };
+use norm_script::{Line, Verb};
 use std::alloc::Global;
 use std::marker::Model;
 
@@ -123,6 +123,21 @@ fn job_of(alloc: Global, verb: &Verb) -> Result<Job, SessionFault>
             let info = Some(info);
             Ok(Job::Data { info, bytes })
         }
+        _ => Ok(Job::Data {
+            info: None,
+            bytes: Octets::of(Vec::new(alloc)),
+        }),
+    }
+}
+
+/// The octets of a command's object.
+fn octets_of(alloc: Global, verb: &Verb) -> Result<Octets, SessionFault>
+    ensures value { IfOk result (λ octets. octets ≡ octets_of verb.now) }
+    ensures cause { NeedsMemory result }
+{
+    match verb {
+        Verb::Data { bytes, .. } => copy_of(alloc, bytes.bytes()),
+        _ => Ok(Octets::of(Vec::new(alloc))),
     }
 }
 
@@ -213,8 +228,7 @@ impl Run {
             producer: line.producer,
             number: line.number,
         };
-        let Verb::Data { info, bytes } = &line.verb;
-        let kept = copy_of(self.alloc, bytes.bytes())?;
+        let kept = octets_of(self.alloc, &line.verb)?;
         let job = job_of(self.alloc, &line.verb)?;
         self.note(Event::Pull { by })?;
         let receipt = self.sender.enqueue(by, kept)?;

@@ -1,16 +1,16 @@
-use Rattle.std.proofs.Common.{◌≡◌, ◌∙◌, sym, ap, subst, ℕ, List, [], ◌∷◌, Option, Result, Ok, Err, Bool, true, refl, inl, inr}
+use Rattle.std.proofs.Common.{◌≡◌, ◌∙◌, sym, ap, subst, ℕ, List, Option, Result, Ok, Err, Bool, true, refl, inl, inr}
 use Rattle.std.specs.Prelude.{IfErr}
 use Rattle.norm_base.specs.Faults.{one_more}
 use Rattle.norm_base.specs.Network.{Network}
 use Rattle.norm_base.specs.Told.{Pieces}
 use Rattle.norm_session.specs.BreakingOff.{BreaksOff}
 use Rattle.norm_session.specs.Causes.{HasCause}
-use Rattle.norm_session.specs.Commands.{Commands}
+use Rattle.norm_script.specs.Commands.{Commands}
 use Rattle.norm_session.specs.Session.{RunsSession}
 use Rattle.norm_session.specs.declared.event.Event.{Event}
 use Rattle.norm_session.specs.declared.fault.SessionFault.{SessionFault}
 use Rattle.norm_session.specs.declared.fault.SessionFault.TheVariants.{Write as Writing, Fabric as Calling, Memory as Wanting}
-use Rattle.normd.specs.Ends.{Outside, outside, Ends, EndsEarly, Prepared, IsReadEnding, IsTextEnding, IsLastEnding, IsBrokenEnding, IsInput, RanSession, BrokeSession, is_session}
+use Rattle.normd.specs.Ends.{outside, Ends, EndsEarly, Prepared, IsReadEnding, IsTextEnding, IsLastEnding, IsBrokenEnding, IsInput, RanSession, BrokeSession, is_session}
 use Rattle.normd.specs.declared.status.Ending.{Ending}
 use Rattle.normd.specs.declared.status.Ending.TheVariants.{Done, Memory, Words, Refused, Read, Write, Fabric, Spent}
 
@@ -31,7 +31,7 @@ read_ends Memory words i j u w r s k t is h = λ n f. (
 read_ends Read words i j u w r s k t is h = λ n f. (is, record { cause = h.0; network = refl; calls = refl; output = h.1 })
 read_ends Done words i j u w r s k t is h = absurd h
 read_ends Words words i j u w r s k t is h = absurd h
-read_ends (Refused n) words i j u w r s k t is h = absurd h
+read_ends (Refused refusal) words i j u w r s k t is h = absurd h
 read_ends Write words i j u w r s k t is h = absurd h
 read_ends Fabric words i j u w r s k t is h = absurd h
 read_ends Spent words i j u w r s k t is h = absurd h
@@ -47,7 +47,7 @@ text_ends Memory words text i j u w r s k t is input quiet h = λ n f. (
     writes = h.1;
   },
 )
-text_ends (Refused line) words text i j u w r s k t is input quiet h = λ n f. (
+text_ends (Refused refusal) words text i j u w r s k t is input quiet h = λ n f. (
   is,
   record {
     text = text;
@@ -124,7 +124,7 @@ last_ends Write words script journal whole i j m n u v w r s f g k l t p reads r
     )
 last_ends Memory words script journal whole i j m n u v w r s f g k l t p reads runs writes calls h = absurd h
 last_ends Words words script journal whole i j m n u v w r s f g k l t p reads runs writes calls h = absurd h
-last_ends (Refused line) words script journal whole i j m n u v w r s f g k l t p reads runs writes calls h = absurd h
+last_ends (Refused refusal) words script journal whole i j m n u v w r s f g k l t p reads runs writes calls h = absurd h
 last_ends Read words script journal whole i j m n u v w r s f g k l t p reads runs writes calls h = absurd h
 last_ends Fabric words script journal whole i j m n u v w r s f g k l t p reads runs writes calls h = absurd h
 

@@ -1,5 +1,3 @@
-pub mod NumberLemmas
-pub mod LineLemmas
-pub mod ReadingLemmas
 pub mod SayLemmas
 pub mod EndingLemmas
+pub mod ScriptLemmas

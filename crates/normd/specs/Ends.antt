@@ -5,14 +5,16 @@ use Rattle.std.specs.Cmp.Lexicographic.{pointwise}
 use Rattle.norm_base.specs.Faults.{one_more}
 use Rattle.norm_base.specs.Network.{Network}
 use Rattle.norm_base.specs.Told.{Pieces, gained, GainsFront}
-use Rattle.norm_session.specs.Commands.{Commands}
+use Rattle.norm_script.specs.Commands.{Commands}
 use Rattle.norm_session.specs.Session.{HasSession, printed}
 use Rattle.norm_session.specs.SessionRun.{SessionRun}
 use Rattle.norm_session.specs.BreakingOff.{BreaksOff}
 use Rattle.norm_session.specs.declared.event.Event.{Event}
 use Rattle.norm_session.specs.declared.fault.SessionFault.{SessionFault}
 use Rattle.norm_session.specs.declared.fault.SessionFault.TheVariants.{Write as Writing, Fabric as Calling, Memory as Wanting}
-use Rattle.normd.specs.Reading.{script_of}
+use Rattle.norm_script.specs.Reading.{script_of}
+use Rattle.norm_script.specs.declared.refusal.Extent.TheVariants.{Built}
+use Rattle.norm_script.specs.declared.refusal.Refusal.{Refusal}
 use Rattle.normd.specs.StatusOf.{status_of}
 use Rattle.normd.specs.declared.arguments.WordsFault.{WordsFault}
 use Rattle.normd.specs.declared.arguments.WordsFault.TheVariants.{NotText, Memory as NoMemory}
@@ -63,7 +65,7 @@ pub record RanSession (before after : Outside) (whole : Bool) (written : Pieces)
   pub script : Commands
   pub journal : List Event
   pub input : IsInput text before.input after.input
-  pub read : script_of text ≡ Ok script
+  pub read : script_of Built text ≡ Ok script
   pub run : SessionRun script journal whole
   pub network : HasSession script journal before.network after.network
   -- over an honest network the run is safe
@@ -76,7 +78,7 @@ pub record BrokeSession (fault : SessionFault) (before after : Outside) (written
   pub text : List ℕ
   pub script : Commands
   pub input : IsInput text before.input after.input
-  pub read : script_of text ≡ Ok script
+  pub read : script_of Built text ≡ Ok script
   pub session : BreaksOff fault script before.network after.network before.written written
 
 -- All was done.
@@ -99,13 +101,13 @@ pub record SpentUnsaid (before after : Outside) : Type 0 where
   pub session : RanSession before after false unsaid
   pub output : GainsFront unsaid after.written (codes "turns spent\n")
 
--- Line n is the input's first that has no meaning.
-pub record RefusedLine (before after : Outside) (n : ℕ) : Type 0 where
+-- A line is the input's first that has no meaning, or none that a session can run today.
+pub record RefusedLine (before after : Outside) (refusal : Refusal) : Type 0 where
   pub text : List ℕ
   pub input : IsInput text before.input after.input
-  pub read : script_of text ≡ Err n
+  pub read : script_of Built text ≡ Err refusal
   pub network : after.network ≡ before.network
-  pub output : Says before.written after.written before.write_faults after.write_faults (refused_line n)
+  pub output : Says before.written after.written before.write_faults after.write_faults (refused_line refusal.line)
   pub undisturbed : Undisturbed before after
 
 -- One read failed.
@@ -151,7 +153,7 @@ pub record RefusedWords (before after : Outside) : Type 0 where
 abbrev pub EndsSession : Ending → Outside → Outside → Type 0
 EndsSession Done before after = DidAll before after
 EndsSession Spent before after = SpentTurns before after
-EndsSession (Refused n) before after = RefusedLine before after n
+EndsSession (Refused refusal) before after = RefusedLine before after refusal
 EndsSession Read before after = FailedRead before after
 EndsSession Memory before after = WantedMemory before after
 EndsSession Write before after = FailedWrite before after
@@ -190,7 +192,7 @@ pub record Prepared (script : Commands) (words : List (List ℕ)) (before after 
   pub command : is_session words ≡ true
   pub text : List ℕ
   pub input : IsInput text before after
-  pub read : script_of text ≡ Ok script
+  pub read : script_of Built text ≡ Ok script
 
 -- What ends the program before a session: the words are no command, a read failed, a line has no meaning, or there was no
 -- memory. The network was not called.
@@ -208,7 +210,8 @@ IsReadEnding _ before after unwritten written old new = ⊥
 -- how a text is no script
 abbrev pub IsTextEnding : Ending → List ℕ → (unwritten written : Pieces) → (old new : ℕ) → Type 0
 IsTextEnding Memory text unwritten written old new = (written ≡ unwritten) × (new ≡ old)
-IsTextEnding (Refused n) text unwritten written old new = (script_of text ≡ Err n) × Says unwritten written old new (refused_line n)
+IsTextEnding (Refused refusal) text unwritten written old new =
+    (script_of Built text ≡ Err refusal) × Says unwritten written old new (refused_line refusal.line)
 IsTextEnding _ text unwritten written old new = ⊥
 
 -- how a session that ran ends the program

@@ -7,7 +7,7 @@ abbrev pub status_of : Ending → ℕ
 status_of Done = 0
 status_of Memory = 1
 status_of Words = 2
-status_of (Refused n) = 3
+status_of (Refused refusal) = 3
 status_of Read = 4
 status_of Write = 5
 status_of Fabric = 6

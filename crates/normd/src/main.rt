@@ -4,15 +4,11 @@
 mod arguments;
 #[cfg(test)]
 mod disturbed;
-mod given;
 mod input;
-mod meaning;
 mod program;
-mod read;
 mod status;
 #[cfg(test)]
 mod tests;
-mod words;
 
 use crate::arguments::arguments;
 use crate::program::run;

@@ -2,15 +2,15 @@
 
 ghost use Rattle.std.specs.Prelude.{◌≡◌, codes, map, string_bytes, Ok, MatchResult, IfOk, IfErr, OnOk};
 ghost use Rattle.std.specs.Process.{exit_status};
-ghost use Rattle.normd.specs.Ends.{is_session, usage_line, refused_line, outside, Says, IsInput, Prepared, IsReadEnding, IsTextEnding, IsLastEnding, IsBrokenEnding, EndsEarly, EndsWith, EndsUnread};
-ghost use Rattle.normd.specs.Reading.{script_of};
+ghost use Rattle.normd.specs.Ends.{is_session, usage_line, refused_line, outside, Says, IsInput, Prepared, IsReadEnding, IsTextEnding, IsLastEnding, IsBrokenEnding, EndsEarly, Ends, EndsWith, EndsUnread};
+ghost use Rattle.norm_script.specs.Reading.{script_of};
 ghost use Rattle.norm_session.specs.SessionRun.{IsScript};
 
 use crate::arguments::WordsFault;
 use crate::input::{InputFault, read_all};
-use crate::read::{ScriptFault, read_script};
 use crate::status::{Ending, Status};
-use norm_base::{Clock, Fabric, Failed, Files, Sink, Source};
+use norm_base::{Clock, Fabric, Failed, Files, Memory, Sink, Source};
+use norm_script::{Extent, read};
 use norm_session::{Ended, Script, SessionFault, run_session};
 use std::alloc::{AllocError, Global};
 use std::process::ExitCode;
@@ -70,20 +70,20 @@ fn read_input<S: Source, K: Sink>(
 
 /// Reads the script that the text is.
 fn read_text<K: Sink>(alloc: Global, text: &[u8], output: &mut K) -> Result<Script, Ending>
-    ensures script { IfOk result (λ script. (script_of text.now ≡ Ok script) × IsScript script) }
+    ensures script { IfOk result (λ script. (script_of Extent.Built text.now ≡ Ok script) × IsScript script) }
     ensures unwritten { OnOk result (K.pieces output.new ≡ K.pieces output.old) }
     ensures quiet { OnOk result (K.fault_count output.new ≡ K.fault_count output.old) }
     ensures ending { IfErr result (λ ending. IsTextEnding ending text.now (K.pieces output.old) (K.pieces output.new)
         (K.fault_count output.old) (K.fault_count output.new)) }
 {
-    match read_script(alloc, text) {
-        Ok(script) => Ok(script),
-        Err(ScriptFault::Memory) => Err(Ending::Memory),
-        Err(ScriptFault::Line { n }) => {
-            let line = refused_line(alloc, n)?;
+    match read(alloc, text, Extent::Built) {
+        Ok(Ok(script)) => Ok(script),
+        Ok(Err(refusal)) => {
+            let line = refused_line(alloc, refusal.line)?;
             say(output, line.as_bytes());
-            Err(Ending::Refused { n })
+            Err(Ending::Refused { refusal })
         }
+        Err(Memory) => Err(Ending::Memory),
     }
 }
 
@@ -139,8 +139,39 @@ fn prepare<S: Source, K: Sink>(
     read_text(alloc, &text, output)
 }
 
+/// How the program ends with these words after its name; what each ending says is in `Ends`. It leaves the
+/// files and the clock as they were. Only the session itself is handed the runtime.
+fn end_of<R: Threads + Wait + Sync, S: Source, K: Sink, F: Fabric, D: Files, C: Clock>(
+    rt: &R,
+    alloc: Global,
+    words: &Vec<String>,
+    input: &mut S,
+    output: &mut K,
+    fabric: &mut F,
+    files: &mut D,
+    clock: &mut C,
+) -> Ending
+    ensures ends { Ends result (map string_bytes words.now.items)
+        (outside (S.left input.old) (F.told fabric.old) (K.pieces output.old)
+        (S.fault_count input.old) (F.fault_count fabric.old) (K.fault_count output.old))
+        (outside (S.left input.new) (F.told fabric.new) (K.pieces output.new)
+        (S.fault_count input.new) (F.fault_count fabric.new) (K.fault_count output.new)) }
+    ensures files { D.contents files.new ≡ D.contents files.old }
+    ensures file_faults { D.fault_count files.new ≡ D.fault_count files.old }
+    ensures clock { C.moments clock.new ≡ C.moments clock.old }
+{
+    let script = match prepare(alloc, words, input, output) {
+        Ok(script) => script,
+        Err(ending) => return ending,
+    };
+    match run_session(rt, alloc, &script, output, fabric, files, clock) {
+        Ok(ended) => end_session(&ended, output),
+        Err(fault) => break_off(fault, output),
+    }
+}
+
 /// The program: `words` are those after its name. Answers the exit status; what each one says is in
-/// `Ends`. It leaves the files and the clock as they were. Only the session itself is handed the runtime.
+/// `Ends`. It leaves the files and the clock as they were.
 pub fn norm_main<R: Threads + Wait + Sync, S: Source, K: Sink, F: Fabric, D: Files, C: Clock>(
     rt: &R,
     alloc: Global,
@@ -160,19 +191,19 @@ pub fn norm_main<R: Threads + Wait + Sync, S: Source, K: Sink, F: Fabric, D: Fil
     ensures file_faults { D.fault_count files.new ≡ D.fault_count files.old }
     ensures clock { C.moments clock.new ≡ C.moments clock.old }
 {
-    let script = match prepare(alloc, words, input, output) {
-        Ok(script) => script,
-        Err(ending) => return ending.status(),
-    };
-    match run_session(rt, alloc, &script, output, fabric, files, clock) {
-        Ok(ended) => end_session(&ended, output).status(),
-        Err(fault) => break_off(fault, output).status(),
+    end_of(rt, alloc, words, input, output, fabric, files, clock).status()
+}
+
+/// Says on standard error why a line was refused.
+fn explain(rt: &impl Eprint, ending: &Ending) {
+    if let Ending::Refused { refusal } = ending {
+        let _ = eprintln!(rt; "{refusal}");
     }
 }
 
 /// The program as a process: the words after its name, or why there are none, and the objects that it
-/// has. Its exit code is the status of `norm_main` for these words.
-pub(crate) fn run<R: Threads + Wait + Sync, S: Source, K: Sink, F: Fabric, D: Files, C: Clock>(
+/// has. Its exit code is the status of `norm_main` for these words. Why a line was refused goes to standard error.
+pub(crate) fn run<R: Threads + Wait + Sync + Eprint, S: Source, K: Sink, F: Fabric, D: Files, C: Clock>(
     rt: &R,
     alloc: Global,
     words: Result<Vec<String>, WordsFault>,
@@ -200,6 +231,7 @@ pub(crate) fn run<R: Threads + Wait + Sync, S: Source, K: Sink, F: Fabric, D: Fi
         }
         Err(WordsFault::Memory) => return ExitCode::from(Ending::Memory.status()),
     };
-    let status = norm_main(rt, alloc, &words, input, output, fabric, files, clock);
-    ExitCode::from(status)
+    let ending = end_of(rt, alloc, &words, input, output, fabric, files, clock);
+    explain(rt, &ending);
+    ExitCode::from(ending.status())
 }

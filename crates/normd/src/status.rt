@@ -5,6 +5,7 @@ ghost use Rattle.std.specs.Process.{exit_status};
 ghost use Rattle.normd.specs.StatusOf.{status_of};
 ghost use Rattle.normd.specs.declared.status.Ending.TheVariants as ending;
 
+use norm_script::Refusal;
 use std::alloc::AllocError;
 use std::marker::Model;
 use std::process::ExitCode;
@@ -51,8 +52,8 @@ pub enum Ending {
     Memory,
     /// The words are no command.
     Words,
-    /// Line `n` of the script has no meaning.
-    Refused { n: u32 },
+    /// A line of the script has no meaning, or is none that a session can run today.
+    Refused { refusal: Refusal },
     /// A read failed.
     Read,
     /// A write failed.

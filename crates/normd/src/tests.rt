@@ -167,7 +167,7 @@ fn other_words_are_answered_with_the_usage(rt: HostRuntime) -> Result<(), Fail> 
 }
 
 /// The output of the program as a process whose words could not be read.
-fn unread<R: Threads + Wait + Sync>(
+fn unread<R: Threads + Wait + Sync + Eprint>(
     rt: &R,
     alloc: Global,
     fault: WordsFault,

@@ -1,7 +1,7 @@
 use Rattle.std.proofs.Common.{sym, subst, refl, ℕ}
 use Rattle.std.proofs.lemmas.Result.{err_from_is_err_and}
 use Rattle.norm_session.specs.SessionRun.{IsScript}
-use Rattle.norm_session.specs.Commands.{Commands}
+use Rattle.norm_script.specs.Commands.{Commands}
 use Rattle.norm_session.proofs.SessionLemmas.{session_of, fits_longest}
 use Rattle.norm_session.specs.declared.fault.SessionFault.TheVariants.{Memory}
 use Rattle.norm_session.proofs.StopLemmas.{writes_not-network}

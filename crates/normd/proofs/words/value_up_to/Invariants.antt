@@ -1,7 +1,0 @@
-use Rattle.std.proofs.Common.{◌≡◌, ◌≤◌, take}
-use Rattle.normd.specs.Words.{value_of}
-use Rattle.normd.proofs.words.value_up_to.Given as goal
-
--- the value of the digits so far
-abbrev pub invariant-loop-digit : goal.invariant-loop-digit
-invariant-loop-digit l = (l.value ≡ value_of (take l.digit-index l.word)) × (l.value ≤ l.high)
