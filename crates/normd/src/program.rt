@@ -203,7 +203,14 @@ fn explain(rt: &impl Eprint, ending: &Ending) {
 
 /// The program as a process: the words after its name, or why there are none, and the objects that it
 /// has. Its exit code is the status of `norm_main` for these words. Why a line was refused goes to standard error.
-pub(crate) fn run<R: Threads + Wait + Sync + Eprint, S: Source, K: Sink, F: Fabric, D: Files, C: Clock>(
+pub(crate) fn run<
+    R: Threads + Wait + Sync + Eprint,
+    S: Source,
+    K: Sink,
+    F: Fabric,
+    D: Files,
+    C: Clock,
+>(
     rt: &R,
     alloc: Global,
     words: Result<Vec<String>, WordsFault>,
