@@ -1,0 +1,181 @@
+-- Accepted objects enter the transport order once each: kept by each event of a lawful run, and so at its end.
+use Rattle.std.proofs.Common.{◌≡◌, ℕ, List, [], ◌∷◌, ◌++◌, Bool, true, false, Option, None, Some, Result, Ok, Err, refl, sym, ap, ◌∙◌, subst, inl}
+use Rattle.std.specs.Prelude.{◌==◌, is_ok, nat_eq, IsTrue, Contains, map}
+use Rattle.std.specs.List.{IsDistinct, AllByRecursion}
+use Rattle.norm_base.specs.Settings.{Settings}
+use Rattle.norm_base.specs.Members.{receivers_of}
+use Rattle.norm_base.specs.declared.node.Origin.{Origin}
+use Rattle.norm_send_rules.specs.SenderState.{SenderState, Instance, sender_opening}
+use Rattle.norm_send_rules.specs.Restarting.{instances}
+use Rattle.norm_send_rules.specs.Commanding.{commanded}
+use Rattle.norm_send_rules.specs.Hearing.{heard}
+use Rattle.norm_send_rules.specs.Ticking.{ticked as sender_ticked}
+use Rattle.norm_send_rules.specs.Telling.{told}
+use Rattle.norm_send_rules.specs.declared.job.Job.{Job}
+use Rattle.norm_send_rules.specs.declared.job.Receipt.{Receipt}
+use Rattle.norm_send_rules.specs.declared.job.Receipt.TheVariants as receipt
+use Rattle.norm_send_rules.specs.declared.fault.SendFault.{SendFault}
+use Rattle.norm_receive_rules.specs.ReceiverState.{ReceiverState}
+use Rattle.norm_receive_rules.specs.Receiving.{received}
+use Rattle.norm_receive_rules.specs.Taking.{took}
+use Rattle.norm_receive_rules.specs.Ticking.{ticked as receiver_ticked}
+use Rattle.norm_safety.specs.Events.{Event, Commanded, Delivered, Ticked, Offered, UpTaken, NewsAsked, Answer, Gave, Sent, Took, Told, Silent}
+use Rattle.norm_safety.specs.World.{World, world_opening, receiver_at, with_receiver, with_given}
+use Rattle.norm_safety.specs.WorldStep.{world_step, sender_ticks, receiver_ticks}
+use Rattle.norm_safety.specs.Lawful.{same_origin, accepted_with, MayCome, LawfulFrom, Lawful}
+use Rattle.norm_safety.specs.History.{Happening, happens, last_world, history}
+use Rattle.norm_safety.specs.OnceEach.{OnceEach, has_its_place, instance_ids, origins}
+use Rattle.norm_safety.proofs.SenderKeeps.{Keeps, keeps_all, heard_keeps, ticked_keeps, told_keeps}
+use Rattle.norm_safety.proofs.OrderLemmas.{AllKept}
+use Rattle.norm_safety.proofs.CommandSteps.{keeps_origins, keeps_ids, same_instances, kept_all, command_goes}
+use Rattle.norm_safety.proofs.OnceLemmas.{OnceSoFar, once_after, with_accepted}
+use Rattle.norm_safety.proofs.PlaceLemmas.{has_place, stays_placed, command_placed}
+
+-- what an event of a lawful run leaves: what holds of the sender so far, each entry at its place, and the answer's own
+record Leaves (w : World) (accepted : List Origin) (e : Event) (step : World × Answer) : Type 0 where
+  once : OnceSoFar step.0.sender (accepted_with accepted e step.1)
+  kept : AllKept (instances w.sender) (instances step.0.sender)
+  own : (later : SenderState) → AllKept (instances step.0.sender) (instances later)
+      → IsTrue (has_its_place later (record { before = w; event = e; answer = step.1; after = step.0 }) e step.1)
+
+-- the answer to a command has its place in later states as it does in the first
+placed_later : (w : World) (later : SenderState) (h : Happening) (by : Origin) (job : Job) (now : ℕ) (r : Result Receipt SendFault)
+    → h.before ≡ w → has_place w.sender.current.id later by r ≡ true → IsTrue (has_its_place later h (Commanded by job now) (Gave r))
+placed_later w later h by job now (Ok (receipt.Object index len)) e placed =
+    ap (λ (v : World). has_place v.sender.current.id later by (Ok (receipt.Object index len))) e ∙ placed
+placed_later w later h by job now (Ok (receipt.Opened index)) e placed =
+    ap (λ (v : World). has_place v.sender.current.id later by (Ok (receipt.Opened index))) e ∙ placed
+placed_later w later h by job now (Ok (receipt.Wrote index offset len)) e placed = refl
+placed_later w later h by job now (Ok (receipt.Closed index)) e placed = refl
+placed_later w later h by job now (Ok (receipt.Mark mark at)) e placed = refl
+placed_later w later h by job now (Ok (receipt.Restarted instance)) e placed = refl
+placed_later w later h by job now (Err fault) e placed = refl
+
+-- the accepted commands after one more
+accepted_is : (accepted : List Origin) (by : Origin) (job : Job) (now : ℕ) (r : Result Receipt SendFault)
+    → accepted_with accepted (Commanded by job now) (Gave r) ≡ with_accepted accepted by (is_ok r)
+accepted_is accepted by job now (Ok receipt) = refl
+accepted_is accepted by job now (Err fault) = refl
+
+command_leaves : (p : Settings) (w : World) (accepted : List Origin) (by : Origin) (job : Job) (now : ℕ) → (Contains accepted by → ⊥)
+    → OnceSoFar w.sender accepted → Leaves w accepted (Commanded by job now) (world_step p w (Commanded by job now))
+command_leaves p w accepted by job now free h =
+    let step = commanded p w.sender by job in
+    let goes = command_goes p w.sender by job in
+    let after : World = record w { sender = step.0 } in
+    let x : Happening = record { before = w; event = Commanded by job now; answer = Gave step.1; after = after } in
+    let O : List Origin → Type 0 = λ all. OnceSoFar step.0 all in
+    record {
+      once = subst O (sym (accepted_is accepted by job now step.1))
+          (once_after w.sender step.0 accepted by (is_ok step.1) free goes.origins goes.ids h);
+      kept = goes.places;
+      own = λ later kept. placed_later w later x by job now step.1 refl
+          (stays_placed w.sender.current.id step.0 later by step.1 kept (command_placed p w.sender by job h.ids));
+    }
+
+-- An event that leaves the orders, and is no command, leaves what holds so far.
+quiet_leaves : (w after : World) (accepted : List Origin) (e : Event) (answer : Answer) → Keeps w.sender after.sender
+    → accepted_with accepted e answer ≡ accepted → ((later : SenderState) (h : Happening) → has_its_place later h e answer ≡ true)
+    → OnceSoFar w.sender accepted → Leaves w accepted e (after, answer)
+quiet_leaves w after accepted e answer keeps same placed h =
+    let D : List Origin → Type 0 = λ xs. IsDistinct same_origin xs in
+    let I : List ℕ → Type 0 = λ xs. IsDistinct nat_eq xs in
+    let K : List Origin → Type 0 = λ xs. AllByRecursion (λ x. Contains accepted x) xs in
+    let A : List Instance → Type 0 = λ all. AllKept (instances w.sender) all in
+    let O : List Origin → Type 0 = λ all. OnceSoFar after.sender all in
+    let by = keeps_origins w.sender after.sender keeps in
+    record {
+      once = subst O (sym same) (record {
+        differ = subst D (sym by) h.differ;
+        ids = subst I (sym (keeps_ids w.sender after.sender keeps)) h.ids;
+        known = subst K (sym by) h.known;
+      });
+      kept = subst A (sym (same_instances w.sender after.sender keeps)) (kept_all (instances w.sender));
+      own = λ later kept. placed later (record { before = w; event = e; answer = answer; after = after });
+    }
+
+delivery_leaves : (p : Settings) (w : World) (accepted : List Origin) (node : ℕ) (datagram : List ℕ) (now draw : ℕ)
+    → OnceSoFar w.sender accepted → Leaves w accepted (Delivered node datagram now draw) (world_step p w (Delivered node datagram now draw))
+delivery_leaves p w accepted node datagram now draw h = go (node == p.sender) (receiver_at w node)
+  where
+    quiet : (after : World) → Keeps w.sender after.sender → Leaves w accepted (Delivered node datagram now draw) (after, Silent)
+    quiet after keeps = quiet_leaves w after accepted (Delivered node datagram now draw) Silent keeps refl (λ later x. refl) h
+
+    go : (own : Bool) (found : Option ReceiverState) → Leaves w accepted (Delivered node datagram now draw) (elim own [
+      | true ↦ (record w { sender = heard p w.sender datagram now }, Silent)
+      | false ↦ elim found [ Some r ↦ (with_receiver (received p r datagram now draw) w, Silent) | None ↦ (w, Silent) ]
+    ])
+    go true found = quiet _ (heard_keeps p w.sender datagram now)
+    go false (Some r) = quiet _ (keeps_all w.sender)
+    go false None = quiet _ (keeps_all w.sender)
+
+given_keeps : (node : ℕ) (datagram : Option (List ℕ)) (w : World) (old : SenderState) → Keeps old w.sender → Keeps old (with_given node datagram w).sender
+given_keeps node None w old h = h
+given_keeps node (Some datagram) w old h = h
+
+tick_leaves : (p : Settings) (w : World) (accepted : List Origin) (node now : ℕ)
+    → OnceSoFar w.sender accepted → Leaves w accepted (Ticked node now) (world_step p w (Ticked node now))
+tick_leaves p w accepted node now h = go (node == p.sender) (receiver_at w node)
+  where
+    quiet : (after : World) (answer : Answer) → Keeps w.sender after.sender → Leaves w accepted (Ticked node now) (after, answer)
+    quiet after answer keeps = quiet_leaves w after accepted (Ticked node now) answer keeps refl (λ later x. refl) h
+
+    go : (own : Bool) (found : Option ReceiverState) → Leaves w accepted (Ticked node now) (elim own [
+      | true ↦ sender_ticks p now w
+      | false ↦ elim found [ Some r ↦ receiver_ticks p now w r | None ↦ (w, Silent) ]
+    ])
+    go true found =
+        let step = sender_ticked p w.sender now in
+        quiet _ (Sent step.1) (given_keeps p.sender step.1 (record w { sender = step.0 }) w.sender (ticked_keeps p w.sender now))
+    go false (Some r) =
+        let step = receiver_ticked p r now in quiet _ (Sent step.1) (given_keeps r.node step.1 (with_receiver step.0 w) w.sender (keeps_all w.sender))
+    go false None = quiet _ Silent (keeps_all w.sender)
+
+taking_leaves : (p : Settings) (w : World) (accepted : List Origin) (node : ℕ)
+    → OnceSoFar w.sender accepted → Leaves w accepted (UpTaken node) (world_step p w (UpTaken node))
+taking_leaves p w accepted node h = go (receiver_at w node)
+  where
+    go : (found : Option ReceiverState) → Leaves w accepted (UpTaken node)
+        (elim found [ Some r ↦ (with_receiver (took r).0 w, Took (took r).1) | None ↦ (w, Silent) ])
+    go (Some r) = quiet_leaves w _ accepted (UpTaken node) (Took (took r).1) (keeps_all w.sender) refl (λ later x. refl) h
+    go None = quiet_leaves w w accepted (UpTaken node) Silent (keeps_all w.sender) refl (λ later x. refl) h
+
+event_leaves : (p : Settings) (w : World) (accepted : List Origin) (e : Event) → MayCome w accepted e
+    → OnceSoFar w.sender accepted → Leaves w accepted e (world_step p w e)
+event_leaves p w accepted (Commanded by job now) may h = command_leaves p w accepted by job now may h
+event_leaves p w accepted (Delivered node datagram now draw) may h = delivery_leaves p w accepted node datagram now draw h
+event_leaves p w accepted (Ticked node now) may h = tick_leaves p w accepted node now h
+event_leaves p w accepted (Offered node datagram) may h =
+    quiet_leaves w _ accepted (Offered node datagram) Silent (keeps_all w.sender) refl (λ later x. refl) h
+event_leaves p w accepted (UpTaken node) may h = taking_leaves p w accepted node h
+event_leaves p w accepted NewsAsked may h =
+    quiet_leaves w _ accepted NewsAsked (Told (told w.sender).1) (told_keeps w.sender) refl (λ later x. refl) h
+
+-- what lawful events leave, from a world on
+record Ends (p : Settings) (w : World) (events : List Event) : Type 0 where
+  accepted : List Origin
+  once : OnceSoFar (last_world w (happens p w events)).sender accepted
+  kept : AllKept (instances w.sender) (instances (last_world w (happens p w events)).sender)
+  places : AllByRecursion (λ x. IsTrue (has_its_place (last_world w (happens p w events)).sender x x.event x.answer)) (happens p w events)
+
+run_ends : (p : Settings) (w : World) (accepted : List Origin) (events : List Event) → LawfulFrom p w accepted events
+    → OnceSoFar w.sender accepted → Ends p w events
+unfolding happens last_world
+run_ends p w accepted [] lawful h = record { accepted = accepted; once = h; kept = kept_all (instances w.sender); places = tt }
+run_ends p w accepted (e ∷ events) lawful h =
+    let step = world_step p w e in
+    let first = event_leaves p w accepted e lawful.0 h in
+    let rest = run_ends p step.0 (accepted_with accepted e step.1) events lawful.1 first.once in
+    record {
+      accepted = rest.accepted;
+      once = rest.once;
+      kept = λ id index by was. rest.kept id index by (first.kept id index by was);
+      places = (first.own (last_world step.0 (happens p step.0 events)).sender rest.kept, rest.places);
+    }
+
+pub once_each_run : (p : Settings) (events : List Event) → Lawful p events → OnceEach (history p events)
+unfolding IsDistinct
+once_each_run p events lawful =
+    let opening : OnceSoFar (sender_opening p) [] = record { differ = tt; ids = (tt, tt); known = tt } in
+    let end = run_ends p (world_opening p) [] events lawful opening in
+    record { origins = end.once.differ; ids = end.once.ids; places = end.places }

@@ -1,0 +1,130 @@
+-- An accepted object stands at the index that it was answered, and stays there.
+use Rattle.std.proofs.Common.{◌≡◌, ℕ, zero, suc, ◌+◌, cond, List, [], ◌∷◌, ◌++◌, length, Bool, true, false, Option, None, Some, Result, Ok, Err, refl, sym, ap, ◌∙◌}
+use Rattle.std.specs.Prelude.{map, find, ◌==◌, ◌&&◌, nat_eq, nat_le, slice_get, IsTrue}
+use Rattle.std.specs.List.{IsDistinct, AllByRecursion}
+use Rattle.std.proofs.lemmas.Bool.Decides.{Decides-eqb}
+use Rattle.norm_base.specs.Settings.{Settings}
+use Rattle.norm_base.specs.declared.kinds.Kind.TheVariants as kind
+use Rattle.norm_base.specs.declared.node.Origin.{Origin}
+use Rattle.fec_plan.specs.Points.{Point}
+use Rattle.fec_plan.specs.declared.position.Position.{Position}
+use Rattle.norm_order.specs.Entries.{Write, End, Object, Whole, Stream, Entry}
+use Rattle.norm_order.specs.Shapes.{last_source}
+use Rattle.norm_send_rules.specs.SenderState.{SenderState, Instance}
+use Rattle.norm_send_rules.specs.InWindow.{next_index, current_shapes}
+use Rattle.norm_send_rules.specs.Restarting.{instances, is_used, begun_anew}
+use Rattle.norm_send_rules.specs.Enqueuing.{object_fault, joined}
+use Rattle.norm_send_rules.specs.Streaming.{open_fault, write_fault, close_fault, grown, parts_now, cut}
+use Rattle.norm_send_rules.specs.Marking.{most_open, requested, request_at}
+use Rattle.norm_send_rules.specs.Requests.{open_requests}
+use Rattle.norm_send_rules.specs.Commanding.{commanded, answered}
+use Rattle.norm_send_rules.specs.declared.fault.EnqueueFault.{EnqueueFault}
+use Rattle.norm_send_rules.specs.declared.fault.MarkFault.TheVariants.{TooMany}
+use Rattle.norm_send_rules.specs.declared.fault.SendFault.{SendFault}
+use Rattle.norm_send_rules.specs.declared.fault.SendFault.TheVariants.{Mark, IdUsed}
+use Rattle.norm_send_rules.specs.declared.job.Job.{Job}
+use Rattle.norm_send_rules.specs.declared.job.Job.TheVariants as job
+use Rattle.norm_send_rules.specs.declared.job.Receipt.{Receipt}
+use Rattle.norm_send_rules.specs.declared.job.Receipt.TheVariants as receipt
+use Rattle.norm_safety.specs.Lawful.{same_origin}
+use Rattle.norm_safety.specs.OnceEach.{instance_ids, is_entry_by}
+use Rattle.norm_safety.proofs.OrderLemmas.{clash, by_at, order_in, AllKept}
+use Rattle.norm_safety.proofs.OnceLemmas.{same_self}
+use Rattle.norm_safety.proofs.CommandSteps.{where_free}
+
+-- the entry at an answered index of this instance is the command's
+abbrev pub has_place : ℕ → SenderState → Origin → Result Receipt SendFault → Bool
+has_place id s by (Ok (receipt.Object index len)) = is_entry_by s id index by
+has_place id s by (Ok (receipt.Opened index)) = is_entry_by s id index by
+has_place id s by _ = true
+
+-- a step's answer has its place
+abbrev pub IsPlaced : ℕ → Origin → SenderState × Result Receipt SendFault → Type 0
+IsPlaced id by step = has_place id step.0 by step.1 ≡ true
+
+pub stays_placed : (id : ℕ) (s later : SenderState) (by : Origin) (r : Result Receipt SendFault) → AllKept (instances s) (instances later)
+    → has_place id s by r ≡ true → has_place id later by r ≡ true
+stays_placed id s later by (Ok (receipt.Object index len)) kept h = kept id index by h
+stays_placed id s later by (Ok (receipt.Opened index)) kept h = kept id index by h
+stays_placed id s later by (Ok (receipt.Wrote index offset len)) kept h = h
+stays_placed id s later by (Ok (receipt.Closed index)) kept h = h
+stays_placed id s later by (Ok (receipt.Mark mark at)) kept h = h
+stays_placed id s later by (Ok (receipt.Restarted instance)) kept h = h
+stays_placed id s later by (Err fault) kept h = h
+
+-- the last of several different ids is found behind the others
+current_found : (earlier : List Instance) (current new : Instance) → new.id ≡ current.id
+    → IsDistinct nat_eq (map (λ (i : Instance). i.id) (earlier ++ current ∷ []))
+    → find (λ (i : Instance). i.id == current.id) (earlier ++ new ∷ []) ≡ Some new
+unfolding IsDistinct
+current_found [] current new e all = go (new.id == current.id) ((Decides-eqb new.id current.id).1 e)
+  where
+    go : (b : Bool) → b ≡ true → cond b (Some new) None ≡ Some new
+    go true e = refl
+    go false e = absurd (clash e)
+current_found (i ∷ earlier) current new e all =
+    go (i.id == current.id) (last_differs earlier all.0) (current_found earlier current new e all.1)
+  where
+    last_differs : (more : List Instance) → AllByRecursion (λ id. (i.id == id) ≡ false) (map (λ (i : Instance). i.id) (more ++ current ∷ []))
+        → (i.id == current.id) ≡ false
+    last_differs [] all = all.0
+    last_differs (j ∷ more) all = last_differs more all.1
+
+    go : (b : Bool) → b ≡ false → find (λ (i : Instance). i.id == current.id) (earlier ++ new ∷ []) ≡ Some new
+        → cond b (Some i) (find (λ (i : Instance). i.id == current.id) (earlier ++ new ∷ [])) ≡ Some new
+    go true e found = absurd (clash (sym e))
+    go false e found = found
+
+last_by : (order : List Entry) (entry : Entry) → by_at (order ++ entry ∷ []) (length order) entry.by ≡ true
+last_by [] entry = same_self entry.by
+last_by (x ∷ order) entry = last_by order entry
+
+-- what joins the order stands at its end
+joined_placed : (p : Settings) (by : Origin) (object : Object) (s : SenderState) → IsDistinct nat_eq (instance_ids s)
+    → is_entry_by (joined p by object s) s.current.id (next_index s) by ≡ true
+joined_placed p by object s differ =
+    let after = joined p by object s in
+    ap (λ (found : Option Instance). by_at (elim found [ Some i ↦ i.order | None ↦ [] ]) (next_index s) by)
+    (current_found s.earlier s.current after.current refl differ)
+    ∙ last_by s.current.order (record { by = by; object = object })
+
+free_placed : (by : Origin) (found : Option EnqueueFault) (s after : SenderState) (receipt : Receipt)
+    → has_place s.current.id after by (Ok receipt) ≡ true
+    → IsPlaced s.current.id by (where_free found s after receipt)
+free_placed by None s after receipt h = h
+free_placed by (Some fault) s after receipt h = refl
+
+-- An accepted object or stream stands at the index that it is answered.
+pub command_placed : (p : Settings) (s : SenderState) (by : Origin) (job : Job) → IsDistinct nat_eq (instance_ids s)
+    → IsPlaced s.current.id by (commanded p s by job)
+command_placed p s by (job.Data info bytes) differ =
+    free_placed by (object_fault p s info bytes) s (joined p by (Whole kind.Data info bytes) s) _ (joined_placed p by (Whole kind.Data info bytes) s differ)
+command_placed p s by (job.File name bytes) differ =
+    free_placed by (object_fault p s (Some name) bytes) s (joined p by (Whole kind.File (Some name) bytes) s) _
+    (joined_placed p by (Whole kind.File (Some name) bytes) s differ)
+command_placed p s by job.Open differ =
+    free_placed by (open_fault p s) s (joined p by (Stream []) s) _ (joined_placed p by (Stream []) s differ)
+command_placed p s by (job.Write bytes) differ =
+    let parts = parts_now s ++ Write by bytes ∷ [] in free_placed by (write_fault p s bytes parts) s (grown p s parts) _ refl
+command_placed p s by job.Close differ =
+    let parts = parts_now s ++ End ∷ [] in free_placed by (close_fault p s parts) s (grown p s parts) _ refl
+command_placed p s by job.Mark differ = marks (last_source (current_shapes p (cut p s)))
+  where
+    few : (at : Position) (many : Bool) → IsPlaced s.current.id by (answered Mark (elim many [
+      | true ↦ (cut p s, Err (TooMany (length (open_requests (cut p s)))))
+      | false ↦ (requested (cut p s) by at, Ok (receipt.Mark (length (cut p s).requests + 1) at))
+    ]))
+    few at true = refl
+    few at false = refl
+
+    marks : (found : Option Position) → IsPlaced s.current.id by (answered Mark (request_at (cut p s) by found))
+    marks None = refl
+    marks (Some at) = few at (nat_le most_open (length (open_requests (cut p s))))
+command_placed p s by (job.Restart id) differ = go (is_used s id)
+  where
+    go : (used : Bool) → IsPlaced s.current.id by (elim used [
+      | true ↦ (s, Err (IdUsed id))
+      | false ↦ (begun_anew p id s, Ok (receipt.Restarted id))
+    ])
+    go true = refl
+    go false = refl

@@ -1,0 +1,229 @@
+-- What a sender hears, sends and tells leaves its orders, and the commands of its requests.
+use Rattle.std.proofs.Common.{◌≡◌, ℕ, cond, List, [], ◌∷◌, Bool, true, false, Option, None, Some, Result, Ok, Err, refl, ap, ◌∙◌}
+use Rattle.std.specs.Prelude.{map, find, ◌==◌, ◌&&◌, nat_le, nat_lt, is_some, slice_get}
+use Rattle.norm_base.specs.Settings.{Settings}
+use Rattle.norm_base.specs.declared.node.Origin.{Origin}
+use Rattle.fec_plan.specs.declared.position.Position.{Position}
+use Rattle.fec_plan.specs.Points.{position}
+use Rattle.norm_ext.specs.declared.head.Item.{Item}
+use Rattle.norm_ext.specs.Message.{Message, Info, Data, Flush, Eot, Squelch, RepairAdv, AckReq, Opaque, Nack, Ack, Report, NackMessage, AckMessage, AckContent, Mark, Unread}
+use Rattle.norm_ext.specs.ObjectIds.{index_of}
+use Rattle.norm_ext.specs.Reading.{decoded}
+use Rattle.norm_ext.specs.Requests.{Request}
+use Rattle.norm_order.specs.Entries.{Entry, Object}
+use Rattle.norm_order.specs.Shapes.{is_source}
+use Rattle.norm_send_rules.specs.SenderState.{SenderState, Instance, Watermark, Round}
+use Rattle.norm_send_rules.specs.InWindow.{current_shapes}
+use Rattle.norm_send_rules.specs.Requests.{is_open, keeps_oldest, counted_anew, ended_with, end_where, settled, open_requests}
+use Rattle.norm_send_rules.specs.Hearing.{is_for, joined_round, rises, credited, credited_at, nack_heard, ack_heard, message_heard, heard}
+use Rattle.norm_send_rules.specs.Closing.{round_closed}
+use Rattle.norm_send_rules.specs.Messages.{squelch_message}
+use Rattle.norm_send_rules.specs.Sending.{message_of, sends, noted, sends_want, repairs_next, sends_new, next_new}
+use Rattle.norm_send_rules.specs.Flushing.{most_flushes, flushes_for, expired, flushed, flushes, may_flush}
+use Rattle.norm_send_rules.specs.Ticking.{closed_where_due, sends_further, sends_wanted, sends_first, sends_in_time, ticked}
+use Rattle.norm_send_rules.specs.Telling.{told, past_news, done_news, listing_of}
+use Rattle.norm_send_rules.specs.Wants.{want_index}
+use Rattle.norm_send_rules.specs.declared.news.Outcome.{Outcome}
+use Rattle.norm_send_rules.specs.declared.news.News.{News}
+use Rattle.norm_send_rules.specs.declared.want.Want.{Want}
+use Rattle.norm_send_rules.specs.declared.want.Want.TheVariants.{Info as WantedInfo, Symbol}
+
+-- the commands of requests
+abbrev pub bys : List Watermark → List Origin
+bys requests = map (λ (w : Watermark). w.by) requests
+
+-- A later state has the orders, drop points and instances of an earlier one, and its requests are of the same commands.
+pub record Keeps (old new : SenderState) : Type 0 where
+  pub earlier : new.earlier ≡ old.earlier
+  pub current : new.current ≡ old.current
+  pub by : bys new.requests ≡ bys old.requests
+
+pub keeps_all : (s : SenderState) → Keeps s s
+keeps_all s = record { earlier = refl; current = refl; by = refl }
+
+pub keeps_on : (a b c : SenderState) → Keeps a b → Keeps b c → Keeps a c
+keeps_on a b c h g = record { earlier = g.earlier ∙ h.earlier; current = g.current ∙ h.current; by = g.by ∙ h.by }
+
+-- the state of a step
+abbrev step_of : SenderState × Option (List ℕ) → SenderState
+step_of step = step.0
+
+-- the state of a step that tells news
+abbrev news_of : SenderState × Option News → SenderState
+news_of step = step.0
+
+-- Ending requests does not change whose they are.
+pub ended_by : (test : Watermark → Bool) (outcome : Watermark → Outcome) (requests : List Watermark)
+    → bys (map (λ w. cond (is_open w && test w) (ended_with (outcome w) w) w) requests) ≡ bys requests
+ended_by test outcome [] = refl
+ended_by test outcome (w ∷ requests) = go (is_open w && test w) (ended_by test outcome requests)
+  where
+    go : (b : Bool) {rest : List Origin} → rest ≡ bys requests
+        → ((cond b (ended_with (outcome w) w) w).by ∷ rest) ≡ (w.by ∷ bys requests)
+    go true e = ap (λ (xs : List Origin). w.by ∷ xs) e
+    go false e = ap (λ (xs : List Origin). w.by ∷ xs) e
+
+pub ends_keeps : (test : Watermark → Bool) (outcome : Watermark → Outcome) (s : SenderState) → Keeps s (end_where test outcome s)
+ends_keeps test outcome s = record { earlier = refl; current = refl; by = ended_by test outcome s.requests }
+
+anew : (b : Bool) (old new : SenderState) → Keeps old new → Keeps old (elim b [ true ↦ new | false ↦ record new { flushes = 0 } ])
+anew true old new h = h
+anew false old new h = record { earlier = h.earlier; current = h.current; by = h.by }
+
+pub counted_keeps : (before old new : SenderState) → Keeps old new → Keeps old (counted_anew before new)
+counted_keeps before old new h = anew (keeps_oldest before new) old new h
+
+pub settled_keeps : (old new : SenderState) → Keeps old new → Keeps old (settled new)
+settled_keeps old new h = keeps_on old new (settled new) h (ends_keeps _ _ new)
+
+joined_keeps : (p : Settings) (s : SenderState) (now : ℕ) (requests : List Request) → Keeps s (joined_round p s now requests)
+joined_keeps p s now [] = keeps_all s
+joined_keeps p s now (r ∷ requests) = record { earlier = refl; current = refl; by = refl }
+
+where_true : (b : Bool) (s new : SenderState) → Keeps s new → Keeps s (elim b [ true ↦ new | false ↦ s ])
+where_true true s new h = h
+where_true false s new h = keeps_all s
+
+credited_keeps : (node : ℕ) (at : Position) (s : SenderState) → Keeps s (credited node at s)
+credited_keeps node at s = where_true (rises node at s) s _
+    (counted_keeps s s _ (settled_keeps s _ (record { earlier = refl; current = refl; by = refl })))
+
+credited_at_keeps : (p : Settings) (node : ℕ) (at : Position) (s : SenderState) → Keeps s (credited_at p node at s)
+credited_at_keeps p node at s = where_true (is_source (current_shapes p s) at) s _ (credited_keeps node at s)
+
+nack_keeps : (p : Settings) (s : SenderState) (now : ℕ) (m : NackMessage) → Keeps s (nack_heard p s now m)
+nack_keeps p s now m = where_true (is_for p s m.source m.sender m.instance) s _ (joined_keeps p s now m.requests)
+
+content_keeps : (p : Settings) (node : ℕ) (at : Item → Position) (s : SenderState) (c : AckContent)
+    → Keeps s (elim c [ Mark item ↦ credited_at p node (at item) s | Unread octets ↦ s ])
+content_keeps p node at s (Mark item) = credited_at_keeps p node (at item) s
+content_keeps p node at s (Unread octets) = keeps_all s
+
+ack_keeps : (p : Settings) (s : SenderState) (m : AckMessage) → Keeps s (ack_heard p s m)
+ack_keeps p s m = where_true (is_for p s m.source m.sender m.instance) s _
+    (content_keeps p m.source (λ item. position (index_of p item.object) item.id.block item.id.symbol) s m.content)
+
+message_keeps : {E : Type 0} (p : Settings) (s : SenderState) (now : ℕ) (r : Result Message E) → Keeps s (message_heard p s now r)
+message_keeps p s now (Ok (Nack m)) = nack_keeps p s now m
+message_keeps p s now (Ok (Ack m)) = ack_keeps p s m
+message_keeps p s now (Ok (Info m)) = keeps_all s
+message_keeps p s now (Ok (Data m)) = keeps_all s
+message_keeps p s now (Ok (Flush m)) = keeps_all s
+message_keeps p s now (Ok (Eot m)) = keeps_all s
+message_keeps p s now (Ok (Squelch m)) = keeps_all s
+message_keeps p s now (Ok (RepairAdv m)) = keeps_all s
+message_keeps p s now (Ok (AckReq m)) = keeps_all s
+message_keeps p s now (Ok (Opaque m)) = keeps_all s
+message_keeps p s now (Ok (Report m)) = keeps_all s
+message_keeps p s now (Err e) = keeps_all s
+
+pub heard_keeps : (p : Settings) (s : SenderState) (bytes : List ℕ) (now : ℕ) → Keeps s (heard p s bytes now)
+heard_keeps p s bytes now = message_keeps p s now (decoded bytes)
+
+-- A tick: what is sent changes what was sent, and the moments.
+noted_keeps : (w : Want) (s : SenderState) → Keeps s (noted w s)
+noted_keeps (WantedInfo index) s = record { earlier = refl; current = refl; by = refl }
+noted_keeps (Symbol at) s = record { earlier = refl; current = refl; by = refl }
+
+sends_keeps : (p : Settings) (now : ℕ) (m : Message) (old s : SenderState) → Keeps old s → Keeps old (sends p now m s).0
+sends_keeps p now m old s h = record { earlier = h.earlier; current = h.current; by = h.by }
+
+entry_sends : (p : Settings) (now : ℕ) (old s : SenderState) (m : Entry → Message) (w : Want) (found : Option Entry) → Keeps old s
+    → Keeps old (step_of (elim found [ Some entry ↦ sends p now (m entry) (noted w s) | None ↦ (s, None) ]))
+entry_sends p now old s m w (Some entry) h = sends_keeps p now (m entry) old (noted w s) (keeps_on old s (noted w s) h (noted_keeps w s))
+entry_sends p now old s m w None h = h
+
+want_keeps : (p : Settings) (now : ℕ) (repair : Object → ℕ) (w : Want) (old s : SenderState) → Keeps old s
+    → Keeps old (sends_want p now repair w s).0
+want_keeps p now repair w old s h =
+    entry_sends p now old s (λ entry. message_of p s w entry.object (repair entry.object)) w (slice_get s.current.order (want_index w)) h
+
+flushes_for_keeps : (p : Settings) (now : ℕ) (w : Watermark) (s : SenderState) → Keeps s (flushes_for p now w s).0
+flushes_for_keeps p now w s = record { earlier = refl; current = refl; by = refl }
+
+flushed_keeps : (p : Settings) (now : ℕ) (requests : List Watermark) (s : SenderState) → Keeps s (flushed p now requests s).0
+unfolding flushed
+flushed_keeps p now [] s = keeps_all s
+flushed_keeps p now (w ∷ requests) s = go (nat_lt s.flushes most_flushes) (is_some s.round)
+    (keeps_on s (expired w.mark s) _ (counted_keeps s s _ (ends_keeps _ _ s)) (flushed_keeps p now requests (expired w.mark s)))
+  where
+    go : (b c : Bool) → Keeps s (flushed p now requests (expired w.mark s)).0
+        → Keeps s (step_of (elim b [
+          | true ↦ flushes_for p now w s
+          | false ↦ elim c [ true ↦ (s, None) | false ↦ flushed p now requests (expired w.mark s) ]
+        ]))
+    go true c more = flushes_for_keeps p now w s
+    go false true more = keeps_all s
+    go false false more = more
+
+step_where : (b : Bool) (s : SenderState) (step : SenderState × Option (List ℕ)) → Keeps s step.0
+    → Keeps s (step_of (elim b [ true ↦ step | false ↦ (s, None) ]))
+step_where true s step h = h
+step_where false s step h = keeps_all s
+
+flushes_keeps : (p : Settings) (now : ℕ) (s : SenderState) → Keeps s (flushes p now s).0
+flushes_keeps p now s = step_where (may_flush p s now) s _ (flushed_keeps p now (open_requests s) s)
+
+further_keeps : (p : Settings) (now : ℕ) (s : SenderState) → Keeps s (sends_further p now s).0
+further_keeps p now s = go (next_new p s)
+  where
+    go : (found : Option Want) → Keeps s (step_of (elim found [ Some w ↦ sends_new p now w s | None ↦ flushes p now s ]))
+    go (Some w) = want_keeps p now _ w s _ (record { earlier = refl; current = refl; by = refl })
+    go None = flushes_keeps p now s
+
+wanted_keeps : (p : Settings) (now : ℕ) (s : SenderState) → Keeps s (sends_wanted p now s).0
+wanted_keeps p now s = go s.wants
+  where
+    go : (wants : List Want) → Keeps s (step_of (elim wants [ [] ↦ sends_further p now s | w ∷ wants ↦ repairs_next p now w wants s ]))
+    go [] = further_keeps p now s
+    go (w ∷ wants) = want_keeps p now _ w s _ (record { earlier = refl; current = refl; by = refl })
+
+first_keeps : (p : Settings) (now : ℕ) (s : SenderState) → Keeps s (sends_first p now s).0
+first_keeps p now s = go s.squelch_due
+  where
+    go : (due : Bool) → Keeps s (step_of (elim due [
+      | true ↦ sends p now (squelch_message p s s.current.drop) (record s { squelch_due = false })
+      | false ↦ sends_wanted p now s
+    ]))
+    go true = record { earlier = refl; current = refl; by = refl }
+    go false = wanted_keeps p now s
+
+in_time_keeps : (p : Settings) (now : ℕ) (s : SenderState) → Keeps s (sends_in_time p now s).0
+in_time_keeps p now s = go (nat_lt now s.next_send)
+  where
+    go : (early : Bool) → Keeps s (step_of (elim early [ true ↦ (s, None) | false ↦ sends_first p now s ]))
+    go true = keeps_all s
+    go false = first_keeps p now s
+
+closed_keeps : (p : Settings) (now : ℕ) (s : SenderState) → Keeps s (closed_where_due p now s)
+closed_keeps p now s = go s.round
+  where
+    go : (round : Option Round) → Keeps s (elim round [
+      | Some r ↦ elim (nat_le r.closes now) [ true ↦ round_closed p r s | false ↦ s ]
+      | None ↦ s
+    ])
+    go (Some r) = where_true (nat_le r.closes now) s _ (record { earlier = refl; current = refl; by = refl })
+    go None = keeps_all s
+
+pub ticked_keeps : (p : Settings) (s : SenderState) (now : ℕ) → Keeps s (ticked p s now).0
+ticked_keeps p s now = keeps_on s (closed_where_due p now s) _ (closed_keeps p now s) (in_time_keeps p now (closed_where_due p now s))
+
+pub told_keeps : (s : SenderState) → Keeps s (told s).0
+told_keeps s = nodes s.untold_nodes
+  where
+    marks : (ms : List ℕ) (news : ℕ → Option News) → Keeps s (news_of (elim ms [
+      | mark ∷ more ↦ (record s { untold_marks = more }, news mark)
+      | [] ↦ (s, None)
+    ]))
+    marks [] news = keeps_all s
+    marks (mark ∷ more) news = record { earlier = refl; current = refl; by = refl }
+
+    nodes : (ns : List ℕ) → Keeps s (news_of (elim ns [
+      | node ∷ more ↦ (record s { untold_nodes = more }, past_news node (listing_of s node))
+      | [] ↦ elim s.untold_marks [
+        | mark ∷ more ↦ (record s { untold_marks = more }, done_news s mark (find (λ (w : Watermark). w.mark == mark) s.requests))
+        | [] ↦ (s, None)
+      ]
+    ]))
+    nodes (node ∷ more) = record { earlier = refl; current = refl; by = refl }
+    nodes [] = marks s.untold_marks (λ mark. done_news s mark (find (λ (w : Watermark). w.mark == mark) s.requests))
