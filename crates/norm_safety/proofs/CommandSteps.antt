@@ -184,7 +184,7 @@ free_goes by None s after receipt h = h refl
 free_goes by (Some fault) s after receipt h = keeps_goes by s s false (keeps_all s)
 
 -- a table without a row that applies has none in its first row, and none in the others
-first_none : (b : Bool) (x : EnqueueFault) (rows : List (Bool × EnqueueFault)) → first_where ((b, x) ∷ rows) ≡ None
+pub first_none : (b : Bool) (x : EnqueueFault) (rows : List (Bool × EnqueueFault)) → first_where ((b, x) ∷ rows) ≡ None
     → (b ≡ false) × (first_where rows ≡ None)
 unfolding first_where
 first_none true x rows e = absurd (cc)
@@ -223,7 +223,7 @@ closed_goes p s by =
     free_goes by (close_fault p s parts) s (grown p s parts) _ (λ none. grown_goes p by End s (first_none _ _ _ none).0 (inl refl))
 
 -- an open stream is cut, or there is nothing to cut
-no_parts : (e : ℕ) → unclosed e [] ≡ 0
+pub no_parts : (e : ℕ) → unclosed e [] ≡ 0
 unfolding since_cut
 no_parts e = omega arith
 
@@ -260,10 +260,10 @@ goes_after by s between new accepted h g f = record {
     more (inr (id, unused, e)) = inr (id, unused, f ∙ e)
 
 -- the state with one more request, before it is settled
-abbrev with_request : Origin → Position → SenderState → SenderState
+abbrev pub with_request : Origin → Position → SenderState → SenderState
 with_request by at s = record s { requests = s.requests ++ record { mark = length s.requests + 1; by = by; at = at; ended = None } ∷ [] }
 
-requested_keeps : (by : Origin) (s : SenderState) (at : Position) → Keeps (with_request by at s) (requested s by at)
+pub requested_keeps : (by : Origin) (s : SenderState) (at : Position) → Keeps (with_request by at s) (requested s by at)
 requested_keeps by s at =
     counted_keeps s (with_request by at s) _ (settled_keeps (with_request by at s) (with_request by at s) (keeps_all (with_request by at s)))
 

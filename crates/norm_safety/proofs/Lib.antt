@@ -5,3 +5,6 @@ pub mod CommandSteps
 pub mod OnceLemmas
 pub mod PlaceLemmas
 pub mod OnceRun
+pub mod WholeOrders
+pub mod Onward
+pub mod SenderHolds

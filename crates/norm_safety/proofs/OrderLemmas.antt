@@ -138,7 +138,7 @@ pub record EndsOpen (order : List Entry) (parts : List Part) : Type 0 where
   pub is : order ≡ front ++ record { by = by; object = Stream parts } ∷ []
 
 -- a list is empty or has a last element
-ends : {X : Type 0} (xs : List X) → (xs ≡ []) ⊎ ((front : List X) × (last : X) × (xs ≡ front ++ last ∷ []))
+pub ends : {X : Type 0} (xs : List X) → (xs ≡ []) ⊎ ((front : List X) × (last : X) × (xs ≡ front ++ last ∷ []))
 ends [] = inl refl
 ends {X} (x ∷ xs) = go (ends xs)
   where

@@ -1,5 +1,6 @@
 -- What a sender hears, sends and tells leaves its orders, and the commands of its requests.
-use Rattle.std.proofs.Common.{◌≡◌, ℕ, cond, List, [], ◌∷◌, Bool, true, false, Option, None, Some, Result, Ok, Err, refl, ap, ◌∙◌}
+use Rattle.std.proofs.Math.Nat.{mod-lt}
+use Rattle.std.proofs.Common.{arith, ◌+◌, ◌<◌, ◌≡◌, ℕ, cond, List, [], ◌∷◌, Bool, true, false, Option, None, Some, Result, Ok, Err, refl, ap, ◌∙◌}
 use Rattle.std.specs.Prelude.{map, find, ◌==◌, ◌&&◌, nat_le, nat_lt, is_some, slice_get}
 use Rattle.norm_base.specs.Settings.{Settings}
 use Rattle.norm_base.specs.declared.node.Origin.{Origin}
@@ -12,12 +13,12 @@ use Rattle.norm_ext.specs.Reading.{decoded}
 use Rattle.norm_ext.specs.Requests.{Request}
 use Rattle.norm_order.specs.Entries.{Entry, Object}
 use Rattle.norm_order.specs.Shapes.{is_source}
-use Rattle.norm_send_rules.specs.SenderState.{SenderState, Instance, Watermark, Round}
+use Rattle.norm_send_rules.specs.SenderState.{Listing, SenderState, Instance, Watermark, Round}
 use Rattle.norm_send_rules.specs.InWindow.{current_shapes}
-use Rattle.norm_send_rules.specs.Requests.{is_open, keeps_oldest, counted_anew, ended_with, end_where, settled, open_requests}
-use Rattle.norm_send_rules.specs.Hearing.{is_for, joined_round, rises, credited, credited_at, nack_heard, ack_heard, message_heard, heard}
+use Rattle.norm_send_rules.specs.Requests.{is_past, pending, is_open, keeps_oldest, counted_anew, ended_with, end_where, settled, open_requests}
+use Rattle.norm_send_rules.specs.Hearing.{listed_past, is_for, joined_round, rises, credited, credited_at, nack_heard, ack_heard, message_heard, heard}
 use Rattle.norm_send_rules.specs.Closing.{round_closed}
-use Rattle.norm_send_rules.specs.Messages.{squelch_message}
+use Rattle.norm_send_rules.specs.Messages.{squelch_message, flush_message}
 use Rattle.norm_send_rules.specs.Sending.{message_of, sends, noted, sends_want, repairs_next, sends_new, next_new}
 use Rattle.norm_send_rules.specs.Flushing.{most_flushes, flushes_for, expired, flushed, flushes, may_flush}
 use Rattle.norm_send_rules.specs.Ticking.{closed_where_due, sends_further, sends_wanted, sends_first, sends_in_time, ticked}
@@ -32,21 +33,32 @@ use Rattle.norm_send_rules.specs.declared.want.Want.TheVariants.{Info as WantedI
 abbrev pub bys : List Watermark → List Origin
 bys requests = map (λ (w : Watermark). w.by) requests
 
--- A later state has the orders, drop points and instances of an earlier one, and its requests are of the same commands.
+-- the nodes that may be listed
+abbrev pub nodes_in : List Listing → List ℕ
+nodes_in listings = map (λ (l : Listing). l.node) listings
+
+-- A later state has the instances, orders and drop points of an earlier one; its listings are of the same nodes, its
+-- requests of the same commands; and its sequence number has 16 bits where that had.
 pub record Keeps (old new : SenderState) : Type 0 where
   pub earlier : new.earlier ≡ old.earlier
   pub current : new.current ≡ old.current
   pub by : bys new.requests ≡ bys old.requests
+  pub nodes : nodes_in new.listings ≡ nodes_in old.listings
+  pub sequence : old.sequence < 65536 → new.sequence < 65536
 
 pub keeps_all : (s : SenderState) → Keeps s s
-keeps_all s = record { earlier = refl; current = refl; by = refl }
+keeps_all s = record { earlier = refl; current = refl; by = refl; nodes = refl; sequence = λ h. h }
 
 pub keeps_on : (a b c : SenderState) → Keeps a b → Keeps b c → Keeps a c
-keeps_on a b c h g = record { earlier = g.earlier ∙ h.earlier; current = g.current ∙ h.current; by = g.by ∙ h.by }
+keeps_on a b c h g = record { earlier = g.earlier ∙ h.earlier; current = g.current ∙ h.current; by = g.by ∙ h.by; nodes = g.nodes ∙ h.nodes; sequence = λ n. g.sequence (h.sequence n) }
 
 -- the state of a step
 abbrev step_of : SenderState × Option (List ℕ) → SenderState
 step_of step = step.0
+
+-- the node of a listing
+abbrev listing_node : Listing → ℕ
+listing_node l = l.node
 
 -- the state of a step that tells news
 abbrev news_of : SenderState × Option News → SenderState
@@ -64,11 +76,11 @@ ended_by test outcome (w ∷ requests) = go (is_open w && test w) (ended_by test
     go false e = ap (λ (xs : List Origin). w.by ∷ xs) e
 
 pub ends_keeps : (test : Watermark → Bool) (outcome : Watermark → Outcome) (s : SenderState) → Keeps s (end_where test outcome s)
-ends_keeps test outcome s = record { earlier = refl; current = refl; by = ended_by test outcome s.requests }
+ends_keeps test outcome s = record { earlier = refl; current = refl; by = ended_by test outcome s.requests; nodes = refl; sequence = λ h. h }
 
 anew : (b : Bool) (old new : SenderState) → Keeps old new → Keeps old (elim b [ true ↦ new | false ↦ record new { flushes = 0 } ])
 anew true old new h = h
-anew false old new h = record { earlier = h.earlier; current = h.current; by = h.by }
+anew false old new h = record { earlier = h.earlier; current = h.current; by = h.by; nodes = h.nodes; sequence = h.sequence }
 
 pub counted_keeps : (before old new : SenderState) → Keeps old new → Keeps old (counted_anew before new)
 counted_keeps before old new h = anew (keeps_oldest before new) old new h
@@ -78,15 +90,33 @@ settled_keeps old new h = keeps_on old new (settled new) h (ends_keeps _ _ new)
 
 joined_keeps : (p : Settings) (s : SenderState) (now : ℕ) (requests : List Request) → Keeps s (joined_round p s now requests)
 joined_keeps p s now [] = keeps_all s
-joined_keeps p s now (r ∷ requests) = record { earlier = refl; current = refl; by = refl }
+joined_keeps p s now (r ∷ requests) = record { earlier = refl; current = refl; by = refl; nodes = refl; sequence = λ h. h }
 
 where_true : (b : Bool) (s new : SenderState) → Keeps s new → Keeps s (elim b [ true ↦ new | false ↦ s ])
 where_true true s new h = h
 where_true false s new h = keeps_all s
 
+-- a listing that rises is its node's
+listed_nodes : (node : ℕ) (at : Position) (listings : List Listing) → nodes_in (map (listed_past node at) listings) ≡ nodes_in listings
+listed_nodes node at [] = refl
+listed_nodes node at (l ∷ listings) = go (l.node == node && is_past at l) (l.node == node) (listed_nodes node at listings)
+  where
+    go : (b c : Bool) → nodes_in (map (listed_past node at) listings) ≡ nodes_in listings
+        → (listing_node (elim b [ true ↦ l | false ↦ elim c [ true ↦ record l { past = Some at } | false ↦ l ] ]) ∷ nodes_in (map (listed_past node at) listings))
+        ≡ l.node ∷ nodes_in listings
+    go true c e = ap (λ (ns : List ℕ). l.node ∷ ns) e
+    go false true e = ap (λ (ns : List ℕ). l.node ∷ ns) e
+    go false false e = ap (λ (ns : List ℕ). l.node ∷ ns) e
+
 credited_keeps : (node : ℕ) (at : Position) (s : SenderState) → Keeps s (credited node at s)
 credited_keeps node at s = where_true (rises node at s) s _
-    (counted_keeps s s _ (settled_keeps s _ (record { earlier = refl; current = refl; by = refl })))
+    (counted_keeps s s _ (settled_keeps s _ (record {
+      earlier = refl;
+      current = refl;
+      by = refl;
+      nodes = listed_nodes node at s.listings;
+      sequence = λ h. h;
+    })))
 
 credited_at_keeps : (p : Settings) (node : ℕ) (at : Position) (s : SenderState) → Keeps s (credited_at p node at s)
 credited_at_keeps p node at s = where_true (is_source (current_shapes p s) at) s _ (credited_keeps node at s)
@@ -122,11 +152,17 @@ heard_keeps p s bytes now = message_keeps p s now (decoded bytes)
 
 -- A tick: what is sent changes what was sent, and the moments.
 noted_keeps : (w : Want) (s : SenderState) → Keeps s (noted w s)
-noted_keeps (WantedInfo index) s = record { earlier = refl; current = refl; by = refl }
-noted_keeps (Symbol at) s = record { earlier = refl; current = refl; by = refl }
+noted_keeps (WantedInfo index) s = record { earlier = refl; current = refl; by = refl; nodes = refl; sequence = λ h. h }
+noted_keeps (Symbol at) s = record { earlier = refl; current = refl; by = refl; nodes = refl; sequence = λ h. h }
 
 sends_keeps : (p : Settings) (now : ℕ) (m : Message) (old s : SenderState) → Keeps old s → Keeps old (sends p now m s).0
-sends_keeps p now m old s h = record { earlier = h.earlier; current = h.current; by = h.by }
+sends_keeps p now m old s h = record {
+  earlier = h.earlier;
+  current = h.current;
+  by = h.by;
+  nodes = h.nodes;
+  sequence = λ n. mod-lt (s.sequence + 1) (omega arith);
+}
 
 entry_sends : (p : Settings) (now : ℕ) (old s : SenderState) (m : Entry → Message) (w : Want) (found : Option Entry) → Keeps old s
     → Keeps old (step_of (elim found [ Some entry ↦ sends p now (m entry) (noted w s) | None ↦ (s, None) ]))
@@ -139,7 +175,8 @@ want_keeps p now repair w old s h =
     entry_sends p now old s (λ entry. message_of p s w entry.object (repair entry.object)) w (slice_get s.current.order (want_index w)) h
 
 flushes_for_keeps : (p : Settings) (now : ℕ) (w : Watermark) (s : SenderState) → Keeps s (flushes_for p now w s).0
-flushes_for_keeps p now w s = record { earlier = refl; current = refl; by = refl }
+flushes_for_keeps p now w s = sends_keeps p now (flush_message p s w.at (pending s w.at)) s
+    (record s { flushes = s.flushes + 1; last_flush = Some now }) (record { earlier = refl; current = refl; by = refl; nodes = refl; sequence = λ h. h })
 
 flushed_keeps : (p : Settings) (now : ℕ) (requests : List Watermark) (s : SenderState) → Keeps s (flushed p now requests s).0
 unfolding flushed
@@ -168,7 +205,7 @@ further_keeps : (p : Settings) (now : ℕ) (s : SenderState) → Keeps s (sends_
 further_keeps p now s = go (next_new p s)
   where
     go : (found : Option Want) → Keeps s (step_of (elim found [ Some w ↦ sends_new p now w s | None ↦ flushes p now s ]))
-    go (Some w) = want_keeps p now _ w s _ (record { earlier = refl; current = refl; by = refl })
+    go (Some w) = want_keeps p now _ w s _ (record { earlier = refl; current = refl; by = refl; nodes = refl; sequence = λ h. h })
     go None = flushes_keeps p now s
 
 wanted_keeps : (p : Settings) (now : ℕ) (s : SenderState) → Keeps s (sends_wanted p now s).0
@@ -176,7 +213,7 @@ wanted_keeps p now s = go s.wants
   where
     go : (wants : List Want) → Keeps s (step_of (elim wants [ [] ↦ sends_further p now s | w ∷ wants ↦ repairs_next p now w wants s ]))
     go [] = further_keeps p now s
-    go (w ∷ wants) = want_keeps p now _ w s _ (record { earlier = refl; current = refl; by = refl })
+    go (w ∷ wants) = want_keeps p now _ w s _ (record { earlier = refl; current = refl; by = refl; nodes = refl; sequence = λ h. h })
 
 first_keeps : (p : Settings) (now : ℕ) (s : SenderState) → Keeps s (sends_first p now s).0
 first_keeps p now s = go s.squelch_due
@@ -185,7 +222,8 @@ first_keeps p now s = go s.squelch_due
       | true ↦ sends p now (squelch_message p s s.current.drop) (record s { squelch_due = false })
       | false ↦ sends_wanted p now s
     ]))
-    go true = record { earlier = refl; current = refl; by = refl }
+    go true = sends_keeps p now (squelch_message p s s.current.drop) s (record s { squelch_due = false })
+        (record { earlier = refl; current = refl; by = refl; nodes = refl; sequence = λ h. h })
     go false = wanted_keeps p now s
 
 in_time_keeps : (p : Settings) (now : ℕ) (s : SenderState) → Keeps s (sends_in_time p now s).0
@@ -202,7 +240,7 @@ closed_keeps p now s = go s.round
       | Some r ↦ elim (nat_le r.closes now) [ true ↦ round_closed p r s | false ↦ s ]
       | None ↦ s
     ])
-    go (Some r) = where_true (nat_le r.closes now) s _ (record { earlier = refl; current = refl; by = refl })
+    go (Some r) = where_true (nat_le r.closes now) s _ (record { earlier = refl; current = refl; by = refl; nodes = refl; sequence = λ h. h })
     go None = keeps_all s
 
 pub ticked_keeps : (p : Settings) (s : SenderState) (now : ℕ) → Keeps s (ticked p s now).0
@@ -216,7 +254,7 @@ told_keeps s = nodes s.untold_nodes
       | [] ↦ (s, None)
     ]))
     marks [] news = keeps_all s
-    marks (mark ∷ more) news = record { earlier = refl; current = refl; by = refl }
+    marks (mark ∷ more) news = record { earlier = refl; current = refl; by = refl; nodes = refl; sequence = λ h. h }
 
     nodes : (ns : List ℕ) → Keeps s (news_of (elim ns [
       | node ∷ more ↦ (record s { untold_nodes = more }, past_news node (listing_of s node))
@@ -225,5 +263,5 @@ told_keeps s = nodes s.untold_nodes
         | [] ↦ (s, None)
       ]
     ]))
-    nodes (node ∷ more) = record { earlier = refl; current = refl; by = refl }
+    nodes (node ∷ more) = record { earlier = refl; current = refl; by = refl; nodes = refl; sequence = λ h. h }
     nodes [] = marks s.untold_marks (λ mark. done_news s mark (find (λ (w : Watermark). w.mark == mark) s.requests))

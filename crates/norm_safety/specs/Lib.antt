@@ -3,6 +3,7 @@ pub mod World
 pub mod WorldStep
 pub mod History
 pub mod Lawful
+pub mod Jobs
 pub mod Hands
 pub mod Fronts
 pub mod OnceEach

@@ -133,7 +133,7 @@ closed_holds p blocks r s h =
       in_window = each_more (stands_behind s.current.drop) kept s.wants (kept_passes (stands_behind s.current.drop) asked) h.in_window;
     }
 
-due_holds : (p : Settings) → Blocks p → (now : ℕ) (s : SenderState) → WantsHold p s → WantsHold p (closed_where_due p now s)
+pub due_holds : (p : Settings) → Blocks p → (now : ℕ) (s : SenderState) → WantsHold p s → WantsHold p (closed_where_due p now s)
 due_holds p blocks now s h = go s.round
   where
     by : (b : Bool) (r : Round) → WantsHold p (elim b [ true ↦ round_closed p r s | false ↦ s ])
@@ -223,13 +223,13 @@ told_same s = go s.untold_nodes s.untold_marks
     go [] (mark ∷ marks) = (refl, refl)
     go [] [] = (refl, refl)
 
-step_holds : (p : Settings) → Blocks p → (s : SenderState) (event : SenderEvent) → WantsHold p s → WantsHold p (sender_step p s event).0
+pub step_holds : (p : Settings) → Blocks p → (s : SenderState) (event : SenderEvent) → WantsHold p s → WantsHold p (sender_step p s event).0
 step_holds p blocks s (events.Commanded by job now) h = commands_hold p blocks s by job h
 step_holds p blocks s (events.Delivered datagram now) h = hold_same p s (heard p s datagram now) (heard_same p s now (decoded datagram)) h
 step_holds p blocks s (events.Ticked now) h = in_time_holds p now (closed_where_due p now s) (due_holds p blocks now s h)
 step_holds p blocks s events.NewsAsked h = hold_same p s (told s).0 (told_same s) h
 
-blocks_of : (p : Settings) → InRange p → Blocks p
+pub blocks_of : (p : Settings) → InRange p → Blocks p
 blocks_of p range = record { e_pos = omega (arith, range.e.0); b_pos = omega (arith, range.b.0); most = range.longest }
 
 pub want_laws : WantLaws

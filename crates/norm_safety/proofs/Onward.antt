@@ -1,0 +1,131 @@
+-- Instances go on: what an instance has in its order it keeps, and its drop point never falls.
+use Rattle.std.proofs.Common.{◌≡◌, ℕ, zero, suc, ◌+◌, ◌<◌, ◌≤◌, cond, List, [], ◌∷◌, ◌++◌, length, Bool, true, false, Option, None, Some, refl, sym, ap, ◌∙◌, subst, append_assoc, arith, ◌⊎◌, inl, inr}
+use Rattle.std.specs.Prelude.{find, ◌==◌, ◌||◌, ◌&&◌, nat_lt, slice_get}
+use Rattle.std.proofs.lemmas.Bool.Decides.{Decides-ltb, Decides-eqb}
+use Rattle.std.proofs.lemmas.List.{append-nil}
+use Rattle.fec_plan.specs.Points.{Point, point, point_before}
+use Rattle.norm_order.specs.Entries.{Object, Entry}
+use Rattle.norm_send_rules.specs.SenderState.{SenderState, Instance, begun}
+use Rattle.norm_send_rules.specs.Restarting.{instances}
+use Rattle.norm_safety.specs.OnceEach.{order_of}
+use Rattle.norm_safety.specs.InOrder.{drop_of}
+use Rattle.norm_safety.proofs.OrderLemmas.{clash}
+
+-- an instance among others
+abbrev pub instance_in : List Instance → ℕ → Option Instance
+instance_in all id = find (λ (i : Instance). i.id == id) all
+
+-- An instance later: more entries at most, and a drop point that is not before the one that was.
+pub record LaterThan (now was : Instance) : Type 0 where
+  pub more : List Entry
+  pub order : now.order ≡ was.order ++ more
+  pub drop : point_before now.drop was.drop ≡ false
+
+-- each instance goes on
+abbrev pub GoOn : List Instance → List Instance → Type 0
+GoOn all later = (id : ℕ) (i : Instance) → instance_in all id ≡ Some i → (j : Instance) × (instance_in later id ≡ Some j) × LaterThan j i
+
+-- the instances of a sender go on
+abbrev pub Onward : SenderState → SenderState → Type 0
+Onward s t = GoOn (instances s) (instances t)
+
+not_true : (b : Bool) → (b ≡ true → ⊥) → b ≡ false
+not_true true h = absurd (h refl)
+not_true false h = refl
+
+-- which of two points is before the other, as an order of numbers
+pub point_before_is : (a b : Point) → point_before a b ≡ true → (a.index < b.index) ⊎ ((a.index ≡ b.index) × (a.block < b.block))
+point_before_is a b e = go (nat_lt a.index b.index) (a.index == b.index) (nat_lt a.block b.block) refl refl refl e
+  where
+    go : (l s m : Bool) → nat_lt a.index b.index ≡ l → (a.index == b.index) ≡ s → nat_lt a.block b.block ≡ m → (l || (s && m)) ≡ true
+        → (a.index < b.index) ⊎ ((a.index ≡ b.index) × (a.block < b.block))
+    go true s m f g h e = inl ((Decides-ltb a.index b.index).0 f)
+    go false true true f g h e = inr ((Decides-eqb a.index b.index).0 g, (Decides-ltb a.block b.block).0 h)
+    go false true false f g h e = absurd (clash e)
+    go false false m f g h e = absurd (clash e)
+
+pub not_before : (a b : Point) → (b.index < a.index) ⊎ ((b.index ≡ a.index) × (b.block ≤ a.block)) → point_before a b ≡ false
+not_before a b h = not_true (point_before a b) (λ e. go (point_before_is a b e) h)
+  where
+    go : (a.index < b.index) ⊎ ((a.index ≡ b.index) × (a.block < b.block)) → (b.index < a.index) ⊎ ((b.index ≡ a.index) × (b.block ≤ a.block)) → ⊥
+    go (inl lt) (inl gt) = omega arith
+    go (inl lt) (inr (same, le)) = omega arith
+    go (inr (same, lt)) (inl gt) = omega arith
+    go (inr (same, lt)) (inr (too, le)) = omega arith
+
+pub behind_point : (a b : Point) → point_before a b ≡ false → (b.index < a.index) ⊎ ((b.index ≡ a.index) × (b.block ≤ a.block))
+behind_point a b e = go (nat_lt a.index b.index) (a.index == b.index) (nat_lt a.block b.block) refl refl refl e
+  where
+    go : (l s m : Bool) → nat_lt a.index b.index ≡ l → (a.index == b.index) ≡ s → nat_lt a.block b.block ≡ m → (l || (s && m)) ≡ false
+        → (b.index < a.index) ⊎ ((b.index ≡ a.index) × (b.block ≤ a.block))
+    go true s m f g h e = absurd (clash (sym e))
+    go false true true f g h e = absurd (clash (sym e))
+    go false true false f g h e =
+        let same = (Decides-eqb a.index b.index).0 g in
+        let no : a.block < b.block → ⊥ = λ lt. clash (sym h ∙ (Decides-ltb a.block b.block).1 lt) in inr (sym same, omega arith)
+    go false false m f g h e =
+        let less : a.index < b.index → ⊥ = λ lt. clash (sym f ∙ (Decides-ltb a.index b.index).1 lt) in
+        let same : a.index ≡ b.index → ⊥ = λ is. clash (sym g ∙ (Decides-eqb a.index b.index).1 is) in inl (omega arith)
+
+not_before_itself : (a : Point) → point_before a a ≡ false
+not_before_itself a = not_before a a (inr (refl, omega arith))
+
+not_before_both : (a b c : Point) → point_before b a ≡ false → point_before c b ≡ false → point_before c a ≡ false
+not_before_both a b c h g = not_before c a (go (behind_point b a h) (behind_point c b g))
+  where
+    go : (a.index < b.index) ⊎ ((a.index ≡ b.index) × (a.block ≤ b.block)) → (b.index < c.index) ⊎ ((b.index ≡ c.index) × (b.block ≤ c.block))
+        → (a.index < c.index) ⊎ ((a.index ≡ c.index) × (a.block ≤ c.block))
+    go (inl x) (inl y) = inl (omega arith)
+    go (inl x) (inr (same, y)) = inl (omega arith)
+    go (inr (same, x)) (inl y) = inl (omega arith)
+    go (inr (same, x)) (inr (too, y)) = inr (same ∙ too, omega arith)
+
+pub later_itself : (i : Instance) → LaterThan i i
+later_itself i = record { more = []; order = sym (append-nil i.order); drop = not_before_itself i.drop }
+
+later_both : (i j k : Instance) → LaterThan j i → LaterThan k j → LaterThan k i
+later_both i j k h g = record {
+  more = h.more ++ g.more;
+  order = g.order ∙ ap (λ (xs : List Entry). xs ++ g.more) h.order ∙ append_assoc i.order h.more g.more;
+  drop = not_before_both i.drop j.drop k.drop h.drop g.drop;
+}
+
+pub goes_on_itself : (all : List Instance) → GoOn all all
+goes_on_itself all id i e = (i, e, later_itself i)
+
+pub go_on_both : (a b c : List Instance) → GoOn a b → GoOn b c → GoOn a c
+go_on_both a b c h g id i e =
+    let first = h id i e in let second = g id first.0 first.1 in (second.0, second.1, later_both i first.0 second.0 first.2 second.2)
+
+same_one : (x y : Instance) → Some x ≡ Some y → x ≡ y
+same_one x y e = cc
+
+nothing : (y : Instance) → None ≡ Some y → ⊥
+nothing y e = cc
+
+-- the last instance goes on
+pub last_goes_on : (earlier : List Instance) (was now : Instance) → now.id ≡ was.id → LaterThan now was
+    → GoOn (earlier ++ was ∷ []) (earlier ++ now ∷ [])
+last_goes_on [] was now same later id i e = go (was.id == id) (now.id == id) (ap (λ (n : ℕ). n == id) same) e
+  where
+    go : (b c : Bool) → c ≡ b → cond b (Some was) None ≡ Some i → (j : Instance) × (cond c (Some now) None ≡ Some j) × LaterThan j i
+    go true true is e = let L : Instance → Type 0 = λ x. LaterThan now x in (now, refl, subst L (same_one was i e) later)
+    go true false is e = absurd (clash is)
+    go false c is e = absurd (nothing i e)
+last_goes_on (x ∷ earlier) was now same later id i e = go (x.id == id) (last_goes_on earlier was now same later id i) e
+  where
+    go : (b : Bool) → (instance_in (earlier ++ was ∷ []) id ≡ Some i → (j : Instance) × (instance_in (earlier ++ now ∷ []) id ≡ Some j) × LaterThan j i)
+        → cond b (Some x) (instance_in (earlier ++ was ∷ []) id) ≡ Some i
+        → (j : Instance) × (cond b (Some x) (instance_in (earlier ++ now ∷ []) id) ≡ Some j) × LaterThan j i
+    go true more e = (i, e, later_itself i)
+    go false more e = more e
+
+-- instances stay where one more begins
+pub more_goes_on : (all : List Instance) (next : Instance) → GoOn all (all ++ next ∷ [])
+more_goes_on [] next id i e = absurd (nothing i e)
+more_goes_on (x ∷ all) next id i e = go (x.id == id) (more_goes_on all next id i) e
+  where
+    go : (b : Bool) → (instance_in all id ≡ Some i → (j : Instance) × (instance_in (all ++ next ∷ []) id ≡ Some j) × LaterThan j i)
+        → cond b (Some x) (instance_in all id) ≡ Some i → (j : Instance) × (cond b (Some x) (instance_in (all ++ next ∷ []) id) ≡ Some j) × LaterThan j i
+    go true more e = (i, e, later_itself i)
+    go false more e = more e

@@ -1,0 +1,216 @@
+-- What holds of a sender of data and files after every event, and that its instances go on.
+use Rattle.std.proofs.Common.{◌≡◌, ℕ, zero, suc, ◌+◌, ◌-◌, ◌<◌, ◌≤◌, List, [], ◌∷◌, ◌++◌, length, drop, Bool, true, false, Option, None, Some, refl, sym, ap, ◌∙◌, subst, arith, ◌⊎◌, inl, inr}
+use Rattle.std.specs.Prelude.{map, nat_eq}
+use Rattle.std.specs.List.{AllByRecursion, IsDistinct}
+use Rattle.std.proofs.lemmas.List.{length-append, length-drop}
+use Rattle.norm_base.specs.Settings.{Settings, InRange}
+use Rattle.norm_base.specs.Members.{receivers_of}
+use Rattle.norm_base.specs.declared.kinds.Kind.{Kind}
+use Rattle.norm_base.specs.declared.node.Origin.{Origin}
+use Rattle.fec_plan.specs.Points.{Point, point}
+use Rattle.norm_order.specs.Entries.{Object, Whole, Entry}
+use Rattle.norm_send_rules.specs.SenderState.{SenderState, Instance, Listing, begun, unlisted, sender_opening}
+use Rattle.norm_send_rules.specs.SenderStep.{sender_step}
+use Rattle.norm_send_rules.specs.SenderStep as events
+use Rattle.norm_send_rules.specs.InWindow.{next_index}
+use Rattle.norm_send_rules.specs.Restarting.{instances, is_used, begun_anew}
+use Rattle.norm_send_rules.specs.Room.{size_of, window, has_room, has_to_go, drop_after}
+use Rattle.norm_send_rules.specs.Enqueuing.{joined}
+use Rattle.norm_send_rules.specs.Commanding.{commanded}
+use Rattle.norm_send_rules.specs.Laws.{WantsHold}
+use Rattle.norm_send_rules.specs.declared.job.Job.{Job}
+use Rattle.norm_send_rules.proofs.StepLemmas.{step_holds as wants_step, blocks_of}
+use Rattle.norm_safety.specs.Jobs.{IsJob, OpensNone}
+use Rattle.norm_safety.proofs.SenderKeeps.{Keeps, nodes_in}
+use Rattle.norm_safety.proofs.CommandSteps.{same_instances}
+use Rattle.norm_safety.proofs.WholeOrders.{IsSized, AreSized, Steady, keeps_steady, CommandCase, Stays, Joins, Restarts, command_case}
+use Rattle.norm_safety.proofs.Onward.{GoOn, Onward, LaterThan, goes_on_itself, last_goes_on, more_goes_on, not_before}
+
+-- the objects of each instance are of their sizes
+abbrev pub AllSized : Settings → List Instance → Type 0
+AllSized p all = AllByRecursion (λ (i : Instance). AreSized p i.order) all
+
+-- What holds: wants are symbols and infos of the window; objects are data and files of their sizes; ids, indices and the
+-- sequence number have 16 bits; listings are the receivers'; and the drop point lies within the order, before a block 0.
+pub record SenderHolds (p : Settings) (s : SenderState) : Type 0 where
+  pub wants : WantsHold p s
+  pub sized : AllSized p (instances s)
+  pub id : s.current.id < 65536
+  pub many : length s.current.order ≤ 65536
+  pub sequence : s.sequence < 65536
+  pub nodes : nodes_in s.listings ≡ receivers_of p p.receivers
+  pub within : s.current.drop.index ≤ length s.current.order
+  pub index : s.current.drop.index < 65536
+  pub block : s.current.drop.block ≡ 0
+
+same_all : (s t : SenderState) → Steady s t → instances t ≡ instances s
+same_all s t h = ap (λ (xs : List Instance). xs ++ t.current ∷ []) h.earlier ∙ ap (λ (x : Instance). s.earlier ++ x ∷ []) h.current
+
+steady_holds : (p : Settings) (s t : SenderState) → Steady s t → WantsHold p t → SenderHolds p s → SenderHolds p t
+steady_holds p s t same wants h =
+    let A : List Instance → Type 0 = λ all. AllSized p all in
+    let C : Instance → Type 0 = λ i. i.id < 65536 in
+    let M : Instance → Type 0 = λ i. length i.order ≤ 65536 in
+    let W : Instance → Type 0 = λ i. i.drop.index ≤ length i.order in
+    let I : Instance → Type 0 = λ i. i.drop.index < 65536 in
+    let B : Instance → Type 0 = λ i. i.drop.block ≡ 0 in
+    record {
+      wants = wants;
+      sized = subst A (sym (same_all s t same)) h.sized;
+      id = subst C (sym same.current) h.id;
+      many = subst M (sym same.current) h.many;
+      sequence = same.sequence h.sequence;
+      nodes = same.nodes ∙ h.nodes;
+      within = subst W (sym same.current) h.within;
+      index = subst I (sym same.current) h.index;
+      block = subst B (sym same.current) h.block;
+    }
+
+pub steady_onward : (s t : SenderState) → Steady s t → Onward s t
+steady_onward s t same =
+    let G : List Instance → Type 0 = λ all. GoOn (instances s) all in subst G (sym (same_all s t same)) (goes_on_itself (instances s))
+
+-- no more objects go than there are
+goes_within : (p : Settings) (size : ℕ) (entries : List Entry) → has_to_go p size entries ≤ length entries
+unfolding has_to_go
+goes_within p size [] = omega arith
+goes_within p size (entry ∷ entries) = go (has_room p size (entry ∷ entries)) (goes_within p size entries)
+  where
+    go : (b : Bool) → has_to_go p size entries ≤ length entries → elim b [ true ↦ 0 | false ↦ suc (has_to_go p size entries) ] ≤ suc (length entries)
+    go true le = omega arith
+    go false le = omega arith
+
+-- where the drop point comes to
+drop_index : (d : Point) (n : ℕ) → (drop_after d n).index ≡ d.index + n
+drop_index d zero = omega arith
+drop_index d (suc n) = refl
+
+drop_block : (d : Point) (n : ℕ) → d.block ≡ 0 → (drop_after d n).block ≡ 0
+drop_block d zero e = e
+drop_block d (suc n) e = refl
+
+-- how many go for an object
+abbrev going : Settings → Object → SenderState → ℕ
+going p object s = has_to_go p (size_of p object) (window s)
+
+drop_within : (p : Settings) (object : Object) (s : SenderState) → s.current.drop.index ≤ length s.current.order
+    → (drop_after s.current.drop (going p object s)).index ≤ length s.current.order
+drop_within p object s h =
+    let le = goes_within p (size_of p object) (window s) in
+    let room = length-drop s.current.drop.index s.current.order in
+    let is = drop_index s.current.drop (going p object s) in omega arith
+
+last_more : (P : Instance → Type 0) (earlier : List Instance) (was now : Instance) → P now → AllByRecursion P (earlier ++ was ∷ [])
+    → AllByRecursion P (earlier ++ now ∷ [])
+last_more P [] was now h all = (h, tt)
+last_more P (x ∷ earlier) was now h all = (all.0, last_more P earlier was now h all.1)
+
+last_of : (P : Instance → Type 0) (earlier : List Instance) (was : Instance) → AllByRecursion P (earlier ++ was ∷ []) → P was
+last_of P [] was all = all.0
+last_of P (x ∷ earlier) was all = last_of P earlier was all.1
+
+entries_more : (p : Settings) (order : List Entry) (entry : Entry) → IsSized p entry.object → AreSized p order → AreSized p (order ++ entry ∷ [])
+entries_more p [] entry h all = (h, tt)
+entries_more p (x ∷ order) entry h all = (all.0, entries_more p order entry h all.1)
+
+pub current_sized : (p : Settings) (s : SenderState) → SenderHolds p s → AreSized p s.current.order
+current_sized p s h = last_of (λ (i : Instance). AreSized p i.order) s.earlier s.current h.sized
+
+joins_holds : (p : Settings) (by : Origin) (object : Object) (s : SenderState) → IsSized p object → next_index s < 65536
+    → WantsHold p (joined p by object s) → SenderHolds p s → SenderHolds p (joined p by object s)
+joins_holds p by object s is few wants h =
+    let new = joined p by object s in
+    let entry : Entry = record { by = by; object = object } in
+    let more = length-append s.current.order (entry ∷ []) in
+    let le = drop_within p object s h.within in
+    record {
+      wants = wants;
+      sized = last_more (λ (i : Instance). AreSized p i.order) s.earlier s.current new.current
+        (entries_more p s.current.order entry is (current_sized p s h)) h.sized;
+      id = h.id;
+      many = omega arith;
+      sequence = h.sequence;
+      nodes = h.nodes;
+      within = omega arith;
+      index = omega arith;
+      block = drop_block s.current.drop (going p object s) h.block;
+    }
+
+joins_onward : (p : Settings) (by : Origin) (object : Object) (s : SenderState) → s.current.drop.block ≡ 0 → Onward s (joined p by object s)
+joins_onward p by object s none =
+    let new = joined p by object s in
+    let is = drop_index s.current.drop (going p object s) in
+    last_goes_on s.earlier s.current new.current refl (record {
+      more = record { by = by; object = object } ∷ [];
+      order = refl;
+      drop = not_before new.current.drop s.current.drop (go (going p object s) is);
+    })
+  where
+    go : (n : ℕ) → (drop_after s.current.drop n).index ≡ s.current.drop.index + n
+        → (s.current.drop.index < (drop_after s.current.drop n).index)
+        ⊎ ((s.current.drop.index ≡ (drop_after s.current.drop n).index) × (s.current.drop.block ≤ (drop_after s.current.drop n).block))
+    go zero e = inr (refl, omega arith)
+    go (suc n) e = inl (omega arith)
+
+unlisted_nodes : (nodes : List ℕ) → nodes_in (map (λ (node : ℕ). record { node = node; past = None }) nodes) ≡ nodes
+unlisted_nodes [] = refl
+unlisted_nodes (node ∷ nodes) = ap (λ (ns : List ℕ). node ∷ ns) (unlisted_nodes nodes)
+
+all_with : (P : Instance → Type 0) (all : List Instance) (x : Instance) → P x → AllByRecursion P all → AllByRecursion P (all ++ x ∷ [])
+all_with P [] x h all = (h, tt)
+all_with P (y ∷ more) x h all = (all.0, all_with P more x h all.1)
+
+restarts_holds : (p : Settings) (id : ℕ) (s : SenderState) → id < 65536 → WantsHold p (begun_anew p id s) → SenderHolds p s
+    → SenderHolds p (begun_anew p id s)
+restarts_holds p id s few wants h = record {
+  wants = wants;
+  sized = all_with (λ (i : Instance). AreSized p i.order) (instances s) (begun id) tt h.sized;
+  id = few;
+  many = omega arith;
+  sequence = h.sequence;
+  nodes = unlisted_nodes (receivers_of p p.receivers);
+  within = omega arith;
+  index = omega arith;
+  block = refl;
+}
+
+-- a command keeps what holds, and instances go on
+pub record Steps (p : Settings) (s t : SenderState) : Type 0 where
+  pub holds : SenderHolds p t
+  pub onward : Onward s t
+
+pub command_steps : (p : Settings) → InRange p → (s : SenderState) (by : Origin) (job : Job) (now : ℕ) → IsJob job → OpensNone job → SenderHolds p s
+    → Steps p s (commanded p s by job).0
+command_steps p range s by job now is none h =
+    go (commanded p s by job).0 (command_case p s by job (current_sized p s h) is none)
+      (wants_step p (blocks_of p range) s (events.Commanded by job now) h.wants)
+  where
+    go : (t : SenderState) → CommandCase p s by t → WantsHold p t → Steps p s t
+    go t (Stays same) wants = record { holds = steady_holds p s t same wants h; onward = steady_onward s t same }
+    go t (Joins kind info octets sized few) wants = record {
+      holds = joins_holds p by (Whole kind info octets) s sized few wants h;
+      onward = joins_onward p by (Whole kind info octets) s h.block;
+    }
+    go t (Restarts id unused few) wants = record {
+      holds = restarts_holds p id s few wants h;
+      onward = more_goes_on (instances s) (begun id);
+    }
+
+-- and so does what keeps the orders
+pub keeps_steps : (p : Settings) (s t : SenderState) → Keeps s t → WantsHold p t → SenderHolds p s → Steps p s t
+keeps_steps p s t keeps wants h =
+    let same = keeps_steady s t keeps in
+    record { holds = steady_holds p s t same wants h; onward = steady_onward s t same }
+
+pub opening_holds : (p : Settings) → InRange p → SenderHolds p (sender_opening p)
+opening_holds p range = record {
+  wants = record { rise = tt; of_order = tt; in_window = tt };
+  sized = (tt, tt);
+  id = omega (arith, range.instance.1);
+  many = omega arith;
+  sequence = omega arith;
+  nodes = unlisted_nodes (receivers_of p p.receivers);
+  within = omega arith;
+  index = omega arith;
+  block = refl;
+}
