@@ -12,4 +12,6 @@ pub mod Reading
 pub mod ObjectIds
 pub mod Asking
 pub mod Spells
+pub mod Layouts
+pub mod Applies
 pub mod Laws
