@@ -1,6 +1,7 @@
 pub mod Member
 pub mod Keys
 pub mod Settings
+pub mod Members
 pub mod ProfileView
 pub mod Given
 pub mod Faults

@@ -1,6 +1,6 @@
 //! One datagram as it is written, of at most 1,500 octets.
 
-ghost use Rattle.std.specs.Prelude.{◌≡◌, ◌-◌, ◌≤◌, ℕ, List, [], ◌++◌, length, IfOk, vec_len, vec_capacity};
+ghost use Rattle.std.specs.Prelude.{◌≡◌, ◌+◌, ◌-◌, ◌≤◌, ℕ, List, [], ◌++◌, length, take, drop, IfOk, vec_len, vec_capacity};
 
 use crate::fault::Memory;
 use std::alloc::Global;
@@ -61,5 +61,12 @@ impl Datagram {
         ensures { self.new ≡ self.old ++ part.now }
     {
         self.bytes.extend_from_slice(part).unwrap();
+    }
+    /// Writes the octets over those that stand from octet `at` on, as a length that is known only later.
+    pub fn replace(&mut self, at: usize, part: &[u8])
+        requires { at + length part.now ≤ length self.old }
+        ensures { self.new ≡ take at self.old ++ part.now ++ drop (at + length part.now) self.old }
+    {
+        self.bytes[at..at + part.len()].copy_from_slice(part);
     }
 }

@@ -41,6 +41,8 @@ fn a_datagram_and_its_wrappers_keep_their_octets(rt: HostRuntime) -> Result<(), 
     datagram.push(b"hel");
     assert_eq!(rt; datagram.room(), 1497);
     assert_eq!(rt; datagram.bytes(), b"hel".as_slice());
+    datagram.replace(1, b"al");
+    assert_eq!(rt; datagram.bytes(), b"hal".as_slice());
     datagram.clear();
     assert_eq!(rt; datagram.room(), 1500);
     let octets = Octets::of(b"lo".to_vec(rt.alloc())?);

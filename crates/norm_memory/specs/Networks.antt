@@ -1,6 +1,7 @@
 use Rattle.std.specs.Prelude.{ℕ, zero, suc, ◌+◌, nat_le, List, [], ◌∷◌, ◌++◌, length, Option, None, Some, true, if◌then◌else◌}
 use Rattle.norm_base.specs.Settings.{Settings}
 use Rattle.norm_base.specs.Network.{Network}
+use Rattle.norm_base.specs.Members.{members_of}
 use Rattle.norm_base.specs.declared.kinds.Local.{Local}
 use Rattle.norm_memory.specs.declared.fate.Fate.{Fate}
 use Rattle.norm_memory.specs.declared.copy.WaitingCopy.{WaitingCopy}
@@ -20,15 +21,6 @@ pub record NetworkState : Type 0 where
 -- it tells all that it knows, and is honest
 abbrev pub told_by : NetworkState → Network
 told_by s = record { starts = Some s.starts; offered = Some s.offered; answers = Some s.answers; honest = true }
-
--- the first so many receivers of a session
-abbrev pub receivers_of : Settings → ℕ → List ℕ
-receivers_of p zero = []
-receivers_of p (suc i) = receivers_of p i ++ (p.sender + 1 + i) ∷ []
-
--- the members of a session in their order: the sender, and then the receivers
-abbrev pub members_of : Settings → List ℕ
-members_of p = p.sender ∷ receivers_of p p.receivers
 
 -- as it was made: no start, no member
 abbrev pub unstarted : NetworkState

@@ -2,7 +2,8 @@
 
 ghost use Rattle.std.specs.Prelude.{◌≡◌, ◌≢◌, ◌≤◌, ◌+◌, ◌<◌, ◌^◌, ◌++◌, length, List, ℕ, drop, option_map, replicate, IfSome, IfNone, IfOk, OnOk, OnErr, []};
 ghost use Rattle.norm_memory.specs.Fates.{AreForOthers, copies_of};
-ghost use Rattle.norm_memory.specs.Networks.{unstarted, members_of, started, after_offer, ready_copy, next_answer, after_take};
+ghost use Rattle.norm_base.specs.Members.{members_of};
+ghost use Rattle.norm_memory.specs.Networks.{unstarted, started, after_offer, ready_copy, next_answer, after_take};
 ghost use Rattle.norm_memory.specs.Waiting.{first_of};
 ghost use Rattle.norm_base.specs.Network.{answer_of, WasOffered};
 

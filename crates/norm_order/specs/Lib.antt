@@ -1,7 +1,6 @@
 pub mod Sets
 pub mod First
 pub mod Moments
-pub mod Receivers
 pub mod Entries
 pub mod Segments
 pub mod Shapes

@@ -2,7 +2,7 @@
 use Rattle.std.specs.Prelude.{ℕ, suc, ◌≡◌, ◌-◌, ◌/◌, ◌==◌, ◌&&◌, ◌||◌, List, [], ◌∷◌, ◌++◌, length, find, drop, nat_lt, nat_eq, Bool, true, false, Option, None, Some, IsTrue}
 use Rattle.std.specs.List.{list_all, common_prefix_len, IsDistinct}
 use Rattle.norm_base.specs.Settings.{Settings}
-use Rattle.norm_order.specs.Receivers.{receivers_of}
+use Rattle.norm_base.specs.Members.{receivers_of}
 use Rattle.fec_plan.specs.Points.{Point, point}
 use Rattle.norm_order.specs.declared.up.Up.{Up}
 use Rattle.norm_order.specs.declared.up.Up.TheVariants as up

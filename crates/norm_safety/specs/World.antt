@@ -1,7 +1,7 @@
 -- A world: the states of a sender and its receivers, and what they gave to the network.
 use Rattle.std.specs.Prelude.{ℕ, ◌==◌, not, List, [], ◌∷◌, ◌++◌, map, filter, find, true, false, Option, None, Some}
 use Rattle.norm_base.specs.Settings.{Settings}
-use Rattle.norm_order.specs.Receivers.{receivers_of}
+use Rattle.norm_base.specs.Members.{receivers_of}
 use Rattle.norm_send_rules.specs.SenderState.{SenderState, sender_opening}
 use Rattle.norm_receive_rules.specs.ReceiverState.{ReceiverState, receiver_opening}
 

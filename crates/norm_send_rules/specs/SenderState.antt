@@ -1,7 +1,7 @@
 -- The state of a sender (RFC 5740 section 5.2): what it was given, sent, was asked for, and has to tell.
 use Rattle.std.specs.Prelude.{ℕ, List, [], Bool, false, Option, None, map}
 use Rattle.norm_base.specs.Settings.{Settings}
-use Rattle.norm_order.specs.Receivers.{receivers_of}
+use Rattle.norm_base.specs.Members.{receivers_of}
 use Rattle.norm_base.specs.declared.node.Origin.{Origin}
 use Rattle.fec_plan.specs.declared.position.Position.{Position}
 use Rattle.norm_ext.specs.Requests.{Request}

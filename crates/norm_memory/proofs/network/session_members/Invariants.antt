@@ -1,5 +1,5 @@
 use Rattle.std.proofs.Common.{◌≡◌, ◌∷◌}
-use Rattle.norm_memory.specs.Networks.{receivers_of}
+use Rattle.norm_base.specs.Members.{receivers_of}
 use Rattle.norm_memory.proofs.network.session_members.Given as goal
 
 -- the sender, and the receivers so far
