@@ -14,4 +14,6 @@ pub mod ReadingSteps
 pub mod StepLemmas
 pub mod PartLemmas
 pub mod FirstRefusal
+pub mod AskedLemmas
+pub mod AskedAgain
 pub mod LawsHold

@@ -1,9 +1,12 @@
 -- What is promised of the grammar.
-use Rattle.std.specs.Prelude.{◌≡◌, ◌<◌, ℕ, List, slice_index, Ok, Err}
+use Rattle.std.specs.Prelude.{◌≡◌, ◌<◌, ℕ, List, length, slice_index, Ok, Err}
 use Rattle.norm_ext.specs.Message.{Message}
 use Rattle.norm_ext.specs.Octets.{octets_of}
 use Rattle.norm_ext.specs.Reading.{decoded}
 use Rattle.norm_ext.specs.Spells.{Spells, IsMessage}
+use Rattle.std.specs.List.{AllByRecursion}
+use Rattle.norm_ext.specs.Requests.{IsRequests, requests_of}
+use Rattle.norm_ext.specs.Asked.{Asked, IsAsked, requests_asked, asked_octets}
 use Rattle.norm_ext.specs.Applies.{Applies, IsFirst}
 use Rattle.norm_ext.specs.declared.refusal.Refusal.{Refusal}
 
@@ -38,3 +41,9 @@ FirstIsRefused = (refusal : Refusal) (octets : List ℕ) → AreOctets octets �
 -- no refusal applies to octets that spell a message
 abbrev pub SpelledIsNotRefused : Type 0
 SpelledIsNotRefused = (m : Message) (octets : List ℕ) → AreOctets octets → Spells m octets → (refusal : Refusal) → Applies refusal octets → ⊥
+
+-- what is asked for within its widths is a list of whole requests, and is read again as these
+abbrev pub AskedIsRead : Type 0
+AskedIsRead =
+    (asked : List Asked) → AllByRecursion IsAsked asked → length (asked_octets asked) < 65536
+    → IsRequests (asked_octets asked) × (requests_of (asked_octets asked) ≡ requests_asked asked)

@@ -10,6 +10,8 @@ pub mod Message
 pub mod Octets
 pub mod Reading
 pub mod ObjectIds
+pub mod Fitting
+pub mod Asked
 pub mod Asking
 pub mod Spells
 pub mod Layouts

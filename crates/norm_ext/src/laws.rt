@@ -1,6 +1,6 @@
 //! What is promised of the grammar. Each law is the contract of a function that does nothing.
 
-ghost use Rattle.norm_ext.specs.Laws.{ReadIsSpelled, SpelledIsRead, SpellsOne, ReadAgain, RefusedIsFirst, FirstIsRefused, SpelledIsNotRefused};
+ghost use Rattle.norm_ext.specs.Laws.{ReadIsSpelled, SpelledIsRead, SpellsOne, ReadAgain, RefusedIsFirst, FirstIsRefused, SpelledIsNotRefused, AskedIsRead};
 
 /// What is read of octets is spelled by them.
 pub fn read_is_spelled()
@@ -37,4 +37,10 @@ pub fn first_is_refused()
 /// No refusal applies to octets that spell a message. So octets spell one exactly where none applies.
 pub fn spelled_is_not_refused()
     ensures { SpelledIsNotRefused }
+{}
+
+/// What a `RequestWriter` writes of items within their widths is a list of whole requests, and is read again as the
+/// requests that the items make.
+pub fn asked_is_read()
+    ensures { AskedIsRead }
 {}
