@@ -3,10 +3,32 @@
 ghost use Rattle.std.specs.Prelude.{◌≡◌};
 ghost use Rattle.fec_plan.specs.declared.position.Position.{Position as Place};
 ghost use Rattle.fec_plan.specs.Places.{position_cmp};
+ghost use Rattle.fec_plan.specs.Covering.{BlocksCover, SymbolsCover, AllButLastAreFull, BlocksAreEven};
 
 use crate::position::Position;
 
 /// `cmp` of positions goes by index, then by block, then by symbol.
 pub fn position_order()
     ensures { (p q : Place) → ⟦<Position as Ord>⟧.cmp p q ≡ position_cmp p q }
+{}
+
+/// The source symbols of an object's blocks are those of the object.
+pub fn blocks_cover()
+    ensures { BlocksCover }
+{}
+
+/// The octets of an object's source symbols, as they are sent, are those of the object.
+pub fn symbols_cover()
+    ensures { SymbolsCover }
+{}
+
+/// Every source symbol of an object but the last has `e` octets.
+pub fn all_but_last_are_full()
+    ensures { AllButLastAreFull }
+{}
+
+/// Every block of an object has 1 to `b` source symbols. Blocks differ by one at most, and none is larger than the one
+/// before it.
+pub fn blocks_are_even()
+    ensures { BlocksAreEven }
 {}

@@ -1,17 +1,16 @@
 -- Each message that octets spell is read of them.
-use Rattle.std.proofs.Common.{◌≡◌, ◌≢◌, ℕ, ◌+◌, ◌*◌, ◌%◌, ◌<◌, ◌≤◌, ◌⊎◌, inl, inr, eqb, not, List, [], ◌∷◌, ◌++◌, length, drop, Result, Ok, Err, refl, sym, ap, ◌∙◌, arith, append-nil, length-append}
-use Rattle.std.proofs.Common.{ne_eqb}
+use Rattle.std.proofs.Common.{◌≡◌, ℕ, ◌*◌, eqb, not, List, [], ◌∷◌, ◌++◌, length, drop, Result, Ok, refl, sym, ap, ◌∙◌, arith, append-nil}
 use Rattle.byteorder.specs.Endian.{big_bytes}
 use Rattle.fec_plan.specs.Payload.{Name, name_octets}
-use Rattle.norm_ext.specs.Steps.{◌>>=◌, refused_if}
+use Rattle.norm_ext.specs.Steps.{refused_if}
 use Rattle.norm_ext.specs.Numbers.{octet, number, name_at}
 use Rattle.norm_ext.specs.Extensions.{Extension, extensions_of}
-use Rattle.norm_ext.specs.Requests.{Request, requests_of, requests_checked, item_octets}
+use Rattle.norm_ext.specs.Requests.{Request, requests_of, requests_checked}
 use Rattle.norm_ext.specs.Lists.{nodes_of, objects_of}
-use Rattle.norm_ext.specs.Message.{InfoMessage, DataMessage, FlushCommand, EotCommand, SquelchCommand, RepairAdvCommand, AckReqCommand, OpaqueCommand, NackMessage, AckMessage, ReportMessage, Message, Info, Data, Flush, Eot, Squelch, RepairAdv, AckReq, Opaque, Nack, Ack, Report, AckContent, Mark, Unread}
-use Rattle.norm_ext.specs.Octets.{front_octets, object_octets, command_octets, extensions_octets, requests_octets, nodes_octets, objects_octets, words_with, octets_with}
-use Rattle.norm_ext.specs.Spells.{IsInfo, IsData, IsFlush, IsEot, IsSquelch, IsRepairAdv, IsAckReq, IsOpaque, IsNack, IsAck, IsReport}
-use Rattle.norm_ext.specs.Reading.{words_of, content_of, header_from, header_checked, encoding_checked, header_extensions_checked, member_checked, list_checked, source_of, sequence_of, object_head_of, command_head_of, info_read, data_read, flush_read, eot_read, squelch_read, repair_adv_read, ack_req_read, opaque_read, nack_read, ack_read, report_read}
+use Rattle.norm_ext.specs.Message.{InfoMessage, DataMessage, FlushCommand, EotCommand, SquelchCommand, RepairAdvCommand, AckReqCommand, OpaqueCommand, NackMessage, ReportMessage, Message, Info, Data, Flush, Eot, Squelch, RepairAdv, AckReq, Opaque, Nack, Report}
+use Rattle.norm_ext.specs.Octets.{extensions_octets, requests_octets, nodes_octets, objects_octets, words_with, octets_with}
+use Rattle.norm_ext.specs.Spells.{IsInfo, IsData, IsFlush, IsEot, IsSquelch, IsRepairAdv, IsAckReq, IsOpaque, IsNack, IsReport}
+use Rattle.norm_ext.specs.Reading.{words_of, content_of, header_from, header_checked, encoding_checked, header_extensions_checked, member_checked, list_checked, source_of, sequence_of, info_read, data_read, flush_read, eot_read, squelch_read, repair_adv_read, ack_req_read, opaque_read, nack_read, report_read}
 use Rattle.norm_ext.specs.declared.head.ObjHead.{ObjHead}
 use Rattle.norm_ext.specs.declared.head.CmdHead.{CmdHead}
 use Rattle.norm_ext.specs.declared.kinds.MessageType.TheVariants as types

@@ -1,22 +1,21 @@
 -- What is spelled is read again: the header, the extensions and the fields that messages share.
-use Rattle.std.proofs.Common.{◌≡◌, ◌≢◌, ℕ, ◌+◌, ◌-◌, ◌*◌, ◌/◌, ◌%◌, ◌<◌, ◌≤◌, cond, eqb, ltb, ◌||◌, not, Bool, true, false, List, [], ◌∷◌, ◌++◌, length, take, drop, Result, Ok, Err, refl, sym, ap, ◌∙◌, arith, length-append, length-drop}
-use Rattle.std.specs.List.{flat_map, AllByRecursion}
+use Rattle.std.proofs.Common.{◌≡◌, ℕ, ◌+◌, ◌-◌, ◌*◌, ◌/◌, ◌%◌, ◌<◌, ◌≤◌, cond, eqb, ltb, ◌||◌, not, Bool, false, List, [], ◌++◌, length, take, drop, Result, Ok, Err, refl, sym, ap, ◌∙◌, arith, length-append, length-drop}
+use Rattle.std.specs.List.{AllByRecursion}
 use Rattle.std.proofs.lemmas.Bool.{le-ltb, eq-eqb}
 use Rattle.std.proofs.Common.{ne_eqb}
 use Rattle.std.proofs.lemmas.List.{take_at, drop_at, drop-drop}
 use Rattle.norm_base.specs.Member.{IsMember}
 use Rattle.norm_ext.specs.Steps.{◌>>=◌, refused_if}
-use Rattle.norm_ext.specs.Numbers.{octet, number, type_number}
+use Rattle.norm_ext.specs.Numbers.{octet, type_number}
 use Rattle.norm_ext.specs.Extensions.{Extension, extension_octets, extensions_of, extensions_checked, IsExtension, extension_checked, extension_length, first_extension}
 use Rattle.norm_ext.specs.Requests.{Request, request_octets, requests_of, requests_checked, request_checked, request_length, first_request, IsRequest}
 use Rattle.norm_ext.specs.Octets.{front_octets, object_octets, command_octets, extensions_octets, requests_octets, words_with}
 use Rattle.norm_ext.specs.Spells.{AreExtensions, IsObjectHead, IsCommandHead}
-use Rattle.norm_ext.specs.Reading.{words_of, type_in, content_of, header_from, least_words, version_checked, header_checked, extension_refused, header_extensions_checked, member_checked, list_checked, source_of, sequence_of, object_head_of, command_head_of}
+use Rattle.norm_ext.specs.Reading.{words_of, type_in, content_of, header_from, least_words, version_checked, header_checked, extension_refused, header_extensions_checked, member_checked, list_checked, object_head_of, command_head_of}
 use Rattle.norm_ext.specs.declared.head.ObjHead.{ObjHead}
 use Rattle.norm_ext.specs.declared.head.CmdHead.{CmdHead}
 use Rattle.norm_ext.specs.declared.kinds.MessageType.{MessageType}
 use Rattle.norm_ext.specs.declared.kinds.MessageType.TheVariants as types
-use Rattle.norm_ext.specs.declared.refusal.ExtFault.{ExtFault}
 use Rattle.norm_ext.specs.declared.refusal.Refusal.{Refusal}
 use Rattle.norm_ext.specs.declared.refusal.Refusal.TheVariants.{Short, Version, BadType, HeaderLength, PastEnd, BadNode, BadList}
 use Rattle.norm_ext.proofs.PieceLemmas.{pieces_again, checked_again}

@@ -1,12 +1,11 @@
 -- Header extensions as pieces.
-use Rattle.std.proofs.Common.{◌≡◌, ℕ, zero, suc, ◌+◌, ◌-◌, ◌*◌, ◌/◌, ◌%◌, ◌<◌, ◌≤◌, cond, ltb, eqb, Bool, true, false, List, [], ◌∷◌, ◌++◌, length, get_or, take, drop, Result, Ok, Err, refl, sym, ap, ◌∙◌, arith, inl, inr, lt-ltb, ne_eqb, length-append, length-drop}
+use Rattle.std.proofs.Common.{◌≡◌, ℕ, zero, suc, ◌+◌, ◌-◌, ◌*◌, ◌/◌, ◌%◌, ◌<◌, ◌≤◌, cond, ltb, eqb, Bool, true, false, List, [], ◌∷◌, ◌++◌, length, get_or, take, drop, Result, Ok, Err, refl, sym, ap, ◌∙◌, arith, inl, inr, lt-ltb, ne_eqb, length-append}
 use Rattle.std.specs.List.{flat_map, AllByRecursion}
-use Rattle.std.proofs.lemmas.Bool.{cases_lt, ltb-false, ltb-true, le-ltb, eqb-true}
-use Rattle.std.proofs.lemmas.List.{take_at, drop_at, drop-take, length-take}
+use Rattle.std.proofs.lemmas.Bool.{cases_lt, ltb-false, le-ltb}
+use Rattle.std.proofs.lemmas.List.{take_at, drop-take, length-take}
 use Rattle.norm_ext.specs.Extensions.{Extension, extension_octets, extension_length, first_extension, extension_checked, extensions_of, extensions_checked, IsExtension, IsChecked, most_words, extension_of, content_at}
-use Rattle.norm_ext.specs.declared.refusal.ExtFault.{ExtFault}
 use Rattle.norm_ext.specs.declared.refusal.ExtFault.TheVariants.{ZeroLength, Overrun}
-use Rattle.norm_ext.specs.Pieces.{pieces_behind, checked_then, checked_behind}
+use Rattle.norm_ext.specs.Pieces.{checked_behind}
 use Rattle.norm_ext.proofs.PieceLemmas.{IsOctets, IsKind, unroll, ok_first, ok_rest, unroll_checked, first_checked, together}
 
 -- a test that refuses nothing

@@ -1,11 +1,9 @@
 -- The laws of the grammar.
-use Rattle.std.proofs.Common.{◌≡◌, ℕ, zero, suc, ◌+◌, List, [], ◌∷◌, ◌++◌, length, Ok, Result, refl, sym, ap, ◌∙◌, arith, length-append}
+use Rattle.std.proofs.Common.{◌≡◌, ℕ, zero, suc, List, [], ◌∷◌, length, Ok, Result, refl, sym, ◌∙◌, arith}
 use Rattle.std.specs.List.{repeat}
 use Rattle.norm_ext.specs.Message.{Message}
-use Rattle.norm_ext.specs.Octets.{octets_of, octets_with, reserved_octets}
-use Rattle.norm_ext.specs.Reading.{decoded}
-use Rattle.norm_ext.specs.Spells.{Spells, IsMessage}
-use Rattle.norm_ext.specs.Laws.{AreOctets, ReadIsSpelled, SpelledIsRead, SpellsOne, ReadAgain}
+use Rattle.norm_ext.specs.Octets.{octets_of, reserved_octets}
+use Rattle.norm_ext.specs.Laws.{ReadIsSpelled, SpelledIsRead, SpellsOne, ReadAgain}
 use Rattle.norm_ext.specs.declared.refusal.Refusal.{Refusal}
 use Rattle.norm_ext.proofs.ReadIsSpelled.{read_is_spelled}
 use Rattle.norm_ext.proofs.SpelledIsRead.{spelled_is_read}

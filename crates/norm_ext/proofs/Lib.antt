@@ -8,4 +8,12 @@ pub mod ReadIsSpelled
 pub mod AgainLemmas
 pub mod Again
 pub mod SpelledIsRead
+pub mod BehindLemmas
+pub mod TurnLemmas
+pub mod ReadingSteps
+pub mod StepLemmas
+pub mod PartLemmas
+pub mod FirstRefusal
+pub mod AskedLemmas
+pub mod AskedAgain
 pub mod LawsHold

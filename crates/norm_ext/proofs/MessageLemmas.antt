@@ -1,29 +1,28 @@
 -- What messages share: their header, their extensions, and what stands behind these.
-use Rattle.std.proofs.Common.{◌≡◌, ℕ, zero, suc, ◌+◌, ◌-◌, ◌*◌, ◌/◌, ◌%◌, ◌<◌, ◌≤◌, cond, ltb, eqb, ◌||◌, ◌&&◌, not, Bool, true, false, List, [], ◌∷◌, ◌++◌, length, get_or, take, drop, Option, Some, None, Result, Ok, Err, refl, sym, ap, ◌∙◌, arith, inl, inr, append_assoc, append-nil, length-append, length-drop}
-use Rattle.std.specs.List.{flat_map, AllByRecursion}
-use Rattle.std.proofs.lemmas.Bool.{ltb-false, le-ltb, eqb-true, eqb-false}
-use Rattle.std.proofs.lemmas.List.{take_at, drop_at, take-append-drop, drop-drop, length-take}
+use Rattle.std.proofs.Common.{◌≡◌, ℕ, ◌+◌, ◌-◌, ◌*◌, ◌/◌, ◌%◌, ◌<◌, ◌≤◌, cond, ltb, eqb, ◌||◌, not, Bool, true, false, List, [], ◌∷◌, ◌++◌, length, take, drop, Result, Ok, Err, refl, sym, ap, ◌∙◌, arith, append-nil, length-drop}
+use Rattle.std.specs.List.{AllByRecursion}
+use Rattle.std.proofs.lemmas.Bool.{ltb-false, eqb-true, eqb-false}
+use Rattle.std.proofs.lemmas.List.{take-append-drop, drop-drop, length-take}
 use Rattle.byteorder.specs.Endian.{big_bytes}
 use Rattle.norm_base.specs.Member.{IsMember}
-use Rattle.norm_ext.specs.Steps.{◌>>=◌, refused_if, some_or}
-use Rattle.norm_ext.specs.Numbers.{octet, number, part, name_at, type_number, encoding_id}
+use Rattle.norm_ext.specs.Steps.{◌>>=◌, refused_if}
+use Rattle.norm_ext.specs.Numbers.{octet, number, name_at, type_number}
 use Rattle.fec_plan.specs.Payload.{name_octets}
 use Rattle.norm_ext.specs.Requests.{item_octets, request_octets, requests_of, requests_checked, request_checked, request_length, first_request, IsRequest, IsItem}
 use Rattle.norm_ext.specs.declared.head.Item.{Item}
-use Rattle.norm_ext.specs.Extensions.{Extension, extension_octets, extensions_of, extensions_checked, IsExtension, extension_checked, extension_length, first_extension}
+use Rattle.norm_ext.specs.Extensions.{extension_octets, extensions_of, extensions_checked, IsExtension, extension_checked, extension_length, first_extension}
 use Rattle.norm_ext.specs.Octets.{front_octets, object_octets, command_octets, sizes_octet, extensions_octets, requests_octets, words_with}
-use Rattle.norm_ext.specs.Spells.{AreExtensions, IsObjectHead, IsCommandHead}
-use Rattle.norm_ext.specs.Reading.{words_of, type_in, content_of, header_from, least_words, version_checked, header_checked, encoding_checked, extension_refused, header_extensions_checked, member_checked, source_of, sequence_of, object_head_of, command_head_of}
+use Rattle.norm_ext.specs.Spells.{AreExtensions}
+use Rattle.norm_ext.specs.Reading.{words_of, type_in, content_of, header_from, least_words, version_checked, header_checked, encoding_checked, extension_refused, header_extensions_checked, member_checked}
 use Rattle.norm_ext.specs.declared.head.ObjHead.{ObjHead}
 use Rattle.norm_ext.specs.declared.head.CmdHead.{CmdHead}
 use Rattle.norm_ext.specs.declared.kinds.MessageType.{MessageType}
-use Rattle.norm_ext.specs.declared.kinds.MessageType.TheVariants as types
 use Rattle.norm_ext.specs.declared.refusal.ExtFault.{ExtFault}
 use Rattle.norm_ext.specs.declared.refusal.ExtFault.TheVariants.{ZeroLength, Overrun}
 use Rattle.norm_ext.specs.declared.refusal.Refusal.{Refusal}
-use Rattle.norm_ext.specs.declared.refusal.Refusal.TheVariants.{Short, Version, BadType, HeaderLength, PastEnd, FecId, BadNode}
+use Rattle.norm_ext.specs.declared.refusal.Refusal.TheVariants.{Short, Version, BadType, HeaderLength, FecId, BadNode}
 use Rattle.norm_ext.proofs.PieceLemmas.{IsOctets, octets-take, octets-drop, together, all_fit}
-use Rattle.norm_ext.proofs.NumberLemmas.{spelled_2, spelled_4, below_2, below_4, spelled_name, name_fits}
+use Rattle.norm_ext.proofs.NumberLemmas.{spelled_2, spelled_4, below_2, spelled_name, name_fits}
 use Rattle.norm_ext.proofs.RequestLemmas.{not_refused, so_not, request_kind}
 use Rattle.norm_ext.proofs.ExtensionLemmas.{extension_kind}
 

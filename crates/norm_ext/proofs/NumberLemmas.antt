@@ -1,9 +1,9 @@
 -- Numbers and names in octets: what is read is what was spelled, and what is spelled is read again.
-use Rattle.std.proofs.Common.{◌≡◌, ℕ, zero, suc, ◌+◌, ◌*◌, ◌/◌, ◌%◌, ◌<◌, ◌≤◌, List, [], ◌∷◌, ◌++◌, length, get_or, take, drop, refl, sym, ap, ◌∙◌, arith, length-append}
+use Rattle.std.proofs.Common.{◌≡◌, ℕ, suc, ◌+◌, ◌*◌, ◌/◌, ◌%◌, ◌<◌, List, [], ◌∷◌, ◌++◌, length, refl, ap, ◌∙◌, arith}
 use Rattle.std.specs.List.{flat_map, AllByRecursion}
-use Rattle.byteorder.specs.Endian.{big_bytes, big_number}
+use Rattle.byteorder.specs.Endian.{big_bytes}
 use Rattle.fec_plan.specs.Payload.{Name, name_octets, IsName}
-use Rattle.norm_ext.specs.Numbers.{number, octet, name_at}
+use Rattle.norm_ext.specs.Numbers.{number, name_at}
 use Rattle.norm_ext.specs.Lists.{nodes_of, objects_of}
 use Rattle.norm_ext.proofs.PieceLemmas.{IsOctets}
 

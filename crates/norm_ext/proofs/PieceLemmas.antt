@@ -1,5 +1,5 @@
 -- Lists of pieces: the pieces put together again are the list, and a list put together of pieces has these.
-use Rattle.std.proofs.Common.{◌≡◌, ℕ, zero, suc, ◌+◌, ◌-◌, ◌<◌, ◌≤◌, List, [], ◌∷◌, ◌++◌, length, get_or, take, drop, Result, Ok, Err, refl, sym, ap, ◌∙◌, arith, add-zero, length-append, length-drop, drop-cons, inl, inr}
+use Rattle.std.proofs.Common.{◌≡◌, ℕ, zero, suc, ◌+◌, ◌-◌, ◌<◌, ◌≤◌, List, [], ◌∷◌, ◌++◌, length, get_or, take, drop, Result, Ok, Err, refl, sym, ap, ◌∙◌, arith, add-zero, length-append, inl, inr}
 use Rattle.std.specs.List.{AllByRecursion}
 use Rattle.std.specs.List.{flat_map}
 use Rattle.std.proofs.lemmas.List.{drop_at, take-append-drop, get_or-drop, get_or-take, get_or_past, length-take}
@@ -57,7 +57,7 @@ pub record IsKind {A E : Type 0} (octets_of : A → List ℕ) (Fits : A → Type
   pub again_first : (a : A) (rest : List ℕ) → Fits a → first (octets_of a ++ rest) ≡ a
   pub again_checked : (a : A) (rest : List ℕ) (at : ℕ) → Fits a → check at (octets_of a ++ rest) ≡ Ok tt
 
-drop_pred : (n : ℕ) (x : ℕ) (xs : List ℕ) → 0 < n → drop (n - 1) xs ≡ drop n (x ∷ xs)
+pub drop_pred : (n : ℕ) (x : ℕ) (xs : List ℕ) → 0 < n → drop (n - 1) xs ≡ drop n (x ∷ xs)
 drop_pred zero x xs h = absurd (omega arith)
 drop_pred (suc n) x xs h = let e : suc n - 1 ≡ n = omega arith in rw e refl
 

@@ -1,13 +1,13 @@
 -- What is read of octets is spelled by them.
-use Rattle.std.proofs.Common.{◌≡◌, ◌≢◌, ℕ, ◌+◌, ◌*◌, ◌/◌, ◌%◌, ◌<◌, ◌≤◌, ◌⊎◌, inl, inr, cond, eqb, ltb, ◌&&◌, ◌||◌, not, Bool, true, false, List, [], ◌∷◌, length, Option, Some, None, Result, Ok, Err, refl, sym, ap, subst, ◌∙◌, arith}
+use Rattle.std.proofs.Common.{◌≡◌, ℕ, ◌*◌, ◌%◌, ◌≤◌, ◌⊎◌, inl, inr, cond, eqb, ◌&&◌, ◌||◌, not, Bool, true, false, List, length, Option, Some, None, Result, Ok, refl, sym, ap, subst, ◌∙◌, arith}
 use Rattle.std.proofs.lemmas.Bool.{eqb-true, eqb-false}
-use Rattle.norm_ext.specs.Steps.{◌>>=◌, refused_if, some_or}
-use Rattle.norm_ext.specs.Numbers.{octet, number, type_of, type_number, sub_type_of, sub_type_number}
+use Rattle.norm_ext.specs.Steps.{refused_if, some_or}
+use Rattle.norm_ext.specs.Numbers.{octet, number, sub_type_of, sub_type_number}
 use Rattle.norm_ext.specs.Extensions.{extensions_of}
 use Rattle.norm_ext.specs.Requests.{requests_checked}
-use Rattle.norm_ext.specs.Message.{Message, Info, Data, Flush, Eot, Squelch, RepairAdv, AckReq, Opaque, Nack, Ack, Report, AckContent, Mark, Unread}
+use Rattle.norm_ext.specs.Message.{Message, Ack, Mark, Unread}
 use Rattle.norm_ext.specs.Spells.{Spells}
-use Rattle.norm_ext.specs.Reading.{words_of, type_in, content_of, header_from, least_words, version_checked, header_checked, encoding_checked, header_extensions_checked, member_checked, list_checked, source_of, sequence_of, object_head_of, command_head_of, info_read, data_read, flush_read, eot_read, squelch_read, repair_adv_read, ack_req_read, opaque_read, sub_type_in, command_by, command_read, nack_read, ack_encoding_checked, ack_length_checked, ack_content_of, ack_read, report_read, read_as, known_type, decoded}
+use Rattle.norm_ext.specs.Reading.{words_of, content_of, header_from, least_words, version_checked, header_checked, encoding_checked, header_extensions_checked, member_checked, list_checked, source_of, sequence_of, info_read, data_read, flush_read, eot_read, squelch_read, repair_adv_read, ack_req_read, opaque_read, sub_type_in, command_by, command_read, nack_read, ack_encoding_checked, ack_length_checked, ack_read, report_read, read_as, known_type, decoded}
 use Rattle.norm_ext.specs.declared.kinds.MessageType.{MessageType}
 use Rattle.norm_ext.specs.declared.kinds.MessageType.TheVariants as types
 use Rattle.norm_ext.specs.declared.kinds.SubType.{SubType}
@@ -191,7 +191,7 @@ other_least false = omega arith
 four : (octets : List ℕ) → IsHeader types.Command octets → 4 ≤ words_of octets
 four octets is = omega (arith, is.least, other_least (eqb (octet 12 octets) 1 || eqb (octet 12 octets) 3))
 
-sub_type_is : (n : ℕ) (sub_type : SubType) → sub_type_of n ≡ Some sub_type → sub_type_number sub_type ≡ n
+pub sub_type_is : (n : ℕ) (sub_type : SubType) → sub_type_of n ≡ Some sub_type → sub_type_number sub_type ≡ n
 sub_type_is n sub_type e =
     elim (chosen (eqb n 1) (Some commands.Flush) _ (Some sub_type) e) [
       | inl w ↦ (let f : commands.Flush ≡ sub_type = cc in ap sub_type_number (sym f)) ∙ sym (eqb-true n 1 w.0)

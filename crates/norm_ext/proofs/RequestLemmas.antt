@@ -1,20 +1,20 @@
 -- Repair requests as pieces.
-use Rattle.std.proofs.Common.{◌≡◌, ℕ, zero, suc, ◌+◌, ◌-◌, ◌*◌, ◌/◌, ◌%◌, ◌<◌, ◌≤◌, cond, ltb, eqb, ◌||◌, ◌⊎◌, Bool, true, false, not, List, [], ◌∷◌, ◌++◌, length, get_or, take, drop, Option, Some, None, Result, Ok, Err, refl, sym, ap, ◌∙◌, arith, inl, inr, lt-ltb, length-append, length-drop}
-use Rattle.std.specs.Prelude.{slice_get, map}
+use Rattle.std.proofs.Common.{◌≡◌, ℕ, zero, suc, ◌+◌, ◌*◌, ◌%◌, ◌<◌, ◌≤◌, cond, ltb, eqb, ◌||◌, ◌⊎◌, Bool, true, false, not, List, [], ◌∷◌, ◌++◌, length, get_or, take, drop, Option, Some, None, Ok, refl, sym, ap, ◌∙◌, arith, inl, inr, length-append}
+use Rattle.std.specs.Prelude.{slice_get}
 use Rattle.std.specs.List.{flat_map, AllByRecursion}
-use Rattle.std.proofs.lemmas.Bool.{cases_lt, ltb-false, ltb-true, le-ltb, eqb-true}
-use Rattle.std.proofs.lemmas.List.{take_at, drop_at, drop-take, length-take}
+use Rattle.std.proofs.lemmas.Bool.{ltb-false, le-ltb, eqb-true}
+use Rattle.std.proofs.lemmas.List.{take_at, drop-take, length-take}
 use Rattle.byteorder.specs.Endian.{big_bytes}
-use Rattle.fec_plan.specs.Payload.{Name, name_octets, IsName}
-use Rattle.norm_ext.specs.Numbers.{number, octet, name_at, form_of, form_number, encoding_id}
-use Rattle.norm_ext.specs.Requests.{RequestItem, Request, item_octets, request_octets, items_of, items_length, form_at, form_or_any, first_request, request_length, requests_of, item_size, items_checked, request_length_checked, request_checked, request_checked_as, requests_checked, IsItem, IsRequestItem, IsRequest, IsRequests, items_named}
+use Rattle.fec_plan.specs.Payload.{Name, name_octets}
+use Rattle.norm_ext.specs.Numbers.{number, octet, name_at, form_of, form_number}
+use Rattle.norm_ext.specs.Requests.{RequestItem, Request, item_octets, request_octets, items_of, items_length, form_at, form_or_any, first_request, request_length, requests_of, item_size, items_checked, request_length_checked, request_checked, request_checked_as, requests_checked, IsRequestItem, IsRequest, IsRequests, items_named}
 use Rattle.norm_ext.specs.declared.kinds.Form.{Form}
 use Rattle.norm_ext.specs.declared.kinds.Form.TheVariants as forms
 use Rattle.norm_ext.specs.declared.head.Item.{Item}
 use Rattle.norm_ext.specs.declared.refusal.Refusal.{Refusal}
-use Rattle.norm_ext.specs.declared.refusal.Refusal.TheVariants.{RequestForm, RequestLength, ItemFec}
+use Rattle.norm_ext.specs.declared.refusal.Refusal.TheVariants.{RequestLength, ItemFec}
 use Rattle.norm_ext.specs.Steps.{refused_if}
-use Rattle.norm_ext.specs.Pieces.{pieces_behind, checked_then, checked_behind}
+use Rattle.norm_ext.specs.Pieces.{checked_then, checked_behind}
 use Rattle.norm_ext.proofs.NumberLemmas.{spelled_2, spelled_name, again_2, name_again, name_fits, below_2}
 use Rattle.norm_ext.proofs.PieceLemmas.{IsOctets, octets-take, IsKind, both_checked, first_checked, unroll, ok_first, ok_rest, ok_anywhere, unroll_checked}
 
@@ -106,7 +106,7 @@ pub chosen : {A : Type 0} (b : Bool) (x y z : A) → cond b x y ≡ z → ((b �
 chosen true x y z e = inl (refl, e)
 chosen false x y z e = inr (refl, e)
 
-form_is : (n : ℕ) (form : Form) → form_of n ≡ Some form → form_number form ≡ n
+pub form_is : (n : ℕ) (form : Form) → form_of n ≡ Some form → form_number form ≡ n
 form_is n form e =
     elim (chosen (eqb n 1) (Some forms.Items) _ (Some form) e) [
       | inl w ↦ (let f : forms.Items ≡ form = cc in ap form_number (sym f)) ∙ sym (eqb-true n 1 w.0)
@@ -119,7 +119,7 @@ form_is n form e =
       ]
     ]
 
-form_again : (form : Form) → form_of (form_number form) ≡ Some form
+pub form_again : (form : Form) → form_of (form_number form) ≡ Some form
 form_again forms.Items = refl
 form_again forms.Ranges = refl
 form_again forms.Erasures = refl
@@ -169,7 +169,7 @@ passes_so at xs p =
     (rw (le-ltb (length xs) 4 p.four, le-ltb (length xs) (4 + items_length xs) p.within, pairs) refl)
     ∙ p.items (at + 4)
 
-eight : (n : ℕ) (form : Form) → n % item_size form ≡ 0 → n % 8 ≡ 0
+pub eight : (n : ℕ) (form : Form) → n % item_size form ≡ 0 → n % 8 ≡ 0
 eight n forms.Items e = e
 eight n forms.Ranges e = omega (arith, e)
 eight n forms.Erasures e = e

@@ -1,19 +1,17 @@
 -- What octets spell is read of them, whatever stands in the reserved places.
-use Rattle.std.proofs.Common.{◌≡◌, ◌≢◌, ℕ, ◌+◌, ◌*◌, ◌/◌, ◌%◌, ◌<◌, ◌≤◌, ◌⊎◌, inl, inr, cond, eqb, not, ◌&&◌, ◌||◌, Bool, true, false, List, [], ◌∷◌, ◌++◌, length, drop, take, Result, Ok, Err, refl, sym, ap, ◌∙◌, arith, append-nil, length-append, ne_eqb}
+use Rattle.std.proofs.Common.{◌≡◌, ℕ, ◌*◌, ◌⊎◌, inl, inr, cond, eqb, not, ◌&&◌, ◌||◌, Bool, true, false, List, [], ◌∷◌, ◌++◌, length, Result, Ok, refl, sym, ap, ◌∙◌, arith, append-nil, ne_eqb}
 use Rattle.std.proofs.lemmas.Bool.{eq-eqb}
-use Rattle.byteorder.specs.Endian.{big_bytes}
 use Rattle.fec_plan.specs.Payload.{Name, name_octets}
 use Rattle.norm_ext.specs.Steps.{◌>>=◌, refused_if, some_or}
 use Rattle.norm_ext.specs.Numbers.{octet, number, name_at, sub_type_of}
 use Rattle.norm_ext.specs.Extensions.{Extension, extensions_of}
 use Rattle.norm_ext.specs.Requests.{item_octets, IsItem}
-use Rattle.norm_ext.specs.Message.{InfoMessage, DataMessage, FlushCommand, EotCommand, SquelchCommand, RepairAdvCommand, AckReqCommand, OpaqueCommand, NackMessage, AckMessage, ReportMessage, Message, Info, Data, Flush, Eot, Squelch, RepairAdv, AckReq, Opaque, Nack, Ack, Report, AckContent, Mark, Unread}
-use Rattle.norm_ext.specs.Octets.{extensions_octets, requests_octets, nodes_octets, objects_octets, content_octets, words_with, octets_with, reserved_octets}
-use Rattle.norm_ext.specs.Spells.{IsFlush, IsEot, IsSquelch, IsRepairAdv, IsAckReq, IsOpaque, IsAck, IsMessage, Spells, AreExtensions}
+use Rattle.norm_ext.specs.Message.{FlushCommand, EotCommand, SquelchCommand, RepairAdvCommand, AckReqCommand, OpaqueCommand, AckMessage, Message, Info, Data, Flush, Eot, Squelch, RepairAdv, AckReq, Opaque, Nack, Ack, Report, AckContent, Mark, Unread}
+use Rattle.norm_ext.specs.Octets.{extensions_octets, requests_octets, nodes_octets, objects_octets, octets_with, reserved_octets}
+use Rattle.norm_ext.specs.Spells.{IsFlush, IsEot, IsSquelch, IsRepairAdv, IsAckReq, IsOpaque, IsAck, IsMessage, Spells}
 use Rattle.norm_ext.specs.Reading.{words_of, content_of, header_from, header_checked, header_extensions_checked, member_checked, source_of, sequence_of, version_checked, sub_type_in, command_by, command_read, ack_encoding_checked, ack_length_checked, ack_content_of, ack_read, decoded}
 use Rattle.norm_ext.specs.declared.head.Item.{Item}
 use Rattle.norm_ext.specs.declared.kinds.MessageType.TheVariants as types
-use Rattle.norm_ext.specs.declared.kinds.SubType.{SubType}
 use Rattle.norm_ext.specs.declared.kinds.SubType.TheVariants as commands
 use Rattle.norm_ext.specs.declared.refusal.Refusal.{Refusal}
 use Rattle.norm_ext.specs.declared.refusal.Refusal.TheVariants.{ItemFec, BadList}

@@ -1,16 +1,15 @@
 -- Each message that is read is spelled by its octets: field by field, with the octets of a list for its values.
-use Rattle.std.proofs.Common.{◌≡◌, ◌≢◌, ℕ, suc, ◌+◌, ◌*◌, ◌/◌, ◌%◌, ◌<◌, ◌≤◌, ◌⊎◌, List, [], ◌∷◌, ◌++◌, length, drop, Ok, refl, sym, ap, ◌∙◌, arith}
+use Rattle.std.proofs.Common.{◌≡◌, ◌≢◌, ℕ, ◌+◌, ◌*◌, ◌%◌, ◌≤◌, ◌⊎◌, List, [], ◌∷◌, ◌++◌, length, drop, Ok, refl, sym, ap, ◌∙◌, arith}
 use Rattle.byteorder.specs.Endian.{big_bytes}
 use Rattle.fec_plan.specs.Payload.{name_octets}
 use Rattle.norm_ext.specs.Numbers.{octet, number, name_at}
 use Rattle.norm_ext.specs.Extensions.{Extension, extensions_of}
-use Rattle.norm_ext.specs.Requests.{item_octets, requests_of, requests_checked, IsItem}
+use Rattle.norm_ext.specs.Requests.{item_octets, requests_of, requests_checked}
 use Rattle.norm_ext.specs.Lists.{nodes_of, objects_of}
-use Rattle.norm_ext.specs.Message.{Message, Info, Data, Flush, Eot, Squelch, RepairAdv, AckReq, Opaque, Nack, Ack, Report, AckContent, Mark, Unread}
-use Rattle.norm_ext.specs.Octets.{front_octets, object_octets, command_octets, extensions_octets, requests_octets, nodes_octets, objects_octets, words_with, octets_with}
+use Rattle.norm_ext.specs.Message.{Info, Data, Flush, Eot, Squelch, RepairAdv, AckReq, Opaque, Nack, Ack, Report, Mark, Unread}
+use Rattle.norm_ext.specs.Octets.{object_octets, command_octets, extensions_octets, requests_octets, nodes_octets, objects_octets, words_with}
 use Rattle.norm_ext.specs.Spells.{Spells}
 use Rattle.norm_ext.specs.Reading.{words_of, content_of, header_from, header_extensions_checked, member_checked, source_of, sequence_of, object_head_of, command_head_of}
-use Rattle.norm_ext.specs.declared.head.Item.{Item}
 use Rattle.norm_ext.proofs.PieceLemmas.{IsOctets, octets-drop}
 use Rattle.norm_ext.proofs.NumberLemmas.{spelled_2, spelled_4, below_2, below_4, spelled_name, name_fits, nodes_together, nodes_fit, objects_together, objects_fit}
 use Rattle.norm_ext.proofs.MessageLemmas.{tail_is, front_spelled, object_spelled, command_spelled, member_is, requests_together, requests_fit, mark_in, mark_spelled, append_none, upper, lower}

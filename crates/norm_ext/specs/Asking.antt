@@ -1,5 +1,5 @@
 -- What a repair request asks for (RFC 5740 section 4.3.1): source symbols as spans of positions, infos, and counts.
-use Rattle.std.specs.Prelude.{ℕ, ◌/◌, ◌%◌, ◌==◌, ◌&&◌, ◌||◌, not, List, [], ◌∷◌, ◌++◌, map, filter, Bool, true, false, nat_lt, flat_map}
+use Rattle.std.specs.Prelude.{ℕ, ◌/◌, ◌%◌, ◌==◌, ◌&&◌, ◌||◌, not, List, [], ◌∷◌, ◌++◌, map, filter, Bool, true, false}
 use Rattle.std.specs.List.{list_any}
 use Rattle.norm_base.specs.Settings.{Settings}
 use Rattle.fec_plan.specs.Points.{Point, position, point_of, position_before}

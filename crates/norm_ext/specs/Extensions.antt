@@ -1,6 +1,6 @@
 -- Header extensions (RFC 5740 section 4.1).
-use Rattle.std.specs.Prelude.{ℕ, zero, suc, ◌+◌, ◌-◌, ◌*◌, ◌/◌, ◌==◌, ◌&&◌, ◌≡◌, ◌≤◌, ◌<◌, nat_lt, List, [], ◌∷◌, ◌++◌, length, take, drop, flat_map, Option, None, Some, Result, Ok, Err, if◌then◌else◌}
-use Rattle.byteorder.specs.Endian.{big_bytes, big_number}
+use Rattle.std.specs.Prelude.{ℕ, ◌+◌, ◌-◌, ◌*◌, ◌/◌, ◌==◌, ◌&&◌, ◌≡◌, ◌≤◌, ◌<◌, nat_lt, List, [], ◌∷◌, ◌++◌, length, take, drop, Option, None, Some, Result, Ok, Err, if◌then◌else◌}
+use Rattle.byteorder.specs.Endian.{big_bytes}
 use Rattle.norm_ext.specs.Pieces.{pieces_behind, checked_behind}
 use Rattle.norm_ext.specs.Numbers.{octet, number, fti_type, first_short_type}
 use Rattle.norm_ext.specs.declared.fti.Fti.{Fti}

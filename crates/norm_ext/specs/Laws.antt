@@ -1,9 +1,14 @@
 -- What is promised of the grammar.
-use Rattle.std.specs.Prelude.{◌≡◌, ◌<◌, ℕ, List, slice_index, Ok}
+use Rattle.std.specs.Prelude.{◌≡◌, ◌<◌, ℕ, List, length, slice_index, Ok, Err}
 use Rattle.norm_ext.specs.Message.{Message}
 use Rattle.norm_ext.specs.Octets.{octets_of}
 use Rattle.norm_ext.specs.Reading.{decoded}
 use Rattle.norm_ext.specs.Spells.{Spells, IsMessage}
+use Rattle.std.specs.List.{AllByRecursion}
+use Rattle.norm_ext.specs.Requests.{IsRequests, requests_of}
+use Rattle.norm_ext.specs.Asked.{Asked, IsAsked, requests_asked, asked_octets}
+use Rattle.norm_ext.specs.Applies.{Applies, IsFirst}
+use Rattle.norm_ext.specs.declared.refusal.Refusal.{Refusal}
 
 -- each of them is an octet
 abbrev pub AreOctets : List ℕ → Type 0
@@ -24,3 +29,21 @@ SpellsOne = (m n : Message) (octets : List ℕ) → Spells m octets → Spells n
 -- a message whose fields fit is read again of its octets
 abbrev pub ReadAgain : Type 0
 ReadAgain = (m : Message) → IsMessage m → decoded (octets_of m) ≡ Ok m
+
+-- a refusal that is given applies to the octets, and none before it does
+abbrev pub RefusedIsFirst : Type 0
+RefusedIsFirst = (refusal : Refusal) (octets : List ℕ) → AreOctets octets → decoded octets ≡ Err refusal → IsFirst refusal octets
+
+-- the first refusal that applies is given
+abbrev pub FirstIsRefused : Type 0
+FirstIsRefused = (refusal : Refusal) (octets : List ℕ) → AreOctets octets → IsFirst refusal octets → decoded octets ≡ Err refusal
+
+-- no refusal applies to octets that spell a message
+abbrev pub SpelledIsNotRefused : Type 0
+SpelledIsNotRefused = (m : Message) (octets : List ℕ) → AreOctets octets → Spells m octets → (refusal : Refusal) → Applies refusal octets → ⊥
+
+-- what is asked for within its widths is a list of whole requests, and is read again as these
+abbrev pub AskedIsRead : Type 0
+AskedIsRead =
+    (asked : List Asked) → AllByRecursion IsAsked asked → length (asked_octets asked) < 65536
+    → IsRequests (asked_octets asked) × (requests_of (asked_octets asked) ≡ requests_asked asked)

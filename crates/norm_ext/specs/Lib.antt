@@ -10,6 +10,10 @@ pub mod Message
 pub mod Octets
 pub mod Reading
 pub mod ObjectIds
+pub mod Fitting
+pub mod Asked
 pub mod Asking
 pub mod Spells
+pub mod Layouts
+pub mod Applies
 pub mod Laws

@@ -1,5 +1,5 @@
 -- The numbers of a message (RFC 5740 section 4): big-endian, in whole octets.
-use Rattle.std.specs.Prelude.{ℕ, ◌+◌, ◌-◌, ◌*◌, ◌/◌, ◌%◌, ◌==◌, List, slice_index, take, drop, Option, None, Some, if◌then◌else◌}
+use Rattle.std.specs.Prelude.{ℕ, ◌-◌, ◌/◌, ◌%◌, ◌==◌, List, slice_index, take, drop, Option, None, Some, if◌then◌else◌}
 use Rattle.byteorder.specs.Endian.{big_number}
 use Rattle.fec_plan.specs.Payload.{Name}
 use Rattle.norm_ext.specs.declared.kinds.MessageType.{MessageType}

@@ -1,5 +1,5 @@
 -- What octets say: the message that they spell, or the first thing that is wrong with them (RFC 5740 section 4).
-use Rattle.std.specs.Prelude.{ℕ, ◌+◌, ◌-◌, ◌*◌, ◌/◌, ◌%◌, ◌==◌, nat_lt, not, ◌&&◌, ◌||◌, List, ◌∷◌, [], length, take, drop, Option, None, Some, Result, Ok, Err, if◌then◌else◌}
+use Rattle.std.specs.Prelude.{ℕ, ◌*◌, ◌/◌, ◌%◌, ◌==◌, nat_lt, not, ◌&&◌, ◌||◌, List, length, drop, Result, Ok, Err, if◌then◌else◌}
 use Rattle.norm_ext.specs.Steps.{◌>>=◌, refused_if, some_or}
 use Rattle.norm_ext.specs.Numbers.{octet, number, part, name_at, type_number, type_of, sub_type_of, encoding_id, flush_ack}
 use Rattle.norm_ext.specs.Extensions.{extensions_of, extensions_checked}

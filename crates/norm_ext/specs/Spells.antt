@@ -5,7 +5,7 @@ use Rattle.norm_base.specs.Member.{IsMember}
 use Rattle.fec_plan.specs.Payload.{IsName}
 use Rattle.norm_ext.specs.Numbers.{flush_ack}
 use Rattle.norm_ext.specs.Extensions.{Extension, IsExtension}
-use Rattle.norm_ext.specs.Requests.{Request, IsRequest, IsItem}
+use Rattle.norm_ext.specs.Requests.{IsRequest, IsItem}
 use Rattle.norm_ext.specs.Message.{InfoMessage, DataMessage, FlushCommand, EotCommand, SquelchCommand, RepairAdvCommand, AckReqCommand, OpaqueCommand, NackMessage, AckMessage, AckContent, Mark, Unread, ReportMessage, Message, Info, Data, Flush, Eot, Squelch, RepairAdv, AckReq, Opaque, Nack, Ack, Report}
 use Rattle.norm_ext.specs.Octets.{words_with, octets_with, reserved_octets}
 use Rattle.norm_ext.specs.declared.head.ObjHead.{ObjHead}

@@ -1,6 +1,6 @@
 //! What is promised of the grammar. Each law is the contract of a function that does nothing.
 
-ghost use Rattle.norm_ext.specs.Laws.{ReadIsSpelled, SpelledIsRead, SpellsOne, ReadAgain};
+ghost use Rattle.norm_ext.specs.Laws.{ReadIsSpelled, SpelledIsRead, SpellsOne, ReadAgain, RefusedIsFirst, FirstIsRefused, SpelledIsNotRefused, AskedIsRead};
 
 /// What is read of octets is spelled by them.
 pub fn read_is_spelled()
@@ -21,4 +21,26 @@ pub fn spells_one()
 /// A message whose fields fit is read again of its octets.
 pub fn read_again()
     ensures { ReadAgain }
+{}
+
+/// A refusal that is given applies to the octets, and none that comes before it does.
+pub fn refused_is_first()
+    ensures { RefusedIsFirst }
+{}
+
+/// The first refusal that applies is given. With `refused_is_first`: octets are refused exactly with the first that
+/// applies.
+pub fn first_is_refused()
+    ensures { FirstIsRefused }
+{}
+
+/// No refusal applies to octets that spell a message. So octets spell one exactly where none applies.
+pub fn spelled_is_not_refused()
+    ensures { SpelledIsNotRefused }
+{}
+
+/// What a `RequestWriter` writes of items within their widths is a list of whole requests, and is read again as the
+/// requests that the items make.
+pub fn asked_is_read()
+    ensures { AskedIsRead }
 {}

@@ -4,6 +4,7 @@
 #![tactic(auto)]
 
 mod extensions;
+pub mod fitting;
 mod fti;
 mod head;
 pub mod header;
@@ -13,6 +14,7 @@ mod numbers;
 pub mod pushing;
 mod refusal;
 mod requests;
+mod writer;
 
 pub use crate::extensions::Extensions;
 pub use crate::fti::{Fti, read_fti, write_fti};
@@ -21,3 +23,4 @@ pub use crate::kinds::{Form, MessageType, SubType, flags};
 pub use crate::numbers::{read_16, read_32, read_name};
 pub use crate::refusal::{ExtFault, Refusal};
 pub use crate::requests::{Request, Requests, check_requests, requests_of};
+pub use crate::writer::RequestWriter;

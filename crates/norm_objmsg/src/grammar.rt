@@ -1,7 +1,7 @@
 //! INFO and DATA with any header extensions (RFC 5740 section 4.2.1 and 4.2.2), read by the grammar of `norm_ext`.
 //! Their parts are lent from the datagram.
 
-ghost use Rattle.std.specs.Prelude.{◌≡◌, ◌+◌, ◌*◌, ◌≤◌, ◌<◌, Ok, Err, MatchResult, [], length};
+ghost use Rattle.std.specs.Prelude.{◌≡◌, ◌↔◌, ◌+◌, ◌*◌, ◌≤◌, ◌<◌, IsTrue, Ok, Err, MatchResult, [], length};
 ghost use Rattle.norm_ext.specs.Reading.{info_read, data_read};
 ghost use Rattle.norm_ext.specs.Segment.{segment_in};
 ghost use Rattle.norm_objmsg.specs.MessageView.{info_of, data_of, part_of};
@@ -13,6 +13,7 @@ ghost use Rattle.norm_objmsg.specs.CanWriteMessage.{CanWrite};
 
 use fec_plan::PayloadId;
 use norm_base::Datagram;
+use norm_ext::fitting::{has_room, is_narrow};
 use norm_ext::header::{
     check_encoding, check_extensions, check_header, check_source, read_object_head,
 };
@@ -36,6 +37,25 @@ pub struct DataMsg<'a> {
     /// The header extensions, whole words.
     pub exts: &'a [u8],
     pub payload: &'a [u8],
+}
+
+impl<'a> InfoMsg<'a> {
+    /// Whether it can be written: its extensions are whole, its header has at most 255 words, the whole at most 1,500
+    /// octets, and `backoff` and `gsize` are below 16.
+    pub fn fits(&self) -> bool
+        ensures { IsTrue result ↔ CanWrite 16 self.now.head self.now.exts.now self.now.info.now }
+    {
+        is_narrow(self.head.backoff, self.head.gsize) && has_room(16, self.exts, self.info.len())
+    }
+}
+
+impl<'a> DataMsg<'a> {
+    /// Whether it can be written, as `InfoMsg::fits`.
+    pub fn fits(&self) -> bool
+        ensures { IsTrue result ↔ CanWrite 20 self.now.head self.now.exts.now self.now.payload.now }
+    {
+        is_narrow(self.head.backoff, self.head.gsize) && has_room(20, self.exts, self.payload.len())
+    }
 }
 
 /// The payload of a stream's symbol: a segment and where it stands.

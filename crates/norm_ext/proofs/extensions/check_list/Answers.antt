@@ -1,4 +1,4 @@
-use Rattle.std.proofs.Common.{◌≡◌, ◌<◌, length, rules, arith}
+use Rattle.std.proofs.Common.{◌<◌, length, rules, arith}
 use Rattle.norm_ext.proofs.ExtensionLemmas.{checks_on}
 use Rattle.norm_ext.proofs.extensions.check_list.Goals as goal
 

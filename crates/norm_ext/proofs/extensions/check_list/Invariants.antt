@@ -1,4 +1,4 @@
-use Rattle.std.proofs.Common.{◌≡◌, ◌+◌, length, ℕ}
+use Rattle.std.proofs.Common.{◌≡◌, ◌+◌, length}
 use Rattle.norm_ext.specs.Pieces.{checked_behind}
 use Rattle.norm_ext.specs.Extensions.{extensions_checked, extension_checked, extension_length}
 use Rattle.norm_ext.proofs.extensions.check_list.Given as goal

@@ -1,4 +1,4 @@
-use Rattle.std.proofs.Common.{◌≡◌, ◌<◌, length, rules, arith, ◌∙◌, get_or}
+use Rattle.std.proofs.Common.{◌<◌, length, rules}
 use Rattle.norm_ext.proofs.ExtensionLemmas.{cut_parts}
 use Rattle.norm_ext.proofs.extensions.cut_first.Goals as goal
 

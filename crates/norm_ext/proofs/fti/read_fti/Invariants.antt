@@ -1,4 +1,4 @@
-use Rattle.std.proofs.Common.{◌≡◌, length, ℕ}
+use Rattle.std.proofs.Common.{◌≡◌}
 use Rattle.norm_ext.specs.Extensions.{fti_of}
 use Rattle.norm_ext.proofs.fti.read_fti.Given as goal
 

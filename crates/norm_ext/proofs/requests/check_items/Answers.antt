@@ -1,4 +1,4 @@
-use Rattle.std.proofs.Common.{arith, rules}
+use Rattle.std.proofs.Common.{arith}
 use Rattle.norm_ext.proofs.RequestLemmas.{items_on}
 use Rattle.norm_ext.proofs.requests.check_items.Goals as goal
 

@@ -1,4 +1,4 @@
-use Rattle.std.proofs.Common.{◌≡◌, ◌+◌, length, ℕ}
+use Rattle.std.proofs.Common.{◌≡◌, ◌+◌, length}
 use Rattle.norm_ext.specs.Requests.{items_checked}
 use Rattle.norm_ext.proofs.requests.check_items.Given as goal
 

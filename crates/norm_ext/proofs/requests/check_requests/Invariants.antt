@@ -1,4 +1,4 @@
-use Rattle.std.proofs.Common.{◌≡◌, ◌+◌, length, ℕ}
+use Rattle.std.proofs.Common.{◌≡◌, ◌+◌, length}
 use Rattle.norm_ext.specs.Pieces.{checked_behind}
 use Rattle.norm_ext.specs.Requests.{requests_checked, request_checked, request_length}
 use Rattle.norm_ext.proofs.requests.check_requests.Given as goal

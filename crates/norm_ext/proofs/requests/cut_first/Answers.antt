@@ -1,4 +1,4 @@
-use Rattle.std.proofs.Common.{◌≡◌, ◌<◌, length, rules, sym, ◌∙◌}
+use Rattle.std.proofs.Common.{◌<◌, length, rules, sym, ◌∙◌}
 use Rattle.norm_ext.proofs.RequestLemmas.{cut_is}
 use Rattle.norm_ext.proofs.requests.cut_first.Goals as goal
 

@@ -1,4 +1,3 @@
-use Rattle.std.proofs.Common.{◌∙◌}
 use Rattle.norm_ext.proofs.RequestLemmas.{item_is}
 use Rattle.norm_ext.proofs.requests.Request.item.Goals as goal
 

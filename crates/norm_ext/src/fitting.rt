@@ -1,0 +1,45 @@
+//! What a message is asked before it is written: whether its parts fit.
+
+ghost use Rattle.std.specs.Prelude.{◌≡◌, ◌↔◌, ◌+◌, ◌≤◌, ◌<◌, ◌^◌, IsTrue, Ok, length};
+ghost use Rattle.norm_ext.specs.Extensions.{IsChecked};
+ghost use Rattle.norm_ext.specs.Requests.{IsRequests};
+ghost use Rattle.norm_ext.specs.Fitting.{HasRoom, IsNarrow};
+
+use crate::extensions::check_list;
+use crate::requests::check_requests;
+
+/// The most octets of a datagram.
+const MOST_OCTETS: usize = 1500;
+/// The most octets of a header: 255 words.
+const MOST_HEADER: usize = 1020;
+
+/// Whether the octets are a list of whole extensions.
+pub fn are_extensions(exts: &[u8]) -> bool
+    ensures { IsTrue result ↔ IsChecked exts.now }
+{
+    check_list(exts, 0).is_ok()
+}
+
+/// Whether the octets are a list of whole requests.
+pub fn are_requests(list: &[u8]) -> bool
+    ensures { IsTrue result ↔ IsRequests list.now }
+{
+    check_requests(list, 0).is_ok()
+}
+
+/// Whether the extensions are whole, and with so many octets of fixed fields before them and so many of content behind
+/// them leave the header and the datagram their lengths.
+pub fn has_room(fixed: usize, exts: &[u8], content: usize) -> bool
+    requires { fixed ≤ 1020 }
+    ensures { IsTrue result ↔ HasRoom fixed exts.now content }
+{
+    let header = fixed + exts.len();
+    header <= MOST_HEADER && content <= MOST_OCTETS - header && are_extensions(exts)
+}
+
+/// Whether the back-off factor and the group's size have four bits each.
+pub fn is_narrow(backoff: u8, gsize: u8) -> bool
+    ensures { IsTrue result ↔ IsNarrow backoff gsize }
+{
+    backoff < 16 && gsize < 16
+}

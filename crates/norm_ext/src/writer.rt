@@ -1,0 +1,171 @@
+//! Writing of repair requests, item by item (RFC 5740 section 4.3.1).
+
+ghost use Rattle.std.specs.Prelude.{◌≡◌, ◌↔◌, ◌+◌, ◌-◌, ◌*◌, ◌≤◌, ◌<◌, ◌^◌, ℕ, List, [], ◌∷◌, ◌++◌, IsTrue, IsSome, Some, true, false, length, take, drop};
+ghost use Rattle.std.specs.Bool.{MatchBool};
+ghost use Rattle.std.specs.List.{flat_map};
+ghost use Rattle.byteorder.specs.Endian.{big_bytes};
+ghost use Rattle.norm_ext.specs.declared.kinds.Form.TheVariants as forms;
+ghost use Rattle.norm_ext.specs.declared.head.Item.{Item as Named};
+ghost use Rattle.norm_ext.specs.Numbers.{form_number};
+ghost use Rattle.norm_ext.specs.Requests.{item_octets};
+ghost use Rattle.norm_ext.specs.Asked.{Asked, asked_for, ends_of, asked_octets, written_item, Writing, writing, HasWritten};
+
+use crate::head::Item;
+use crate::header::ENCODING_ID;
+use crate::kinds::Form;
+use crate::pushing::{push_16, push_name};
+use norm_base::Datagram;
+use std::marker::Model;
+
+/// The octets of a request before its items.
+const FRONT: u16 = 4;
+/// The octets of an item.
+const ITEM: u16 = 8;
+
+/// A writer of requests behind what a datagram has. `new`, then `push_item` for each item or range, on one datagram that
+/// nobody else changes meanwhile. An item joins the last request where it has the form and the flags of that.
+#[derive(Debug, Drop)]
+pub struct RequestWriter {
+    limit: u16,
+    /// The octets of the requests so far.
+    used: u16,
+    /// The last request's form, and of that request the flags and the octets of its items.
+    form: Option<Form>,
+    flags: u8,
+    len: u16,
+}
+
+impl Model for RequestWriter {
+    ghost use Rattle.std.specs.Prelude.{◌+◌, ◌≤◌, ◌≡◌, ◌⊎◌, Option, Some, None};
+    ghost use Rattle.norm_ext.specs.Asked.{Writing};
+
+    ghost Value = { Writing };
+
+    ghost view = { λ w. record { limit = w.limit; used = w.used; form = w.form; flags = w.flags; len = w.len } };
+
+    ghost invariant = { λ w. (w.used ≤ w.limit) × ((w.form ≡ None) ⊎ (4 + w.len ≤ w.used)) };
+}
+
+/// Adds an item.
+fn push_one(item: &Item, out: &mut Datagram)
+    requires { length out.old + 8 ≤ 1500 }
+    ensures { out.new ≡ out.old ++ item_octets (written_item item.now) }
+{
+    out.push(&[ENCODING_ID, 0]);
+    push_16(item.object, out);
+    push_name(&item.id, out);
+}
+
+/// The octets of an item, or of the two ends of a range.
+fn octets_of(last: &Option<Item>) -> u16
+    ensures exact { (first : Named) → result ≡ 8 * length (ends_of first last.now) }
+    ensures few { result ≤ 16 }
+{
+    match last {
+        Some(_) => 2 * ITEM,
+        None => ITEM,
+    }
+}
+
+/// Adds an item, or the two ends of a range.
+fn push_ends(first: &Item, last: &Option<Item>, out: &mut Datagram)
+    requires { length out.old + 8 * length (ends_of first.now last.now) ≤ 1500 }
+    ensures { out.new ≡ out.old ++ flat_map item_octets (ends_of first.now last.now) }
+{
+    push_one(first, out);
+    if let Some(item) = last {
+        push_one(item, out);
+    }
+}
+
+impl RequestWriter {
+    /// A writer of at most so many octets of requests.
+    pub fn new(limit: u16) -> RequestWriter
+        ensures { result ≡ writing limit [] }
+    {
+        RequestWriter {
+            limit,
+            used: 0,
+            form: None,
+            flags: 0,
+            len: 0,
+        }
+    }
+
+    /// Whether the last request has this form and these flags.
+    fn joins(&self, form: Form, flags: u8) -> bool
+        ensures { IsTrue result ↔ ((self.now.form ≡ Some form) × (self.now.flags ≡ flags)) }
+    {
+        match self.form {
+            Some(last) => last == form && self.flags == flags,
+            None => false,
+        }
+    }
+
+    /// Makes the last request longer by so many octets of items, which come next.
+    fn lengthen(&mut self, items: u16, out: &mut Datagram)
+        requires some { 4 + self.old.len ≤ self.old.used }
+        requires used { self.old.used ≤ length out.old }
+        requires fits { self.old.used + items ≤ self.old.limit }
+        ensures out { let at = length out.old - (2 + self.old.len) in
+            out.new ≡ take at out.old ++ big_bytes 2 (self.old.len + items) ++ drop (at + 2) out.old }
+        ensures writer { self.new ≡ record self.old { used = self.old.used + items; len = self.old.len + items } }
+    {
+        let at = out.bytes().len() - (2 + usize::from(self.len));
+        self.len += items;
+        self.used += items;
+        out.replace(at, &self.len.to_be_bytes());
+    }
+
+    /// Begins a request with so many octets of items, which come next.
+    fn begin(&mut self, form: Form, flags: u8, items: u16, out: &mut Datagram)
+        requires few { items ≤ 16 }
+        requires room { length out.old + 4 ≤ 1500 }
+        requires fits { self.old.used + (4 + items) ≤ self.old.limit }
+        ensures out { out.new ≡ out.old ++ form_number form ∷ flags ∷ big_bytes 2 items }
+        ensures writer { self.new ≡ record self.old { used = self.old.used + (4 + items); form = Some form; flags = flags; len = items } }
+    {
+        out.push(&[form.number(), flags]);
+        push_16(items, out);
+        self.used += FRONT + items;
+        self.form = Some(form);
+        self.flags = flags;
+        self.len = items;
+    }
+
+    /// Adds an item, or a range by its two ends; the limit's octets, less those of the requests so far, must have room.
+    /// `false` exactly where the requests would pass the limit, and nothing is changed then.
+    pub fn push_item(
+        &mut self,
+        out: &mut Datagram,
+        form: Form,
+        flags: u8,
+        first: Item,
+        last: Option<Item>,
+    ) -> bool
+        requires last { IsSome last ↔ (form ≡ forms.Ranges) }
+        requires used { self.old.used ≤ length out.old }
+        requires room { length out.old + self.old.limit ≤ 1500 + self.old.used }
+        // Where the writer has written what was asked for, behind what the datagram had, this is added to it.
+        ensures added { (front : List ℕ) (asked : List Asked) → HasWritten self.old out.old front asked →
+            MatchBool result
+            (HasWritten self.new out.new front (asked ++ asked_for form flags first last ∷ []))
+            (self.old.limit < length (asked_octets (asked ++ asked_for form flags first last ∷ []))) }
+        ensures kept { result ≡ false → (self.new ≡ self.old) × (out.new ≡ out.old) }
+        ensures limit { self.new.limit ≡ self.old.limit }
+    {
+        let items = octets_of(&last);
+        let joins = self.joins(form, flags);
+        let more = if joins { items } else { FRONT + items };
+        if self.limit - self.used < more {
+            return false;
+        }
+        if joins {
+            self.lengthen(items, out);
+        } else {
+            self.begin(form, flags, items, out);
+        }
+        push_ends(&first, &last, out);
+        true
+    }
+}
