@@ -33,20 +33,20 @@ size_small : (t n block : ℕ) → larger_blocks t n ≤ block → block_size t 
 size_small t n block h = rw (le-ltb block (larger_blocks t n) h) refl
 
 -- what stands before a block, in larger and in smaller blocks
-before_large : (t n j : ℕ) → j ≤ larger_blocks t n → symbols_before t n j ≡ j * large_block t n
+pub before_large : (t n j : ℕ) → j ≤ larger_blocks t n → symbols_before t n j ≡ j * large_block t n
 before_large t n j h =
     let most : min j (larger_blocks t n) ≡ j = omega arith in
     let none : j - larger_blocks t n ≡ 0 = omega arith in
     let z : j * large_block t n + 0 * small_block t n ≡ j * large_block t n = omega arith in
     rw (most, none) z
 
-before_small : (t n j : ℕ) → larger_blocks t n ≤ j → symbols_before t n j ≡ larger_blocks t n * large_block t n + (j - larger_blocks t n) * small_block t n
+pub before_small : (t n j : ℕ) → larger_blocks t n ≤ j → symbols_before t n j ≡ larger_blocks t n * large_block t n + (j - larger_blocks t n) * small_block t n
 before_small t n j h = let most : min j (larger_blocks t n) ≡ larger_blocks t n = omega arith in rw most refl
 
 more : (x y : ℕ) → (x + 1) * y ≡ x * y + y
 more x y = add-mul x 1 y ∙ (let z : x * y + 1 * y ≡ x * y + y = omega arith in z)
 
-before_step : (t n j : ℕ) → symbols_before t n (j + 1) ≡ symbols_before t n j + block_size t n j
+pub before_step : (t n j : ℕ) → symbols_before t n (j + 1) ≡ symbols_before t n j + block_size t n j
 before_step t n j =
     let i : ℕ = larger_blocks t n in
     elim (cases_lt j i) [
@@ -68,7 +68,7 @@ before_step t n j =
 larger_is : (t n : ℕ) → 0 < n → larger_blocks t n ≡ t % n
 larger_is t n some = let parts : t / n * n ≡ n * (t / n) = mul_comm (t / n) n in omega (arith, parts, some)
 
-all_before : (t n : ℕ) → 0 < n → symbols_before t n n ≡ t
+pub all_before : (t n : ℕ) → 0 < n → symbols_before t n n ≡ t
 all_before t n some =
     let s : ℕ = t / n in
     let r : ℕ = t % n in
@@ -104,7 +104,7 @@ block_sum l e b max_n block =
     let sent : sent_octets c block s ≡ min e (l - (before + s) * e) = rw (lt-ltb s k below) refl in
     ap (min l) next ∙ more_octets l e ((before + s) * e) ∙ ap (λ (x : ℕ). min l ((before + s) * e) + x) (sym sent))
 
-none_before : (t n : ℕ) → symbols_before t n 0 ≡ 0
+pub none_before : (t n : ℕ) → symbols_before t n 0 ≡ 0
 none_before t n = before_large t n 0 (omega arith) ∙ (let z : 0 * large_block t n ≡ 0 = omega arith in z)
 
 pub blocks_cover_law : BlocksCover
@@ -145,7 +145,7 @@ all_but_last_are_full_law l e b max_n is block symbol there more-follow =
     rw (lt-ltb symbol (source_symbols c block) there) full
 
 -- there are no more blocks than symbols
-few_blocks : (t b : ℕ) → 0 < t → 0 < b → blocks_in t b ≤ t
+pub few_blocks : (t b : ℕ) → 0 < t → 0 < b → blocks_in t b ≤ t
 few_blocks t b some large =
     elim (cases_lt t (blocks_in t b)) [
       | inl many ↦
@@ -157,7 +157,7 @@ few_blocks t b some large =
       | inr few ↦ few
     ]
 
-small_some : (t n : ℕ) → 0 < n → n ≤ t → 1 ≤ small_block t n
+pub small_some : (t n : ℕ) → 0 < n → n ≤ t → 1 ≤ small_block t n
 small_some t n some few =
     elim (cases_lt 0 (small_block t n)) [
       | inl has ↦ omega (arith, has)
@@ -167,7 +167,7 @@ small_some t n some few =
           absurd (omega (arith, product, some, few))
     ]
 
-between : (t n block : ℕ) → (small_block t n ≤ block_size t n block) × (block_size t n block ≤ large_block t n)
+pub between : (t n block : ℕ) → (small_block t n ≤ block_size t n block) × (block_size t n block ≤ large_block t n)
 between t n block =
     elim (cases_lt block (larger_blocks t n)) [
       | inl low ↦ (let z = size_large t n block low in (omega (arith, z), omega (arith, z)))

@@ -8,3 +8,7 @@ pub mod OnceRun
 pub mod WholeOrders
 pub mod Onward
 pub mod SenderHolds
+pub mod Cuts
+pub mod Spoken
+pub mod Feedback
+pub mod TickTrue

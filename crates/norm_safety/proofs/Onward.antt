@@ -67,10 +67,10 @@ behind_point a b e = go (nat_lt a.index b.index) (a.index == b.index) (nat_lt a.
         let less : a.index < b.index → ⊥ = λ lt. clash (sym f ∙ (Decides-ltb a.index b.index).1 lt) in
         let same : a.index ≡ b.index → ⊥ = λ is. clash (sym g ∙ (Decides-eqb a.index b.index).1 is) in inl (omega arith)
 
-not_before_itself : (a : Point) → point_before a a ≡ false
+pub not_before_itself : (a : Point) → point_before a a ≡ false
 not_before_itself a = not_before a a (inr (refl, omega arith))
 
-not_before_both : (a b c : Point) → point_before b a ≡ false → point_before c b ≡ false → point_before c a ≡ false
+pub not_before_both : (a b c : Point) → point_before b a ≡ false → point_before c b ≡ false → point_before c a ≡ false
 not_before_both a b c h g = not_before c a (go (behind_point b a h) (behind_point c b g))
   where
     go : (a.index < b.index) ⊎ ((a.index ≡ b.index) × (a.block ≤ b.block)) → (b.index < c.index) ⊎ ((b.index ≡ c.index) × (b.block ≤ c.block))

@@ -53,7 +53,7 @@ stays_placed id s later by (Ok (receipt.Restarted instance)) kept h = h
 stays_placed id s later by (Err fault) kept h = h
 
 -- the last of several different ids is found behind the others
-current_found : (earlier : List Instance) (current new : Instance) → new.id ≡ current.id
+pub current_found : (earlier : List Instance) (current new : Instance) → new.id ≡ current.id
     → IsDistinct nat_eq (map (λ (i : Instance). i.id) (earlier ++ current ∷ []))
     → find (λ (i : Instance). i.id == current.id) (earlier ++ new ∷ []) ≡ Some new
 unfolding IsDistinct

@@ -233,7 +233,7 @@ in_time_keeps p now s = go (nat_lt now s.next_send)
     go true = keeps_all s
     go false = first_keeps p now s
 
-closed_keeps : (p : Settings) (now : ℕ) (s : SenderState) → Keeps s (closed_where_due p now s)
+pub closed_keeps : (p : Settings) (now : ℕ) (s : SenderState) → Keeps s (closed_where_due p now s)
 closed_keeps p now s = go s.round
   where
     go : (round : Option Round) → Keeps s (elim round [

@@ -26,7 +26,7 @@ has_parity : (c : Cut) → 0 < c.b → c.b ≤ c.max_n → HasParity c
 has_parity c b_pos most block =
     le-div (source_symbols c block) (source_symbols c block * c.max_n) c.b b_pos (mul-le-mul_left (source_symbols c block) most)
 
-shape_parity : (p : Settings) → Blocks p → (object : Object) → HasParity (shape_of p object).cut
+pub shape_parity : (p : Settings) → Blocks p → (object : Object) → HasParity (shape_of p object).cut
 shape_parity p blocks (Whole kind info octets) = has_parity (shape_of p (Whole kind info octets)).cut blocks.b_pos blocks.most
 shape_parity p blocks (Stream parts) = has_parity (shape_of p (Stream parts)).cut blocks.b_pos blocks.most
 

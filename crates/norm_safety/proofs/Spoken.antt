@@ -1,0 +1,263 @@
+-- What a sender of data and files says is read again of its octets, and is true of its orders.
+use Rattle.std.proofs.Common.{◌≡◌, ◌≢◌, ℕ, zero, suc, ◌+◌, ◌-◌, ◌*◌, ◌/◌, ◌%◌, ◌<◌, ◌≤◌, cond, List, [], ◌∷◌, ◌++◌, length, drop, Bool, true, false, Option, None, Some, Result, Ok, Err, refl, sym, ap, ◌∙◌, subst, arith, ◌⊎◌, inl, inr}
+use Rattle.std.specs.Prelude.{map, find, slice_get, ◌==◌, nat_lt, is_some, nat_eq, ⊤, IsTrue, IsSomeAnd, if◌then◌else◌}
+use Rattle.std.specs.List.{AllByRecursion, IsDistinct}
+use Rattle.byteorder.specs.Endian.{big_bytes}
+use Rattle.norm_base.specs.Settings.{Settings, InRange}
+use Rattle.norm_base.specs.Member.{IsMember}
+use Rattle.norm_base.specs.declared.kinds.Kind.{Kind}
+use Rattle.norm_base.specs.declared.kinds.Kind.TheVariants as kind
+use Rattle.fec_plan.specs.Points.{Point, point, position, point_before}
+use Rattle.fec_plan.specs.declared.position.Position.{Position}
+use Rattle.norm_ext.specs.Extensions.{Extension, IsExtension, fti_extension, fti_of, extension_octets}
+use Rattle.norm_ext.specs.Message.{Message, Info, Data, Flush, Squelch, InfoMessage, DataMessage, FlushCommand, SquelchCommand}
+use Rattle.norm_ext.specs.Numbers.{number}
+use Rattle.norm_ext.specs.ObjectIds.{object_id, index_of}
+use Rattle.norm_ext.specs.Octets.{octets_of}
+use Rattle.norm_ext.specs.Reading.{decoded}
+use Rattle.norm_ext.specs.Spells.{IsMessage, IsObjectHead, IsCommandHead, AreExtensions}
+use Rattle.norm_ext.specs.declared.fti.Fti.{Fti}
+use Rattle.norm_ext.specs.declared.head.ObjHead.{ObjHead}
+use Rattle.norm_ext.specs.declared.head.CmdHead.{CmdHead}
+use Rattle.norm_ext.specs.declared.refusal.Refusal.{Refusal}
+use Rattle.norm_ext.proofs.LawsHold.{read_again_law}
+use Rattle.norm_order.specs.Entries.{Object, Whole, Stream, Entry}
+use Rattle.norm_order.specs.Shapes.{Shape, shape_of, shapes_of, encoded_in, is_encoded, has_info, at_index}
+use Rattle.norm_order.specs.Symbols.{symbol_octets}
+use Rattle.norm_order.proofs.UptoLemmas.{same_entry, nothing_there}
+use Rattle.std.proofs.lemmas.Option.{slice_get_within}
+use Rattle.norm_send_rules.specs.SenderState.{SenderState, Instance}
+use Rattle.norm_send_rules.specs.InWindow.{current_shapes}
+use Rattle.norm_send_rules.specs.Restarting.{instances}
+use Rattle.norm_send_rules.specs.Messages.{fti_of_object, object_flags, file_flag, object_head, command_head, info_message, data_message, squelch_message}
+use Rattle.norm_send_rules.specs.Sending.{message_of}
+use Rattle.norm_send_rules.specs.Wants.{want_index}
+use Rattle.norm_send_rules.specs.Laws.{is_of_order}
+use Rattle.norm_send_rules.specs.declared.want.Want.{Want}
+use Rattle.norm_send_rules.specs.declared.want.Want.TheVariants.{Info as WantedInfo, Symbol}
+use Rattle.norm_safety.specs.OnceEach.{order_of, instance_ids}
+use Rattle.norm_safety.specs.InOrder.{drop_of}
+use Rattle.norm_safety.specs.Said.{entry_at, place_of}
+use Rattle.norm_safety.specs.SaysSymbols.{SaysSymbol, SaysInfo, SaysObject, info_of_object}
+use Rattle.norm_safety.proofs.OrderLemmas.{clash}
+use Rattle.norm_safety.proofs.PlaceLemmas.{current_found}
+use Rattle.norm_safety.proofs.WholeOrders.{IsSized, AreSized}
+use Rattle.norm_safety.proofs.Onward.{Onward, LaterThan, instance_in, not_before_itself, not_before_both}
+use Rattle.norm_safety.proofs.SenderHolds.{SenderHolds, AllSized, current_sized}
+use Rattle.norm_safety.proofs.Cuts.{CutRange, cut_range, names_fit}
+
+-- ---- numbers
+
+again_6 : (n : ℕ) (rest : List ℕ) → n < 281474976710656 → number 6 0 (big_bytes 6 n ++ rest) ≡ n
+again_6 n rest h = omega arith
+
+fti_again : (f : Fti) → f.l < 281474976710656 → f.e < 65536 → fti_of (fti_extension f ∷ []) ≡ Some f
+fti_again f hl he =
+    let l : number 6 0 (big_bytes 6 f.l ++ (big_bytes 2 f.e ++ f.b ∷ f.max_n ∷ [])) ≡ f.l = again_6 f.l (big_bytes 2 f.e ++ f.b ∷ f.max_n ∷ []) hl in
+    let e : number 2 6 (big_bytes 6 f.l ++ (big_bytes 2 f.e ++ f.b ∷ f.max_n ∷ [])) ≡ f.e = omega arith in
+    ap (λ (n : ℕ). Some (fti_with n (number 2 6 (big_bytes 6 f.l ++ (big_bytes 2 f.e ++ f.b ∷ f.max_n ∷ []))))) l
+    ∙ ap (λ (n : ℕ). Some (fti_with f.l n)) e
+  where
+    fti_with : ℕ → ℕ → Fti
+    fti_with l e = record { l = l; e = e; b = f.b; max_n = f.max_n }
+
+fti_fits : (f : Fti) → IsExtension (fti_extension f)
+fti_fits f = record { kind = omega arith; words = 3; whole = refl; most = omega arith }
+
+extensions_fit : (words : ℕ) (f : Fti) → words ≤ 5 → AreExtensions words (fti_extension f ∷ [])
+extensions_fit words f h = record { each = (fti_fits f, tt); most = omega arith }
+
+index_again : (p : Settings) → InRange p → (index : ℕ) → index < 65536 → index_of p (object_id p index) ≡ index
+index_again p range index h = (let f = range.first.1 in omega (arith, f))
+
+-- the flags of data and files, and what is left of them without those of a repair
+flags_fit : (kind : Kind) (info : Option (List ℕ)) (octets : List ℕ) (repair : ℕ) → repair < 4
+    → (object_flags (Whole kind info octets) + repair < 256)
+    × (4 * ((object_flags (Whole kind info octets) + repair) / 4) ≡ object_flags (Whole kind info octets))
+flags_fit kind.Data None octets repair h = (omega arith, omega arith)
+flags_fit kind.Data (Some info) octets repair h = (omega arith, omega arith)
+flags_fit kind.File None octets repair h = (omega arith, omega arith)
+flags_fit kind.File (Some info) octets repair h = (omega arith, omega arith)
+
+-- ---- heads
+
+object_head_fits : (p : Settings) → InRange p → (s : SenderState) (index : ℕ) (object : Object) (repair : ℕ) → SenderHolds p s
+    → object_flags object + repair < 256 → IsObjectHead (object_head p s index object repair)
+object_head_fits p range s index object repair h flags = record {
+  source = (omega (arith, range.sender.0), omega (arith, range.sender.1));
+  sequence = h.sequence;
+  instance = h.id;
+  grtt = omega (arith, range.grtt_code.1);
+  backoff = omega (arith, range.k.1);
+  gsize = omega (arith, range.gsize_code.1);
+  flags = flags;
+  object = omega arith;
+}
+
+pub command_head_fits : (p : Settings) → InRange p → (s : SenderState) → SenderHolds p s → IsCommandHead (command_head p s)
+command_head_fits p range s h = record {
+  source = (omega (arith, range.sender.0), omega (arith, range.sender.1));
+  sequence = h.sequence;
+  instance = h.id;
+  grtt = omega (arith, range.grtt_code.1);
+  backoff = omega (arith, range.k.1);
+  gsize = omega (arith, range.gsize_code.1);
+}
+
+-- ---- where a sender's current instance stands
+
+-- the current order, by the id of its instance
+pub current_order : (s : SenderState) → IsDistinct nat_eq (instance_ids s) → order_of s s.current.id ≡ s.current.order
+current_order s differ = ap order_found (current_found s.earlier s.current s.current refl differ)
+  where
+    order_found : Option Instance → List Entry
+    order_found found = elim found [ Some i ↦ i.order | None ↦ [] ]
+
+-- the entry at an index that is told again
+entry_told : (p : Settings) → InRange p → (s : SenderState) (index : ℕ) (entry : Entry) → IsDistinct nat_eq (instance_ids s) → index < 65536
+    → slice_get s.current.order index ≡ Some entry
+    → entry_at s s.current.id (index_of p (object_id p index)) ≡ Some entry
+entry_told p range s index entry differ few e =
+    ap (λ (i : ℕ). entry_at s s.current.id i) (index_again p range index few)
+    ∙ ap (λ (order : List Entry). slice_get order index) (current_order s differ) ∙ e
+
+says_some : (P : Entry → Type 0) (found : Option Entry) (entry : Entry) → found ≡ Some entry → P entry → IsSomeAnd found P
+says_some P found entry e h = let S : Option Entry → Type 0 = λ o. IsSomeAnd o P in subst S (sym e) h
+
+-- an object of its size tells its transmission information
+says_object : (p : Settings) → InRange p → (kind : Kind) (info : Option (List ℕ)) (octets : List ℕ) (repair : ℕ) → IsSized p (Whole kind info octets) → repair < 4
+    → SaysObject p (Whole kind info octets) (fti_extension (fti_of_object p (Whole kind info octets)) ∷ []) (object_flags (Whole kind info octets) + repair)
+says_object p range kind info octets repair sized h = (
+  fti_again (fti_of_object p (Whole kind info octets)) (omega (arith, sized.1, range.octets.1)) (omega (arith, range.e.1)),
+  (flags_fit kind info octets repair h).1,
+)
+
+-- ---- what is said
+
+-- a squelch names a point that its instance's drop point is not before, at a block 0
+abbrev pub SquelchesDropped : Settings → SenderState → SquelchCommand → Type 0
+SquelchesDropped p s m =
+    (i : Instance) × (instance_in (instances s) m.head.instance ≡ Some i)
+    × (point_before i.drop (point (index_of p m.object) m.id.block) ≡ false) × (m.id.block ≡ 0)
+
+-- What octets say of objects is true of a sender's orders; of anything else nothing is said here.
+abbrev pub IsTrueOf : Settings → SenderState → Result Message Refusal → Type 0
+IsTrueOf p s (Ok (Data m)) = SaysSymbol p s m
+IsTrueOf p s (Ok (Info m)) = SaysInfo p s m
+IsTrueOf p s (Ok (Squelch m)) = SquelchesDropped p s m
+IsTrueOf p s _ = ⊤
+
+-- so does a datagram
+abbrev pub SaysTrue : Settings → SenderState → List ℕ → Type 0
+SaysTrue p s datagram = IsTrueOf p s (decoded datagram)
+
+true_again : (p : Settings) (s : SenderState) (m : Message) → IsMessage m → IsTrueOf p s (Ok m) → SaysTrue p s (octets_of m)
+true_again p s m fits h = let T : Result Message Refusal → Type 0 = λ r. IsTrueOf p s r in subst T (sym (read_again_law m fits)) h
+
+-- an entry of an order of objects of their sizes
+pub sized_at : (p : Settings) (order : List Entry) (index : ℕ) (entry : Entry) → AreSized p order → slice_get order index ≡ Some entry → IsSized p entry.object
+sized_at p [] index entry all e = absurd (nothing_there entry e)
+sized_at p (x ∷ order) zero entry all e = let S : Entry → Type 0 = λ y. IsSized p y.object in subst S (same_entry x entry e) all.0
+sized_at p (x ∷ order) (suc index) entry all e = sized_at p order index entry all.1 e
+
+-- an encoded symbol of the current order is said truly
+symbol_true : (p : Settings) → InRange p → (s : SenderState) (at : Position) (entry : Entry) (object : Object) (repair : ℕ) → entry.object ≡ object
+    → SenderHolds p s → IsDistinct nat_eq (instance_ids s) → slice_get s.current.order at.index ≡ Some entry → IsSized p object
+    → nat_lt at.symbol (encoded_in (shape_of p object) at.block) ≡ true → repair < 4
+    → SaysTrue p s (octets_of (data_message p s at object repair))
+symbol_true p range s at entry (Stream parts) repair is h differ found sized encoded few = absurd sized
+symbol_true p range s at entry (Whole kind info octets) repair is h differ found sized encoded few =
+    let object : Object = Whole kind info octets in
+    let names = names_fit p (cut_range p range) (length octets) (is_some info) at.block at.symbol sized.0 sized.1 encoded in
+    let index : at.index < 65536 = (let lt = slice_get_within s.current.order at.index entry found in omega (arith, lt, h.many)) in
+    let m : DataMessage = record {
+      head = object_head p s at.index object repair;
+      id = record { block = at.block; symbol = at.symbol };
+      extensions = fti_extension (fti_of_object p object) ∷ [];
+      payload = symbol_octets p object at.block at.symbol;
+    } in
+    let P : Entry → Type 0 = λ e.
+        IsTrue (nat_lt at.symbol (encoded_in (shape_of p e.object) at.block))
+        × (m.payload ≡ symbol_octets p e.object at.block at.symbol)
+        × SaysObject p e.object m.extensions m.head.flags in
+    let O : Object → Type 0 = λ o.
+        IsTrue (nat_lt at.symbol (encoded_in (shape_of p o) at.block))
+        × (m.payload ≡ symbol_octets p o at.block at.symbol)
+        × SaysObject p o m.extensions m.head.flags in
+    true_again p s (Data m)
+      (record {
+        head = object_head_fits p range s at.index object repair h (flags_fit kind info octets repair few).0;
+        id = names;
+        extensions = extensions_fit 5 (fti_of_object p object) (omega arith);
+      })
+      (says_some P (entry_at s s.current.id (index_of p (object_id p at.index))) entry (entry_told p range s at.index entry differ index found)
+        (subst O (sym is) (encoded, refl, says_object p range kind info octets repair sized few)))
+
+info_true : (p : Settings) → InRange p → (s : SenderState) (index : ℕ) (entry : Entry) (object : Object) (repair : ℕ) → entry.object ≡ object
+    → SenderHolds p s → IsDistinct nat_eq (instance_ids s) → slice_get s.current.order index ≡ Some entry → IsSized p object
+    → (shape_of p object).info ≡ true → repair < 4
+    → SaysTrue p s (octets_of (message_of p s (WantedInfo index) object repair))
+info_true p range s index entry (Stream parts) repair is h differ found sized has few = absurd sized
+info_true p range s index entry (Whole kind None octets) repair is h differ found sized has few = absurd (clash has)
+info_true p range s index entry (Whole kind (Some info) octets) repair is h differ found sized has few =
+    let object : Object = Whole kind (Some info) octets in
+    let place : index < 65536 = (let lt = slice_get_within s.current.order index entry found in omega (arith, lt, h.many)) in
+    let m : InfoMessage = record {
+      head = object_head p s index object repair;
+      extensions = fti_extension (fti_of_object p object) ∷ [];
+      info = info;
+    } in
+    let P : Entry → Type 0 = λ e. (info_of_object e.object ≡ Some info) × SaysObject p e.object m.extensions m.head.flags in
+    let O : Object → Type 0 = λ o. (info_of_object o ≡ Some info) × SaysObject p o m.extensions m.head.flags in
+    true_again p s (Info m)
+      (record {
+        head = object_head_fits p range s index object repair h (flags_fit kind (Some info) octets repair few).0;
+        extensions = extensions_fit 4 (fti_of_object p object) (omega arith);
+      })
+      (says_some P (entry_at s s.current.id (index_of p (object_id p index))) entry (entry_told p range s index entry differ place found)
+        (subst O (sym is) (refl, says_object p range kind (Some info) octets repair sized few)))
+
+-- a test of an entry's shape, by its index
+tested_at : (p : Settings) (order : List Entry) (i : ℕ) (test : Shape → Bool) (entry : Entry) → slice_get order i ≡ Some entry
+    → at_index (shapes_of p order) i false test ≡ true → test (shape_of p entry.object) ≡ true
+tested_at p [] i test entry found e = absurd (nothing_there entry found)
+tested_at p (x ∷ order) zero test entry found e = sym (ap (λ (y : Entry). test (shape_of p y.object)) (same_entry x entry found)) ∙ e
+tested_at p (x ∷ order) (suc i) test entry found e = tested_at p order i test entry found e
+
+-- A symbol or info of the current order is said truly.
+pub want_true : (p : Settings) → InRange p → (s : SenderState) (w : Want) (entry : Entry) (repair : ℕ) → SenderHolds p s
+    → IsDistinct nat_eq (instance_ids s) → is_of_order (current_shapes p s) w ≡ true → slice_get s.current.order (want_index w) ≡ Some entry
+    → repair < 4 → SaysTrue p s (octets_of (message_of p s w entry.object repair))
+want_true p range s (Symbol at) entry repair h differ of found few =
+    let sized = sized_at p s.current.order at.index entry (current_sized p s h) found in
+    symbol_true p range s at entry entry.object repair refl h differ found sized
+      (tested_at p s.current.order at.index (λ x. nat_lt at.symbol (encoded_in x at.block)) entry found of) few
+want_true p range s (WantedInfo index) entry repair h differ of found few =
+    let sized = sized_at p s.current.order index entry (current_sized p s h) found in
+    info_true p range s index entry entry.object repair refl h differ found sized
+      (tested_at p s.current.order index (λ x. x.info) entry found of) few
+
+-- the drop point is said truly
+pub squelch_true : (p : Settings) → InRange p → (s : SenderState) → SenderHolds p s → IsDistinct nat_eq (instance_ids s)
+    → SaysTrue p s (octets_of (squelch_message p s s.current.drop))
+squelch_true p range s h differ =
+    let drop : Point = s.current.drop in
+    let m : SquelchCommand = record {
+      head = command_head p s;
+      object = object_id p drop.index;
+      id = record { block = drop.block; symbol = 0 };
+      extensions = [];
+      invalid = [];
+    } in
+    let block : drop.block < 16777216 = omega (arith, h.block) in
+    let again : index_of p (object_id p drop.index) ≡ drop.index = index_again p range drop.index h.index in
+    let B : ℕ → Type 0 = λ i. point_before drop (point i drop.block) ≡ false in
+    true_again p s (Squelch m)
+      (record {
+        head = command_head_fits p range s h;
+        object = omega arith;
+        id = (block, omega arith);
+        extensions = record { each = tt; most = omega arith };
+        invalid = tt;
+      })
+      (s.current, current_found s.earlier s.current s.current refl differ, subst B (sym again) (not_before_itself drop), h.block)

@@ -1,0 +1,361 @@
+-- What a sender's tick sends is true of its orders, and stays true as its instances go on.
+use Rattle.std.proofs.Common.{◌≡◌, ℕ, zero, suc, ◌+◌, ◌-◌, ◌<◌, ◌≤◌, cond, List, [], ◌∷◌, ◌++◌, length, take, drop, Bool, true, false, Option, None, Some, Result, Ok, Err, refl, sym, ap, ◌∙◌, subst, arith, ◌⊎◌, inl, inr}
+use Rattle.std.specs.Prelude.{map, find, flat_map, slice_get, ◌==◌, ◌&&◌, not, min, nat_lt, is_some, nat_eq, ⊤, IsSomeAnd, if◌then◌else◌}
+use Rattle.std.specs.List.{AllByRecursion, IsDistinct, range_with_len}
+use Rattle.std.proofs.Common.{append_assoc}
+use Rattle.std.proofs.lemmas.Bool.{cases_lt}
+use Rattle.std.proofs.lemmas.Bool.Decides.{Decides-ltb}
+use Rattle.std.proofs.lemmas.List.{map-append, length-append, length-take, take-append-drop}
+use Rattle.norm_base.specs.Settings.{Settings, InRange}
+use Rattle.fec_plan.specs.Points.{Point, point, position, point_before}
+use Rattle.fec_plan.specs.Partition.{source_symbols, encoding_symbols}
+use Rattle.fec_plan.specs.declared.position.Position.{Position}
+use Rattle.norm_ext.specs.Message.{Message, Info, Data, Flush, Eot, Squelch, RepairAdv, AckReq, Opaque, Nack, Ack, Report, FlushCommand}
+use Rattle.norm_ext.specs.Reading.{decoded}
+use Rattle.norm_ext.specs.declared.refusal.Refusal.{Refusal}
+use Rattle.norm_order.specs.Entries.{Object, Entry}
+use Rattle.norm_order.specs.Shapes.{Shape, shape_of, shapes_of, symbols_of, closed_in, encoded_in, is_full, closed_blocks, at_index}
+use Rattle.norm_order.proofs.UptoLemmas.{found_front}
+use Rattle.norm_send_rules.specs.SenderState.{SenderState, Instance, Watermark, Round}
+use Rattle.norm_send_rules.specs.InWindow.{current_shapes, stands_behind}
+use Rattle.norm_send_rules.specs.Restarting.{instances}
+use Rattle.norm_ext.specs.ObjectIds.{object_id}
+use Rattle.norm_send_rules.specs.Messages.{command_head, squelch_message, flush_message, explicit_repair, parity_repair}
+use Rattle.norm_send_rules.specs.Sending.{sent_once, new_of, new_from, next_new, behind, sends, noted, repair_flags, message_of, sends_want, repairs_next, sends_new}
+use Rattle.norm_send_rules.specs.Flushing.{most_flushes, flushes_for, expired, flushed, flushes, may_flush}
+use Rattle.norm_send_rules.specs.Requests.{open_requests, pending}
+use Rattle.norm_send_rules.specs.Ticking.{closed_where_due, sends_further, sends_wanted, sends_first, sends_in_time, ticked}
+use Rattle.norm_send_rules.specs.Wants.{want_before, want_index}
+use Rattle.norm_send_rules.specs.Laws.{Rise, is_of_order, WantsHold}
+use Rattle.norm_send_rules.specs.declared.want.Want.{Want}
+use Rattle.norm_send_rules.specs.declared.want.Want.TheVariants.{Info as WantedInfo, Symbol}
+use Rattle.norm_send_rules.proofs.StepLemmas.{due_holds, blocks_of}
+use Rattle.norm_send_rules.proofs.ShapeLemmas.{Blocks, HasParity, closed_is_encoded, shape_parity}
+use Rattle.norm_safety.specs.OnceEach.{order_of, instance_ids}
+use Rattle.norm_safety.specs.Said.{entry_at}
+use Rattle.norm_safety.proofs.OrderLemmas.{clash}
+use Rattle.norm_safety.proofs.CommandSteps.{same_instances, keeps_ids}
+use Rattle.norm_safety.proofs.Onward.{GoOn, Onward, LaterThan, instance_in, not_before_both, goes_on_itself}
+use Rattle.norm_safety.proofs.SenderKeeps.{Keeps, ticked_keeps, closed_keeps}
+use Rattle.norm_safety.proofs.SenderHolds.{SenderHolds, Steps, keeps_steps}
+use Rattle.norm_safety.proofs.Spoken.{IsTrueOf, SaysTrue, want_true, squelch_true}
+use Rattle.norm_safety.proofs.Feedback.{SaysNothing, flush_said}
+
+-- what says nothing of objects is true
+pub nothing_true : (p : Settings) (s : SenderState) (r : Result Message Refusal) → SaysNothing r → IsTrueOf p s r
+nothing_true p s (Ok (Info m)) h = absurd h
+nothing_true p s (Ok (Data m)) h = absurd h
+nothing_true p s (Ok (Squelch m)) h = absurd h
+nothing_true p s (Ok (Flush m)) h = tt
+nothing_true p s (Ok (Eot m)) h = tt
+nothing_true p s (Ok (RepairAdv m)) h = tt
+nothing_true p s (Ok (AckReq m)) h = tt
+nothing_true p s (Ok (Opaque m)) h = tt
+nothing_true p s (Ok (Nack m)) h = tt
+nothing_true p s (Ok (Ack m)) h = tt
+nothing_true p s (Ok (Report m)) h = tt
+nothing_true p s (Err refusal) h = tt
+
+-- ---- what is true stays true
+
+entry_later : (P : Entry → Type 0) (s t : SenderState) (id index : ℕ) → Onward s t → IsSomeAnd (entry_at s id index) P → IsSomeAnd (entry_at t id index) P
+entry_later P s t id index onward h = go (instance_in (instances s) id) (onward id) h
+  where
+    order_in : Option Instance → List Entry
+    order_in found = elim found [ Some i ↦ i.order | None ↦ [] ]
+    there : (order more : List Entry) (found : Option Entry) → slice_get order index ≡ found → IsSomeAnd found P → IsSomeAnd (slice_get (order ++ more) index) P
+    there order more None e h = absurd h
+    there order more (Some entry) e h =
+        let S : Option Entry → Type 0 = λ o. IsSomeAnd o P in subst S (sym (found_front order more index entry e)) h
+    go : (found : Option Instance)
+        → ((i : Instance) → found ≡ Some i → (j : Instance) × (instance_in (instances t) id ≡ Some j) × LaterThan j i)
+        → IsSomeAnd (slice_get (order_in found) index) P → IsSomeAnd (entry_at t id index) P
+    go None next h = absurd h
+    go (Some i) next h =
+        let later = next i refl in
+        let S : List Entry → Type 0 = λ order. IsSomeAnd (slice_get order index) P in
+        let O : Option Instance → Type 0 = λ found. IsSomeAnd (slice_get (order_in found) index) P in
+        subst O (sym later.1) (subst S (sym later.2.order) (there i.order later.2.more (slice_get i.order index) refl h))
+
+pub true_later : (p : Settings) (s t : SenderState) (r : Result Message Refusal) → Onward s t → IsTrueOf p s r → IsTrueOf p t r
+true_later p s t (Ok (Info m)) onward h = entry_later _ s t m.head.instance _ onward h
+true_later p s t (Ok (Data m)) onward h = entry_later _ s t m.head.instance _ onward h
+true_later p s t (Ok (Squelch m)) onward h =
+    let later = onward m.head.instance h.0 h.1 in
+    (later.0, later.1, not_before_both _ h.0.drop later.0.drop h.2 later.2.drop, h.3)
+true_later p s t (Ok (Flush m)) onward h = tt
+true_later p s t (Ok (Eot m)) onward h = tt
+true_later p s t (Ok (RepairAdv m)) onward h = tt
+true_later p s t (Ok (AckReq m)) onward h = tt
+true_later p s t (Ok (Opaque m)) onward h = tt
+true_later p s t (Ok (Nack m)) onward h = tt
+true_later p s t (Ok (Ack m)) onward h = tt
+true_later p s t (Ok (Report m)) onward h = tt
+true_later p s t (Err refusal) onward h = tt
+
+-- ---- what is new is of the order
+
+-- a want is an info or an encoded symbol of the object with this index
+abbrev IsOfShape : ℕ → Shape → Want → Type 0
+IsOfShape index s (WantedInfo i) = (i ≡ index) × (s.info ≡ true)
+IsOfShape index s (Symbol at) = (at.index ≡ index) × (nat_lt at.symbol (encoded_in s at.block) ≡ true)
+
+all_append : (P : Want → Type 0) (xs ys : List Want) → AllByRecursion P xs → AllByRecursion P ys → AllByRecursion P (xs ++ ys)
+all_append P [] ys h g = g
+all_append P (x ∷ xs) ys h g = (h.0, all_append P xs ys h.1 g)
+
+sent_encoded : (p : Settings) (s : Shape) (block : ℕ) → HasParity s.cut → sent_once p s block ≤ encoded_in s block
+sent_encoded p s block parity = go (is_full s block)
+  where
+    go : (b : Bool) → elim b [ true ↦ min (source_symbols s.cut block + p.auto) (encoding_symbols s.cut block) | false ↦ closed_in s block ]
+        ≤ elim b [ true ↦ encoding_symbols s.cut block | false ↦ closed_in s block ]
+    go true = omega arith
+    go false = omega arith
+
+symbols_of_shape : (p : Settings) (index : ℕ) (s : Shape) (block from count : ℕ) → from + count ≤ encoded_in s block
+    → AllByRecursion (IsOfShape index s) (map Symbol (map (λ symbol. position index block symbol) (range_with_len from count)))
+symbols_of_shape p index s block from zero le = tt
+symbols_of_shape p index s block from (suc count) le =
+    ((refl, (Decides-ltb from (encoded_in s block)).1 (omega arith)), symbols_of_shape p index s block (from + 1) count (omega arith))
+
+blocks_of_shape : (p : Settings) (index : ℕ) (s : Shape) → HasParity s.cut → (from count : ℕ)
+    → AllByRecursion (IsOfShape index s) (map Symbol (flat_map (λ block. symbols_of index (sent_once p s block) block) (range_with_len from count)))
+blocks_of_shape p index s parity from zero = tt
+blocks_of_shape p index s parity from (suc count) =
+    let A : List Want → Type 0 = λ ws. AllByRecursion (IsOfShape index s) ws in
+    subst A (sym (map-append Symbol (symbols_of index (sent_once p s from) from) _))
+      (all_append (IsOfShape index s) _ _
+        (symbols_of_shape p index s from 0 (sent_once p s from) (let le = sent_encoded p s from parity in omega arith))
+        (blocks_of_shape p index s parity (from + 1) count))
+
+new_of_shape : (p : Settings) (index : ℕ) (s : Shape) → HasParity s.cut → AllByRecursion (IsOfShape index s) (new_of p index s)
+new_of_shape p index s parity =
+    all_append (IsOfShape index s) _ _ (infos s.info refl) (blocks_of_shape p index s parity 0 (closed_blocks s))
+  where
+    infos : (b : Bool) → s.info ≡ b → AllByRecursion (IsOfShape index s) (cond b (WantedInfo index ∷ []) [])
+    infos true e = ((refl, e), tt)
+    infos false e = tt
+
+-- the shapes of an order have their parity
+abbrev HaveParity : List Shape → Type 0
+HaveParity shapes = AllByRecursion (λ (s : Shape). HasParity s.cut) shapes
+
+shapes_parity : (p : Settings) → Blocks p → (order : List Entry) → HaveParity (shapes_of p order)
+shapes_parity p blocks [] = tt
+shapes_parity p blocks (x ∷ order) = (shape_parity p blocks x.object, shapes_parity p blocks order)
+
+-- a shape behind others is found by its index
+found_behind : (front : List Shape) (s : Shape) (rest : List Shape) (test : Shape → Bool) → at_index (front ++ s ∷ rest) (length front) false test ≡ test s
+found_behind [] s rest test = refl
+found_behind (x ∷ front) s rest test = found_behind front s rest test
+
+of_order_by : (all : List Shape) (index : ℕ) (s : Shape) → ((test : Shape → Bool) → at_index all index false test ≡ test s)
+    → (w : Want) → IsOfShape index s w → is_of_order all w ≡ true
+of_order_by all index s found (WantedInfo i) h =
+    ap (λ (n : ℕ). at_index all n false (λ x. x.info)) h.0 ∙ found (λ x. x.info) ∙ h.1
+of_order_by all index s found (Symbol at) h =
+    ap (λ (n : ℕ). at_index all n false (λ x. nat_lt at.symbol (encoded_in x at.block))) h.0
+    ∙ found (λ x. nat_lt at.symbol (encoded_in x at.block)) ∙ h.1
+
+all_implied : (P Q : Want → Type 0) (ws : List Want) → ((w : Want) → P w → Q w) → AllByRecursion P ws → AllByRecursion Q ws
+all_implied P Q [] f all = tt
+all_implied P Q (w ∷ ws) f all = (f w all.0, all_implied P Q ws f all.1)
+
+new_of_order : (p : Settings) (front rest : List Shape) (index : ℕ) → index ≡ length front → HaveParity rest
+    → AllByRecursion (λ w. is_of_order (front ++ rest) w ≡ true) (new_from p index rest)
+unfolding new_from
+new_of_order p front [] index e parity = tt
+new_of_order p front (s ∷ rest) index e parity =
+    let A : List Shape → Type 0 = λ all. AllByRecursion (λ w. is_of_order all w ≡ true) (new_from p (index + 1) rest) in
+    let found : (test : Shape → Bool) → at_index (front ++ s ∷ rest) index false test ≡ test s =
+        λ test. ap (λ (n : ℕ). at_index (front ++ s ∷ rest) n false test) e ∙ found_behind front s rest test in
+    let more = length-append front (s ∷ []) in
+    all_append (λ w. is_of_order (front ++ s ∷ rest) w ≡ true) _ _
+      (all_implied (IsOfShape index s) (λ w. is_of_order (front ++ s ∷ rest) w ≡ true) (new_of p index s)
+        (of_order_by (front ++ s ∷ rest) index s found) (new_of_shape p index s parity.0))
+      (subst A (append_assoc front (s ∷ []) rest) (new_of_order p (front ++ s ∷ []) rest (index + 1) (omega arith) parity.1))
+
+found_in : (P : Want → Type 0) (test : Want → Bool) (ws : List Want) (w : Want) → AllByRecursion P ws → find test ws ≡ Some w → P w
+found_in P test [] w all e = absurd (none_some w e)
+  where
+    none_some : (x : Want) → None ≡ Some x → ⊥
+    none_some x e = cc
+found_in P test (x ∷ ws) w all e = go (test x) (λ e. found_in P test ws w all.1 e) e
+  where
+    same_want : (x y : Want) → Some x ≡ Some y → x ≡ y
+    same_want x y e = cc
+    go : (b : Bool) → (find test ws ≡ Some w → P w) → cond b (Some x) (find test ws) ≡ Some w → P w
+    go true more e = subst P (same_want x w e) all.0
+    go false more e = more e
+
+shapes_drop : (p : Settings) (n : ℕ) (order : List Entry) → shapes_of p (drop n order) ≡ drop n (shapes_of p order)
+shapes_drop p zero order = refl
+shapes_drop p (suc n) [] = refl
+shapes_drop p (suc n) (x ∷ order) = shapes_drop p n order
+
+shapes_many : (p : Settings) (order : List Entry) → length (shapes_of p order) ≡ length order
+shapes_many p [] = refl
+shapes_many p (x ∷ order) = ap suc (shapes_many p order)
+
+new_past : (p : Settings) (n index : ℕ) (order : List Entry) → length order ≤ n → new_from p index (shapes_of p (drop n order)) ≡ []
+unfolding new_from
+new_past p zero index [] le = refl
+new_past p zero index (x ∷ order) le = absurd (omega arith)
+new_past p (suc n) index [] le = refl
+new_past p (suc n) index (x ∷ order) le = new_past p n index order (omega arith)
+
+new_all : (p : Settings) → Blocks p → (order : List Entry) (index : ℕ)
+    → AllByRecursion (λ w. is_of_order (shapes_of p order) w ≡ true) (new_from p index (shapes_of p (drop index order)))
+new_all p blocks order index = go (cases_lt index (length order))
+  where
+    all : List Shape
+    all = shapes_of p order
+    go : (index < length order) ⊎ (length order ≤ index)
+        → AllByRecursion (λ w. is_of_order all w ≡ true) (new_from p index (shapes_of p (drop index order)))
+    go (inl lt) =
+        let A : List Shape → Type 0 = λ xs. AllByRecursion (λ w. is_of_order xs w ≡ true) (new_from p index (shapes_of p (drop index order))) in
+        let taken = length-take index all in
+        let many : length all ≡ length order = shapes_many p order in
+        let whole : take index all ++ shapes_of p (drop index order) ≡ all =
+            ap (λ (xs : List Shape). take index all ++ xs) (shapes_drop p index order) ∙ take-append-drop index all in
+        subst A whole (new_of_order p (take index all) (shapes_of p (drop index order)) index (omega arith) (shapes_parity p blocks (drop index order)))
+    go (inr le) =
+        let A : List Want → Type 0 = λ ws. AllByRecursion (λ w. is_of_order all w ≡ true) ws in
+        subst A (sym (new_past p index index order le)) tt
+
+-- What is sent next by itself is of the order.
+next_of_order : (p : Settings) → Blocks p → (s : SenderState) (w : Want) → next_new p s ≡ Some w → is_of_order (current_shapes p s) w ≡ true
+next_of_order p blocks s w e =
+    found_in (λ w. is_of_order (current_shapes p s) w ≡ true) (λ w. not (want_before w s.next) && stands_behind s.current.drop w)
+      (new_from p (want_index s.next) (shapes_of p (drop (want_index s.next) s.current.order))) w
+      (new_all p blocks s.current.order (want_index s.next)) e
+
+-- ---- a tick
+
+-- what a step sends is true of a state's orders
+abbrev SentTrue : Settings → SenderState → Option (List ℕ) → Type 0
+SentTrue p s (Some datagram) = SaysTrue p s datagram
+SentTrue p s None = ⊤
+
+-- what a step gives
+abbrev given : SenderState × Option (List ℕ) → Option (List ℕ)
+given step = step.1
+
+repair_few : (p : Settings) (object : Object) (w : Want) → repair_flags p object w < 4
+repair_few p object (WantedInfo index) = omega arith
+repair_few p object (Symbol at) = go (nat_lt at.symbol (source_symbols (shape_of p object).cut at.block))
+  where
+    go : (b : Bool) → cond b explicit_repair parity_repair < 4
+    go true = omega arith
+    go false = omega arith
+
+-- a want of the order that is sent
+wanted_true : (p : Settings) → InRange p → (s : SenderState) (now : ℕ) (repair : Object → ℕ) (w : Want) → SenderHolds p s
+    → IsDistinct nat_eq (instance_ids s) → is_of_order (current_shapes p s) w ≡ true → ((object : Object) → repair object < 4)
+    → SentTrue p s (sends_want p now repair w s).1
+wanted_true p range s now repair w h differ of few = go (slice_get s.current.order (want_index w)) refl
+  where
+    go : (found : Option Entry) → slice_get s.current.order (want_index w) ≡ found → SentTrue p s (given (elim found [
+      | Some entry ↦ sends p now (message_of p s w entry.object (repair entry.object)) (noted w s)
+      | None ↦ (s, None)
+    ]))
+    go None e = tt
+    go (Some entry) e = want_true p range s w entry (repair entry.object) h differ of e (few entry.object)
+
+-- a flush's message
+abbrev flush_of : Settings → SenderState → Watermark → FlushCommand
+flush_of p s w = record {
+  head = command_head p s;
+  object = object_id p w.at.index;
+  id = record { block = w.at.block; symbol = w.at.symbol };
+  extensions = [];
+  nodes = pending s w.at;
+}
+
+flushed_true : (p : Settings) (t : SenderState) (now : ℕ) (requests : List Watermark) (s : SenderState) → SentTrue p t (flushed p now requests s).1
+unfolding flushed
+flushed_true p t now [] s = tt
+flushed_true p t now (w ∷ requests) s = go (nat_lt s.flushes most_flushes) (is_some s.round) (flushed_true p t now requests (expired w.mark s))
+  where
+    go : (b c : Bool) → SentTrue p t (flushed p now requests (expired w.mark s)).1 → SentTrue p t (given (elim b [
+      | true ↦ flushes_for p now w s
+      | false ↦ elim c [ true ↦ (s, None) | false ↦ flushed p now requests (expired w.mark s) ]
+    ]))
+    go true c more = nothing_true p t _ (flush_said (flush_of p s w))
+    go false true more = tt
+    go false false more = more
+
+flushes_true : (p : Settings) (now : ℕ) (s : SenderState) → SentTrue p s (flushes p now s).1
+flushes_true p now s = go (may_flush p s now)
+  where
+    go : (b : Bool) → SentTrue p s (given (elim b [ true ↦ flushed p now (open_requests s) s | false ↦ (s, None) ]))
+    go true = flushed_true p s now (open_requests s) s
+    go false = tt
+
+-- the state in which a want is sent holds what holds, and has the same orders
+without : (p : Settings) (s t : SenderState) → Keeps s t → WantsHold p t → SenderHolds p s → SenderHolds p t
+without p s t keeps wants h = (keeps_steps p s t keeps wants h).holds
+
+same_true : (p : Settings) (s t : SenderState) (sent : Option (List ℕ)) → Onward s t → SentTrue p s sent → SentTrue p t sent
+same_true p s t None onward h = tt
+same_true p s t (Some datagram) onward h = true_later p s t (decoded datagram) onward h
+
+further_true : (p : Settings) → InRange p → (now : ℕ) (s : SenderState) → SenderHolds p s → IsDistinct nat_eq (instance_ids s) → SentTrue p s (sends_further p now s).1
+further_true p range now s h differ = go (next_new p s) refl
+  where
+    next : Want → SenderState
+    next w = record s { next = behind w }
+    go : (found : Option Want) → next_new p s ≡ found → SentTrue p s (given (elim found [ Some w ↦ sends_new p now w s | None ↦ flushes p now s ]))
+    go None e = flushes_true p now s
+    go (Some w) e =
+        let keeps : Keeps s (next w) = record { earlier = refl; current = refl; by = refl; nodes = refl; sequence = λ n. n } in
+        let wants : WantsHold p (next w) = record { rise = h.wants.rise; of_order = h.wants.of_order; in_window = h.wants.in_window } in
+        same_true p (next w) s _ (goes_on_itself (instances s))
+          (wanted_true p range (next w) now (λ object. 0) w (without p s (next w) keeps wants h) differ
+            (next_of_order p (blocks_of p range) s w e) (λ object. omega arith))
+
+wants_true : (p : Settings) → InRange p → (now : ℕ) (s : SenderState) → SenderHolds p s → IsDistinct nat_eq (instance_ids s) → SentTrue p s (sends_wanted p now s).1
+wants_true p range now s h differ = go s.wants refl
+  where
+    rest : List Want → SenderState
+    rest wants = record s { wants = wants }
+    go : (wants : List Want) → s.wants ≡ wants → SentTrue p s (given (elim wants [ [] ↦ sends_further p now s | w ∷ wants ↦ repairs_next p now w wants s ]))
+    go [] e = further_true p range now s h differ
+    go (w ∷ wants) e =
+        let R : List Want → Type 0 = λ ws. Rise ws in
+        let O : List Want → Type 0 = λ ws. AllByRecursion (λ want. is_of_order (current_shapes p s) want ≡ true) ws in
+        let W : List Want → Type 0 = λ ws. AllByRecursion (λ want. stands_behind s.current.drop want ≡ true) ws in
+        let rise = subst R e h.wants.rise in
+        let of = subst O e h.wants.of_order in
+        let within = subst W e h.wants.in_window in
+        let keeps : Keeps s (rest wants) = record { earlier = refl; current = refl; by = refl; nodes = refl; sequence = λ n. n } in
+        let hold : WantsHold p (rest wants) = record { rise = rise.1; of_order = of.1; in_window = within.1 } in
+        same_true p (rest wants) s _ (goes_on_itself (instances s))
+          (wanted_true p range (rest wants) now (λ object. repair_flags p object w) w (without p s (rest wants) keeps hold h) differ of.0
+            (λ object. repair_few p object w))
+
+first_true : (p : Settings) → InRange p → (now : ℕ) (s : SenderState) → SenderHolds p s → IsDistinct nat_eq (instance_ids s) → SentTrue p s (sends_first p now s).1
+first_true p range now s h differ = go s.squelch_due
+  where
+    go : (due : Bool) → SentTrue p s (given (elim due [
+      | true ↦ sends p now (squelch_message p s s.current.drop) (record s { squelch_due = false })
+      | false ↦ sends_wanted p now s
+    ]))
+    go true = squelch_true p range s h differ
+    go false = wants_true p range now s h differ
+
+-- A tick sends nothing, or what is true of the sender's orders.
+pub tick_true : (p : Settings) → InRange p → (s : SenderState) (now : ℕ) → SenderHolds p s → IsDistinct nat_eq (instance_ids s)
+    → SentTrue p s (ticked p s now).1
+tick_true p range s now h differ =
+    let c : SenderState = closed_where_due p now s in
+    let keeps = closed_keeps p now s in
+    let D : List ℕ → Type 0 = λ ids. IsDistinct nat_eq ids in
+    let steps = keeps_steps p s c keeps (due_holds p (blocks_of p range) now s h.wants) h in
+    let back : Onward c s = (let G : List Instance → Type 0 = λ all. GoOn all (instances s) in subst G (sym (same_instances s c keeps)) (goes_on_itself (instances s))) in
+    go c steps.holds (subst D (sym (keeps_ids s c keeps)) differ) back (nat_lt now c.next_send)
+  where
+    go : (c : SenderState) → SenderHolds p c → IsDistinct nat_eq (instance_ids c) → Onward c s → (early : Bool)
+        → SentTrue p s (given (elim early [ true ↦ (c, None) | false ↦ sends_first p now c ]))
+    go c holds differ back true = tt
+    go c holds differ back false = same_true p c s (sends_first p now c).1 back (first_true p range now c holds differ)
