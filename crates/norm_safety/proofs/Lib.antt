@@ -12,3 +12,6 @@ pub mod Cuts
 pub mod Spoken
 pub mod Feedback
 pub mod TickTrue
+pub mod Exact
+pub mod ObjectLemmas
+pub mod Holding
