@@ -65,7 +65,7 @@ pub record Holding (p : Settings) (order : List Entry) (d : ℕ) (taken : List U
 
 -- ---- members of sorted lists
 
-all_with : {X : Type 0} (P : X → Type 0) (before : X → X → Bool) (x : X) (xs : List X) → P x → AllByRecursion P xs
+pub all_with : {X : Type 0} (P : X → Type 0) (before : X → X → Bool) (x : X) (xs : List X) → P x → AllByRecursion P xs
     → AllByRecursion P (with_member before x xs)
 unfolding with_member
 all_with P before x [] h all = (h, tt)
@@ -87,7 +87,7 @@ rising_more x y (z ∷ held) h all = (
   rising_more x y held h all.1,
 )
 
-rising_with : (x : Held) (held : List Held) → Rising held → Rising (with_member held_before x held)
+pub rising_with : (x : Held) (held : List Held) → Rising held → Rising (with_member held_before x held)
 unfolding with_member
 rising_with x [] h = (tt, tt)
 rising_with x (y ∷ held) h = go (held_before x y) (held_before y x) refl refl (rising_with x held h.1)
@@ -145,7 +145,7 @@ flags_say flags kind.File (Some info) octets e = record {
 -- ---- a hand-up
 
 -- a plan that is found is one of the plans, of that index
-found_plan : (P : Plan → Type 0) (plans : List Plan) (index : ℕ) (plan : Plan) → AllByRecursion P plans
+pub found_plan : (P : Plan → Type 0) (plans : List Plan) (index : ℕ) (plan : Plan) → AllByRecursion P plans
     → find (λ (x : Plan). x.index == index) plans ≡ Some plan → P plan × (plan.index ≡ index)
 found_plan P [] index plan all e = absurd (none_plan plan e)
   where

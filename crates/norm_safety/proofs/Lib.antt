@@ -15,3 +15,5 @@ pub mod TickTrue
 pub mod Exact
 pub mod ObjectLemmas
 pub mod Holding
+pub mod ReceiverHolds
+pub mod ReceiverMoves

@@ -29,7 +29,7 @@ GoOn all later = (id : ℕ) (i : Instance) → instance_in all id ≡ Some i →
 abbrev pub Onward : SenderState → SenderState → Type 0
 Onward s t = GoOn (instances s) (instances t)
 
-not_true : (b : Bool) → (b ≡ true → ⊥) → b ≡ false
+pub not_true : (b : Bool) → (b ≡ true → ⊥) → b ≡ false
 not_true true h = absurd (h refl)
 not_true false h = refl
 

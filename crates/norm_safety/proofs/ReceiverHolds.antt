@@ -1,0 +1,268 @@
+-- What a receiver does with a message that is true of an order keeps what it holds of it.
+use Rattle.std.proofs.Common.{◌≡◌, ℕ, zero, suc, ◌+◌, ◌-◌, ◌*◌, ◌/◌, ◌<◌, ◌≤◌, cond, List, [], ◌∷◌, ◌++◌, length, take, Bool, true, false, Option, None, Some, Result, Ok, Err, refl, sym, ap, ◌∙◌, subst, append_assoc, arith, ◌⊎◌, inl, inr}
+use Rattle.std.specs.Prelude.{slice_get, ◌==◌, ◌&&◌, not, nat_lt, is_some, is_none, IsSomeAnd, ⊤}
+use Rattle.std.specs.List.{AllByRecursion}
+use Rattle.std.proofs.lemmas.Bool.{cases_lt}
+use Rattle.std.proofs.lemmas.Bool.Decides.{Decides-ltb, Decides-eqb}
+use Rattle.std.proofs.lemmas.List.{length-take}
+use Rattle.std.proofs.lemmas.Option.{slice_get_within}
+use Rattle.norm_base.specs.Settings.{Settings, InRange}
+use Rattle.fec_plan.specs.Points.{Point, point, position, point_of, point_before}
+use Rattle.fec_plan.specs.declared.position.Position.{Position}
+use Rattle.norm_ext.specs.Extensions.{Extension, fti_of}
+use Rattle.norm_ext.specs.ObjectIds.{index_of}
+use Rattle.norm_ext.specs.declared.fti.Fti.{Fti}
+use Rattle.norm_ext.specs.Message.{InfoMessage, DataMessage, SquelchCommand}
+use Rattle.norm_order.specs.Entries.{Object, Whole, Stream, Entry}
+use Rattle.norm_order.specs.Shapes.{shape_of, encoded_in}
+use Rattle.norm_order.specs.Symbols.{symbol_octets}
+use Rattle.norm_order.specs.declared.up.Up.{Up}
+use Rattle.norm_order.specs.declared.up.Up.TheVariants as up
+use Rattle.norm_send_rules.specs.Messages.{fti_of_object, object_flags}
+use Rattle.norm_receive_rules.specs.ReceiverState.{ReceiverState, Plan, Held, HeldInfo}
+use Rattle.norm_receive_rules.specs.Plans.{plan_of, says_stream}
+use Rattle.norm_receive_rules.specs.Fitting.{fit_of, fitted, lets_put, with_plan, plan_before}
+use Rattle.norm_receive_rules.specs.Putting.{put_of, put_symbol, with_symbol, held_before, put_info_of, put_info, with_info, info_before}
+use Rattle.norm_receive_rules.specs.HandingUp.{after_object, handed, next_segment, hands_one, hands_most, handed_up}
+use Rattle.norm_receive_rules.specs.Losing.{loses_one, loses_before, is_cut_off, loses_at, squelched}
+use Rattle.norm_receive_rules.specs.Seeing.{sees}
+use Rattle.norm_receive_rules.specs.Receiving.{object_received, info_received, data_received, squelch_received}
+use Rattle.norm_receive_rules.specs.declared.words.Fit.{Fit}
+use Rattle.norm_receive_rules.specs.declared.words.Fit.TheVariants as fit
+use Rattle.norm_receive_rules.specs.declared.words.Put.{Put}
+use Rattle.norm_receive_rules.specs.declared.words.Put.TheVariants as put
+use Rattle.norm_safety.specs.SaysSymbols.{SaysObject, info_of_object}
+use Rattle.norm_safety.proofs.OrderLemmas.{clash}
+use Rattle.norm_safety.proofs.WholeOrders.{IsSized, AreSized}
+use Rattle.norm_safety.proofs.Spoken.{sized_at}
+use Rattle.norm_safety.proofs.Onward.{not_true}
+use Rattle.norm_safety.proofs.Exact.{Exactly, exactly_loses, take_next}
+use Rattle.norm_safety.proofs.Holding.{Holding, IsPlanOf, IsSymbolOf, IsInfoOf, all_with, rising_with, flags_say, found_plan, some_and, hands_holding}
+
+-- what the lemmas below are about: a receiver's state that holds what holds of an order
+abbrev pub Holds : Settings → List Entry → ℕ → List Up → ReceiverState → Type 0
+Holds p order d taken r = Holding p order d taken r
+
+most_holding : (p : Settings) → InRange p → (order : List Entry) (d : ℕ) (taken : List Up) (n : ℕ) (r : ReceiverState) → AreSized p order
+    → Holding p order d taken r → Holding p order d taken (hands_most n p r)
+unfolding hands_most
+most_holding p range order d taken zero r sized h = h
+most_holding p range order d taken (suc n) r sized h =
+    go (hands_one p r) refl (λ after e. most_holding p range order d taken n after sized (hands_holding p range order d taken r after sized h e))
+  where
+    go : (next : Option ReceiverState) → hands_one p r ≡ next
+        → ((after : ReceiverState) → hands_one p r ≡ Some after → Holding p order d taken (hands_most n p after))
+        → Holding p order d taken (elim next [ Some after ↦ hands_most n p after | None ↦ r ])
+    go None e more = h
+    go (Some after) e more = more after e
+
+pub up_holding : (p : Settings) → InRange p → (order : List Entry) (d : ℕ) (taken : List Up) (r : ReceiverState) → AreSized p order
+    → Holding p order d taken r → Holding p order d taken (handed_up p r)
+up_holding p range order d taken r sized h = most_holding p range order d taken _ r sized h
+
+-- ---- what a message brings
+
+fitted_holding : (p : Settings) (order : List Entry) (d : ℕ) (taken : List Up) (word : Fit) (index : ℕ) (f : Fti) (flags : ℕ) (r : ReceiverState)
+    → IsPlanOf p order (record { index = index; fti = f; flags = flags }) → Holding p order d taken r → Holding p order d taken (fitted word index f flags r)
+fitted_holding p order d taken fit.Known index f flags r plan h = h
+fitted_holding p order d taken fit.Away index f flags r plan h = h
+fitted_holding p order d taken fit.Unfit index f flags r plan h = h
+fitted_holding p order d taken fit.Taken index f flags r plan h = record {
+  plans = all_with (IsPlanOf p order) plan_before (record { index = index; fti = f; flags = flags }) r.plans plan h.plans;
+  symbols = h.symbols;
+  rising = h.rising;
+  infos = h.infos;
+  block = h.block;
+  symbol = h.symbol;
+  within = h.within;
+  gone = h.gone;
+}
+
+seen_holding : (p : Settings) (order : List Entry) (d : ℕ) (taken : List Up) (at : Point) (r : ReceiverState) → Holding p order d taken r
+    → Holding p order d taken (sees at r)
+seen_holding p order d taken at r h = record {
+  plans = h.plans;
+  symbols = h.symbols;
+  rising = h.rising;
+  infos = h.infos;
+  block = h.block;
+  symbol = h.symbol;
+  within = h.within;
+  gone = h.gone;
+}
+
+symbol_holding : (p : Settings) (order : List Entry) (d : ℕ) (taken : List Up) (word : Put) (at : Position) (payload : List ℕ) (r : ReceiverState)
+    → IsSymbolOf p order (record { at = at; octets = payload }) → Holding p order d taken r → Holding p order d taken (with_symbol word at payload r)
+symbol_holding p order d taken put.Had at payload r is h = h
+symbol_holding p order d taken put.Away at payload r is h = h
+symbol_holding p order d taken put.Unfit at payload r is h = h
+symbol_holding p order d taken put.Kept at payload r is h = record {
+  plans = h.plans;
+  symbols = all_with (IsSymbolOf p order) held_before (record { at = at; octets = payload }) r.held is h.symbols;
+  rising = rising_with (record { at = at; octets = payload }) r.held h.rising;
+  infos = h.infos;
+  block = h.block;
+  symbol = h.symbol;
+  within = h.within;
+  gone = h.gone;
+}
+
+info_holding : (p : Settings) (order : List Entry) (d : ℕ) (taken : List Up) (word : Put) (index : ℕ) (info : List ℕ) (r : ReceiverState)
+    → IsInfoOf order (record { index = index; info = info }) → Holding p order d taken r → Holding p order d taken (with_info word index info r)
+info_holding p order d taken put.Had index info r is h = h
+info_holding p order d taken put.Away index info r is h = h
+info_holding p order d taken put.Unfit index info r is h = h
+info_holding p order d taken put.Kept index info r is h = record {
+  plans = h.plans;
+  symbols = h.symbols;
+  rising = h.rising;
+  infos = all_with (IsInfoOf order) info_before (record { index = index; info = info }) r.infos is h.infos;
+  block = h.block;
+  symbol = h.symbol;
+  within = h.within;
+  gone = h.gone;
+}
+
+-- a message of an object whose transmission information is that of an entry
+object_holding : (p : Settings) → InRange p → (order : List Entry) (d : ℕ) (taken : List Up) (at : Position) (extensions : List Extension) (flags : ℕ) (x : Entry)
+    (brings : ReceiverState → ReceiverState) (r : ReceiverState) → AreSized p order → slice_get order at.index ≡ Some x → SaysObject p x.object extensions flags
+    → ((s : ReceiverState) → Holding p order d taken s → Holding p order d taken (brings s)) → Holding p order d taken r
+    → Holding p order d taken (object_received p at extensions flags brings r)
+object_holding p range order d taken at extensions flags x brings r sized found says kept h =
+    let R : Option Fti → Type 0 = λ o. Holding p order d taken (elim o [
+      | Some f ↦ (
+          let word = fit_of p r at.index f flags in
+          let s' = sees (point_of at) (fitted word at.index f flags r) in
+          elim (lets_put word) [ true ↦ handed_up p (brings s') | false ↦ s' ]
+          )
+      | None ↦ handed_up p (brings (sees (point_of at) r))
+    ]) in
+    subst R (sym says.0) (put (lets_put word) between)
+  where
+    f : Fti
+    f = fti_of_object p x.object
+    word : Fit
+    word = fit_of p r at.index (fti_of_object p x.object) flags
+    plan : IsPlanOf p order (record { index = at.index; fti = fti_of_object p x.object; flags = flags })
+    plan =
+        let S : Option Entry → Type 0 = λ o. IsSomeAnd o (λ (y : Entry). (fti_of_object p x.object ≡ fti_of_object p y.object) × (4 * (flags / 4) ≡ object_flags y.object)) in
+        subst S (sym found) (refl, says.1)
+    between : Holding p order d taken (sees (point_of at) (fitted (fit_of p r at.index (fti_of_object p x.object) flags) at.index (fti_of_object p x.object) flags r))
+    between = seen_holding p order d taken (point_of at) _ (fitted_holding p order d taken (fit_of p r at.index (fti_of_object p x.object) flags) at.index _ flags r plan h)
+    put : (b : Bool) → (Holding p order d taken (sees (point_of at) (fitted (fit_of p r at.index (fti_of_object p x.object) flags) at.index (fti_of_object p x.object) flags r)))
+        → Holding p order d taken (elim b [
+          | true ↦ handed_up p (brings (sees (point_of at) (fitted (fit_of p r at.index (fti_of_object p x.object) flags) at.index (fti_of_object p x.object) flags r)))
+          | false ↦ sees (point_of at) (fitted (fit_of p r at.index (fti_of_object p x.object) flags) at.index (fti_of_object p x.object) flags r)
+        ])
+    put true s = up_holding p range order d taken _ sized (kept _ s)
+    put false s = s
+
+pub data_holding : (p : Settings) → InRange p → (order : List Entry) (d : ℕ) (taken : List Up) (m : DataMessage) (r : ReceiverState) → AreSized p order
+    → IsSomeAnd (slice_get order (index_of p m.head.object)) (λ (x : Entry).
+        (nat_lt m.id.symbol (encoded_in (shape_of p x.object) m.id.block) ≡ true)
+        × (m.payload ≡ symbol_octets p x.object m.id.block m.id.symbol) × SaysObject p x.object m.extensions m.head.flags)
+    → Holding p order d taken r → Holding p order d taken (data_received p m r)
+data_holding p range order d taken m r sized says h =
+    let at : Position = position (index_of p m.head.object) m.id.block m.id.symbol in
+    let entry = some_and _ (slice_get order (index_of p m.head.object)) says in
+    let S : Option Entry → Type 0 = λ o. IsSomeAnd o (λ (y : Entry).
+        (nat_lt m.id.symbol (encoded_in (shape_of p y.object) m.id.block) ≡ true) × (m.payload ≡ symbol_octets p y.object m.id.block m.id.symbol)) in
+    object_holding p range order d taken at m.extensions m.head.flags entry.0 (put_symbol p at m.payload) r sized entry.1 entry.2.2
+      (λ s held. symbol_holding p order d taken (put_of p s at m.payload) at m.payload s (subst S (sym entry.1) (entry.2.0, entry.2.1)) held) h
+
+pub info_is_holding : (p : Settings) → InRange p → (order : List Entry) (d : ℕ) (taken : List Up) (m : InfoMessage) (r : ReceiverState) → AreSized p order
+    → IsSomeAnd (slice_get order (index_of p m.head.object)) (λ (x : Entry).
+        (info_of_object x.object ≡ Some m.info) × SaysObject p x.object m.extensions m.head.flags)
+    → Holding p order d taken r → Holding p order d taken (info_received p m r)
+info_is_holding p range order d taken m r sized says h =
+    let index : ℕ = index_of p m.head.object in
+    let entry = some_and _ (slice_get order index) says in
+    let S : Option Entry → Type 0 = λ o. IsSomeAnd o (λ (y : Entry). info_of_object y.object ≡ Some m.info) in
+    object_holding p range order d taken (position index 0 0) m.extensions m.head.flags entry.0 (put_info p index m.info) r sized entry.1 entry.2.1
+      (λ s held. info_holding p order d taken (put_info_of p s index m.info) index m.info s (subst S (sym entry.1) entry.2.0) held) h
+
+-- ---- a squelch
+
+-- an entry below the length of an order
+there : (order : List Entry) (n : ℕ) → n < length order → (x : Entry) × (slice_get order n ≡ Some x)
+there [] n lt = absurd (omega arith)
+there (x ∷ order) zero lt = (x, refl)
+there (x ∷ order) (suc n) lt = there order n (omega arith)
+
+-- the object at the hand-up point is lost, where it was dropped
+lost_holding : (p : Settings) (order : List Entry) (d : ℕ) (taken : List Up) (r : ReceiverState) → d ≤ length order → r.point.index < d
+    → Holding p order d taken r → Holding p order d taken (loses_one r)
+lost_holding p order d taken r most lt h =
+    let n : ℕ = r.point.index in
+    let entry = there order n (omega arith) in
+    let many = length-take n order in
+    let E : ℕ → Type 0 = λ k. Exactly p d 0 (take k order) (taken ++ (r.ups ++ up.Lost n ∷ [])) in
+    let F : List Entry → Type 0 = λ xs. Exactly p d 0 xs (taken ++ (r.ups ++ up.Lost n ∷ [])) in
+    let U : List Up → Type 0 = λ us. Exactly p d 0 (take n order ++ entry.0 ∷ []) us in
+    record {
+      plans = h.plans;
+      symbols = h.symbols;
+      rising = h.rising;
+      infos = h.infos;
+      block = refl;
+      symbol = refl;
+      within = omega arith;
+      gone = subst E (let z : suc n ≡ n + 1 = omega arith in z)
+        (subst F (sym (take_next order n entry.0 entry.1))
+          (subst U (append_assoc taken r.ups (up.Lost n ∷ []))
+            (exactly_loses p d 0 (take n order) (taken ++ r.ups) entry.0 n (let w = h.within in omega arith) lt h.gone)));
+    }
+
+before_holding : (p : Settings) → InRange p → (order : List Entry) (d : ℕ) (taken : List Up) (n index : ℕ) (r : ReceiverState) → AreSized p order
+    → d ≤ length order → index ≤ d → Holding p order d taken r → Holding p order d taken (loses_before n p index r)
+unfolding loses_before
+before_holding p range order d taken zero index r sized most le h = up_holding p range order d taken r sized h
+before_holding p range order d taken (suc n) index r sized most le h =
+    go (nat_lt (handed_up p r).point.index index) refl (λ s held. before_holding p range order d taken n index s sized most le held)
+  where
+    go : (b : Bool) → nat_lt (handed_up p r).point.index index ≡ b
+        → ((s : ReceiverState) → Holding p order d taken s → Holding p order d taken (loses_before n p index s))
+        → Holding p order d taken (elim b [ true ↦ loses_before n p index (loses_one (handed_up p r)) | false ↦ handed_up p r ])
+    go true e more =
+        let lt = (Decides-ltb (handed_up p r).point.index index).0 e in
+        more (loses_one (handed_up p r)) (lost_holding p order d taken (handed_up p r) most (omega arith) (up_holding p range order d taken r sized h))
+    go false e more = up_holding p range order d taken r sized h
+
+-- nothing is cut off where the window begins at a block 0
+not_cut_off : (p : Settings) (order : List Entry) (d : ℕ) (taken : List Up) (r : ReceiverState) (first : Point) → first.block ≡ 0
+    → is_cut_off r first ≡ false
+not_cut_off p order d taken r first none = go (plan_of r r.point.index)
+  where
+    never : (n : ℕ) → nat_lt n first.block ≡ false
+    never n = ap (nat_lt n) none ∙ nothing n
+      where
+        nothing : (n : ℕ) → nat_lt n 0 ≡ false
+        nothing n = not_true (nat_lt n 0) (λ e. (let lt = (Decides-ltb n 0).0 e in omega arith))
+    and_false : (a b : Bool) → (a && (false && b)) ≡ false
+    and_false true b = refl
+    and_false false b = refl
+    go : (found : Option Plan) → (elim found [
+      | Some plan ↦ says_stream plan.flags && nat_lt r.point.block first.block && is_none (next_segment r plan)
+      | None ↦ nat_lt 0 first.block
+    ]) ≡ false
+    go None = never 0
+    go (Some plan) = last (says_stream plan.flags) (nat_lt r.point.block first.block) (is_none (next_segment r plan)) (never r.point.block)
+      where
+        last : (a b c : Bool) → b ≡ false → ((a && b) && c) ≡ false
+        last true true c e = absurd (clash (sym e))
+        last true false c e = refl
+        last false b c e = refl
+
+pub squelch_holding : (p : Settings) → InRange p → (order : List Entry) (d : ℕ) (taken : List Up) (m : SquelchCommand) (r : ReceiverState) → AreSized p order
+    → d ≤ length order → index_of p m.object ≤ d → m.id.block ≡ 0 → Holding p order d taken r → Holding p order d taken (squelch_received p m r)
+squelch_holding p range order d taken m r sized most le none h =
+    let first : Point = point (index_of p m.object) m.id.block in
+    let s : ReceiverState = loses_before (first.index - r.point.index) p first.index r in
+    go s (s.point.index == first.index) (is_cut_off s first) (not_cut_off p order d taken s first none)
+      (before_holding p range order d taken (first.index - r.point.index) first.index r sized most le h)
+  where
+    go : (s : ReceiverState) (a b : Bool) → b ≡ false → Holding p order d taken s
+        → Holding p order d taken (elim (a && b) [ true ↦ handed_up p (loses_one s) | false ↦ s ])
+    go s true true e held = absurd (clash (sym e))
+    go s true false e held = held
+    go s false b e held = held
