@@ -2,6 +2,7 @@
 use Rattle.std.proofs.Common.{◌≡◌, ℕ, zero, suc, ◌-◌, ◌+◌, ◌*◌, ◌<◌, ◌≤◌, List, [], ◌∷◌, ◌++◌, length, take, Bool, true, false, Option, None, Some, Result, Ok, Err, refl, sym, ap, ◌∙◌, subst, arith, ◌⊎◌, inl, inr}
 use Rattle.std.specs.Prelude.{slice_get, ◌==◌, ◌&&◌, not, nat_lt, nat_le, is_none, IsSomeAnd, ⊤}
 use Rattle.std.specs.List.{AllByRecursion, list_all}
+use Rattle.std.proofs.lemmas.Bool.Decides.{Decides-eqb}
 use Rattle.norm_base.specs.Settings.{Settings, InRange}
 use Rattle.fec_plan.specs.Points.{Point, point, position, point_of}
 use Rattle.fec_plan.specs.declared.position.Position.{Position}
@@ -264,3 +265,87 @@ squelched_ids p first r =
     go : (s : ReceiverState) (b : Bool) → SameIds s (elim b [ true ↦ handed_up p (loses_one s) | false ↦ s ])
     go s true = (let u = up_ids p (loses_one s) in record { node = u.node; instance = u.instance; left = u.left })
     go s false = ids_same s
+
+-- ---- what a datagram does
+
+-- What holds of a receiver, with what it handed up before in each instance: where it is in one, what it holds is of that
+-- instance's order; where it is in none, nothing waits to be handed up.
+abbrev pub StandingIn : Settings → SenderState → (ℕ → List Up) → ReceiverState → Option ℕ → Type 0
+StandingIn p s taken r (Some id) = Holding p (order_of s id) (drop_of s id).index (taken id) r
+StandingIn p s taken r None = r.ups ≡ []
+
+-- by the instance that it is in
+abbrev pub Standing : Settings → SenderState → (ℕ → List Up) → ReceiverState → Type 0
+Standing p s taken r = StandingIn p s taken r r.instance
+
+-- A receiver stays in its instance, and holds what it should; or it enters another in which it never was.
+pub data Moved (p : Settings) (s : SenderState) (r : ReceiverState) : ReceiverState → Type 0 where
+  Remains : {t : ReceiverState} → SameIds r t → ((taken : ℕ → List Up) → Standing p s taken r → Standing p s taken t) → Moved p s r t
+  Enters : {t : ReceiverState} (id : ℕ) → is_in r id ≡ false → has_left r id ≡ false → t.node ≡ r.node → t.instance ≡ Some id → t.left ≡ left_now r
+      → Holding p (order_of s id) (drop_of s id).index [] t → Moved p s r t
+
+same_stands : (p : Settings) (s : SenderState) (taken : ℕ → List Up) (r t : ReceiverState) → SameHeld r t → Standing p s taken r → Standing p s taken t
+same_stands p s taken r t same h =
+    let S : Option ℕ → Type 0 = λ instance. StandingIn p s taken t instance in subst S (sym same.instance) (go r.instance h)
+  where
+    go : (instance : Option ℕ) → StandingIn p s taken r instance → StandingIn p s taken t instance
+    go None h = same.ups ∙ h
+    go (Some id) h = same_holding p (order_of s id) (drop_of s id).index (taken id) r t same h
+
+pub same_moves : (p : Settings) (s : SenderState) (r t : ReceiverState) → SameHeld r t → Moved p s r t
+same_moves p s r t same = Remains (held_ids r t same) (λ taken h. same_stands p s taken r t same h)
+
+-- the instance that a receiver is in
+in_instance_is : (r : ReceiverState) (id : ℕ) → is_in r id ≡ true → r.instance ≡ Some id
+in_instance_is r id e = go r.instance e
+  where
+    go : (instance : Option ℕ) → (elim instance [ Some current ↦ current == id | None ↦ false ]) ≡ true → instance ≡ Some id
+    go None e = absurd (clash e)
+    go (Some current) e = ap (λ (n : ℕ). Some n) ((Decides-eqb current id).0 e)
+
+-- a receiver that enters an instance holds nothing of it
+entering_holds : (p : Settings) (order : List Entry) (d : ℕ) (id : ℕ) (r : ReceiverState) → Holding p order d [] (enters id r)
+entering_holds p order d id r = record {
+  plans = tt;
+  symbols = tt;
+  rising = tt;
+  infos = tt;
+  block = refl;
+  symbol = refl;
+  within = omega arith;
+  gone = refl;
+}
+
+-- a message of the sender in an instance whose order it is true of
+instance_moves : (p : Settings) (s : SenderState) (now draw source id : ℕ) (brings : ReceiverState → ReceiverState) (r : ReceiverState)
+    → ((t : ReceiverState) → SameIds t (brings t))
+    → ((taken : List Up) (t : ReceiverState) → Holding p (order_of s id) (drop_of s id).index taken t → Holding p (order_of s id) (drop_of s id).index taken (brings t))
+    → Moved p s r (in_instance p now draw source id brings r)
+instance_moves p s now draw source id brings r same kept = go (source == p.sender) (is_in r id) (has_left r id) refl refl
+  where
+    after : ReceiverState → ReceiverState
+    after t = may_need p now draw (brings t)
+    after_ids : (t : ReceiverState) → SameIds t (may_need p now draw (brings t))
+    after_ids t = ids_both t (brings t) _ (same t) (held_ids (brings t) _ (need_same p now draw (brings t)))
+    after_holds : (taken : List Up) (t : ReceiverState) → Holding p (order_of s id) (drop_of s id).index taken t
+        → Holding p (order_of s id) (drop_of s id).index taken (may_need p now draw (brings t))
+    after_holds taken t h = same_holding p (order_of s id) (drop_of s id).index taken (brings t) _ (need_same p now draw (brings t)) (kept taken t h)
+    entering : Bool → Bool → Option ReceiverState
+    entering inside left = elim inside [ true ↦ Some r | false ↦ elim left [ true ↦ None | false ↦ Some (enters id r) ] ]
+    go : (own inside left : Bool) → is_in r id ≡ inside → has_left r id ≡ left → Moved p s r (elim own [
+      | true ↦ elim (entering inside left) [ Some s' ↦ may_need p now draw (brings s') | None ↦ r ]
+      | false ↦ r
+    ])
+    go false inside left e f = same_moves p s r r (held_same r)
+    go true true left e f =
+        let is = in_instance_is r id e in
+        let later = (after_ids r).instance ∙ is in
+        Remains (after_ids r) (λ taken h. (
+          let S : Option ℕ → Type 0 = λ instance. StandingIn p s taken r instance in
+          let T : Option ℕ → Type 0 = λ instance. StandingIn p s taken (may_need p now draw (brings r)) instance in
+          subst T (sym later) (after_holds (taken id) r (subst S is h))
+          ))
+    go true false true e f = same_moves p s r r (held_same r)
+    go true false false e f =
+        let ids = after_ids (enters id r) in
+        Enters id e f ids.node ids.instance ids.left (after_holds [] (enters id r) (entering_holds p (order_of s id) (drop_of s id).index id r))

@@ -1,6 +1,6 @@
 -- What holds of a sender of data and files after every event, and that its instances go on.
-use Rattle.std.proofs.Common.{◌≡◌, ℕ, zero, suc, ◌+◌, ◌-◌, ◌<◌, ◌≤◌, List, [], ◌∷◌, ◌++◌, length, drop, Bool, true, false, Option, None, Some, refl, sym, ap, ◌∙◌, subst, arith, ◌⊎◌, inl, inr}
-use Rattle.std.specs.Prelude.{map, nat_eq}
+use Rattle.std.proofs.Common.{cond, ◌≡◌, ℕ, zero, suc, ◌+◌, ◌-◌, ◌<◌, ◌≤◌, List, [], ◌∷◌, ◌++◌, length, drop, Bool, true, false, Option, None, Some, refl, sym, ap, ◌∙◌, subst, arith, ◌⊎◌, inl, inr}
+use Rattle.std.specs.Prelude.{map, nat_eq, ◌==◌}
 use Rattle.std.specs.List.{AllByRecursion, IsDistinct}
 use Rattle.std.proofs.lemmas.List.{length-append, length-drop}
 use Rattle.norm_base.specs.Settings.{Settings, InRange}
@@ -20,15 +20,21 @@ use Rattle.norm_send_rules.specs.Commanding.{commanded}
 use Rattle.norm_send_rules.specs.Laws.{WantsHold}
 use Rattle.norm_send_rules.specs.declared.job.Job.{Job}
 use Rattle.norm_send_rules.proofs.StepLemmas.{step_holds as wants_step, blocks_of}
+use Rattle.norm_safety.specs.OnceEach.{order_of}
+use Rattle.norm_safety.specs.InOrder.{drop_of}
 use Rattle.norm_safety.specs.Jobs.{IsJob, OpensNone}
 use Rattle.norm_safety.proofs.SenderKeeps.{Keeps, nodes_in}
 use Rattle.norm_safety.proofs.CommandSteps.{same_instances}
 use Rattle.norm_safety.proofs.WholeOrders.{IsSized, AreSized, Steady, keeps_steady, CommandCase, Stays, Joins, Restarts, command_case}
-use Rattle.norm_safety.proofs.Onward.{GoOn, Onward, LaterThan, goes_on_itself, last_goes_on, more_goes_on, not_before}
+use Rattle.norm_safety.proofs.Onward.{GoOn, Onward, LaterThan, instance_in, goes_on_itself, last_goes_on, more_goes_on, not_before, behind_point}
 
--- the objects of each instance are of their sizes
+-- an instance's objects are of their sizes, and its drop point lies within its order
+abbrev pub IsKept : Settings → Instance → Type 0
+IsKept p i = AreSized p i.order × (i.drop.index ≤ length i.order)
+
+-- each instance is so
 abbrev pub AllSized : Settings → List Instance → Type 0
-AllSized p all = AllByRecursion (λ (i : Instance). AreSized p i.order) all
+AllSized p all = AllByRecursion (IsKept p) all
 
 -- What holds: wants are symbols and infos of the window; objects are data and files of their sizes; ids, indices and the
 -- sequence number have 16 bits; listings are the receivers'; and the drop point lies within the order, before a block 0.
@@ -69,6 +75,14 @@ steady_holds p s t same wants h =
 pub steady_onward : (s t : SenderState) → Steady s t → Onward s t
 steady_onward s t same =
     let G : List Instance → Type 0 = λ all. GoOn (instances s) all in subst G (sym (same_all s t same)) (goes_on_itself (instances s))
+
+-- the drop point of an instance that is found
+abbrev pub point_in : Option Instance → Point
+point_in found = elim found [ Some i ↦ i.drop | None ↦ point 0 0 ]
+
+-- the order of an instance that is found
+abbrev pub entries_in : Option Instance → List Entry
+entries_in found = elim found [ Some i ↦ i.order | None ↦ [] ]
 
 -- no more objects go than there are
 goes_within : (p : Settings) (size : ℕ) (entries : List Entry) → has_to_go p size entries ≤ length entries
@@ -114,7 +128,7 @@ entries_more p [] entry h all = (h, tt)
 entries_more p (x ∷ order) entry h all = (all.0, entries_more p order entry h all.1)
 
 pub current_sized : (p : Settings) (s : SenderState) → SenderHolds p s → AreSized p s.current.order
-current_sized p s h = last_of (λ (i : Instance). AreSized p i.order) s.earlier s.current h.sized
+current_sized p s h = (last_of (IsKept p) s.earlier s.current h.sized).0
 
 joins_holds : (p : Settings) (by : Origin) (object : Object) (s : SenderState) → IsSized p object → next_index s < 65536
     → WantsHold p (joined p by object s) → SenderHolds p s → SenderHolds p (joined p by object s)
@@ -125,8 +139,8 @@ joins_holds p by object s is few wants h =
     let le = drop_within p object s h.within in
     record {
       wants = wants;
-      sized = last_more (λ (i : Instance). AreSized p i.order) s.earlier s.current new.current
-        (entries_more p s.current.order entry is (current_sized p s h)) h.sized;
+      sized = last_more (IsKept p) s.earlier s.current new.current
+        (entries_more p s.current.order entry is (current_sized p s h), omega arith) h.sized;
       id = h.id;
       many = omega arith;
       sequence = h.sequence;
@@ -164,7 +178,7 @@ restarts_holds : (p : Settings) (id : ℕ) (s : SenderState) → id < 65536 → 
     → SenderHolds p (begun_anew p id s)
 restarts_holds p id s few wants h = record {
   wants = wants;
-  sized = all_with (λ (i : Instance). AreSized p i.order) (instances s) (begun id) tt h.sized;
+  sized = all_with (IsKept p) (instances s) (begun id) (tt, omega arith) h.sized;
   id = few;
   many = omega arith;
   sequence = h.sequence;
@@ -205,7 +219,7 @@ keeps_steps p s t keeps wants h =
 pub opening_holds : (p : Settings) → InRange p → SenderHolds p (sender_opening p)
 opening_holds p range = record {
   wants = record { rise = tt; of_order = tt; in_window = tt };
-  sized = (tt, tt);
+  sized = ((tt, omega arith), tt);
   id = omega (arith, range.instance.1);
   many = omega arith;
   sequence = omega arith;
@@ -214,3 +228,55 @@ opening_holds p range = record {
   index = omega arith;
   block = refl;
 }
+
+-- what is kept of the instance with an id, where there is one
+pub record OrdersHold (p : Settings) (s : SenderState) : Type 0 where
+  pub sized : (id : ℕ) → AreSized p (order_of s id)
+  pub within : (id : ℕ) → (drop_of s id).index ≤ length (order_of s id)
+
+found_kept : (p : Settings) (all : List Instance) (id : ℕ) → AllSized p all
+    → AreSized p (entries_in (instance_in all id)) × ((point_in (instance_in all id)).index ≤ length (entries_in (instance_in all id)))
+found_kept p [] id all = (tt, omega arith)
+found_kept p (i ∷ more) id all = go (i.id == id) (found_kept p more id all.1)
+  where
+    go : (b : Bool) → AreSized p (entries_in (instance_in more id)) × ((point_in (instance_in more id)).index ≤ length (entries_in (instance_in more id)))
+        → AreSized p (entries_in (cond b (Some i) (instance_in more id)))
+          × ((point_in (cond b (Some i) (instance_in more id))).index ≤ length (entries_in (cond b (Some i) (instance_in more id))))
+    go true rest = all.0
+    go false rest = rest
+
+pub orders_hold : (p : Settings) (s : SenderState) → SenderHolds p s → OrdersHold p s
+orders_hold p s h = record {
+  sized = λ id. (found_kept p (instances s) id h.sized).0;
+  within = λ id. (found_kept p (instances s) id h.sized).1;
+}
+
+-- an order later, and its drop point
+pub record OrderLater (s t : SenderState) (id : ℕ) : Type 0 where
+  pub more : List Entry
+  pub order : order_of t id ≡ order_of s id ++ more
+  pub drop : (drop_of s id).index ≤ (drop_of t id).index
+
+pub order_later : (s t : SenderState) → Onward s t → (id : ℕ) → OrderLater s t id
+order_later s t onward id = go (instance_in (instances s) id) refl (onward id)
+  where
+    go : (found : Option Instance) → instance_in (instances s) id ≡ found
+        → ((i : Instance) → found ≡ Some i → (j : Instance) × (instance_in (instances t) id ≡ Some j) × LaterThan j i) → OrderLater s t id
+    go None e next =
+        let none : drop_of s id ≡ point 0 0 = ap point_in e in
+        let first : (drop_of s id).index ≡ 0 = ap (λ (x : Point). x.index) none in
+        record { more = order_of t id; order = sym (ap (λ (xs : List Entry). xs ++ order_of t id) (ap entries_in e)); drop = omega arith }
+    go (Some i) e next =
+        let later = next i refl in
+        let now : (drop_of t id).index ≡ later.0.drop.index = ap (λ (found : Option Instance). (point_in found).index) later.1 in
+        let was : (drop_of s id).index ≡ i.drop.index = ap (λ (found : Option Instance). (point_in found).index) e in
+        let rises : i.drop.index ≤ later.0.drop.index = rise (behind_point later.0.drop i.drop later.2.drop) in
+        record {
+          more = later.2.more;
+          order = ap entries_in later.1 ∙ later.2.order ∙ ap (λ (found : Option Instance). entries_in found ++ later.2.more) (sym e);
+          drop = omega arith;
+        }
+      where
+        rise : {a b : Point} → (b.index < a.index) ⊎ ((b.index ≡ a.index) × (b.block ≤ a.block)) → b.index ≤ a.index
+        rise (inl lt) = omega arith
+        rise (inr same) = (let e = same.0 in omega arith)
