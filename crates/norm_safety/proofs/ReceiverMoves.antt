@@ -37,11 +37,13 @@ use Rattle.norm_receive_rules.specs.Overhearing.{overhears, nack_overheard, adv_
 use Rattle.norm_receive_rules.specs.Receiving.{object_received, info_received, data_received, flush_received, squelch_received, in_instance, message_received, received}
 use Rattle.norm_receive_rules.specs.Nack.{fitting, nack_message, ack_message}
 use Rattle.norm_receive_rules.specs.Ticking.{sends, holds_off, asks, asks_where_needed, ends_back_off, ticked}
-use Rattle.norm_send_rules.specs.SenderState.{SenderState}
+use Rattle.norm_send_rules.specs.SenderState.{SenderState, Instance}
 use Rattle.norm_safety.specs.OnceEach.{order_of}
 use Rattle.norm_safety.specs.InOrder.{drop_of}
 use Rattle.norm_safety.proofs.OrderLemmas.{clash}
 use Rattle.norm_safety.proofs.WholeOrders.{AreSized}
+use Rattle.norm_safety.proofs.Onward.{behind_point}
+use Rattle.norm_safety.proofs.SenderHolds.{OrdersHold, point_in}
 use Rattle.norm_safety.proofs.Spoken.{IsTrueOf, SquelchesDropped}
 use Rattle.norm_safety.proofs.ObjectLemmas.{Rising}
 use Rattle.norm_safety.proofs.Exact.{Exactly}
@@ -349,3 +351,55 @@ instance_moves p s now draw source id brings r same kept = go (source == p.sende
     go true false false e f =
         let ids = after_ids (enters id r) in
         Enters id e f ids.node ids.instance ids.left (after_holds [] (enters id r) (entering_holds p (order_of s id) (drop_of s id).index id r))
+
+-- a datagram that says nothing false of the sender's orders
+pub received_moves : (p : Settings) → InRange p → (s : SenderState) (r : ReceiverState) (bytes : List ℕ) (now draw : ℕ) → OrdersHold p s
+    → IsTrueOf p s (decoded bytes) → Moved p s r (received p r bytes now draw)
+received_moves p range s r bytes now draw orders = go (decoded bytes)
+  where
+    adv_same : (m : RepairAdvCommand) (own : Bool) → SameHeld r (elim own [ true ↦ adv_overheard m r | false ↦ r ])
+    adv_same m true = where_same (is_in r m.head.instance) r (overhears m.requests r) (overhears_same m.requests r)
+    adv_same m false = held_same r
+    flushed_same : (at : Position) (nodes : List ℕ) (t : ReceiverState) → SameHeld t (flushed at nodes t)
+    flushed_same at nodes t = record { node = refl; instance = refl; left = refl; plans = refl; held = refl; infos = refl; point = refl; ups = refl }
+    not_above : (a b : Point) → (b.index < a.index) ⊎ ((b.index ≡ a.index) × (b.block ≤ a.block)) → b.index ≤ a.index
+    not_above a b (inl lt) = omega arith
+    not_above a b (inr same) = (let e = same.0 in omega arith)
+    dropped_to : (m : SquelchCommand) → SquelchesDropped p s m → index_of p m.object ≤ (drop_of s m.head.instance).index
+    dropped_to m says =
+        let is : (drop_of s m.head.instance).index ≡ says.0.drop.index = ap (λ (found : Option Instance). (point_in found).index) says.1 in
+        let le = not_above says.0.drop (point (index_of p m.object) m.id.block) (behind_point says.0.drop (point (index_of p m.object) m.id.block) says.2) in
+        omega arith
+    go : (said : Result Message Refusal) → IsTrueOf p s said → Moved p s r (message_received p now draw said r)
+    go (Ok (Info m)) says =
+        let id : ℕ = m.head.instance in
+        instance_moves p s now draw m.head.source id (info_received p m) r
+          (λ t. object_ids p (position (index_of p m.head.object) 0 0) m.extensions m.head.flags (put_info p (index_of p m.head.object) m.info) t
+            (λ u. info_ids (put_info_of p u (index_of p m.head.object) m.info) (index_of p m.head.object) m.info u))
+          (λ taken t h. info_is_holding p range (order_of s id) (drop_of s id).index taken m t (orders.sized id) says h)
+    go (Ok (Data m)) says =
+        let id : ℕ = m.head.instance in
+        let at : Position = position (index_of p m.head.object) m.id.block m.id.symbol in
+        instance_moves p s now draw m.head.source id (data_received p m) r
+          (λ t. object_ids p at m.extensions m.head.flags (put_symbol p at m.payload) t (λ u. symbol_ids (put_of p u at m.payload) at m.payload u))
+          (λ taken t h. data_holding p range (order_of s id) (drop_of s id).index taken m t (orders.sized id) says h)
+    go (Ok (Flush m)) says =
+        let id : ℕ = m.head.instance in
+        let at : Position = position (index_of p m.object) m.id.block m.id.symbol in
+        let same = λ (t : ReceiverState). flushed_same at m.nodes t in
+        instance_moves p s now draw m.head.source id (flush_received p m) r (λ t. held_ids t (flushed at m.nodes t) (same t))
+          (λ taken t h. same_holding p (order_of s id) (drop_of s id).index taken t (flushed at m.nodes t) (same t) h)
+    go (Ok (Squelch m)) says =
+        let id : ℕ = m.head.instance in
+        instance_moves p s now draw m.head.source id (squelch_received p m) r (λ t. squelched_ids p (point (index_of p m.object) m.id.block) t)
+          (λ taken t h. squelch_holding p range (order_of s id) (drop_of s id).index taken m t (orders.sized id) (orders.within id)
+            (dropped_to m says) says.3 h)
+    go (Ok (RepairAdv m)) says = same_moves p s r (elim (m.head.source == p.sender) [ true ↦ adv_overheard m r | false ↦ r ]) (adv_same m (m.head.source == p.sender))
+    go (Ok (Nack m)) says = same_moves p s r (nack_overheard p m r)
+        (where_same (not (m.source == r.node) && m.sender == p.sender && is_in r m.instance) r (overhears m.requests r) (overhears_same m.requests r))
+    go (Ok (Eot m)) says = same_moves p s r r (held_same r)
+    go (Ok (AckReq m)) says = same_moves p s r r (held_same r)
+    go (Ok (Opaque m)) says = same_moves p s r r (held_same r)
+    go (Ok (Ack m)) says = same_moves p s r r (held_same r)
+    go (Ok (Report m)) says = same_moves p s r r (held_same r)
+    go (Err refusal) says = same_moves p s r r (held_same r)
