@@ -35,7 +35,7 @@ use Rattle.norm_send_rules.specs.declared.job.Receipt.{Receipt}
 use Rattle.norm_send_rules.specs.declared.job.Receipt.TheVariants as receipt
 use Rattle.norm_safety.specs.OnceEach.{origin_of_part, origins_of, origins, instance_ids}
 use Rattle.norm_safety.proofs.SenderKeeps.{bys, Keeps, keeps_all, ended_by, counted_keeps, settled_keeps}
-use Rattle.norm_safety.proofs.OrderLemmas.{PlacesKept, AllKept, append_places, with_last_places, current_kept, begun_kept, origins_in, origins_of_all, origins_last, origins_entry, origins_with_last, EndsOpen, ends_open}
+use Rattle.norm_safety.proofs.EntryLemmas.{PlacesKept, AllKept, append_places, with_last_places, current_kept, begun_kept, origins_in, origins_of_all, origins_last, origins_entry, origins_with_last, EndsOpen, ends_open}
 
 -- An accepted command may add its origin, once; a refused one adds none.
 abbrev pub Adds : Origin → Bool → List Origin → List Origin → Type 0

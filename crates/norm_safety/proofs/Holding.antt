@@ -29,7 +29,7 @@ use Rattle.norm_receive_rules.specs.Fitting.{plan_before, with_plan}
 use Rattle.norm_receive_rules.specs.Putting.{held_before, info_before}
 use Rattle.norm_receive_rules.specs.HandingUp.{after_object, handed, is_whole, object_octets, kind_of, told_info, hands_object, hands_next, hands_one, hands_most, handed_up}
 use Rattle.norm_safety.specs.SaysSymbols.{info_of_object}
-use Rattle.norm_safety.proofs.OrderLemmas.{clash}
+use Rattle.norm_safety.proofs.EntryLemmas.{clash}
 use Rattle.norm_safety.proofs.WholeOrders.{IsSized, AreSized}
 use Rattle.norm_safety.proofs.Spoken.{sized_at}
 use Rattle.norm_safety.proofs.Cuts.{cut_range}

@@ -1,6 +1,6 @@
 pub mod TestLemmas
 pub mod SenderKeeps
-pub mod OrderLemmas
+pub mod EntryLemmas
 pub mod CommandSteps
 pub mod OnceLemmas
 pub mod PlaceLemmas
@@ -17,3 +17,4 @@ pub mod ObjectLemmas
 pub mod Holding
 pub mod ReceiverHolds
 pub mod ReceiverMoves
+pub mod WorldHolds

@@ -31,7 +31,7 @@ use Rattle.norm_send_rules.specs.declared.job.Receipt.{Receipt}
 use Rattle.norm_send_rules.specs.declared.job.Receipt.TheVariants as receipt
 use Rattle.norm_safety.specs.Lawful.{same_origin}
 use Rattle.norm_safety.specs.OnceEach.{origins, instance_ids, is_entry_by}
-use Rattle.norm_safety.proofs.OrderLemmas.{clash, by_at, order_in, PlacesKept, AllKept}
+use Rattle.norm_safety.proofs.EntryLemmas.{clash, by_at, order_in, PlacesKept, AllKept}
 use Rattle.norm_safety.proofs.CommandSteps.{Adds, IdsGo, where_free}
 
 -- what is not true is false

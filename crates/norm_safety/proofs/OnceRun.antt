@@ -26,7 +26,7 @@ use Rattle.norm_safety.specs.Lawful.{same_origin, accepted_with, MayCome, Lawful
 use Rattle.norm_safety.specs.History.{Happening, happens, last_world, history}
 use Rattle.norm_safety.specs.OnceEach.{OnceEach, has_its_place, instance_ids, origins}
 use Rattle.norm_safety.proofs.SenderKeeps.{Keeps, keeps_all, heard_keeps, ticked_keeps, told_keeps}
-use Rattle.norm_safety.proofs.OrderLemmas.{AllKept}
+use Rattle.norm_safety.proofs.EntryLemmas.{AllKept}
 use Rattle.norm_safety.proofs.CommandSteps.{keeps_origins, keeps_ids, same_instances, kept_all, command_goes}
 use Rattle.norm_safety.proofs.OnceLemmas.{OnceSoFar, once_after, with_accepted}
 use Rattle.norm_safety.proofs.PlaceLemmas.{has_place, stays_placed, command_placed}

@@ -9,7 +9,7 @@ use Rattle.norm_send_rules.specs.SenderState.{SenderState, Instance, begun}
 use Rattle.norm_send_rules.specs.Restarting.{instances}
 use Rattle.norm_safety.specs.OnceEach.{order_of}
 use Rattle.norm_safety.specs.InOrder.{drop_of}
-use Rattle.norm_safety.proofs.OrderLemmas.{clash}
+use Rattle.norm_safety.proofs.EntryLemmas.{clash}
 
 -- an instance among others
 abbrev pub instance_in : List Instance → ℕ → Option Instance

@@ -28,7 +28,7 @@ use Rattle.norm_send_rules.specs.declared.job.Receipt.{Receipt}
 use Rattle.norm_send_rules.specs.declared.job.Receipt.TheVariants as receipt
 use Rattle.norm_safety.specs.Lawful.{same_origin}
 use Rattle.norm_safety.specs.OnceEach.{instance_ids, is_entry_by}
-use Rattle.norm_safety.proofs.OrderLemmas.{clash, by_at, order_in, AllKept}
+use Rattle.norm_safety.proofs.EntryLemmas.{clash, by_at, order_in, AllKept}
 use Rattle.norm_safety.proofs.OnceLemmas.{same_self}
 use Rattle.norm_safety.proofs.CommandSteps.{where_free}
 

@@ -40,7 +40,7 @@ use Rattle.norm_receive_rules.specs.Ticking.{sends, holds_off, asks, asks_where_
 use Rattle.norm_send_rules.specs.SenderState.{SenderState, Instance}
 use Rattle.norm_safety.specs.OnceEach.{order_of}
 use Rattle.norm_safety.specs.InOrder.{drop_of}
-use Rattle.norm_safety.proofs.OrderLemmas.{clash}
+use Rattle.norm_safety.proofs.EntryLemmas.{clash}
 use Rattle.norm_safety.proofs.WholeOrders.{AreSized}
 use Rattle.norm_safety.proofs.Onward.{behind_point}
 use Rattle.norm_safety.proofs.SenderHolds.{OrdersHold, point_in}

@@ -39,7 +39,7 @@ use Rattle.norm_safety.specs.OnceEach.{order_of, instance_ids}
 use Rattle.norm_safety.specs.InOrder.{drop_of}
 use Rattle.norm_safety.specs.Said.{entry_at, place_of}
 use Rattle.norm_safety.specs.SaysSymbols.{SaysSymbol, SaysInfo, SaysObject, info_of_object}
-use Rattle.norm_safety.proofs.OrderLemmas.{clash}
+use Rattle.norm_safety.proofs.EntryLemmas.{clash}
 use Rattle.norm_safety.proofs.PlaceLemmas.{current_found}
 use Rattle.norm_safety.proofs.WholeOrders.{IsSized, AreSized}
 use Rattle.norm_safety.proofs.Onward.{Onward, LaterThan, instance_in, not_before_itself, not_before_both}

@@ -33,7 +33,7 @@ use Rattle.norm_send_rules.proofs.StepLemmas.{due_holds, blocks_of}
 use Rattle.norm_send_rules.proofs.ShapeLemmas.{Blocks, HasParity, closed_is_encoded, shape_parity}
 use Rattle.norm_safety.specs.OnceEach.{order_of, instance_ids}
 use Rattle.norm_safety.specs.Said.{entry_at}
-use Rattle.norm_safety.proofs.OrderLemmas.{clash}
+use Rattle.norm_safety.proofs.EntryLemmas.{clash}
 use Rattle.norm_safety.proofs.CommandSteps.{same_instances, keeps_ids}
 use Rattle.norm_safety.proofs.Onward.{GoOn, Onward, LaterThan, instance_in, not_before_both, goes_on_itself}
 use Rattle.norm_safety.proofs.SenderKeeps.{Keeps, ticked_keeps, closed_keeps}

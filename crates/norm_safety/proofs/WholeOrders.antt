@@ -31,7 +31,7 @@ use Rattle.norm_send_rules.specs.declared.job.Receipt.{Receipt}
 use Rattle.norm_send_rules.specs.declared.job.Receipt.TheVariants as receipt
 use Rattle.norm_safety.specs.Jobs.{IsJob, OpensNone}
 use Rattle.norm_safety.proofs.SenderKeeps.{Keeps, keeps_all, nodes_in}
-use Rattle.norm_safety.proofs.OrderLemmas.{open_in, ends, clash}
+use Rattle.norm_safety.proofs.EntryLemmas.{open_in, ends, clash}
 use Rattle.norm_safety.proofs.CommandSteps.{where_free, first_none, no_parts, with_request, requested_keeps}
 
 -- data or a file, of octets, and no larger than the profile lets it be

@@ -1,0 +1,208 @@
+-- What holds of a world of data and files after every lawful event.
+use Rattle.std.proofs.Common.{◌≡◌, ℕ, zero, suc, ◌+◌, ◌<◌, ◌≤◌, cond, List, [], ◌∷◌, ◌++◌, length, take, Bool, true, false, Option, None, Some, Result, Ok, Err, refl, sym, ap, ◌∙◌, subst, append_assoc, arith, ◌⊎◌, inl, inr}
+use Rattle.norm_order.proofs.UptoLemmas.{found_front}
+use Rattle.std.specs.Prelude.{slice_get, IsSomeAnd, map, filter, find, flat_map, ◌==◌, ◌||◌, not, nat_eq, Contains, ⊤}
+use Rattle.std.specs.List.{AllByRecursion, IsDistinct, list_any}
+use Rattle.std.proofs.lemmas.Bool.Decides.{Decides-eqb}
+use Rattle.std.proofs.lemmas.List.{append-nil, length-append, take-append-le}
+use Rattle.std.proofs.lemmas.Grind.{flat_map-append}
+use Rattle.norm_base.specs.Settings.{Settings, InRange}
+use Rattle.norm_base.specs.declared.node.Origin.{Origin}
+use Rattle.norm_ext.specs.Reading.{decoded}
+use Rattle.norm_order.specs.Entries.{Entry}
+use Rattle.norm_order.specs.declared.up.Up.{Up}
+use Rattle.norm_receive_rules.specs.ReceiverState.{ReceiverState, receiver_opening}
+use Rattle.norm_receive_rules.specs.Leaving.{is_in, has_left, left_now}
+use Rattle.norm_receive_rules.specs.Taking.{took}
+use Rattle.norm_send_rules.specs.SenderState.{SenderState}
+use Rattle.norm_safety.specs.Events.{Event, UpTaken, Answer, Took}
+use Rattle.norm_safety.specs.World.{World, receiver_at, with_receiver, given_others}
+use Rattle.norm_safety.specs.History.{Happening}
+use Rattle.norm_safety.specs.Hands.{hands, taken_in, is_at, instance_at}
+use Rattle.norm_safety.specs.InOrder.{came_to, newly, is_same, drop_of}
+use Rattle.norm_safety.specs.OnceEach.{order_of}
+use Rattle.norm_safety.proofs.EntryLemmas.{clash}
+use Rattle.norm_safety.proofs.Onward.{Onward, not_true}
+use Rattle.norm_safety.proofs.SenderHolds.{SenderHolds, OrdersHold, OrderLater, order_later}
+use Rattle.norm_safety.proofs.OnceLemmas.{OnceSoFar}
+use Rattle.norm_safety.proofs.Spoken.{IsTrueOf, SaysTrue}
+use Rattle.norm_safety.proofs.TickTrue.{true_later}
+use Rattle.norm_safety.proofs.Exact.{Exactly, exactly_later, Front, front_exactly}
+use Rattle.norm_safety.proofs.Holding.{Holding, IsPlanOf, IsSymbolOf, IsInfoOf, some_and}
+use Rattle.norm_safety.proofs.ReceiverMoves.{Standing, StandingIn, Moved, SameIds}
+
+-- hand-ups went exactly through a front of an instance's order
+pub record Through (p : Settings) (s : SenderState) (id : ℕ) (ups : List Up) : Type 0 where
+  pub count : ℕ
+  pub within : count ≤ length (order_of s id)
+  pub exactly : Exactly p (drop_of s id).index 0 (take count (order_of s id)) ups
+
+-- What holds at a node, by its receiver: where it came, in order, are the instances that it left and the one that it is in,
+-- each once; it holds what it should; and nothing was handed up in an instance in which it never was.
+pub record AtReceiver (p : Settings) (s : SenderState) (past : List Happening) (node : ℕ) (r : ReceiverState) : Type 0 where
+  pub here : r.node ≡ node
+  pub came : came_to node None past ≡ left_now r
+  pub once : IsDistinct nat_eq (left_now r)
+  pub stands : Standing p s (hands past node) r
+  pub never : (id : ℕ) → is_in r id ≡ false → has_left r id ≡ false → hands past node id ≡ []
+
+pub record AtNone (past : List Happening) (node : ℕ) : Type 0 where
+  pub came : came_to node None past ≡ []
+
+-- at a node, where it has a receiver
+abbrev pub AtNode : Settings → SenderState → List Happening → ℕ → Option ReceiverState → Type 0
+AtNode p s past node (Some r) = AtReceiver p s past node r
+AtNode p s past node None = AtNone past node
+
+-- the instance that a node was in last
+abbrev pub last_in : ℕ → Option ℕ → List Happening → Option ℕ
+last_in node was [] = was
+last_in node was (h ∷ past) = last_in node (instance_at h.after node) past
+
+-- What holds of a world, with what happened: of the sender; each datagram that was given to the network, or waits to be, says
+-- what is true; at each node; and hand-ups went through the orders.
+pub record WorldHolds (p : Settings) (past : List Happening) (accepted : List Origin) (w : World) : Type 0 where
+  pub sender : SenderHolds p w.sender
+  pub once : OnceSoFar w.sender accepted
+  pub offered : AllByRecursion (λ (o : ℕ × List ℕ). SaysTrue p w.sender o.1) w.offered
+  pub given : AllByRecursion (λ (o : ℕ × List ℕ). SaysTrue p w.sender o.1) w.given
+  pub nodes : (node : ℕ) → AtNode p w.sender past node (receiver_at w node)
+  pub through : (node id : ℕ) → Through p w.sender id (hands past node id)
+  pub latest : (node : ℕ) → last_in node None past ≡ instance_at w node
+
+-- ---- what happened, with one event more
+
+pub hands_more : (past : List Happening) (x : Happening) (node id : ℕ)
+    → hands (past ++ x ∷ []) node id ≡ hands past node id ++ elim (is_at x.before node id) [ true ↦ taken_in node x.event x.answer | false ↦ [] ]
+hands_more past x node id =
+    let of : Happening → List Up = λ h. elim (is_at h.before node id) [ true ↦ taken_in node h.event h.answer | false ↦ [] ] in
+    flat_map-append of past (x ∷ []) ∙ ap (λ (ups : List Up). hands past node id ++ ups) (append-nil (of x))
+
+pub came_more : (node : ℕ) (was : Option ℕ) (past : List Happening) (x : Happening)
+    → came_to node was (past ++ x ∷ []) ≡ came_to node was past ++ newly (last_in node was past) (instance_at x.after node)
+unfolding came_to
+came_more node was [] x = append-nil (newly was (instance_at x.after node))
+came_more node was (h ∷ past) x =
+    ap (λ (ids : List ℕ). newly was (instance_at h.after node) ++ ids) (came_more node (instance_at h.after node) past x)
+    ∙ sym (append_assoc (newly was (instance_at h.after node)) (came_to node (instance_at h.after node) past) _)
+
+pub last_more : (node : ℕ) (was : Option ℕ) (past : List Happening) (x : Happening) → last_in node was (past ++ x ∷ []) ≡ instance_at x.after node
+last_more node was [] x = refl
+last_more node was (h ∷ past) x = last_more node (instance_at h.after node) past x
+
+same_self : (n : ℕ) → (n == n) ≡ true
+same_self n = (Decides-eqb n n).1 refl
+
+-- an instance, where a node came to it now
+abbrev pub new_id : Bool → ℕ → List ℕ
+new_id same id = elim same [ true ↦ [] | false ↦ id ∷ [] ]
+
+pub newly_none : (was : Option ℕ) → newly was was ≡ []
+newly_none None = refl
+newly_none (Some id) = go (id == id) (same_self id)
+  where
+    go : (b : Bool) → b ≡ true → new_id b id ≡ []
+    go true e = refl
+    go false e = absurd (clash e)
+
+-- ---- as the orders go on
+
+take_longer : (n : ℕ) (order more : List Entry) → n ≤ length order → take n (order ++ more) ≡ take n order
+take_longer n order more le = take-append-le n order more le
+
+pub through_later : (p : Settings) (s t : SenderState) (id : ℕ) (ups : List Up) → Onward s t → Through p s id ups → Through p t id ups
+through_later p s t id ups onward h =
+    let later = order_later s t onward id in
+    let le = h.within in
+    let longer : length (order_of t id) ≡ length (order_of s id) + length later.more = ap length later.order ∙ length-append (order_of s id) later.more in
+    let E : List Entry → Type 0 = λ order. Exactly p (drop_of t id).index 0 (take h.count order) ups in
+    let F : List Entry → Type 0 = λ entries. Exactly p (drop_of t id).index 0 entries ups in
+    record {
+      count = h.count;
+      within = omega arith;
+      exactly = subst E (sym later.order) (subst F (sym (take_longer h.count (order_of s id) later.more le))
+        (exactly_later p (drop_of s id).index (drop_of t id).index 0 _ ups later.drop h.exactly));
+    }
+
+some_later : (P : Entry → Type 0) (order more : List Entry) (index : ℕ) → IsSomeAnd (slice_get order index) P → IsSomeAnd (slice_get (order ++ more) index) P
+some_later P order more index h =
+    let found = some_and P (slice_get order index) h in
+    let S : Option Entry → Type 0 = λ o. IsSomeAnd o P in
+    subst S (sym (found_front order more index found.0 found.1)) found.2
+
+all_later : {X : Type 0} (P Q : X → Type 0) (xs : List X) → ((x : X) → P x → Q x) → AllByRecursion P xs → AllByRecursion Q xs
+all_later P Q [] f all = tt
+all_later P Q (x ∷ xs) f all = (f x all.0, all_later P Q xs f all.1)
+
+holding_more : (p : Settings) (order more : List Entry) (d e : ℕ) (taken : List Up) (r : ReceiverState) → d ≤ e → Holding p order d taken r
+    → Holding p (order ++ more) e taken r
+holding_more p order more d e taken r le h =
+    let E : List Entry → Type 0 = λ entries. Exactly p e 0 entries (taken ++ r.ups) in
+    let many = length-append order more in
+    let within = h.within in
+    record {
+      plans = all_later (IsPlanOf p order) (IsPlanOf p (order ++ more)) r.plans (λ plan is. some_later _ order more plan.index is) h.plans;
+      symbols = all_later (IsSymbolOf p order) (IsSymbolOf p (order ++ more)) r.held (λ x is. some_later _ order more x.at.index is) h.symbols;
+      rising = h.rising;
+      infos = all_later (IsInfoOf order) (IsInfoOf (order ++ more)) r.infos (λ x is. some_later _ order more x.index is) h.infos;
+      block = h.block;
+      symbol = h.symbol;
+      within = omega arith;
+      gone = subst E (sym (take_longer r.point.index order more within)) (exactly_later p d e 0 _ (taken ++ r.ups) le h.gone);
+    }
+
+pub holding_later : (p : Settings) (s t : SenderState) (id : ℕ) (taken : List Up) (r : ReceiverState) → Onward s t
+    → Holding p (order_of s id) (drop_of s id).index taken r → Holding p (order_of t id) (drop_of t id).index taken r
+holding_later p s t id taken r onward h =
+    let later = order_later s t onward id in
+    let H : List Entry → Type 0 = λ order. Holding p order (drop_of t id).index taken r in
+    subst H (sym later.order) (holding_more p (order_of s id) later.more (drop_of s id).index (drop_of t id).index taken r later.drop h)
+
+standing_later : (p : Settings) (s t : SenderState) (taken : ℕ → List Up) (r : ReceiverState) → Onward s t → Standing p s taken r → Standing p t taken r
+standing_later p s t taken r onward h = go r.instance h
+  where
+    go : (instance : Option ℕ) → StandingIn p s taken r instance → StandingIn p t taken r instance
+    go None h = h
+    go (Some id) h = holding_later p s t id (taken id) r onward h
+
+-- hand-ups that are equal in each instance
+same_taken : (p : Settings) (s : SenderState) (taken other : ℕ → List Up) (r : ReceiverState) → ((id : ℕ) → other id ≡ taken id) → Standing p s taken r → Standing p s other r
+same_taken p s taken other r same h = go r.instance h
+  where
+    go : (instance : Option ℕ) → StandingIn p s taken r instance → StandingIn p s other r instance
+    go None h = h
+    go (Some id) h = let H : List Up → Type 0 = λ ups. Holding p (order_of s id) (drop_of s id).index ups r in subst H (sym (same id)) h
+
+-- ---- an event that leaves the receivers
+
+-- what happened, with one event more that took nothing and left a node where it was
+pub record NothingTaken (past : List Happening) (x : Happening) : Type 0 where
+  pub taken : (node : ℕ) → taken_in node x.event x.answer ≡ []
+
+pub hands_same : (past : List Happening) (x : Happening) (node id : ℕ) → taken_in node x.event x.answer ≡ [] → hands (past ++ x ∷ []) node id ≡ hands past node id
+hands_same past x node id none =
+    hands_more past x node id ∙ ap (λ (ups : List Up). hands past node id ++ ups) (go (is_at x.before node id)) ∙ append-nil (hands past node id)
+  where
+    taken_where : Bool → List Up
+    taken_where b = elim b [ true ↦ taken_in node x.event x.answer | false ↦ [] ]
+    go : (b : Bool) → taken_where b ≡ []
+    go true = none
+    go false = refl
+
+-- a node whose receiver stays as it was, while the orders go on
+pub node_later : (p : Settings) (s t : SenderState) (past : List Happening) (x : Happening) (node : ℕ) (found : Option ReceiverState) → Onward s t
+    → taken_in node x.event x.answer ≡ [] → last_in node None past ≡ instance_at x.after node
+    → AtNode p s past node found → AtNode p t (past ++ x ∷ []) node found
+node_later p s t past x node None onward none same h = record {
+  came = came_more node None past x ∙ ap (λ (was : Option ℕ). came_to node None past ++ newly was (instance_at x.after node)) same
+      ∙ ap (λ (ids : List ℕ). came_to node None past ++ ids) (newly_none (instance_at x.after node)) ∙ append-nil (came_to node None past) ∙ h.came;
+}
+node_later p s t past x node (Some r) onward none same h = record {
+  here = h.here;
+  came = came_more node None past x ∙ ap (λ (was : Option ℕ). came_to node None past ++ newly was (instance_at x.after node)) same
+      ∙ ap (λ (ids : List ℕ). came_to node None past ++ ids) (newly_none (instance_at x.after node)) ∙ append-nil (came_to node None past) ∙ h.came;
+  once = h.once;
+  stands = same_taken p t (hands past node) (hands (past ++ x ∷ []) node) r (λ id. hands_same past x node id none)
+      (standing_later p s t (hands past node) r onward h.stands);
+  never = λ id out left. hands_same past x node id none ∙ h.never id out left;
+}
