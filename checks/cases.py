@@ -2,8 +2,10 @@
 import cases_asked
 import cases_heard                                              # noqa: F401
 import cases_receiver                                           # noqa: F401
+import cases_room                                               # noqa: F401
 import cases_scenarios                                          # noqa: F401
 import cases_sender                                             # noqa: F401
+import cases_sending                                            # noqa: F401
 from steps import SMALL
 
 

@@ -61,6 +61,14 @@ def a_file_waits_for_its_info():
 
 
 @small
+def a_stream_waits_for_its_info():
+    """It is asked for where the stream is covered; then open and segment are handed up together."""
+    r = Run(**STREAM).hears(2, data(0, 0, 0, segment(0, 1), l=1024, flags=36, b=1, max_n=1)).take(2, [40]).tick(2, 0)
+    r.hears(2, command('Flush', 0, 0, 0)).tick(2, 0, [4, 1, 4, 0, 0, 0])
+    return r.hears(2, info(0, '(9 ∷ [])', flags=36)).take(2, [42, 0]).take(2, [43, 0, 0, 0x5a]).take(2, [40])
+
+
+@small
 def acknowledging():
     """What is asked of this node, handed up, and nothing lost; the further of two stays."""
     r = Run().hears(2, data(0, 0, 0, 'hx 1 0x41', l=1)).hears(2, data(1, 0, 0, 'hx 1 0x42', l=1)).take(2, [41, 0, 0, 0, 0x41]).take(2, [41, 1, 0, 0, 0x42])

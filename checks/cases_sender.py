@@ -1,6 +1,6 @@
 """Small runs of the sender's rules: rounds, drops, flushes, refusals."""
 from cases_asked import many_objects
-from steps import NONE, Run, command, nack, request, small
+from steps import NONE, Run, ack, command, nack, request, small
 
 
 @small
@@ -20,6 +20,14 @@ def asked_of_a_stream():
     r.tick(1, 12).wants([0, 0, 0]).hears(1, nack(2, request('Erasures', 1, (0, 0, 1))), 20).write(3, 21, [3, 0, 129, 3])
     r.job('job.Close', 21, [4, 0]).tick(1, 22).wants([0, 0, 0, 0, 0, 3])
     return r.hears(1, nack(2, request('Erasures', 1, (0, 1, 1)), request('Erasures', 1, (0, 0, 0))), 30).tick(1, 32).wants([0, 0, 0, 0, 0, 3, 0, 1, 0])
+
+
+@small
+def a_count_of_a_block_without_a_segment():
+    """It is not kept where nothing of the block was closed as it came, though something is as the round closes."""
+    r = Run(b=3, max_n=4, k=0, grtt=1, gap=1000000).job('job.Open', 0, [2, 0]).write(63, 0, [3, 0, 0, 63]).tick(1, 0)
+    r.hears(1, nack(2, request('Erasures', 1, (0, 0, 1))), 10).write(1, 10, [3, 0, 63, 1]).tick(1, 10, [2, 32, 0, 0, 0]).tick(1, 12).wants([])
+    return r.hears(1, nack(2, request('Erasures', 1, (0, 0, 1))), 20).tick(1, 22).wants([0, 0, 0])
 
 
 @small
@@ -71,6 +79,15 @@ def the_count_of_flushes_and_a_round():
     r.tick(1, 10, [31, 0, 0, 0, 2]).tick(1, 20, [31, 0, 0, 0, 2]).look('w.sender.flushes ∷ []', [2])
     r.hears(1, nack(2, request('Items', 1, (9, 0, 0))), 20).tick(1, 21).look('w.sender.flushes ∷ []', [2])
     return r.hears(1, nack(2, request('Items', 1, (0, 0, 0))), 21).tick(1, 22, [2, 3, 0, 0, 0]).look('w.sender.flushes ∷ []', [0])
+
+
+@small
+def a_request_that_is_satisfied_as_it_is_made():
+    """Every receiver is listed past its position already; the one behind it waits, and its flush is the first that counts."""
+    r = Run(receivers=2).data(1, 0, [1, 0, 1]).tick(1, 0, [2, 0, 0, 0, 0]).hears(1, ack(2, 0, 0, 0)).hears(1, ack(3, 0, 0, 0))
+    r.job('job.Mark', 0, [5, 1, 0, 0, 0]).news([21, 2, 0, 0, 0]).news([21, 3, 0, 0, 0]).news([22, 1, 1]).news([20]).tick(1, 1000)
+    r.data(1, 1000, [1, 1, 1]).job('job.Mark', 1000, [5, 2, 1, 0, 0]).tick(1, 1000, [2, 0, 1, 0, 0]).tick(1, 2000, [31, 1, 0, 0, 2, 3])
+    return r.hears(1, ack(3, 1, 0, 0)).tick(1, 22000, [31, 1, 0, 0, 2]).news([21, 3, 1, 0, 0]).news([20])
 
 
 @small

@@ -26,6 +26,8 @@ NAMES = {
                                  'nat_lt', 'nat_le', '[]', '◌∷◌', '◌++◌'],
     'Rattle.std.specs.List': ['list_any'],
     'Rattle.fec_plan.specs.Partition': ['source_symbols'],
+    'Rattle.fec_plan.specs.Points': ['point_before', 'point_of'],
+    'Rattle.norm_ext.specs.Message': ['RepairAdv'],
     'Rattle.norm_order.specs.Shapes': ['is_encoded'],
     'Rattle.norm_send_rules.specs.SenderState': ['Listing'],
     'Rattle.norm_receive_rules.specs.ReceiverState': ['Held'],
