@@ -1,6 +1,7 @@
 """Small runs of the receiver's rules: plans, symbols, hand-ups, needs."""
 from cases_heard import HEARD_PROFILE
-from steps import NONE, STREAM, Run, command, data, info, nack, request, segment, small, stream_data
+from steps import STREAM, Run, command, data, info, nack, request, segment, small, stream_data
+from terms import nums
 
 
 def receiver_look(r, row, gives):
@@ -23,6 +24,47 @@ def a_segment_of_too_many_octets():
     payload = '(0 ∷ 100 ∷ hx 70 0x0000000000005a%s)' % ('5a' * 63)
     r = Run(b=1, max_n=2).hears(2, data(0, 0, 1, payload, l=1024, flags=32, b=1, max_n=2))
     return r.take(2, [42, 0]).take(2, [43, 0, 0, *[0x5a] * 64]).take(2, [40])
+
+
+@small
+def an_object_from_parity():
+    """With two source symbols the first parity symbol is 02 times the first and 03 times the second, which is padded for it."""
+    r = Run(b=2, max_n=3).hears(2, data(0, 0, 0, 'hx 64 0x%s' % ('01' * 64), l=65, b=2, max_n=3)).take(2, [40])
+    return r.hears(2, data(0, 0, 2, 'hx 64 0x01%s' % ('02' * 63))).take(2, [41, 0, 0, 0, *[1] * 65])
+
+
+@small
+def a_segment_from_parity():
+    """The one parity symbol of a block of one segment is that segment with its padding."""
+    r = Run(b=1, max_n=2).hears(2, data(0, 0, 1, nums([0, 1, 0, 0, 0, 0, 0, 0, 0x5a] + [0] * 63), l=1024, flags=32, b=1, max_n=2))
+    return r.take(2, [42, 0]).take(2, [43, 0, 0, 0x5a]).take(2, [40])
+
+
+@small
+def hand_ups_of_one_delivery():
+    """Of the object that comes last, and of the stream behind it: its open once, its segments, its end."""
+    def make(symbol, payload):
+        return data(1, 0, symbol, payload, l=64 * 3 * 16, flags=32, b=3, max_n=3)
+    r = Run(b=3, max_n=3).hears(2, make(1, segment(64, 1))).hears(2, make(2, segment(65, 0))).hears(2, make(0, segment(0, 64))).take(2, [40])
+    r.hears(2, data(0, 0, 0, 'hx 1 0x41', l=1, b=3, max_n=3)).take(2, [41, 0, 0, 0, 0x41])
+    return r.take(2, [42, 1]).take(2, [43, 1, 0, *[0x5a] * 64]).take(2, [43, 1, 64, 0x5a]).take(2, [44, 1]).take(2, [40])
+
+
+@small
+def a_squelch_behind_whole_objects():
+    """What is whole behind a loss is handed up, and the object at the window is not lost."""
+    r = Run().hears(2, data(1, 0, 0, 'hx 1 0x41', l=1)).take(2, [40]).hears(2, command('Squelch', 2, 0, 0))
+    r.take(2, [45, 0]).take(2, [41, 1, 0, 0, 0x41]).take(2, [40])
+    return r.hears(2, data(2, 0, 0, 'hx 1 0x42', l=1)).take(2, [41, 2, 0, 0, 0x42])
+
+
+@small
+def a_sequence_goes_on_in_another_instance():
+    """The sequence number is the second pair of octets of a NACK."""
+    r, head = Run(), 'flat_map (λ (g : ℕ × List ℕ). take 4 g.1) w.given'
+    for i, instance in enumerate((7, 8)):
+        r.hears(2, data(1, 0, 0, 'hx 1 0x41', instance=instance)).tick(2, 0, [4, 1, 12, 0, 0, 0]).look(head, [0x14, 6, 0, i])
+    return r
 
 
 @small
@@ -89,6 +131,20 @@ def the_hold_off():
     """K + 2 round trips after a NACK no back-off begins; a draw is taken modulo K round trips and one."""
     r = Run().hears(2, data(1, 0, 0, 'hx 1 0x41'), 0, 40001).tick(2, 0, [4, 1, 12, 0, 0, 0]).hears(2, data(1, 0, 0, 'hx 1 0x41'), 59999, 0).tick(2, 59999)
     return r.hears(2, data(1, 0, 0, 'hx 1 0x41'), 60000, 40000).tick(2, 99999).tick(2, 100000, [4, 1, 12, 0, 0, 0])
+
+
+@small
+def a_back_off_goes_on():
+    """Further messages do not move its end."""
+    r = Run().hears(2, data(1, 0, 0, 'hx 1 0x41'), 0, 40000).hears(2, data(1, 0, 0, 'hx 1 0x41'), 1, 0).tick(2, 39999)
+    return r.tick(2, 40000, [4, 1, 12, 0, 0, 0])
+
+
+@small
+def the_greatest_flush():
+    """A flush further back changes nothing of what is covered."""
+    r = Run().hears(2, command('Flush', 2, 0, 0)).tick(2, 0, [4, 1, 12, 0, 0, 0, 1, 0, 0, 2, 0, 0])
+    return r.hears(2, command('Flush', 0, 0, 0), 60000).tick(2, 60000, [4, 1, 12, 0, 0, 0, 1, 0, 0, 2, 0, 0])
 
 
 @small

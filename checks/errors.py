@@ -1,4 +1,6 @@
 """Deliberate errors in the definitions. Each is one changed text in one file, and a run or a case has to part from it."""
+import itertools, re
+
 import cases
 import terms
 from evaluating import Failed, Variant
@@ -116,7 +118,7 @@ ERRORS = [
     ('blocks of a stream are not seen', R, 'Seeing', '[ true ↦ with_block at s.seen | false ↦ s.seen ]', '[ true ↦ s.seen | false ↦ s.seen ]'),
     ('all source symbols have to come', R, 'Plans', 'length (held_of s plan.index block)\n\n-- a block has', 'length (filter (λ (h : Held). nat_lt h.at.symbol (source_symbols (cut_of_plan plan) block)) (held_of s plan.index block))\n\n-- a block has'),
     ('a stream waits for whole blocks', R, 'BlockValue', 'true ↦ held_symbol held symbol | false ↦ None ]\n', 'true ↦ None | false ↦ None ]\n'),
-    ('a segment counts with what it says', R, 'HandingUp', 'segment_length p symbol = min (number 2 0 symbol) p.e', 'segment_length p symbol = number 2 0 symbol'),
+    ('a segment of too many octets counts with fewer', R, 'HandingUp', 'min (number 2 0 symbol) p.e', 'number 2 0 symbol % (p.e + 1)'),
     ('the padding is handed up', R, 'HandingUp', '(take (suc n) (drop 8 symbol))', '(drop 8 symbol)'),
     ('the padding of an object is handed up', R, 'HandingUp', 'object_octets s plan = take plan.fti.l (', 'object_octets s plan = take (plan.fti.l + 1) ('),
     ('the open comes with each segment', R, 'HandingUp', 'open_before at = elim (at.block == 0 && at.symbol == 0) [', 'open_before at = elim (at.block == 0) ['),
@@ -138,7 +140,6 @@ ERRORS = [
     ('a NACK to another sender is heard', R, 'Overhearing', 'm.sender == p.sender && ', ''),
     ('a NACK of another instance is heard', R, 'Overhearing', ' && is_in s m.instance) [', ') ['),
     ('the sender is not heard', R, 'Overhearing', 'true ↦ overhears m.requests s | false ↦ s ]\n', 'true ↦ s | false ↦ s ]\n'),
-    ('NACKs are heard without a back-off', R, 'Overhearing', '| None ↦ s ]\n\n-- a NACK of another', '| None ↦ record s { heard = s.heard ++ requests } ]\n\n-- a NACK of another'),
     ('what was heard is kept', R, 'BackingOff', '; heard = [] }', ' }'),
     ('the hold-off is not kept', R, 'BackingOff', 'is_none s.backoff && not (nat_lt now s.holdoff)', 'is_none s.backoff'),
     ('a back-off begins again', R, 'BackingOff', 'is_none s.backoff && not', 'not'),
@@ -199,24 +200,33 @@ ERRORS = [
 
 
 UNREAD = 'CANNOT BE READ'
+# the steps of a small run by which a definition of one kind of node is used; its sender is node 1
+STEPS = {S: r'Commanded|(Ticked|Delivered) 1 |NewsAsked|Pass ', R: r'(Ticked|Delivered|UpTaken) [2-9]\b|Pass '}
 
 
-def look(space, runs, names, at_once=6):
+def look(space, runs, names, at_once=12):
     """Of each error the cases that part from it; or, where none does, the shorter runs. NAMEs are parts of errors' words."""
     small = [('case ' + c[0], *c[1:]) for c in cases.cases()]
     short = [(n, *terms.run_case(n, r)) for n, r in sorted(runs, key=lambda x: len(x[1]['events']))[:24]]
     errors = [e for e in ERRORS if not names or any(n in e[0] for n in names)]
     missed = 0
-    for i in range(0, len(errors), at_once):
-        seen = noticed(space, errors[i:i + at_once], small)
-        unseen = [e for e in errors[i:i + at_once] if not seen[e[0]]]
+    for part in parts(errors, at_once):
+        seen = noticed(space, part, [c for c in small if re.search(STEPS.get(part[0][1], ''), c[2])])
+        unseen = [e for e in part if not seen[e[0]]]
         if unseen:
             seen.update(noticed(space, unseen, short))
-        for what, _, name, _, _ in errors[i:i + at_once]:
+        for what, _, name, _, _ in part:
             more = ' and %d more' % (len(seen[what]) - 3) if len(seen[what]) > 3 else ''
             print('| %s | `%s` | %s |' % (what, name, ', '.join(seen[what][:3]) + more or 'NOT NOTICED'), flush=True)
             missed += seen[what] in ([], [UNREAD])
     return '%d errors' % len(errors), missed
+
+
+def parts(errors, most):
+    """The errors of each crate, at most so many together."""
+    for _, group in itertools.groupby(errors, lambda e: e[1]):
+        group = list(group)
+        yield from (group[i:i + most] for i in range(0, len(group), most))
 
 
 def noticed(space, errors, everything):
