@@ -1,5 +1,6 @@
 """The cases: small runs in which a near miss of a rule shows, and the table of what a request asks for."""
 import cases_asked
+import cases_backing_off                                        # noqa: F401
 import cases_heard                                              # noqa: F401
 import cases_receiver                                           # noqa: F401
 import cases_room                                               # noqa: F401

@@ -1,6 +1,5 @@
 """Small runs of the receiver's rules: plans, symbols, hand-ups, needs."""
-from cases_heard import HEARD_PROFILE
-from steps import STREAM, Run, command, data, info, nack, request, segment, small, stream_data
+from steps import STREAM, Run, command, data, info, segment, small, stream_data
 from terms import nums
 
 
@@ -127,32 +126,10 @@ def the_longest_prefix():
 
 
 @small
-def the_hold_off():
-    """K + 2 round trips after a NACK no back-off begins; a draw is taken modulo K round trips and one."""
-    r = Run().hears(2, data(1, 0, 0, 'hx 1 0x41'), 0, 40001).tick(2, 0, [4, 1, 12, 0, 0, 0]).hears(2, data(1, 0, 0, 'hx 1 0x41'), 59999, 0).tick(2, 59999)
-    return r.hears(2, data(1, 0, 0, 'hx 1 0x41'), 60000, 40000).tick(2, 99999).tick(2, 100000, [4, 1, 12, 0, 0, 0])
-
-
-@small
-def a_back_off_goes_on():
-    """Further messages do not move its end."""
-    r = Run().hears(2, data(1, 0, 0, 'hx 1 0x41'), 0, 40000).hears(2, data(1, 0, 0, 'hx 1 0x41'), 1, 0).tick(2, 39999)
-    return r.tick(2, 40000, [4, 1, 12, 0, 0, 0])
-
-
-@small
 def the_greatest_flush():
     """A flush further back changes nothing of what is covered."""
     r = Run().hears(2, command('Flush', 2, 0, 0)).tick(2, 0, [4, 1, 12, 0, 0, 0, 1, 0, 0, 2, 0, 0])
     return r.hears(2, command('Flush', 0, 0, 0), 60000).tick(2, 60000, [4, 1, 12, 0, 0, 0, 1, 0, 0, 2, 0, 0])
-
-
-@small
-def what_was_heard_is_forgotten():
-    """With the next back-off; and what is heard while none runs does not count."""
-    r = Run(**HEARD_PROFILE).hears(2, nack(3, request('Items', 12, (0, 0, 0)))).hears(2, data(1, 0, 0, 'hx 1 0x41'))
-    r.hears(2, nack(3, request('Items', 12, (0, 0, 0)))).tick(2, 0).hears(2, data(1, 0, 0, 'hx 1 0x41'), 60000, 0)
-    return r.tick(2, 60000, [4, 1, 12, 0, 0, 0])
 
 
 @small

@@ -14,6 +14,7 @@ ERRORS = [
     ('a stream ends without a segment of its own', O, 'Segments', '(End ∷ parts) = all_pieces e since ++ [] ∷ []', '(End ∷ parts) = all_pieces e since'),
     ('an open block has parity', O, 'Shapes', 'encoding_symbols s.cut block | false ↦ closed_in s block ]', 'encoding_symbols s.cut block | false ↦ encoding_symbols s.cut block ]'),
     ('a file loses its name', S, 'Commanding', 'enqueued p s by kind.File (Some name) bytes', 'enqueued p s by kind.File None bytes'),
+    ('an instance has an id more than 16 bits', S, 'Enqueuing', 'nat_le 65536 (next_index s)', 'nat_lt 65536 (next_index s)'),
     ('one object more than the window', S, 'Room', 'nat_lt (length entries) p.window', 'nat_le (length entries) p.window'),
     ('octets of the window are not counted', S, 'Room', '&& nat_le (sum', '&& nat_le (0 * sum'),
     ('an object goes before it was sent', S, 'Room', 'all_sent s (sources_in index shape)\n    &&', ''),
@@ -36,6 +37,7 @@ ERRORS = [
     ('a restart leaves listings', S, 'Restarting', '  listings = unlisted p;\n', ''),
     ('a restart leaves the squelch', S, 'Restarting', '  squelch_due = false;\n', ''),
     ('a restart leaves requests open', S, 'Restarting', 'end_where (λ w. true)', 'end_where (λ w. false)'),
+    ('a restart goes on with the order', S, 'Restarting', 'current = begun id;', 'current = record (s.current) { id = id };'),
     ('a restart begins the sequence anew', S, 'Restarting', '  next = Info 0;\n', '  next = Info 0;\n  sequence = 0;\n'),
     ('a restart leaves the moment of the last flush', S, 'Restarting', '  last_flush = None;\n', ''),
     ('a NACK of anybody counts', S, 'Hearing', 'list_any (λ (l : Listing). l.node == source) s.listings && ', ''),
@@ -72,6 +74,7 @@ ERRORS = [
     ('19 flushes', S, 'Flushing', 'most_flushes = 20', 'most_flushes = 19'),
     ('flushes a round trip apart', S, 'Flushing', '(2 * p.grtt)', '(1 * p.grtt)'),
     ('a flush asks all', S, 'Flushing', 'flush_message p s w.at (pending s w.at)', 'flush_message p s w.at (map (λ (l : Listing). l.node) s.listings)'),
+    ('a request that ended is flushed', S, 'Flushing', 'flushed p now (open_requests s) s', 'flushed p now s.requests s'),
     ('a request expires while a round is open', S, 'Flushing', 'elim (is_some s.round) [ true', 'elim (false && is_some s.round) [ true'),
     ('after an expiry the next request waits', S, 'Flushing', 'false ↦ flushed p now requests (expired w.mark s) ]', 'false ↦ (expired w.mark s, None) ]'),
     ('the count of flushes goes on with another request', S, 'Requests', '[ true ↦ new | false ↦ record new { flushes = 0 } ]', '[ true ↦ new | false ↦ new ]'),
@@ -101,12 +104,15 @@ ERRORS = [
     ('items with SEGMENT ask for sources alone', X, 'Asking', 'form.Items ↦ where_flag r.flags segment_flag (map (named_by p) r.items)', 'form.Items ↦ []'),
     ('SEGMENT asks for no source', X, 'Asking', 'where_flag r.flags segment_flag (named_spans p r)', '[]'),
     ('BLOCK asks for nothing', X, 'Asking', '++ where_flag r.flags block_flag (map block_span (named_spans p r))', ''),
-    ('BLOCK asks for 255 symbols', X, 'Asking', 's.last.index s.last.block 255)', 's.last.index s.last.block 0)'),
+    ('BLOCK asks for a first symbol', X, 'Asking', 's.last.index s.last.block 255)', 's.last.index s.last.block 0)'),
     ('OBJECT asks for nothing', X, 'Asking', '++ where_flag r.flags object_flag (map object_span (named_spans p r))', ''),
     ('OBJECT asks for its first block', X, 'Asking', '(position s.last.index 16777215 255)', '(position s.last.index 0 255)'),
     ('INFO asks for nothing', X, 'Asking', 'has_flag r.flags info_flag && list_any', 'false && list_any'),
+    ('a range asks for its ends alone', X, 'Asking', 'form.Ranges ↦ filter is_proper (pairs (map (named_by p) r.items))', 'form.Ranges ↦ map (λ at. span at at) (map (named_by p) r.items)'),
     ('INFO of a range asks for the first alone', X, 'Asking', 'lies_in (position index 0 0) (object_span s)', 'lies_in (position index 0 0) (object_span (span s.first s.first))'),
+    ('erasures with SEGMENT ask for nothing', X, 'Asking', '(has_flag r.flags segment_flag || has_flag r.flags block_flag) [\n    | true', '(has_flag r.flags block_flag) [\n    | true'),
     ('erasures with BLOCK ask for nothing', X, 'Asking', 'has_flag r.flags segment_flag || has_flag r.flags block_flag) [\n    | true', 'has_flag r.flags segment_flag) [\n    | true'),
+    ('erasures with INFO ask for all', X, 'Asking', '  | form.Erasures ↦ []\n]\n\n-- a span widened to whole blocks', '  | form.Erasures ↦ elim (has_flag r.flags info_flag) [ true ↦ map (λ x. span (named_by p x) (named_by p x)) r.items | false ↦ [] ]\n]\n\n-- a span widened to whole blocks'),
     ('erasures with OBJECT ask for something', X, 'Asking', 'has_flag r.flags segment_flag || has_flag r.flags block_flag) [\n    | true', 'has_flag r.flags segment_flag || has_flag r.flags block_flag || has_flag r.flags object_flag) [\n    | true'),
     ('a message of anybody counts', R, 'Receiving', 'in_instance p now draw source instance received s = elim (source == p.sender) [', 'in_instance p now draw source instance received s = elim (true || source == p.sender) ['),
     ('a receiver goes back to an instance', R, 'Leaving', 'false ↦ elim (has_left s instance) [ true ↦ None |', 'false ↦ elim (has_left s instance && false) [ true ↦ None |'),
@@ -150,7 +156,8 @@ ERRORS = [
      "elim (m.head.source == p.sender) [ true ↦ elim (entered s m.head.instance) [ Some s' ↦ squelch_received p m s' | None ↦ s ] | false ↦ s ]"),
     ('a back-off without a need', R, 'BackingOff', 'elim (needs_nothing p s) [ true ↦ s |', 'elim (needs_nothing p s) [ true ↦ backs_off p now draw s |'),
     ('an acknowledgement stays due', R, 'Ticking', 'sends (ack_message p s at) (record s { due = None })', 'sends (ack_message p s at) s'),
-    ('a NACK comes before an acknowledgement', R, 'Ticking', 'ticked p s now = elim s.due [', 'ticked p s now = elim (elim s.backoff [ Some ends ↦ None | None ↦ s.due ]) ['),
+    ('a NACK comes before an acknowledgement', R, 'Ticking', 'Some at ↦ sends (ack_message p s at) (record s { due = None })', 'Some at ↦ elim s.backoff [ Some ends ↦ ends_back_off p now s | None ↦ sends (ack_message p s at) (record s { due = None }) ]'),
+    ('the back-off is not waited for', R, 'Ticking', 'elim (nat_le ends now)', 'elim (true || nat_le ends now)'),
     ('the back-off ends late', R, 'Ticking', 'elim (nat_le ends now)', 'elim (nat_lt ends now)'),
     ('a hold-off where nothing was needed', R, 'Ticking', '  | true ↦ (s, None)\n  | false ↦ asks p now', '  | true ↦ (holds_off p now s, None)\n  | false ↦ asks p now'),
     ('a hold-off of K + 1 round trips', R, 'Ticking', '((p.k + 2) * p.grtt)', '((p.k + 1) * p.grtt)'),
@@ -164,7 +171,7 @@ ERRORS = [
     ('the block of the farthest point is due', R, 'Needs', 'Some at ↦ blocks_before plan at.index at.block | None ↦ 0 ]', 'Some at ↦ blocks_before plan at.index (at.block + 1) | None ↦ 0 ]'),
     ("the flush's block is not due", R, 'Needs', 'blocks_before plan at.index (at.block + 1)', 'blocks_before plan at.index at.block'),
     ('all symbols of a block are asked for', R, 'Needs', 'count_need plan.index block (suc less)', 'count_need plan.index block (source_symbols (cut_of_plan plan) block)'),
-    ('earlier blocks of a stream are not asked for', R, 'StreamNeeds', 'counts_from s plan (stream_due s plan - first) first', 'Nil'),
+    ('earlier blocks of a stream are not asked for', R, 'StreamNeeds', 'counts_from s plan (stream_due s plan - first) first', 'counts_from s plan (0 * (stream_due s plan - first)) first'),
     ("the flush's block counts as earlier", R, 'StreamNeeds', '[ Some at ↦ at.block | None ↦ 0 ])', '[ Some at ↦ at.block + 1 | None ↦ 0 ])'),
     ('the flush position itself is not asked for', R, 'StreamNeeds', 'min (at.symbol + 1) (source_symbols', 'min at.symbol (source_symbols'),
     ('a flush symbol past the sources counts', R, 'StreamNeeds', 'min (at.symbol + 1) (source_symbols (cut_of_plan plan) at.block)', 'at.symbol + 1'),
@@ -235,11 +242,14 @@ def noticed(space, errors, everything):
 
 
 def evaluated(space, errors, everything):
-    """What is said of each error. Where one of several can't be read, each is evaluated alone."""
+    """What is said of each error. One that can't be read is left out, and said to be so."""
     try:
         return space.evaluate_variants([Variant(space, e[1:], '_v%d' % n) for n, e in enumerate(errors)], everything)
     except Failed as e:
-        if len(errors) > 1:
-            return [evaluated(space, [one], everything)[0] for one in errors]
-        print('%s: %s' % (errors[0][0], str(e)[:500]), flush=True)
-        return [{UNREAD: True}]
+        named = re.search(r'_v(\d+)\b', str(e))
+        if not named:
+            raise
+        n = int(named.group(1))
+        print('%s: %s' % (errors[n][0], str(e)[:500]), flush=True)
+        said = evaluated(space, errors[:n] + errors[n + 1:], everything) if errors[1:] else []
+        return said[:n] + [{UNREAD: True}] + said[n:]

@@ -51,7 +51,7 @@ class Variant:
             path = os.path.join(space.work, 'crates', crate + suffix, 'specs', name + '.antt')
             text = open(path, encoding='utf-8').read()
             if text.count(self.named(old)) != 1:
-                raise Failed('its text stands %d times in %s' % (text.count(old), name))
+                raise Failed('its text stands %d times in %s' % (text.count(old), path))
             text = text.replace(self.named(old), self.named(new))
             put(path, self.named(self.uses(text, new)) + text)
 
