@@ -1,5 +1,5 @@
-"""Small runs of the receiver's rules: plans, symbols, hand-ups, needs."""
-from steps import STREAM, Run, command, data, info, segment, small, stream_data
+"""Small runs of the receiver's rules: plans, symbols, hand-ups, losses, acknowledgements."""
+from steps import STREAM, Run, command, data, info, segment, small
 from terms import nums
 
 
@@ -96,6 +96,31 @@ def symbols_that_do_not_fit():
 
 
 @small
+def another_plan_than_the_known_one():
+    """A symbol with another length, or with another STREAM flag, is not put, though it would fit the plan that is known."""
+    octets = 'hx 64 0x%s' % ('41' * 64)
+    r = Run().hears(2, data(0, 0, 0, octets, l=128)).hears(2, data(0, 0, 1, octets, l=129)).hears(2, data(0, 0, 1, octets, l=128, flags=32)).take(2, [40])
+    return r.hears(2, data(0, 0, 1, octets, l=128)).take(2, [41, 0, 0, 0, *[0x41] * 128])
+
+
+@small
+def symbols_behind_the_last():
+    """Of 129 octets in blocks of 2 and 1: a third block's parity symbol, and a third symbol of a block that is done."""
+    octets = 'hx 64 0x%s' % ('41' * 64)
+    r = Run(b=2, max_n=4).hears(2, data(0, 0, 0, octets, l=129, b=2, max_n=4)).hears(2, data(0, 2, 1, octets)).hears(2, data(0, 0, 1, octets))
+    return receiver_look(r.hears(2, data(0, 0, 2, octets)), 'flat_map (λ (h : Held). at_numbers h.at) r.held', [0, 0, 0, 0, 0, 1])
+
+
+@small
+def infos_that_do_not_fit():
+    """Of an object whose flags have no INFO, or of more than e octets."""
+    octets, infos = 'hx 64 0x%s' % ('41' * 64), 'map (λ (h : HeldInfo). h.index) r.infos'
+    r = Run().hears(2, data(0, 0, 0, octets, l=128)).hears(2, info(0, '(1 ∷ [])')).hears(2, data(1, 0, 0, octets, l=128, flags=4))
+    receiver_look(r.hears(2, info(1, 'hx 65 0x%s' % ('42' * 65))), infos, [])
+    return receiver_look(r.hears(2, info(1, 'hx 64 0x%s' % ('42' * 64))), infos, [1])
+
+
+@small
 def a_file_waits_for_its_info():
     r = Run().hears(2, data(0, 0, 0, 'hx 1 0x41', l=1, flags=20)).take(2, [40]).hears(2, command('Flush', 0, 0, 0, nodes=[2]))
     return r.tick(2, 0, [4, 1, 4, 0, 0, 0]).hears(2, info(0, '(1 ∷ 2 ∷ [])', l=1, flags=20)).take(2, [41, 0, 1, 1, 2, 1, 2, 0x41])
@@ -116,56 +141,3 @@ def acknowledging():
     r.hears(2, command('Flush', 0, 0, 0, nodes=[3])).tick(2, 0).hears(2, command('Flush', 1, 0, 0, nodes=[3, 2])).hears(2, command('Flush', 0, 0, 0, nodes=[2]))
     r.tick(2, 0, [5, 1, 0, 0]).tick(2, 0).hears(2, command('Flush', 2, 0, 0, nodes=[2])).tick(2, 100000, [4, 1, 12, 2, 0, 0])
     return r.hears(2, command('Squelch', 3, 0, 0)).take(2, [45, 2]).hears(2, command('Flush', 1, 0, 0, nodes=[2])).tick(2, 100000)
-
-
-@small
-def the_longest_prefix():
-    """Of nine needs of eight octets behind a head of four, seven fit 64 octets."""
-    r = Run().hears(2, data(9, 0, 0, 'hx 1 0x41'), 0, 5)
-    return r.tick(2, 4).tick(2, 5, [4, 1, 12, *[n for i in range(7) for n in (i, 0, 0)]]).hears(2, data(9, 0, 0, 'hx 1 0x41'), 60004).tick(2, 70000)
-
-
-@small
-def the_greatest_flush():
-    """A flush further back changes nothing of what is covered."""
-    r = Run().hears(2, command('Flush', 2, 0, 0)).tick(2, 0, [4, 1, 12, 0, 0, 0, 1, 0, 0, 2, 0, 0])
-    return r.hears(2, command('Flush', 0, 0, 0), 60000).tick(2, 60000, [4, 1, 12, 0, 0, 0, 1, 0, 0, 2, 0, 0])
-
-
-@small
-def needs_of_objects():
-    """Blocks before the farthest point, or at most at the flush's."""
-    r = Run(b=2, max_n=3).hears(2, data(0, 1, 0, 'hx 64 0x%s' % ('41' * 64), l=320, b=2, max_n=3))
-    r.tick(2, 0, [4, 3, 1, 0, 0, 2]).hears(2, command('Flush', 0, 1, 1), 60000, 0).tick(2, 60000, [4, 3, 1, 0, 0, 2, 0, 1, 1])
-    return r.hears(2, data(1, 0, 0, 'hx 1 0x41'), 120000, 0).tick(2, 120000, [4, 3, 1, 0, 0, 2, 0, 1, 1, 0, 2, 1])
-
-
-@small
-def needs_of_a_stream():
-    """Earlier blocks by count, the flush's and the end's block by symbols, and the rest where the end is not held."""
-    def make(block, symbol, payload):
-        return data(0, block, symbol, payload, l=2048, flags=32, b=3, max_n=4)
-    r = Run(b=3, max_n=4).hears(2, make(1, 2, segment(64 * 5, 64)), 0, 0).tick(2, 0, [4, 3, 1, 0, 0, 3])
-    r.hears(2, command('Flush', 0, 1, 1), 60000, 0).tick(2, 60000, [4, 3, 1, 0, 0, 3, 1, 1, 0, 1, 0, 0, 1, 1])
-    r.hears(2, command('Flush', 0, 1, 3), 120000, 0).tick(2, 120000, [4, 3, 1, 0, 0, 3, 1, 1, 0, 1, 0, 0, 1, 1])
-    r.hears(2, data(1, 0, 0, 'hx 1 0x41'), 180000, 0).tick(2, 180000, [4, 3, 1, 0, 0, 3, 1, 1, 0, 1, 0, 0, 1, 1, 2, 2, 0, 1, 0, 0, 16777215, 0])
-    r.hears(2, make(3, 2, segment(0, 0)), 240000, 0)
-    r.tick(2, 240000, [4, 3, 1, 0, 0, 3, 0, 1, 2, 0, 2, 3, 1, 1, 0, 1, 0, 0, 1, 1, 0, 3, 0, 0, 3, 1])
-    return r
-
-
-@small
-def the_end_of_a_stream():
-    """In the block of a held end each symbol before it is missing; a symbol stands once."""
-    def make(block, symbol, payload):
-        return data(0, block, symbol, payload, l=2048, flags=32, b=4, max_n=4)
-    r = Run(b=4, max_n=4).hears(2, make(0, 3, segment(0, 0)), 0, 0).tick(2, 0).hears(2, command('Flush', 0, 0, 1), 0, 0)
-    r.tick(2, 0, [4, 1, 1, 0, 0, 0, 0, 0, 1, 0, 0, 2]).hears(2, make(0, 0, segment(0, 64)), 60000, 0)
-    return r.tick(2, 60000, [4, 1, 1, 0, 0, 1, 0, 0, 2])
-
-
-@small
-def the_block_behind_a_whole_one():
-    """From a whole greatest block on the rest begins behind it."""
-    r = Run(**STREAM).hears(2, stream_data(0, 0, 64)).take(2, [42, 0]).take(2, [43, 0, 0, *[0x5a] * 64])
-    return r.hears(2, data(1, 0, 0, 'hx 1 0x41'), 0, 0).tick(2, 0, [4, 2, 2, 0, 1, 0, 0, 16777215, 0])

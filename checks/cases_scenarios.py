@@ -1,5 +1,5 @@
 """Scenarios in which a near miss of a rule shows. What each lists was computed from the rules by hand."""
-from steps import NONE, NOTHING, STREAM, Run, ack, command, data, nack, request, small, stream_data
+from steps import NOTHING, STREAM, Run, ack, command, data, nack, request, small, stream_data
 
 
 def three_objects(r, size=64):

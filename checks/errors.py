@@ -202,6 +202,7 @@ ERRORS = [
     ('any block is kept', R, 'Putting', 'nat_le (blocks (cut_of_plan plan)) at.block ||', ''),
     ('a block that is done takes more', R, 'Putting', 'holds s at || is_done s plan at.block', 'holds s at'),
     ('an info that an object has not is kept', R, 'Putting', 'nat_lt p.e (length info) || not (says_info plan.flags)', 'nat_lt p.e (length info)'),
+    ('an info of any length is kept', R, 'Putting', 'nat_lt p.e (length info) || not', 'not'),
     ('any symbol id is kept', R, 'Putting', '|| nat_le (encoding_symbols (cut_of_plan plan) at.block) at.symbol', ''),
 ]
 
