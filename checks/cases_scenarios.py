@@ -132,8 +132,8 @@ def an_acknowledgement_of_what_was_dropped():
 
 @small
 def acknowledged_positions():
-    """Source means the block's own k: an object of 257 octets has blocks of 3 and 2."""
-    r = Run().data(257, 0, [1, 0, 257])
+    """Of a flush alone; and source means the block's own k: an object of 257 octets has blocks of 3 and 2."""
+    r = Run().data(257, 0, [1, 0, 257]).hears(1, ack(2, 0, 1, 1).replace('ack_type = 2', 'ack_type = 1')).news([20])
     for at, news in [((0, 0, 3), [20]), ((0, 1, 2), [20]), ((0, 2, 0), [20]), ((1, 0, 0), [20]), ((0, 1, 1), [21, 2, 0, 1, 1]), ((0, 1, 0), [20])]:
         r.hears(1, ack(2, *at)).news(news)
     return r.hears(1, ack(3, 0, 1, 1)).hears(1, ack(2, 0, 1, 1, instance=8)).news([20])
