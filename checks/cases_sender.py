@@ -155,6 +155,26 @@ def a_restart_forgets_what_was_sent():
 
 
 @small
+def when_a_sender_is_idle():
+    """Where no squelch, want, new symbol or open round is there; an open request leaves it idle."""
+    def idle(r, gives):
+        return r.look('elim (is_idle PROFILE w.sender) [ true ↦ 1 ∷ [] | false ↦ 0 ∷ [] ]', [gives])
+    r = idle(idle(Run(mode='drop', window=1, k=0, grtt=1), 1).data(1, 0, [1, 0, 1]), 0).tick(1, 0, [2, 0, 0, 0, 0])
+    idle(idle(idle(r, 1).hears(1, nack(2, request('Items', 1, (0, 0, 0))), 10), 0).tick(1, 12), 0)
+    idle(idle(r.data(1, 20, [1, 1, 1]), 0).tick(1, 1000, [33, 1, 0, 0]), 0)
+    idle(idle(r.tick(1, 2000, [2, 0, 1, 0, 0]), 1).job('job.Mark', 2000, [5, 1, 1, 0, 0]), 1)
+    r.hears(1, nack(2, request('Items', 1, (0, 0, 0)), request('Items', 1, (9, 0, 0))), 2000)
+    return idle(idle(r.tick(1, 2001), 0).tick(1, 3000, [33, 1, 0, 0]), 1)
+
+
+@small
+def listings_that_rise():
+    """Each is told once with its latest position, in order of node."""
+    r = Run(receivers=2).data(257, 0, [1, 0, 257]).hears(1, ack(3, 0, 0, 0)).hears(1, ack(2, 0, 0, 1)).hears(1, ack(3, 0, 1, 1)).hears(1, ack(3, 0, 0, 2))
+    return r.news([21, 2, 0, 0, 1]).news([21, 3, 0, 1, 1]).news([20])
+
+
+@small
 def which_messages_a_sender_hears():
     """A listed receiver's, to this sender and its current instance."""
     look = 'shown_option (λ (r : Round). r.closes ∷ []) w.sender.round'

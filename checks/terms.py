@@ -26,6 +26,7 @@ use Rattle.norm_order.specs.declared.up.Up.{Up}
 use Rattle.norm_order.specs.declared.up.Up.TheVariants as up
 use Rattle.norm_send_rules.specs.SenderState.{SenderState, Round, Listing, Watermark}
 use Rattle.norm_send_rules.specs.Requests.{outcome_of}
+use Rattle.norm_send_rules.specs.Ticking.{is_idle}
 use Rattle.norm_send_rules.specs.declared.job.Job.{Job}
 use Rattle.norm_send_rules.specs.declared.job.Job.TheVariants as job
 use Rattle.norm_send_rules.specs.declared.job.Receipt.{Receipt}
