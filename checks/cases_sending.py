@@ -54,6 +54,15 @@ def parity_of_a_stream():
 
 
 @small
+def a_stream_from_end_to_end():
+    """What was written is handed up, each segment at its offset: one of an octet that a mark cut, a full one, and the end."""
+    r = Run(b=2, max_n=2).job('job.Open', 0, [2, 0]).write(1, 0, [3, 0, 0, 1]).job('job.Mark', 0, [5, 1, 0, 0, 0]).write(64, 0, [3, 0, 1, 64])
+    r.tick(1, 0, [2, 32, 0, 0, 0]).passes(1, 2).take(2, [42, 0]).take(2, [43, 0, 0, 0x5a])
+    r.tick(1, 1000, [2, 32, 0, 0, 1]).passes(1, 2).take(2, [43, 0, 1, *[0x5a] * 64]).job('job.Close', 1000, [4, 0])
+    return r.tick(1, 2000, [2, 32, 0, 1, 0]).passes(1, 2).take(2, [44, 0]).take(2, [40])
+
+
+@small
 def the_last_moment():
     """A sum of moments that passes 64 bits is the last one."""
     last = 18446744073709551615
