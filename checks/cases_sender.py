@@ -144,15 +144,23 @@ def a_restart_ends_repairs():
 
 @small
 def a_restart_forgets_what_was_sent():
-    """An object of the new instance goes once its symbol and its info were sent there; a listing of the old one is not told."""
+    """An object of the new instance goes once its symbol and its info were sent there. A listing of the old one is not told, and satisfies nothing."""
     def enqueues(r, now, gives):
         return r.data(1, now, gives, info='(Some (9 ∷ []))')
     r = enqueues(Run(mode='drop', window=1, k=0, grtt=1, gap=1), 0, [1, 0, 1]).tick(1, 0, [1, 4, 0]).tick(1, 1, [2, 4, 0, 0, 0])
     r.hears(1, ack(2, 0, 0, 0)).job('job.Mark', 1, [5, 1, 0, 0, 0]).job('(job.Restart 8)', 2, [6, 8]).news([22, 1, 1]).news([20])
-    enqueues(r, 2, [1, 0, 1]).hears(1, nack(2, request('Items', 1, (0, 0, 0)), instance=8), 2)
+    enqueues(r, 2, [1, 0, 1]).job('job.Mark', 2, [5, 2, 0, 0, 0]).news([20]).hears(1, nack(2, request('Items', 1, (0, 0, 0)), instance=8), 2)
     enqueues(r.tick(1, 3, [2, 7, 0, 0, 0]), 3, [7, 9, 0]).tick(1, 4, [1, 4, 0])
     enqueues(r.job('(job.Restart 9)', 4, [6, 9]), 4, [1, 0, 1]).tick(1, 5, [1, 4, 0])
     return enqueues(enqueues(r, 5, [7, 9, 0]).tick(1, 6, [2, 4, 0, 0, 0]), 6, [1, 1, 1])
+
+
+@small
+def the_first_flush_after_a_restart():
+    """It waits for no flush of the instance before."""
+    r = Run().data(1, 0, [1, 0, 1]).tick(1, 0, [2, 0, 0, 0, 0]).job('job.Mark', 0, [5, 1, 0, 0, 0]).tick(1, 1000, [31, 0, 0, 0, 2])
+    r.job('(job.Restart 8)', 1000, [6, 8]).data(1, 1000, [1, 0, 1]).tick(1, 2000, [2, 0, 0, 0, 0]).job('job.Mark', 2000, [5, 2, 0, 0, 0])
+    return r.tick(1, 3000, [31, 0, 0, 0, 2])
 
 
 @small

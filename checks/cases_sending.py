@@ -54,6 +54,13 @@ def parity_of_a_stream():
 
 
 @small
+def a_file_from_end_to_end():
+    """Its info is its name."""
+    r = Run().job('(job.File (97 ∷ []) (65 ∷ []))', 0, [1, 0, 1]).tick(1, 0, [1, 20, 0]).passes(1, 2).take(2, [40])
+    return r.tick(1, 1000, [2, 20, 0, 0, 0]).passes(1, 2).take(2, [41, 0, 1, 1, 1, 97, 65])
+
+
+@small
 def a_stream_from_end_to_end():
     """What was written is handed up, each segment at its offset: one of an octet that a mark cut, a full one, and the end."""
     r = Run(b=2, max_n=2).job('job.Open', 0, [2, 0]).write(1, 0, [3, 0, 0, 1]).job('job.Mark', 0, [5, 1, 0, 0, 0]).write(64, 0, [3, 0, 1, 64])
