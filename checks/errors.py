@@ -13,7 +13,7 @@ ERRORS = [
     ('a cut closes nothing', O, 'Segments', '(Cut ∷ parts) = all_pieces e since ++ closed_from e [] parts', '(Cut ∷ parts) = closed_from e since parts'),
     ('the end closes nothing', O, 'Segments', '(End ∷ parts) = all_pieces e since ++', '(End ∷ parts) = full_pieces e since ++'),
     ('a stream ends without a segment of its own', O, 'Segments', '(End ∷ parts) = all_pieces e since ++ [] ∷ []', '(End ∷ parts) = all_pieces e since'),
-    ('offsets count segments', O, 'Segments', 'placed (offset + length octets) more', 'placed (offset + 1) more'),
+    ('a segment that was cut counts as a full one', O, 'Segments', 'placed (offset + length octets) more', 'placed (offset + 64) more'),
     ('a segment says no offset', O, 'Symbols', 'to_be_bytes w32 s.offset', 'to_be_bytes w32 0'),
     ('an open block has parity', O, 'Shapes', 'encoding_symbols s.cut block | false ↦ closed_in s block ]', 'encoding_symbols s.cut block | false ↦ encoding_symbols s.cut block ]'),
     # enqueuing, and room in the window
