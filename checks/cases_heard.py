@@ -45,6 +45,8 @@ heard_by('heard the rest of a stream', OPEN_END, [request('Ranges', 2, (0, 2, 0)
 heard_by('heard more than the rest', OPEN_END, [request('Ranges', 2, (0, 0, 0), (0, 3, 0), (0, 4, 0), (0, 16777215, 0))], True)
 heard_by('heard less than the rest', OPEN_END, [request('Ranges', 2, (0, 3, 0), (0, 16777215, 0))], False)
 heard_by('heard the rest but the last block', OPEN_END, [request('Ranges', 2, (0, 2, 0), (0, 16777214, 0))], False)
+heard_by('heard what fits', [data(9, 0, 0, 'hx 1 0x41')], [request('Ranges', 12, (0, 0, 0), (6, 0, 0))], True)           # seven needs of nine
+heard_by('heard less than what fits', [data(9, 0, 0, 'hx 1 0x41')], [request('Ranges', 12, (0, 0, 0), (5, 0, 0))], False)
 heard_by('heard nothing', UNKNOWN, [], False)
 heard_by('heard the own NACK', UNKNOWN, [nack(2, request('Items', 12, (0, 0, 0)))], False)
 heard_by('heard a NACK of another instance', UNKNOWN, [nack(3, request('Items', 12, (0, 0, 0)), instance=8)], False)

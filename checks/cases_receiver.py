@@ -104,6 +104,21 @@ def another_plan_than_the_known_one():
 
 
 @small
+def the_room_of_a_stream():
+    """Whatever length it says, it takes its buffer of 512 octets, for which there is no room beside an object that waits."""
+    r = Run(octets=512, blocks=2).hears(2, data(1, 0, 0, 'hx 1 0x41', l=1)).hears(2, data(0, 0, 0, segment(0, 1), l=1, flags=32))
+    return receiver_look(r, 'map (λ (x : Plan). x.index) r.plans', [1])
+
+
+@small
+def the_length_of_a_stream():
+    """It is not looked at: another one is the same plan, and the stream has room for its buffer."""
+    r = Run(octets=513, blocks=2).hears(2, data(1, 0, 0, 'hx 1 0x41', l=1)).hears(2, data(0, 0, 0, segment(0, 1), l=1, flags=32))
+    r.hears(2, data(0, 0, 1, segment(1, 1), l=600, flags=32)).take(2, [42, 0]).take(2, [43, 0, 0, 0x5a]).take(2, [43, 0, 1, 0x5a])
+    return receiver_look(r, 'map (λ (x : Plan). x.index) r.plans', [0, 1])
+
+
+@small
 def symbols_behind_the_last():
     """Of 129 octets in blocks of 2 and 1: a third block's parity symbol, and a third symbol of a block that is done."""
     octets = 'hx 64 0x%s' % ('41' * 64)

@@ -19,6 +19,21 @@ def a_block_waits_for_the_entries_before_the_stream():
 
 
 @small
+def a_stream_takes_its_buffer():
+    """A stream of 2 blocks of 4 segments of 64 octets takes 512, open or closed: nothing has room beside it."""
+    r = Run(mode='drop', octets=512, blocks=2).data(1, 0, [1, 0, 1]).job('job.Open', 0, [7, 9, 0]).tick(1, 0, [2, 0, 0, 0, 0])
+    r.job('job.Open', 1000, [2, 1]).drop([1, 0]).job('job.Close', 1000, [4, 1]).data(1, 1000, [7, 9, 1]).tick(1, 1000, [2, 32, 1, 0, 0])
+    return r.data(1, 2000, [1, 2, 1]).drop([2, 0])
+
+
+@small
+def the_first_refusal_counts():
+    """While a stream is open: no octets, too many, an info of too many, and then the stream."""
+    r, info = Run(octets=4096).job('job.Open', 0, [2, 0]), '(Some (hx 65 0x%s))' % ('00' * 65)
+    return r.job('(job.Data %s [])' % info, 0, [7, 1]).data(4097, 0, [7, 2, 4097], info).data(1, 0, [7, 3, 65], info).data(1, 0, [7, 4, 0])
+
+
+@small
 def a_block_that_was_not_sent():
     """One octet more needs the room of block 0."""
     r = two_segments(0, mode='drop').write(1, 0, [7, 8, 0]).drop([0, 0]).tick(1, 0, [2, 32, 0, 0, 0])

@@ -19,6 +19,9 @@ ERRORS = [
     # enqueuing, and room in the window
     ('a file loses its name', S, 'Commanding', 'enqueued p s by kind.File (Some name) bytes', 'enqueued p s by kind.File None bytes'),
     ('an instance has an id more than 16 bits', S, 'Enqueuing', 'nat_le 65536 (next_index s)', 'nat_lt 65536 (next_index s)'),
+    ('a stream is open before an info is too big', S, 'Enqueuing', '(nat_lt p.e (info_length info), InfoTooBig (info_length info))\n    ∷ (is_some (open_stream s), StreamOpen (last_index s))', '(is_some (open_stream s), StreamOpen (last_index s))\n    ∷ (nat_lt p.e (info_length info), InfoTooBig (info_length info))'),
+    ('an info is too big before the octets are too many', S, 'Enqueuing', '(nat_lt p.octets (length octets), TooBig (length octets))\n    ∷ (nat_lt p.e (info_length info), InfoTooBig (info_length info))', '(nat_lt p.e (info_length info), InfoTooBig (info_length info))\n    ∷ (nat_lt p.octets (length octets), TooBig (length octets))'),
+    ('a stream takes the octets that it has', S, 'Room', 'size_of p (Stream parts) = p.blocks * p.b * p.e', 'size_of p (Stream parts) = length (written parts)'),
     ('one object more than the window', S, 'Room', 'nat_lt (length entries) p.window', 'nat_le (length entries) p.window'),
     ('octets of the window are not counted', S, 'Room', '&& nat_le (sum', '&& nat_le (0 * sum'),
     ('an object goes before it was sent', S, 'Room', 'all_sent s (sources_in index shape)\n    &&', ''),
@@ -190,6 +193,7 @@ ERRORS = [
     ('a hold-off where nothing was needed', R, 'Ticking', '  | true ↦ (s, None)\n  | false ↦ asks p now', '  | true ↦ (holds_off p now s, None)\n  | false ↦ asks p now'),
     ('a hold-off of K + 1 round trips', R, 'Ticking', '((p.k + 2) * p.grtt)', '((p.k + 1) * p.grtt)'),
     ('what was heard is asked for again', R, 'Ticking', 'elim (list_all (is_heard p s) wanted) [', 'elim (false && list_all (is_heard p s) wanted) ['),
+    ('what does not fit has to be heard too', R, 'Ticking', 'elim (list_all (is_heard p s) wanted) [', 'elim (list_all (is_heard p s) (all_of (needs p s))) ['),
     ('no hold-off after a NACK', R, 'Ticking', 'sends (nack_message p s wanted) (holds_off p now s)', 'sends (nack_message p s wanted) s'),
     ('no hold-off where all was heard', R, 'Ticking', 'true ↦ (holds_off p now s, None)', 'true ↦ (s, None)'),
     # needs of data and files
@@ -225,6 +229,8 @@ ERRORS = [
     # plans, symbols and infos that are kept
     ('257 objects ahead', R, 'Fitting', 'most_ahead = 256', 'most_ahead = 257'),
     ('the lengths of objects are not added', R, 'Fitting', 'room_taken p s + room_of p f flags', 'room_of p f flags'),
+    ('a stream takes the length that it says', R, 'Fitting', 'true ↦ p.blocks * p.b * p.e', 'true ↦ f.l'),
+    ('the length of a stream is looked at', R, 'Fitting', '(says_stream flags || f.l == plan.fti.l)', 'f.l == plan.fti.l'),
     ('another plan is taken', R, 'Fitting', '|| is_some (plan_of s index)\n', ''),
     ('a plan of another profile is taken', R, 'Fitting', '|| not (f.e == p.e && f.b == p.b && f.max_n == p.max_n)', ''),
     ('a changed STREAM flag is not seen', R, 'Fitting', ' && beq (says_stream flags) (says_stream plan.flags)', ''),

@@ -32,6 +32,8 @@ NAMES = {
     'Rattle.norm_send_rules.specs.SenderState': ['Listing'],
     'Rattle.norm_send_rules.specs.Requests': ['open_requests'],
     'Rattle.norm_receive_rules.specs.ReceiverState': ['Held'],
+    'Rattle.norm_receive_rules.specs.Lazy': ['all_of'],
+    'Rattle.norm_order.specs.Segments': ['written'],
 }
 
 
