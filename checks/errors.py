@@ -285,10 +285,10 @@ def evaluated(space, errors, everything):
     try:
         return space.evaluate_variants([Variant(space, e[1:], '_v%d' % n) for n, e in enumerate(errors)], everything)
     except Failed as e:
-        named = re.search(r'_v(\d+)\b', str(e))
+        named = re.search(r'/crates/\w+_v(\d+)/|/proofs/Shared(\d+)\.', str(e))
         if not named:
             raise
-        n = int(named.group(1))
+        n = int(named.group(1) or named.group(2))
         print('%s: %s' % (errors[n][0], str(e)[:500]), flush=True)
         said = evaluated(space, errors[:n] + errors[n + 1:], everything) if errors[1:] else []
         return said[:n] + [{UNREAD: True}] + said[n:]
