@@ -71,3 +71,20 @@ def a_block_that_is_done_by_parity():
     r = Run(b=2, max_n=3).hears(2, make(1, segment(64, 64))).hears(2, make(2, nums([0, 64, 0, 0, 0, 0, 0, 0xc0] + [0x5a] * 64)))
     r.take(2, [42, 0]).take(2, [43, 0, 0, *[0x5a] * 64]).take(2, [43, 0, 64, *[0x5a] * 64])
     return r.hears(2, command('Flush', 0, 0, 1)).tick(2, 0)
+
+
+@small
+def the_info_before_the_symbols():
+    r = Run(b=2, max_n=3).hears(2, data(0, 0, 0, 'hx 64 0x%s' % ('41' * 64), l=192, flags=4, b=2, max_n=3)).hears(2, command('Flush', 0, 1, 0))
+    return r.tick(2, 0, [4, 1, 4, 0, 0, 0, 3, 1, 0, 0, 1, 0, 1, 1])
+
+
+@small
+def the_last_block_of_a_stream():
+    """Behind the last block that 24 bits name nothing is asked for; the block itself is, where it is not whole."""
+    r = Run(**STREAM).hears(2, stream_data(0, 0, 64)).hears(2, data(1, 0, 0, 'hx 1 0x41'))
+    for held, point, gives in [('(record { at = position 0 16777215 0; octets = [] } ∷ [])', 16777216, []),
+                               ('[]', 16777215, [4, 2, 2, 0, 16777215, 0, 0, 16777215, 0])]:
+        state = 'record r { seen = point 0 16777215 ∷ []; held = %s; point = position 0 %d 0 }' % (held, point)
+        r.look('brief (world_step PROFILE (record w { receivers = map (λ (r : ReceiverState). %s) w.receivers }) (Ticked 2 0)).1' % state, gives)
+    return r

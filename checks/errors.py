@@ -161,6 +161,7 @@ ERRORS = [
     ('one hand-up a delivery', R, 'HandingUp', 'handed_up p s = hands_most (length s.held) p s', 'handed_up p s = hands_most 1 p s'),
     # a squelch and a flush
     ('what is whole is lost too', R, 'Losing', "    let s' = handed_up p s in\n    elim", "    let s' = s in\n    elim"),
+    ('what is there behind the last loss waits', R, 'Losing', 'loses_before zero p index s = handed_up p s', 'loses_before zero p index s = s'),
     ('the object at the window is lost', R, 'Losing', "elim (nat_lt s'.point.index index)", "elim (nat_le s'.point.index index)"),
     ('a loss is not reported', R, 'Losing', 'record (handed (up.Lost index ∷ [])', 'record (handed []'),
     ('a stream is never cut off', R, 'Losing', 'Some plan ↦ says_stream plan.flags &&', 'Some plan ↦ false &&'),
@@ -215,9 +216,12 @@ ERRORS = [
     ('the rest is asked for from the whole block on', R, 'StreamNeeds', 'elim (is_done s plan block) [ true ↦ block + 1 | false ↦ block ]', 'elim (is_done s plan block) [ true ↦ block | false ↦ block ]'),
     ('the rest is asked for behind the greatest block', R, 'StreamNeeds', 'elim (is_done s plan block) [ true ↦ block + 1 | false ↦ block ]', 'elim (is_done s plan block) [ true ↦ block + 1 | false ↦ block + 1 ]'),
     ('the rest is asked for though the end is held', R, 'StreamNeeds', 'elim (is_none end && ', 'elim ('),
+    ('the rest behind the last block is asked for', R, 'StreamNeeds', '&& nat_le (open_block s plan) last_block', ''),
     ('the rest is asked for by a flush of the stream', R, 'StreamNeeds', 'Some at ↦ nat_lt index at.index | None ↦ false ]', 'Some at ↦ nat_le index at.index | None ↦ false ]'),
     # the NACK, and what need not be asked for again
     ('objects behind the hand-up point are not asked for', R, 'AllNeeds', 'needs_from (last_known s - s.point.index) p s', 'needs_from 1 p s'),
+    ('symbols are asked for before the info', R, 'AllNeeds', 'followed_by (lazily (info_needs s plan)) (λ u.\n    elim (says_stream plan.flags) [ true ↦ stream_needs p s plan | false ↦ object_needs s plan ])',
+     'followed_by (elim (says_stream plan.flags) [ true ↦ stream_needs p s plan | false ↦ object_needs s plan ]) (λ u. lazily (info_needs s plan))'),
     ('a NACK of one need', R, 'Nack', 'need ∷ fitting (rest tt) (Some need) (room - size_behind before need)', 'need ∷ []'),
     ('the head of a request is not counted', R, 'Nack', 'size_behind None need = 4 + items_size need', 'size_behind None need = items_size need'),
     ('needs do not share a request', R, 'Nack', 'true ↦ record r { items = items_of_need p need ++ r.items } ∷ requests', 'true ↦ record { form = need.form; flags = need.flags; items = items_of_need p need } ∷ r ∷ requests'),
