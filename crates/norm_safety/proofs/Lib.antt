@@ -1,1 +1,5 @@
+pub mod FrontLemmas
+pub mod DistinctLemmas
+pub mod OrderLemmas
+pub mod RunLemmas
 pub mod TestLemmas

@@ -2,7 +2,7 @@
 
 ghost use Rattle.norm_safety.specs.Laws.{TestLaws};
 
-/// The tests of the first and the fourth part of safety give true exactly where that part holds.
+/// The test of each part of safety gives true exactly where that part holds, and so the test of all four.
 #[tactic(auto, using(crate::proofs::TestLemmas::test_laws))]
 pub fn tests()
     ensures { TestLaws }
