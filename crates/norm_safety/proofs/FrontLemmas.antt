@@ -28,14 +28,14 @@ same_number a b e = (Decides-eqb a b).0 e
 itself : (a : ℕ) → (a == a) ≡ true
 itself a = (Decides-eqb a a).1 refl
 
-same_list : (xs ys : List ℕ) → pointwise nat_eq xs ys ≡ true → xs ≡ ys
+pub same_list : (xs ys : List ℕ) → pointwise nat_eq xs ys ≡ true → xs ≡ ys
 same_list [] [] e = refl
 same_list [] (y ∷ ys) e = absurd (clash e)
 same_list (x ∷ xs) [] e = absurd (clash e)
 same_list (x ∷ xs) (y ∷ ys) e =
     let two = both (x == y) (pointwise nat_eq xs ys) e in ap (λ a. a ∷ xs) (same_number x y two.0) ∙ ap (λ rest. y ∷ rest) (same_list xs ys two.1)
 
-list_itself : (xs : List ℕ) → pointwise nat_eq xs xs ≡ true
+pub list_itself : (xs : List ℕ) → pointwise nat_eq xs xs ≡ true
 list_itself [] = refl
 list_itself (x ∷ xs) = of_both (x == x) (pointwise nat_eq xs xs) (itself x) (list_itself xs)
 

@@ -2,4 +2,5 @@ pub mod FrontLemmas
 pub mod DistinctLemmas
 pub mod OrderLemmas
 pub mod RunLemmas
+pub mod LawfulLemmas
 pub mod TestLemmas

@@ -18,6 +18,7 @@ use Rattle.norm_safety.specs.SatisfiedExactly.{SatisfiedExactly, is_satisfied_ex
 use Rattle.norm_safety.specs.Laws.{TestLaws}
 use Rattle.norm_safety.proofs.FrontLemmas.{front_decides}
 use Rattle.norm_safety.proofs.DistinctLemmas.{each_decides, distinct_decides}
+use Rattle.norm_safety.proofs.LawfulLemmas.{lawful_decides}
 use Rattle.norm_safety.proofs.RunLemmas.{order_decides}
 
 clash : false ≡ true → ⊥
@@ -81,4 +82,5 @@ test_laws = record {
   listed = listed_decides;
   satisfied = satisfied_decides;
   safe = safe_decides;
+  lawful = lawful_decides;
 }

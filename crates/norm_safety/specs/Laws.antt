@@ -8,6 +8,7 @@ use Rattle.norm_safety.specs.OnceEach.{OnceEach, is_once_each}
 use Rattle.norm_safety.specs.InOrder.{InOrder, is_in_order}
 use Rattle.norm_safety.specs.ListedAfter.{ListedAfter, is_listed_after}
 use Rattle.norm_safety.specs.SatisfiedExactly.{SatisfiedExactly, is_satisfied_exactly}
+use Rattle.norm_safety.specs.Lawful.{Lawful, is_lawful}
 use Rattle.norm_safety.specs.Safe.{Safe, is_safe}
 
 -- A test gives true exactly where its part of safety holds. That of the second part looks only at the receivers and the
@@ -19,3 +20,5 @@ pub record TestLaws : Type 0 where
   pub satisfied : (h : History) → Decides (is_satisfied_exactly h) (SatisfiedExactly h)
   -- and all of them together
   pub safe : (p : Settings) (events : List Event) → Decides (is_safe p (history p events)) (Safe p events)
+  -- and the test of the premises exactly where a run is lawful
+  pub lawful : (p : Settings) (events : List Event) → Decides (is_lawful p events) (Lawful p events)
