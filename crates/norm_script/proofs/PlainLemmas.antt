@@ -39,60 +39,12 @@ splits words None e = tt
 
 greatest_small : (k : Key) → (row_of k).greatest < 10000000000
 greatest_small key.Instance = lit< tt
-greatest_small key.First = lit< tt
-greatest_small key.Sender = lit< tt
-greatest_small key.Receivers = lit< tt
-greatest_small key.Producers = lit< tt
-greatest_small key.E = lit< tt
-greatest_small key.B = lit< tt
-greatest_small key.MaxN = lit< tt
-greatest_small key.Auto = lit< tt
-greatest_small key.Window = lit< tt
-greatest_small key.Octets = lit< tt
-greatest_small key.Blocks = lit< tt
-greatest_small key.Mode = lit< tt
-greatest_small key.Gap = lit< tt
-greatest_small key.Grtt = lit< tt
-greatest_small key.GrttCode = lit< tt
-greatest_small key.GsizeCode = lit< tt
-greatest_small key.K = lit< tt
-greatest_small key.Step = lit< tt
-greatest_small key.Turns = lit< tt
-greatest_small key.Fabric = lit< tt
-greatest_small key.Chance = lit< tt
-greatest_small key.Loss = lit< tt
-greatest_small key.Repeat = lit< tt
-greatest_small key.Late = lit< tt
-greatest_small key.Port = lit< tt
+greatest_small _ = lit< tt
 
 -- no key is named as a verb with digits
 no_verb : (k : Key) → has_digits (row_of k).name ≡ false
 no_verb key.Instance = refl
-no_verb key.First = refl
-no_verb key.Sender = refl
-no_verb key.Receivers = refl
-no_verb key.Producers = refl
-no_verb key.E = refl
-no_verb key.B = refl
-no_verb key.MaxN = refl
-no_verb key.Auto = refl
-no_verb key.Window = refl
-no_verb key.Octets = refl
-no_verb key.Blocks = refl
-no_verb key.Mode = refl
-no_verb key.Gap = refl
-no_verb key.Grtt = refl
-no_verb key.GrttCode = refl
-no_verb key.GsizeCode = refl
-no_verb key.K = refl
-no_verb key.Step = refl
-no_verb key.Turns = refl
-no_verb key.Fabric = refl
-no_verb key.Chance = refl
-no_verb key.Loss = refl
-no_verb key.Repeat = refl
-no_verb key.Late = refl
-no_verb key.Port = refl
+no_verb _ = refl
 
 named : (name : List ℕ) (known : List Key) → IfSome (key_named name known) (λ k. (row_of k).name ≡ name)
 named name [] = tt

@@ -29,31 +29,7 @@ pairs settings = map pair settings
 
 place_small : (k : Key) → (row_of k).place < 26
 place_small key.Instance = lit< tt
-place_small key.First = lit< tt
-place_small key.Sender = lit< tt
-place_small key.Receivers = lit< tt
-place_small key.Producers = lit< tt
-place_small key.E = lit< tt
-place_small key.B = lit< tt
-place_small key.MaxN = lit< tt
-place_small key.Auto = lit< tt
-place_small key.Window = lit< tt
-place_small key.Octets = lit< tt
-place_small key.Blocks = lit< tt
-place_small key.Mode = lit< tt
-place_small key.Gap = lit< tt
-place_small key.Grtt = lit< tt
-place_small key.GrttCode = lit< tt
-place_small key.GsizeCode = lit< tt
-place_small key.K = lit< tt
-place_small key.Step = lit< tt
-place_small key.Turns = lit< tt
-place_small key.Fabric = lit< tt
-place_small key.Chance = lit< tt
-place_small key.Loss = lit< tt
-place_small key.Repeat = lit< tt
-place_small key.Late = lit< tt
-place_small key.Port = lit< tt
+place_small _ = lit< tt
 
 -- Settings of each key at most once.
 
