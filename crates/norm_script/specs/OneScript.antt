@@ -1,3 +1,4 @@
+-- What the texts of one script have in common.
 use Rattle.std.specs.Prelude.{◌≡◌, ℕ, ◌==◌, Bool, List, Option, None, Some, unwrap_or, find, Ok}
 use Rattle.std.specs.List.{IsDistinct}
 use Rattle.norm_base.specs.Given.{default_beside}
@@ -11,8 +12,6 @@ use Rattle.norm_script.specs.Reading.{script_of}
 use Rattle.norm_script.specs.Written.{written, value_of_key}
 use Rattle.norm_script.specs.declared.refusal.Extent.TheVariants.{Whole}
 use Rattle.norm_script.specs.declared.script.Line.{Line}
-
--- What the texts of one script have in common.
 
 -- two settings of one key
 abbrev pub same_key : Key × ℕ → Key × ℕ → Bool

@@ -1,11 +1,10 @@
+-- A text without what says nothing: comments, empty lines, and the case of hexadecimal digits.
 use Rattle.std.specs.Prelude.{ℕ, ◌||◌, Bool, not, List, ◌∷◌, ◌++◌, codes, filter, map, Option, None, Some, if◌then◌else◌}
 use Rattle.std.specs.Char.{to_ascii_lowercase}
 use Rattle.norm_script.specs.Meaning.{is_passed_over}
 use Rattle.norm_script.specs.Text.{split_at_first, text_lines}
 use Rattle.norm_script.specs.Words.{is_text}
 use Rattle.norm_script.specs.Written.{ended}
-
--- A text without what says nothing: comments, empty lines, and the case of hexadecimal digits.
 
 -- the letters A to Z as a to z
 abbrev pub lower_case : List ℕ → List ℕ
