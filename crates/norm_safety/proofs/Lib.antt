@@ -3,4 +3,5 @@ pub mod DistinctLemmas
 pub mod OrderLemmas
 pub mod RunLemmas
 pub mod LawfulLemmas
+pub mod WantRunLemmas
 pub mod TestLemmas
