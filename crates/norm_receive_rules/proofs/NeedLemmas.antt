@@ -1,6 +1,6 @@
 -- Nothing is needed exactly where nothing is missing.
 use Rattle.std.proofs.Common.{◌≡◌, ℕ, zero, suc, cond, ◌+◌, ◌-◌, ◌<◌, ◌≤◌, ◌⊎◌, inl, inr, List, [], ◌∷◌, ◌++◌, map, Bool, true, false, not, Option, None, Some, refl, sym, ap, subst, ◌∙◌, arith}
-use Rattle.std.specs.Prelude.{filter, min, max, nat_lt, nat_le, ◌==◌, ◌&&◌, is_none, is_some, ⊤}
+use Rattle.std.specs.Prelude.{filter, min, max, nat_lt, nat_le, ◌==◌, ◌&&◌, ◌||◌, is_none, is_some, ⊤}
 use Rattle.std.specs.Bool.{Decides}
 use Rattle.std.specs.List.{range_with_len, list_any}
 use Rattle.std.proofs.lemmas.Bool.{cases_lt}
@@ -13,11 +13,11 @@ use Rattle.norm_receive_rules.specs.Lazy.{Lazy, Nil, Next, followed_by, lazily}
 use Rattle.norm_receive_rules.specs.ReceiverState.{ReceiverState, Plan}
 use Rattle.norm_receive_rules.specs.Plans.{cut_of_plan, says_stream, plan_of, holds, lacking, is_done, has_its_info, first_block}
 use Rattle.norm_receive_rules.specs.Seeing.{greatest_block}
-use Rattle.norm_receive_rules.specs.Needs.{Need, count_need, symbol_need, info_need, object_need, is_covered, info_needs, blocks_before, blocks_due, counts_from, object_needs, unknown_needs}
+use Rattle.norm_receive_rules.specs.Needs.{Need, count_need, symbol_need, info_need, object_need, farthest_index, is_covered, info_needs, blocks_before, blocks_due, counts_from, object_needs, unknown_needs}
 use Rattle.norm_receive_rules.specs.StreamNeeds.{last_block, flush_in, stream_due, earlier_needs, missing_symbols, flush_symbols, end_of, end_symbols, last_symbols, is_behind, open_block, rest_need, rest_needs, stream_needs}
 use Rattle.norm_receive_rules.specs.AllNeeds.{planned_needs, needs_of, needs_from, last_known, needs_nothing}
-use Rattle.norm_receive_rules.specs.NothingMissing.{IsBeforeFarthest, IsFlushed, BlocksAreThere, IsBeforeFlush, IsThere, StreamIsThere, IsThereByPlan, ObjectIsThere}
-use Rattle.norm_receive_rules.specs.Laws.{NeedsSayWhatIsMissing}
+use Rattle.norm_receive_rules.specs.NothingMissing.{IsBeforeFarthest, IsFlushed, BlocksAreThere, IsBeforeFlush, IsThere, StreamIsThere, IsThereByPlan, ObjectIsThere, NothingIsMissing}
+use Rattle.norm_receive_rules.specs.Laws.{NeedsLaws}
 
 clash : false ≡ true → ⊥
 clash e = cc
@@ -505,8 +505,8 @@ from_nil (suc n) p s first =
     ])
     (λ all. (all first (omega arith) (omega arith), λ index le lt. all index (omega arith) (omega arith)))
 
-pub needs_say_what_is_missing : NeedsSayWhatIsMissing
-needs_say_what_is_missing p s =
+exactly : (p : Settings) (s : ReceiverState) → Decides (needs_nothing p s) (NothingIsMissing p s)
+exactly p s =
     same_as (needs_nothing p s) (from_nil (last_known s - s.point.index) p s s.point.index)
     (λ all index le lt. all index le (within s.point.index (last_known s) index le lt))
     (λ there index le lt. there index le (below s.point.index (last_known s) index le lt))
@@ -516,3 +516,35 @@ needs_say_what_is_missing p s =
 
     below : (first last index : ℕ) → first ≤ index → index < first + (last - first) → index < last
     below first last index le lt = omega arith
+
+-- a covered object is below the farthest, or at most the flush's
+covered_known : (s : ReceiverState) (index : ℕ) → is_covered s index ≡ true → index < last_known s
+covered_known s index = go s.flush
+  where
+    below : ℕ → Option Position → ℕ
+    below far flush = max far (elim flush [ Some at ↦ at.index | None ↦ 0 ]) + 1
+
+    either : (b c : Bool) → (b || c) ≡ true → (b ≡ true) ⊎ (c ≡ true)
+    either true c e = inl refl
+    either false c e = inr e
+
+    far : (flush : Option Position) → index < farthest_index s → index < below (farthest_index s) flush
+    far (Some at) lt = omega arith
+    far None lt = omega arith
+
+    near : (at : Position) → index ≤ at.index → index < below (farthest_index s) (Some at)
+    near at le = omega arith
+
+    go : (flush : Option Position) → (nat_lt index (farthest_index s) || elim flush [ Some at ↦ nat_le index at.index | None ↦ false ]) ≡ true
+        → index < below (farthest_index s) flush
+    go (Some at) e = elim (either (nat_lt index (farthest_index s)) (nat_le index at.index) e) [
+      | inl first ↦ far (Some at) ((Decides-ltb index (farthest_index s)).0 first)
+      | inr second ↦ near at ((le_test index at.index).0 second)
+    ]
+    go None e = elim (either (nat_lt index (farthest_index s)) false e) [
+      | inl first ↦ far None ((Decides-ltb index (farthest_index s)).0 first)
+      | inr second ↦ absurd (clash second)
+    ]
+
+pub needs_laws : NeedsLaws
+needs_laws = record { exact = exactly; covered = covered_known }
