@@ -5,7 +5,7 @@ use Rattle.std.specs.Bool.{Decides}
 use Rattle.std.specs.List.{list_all, list_any, IsDistinct}
 use Rattle.std.proofs.lemmas.Bool.Decides.{Decides-eqb}
 use Rattle.norm_base.specs.Settings.{Settings}
-use Rattle.norm_order.specs.Receivers.{receivers_of}
+use Rattle.norm_base.specs.Members.{receivers_of}
 use Rattle.norm_order.specs.declared.up.Up.{Up}
 use Rattle.norm_receive_rules.specs.ReceiverState.{ReceiverState, receiver_opening}
 use Rattle.norm_receive_rules.specs.Leaving.{is_in}
