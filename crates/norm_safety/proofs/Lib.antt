@@ -13,5 +13,7 @@ pub mod Spoken
 pub mod Feedback
 pub mod TickTrue
 pub mod Exact
+pub mod SolvedLemmas
+pub mod BlockLemmas
 pub mod ObjectLemmas
 pub mod Holding
