@@ -2,7 +2,7 @@
 use Rattle.std.proofs.Common.{◌≡◌, ℕ, zero, suc, ◌+◌, ◌-◌, ◌*◌, ◌<◌, ◌≤◌, Bool, true, false, cond, refl, sym, ap, ◌∙◌, subst, arith, inl, inr, List, [], ◌∷◌, map, length, get_or, take, drop, Option, zero-add}
 use Rattle.std.specs.Prelude.{min, nat_lt, ◌==◌, ◌&&◌, ⊤}
 use Rattle.std.specs.List.{AllByRecursion, filter, range_with_len}
-use Rattle.std.proofs.lemmas.Bool.{and_parts, eqb-true}
+use Rattle.std.proofs.lemmas.Bool.{and_parts, eqb-true, ltb-false}
 use Rattle.std.proofs.lemmas.Bool.Decides.{Decides-ltb}
 use Rattle.std.proofs.lemmas.List.FromFn.{length-map-range_with_len, get_or-map-range_with_len}
 use Rattle.gf_field.specs.Octet.{AreOctets}
@@ -131,18 +131,62 @@ coded_one : (p : Settings) → CutRange p → (kind : Kind) (info : Option (List
     → IsCoded p.e (block_sources p (Whole kind info octets) h.at.block) h
 coded_one p range kind info octets some most are h low is =
     let object : Object = Whole kind info octets in
-    let cut : Cut = cut_of (length octets) p.e p.b p.max_n in
     let sources : List (List ℕ) = block_sources p object h.at.block in
-    let k : ℕ = source_symbols cut h.at.block in
+    let k : ℕ = source_symbols (cut_of (length octets) p.e p.b p.max_n) h.at.block in
     let count : length sources ≡ k = length-sources p kind info octets h.at.block in
     let few : k ≤ 255 = few_sources p range (length octets) h.at.block some most in
     let few_encoded : encoded_in (shape_of p object) h.at.block ≤ 255 =
         encoded_few p (shape_of p object) h.at.block few (few_encoding p range (length octets) some most h.at.block) range.most_n in
     let below : h.at.symbol < 255 = (let lt = (Decides-ltb h.at.symbol (encoded_in (shape_of p object) h.at.block)).0 low in omega (arith, lt, few_encoded)) in
-    go object cut sources below count few (sources-octets p kind info octets h.at.block are) (nat_lt h.at.symbol k) refl is
+    let all : AllByRecursion AreOctets sources = sources-octets p kind info octets h.at.block are in
+    go below (omega (arith, count, few)) all (nat_lt h.at.symbol k) refl is
   where
-    go : (object : Object) (cut : Cut) (sources : List (List ℕ)) → h.at.symbol < 255 → length sources ≡ source_symbols cut h.at.block → source_symbols cut h.at.block ≤ 255
-        → AllByRecursion AreOctets sources → (b : Bool) → nat_lt h.at.symbol (source_symbols cut h.at.block) ≡ b
-        → h.octets ≡ elim b [ true ↦ source_octets p object (symbol_number cut h.at.block h.at.symbol) | false ↦ encoded_symbol p.e sources h.at.symbol ]
-        → IsCoded p.e sources h
-    go object cut sources below count few all b e is = ?
+    go : h.at.symbol < 255 → length (block_sources p (Whole kind info octets) h.at.block) ≤ 255
+        → AllByRecursion AreOctets (block_sources p (Whole kind info octets) h.at.block)
+        → (b : Bool) → nat_lt h.at.symbol (source_symbols (cut_of (length octets) p.e p.b p.max_n) h.at.block) ≡ b
+        → h.octets ≡ elim b [
+          | true ↦ source_octets p (Whole kind info octets) (symbol_number (cut_of (length octets) p.e p.b p.max_n) h.at.block h.at.symbol)
+          | false ↦ encoded_symbol p.e (block_sources p (Whole kind info octets) h.at.block) h.at.symbol
+        ]
+        → IsCoded p.e (block_sources p (Whole kind info octets) h.at.block) h
+    go below few all true e is =
+        let number : ℕ = symbol_number (cut_of (length octets) p.e p.b p.max_n) h.at.block h.at.symbol in
+        let sources : List (List ℕ) = block_sources p (Whole kind info octets) h.at.block in
+        let k : ℕ = source_symbols (cut_of (length octets) p.e p.b p.max_n) h.at.block in
+        let lt : h.at.symbol < k = (Decides-ltb h.at.symbol k).0 e in
+        let own : h.octets ≡ get_or sources h.at.symbol [] = is ∙ sym (source_at p kind info octets h.at.block h.at.symbol lt) in
+        let count : length sources ≡ k = length-sources p kind info octets h.at.block in
+        record {
+          below = below;
+          octets = subst AreOctets (sym is) (source-octets p kind info octets number are);
+          coded = λ t within. ap (λ xs. get_or xs t 0) own ∙ sym (own_octet p.e t h.at.symbol sources few all within (omega (arith, lt, count)));
+          own = λ _. own;
+        }
+    go below few all false e is =
+        let sources : List (List ℕ) = block_sources p (Whole kind info octets) h.at.block in
+        let k : ℕ = source_symbols (cut_of (length octets) p.e p.b p.max_n) h.at.block in
+        let count : length sources ≡ k = length-sources p kind info octets h.at.block in
+        record {
+          below = below;
+          octets = subst AreOctets (sym is) (symbol_laws.octets p.e h.at.symbol sources);
+          coded = λ t within. ap (λ xs. get_or xs t 0) is;
+          own = λ lt. let no : k ≤ h.at.symbol = ltb-false h.at.symbol k e in absurd (omega (arith, no, lt, count));
+        }
+
+-- what is held of a block of the object is encoded
+pub held_coded : (p : Settings) → CutRange p → (kind : Kind) (info : Option (List ℕ)) (octets : List ℕ) → 0 < length octets → length octets ≤ p.octets
+    → AreOctets octets → (index block : ℕ) (held : List Held) → AllByRecursion (IsOfObject p (Whole kind info octets) index) held
+    → AllByRecursion (IsCoded p.e (block_sources p (Whole kind info octets) block)) (filter (is_in index block) held)
+held_coded p range kind info octets some most are index block [] of = tt
+held_coded p range kind info octets some most are index block (h ∷ held) of =
+    go (is_in index block h) refl (held_coded p range kind info octets some most are index block held of.1)
+  where
+    go : (is : Bool) → is_in index block h ≡ is
+        → AllByRecursion (IsCoded p.e (block_sources p (Whole kind info octets) block)) (filter (is_in index block) held)
+        → AllByRecursion (IsCoded p.e (block_sources p (Whole kind info octets) block)) (cond is (h ∷ filter (is_in index block) held) (filter (is_in index block) held))
+    go false e rest = rest
+    go true e rest =
+        let parts = and_parts (h.at.index == index) (h.at.block == block) e in
+        let is = of.0 (eqb-true h.at.index index parts.0) in
+        let one = coded_one p range kind info octets some most are h is.0 is.1 in
+        (subst (λ (b : ℕ). IsCoded p.e (block_sources p (Whole kind info octets) b) h) (eqb-true h.at.block block parts.1) one, rest)
