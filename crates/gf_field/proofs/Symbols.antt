@@ -62,7 +62,7 @@ length-weighted_symbols size places (m ∷ ms) (s ∷ ss) x =
     length-scaled_onto (shifts 8 (coefficient places m x % 256)) s (weighted_symbols size places ms ss x)
     ∙ length-weighted_symbols size places ms ss x
 
-zeros-octets : (size : ℕ) → AreOctets (replicate size 0)
+pub zeros-octets : (size : ℕ) → AreOctets (replicate size 0)
 zeros-octets zero = tt
 zeros-octets (suc size) = (omega arith, zeros-octets size)
 

@@ -1,14 +1,12 @@
 -- What is held of a block of an object of octets: encoded symbols of the block, none of them twice.
-use Rattle.std.proofs.Common.{◌≡◌, ℕ, zero, suc, ◌+◌, ◌-◌, ◌*◌, ◌<◌, ◌≤◌, Bool, true, false, cond, refl, sym, ap, ◌∙◌, subst, arith, List, [], ◌∷◌, map, length, get_or, take, drop, zero-add}
-use Rattle.std.specs.Prelude.{min, nat_eq, nat_lt, ◌==◌, ◌&&◌, Option, Some, None, ⊤}
-use Rattle.std.specs.List.{AllByRecursion, IsDistinct, filter, range_with_len}
+use Rattle.std.proofs.Common.{◌≡◌, ℕ, ◌<◌, ◌≤◌, Bool, true, false, refl, sym, ap, ◌∙◌, arith, List, [], ◌∷◌, map, length, get_or, take}
+use Rattle.std.specs.Prelude.{min, nat_eq, ◌==◌, Option, Some, None, ⊤}
+use Rattle.std.specs.List.{AllByRecursion, IsDistinct}
 use Rattle.std.proofs.lemmas.Bool.{eqb-true, ne_eqb}
-use Rattle.std.proofs.lemmas.Bool.Decides.{Decides-ltb, Decides-eqb}
 use Rattle.std.proofs.lemmas.List.{ext_get_or, get_or-take, length-take, take_all, length-map}
-use Rattle.std.proofs.lemmas.Map.Keys.{IsDistinct-cons}
 use Rattle.gf_field.specs.Octet.{AreOctets}
 use Rattle.gf_field.specs.Power.{power}
-use Rattle.gf_field.specs.Symbol.{octets_at, symbol_at, encoded_symbol, given, solved_symbol}
+use Rattle.gf_field.specs.Symbol.{octets_at, symbol_at, given, solved_symbol}
 use Rattle.gf_field.proofs.Powers.{same_from_power}
 use Rattle.gf_field.proofs.Symbols.{length-symbol_at}
 use Rattle.norm_receive_rules.specs.ReceiverState.{Held}
@@ -98,7 +96,7 @@ solved_front size j n sources held most octets lt long enough up are = go (given
         let within : t < size = omega (arith, below) in
         get_or-take n computed t 0 (omega (arith, below))
         ∙ solved_octet size t j sources (ids_of held) (octets_of_held held) most octets within
-          (distinct_places size sources held up are) (held_octets size sources held are)
-          (let z : length (ids_of held) ≡ length held = length-map held (λ (h : Held). h.at.symbol) in omega (arith, z, enough))
-          (coded_values size t sources held within are)
+        (distinct_places size sources held up are) (held_octets size sources held are)
+        (let z : length (ids_of held) ≡ length held = length-map held (λ (h : Held). h.at.symbol) in omega (arith, z, enough))
+        (coded_values size t sources held within are)
         ∙ own_octet size t j sources most octets within lt)

@@ -1,6 +1,6 @@
 -- What a receiver holds of a block of an object of octets.
-use Rattle.std.proofs.Common.{◌≡◌, ℕ, zero, suc, ◌+◌, ◌-◌, ◌*◌, ◌<◌, ◌≤◌, Bool, true, false, cond, refl, sym, ap, ◌∙◌, subst, arith, inl, inr, List, [], ◌∷◌, map, length, get_or, take, drop, Option, zero-add}
-use Rattle.std.specs.Prelude.{min, nat_lt, ◌==◌, ◌&&◌, ⊤}
+use Rattle.std.proofs.Common.{◌≡◌, ℕ, zero, suc, ◌*◌, ◌<◌, ◌≤◌, Bool, true, false, cond, refl, sym, ap, ◌∙◌, subst, arith, inl, inr, List, [], ◌∷◌, map, length, get_or, take, drop, Option, zero-add}
+use Rattle.std.specs.Prelude.{nat_lt, ◌==◌, ◌&&◌, ⊤}
 use Rattle.std.specs.List.{AllByRecursion, filter, range_with_len}
 use Rattle.std.proofs.lemmas.Bool.{and_parts, eqb-true, ltb-false}
 use Rattle.std.proofs.lemmas.Bool.Decides.{Decides-ltb}
@@ -20,7 +20,7 @@ use Rattle.norm_receive_rules.specs.ReceiverState.{Held}
 use Rattle.norm_receive_rules.specs.Putting.{held_before}
 use Rattle.norm_receive_rules.specs.BlockValue.{ids_of}
 use Rattle.norm_safety.proofs.Cuts.{CutRange, is_sound, few_encoding}
-use Rattle.norm_safety.proofs.SolvedLemmas.{coded_at, own_octet}
+use Rattle.norm_safety.proofs.SolvedLemmas.{own_octet}
 use Rattle.norm_safety.proofs.BlockLemmas.{IsCoded, Climbing}
 
 -- each symbol stands before all that follow it: none is held twice
@@ -136,7 +136,7 @@ coded_one p range kind info octets some most are h low is =
     let count : length sources ≡ k = length-sources p kind info octets h.at.block in
     let few : k ≤ 255 = few_sources p range (length octets) h.at.block some most in
     let few_encoded : encoded_in (shape_of p object) h.at.block ≤ 255 =
-        encoded_few p (shape_of p object) h.at.block few (few_encoding p range (length octets) some most h.at.block) range.most_n in
+    encoded_few p (shape_of p object) h.at.block few (few_encoding p range (length octets) some most h.at.block) range.most_n in
     let below : h.at.symbol < 255 = (let lt = (Decides-ltb h.at.symbol (encoded_in (shape_of p object) h.at.block)).0 low in omega (arith, lt, few_encoded)) in
     let all : AllByRecursion AreOctets sources = sources-octets p kind info octets h.at.block are in
     go below (omega (arith, count, few)) all (nat_lt h.at.symbol k) refl is

@@ -1,6 +1,6 @@
 -- From the symbols that are held of an object to its octets: any k of a block's encoded symbols are one codeword's.
-use Rattle.std.proofs.Common.{◌≡◌, ℕ, ◌+◌, ◌-◌, ◌*◌, ◌<◌, ◌≤◌, List, [], ◌∷◌, ◌++◌, length, take, drop, get_or, Bool, true, false, Option, Some, None, refl, sym, ap, ◌∙◌, subst, arith}
-use Rattle.std.specs.Prelude.{min, ◌==◌}
+use Rattle.std.proofs.Common.{◌≡◌, ℕ, ◌+◌, ◌-◌, ◌*◌, ◌<◌, ◌≤◌, List, [], ◌++◌, length, take, drop, get_or, Bool, true, false, Option, Some, None, refl, sym, ap, ◌∙◌, subst, arith}
+use Rattle.std.specs.Prelude.{min}
 use Rattle.std.specs.List.{AllByRecursion, list_all, flat_map, range_with_len}
 use Rattle.std.proofs.lemmas.Bool.{eqb-true}
 use Rattle.std.proofs.lemmas.Grind.{div_ceil_times}
@@ -65,9 +65,9 @@ symbol_front p range kind info octets some most are s plan h block symbol lt don
     let few : k ≤ 255 = few_sources p range (length octets) block some most in
     let own = source_at p kind info octets block symbol lt in
     let long : length (get_or sources symbol []) ≡ min p.e n =
-        ap (λ (xs : List ℕ). length xs) own
-        ∙ length-take p.e (drop ((before_in p octets block + symbol) * p.e) octets)
-        ∙ ap (min p.e) (length-drop ((before_in p octets block + symbol) * p.e) octets) in
+    ap (λ (xs : List ℕ). length xs) own
+    ∙ length-take p.e (drop ((before_in p octets block + symbol) * p.e) octets)
+    ∙ ap (min p.e) (length-drop ((before_in p octets block + symbol) * p.e) octets) in
     let none : source_symbols (cut_of_plan plan) block - length held ≡ 0 = eqb-true (source_symbols (cut_of_plan plan) block - length held) 0 done in
     let same : source_symbols (cut_of_plan plan) block ≡ k = ap (λ c. source_symbols c block) is in
     let enough : length sources ≤ length held = omega (arith, none, same, count) in
@@ -95,13 +95,13 @@ block_front p range kind info octets some most are s plan h block front lt done 
     let value : ℕ → List ℕ = λ symbol. elim (block_value s plan block symbol) [ Some found ↦ found | None ↦ [] ] in
     let begin : IsFront p.e octets (before + 0) front = subst (λ (i : ℕ). IsFront p.e octets i front) (let z : before ≡ before + 0 = omega arith in z) start in
     let walk = walked (λ j xs. IsFront p.e octets (before + j) xs) value (block_size t n block)
-        (λ j xs below is.
-        let low = number_low t n block j lt below in
-        let within = begins_within (length octets) p.e (before + j) (omega (arith, range.least_e)) low in
-        subst (λ (i : ℕ). IsFront p.e octets i (xs ++ value j)) (let z : before + j + 1 ≡ before + (j + 1) = omega arith in z)
-        (piece p.e octets (before + j) xs (value j) within is
-        (symbol_front p range kind info octets some most are s plan h block j below done)))
-        0 (source_symbols (cut_of_plan plan) block) (omega (arith, same)) front begin in
+    (λ j xs below is.
+    let low = number_low t n block j lt below in
+    let within = begins_within (length octets) p.e (before + j) (omega (arith, range.least_e)) low in
+    subst (λ (i : ℕ). IsFront p.e octets i (xs ++ value j)) (let z : before + j + 1 ≡ before + (j + 1) = omega arith in z)
+    (piece p.e octets (before + j) xs (value j) within is
+    (symbol_front p range kind info octets some most are s plan h block j below done)))
+    0 (source_symbols (cut_of_plan plan) block) (omega (arith, same)) front begin in
     subst (λ (i : ℕ). IsFront p.e octets i (front ++ block_octets s plan block))
     (let step = before_step t n block in omega (arith, same, step)) walk
 
@@ -117,10 +117,10 @@ object_again p range kind info octets some most are s plan h =
     let l-is : plan.fti.l ≡ length octets = ap (λ f. f.l) h.fti in
     let begin : IsFront p.e octets (symbols_before t n 0) [] = start t n in
     let walk = walked (λ j xs. IsFront p.e octets (symbols_before t n j) xs) (block_octets s plan) n
-        (λ j xs below is.
-        let done = below_passes (blocks (cut_of_plan plan)) (is_done s plan) h.done j (omega (arith, below, count)) in
-        block_front p range kind info octets some most are s plan h j xs below done is)
-        0 (blocks (cut_of_plan plan)) (omega (arith, count)) [] begin in
+    (λ j xs below is.
+    let done = below_passes (blocks (cut_of_plan plan)) (is_done s plan) h.done j (omega (arith, below, count)) in
+    block_front p range kind info octets some most are s plan h j xs below done is)
+    0 (blocks (cut_of_plan plan)) (omega (arith, count)) [] begin in
     let some_symbols : 0 < t = (is_sound p range (length octets) some most).some in
     let all : symbols_before t n n ≡ t = all_before t n (some_blocks t p.b some_symbols (omega (arith, range.least_b))) in
     let last : symbols_before t n (0 + blocks (cut_of_plan plan)) ≡ t = ap (symbols_before t n) (omega (arith, count)) ∙ all in

@@ -1,19 +1,18 @@
 -- A symbol that is solved from as many encoded ones as there are sources, or more, has the octets of the codeword.
 -- The symbols may be shorter than the coded size: past their end they count as zeros.
-use Rattle.std.proofs.Common.{◌≡◌, ℕ, zero, suc, ◌+◌, ◌-◌, ◌<◌, ◌≤◌, refl, sym, ap, ◌∙◌, arith, List, [], ◌∷◌, ◌++◌, map, length, get_or, replicate, zero-add}
-use Rattle.std.specs.Prelude.{bit_xor, nat_eq, Option, Some, None}
+use Rattle.std.proofs.Common.{◌≡◌, ℕ, zero, suc, ◌-◌, ◌<◌, ◌≤◌, refl, sym, ap, ◌∙◌, arith, List, [], ◌∷◌, ◌++◌, map, length, get_or, replicate}
+use Rattle.std.specs.Prelude.{bit_xor, nat_eq}
 use Rattle.std.specs.List.{AllByRecursion, IsDistinct, range_with_len}
 use Rattle.std.proofs.lemmas.List.{get_or-map, length-map, length-append, length-replicate}
 use Rattle.gf_field.specs.Octet.{AreOctets}
 use Rattle.gf_field.specs.Product.{product}
 use Rattle.gf_field.specs.Power.{power, powers}
 use Rattle.gf_field.specs.Polynomial.{value_at, GoesThrough}
-use Rattle.gf_field.specs.Interpolation.{interpolated}
 use Rattle.gf_field.specs.Symbol.{octets_at, symbol_at, encoded_symbol}
 use Rattle.gf_field.proofs.Interpolations.{FormulaHolds, value_from_formula}
 use Rattle.gf_field.proofs.Places.{powers_octets, range_ids, formula_at_ids, starts_at_range, length-powers}
 use Rattle.gf_field.proofs.Polynomials.{AreZero, value_at_zero}
-use Rattle.gf_field.proofs.Symbols.{symbol_at-at, octets_at-octets, length-octets_at}
+use Rattle.gf_field.proofs.Symbols.{symbol_at-at, octets_at-octets, length-octets_at, zeros-octets}
 
 -- ---- coefficients that are zero change no value
 
@@ -25,10 +24,6 @@ value_at-zeros : (cs : List ℕ) (n x : ℕ) → value_at (cs ++ replicate n 0) 
 unfolding value_at
 value_at-zeros [] n x = value_at_zero (replicate n 0) x (zeros-zero n)
 value_at-zeros (c ∷ cs) n x = ap (λ v. bit_xor c (product x v)) (value_at-zeros cs n x)
-
-zeros-octets : (n : ℕ) → AreOctets (replicate n 0)
-zeros-octets zero = tt
-zeros-octets (suc n) = (omega arith, zeros-octets n)
 
 padded-octets : (cs : List ℕ) (n : ℕ) → AreOctets cs → AreOctets (cs ++ replicate n 0)
 padded-octets [] n h = zeros-octets n
@@ -79,17 +74,17 @@ solved_octet size t j sources ids symbols most are lt distinct octets enough sam
     let cs : List ℕ = f.coefficients ++ replicate (length ids - k) 0 in
     let has : length f.coefficients ≡ k = f.through.few ∙ length-powers k in
     let long : length cs ≡ length (map power ids) =
-        length-append f.coefficients (replicate (length ids - k) 0)
-        ∙ omega (arith, has, length-replicate {A = ℕ} (length ids - k) 0, length-map ids power, enough) in
+    length-append f.coefficients (replicate (length ids - k) 0)
+    ∙ omega (arith, has, length-replicate {A = ℕ} (length ids - k) 0, length-map ids power, enough) in
     let value : (i : ℕ) → coded_at size sources t i ≡ value_at cs (power i) =
-        λ i. coded_value size t i sources lt f ∙ sym (value_at-zeros f.coefficients (length ids - k) (power i)) in
+    λ i. coded_value size t i sources lt f ∙ sym (value_at-zeros f.coefficients (length ids - k) (power i)) in
     let goes : GoesThrough cs (map power ids) (octets_at t symbols) = record {
       octets = padded-octets f.coefficients (length ids - k) f.through.octets;
       few = long;
       meets = meets_at size t sources cs value ids ∙ same;
     } in
     let paired : length (octets_at t symbols) ≡ length (map power ids) =
-        ap (λ (vs : List ℕ). length vs) (sym same) ∙ length-map ids (coded_at size sources t) ∙ sym (length-map ids power) in
+    ap (λ (vs : List ℕ). length vs) (sym same) ∙ length-map ids (coded_at size sources t) ∙ sym (length-map ids power) in
     symbol_at-at size t (map power ids) symbols (power j) lt
     ∙ sym (value_from_formula cs (map power ids) (octets_at t symbols) (powers_octets ids) (octets_at-octets t symbols octets) distinct paired goes (power j))
     ∙ sym (value j)
