@@ -62,7 +62,7 @@ length-weighted_symbols size places (m ∷ ms) (s ∷ ss) x =
     length-scaled_onto (shifts 8 (coefficient places m x % 256)) s (weighted_symbols size places ms ss x)
     ∙ length-weighted_symbols size places ms ss x
 
-zeros-octets : (size : ℕ) → AreOctets (replicate size 0)
+pub zeros-octets : (size : ℕ) → AreOctets (replicate size 0)
 zeros-octets zero = tt
 zeros-octets (suc size) = (omega arith, zeros-octets size)
 
@@ -81,11 +81,11 @@ weighted_symbols-at size t places (m ∷ ms) (s ∷ ss) x h =
     scaled_onto-at (coefficient places m x) s (weighted_symbols size places ms ss x) t (omega (arith, length-weighted_symbols size places ms ss x))
     ∙ ap (bit_xor (product (coefficient places m x) (get_or s t 0))) (weighted_symbols-at size t places ms ss x h)
 
-symbol_at-at : (size t : ℕ) (places : List ℕ) (symbols : List (List ℕ)) (x : ℕ) → t < size → get_or (symbol_at size places symbols x) t 0 ≡ interpolated places (octets_at t symbols) x
+pub symbol_at-at : (size t : ℕ) (places : List ℕ) (symbols : List (List ℕ)) (x : ℕ) → t < size → get_or (symbol_at size places symbols x) t 0 ≡ interpolated places (octets_at t symbols) x
 unfolding symbol_at interpolated
 symbol_at-at size t places symbols x h = weighted_symbols-at size t places places symbols x h
 
-length-symbol_at : (size : ℕ) (places : List ℕ) (symbols : List (List ℕ)) (x : ℕ) → length (symbol_at size places symbols x) ≡ size
+pub length-symbol_at : (size : ℕ) (places : List ℕ) (symbols : List (List ℕ)) (x : ℕ) → length (symbol_at size places symbols x) ≡ size
 unfolding symbol_at
 length-symbol_at size places symbols x = length-weighted_symbols size places places symbols x
 

@@ -19,6 +19,10 @@ pub mod Spoken
 pub mod Feedback
 pub mod TickTrue
 pub mod Exact
+pub mod SolvedLemmas
+pub mod PieceLemmas
+pub mod BlockLemmas
+pub mod HeldLemmas
 pub mod ObjectLemmas
 pub mod Holding
 pub mod ReceiverHolds
