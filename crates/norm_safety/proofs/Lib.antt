@@ -28,3 +28,4 @@ pub mod Holding
 pub mod ReceiverHolds
 pub mod ReceiverMoves
 pub mod WorldHolds
+pub mod WorldMoves

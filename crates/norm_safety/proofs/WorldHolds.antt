@@ -166,7 +166,7 @@ standing_later p s t taken r onward h = go r.instance h
     go (Some id) h = holding_later p s t id (taken id) r onward h
 
 -- hand-ups that are equal in each instance
-same_taken : (p : Settings) (s : SenderState) (taken other : ℕ → List Up) (r : ReceiverState) → ((id : ℕ) → other id ≡ taken id) → Standing p s taken r → Standing p s other r
+pub same_taken : (p : Settings) (s : SenderState) (taken other : ℕ → List Up) (r : ReceiverState) → ((id : ℕ) → other id ≡ taken id) → Standing p s taken r → Standing p s other r
 same_taken p s taken other r same h = go r.instance h
   where
     go : (instance : Option ℕ) → StandingIn p s taken r instance → StandingIn p s other r instance
@@ -206,3 +206,61 @@ node_later p s t past x node (Some r) onward none same h = record {
       (standing_later p s t (hands past node) r onward h.stands);
   never = λ id out left. hands_same past x node id none ∙ h.never id out left;
 }
+
+-- ---- what was said
+
+said_later : (p : Settings) (s t : SenderState) (said : List (ℕ × List ℕ)) → Onward s t → AllByRecursion (λ (o : ℕ × List ℕ). SaysTrue p s o.1) said
+    → AllByRecursion (λ (o : ℕ × List ℕ). SaysTrue p t o.1) said
+said_later p s t said onward all =
+    all_later (λ (o : ℕ × List ℕ). SaysTrue p s o.1) (λ (o : ℕ × List ℕ). SaysTrue p t o.1) said (λ o h. true_later p s t (decoded o.1) onward h) all
+
+pub all_filter : {X : Type 0} (P : X → Type 0) (test : X → Bool) (xs : List X) → AllByRecursion P xs → AllByRecursion P (filter test xs)
+all_filter P test [] all = tt
+all_filter {X} P test (x ∷ xs) all = go (test x) (all_filter P test xs all.1)
+  where
+    go : (b : Bool) → AllByRecursion P (filter test xs) → AllByRecursion P (cond b (x ∷ filter test xs) (filter test xs))
+    go true more = (all.0, more)
+    go false more = more
+
+pub all_end : {X : Type 0} (P : X → Type 0) (xs : List X) (x : X) → AllByRecursion P xs → P x → AllByRecursion P (xs ++ x ∷ [])
+all_end P [] x all h = (h, tt)
+all_end P (y ∷ xs) x all h = (all.0, all_end P xs x all.1 h)
+
+pub all_contains : {X : Type 0} (P : X → Type 0) (xs : List X) (x : X) → AllByRecursion P xs → Contains xs x → P x
+all_contains P [] x all has = absurd (omega (arith, has.1))
+all_contains P (y ∷ xs) x all (zero, lt, is) = subst P is all.0
+all_contains P (y ∷ xs) x all (suc k, lt, is) = all_contains P xs x all.1 (k, omega (arith, lt), is)
+
+-- ---- an event that leaves the receivers
+
+-- the instance of a receiver that is there
+abbrev pub instance_of : Option ReceiverState → Option ℕ
+instance_of found = elim found [ Some r ↦ r.instance | None ↦ None ]
+
+-- the world after an event that leaves the receivers, where the sender goes on and what was said is true
+pub quiet_world : (p : Settings) (past : List Happening) (accepted after : List Origin) (w v : World) (e : Event) (answer : Answer)
+    → v.receivers ≡ w.receivers → SenderHolds p v.sender → OnceSoFar v.sender after → Onward w.sender v.sender
+    → AllByRecursion (λ (o : ℕ × List ℕ). SaysTrue p v.sender o.1) v.offered → AllByRecursion (λ (o : ℕ × List ℕ). SaysTrue p v.sender o.1) v.given
+    → ((node : ℕ) → taken_in node e answer ≡ []) → WorldHolds p past accepted w
+    → WorldHolds p (past ++ record { before = w; event = e; answer = answer; after = v } ∷ []) after v
+quiet_world p past accepted after w v e answer same holds once onward offered given none h =
+    let x : Happening = record { before = w; event = e; answer = answer; after = v } in
+    let at : (node : ℕ) → receiver_at v node ≡ receiver_at w node =
+        λ node. ap (λ (rs : List ReceiverState). find (λ (r : ReceiverState). r.node == node) rs) same in
+    let instance : (node : ℕ) → last_in node None past ≡ instance_at v node =
+        λ node. h.latest node ∙ sym (ap instance_of (at node)) in
+    record {
+      sender = holds;
+      once = once;
+      offered = offered;
+      given = given;
+      nodes = λ node. (
+        let A : Option ReceiverState → Type 0 = λ found. AtNode p v.sender (past ++ x ∷ []) node found in
+        subst A (sym (at node)) (node_later p w.sender v.sender past x node (receiver_at w node) onward (none node) (instance node) (h.nodes node))
+      );
+      through = λ node id. (
+        let T : List Up → Type 0 = λ ups. Through p v.sender id ups in
+        subst T (sym (hands_same past x node id (none node))) (through_later p w.sender v.sender id (hands past node id) onward (h.through node id))
+      );
+      latest = λ node. last_more node None past x;
+    }
