@@ -29,3 +29,4 @@ pub mod ReceiverHolds
 pub mod ReceiverMoves
 pub mod WorldHolds
 pub mod WorldMoves
+pub mod WorldTakes

@@ -298,7 +298,7 @@ pub same_moves : (p : Settings) (s : SenderState) (r t : ReceiverState) → Same
 same_moves p s r t same = Remains (held_ids r t same) (λ taken h. same_stands p s taken r t same h)
 
 -- the instance that a receiver is in
-in_instance_is : (r : ReceiverState) (id : ℕ) → is_in r id ≡ true → r.instance ≡ Some id
+pub in_instance_is : (r : ReceiverState) (id : ℕ) → is_in r id ≡ true → r.instance ≡ Some id
 in_instance_is r id e = go r.instance e
   where
     go : (instance : Option ℕ) → (elim instance [ Some current ↦ current == id | None ↦ false ]) ≡ true → instance ≡ Some id

@@ -29,24 +29,24 @@ use Rattle.norm_safety.proofs.WorldHolds.{Through, AtReceiver, AtNone, AtNode, W
 -- ---- a world where one receiver is another
 
 -- a receiver in place of its node's
-abbrev put_in : ReceiverState → ReceiverState → ReceiverState
+abbrev pub put_in : ReceiverState → ReceiverState → ReceiverState
 put_in t x = elim (x.node == t.node) [ true ↦ t | false ↦ x ]
 
 -- the receiver of a node among others
-abbrev at_node : List ReceiverState → ℕ → Option ReceiverState
+abbrev pub at_node : List ReceiverState → ℕ → Option ReceiverState
 at_node rs node = find (λ (r : ReceiverState). r.node == node) rs
 
-same_self : (n : ℕ) → (n == n) ≡ true
+pub same_self : (n : ℕ) → (n == n) ≡ true
 same_self n = (Decides-eqb n n).1 refl
 
-not_same : (a b : ℕ) → (a ≡ b → ⊥) → (a == b) ≡ false
+pub not_same : (a b : ℕ) → (a ≡ b → ⊥) → (a == b) ≡ false
 not_same a b h = go (a == b) refl
   where
     go : (t : Bool) → (a == b) ≡ t → t ≡ false
     go true e = absurd (h ((Decides-eqb a b).0 e))
     go false e = refl
 
-found_put : (t r : ReceiverState) (rs : List ReceiverState) → at_node rs t.node ≡ Some r → at_node (map (put_in t) rs) t.node ≡ Some t
+pub found_put : (t r : ReceiverState) (rs : List ReceiverState) → at_node rs t.node ≡ Some r → at_node (map (put_in t) rs) t.node ≡ Some t
 found_put t r [] e = absurd (nothing r e)
   where
     nothing : (x : ReceiverState) → None ≡ Some x → ⊥
@@ -61,7 +61,7 @@ found_put t r (x ∷ rs) e = go (x.node == t.node) refl (λ more. found_put t r 
     go true is more e = own
     go false is more e = ap (λ (b : Bool). cond b (Some x) (at_node (map (put_in t) rs) t.node)) is ∙ more e
 
-found_other : (t : ReceiverState) (rs : List ReceiverState) (node : ℕ) → (t.node ≡ node → ⊥) → at_node (map (put_in t) rs) node ≡ at_node rs node
+pub found_other : (t : ReceiverState) (rs : List ReceiverState) (node : ℕ) → (t.node ≡ node → ⊥) → at_node (map (put_in t) rs) node ≡ at_node rs node
 found_other t [] node other = refl
 found_other t (x ∷ rs) node other = go (x.node == t.node) refl (found_other t rs node other)
   where
