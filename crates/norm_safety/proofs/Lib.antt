@@ -30,3 +30,4 @@ pub mod ReceiverMoves
 pub mod WorldHolds
 pub mod WorldMoves
 pub mod WorldTakes
+pub mod OrderRun

@@ -32,10 +32,10 @@ use Rattle.norm_safety.proofs.OnceLemmas.{OnceSoFar, once_after, with_accepted}
 use Rattle.norm_safety.proofs.PlaceLemmas.{has_place, stays_placed, command_placed}
 
 -- what an event of a lawful run leaves: what holds of the sender so far, each entry at its place, and the answer's own
-record Leaves (w : World) (accepted : List Origin) (e : Event) (step : World × Answer) : Type 0 where
-  once : OnceSoFar step.0.sender (accepted_with accepted e step.1)
-  kept : AllKept (instances w.sender) (instances step.0.sender)
-  own : (later : SenderState) → AllKept (instances step.0.sender) (instances later)
+pub record Leaves (w : World) (accepted : List Origin) (e : Event) (step : World × Answer) : Type 0 where
+  pub once : OnceSoFar step.0.sender (accepted_with accepted e step.1)
+  pub kept : AllKept (instances w.sender) (instances step.0.sender)
+  pub own : (later : SenderState) → AllKept (instances step.0.sender) (instances later)
       → IsTrue (has_its_place later (record { before = w; event = e; answer = step.1; after = step.0 }) e step.1)
 
 -- the answer to a command has its place in later states as it does in the first
@@ -140,7 +140,7 @@ taking_leaves p w accepted node h = go (receiver_at w node)
     go (Some r) = quiet_leaves w _ accepted (UpTaken node) (Took (took r).1) (keeps_all w.sender) refl (λ later x. refl) h
     go None = quiet_leaves w w accepted (UpTaken node) Silent (keeps_all w.sender) refl (λ later x. refl) h
 
-event_leaves : (p : Settings) (w : World) (accepted : List Origin) (e : Event) → MayCome w accepted e
+pub event_leaves : (p : Settings) (w : World) (accepted : List Origin) (e : Event) → MayCome w accepted e
     → OnceSoFar w.sender accepted → Leaves w accepted e (world_step p w e)
 event_leaves p w accepted (Commanded by job now) may h = command_leaves p w accepted by job now may h
 event_leaves p w accepted (Delivered node datagram now draw) may h = delivery_leaves p w accepted node datagram now draw h

@@ -233,7 +233,7 @@ next_of_order p blocks s w e =
 -- ---- a tick
 
 -- what a step sends is true of a state's orders
-abbrev SentTrue : Settings → SenderState → Option (List ℕ) → Type 0
+abbrev pub SentTrue : Settings → SenderState → Option (List ℕ) → Type 0
 SentTrue p s (Some datagram) = SaysTrue p s datagram
 SentTrue p s None = ⊤
 

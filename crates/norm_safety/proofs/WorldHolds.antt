@@ -209,7 +209,7 @@ node_later p s t past x node (Some r) onward none same h = record {
 
 -- ---- what was said
 
-said_later : (p : Settings) (s t : SenderState) (said : List (ℕ × List ℕ)) → Onward s t → AllByRecursion (λ (o : ℕ × List ℕ). SaysTrue p s o.1) said
+pub said_later : (p : Settings) (s t : SenderState) (said : List (ℕ × List ℕ)) → Onward s t → AllByRecursion (λ (o : ℕ × List ℕ). SaysTrue p s o.1) said
     → AllByRecursion (λ (o : ℕ × List ℕ). SaysTrue p t o.1) said
 said_later p s t said onward all =
     all_later (λ (o : ℕ × List ℕ). SaysTrue p s o.1) (λ (o : ℕ × List ℕ). SaysTrue p t o.1) said (λ o h. true_later p s t (decoded o.1) onward h) all

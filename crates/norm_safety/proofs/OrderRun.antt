@@ -1,0 +1,237 @@
+-- A receiver hands up the transport order: kept by each event of a lawful run of data and files, and so at its end.
+use Rattle.std.proofs.Common.{◌≡◌, ℕ, zero, suc, ◌+◌, ◌<◌, ◌≤◌, cond, List, [], ◌∷◌, ◌++◌, length, take, Bool, true, false, Option, None, Some, Result, Ok, Err, refl, sym, ap, ◌∙◌, subst, append_assoc, arith}
+use Rattle.std.specs.Prelude.{map, find, filter, ◌==◌, not, nat_eq, Contains, ⊤}
+use Rattle.std.specs.List.{AllByRecursion, IsDistinct}
+use Rattle.norm_base.specs.Settings.{Settings, InRange}
+use Rattle.norm_base.specs.Members.{receivers_of}
+use Rattle.norm_base.specs.declared.node.Origin.{Origin}
+use Rattle.norm_ext.specs.Reading.{decoded}
+use Rattle.norm_order.specs.declared.up.Up.{Up}
+use Rattle.norm_receive_rules.specs.ReceiverState.{ReceiverState, receiver_opening}
+use Rattle.norm_receive_rules.specs.Receiving.{received}
+use Rattle.norm_receive_rules.specs.Taking.{took}
+use Rattle.norm_receive_rules.specs.Ticking.{ticked as receiver_ticked}
+use Rattle.norm_send_rules.specs.SenderState.{SenderState, sender_opening}
+use Rattle.norm_send_rules.specs.SenderStep as events
+use Rattle.norm_send_rules.specs.Restarting.{instances}
+use Rattle.norm_send_rules.specs.Commanding.{commanded}
+use Rattle.norm_send_rules.specs.Hearing.{heard}
+use Rattle.norm_send_rules.specs.Ticking.{ticked as sender_ticked}
+use Rattle.norm_send_rules.specs.Telling.{told}
+use Rattle.norm_send_rules.specs.declared.job.Job.{Job}
+use Rattle.norm_send_rules.proofs.StepLemmas.{step_holds as wants_step, blocks_of}
+use Rattle.norm_safety.specs.Events.{Event, Commanded, Delivered, Ticked, Offered, UpTaken, NewsAsked, Answer, Gave, Sent, Took, Told, Silent}
+use Rattle.norm_safety.specs.Jobs.{IsJob, OpensNone, IsEvent, IsOfObjects, AreEvents, AreOfObjects}
+use Rattle.norm_safety.specs.World.{World, world_opening, receiver_at, with_receiver, with_given, with_offer, given_others}
+use Rattle.norm_safety.specs.WorldStep.{world_step, sender_ticks, receiver_ticks}
+use Rattle.norm_safety.specs.Lawful.{accepted_with, MayCome, LawfulFrom, Lawful}
+use Rattle.norm_safety.specs.History.{Happening, happens, last_world, history}
+use Rattle.norm_safety.specs.Hands.{hands, instance_at}
+use Rattle.norm_safety.specs.InOrder.{InOrder, came_to, drop_of, HandsInOrder}
+use Rattle.norm_safety.specs.OnceEach.{order_of}
+use Rattle.norm_safety.proofs.SenderKeeps.{Keeps, keeps_all, heard_keeps, ticked_keeps, told_keeps}
+use Rattle.norm_safety.specs.Hands.{taken_in}
+use Rattle.norm_safety.specs.Lawful.{same_origin}
+use Rattle.norm_safety.proofs.CommandSteps.{keeps_origins, keeps_ids}
+use Rattle.norm_safety.proofs.OnceLemmas.{OnceSoFar}
+use Rattle.norm_safety.proofs.OnceRun.{Leaves, event_leaves}
+use Rattle.norm_safety.proofs.Onward.{Onward, goes_on_itself}
+use Rattle.norm_safety.proofs.SenderHolds.{SenderHolds, Steps, command_steps, keeps_steps, orders_hold, opening_holds}
+use Rattle.norm_safety.proofs.Spoken.{SaysTrue}
+use Rattle.norm_safety.proofs.Feedback.{SendsNothingOf, receiver_says_nothing}
+use Rattle.norm_safety.proofs.TickTrue.{SentTrue, tick_true, nothing_true, true_later}
+use Rattle.norm_safety.proofs.Exact.{exactly_through}
+use Rattle.norm_safety.proofs.ReceiverMoves.{Moved, Remains, Enters, received_moves, same_moves, tick_same, held_same}
+use Rattle.norm_safety.proofs.WorldHolds.{Through, AtReceiver, AtNone, AtNode, WorldHolds, last_in, said_later, all_filter, all_end, all_contains, quiet_world}
+use Rattle.norm_safety.proofs.WorldMoves.{moved_world}
+use Rattle.norm_safety.proofs.WorldTakes.{taken_world}
+
+-- what happened, an event and what it left
+abbrev happening : World → Event → World × Answer → Happening
+happening w e step = record { before = w; event = e; answer = step.1; after = step.0 }
+
+-- ---- one event
+
+-- what holds after an event
+abbrev HoldsAfter : Settings → List Happening → List Origin → World → Event → World × Answer → Type 0
+HoldsAfter p past accepted w e step = WorldHolds p (past ++ happening w e step ∷ []) (accepted_with accepted e step.1) step.0
+
+command_holds : (p : Settings) → InRange p → (past : List Happening) (accepted : List Origin) (w : World) (by : Origin) (job : Job) (now : ℕ)
+    → (Contains accepted by → ⊥) → IsJob job → OpensNone job → WorldHolds p past accepted w
+    → HoldsAfter p past accepted w (Commanded by job now) (world_step p w (Commanded by job now))
+command_holds p range past accepted w by job now may is none h =
+    let leaves = event_leaves p w accepted (Commanded by job now) may h.once in
+    let steps = command_steps p range w.sender by job now is none h.sender in
+    let after : SenderState = (commanded p w.sender by job).0 in
+    quiet_world p past accepted _ w (record w { sender = after }) (Commanded by job now) _ refl steps.holds leaves.once steps.onward
+      (said_later p w.sender after w.offered steps.onward h.offered) (said_later p w.sender after w.given steps.onward h.given) (λ node. refl) h
+
+-- where a node moved is where it was
+moved_node_is : (p : Settings) (s : SenderState) (r t : ReceiverState) → Moved p s r t → t.node ≡ r.node
+moved_node_is p s r t (Remains ids stands) = ids.node
+moved_node_is p s r t (Enters id out gone node instance left holds) = node
+
+-- what holds of commands where the orders stay
+once_kept : (s t : SenderState) (accepted : List Origin) → Keeps s t → OnceSoFar s accepted → OnceSoFar t accepted
+once_kept s t accepted keeps h =
+    let D : List Origin → Type 0 = λ xs. IsDistinct same_origin xs in
+    let I : List ℕ → Type 0 = λ xs. IsDistinct nat_eq xs in
+    let K : List Origin → Type 0 = λ xs. AllByRecursion (λ x. Contains accepted x) xs in
+    let by = keeps_origins s t keeps in
+    record { differ = subst D (sym by) h.differ; ids = subst I (sym (keeps_ids s t keeps)) h.ids; known = subst K (sym by) h.known }
+
+-- a sender that keeps its orders, and says nothing
+sender_holds : (p : Settings) (past : List Happening) (accepted : List Origin) (w : World) (t : SenderState) (e : Event) (answer : Answer)
+    → Steps p w.sender t → Keeps w.sender t → ((node : ℕ) → taken_in node e answer ≡ []) → WorldHolds p past accepted w
+    → WorldHolds p (past ++ record { before = w; event = e; answer = answer; after = record w { sender = t } } ∷ []) accepted (record w { sender = t })
+sender_holds p past accepted w t e answer steps keeps none h =
+    quiet_world p past accepted accepted w (record w { sender = t }) e answer refl steps.holds (once_kept w.sender t accepted keeps h.once) steps.onward
+      (said_later p w.sender t w.offered steps.onward h.offered) (said_later p w.sender t w.given steps.onward h.given) none h
+
+-- a receiver that moved
+receiver_holds : (p : Settings) (past : List Happening) (accepted : List Origin) (w : World) (node : ℕ) (r t : ReceiverState) (e : Event) (answer : Answer)
+    → receiver_at w node ≡ Some r → Moved p w.sender r t → ((other : ℕ) → taken_in other e answer ≡ []) → WorldHolds p past accepted w
+    → WorldHolds p (past ++ record { before = w; event = e; answer = answer; after = with_receiver t w } ∷ []) accepted (with_receiver t w)
+receiver_holds p past accepted w node r t e answer found moved none h =
+    moved_world p past accepted w (with_receiver t w) e answer node r t found (moved_node_is p w.sender r t moved) refl refl refl moved none h.given h
+
+-- nothing happened to the world
+nothing_holds : (p : Settings) (past : List Happening) (accepted : List Origin) (w : World) (e : Event) (answer : Answer)
+    → ((node : ℕ) → taken_in node e answer ≡ []) → WorldHolds p past accepted w
+    → WorldHolds p (past ++ record { before = w; event = e; answer = answer; after = w } ∷ []) accepted w
+nothing_holds p past accepted w e answer none h =
+    quiet_world p past accepted accepted w w e answer refl h.sender h.once (goes_on_itself (instances w.sender)) h.offered h.given none h
+
+delivery_holds : (p : Settings) → InRange p → (past : List Happening) (accepted : List Origin) (w : World) (node : ℕ) (datagram : List ℕ) (now draw : ℕ)
+    → SaysTrue p w.sender datagram → WorldHolds p past accepted w
+    → HoldsAfter p past accepted w (Delivered node datagram now draw) (world_step p w (Delivered node datagram now draw))
+delivery_holds p range past accepted w node datagram now draw says h = go (node == p.sender) (receiver_at w node) refl
+  where
+    go : (own : Bool) (found : Option ReceiverState) → receiver_at w node ≡ found → HoldsAfter p past accepted w (Delivered node datagram now draw) (elim own [
+      | true ↦ (record w { sender = heard p w.sender datagram now }, Silent)
+      | false ↦ elim found [ Some r ↦ (with_receiver (received p r datagram now draw) w, Silent) | None ↦ (w, Silent) ]
+    ])
+    go true found e =
+        let keeps = heard_keeps p w.sender datagram now in
+        let wants = wants_step p (blocks_of p range) w.sender (events.Delivered datagram now) h.sender.wants in
+        sender_holds p past accepted w (heard p w.sender datagram now) (Delivered node datagram now draw) Silent
+          (keeps_steps p w.sender (heard p w.sender datagram now) keeps wants h.sender) keeps (λ other. refl) h
+    go false None e = nothing_holds p past accepted w (Delivered node datagram now draw) Silent (λ other. refl) h
+    go false (Some r) e =
+        receiver_holds p past accepted w node r (received p r datagram now draw) (Delivered node datagram now draw) Silent e
+          (received_moves p range w.sender r datagram now draw (orders_hold p w.sender h.sender) says) (λ other. refl) h
+
+-- what a node's tick gave is its to offer
+given_holds : (p : Settings) (past : List Happening) (accepted : List Origin) (w : World) (x : Happening) (node : ℕ) (sent : Option (List ℕ))
+    → SentTrue p w.sender sent → WorldHolds p past accepted w
+    → AllByRecursion (λ (o : ℕ × List ℕ). SaysTrue p w.sender o.1) (with_given node sent w).given
+given_holds p past accepted w x node None says h = all_filter (λ (o : ℕ × List ℕ). SaysTrue p w.sender o.1) _ w.given h.given
+given_holds p past accepted w x node (Some datagram) says h =
+    all_end (λ (o : ℕ × List ℕ). SaysTrue p w.sender o.1) (given_others node w) (node, datagram)
+      (all_filter (λ (o : ℕ × List ℕ). SaysTrue p w.sender o.1) _ w.given h.given) says
+
+-- a receiver says nothing false
+says_nothing_false : (p : Settings) (s : SenderState) (sent : Option (List ℕ)) → SendsNothingOf sent → SentTrue p s sent
+says_nothing_false p s None h = tt
+says_nothing_false p s (Some datagram) h = nothing_true p s (decoded datagram) h
+
+sender_tick_holds : (p : Settings) → InRange p → (past : List Happening) (accepted : List Origin) (w : World) (node now : ℕ) → WorldHolds p past accepted w
+    → HoldsAfter p past accepted w (Ticked node now) (sender_ticks p now w)
+sender_tick_holds p range past accepted w node now h =
+    let t : SenderState = (sender_ticked p w.sender now).0 in
+    let keeps = ticked_keeps p w.sender now in
+    let wants = wants_step p (blocks_of p range) w.sender (events.Ticked now) h.sender.wants in
+    let steps = keeps_steps p w.sender t keeps wants h.sender in
+    go t (sender_ticked p w.sender now).1 steps keeps (tick_true p range w.sender now h.sender h.once.ids)
+  where
+    said : (t : SenderState) (sent : Option (List ℕ)) → Onward w.sender t → SentTrue p w.sender sent
+        → AllByRecursion (λ (o : ℕ × List ℕ). SaysTrue p t o.1) (with_given p.sender sent (record w { sender = t })).given
+    said t None onward says =
+        all_filter (λ (o : ℕ × List ℕ). SaysTrue p t o.1) _ w.given (said_later p w.sender t w.given onward h.given)
+    said t (Some datagram) onward says =
+        all_end (λ (o : ℕ × List ℕ). SaysTrue p t o.1) (given_others p.sender w) (p.sender, datagram)
+          (all_filter (λ (o : ℕ × List ℕ). SaysTrue p t o.1) _ w.given (said_later p w.sender t w.given onward h.given))
+          (true_later p w.sender t (decoded datagram) onward says)
+    go : (t : SenderState) (sent : Option (List ℕ)) → Steps p w.sender t → Keeps w.sender t → SentTrue p w.sender sent
+        → HoldsAfter p past accepted w (Ticked node now) (with_given p.sender sent (record w { sender = t }), Sent sent)
+    go t None steps keeps says =
+        quiet_world p past accepted accepted w (with_given p.sender None (record w { sender = t })) (Ticked node now) (Sent None) refl steps.holds
+          (once_kept w.sender t accepted keeps h.once) steps.onward (said_later p w.sender t w.offered steps.onward h.offered)
+          (said t None steps.onward says) (λ other. refl) h
+    go t (Some datagram) steps keeps says =
+        quiet_world p past accepted accepted w (with_given p.sender (Some datagram) (record w { sender = t })) (Ticked node now) (Sent (Some datagram)) refl
+          steps.holds (once_kept w.sender t accepted keeps h.once) steps.onward (said_later p w.sender t w.offered steps.onward h.offered)
+          (said t (Some datagram) steps.onward says) (λ other. refl) h
+
+receiver_tick_holds : (p : Settings) (past : List Happening) (accepted : List Origin) (w : World) (node now : ℕ) (r : ReceiverState) → receiver_at w node ≡ Some r
+    → WorldHolds p past accepted w → HoldsAfter p past accepted w (Ticked node now) (receiver_ticks p now w r)
+receiver_tick_holds p past accepted w node now r found h =
+    let t : ReceiverState = (receiver_ticked p r now).0 in
+    let moved : Moved p w.sender r t = same_moves p w.sender r t (tick_same p r now) in
+    go t (receiver_ticked p r now).1 moved (says_nothing_false p w.sender (receiver_ticked p r now).1 (receiver_says_nothing p r now))
+  where
+    go : (t : ReceiverState) (sent : Option (List ℕ)) → Moved p w.sender r t → SentTrue p w.sender sent
+        → HoldsAfter p past accepted w (Ticked node now) (with_given r.node sent (with_receiver t w), Sent sent)
+    go t None moved says =
+        moved_world p past accepted w (with_given r.node None (with_receiver t w)) (Ticked node now) (Sent None) node r t found
+          (moved_node_is p w.sender r t moved) refl refl refl moved (λ other. refl)
+          (all_filter (λ (o : ℕ × List ℕ). SaysTrue p w.sender o.1) _ w.given h.given) h
+    go t (Some datagram) moved says =
+        moved_world p past accepted w (with_given r.node (Some datagram) (with_receiver t w)) (Ticked node now) (Sent (Some datagram)) node r t found
+          (moved_node_is p w.sender r t moved) refl refl refl moved (λ other. refl)
+          (all_end (λ (o : ℕ × List ℕ). SaysTrue p w.sender o.1) (given_others r.node w) (r.node, datagram)
+            (all_filter (λ (o : ℕ × List ℕ). SaysTrue p w.sender o.1) _ w.given h.given) says) h
+
+tick_holds : (p : Settings) → InRange p → (past : List Happening) (accepted : List Origin) (w : World) (node now : ℕ) → WorldHolds p past accepted w
+    → HoldsAfter p past accepted w (Ticked node now) (world_step p w (Ticked node now))
+tick_holds p range past accepted w node now h = go (node == p.sender) (receiver_at w node) refl
+  where
+    go : (own : Bool) (found : Option ReceiverState) → receiver_at w node ≡ found → HoldsAfter p past accepted w (Ticked node now) (elim own [
+      | true ↦ sender_ticks p now w
+      | false ↦ elim found [ Some r ↦ receiver_ticks p now w r | None ↦ (w, Silent) ]
+    ])
+    go true found e = sender_tick_holds p range past accepted w node now h
+    go false None e = nothing_holds p past accepted w (Ticked node now) Silent (λ other. refl) h
+    go false (Some r) e = receiver_tick_holds p past accepted w node now r e h
+
+offer_holds : (p : Settings) (past : List Happening) (accepted : List Origin) (w : World) (node : ℕ) (datagram : List ℕ) → Contains w.given (node, datagram)
+    → WorldHolds p past accepted w → HoldsAfter p past accepted w (Offered node datagram) (world_step p w (Offered node datagram))
+offer_holds p past accepted w node datagram has h =
+    quiet_world p past accepted accepted w (with_offer node datagram w) (Offered node datagram) Silent refl h.sender h.once (goes_on_itself (instances w.sender))
+      (all_end (λ (o : ℕ × List ℕ). SaysTrue p w.sender o.1) w.offered (node, datagram) h.offered
+        (all_contains (λ (o : ℕ × List ℕ). SaysTrue p w.sender o.1) w.given (node, datagram) h.given has))
+      (all_filter (λ (o : ℕ × List ℕ). SaysTrue p w.sender o.1) _ w.given h.given) (λ other. refl) h
+
+-- a world and the answer after a receiver's next hand-up was asked for
+abbrev taken_by : World → ReceiverState × Option Up → World × Answer
+taken_by w step = (with_receiver step.0 w, Took step.1)
+
+taking_holds : (p : Settings) (past : List Happening) (accepted : List Origin) (w : World) (node : ℕ) → WorldHolds p past accepted w
+    → HoldsAfter p past accepted w (UpTaken node) (world_step p w (UpTaken node))
+taking_holds p past accepted w node h = go (receiver_at w node) refl
+  where
+    ups : (r : ReceiverState) → receiver_at w node ≡ Some r → (waiting : List Up) → r.ups ≡ waiting → HoldsAfter p past accepted w (UpTaken node)
+        (taken_by w (elim waiting [ up ∷ more ↦ (record r { ups = more }, Some up) | [] ↦ (r, None) ]))
+    ups r found [] e = receiver_holds p past accepted w node r r (UpTaken node) (Took None) found (same_moves p w.sender r r (held_same r)) (λ other. refl) h
+    ups r found (up ∷ more) e = taken_world p past accepted w (with_receiver (record r { ups = more }) w) node r up more found e refl refl refl refl h
+    go : (found : Option ReceiverState) → receiver_at w node ≡ found → HoldsAfter p past accepted w (UpTaken node) (elim found [
+      | Some r ↦ (with_receiver (took r).0 w, Took (took r).1)
+      | None ↦ (w, Silent)
+    ])
+    go None e = nothing_holds p past accepted w (UpTaken node) Silent (λ other. refl) h
+    go (Some r) e = ups r e r.ups refl
+
+event_holds : (p : Settings) → InRange p → (past : List Happening) (accepted : List Origin) (w : World) (e : Event) → MayCome w accepted e → IsEvent e → IsOfObjects e
+    → WorldHolds p past accepted w → HoldsAfter p past accepted w e (world_step p w e)
+event_holds p range past accepted w (Commanded by job now) may is of h = command_holds p range past accepted w by job now may is of h
+event_holds p range past accepted w (Delivered node datagram now draw) may is of h =
+    delivery_holds p range past accepted w node datagram now draw
+      (all_contains (λ (o : ℕ × List ℕ). SaysTrue p w.sender o.1) w.offered (may.0, datagram) h.offered may.2) h
+event_holds p range past accepted w (Ticked node now) may is of h = tick_holds p range past accepted w node now h
+event_holds p range past accepted w (Offered node datagram) may is of h = offer_holds p past accepted w node datagram may h
+event_holds p range past accepted w (UpTaken node) may is of h = taking_holds p past accepted w node h
+event_holds p range past accepted w NewsAsked may is of h =
+    let keeps = told_keeps w.sender in
+    let wants = wants_step p (blocks_of p range) w.sender events.NewsAsked h.sender.wants in
+    sender_holds p past accepted w (told w.sender).0 NewsAsked (Told (told w.sender).1) (keeps_steps p w.sender (told w.sender).0 keeps wants h.sender) keeps
+      (λ other. refl) h
