@@ -2,6 +2,8 @@
 use Rattle.std.proofs.Common.{◌≡◌, ℕ, zero, suc, ◌+◌, ◌<◌, ◌≤◌, cond, List, [], ◌∷◌, ◌++◌, length, take, Bool, true, false, Option, None, Some, Result, Ok, Err, refl, sym, ap, ◌∙◌, subst, append_assoc, arith}
 use Rattle.std.specs.Prelude.{map, find, filter, ◌==◌, not, nat_eq, Contains, ⊤}
 use Rattle.std.specs.List.{AllByRecursion, IsDistinct}
+use Rattle.std.proofs.lemmas.Bool.Decides.{Decides-eqb}
+use Rattle.std.proofs.lemmas.List.{append-nil}
 use Rattle.norm_base.specs.Settings.{Settings, InRange}
 use Rattle.norm_base.specs.Members.{receivers_of}
 use Rattle.norm_base.specs.declared.node.Origin.{Origin}
@@ -27,7 +29,7 @@ use Rattle.norm_safety.specs.WorldStep.{world_step, sender_ticks, receiver_ticks
 use Rattle.norm_safety.specs.Lawful.{accepted_with, MayCome, LawfulFrom, Lawful}
 use Rattle.norm_safety.specs.History.{Happening, happens, last_world, history}
 use Rattle.norm_safety.specs.Hands.{hands, instance_at}
-use Rattle.norm_safety.specs.InOrder.{InOrder, came_to, drop_of, HandsInOrder}
+use Rattle.norm_safety.specs.InOrder.{came_to, InOrder, drop_of, HandsInOrder}
 use Rattle.norm_safety.specs.OnceEach.{order_of}
 use Rattle.norm_safety.proofs.SenderKeeps.{Keeps, keeps_all, heard_keeps, ticked_keeps, told_keeps}
 use Rattle.norm_safety.specs.Hands.{taken_in}
@@ -42,7 +44,7 @@ use Rattle.norm_safety.proofs.Feedback.{SendsNothingOf, receiver_says_nothing}
 use Rattle.norm_safety.proofs.TickTrue.{SentTrue, tick_true, nothing_true, true_later}
 use Rattle.norm_safety.proofs.Exact.{exactly_through}
 use Rattle.norm_safety.proofs.ReceiverMoves.{Moved, Remains, Enters, received_moves, same_moves, tick_same, held_same}
-use Rattle.norm_safety.proofs.WorldHolds.{Through, AtReceiver, AtNone, AtNode, WorldHolds, last_in, said_later, all_filter, all_end, all_contains, quiet_world}
+use Rattle.norm_safety.proofs.WorldHolds.{Through, AtReceiver, AtNone, AtNode, WorldHolds, last_in, instance_of, said_later, all_filter, all_end, all_contains, quiet_world}
 use Rattle.norm_safety.proofs.WorldMoves.{moved_world}
 use Rattle.norm_safety.proofs.WorldTakes.{taken_world}
 
@@ -235,3 +237,78 @@ event_holds p range past accepted w NewsAsked may is of h =
     let wants = wants_step p (blocks_of p range) w.sender events.NewsAsked h.sender.wants in
     sender_holds p past accepted w (told w.sender).0 NewsAsked (Told (told w.sender).1) (keeps_steps p w.sender (told w.sender).0 keeps wants h.sender) keeps
       (λ other. refl) h
+
+-- ---- a run
+
+-- no node came to an instance, as a world begins
+none_yet : (p : Settings) (nodes : List ℕ) (node : ℕ) → AtNode p (sender_opening p) [] node (find (λ (r : ReceiverState). r.node == node) (map receiver_opening nodes))
+unfolding IsDistinct came_to
+none_yet p [] node = record { came = refl }
+none_yet p (n ∷ nodes) node = go (n == node) refl (none_yet p nodes node)
+  where
+    go : (b : Bool) → (n == node) ≡ b → AtNode p (sender_opening p) [] node (find (λ (r : ReceiverState). r.node == node) (map receiver_opening nodes))
+        → AtNode p (sender_opening p) [] node (cond b (Some (receiver_opening n)) (find (λ (r : ReceiverState). r.node == node) (map receiver_opening nodes)))
+    go true e more = record { here = (Decides-eqb n node).0 e; came = refl; once = tt; stands = refl; never = λ id out gone. refl }
+    go false e more = more
+
+none_in : (nodes : List ℕ) (node : ℕ) → instance_of (find (λ (r : ReceiverState). r.node == node) (map receiver_opening nodes)) ≡ None
+none_in [] node = refl
+none_in (n ∷ nodes) node = go (n == node) (none_in nodes node)
+  where
+    go : (b : Bool) → instance_of (find (λ (r : ReceiverState). r.node == node) (map receiver_opening nodes)) ≡ None
+        → instance_of (cond b (Some (receiver_opening n)) (find (λ (r : ReceiverState). r.node == node) (map receiver_opening nodes))) ≡ None
+    go true more = refl
+    go false more = more
+
+opening_world : (p : Settings) → InRange p → WorldHolds p [] [] (world_opening p)
+unfolding IsDistinct
+opening_world p range = record {
+  sender = opening_holds p range;
+  once = record { differ = tt; ids = (tt, tt); known = tt };
+  offered = tt;
+  given = tt;
+  nodes = λ node. none_yet p (receivers_of p p.receivers) node;
+  through = λ node id. record { count = 0; within = omega arith; exactly = refl };
+  latest = λ node. sym (none_in (receivers_of p p.receivers) node);
+}
+
+-- what lawful events leave, from a world on
+pub record RunHolds (p : Settings) (past : List Happening) (w : World) (events : List Event) : Type 0 where
+  pub accepted : List Origin
+  pub holds : WorldHolds p (past ++ happens p w events) accepted (last_world w (happens p w events))
+
+run_holds : (p : Settings) → InRange p → (past : List Happening) (accepted : List Origin) (w : World) (events : List Event) → LawfulFrom p w accepted events
+    → AreEvents events → AreOfObjects events → WorldHolds p past accepted w → RunHolds p past w events
+unfolding happens last_world
+run_holds p range past accepted w [] lawful are of h =
+    let W : List Happening → Type 0 = λ all. WorldHolds p all accepted w in
+    record { accepted = accepted; holds = subst W (sym (append-nil past)) h }
+run_holds p range past accepted w (e ∷ events) lawful are of h =
+    let step = world_step p w e in
+    let x : Happening = happening w e step in
+    let next = event_holds p range past accepted w e lawful.0 are.0 of.0 h in
+    let rest = run_holds p range (past ++ x ∷ []) (accepted_with accepted e step.1) step.0 events lawful.1 are.1 of.1 next in
+    let W : List Happening → Type 0 = λ all. WorldHolds p all rest.accepted (last_world step.0 (happens p step.0 events)) in
+    record { accepted = rest.accepted; holds = subst W (append_assoc past (x ∷ []) (happens p step.0 events)) rest.holds }
+
+pub run_of : (p : Settings) → InRange p → (events : List Event) → Lawful p events → AreEvents events → AreOfObjects events
+    → RunHolds p [] (world_opening p) events
+run_of p range events lawful are of = run_holds p range [] [] (world_opening p) events lawful are of (opening_world p range)
+
+pub in_order_run : (p : Settings) → InRange p → (events : List Event) → Lawful p events → AreEvents events → AreOfObjects events
+    → InOrder p (history p events)
+unfolding IsDistinct
+in_order_run p range events lawful are of = record {
+  through = λ node id. (
+    let t = run.holds.through node id in
+    exactly_through p (drop_of (history p events).now.sender id) 0 t.count (order_of (history p events).now.sender id) _ t.exactly
+  );
+  once = λ node. once node (receiver_at (history p events).now node) (run.holds.nodes node);
+}
+  where
+    run : RunHolds p [] (world_opening p) events
+    run = run_of p range events lawful are of
+    once : (node : ℕ) (found : Option ReceiverState) → AtNode p (history p events).now.sender (history p events).happened node found
+        → IsDistinct nat_eq (came_to node None (history p events).happened)
+    once node None h = let D : List ℕ → Type 0 = λ xs. IsDistinct nat_eq xs in subst D (sym h.came) tt
+    once node (Some r) h = let D : List ℕ → Type 0 = λ xs. IsDistinct nat_eq xs in subst D (sym h.came) h.once
