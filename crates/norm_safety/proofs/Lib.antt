@@ -31,3 +31,5 @@ pub mod WorldHolds
 pub mod WorldMoves
 pub mod WorldTakes
 pub mod OrderRun
+pub mod SaidRun
+pub mod SafeRun

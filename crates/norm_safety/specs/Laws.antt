@@ -1,5 +1,6 @@
 -- What is promised of runs, and of the tests of safety.
-use Rattle.std.specs.Prelude.{List}
+use Rattle.std.specs.Prelude.{List, IsTrue}
+use Rattle.std.specs.List.{AllByRecursion}
 use Rattle.std.specs.Bool.{Decides}
 use Rattle.norm_base.specs.Settings.{Settings, InRange}
 use Rattle.norm_send_rules.specs.Laws.{WantsHold}
@@ -10,7 +11,11 @@ use Rattle.norm_safety.specs.InOrder.{InOrder, is_in_order}
 use Rattle.norm_safety.specs.ListedAfter.{ListedAfter, is_listed_after}
 use Rattle.norm_safety.specs.SatisfiedExactly.{SatisfiedExactly, is_satisfied_exactly}
 use Rattle.norm_safety.specs.Lawful.{Lawful, is_lawful}
+use Rattle.norm_safety.specs.Jobs.{AreEvents, AreOfObjects}
 use Rattle.norm_safety.specs.Safe.{Safe, is_safe}
+use Rattle.norm_safety.specs.Said.{said_data, said_infos, said_squelches}
+use Rattle.norm_safety.specs.SaysPositions.{squelches_dropped}
+use Rattle.norm_safety.specs.SaysSymbols.{SaysSymbol, SaysInfo}
 use Rattle.norm_safety.specs.WorldStep.{run}
 
 -- A test gives true exactly where its part of safety holds. That of the second part looks only at the receivers and the
@@ -28,3 +33,23 @@ pub record TestLaws : Type 0 where
 -- in each run what the sender wants to send again is of its order and in its window, the lowest first
 abbrev pub WantsHoldInRuns : Type 0
 WantsHoldInRuns = (p : Settings) (events : List Event) → InRange p → WantsHold p (run p events).sender
+
+-- What was said, or waits to be, is true of the orders: each DATA carries an encoded symbol of its entry, each INFO the info of
+-- its entry, with the entry's transmission information and flags; and a squelch names a point that its instance's drop
+-- point is not before.
+pub record SaidOfOrders (p : Settings) (h : History) : Type 0 where
+  pub symbols : AllByRecursion (SaysSymbol p h.now.sender) (said_data h.now)
+  pub infos : AllByRecursion (SaysInfo p h.now.sender) (said_infos h.now)
+  pub squelches : AllByRecursion (λ m. IsTrue (squelches_dropped p h.now.sender m)) (said_squelches h.now)
+
+-- a promise of each lawful run of data and files under a profile, whatever the network loses, repeats, reorders or delays,
+-- and however often the sender restarts
+abbrev pub OfRunsOfObjects : (Settings → History → Type 0) → Type 0
+OfRunsOfObjects Promise = (p : Settings) → InRange p → (events : List Event) → Lawful p events → AreEvents events → AreOfObjects events
+    → Promise p (history p events)
+
+-- The first two parts of safety. Accepted objects enter the transport order once each, in every lawful run; and in those of
+-- data and files each receiver hands up that order, with a loss only below the drop point.
+pub record SafeRun : Type 0 where
+  pub once : (p : Settings) (events : List Event) → Lawful p events → OnceEach (history p events)
+  pub order : OfRunsOfObjects InOrder

@@ -1,20 +1,22 @@
 //! What is promised of runs of a sender and its receivers, and of the tests of safety. Each law is the contract of a
 //! function that does nothing.
 
-ghost use Rattle.std.specs.Prelude.{List};
-ghost use Rattle.norm_base.specs.Settings.{Settings};
-ghost use Rattle.norm_safety.specs.Events.{Event};
-ghost use Rattle.norm_safety.specs.History.{history};
-ghost use Rattle.norm_safety.specs.Lawful.{Lawful};
-ghost use Rattle.norm_safety.specs.Laws.{TestLaws, WantsHoldInRuns};
-ghost use Rattle.norm_safety.specs.OnceEach.{OnceEach};
+ghost use Rattle.norm_safety.specs.Laws.{TestLaws, WantsHoldInRuns, SafeRun, OfRunsOfObjects, SaidOfOrders};
 
-/// Accepted objects enter the transport order once each, in every lawful run, whatever the network does and however often
-/// the sender restarts: no command stands twice among all orders and requests, instances have different ids, and an
-/// accepted object stands at the index that was answered.
-#[tactic(auto, using(crate::proofs::OnceRun::once_each_run))]
-pub fn once_each()
-    ensures { (p : Settings) (events : List Event) → Lawful p events → OnceEach (history p events) }
+/// The first two parts of safety. In every lawful run, whatever the network loses, repeats, reorders or delays and however
+/// often the sender restarts, accepted objects enter the transport order once each. And in those of data and files each
+/// receiver hands up an instance's order from its beginning, without a gap and octet for octet, with a loss only below the
+/// drop point, and is in each instance once.
+#[tactic(auto, using(crate::proofs::SafeRun::safe_run))]
+pub fn safe_run()
+    ensures { SafeRun }
+{}
+
+/// In lawful runs of data and files each DATA and INFO that was said carries the encoded symbol or the info of its entry, with
+/// the entry's transmission information and flags, and each squelch a point that its instance's drop point is not before.
+#[tactic(auto, using(crate::proofs::SaidRun::said_run))]
+pub fn said_run()
+    ensures { OfRunsOfObjects SaidOfOrders }
 {}
 
 /// The test of each part of safety gives true exactly where that part holds, and so the test of all four; and that of
