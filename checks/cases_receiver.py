@@ -1,6 +1,6 @@
-"""Small runs of the receiver's rules: plans, symbols, hand-ups, needs."""
-from cases_heard import HEARD_PROFILE
-from steps import NONE, STREAM, Run, command, data, info, nack, request, segment, small, stream_data
+"""Small runs of the receiver's rules: plans, symbols, hand-ups, losses, acknowledgements."""
+from steps import STREAM, Run, command, data, info, segment, small
+from terms import nums
 
 
 def receiver_look(r, row, gives):
@@ -23,6 +23,47 @@ def a_segment_of_too_many_octets():
     payload = '(0 ∷ 100 ∷ hx 70 0x0000000000005a%s)' % ('5a' * 63)
     r = Run(b=1, max_n=2).hears(2, data(0, 0, 1, payload, l=1024, flags=32, b=1, max_n=2))
     return r.take(2, [42, 0]).take(2, [43, 0, 0, *[0x5a] * 64]).take(2, [40])
+
+
+@small
+def an_object_from_parity():
+    """With two source symbols the first parity symbol is 02 times the first and 03 times the second, which is padded for it."""
+    r = Run(b=2, max_n=3).hears(2, data(0, 0, 0, 'hx 64 0x%s' % ('01' * 64), l=65, b=2, max_n=3)).take(2, [40])
+    return r.hears(2, data(0, 0, 2, 'hx 64 0x01%s' % ('02' * 63))).take(2, [41, 0, 0, 0, *[1] * 65])
+
+
+@small
+def a_segment_from_parity():
+    """The one parity symbol of a block of one segment is that segment with its padding."""
+    r = Run(b=1, max_n=2).hears(2, data(0, 0, 1, nums([0, 1, 0, 0, 0, 0, 0, 0, 0x5a] + [0] * 63), l=1024, flags=32, b=1, max_n=2))
+    return r.take(2, [42, 0]).take(2, [43, 0, 0, 0x5a]).take(2, [40])
+
+
+@small
+def hand_ups_of_one_delivery():
+    """Of the object that comes last, and of the stream behind it: its open once, its segments, its end."""
+    def make(symbol, payload):
+        return data(1, 0, symbol, payload, l=64 * 3 * 16, flags=32, b=3, max_n=3)
+    r = Run(b=3, max_n=3).hears(2, make(1, segment(64, 1))).hears(2, make(2, segment(65, 0))).hears(2, make(0, segment(0, 64))).take(2, [40])
+    r.hears(2, data(0, 0, 0, 'hx 1 0x41', l=1, b=3, max_n=3)).take(2, [41, 0, 0, 0, 0x41])
+    return r.take(2, [42, 1]).take(2, [43, 1, 0, *[0x5a] * 64]).take(2, [43, 1, 64, 0x5a]).take(2, [44, 1]).take(2, [40])
+
+
+@small
+def a_squelch_behind_whole_objects():
+    """What is whole behind a loss is handed up, and the object at the window is not lost."""
+    r = Run().hears(2, data(1, 0, 0, 'hx 1 0x41', l=1)).take(2, [40]).hears(2, command('Squelch', 2, 0, 0))
+    r.take(2, [45, 0]).take(2, [41, 1, 0, 0, 0x41]).take(2, [40])
+    return r.hears(2, data(2, 0, 0, 'hx 1 0x42', l=1)).take(2, [41, 2, 0, 0, 0x42])
+
+
+@small
+def a_sequence_goes_on_in_another_instance():
+    """The sequence number is the second pair of octets of a NACK."""
+    r, head = Run(), 'flat_map (λ (g : ℕ × List ℕ). take 4 g.1) w.given'
+    for i, instance in enumerate((7, 8)):
+        r.hears(2, data(1, 0, 0, 'hx 1 0x41', instance=instance)).tick(2, 0, [4, 1, 12, 0, 0, 0]).look(head, [0x14, 6, 0, i])
+    return r
 
 
 @small
@@ -55,9 +96,57 @@ def symbols_that_do_not_fit():
 
 
 @small
+def another_plan_than_the_known_one():
+    """A symbol with another length, or with another STREAM flag, is not put, though it would fit the plan that is known."""
+    octets = 'hx 64 0x%s' % ('41' * 64)
+    r = Run().hears(2, data(0, 0, 0, octets, l=128)).hears(2, data(0, 0, 1, octets, l=129)).hears(2, data(0, 0, 1, octets, l=128, flags=32)).take(2, [40])
+    return r.hears(2, data(0, 0, 1, octets, l=128)).take(2, [41, 0, 0, 0, *[0x41] * 128])
+
+
+@small
+def the_room_of_a_stream():
+    """Whatever length it says, it takes its buffer of 512 octets, for which there is no room beside an object that waits."""
+    r = Run(octets=512, blocks=2).hears(2, data(1, 0, 0, 'hx 1 0x41', l=1)).hears(2, data(0, 0, 0, segment(0, 1), l=1, flags=32))
+    return receiver_look(r, 'map (λ (x : Plan). x.index) r.plans', [1])
+
+
+@small
+def the_length_of_a_stream():
+    """It is not looked at: another one is the same plan, and the stream has room for its buffer."""
+    r = Run(octets=513, blocks=2).hears(2, data(1, 0, 0, 'hx 1 0x41', l=1)).hears(2, data(0, 0, 0, segment(0, 1), l=1, flags=32))
+    r.hears(2, data(0, 0, 1, segment(1, 1), l=600, flags=32)).take(2, [42, 0]).take(2, [43, 0, 0, 0x5a]).take(2, [43, 0, 1, 0x5a])
+    return receiver_look(r, 'map (λ (x : Plan). x.index) r.plans', [0, 1])
+
+
+@small
+def symbols_behind_the_last():
+    """Of 129 octets in blocks of 2 and 1: a third block's parity symbol, and a third symbol of a block that is done."""
+    octets = 'hx 64 0x%s' % ('41' * 64)
+    r = Run(b=2, max_n=4).hears(2, data(0, 0, 0, octets, l=129, b=2, max_n=4)).hears(2, data(0, 2, 1, octets)).hears(2, data(0, 0, 1, octets))
+    return receiver_look(r.hears(2, data(0, 0, 2, octets)), 'flat_map (λ (h : Held). at_numbers h.at) r.held', [0, 0, 0, 0, 0, 1])
+
+
+@small
+def infos_that_do_not_fit():
+    """Of an object whose flags have no INFO, or of more than e octets."""
+    octets, infos = 'hx 64 0x%s' % ('41' * 64), 'map (λ (h : HeldInfo). h.index) r.infos'
+    r = Run().hears(2, data(0, 0, 0, octets, l=128)).hears(2, info(0, '(1 ∷ [])')).hears(2, data(1, 0, 0, octets, l=128, flags=4))
+    receiver_look(r.hears(2, info(1, 'hx 65 0x%s' % ('42' * 65))), infos, [])
+    return receiver_look(r.hears(2, info(1, 'hx 64 0x%s' % ('42' * 64))), infos, [1])
+
+
+@small
 def a_file_waits_for_its_info():
     r = Run().hears(2, data(0, 0, 0, 'hx 1 0x41', l=1, flags=20)).take(2, [40]).hears(2, command('Flush', 0, 0, 0, nodes=[2]))
     return r.tick(2, 0, [4, 1, 4, 0, 0, 0]).hears(2, info(0, '(1 ∷ 2 ∷ [])', l=1, flags=20)).take(2, [41, 0, 1, 1, 2, 1, 2, 0x41])
+
+
+@small
+def a_stream_waits_for_its_info():
+    """It is asked for where the stream is covered; then open and segment are handed up together."""
+    r = Run(**STREAM).hears(2, data(0, 0, 0, segment(0, 1), l=1024, flags=36, b=1, max_n=1)).take(2, [40]).tick(2, 0)
+    r.hears(2, command('Flush', 0, 0, 0)).tick(2, 0, [4, 1, 4, 0, 0, 0])
+    return r.hears(2, info(0, '(9 ∷ [])', flags=36)).take(2, [42, 0]).take(2, [43, 0, 0, 0x5a]).take(2, [40])
 
 
 @small
@@ -67,64 +156,3 @@ def acknowledging():
     r.hears(2, command('Flush', 0, 0, 0, nodes=[3])).tick(2, 0).hears(2, command('Flush', 1, 0, 0, nodes=[3, 2])).hears(2, command('Flush', 0, 0, 0, nodes=[2]))
     r.tick(2, 0, [5, 1, 0, 0]).tick(2, 0).hears(2, command('Flush', 2, 0, 0, nodes=[2])).tick(2, 100000, [4, 1, 12, 2, 0, 0])
     return r.hears(2, command('Squelch', 3, 0, 0)).take(2, [45, 2]).hears(2, command('Flush', 1, 0, 0, nodes=[2])).tick(2, 100000)
-
-
-@small
-def the_longest_prefix():
-    """Of nine needs of eight octets behind a head of four, seven fit 64 octets."""
-    r = Run().hears(2, data(9, 0, 0, 'hx 1 0x41'), 0, 5)
-    return r.tick(2, 4).tick(2, 5, [4, 1, 12, *[n for i in range(7) for n in (i, 0, 0)]]).hears(2, data(9, 0, 0, 'hx 1 0x41'), 60004).tick(2, 70000)
-
-
-@small
-def the_hold_off():
-    """K + 2 round trips after a NACK no back-off begins; a draw is taken modulo K round trips and one."""
-    r = Run().hears(2, data(1, 0, 0, 'hx 1 0x41'), 0, 40001).tick(2, 0, [4, 1, 12, 0, 0, 0]).hears(2, data(1, 0, 0, 'hx 1 0x41'), 59999, 0).tick(2, 59999)
-    return r.hears(2, data(1, 0, 0, 'hx 1 0x41'), 60000, 40000).tick(2, 99999).tick(2, 100000, [4, 1, 12, 0, 0, 0])
-
-
-@small
-def what_was_heard_is_forgotten():
-    """With the next back-off; and what is heard while none runs does not count."""
-    r = Run(**HEARD_PROFILE).hears(2, nack(3, request('Items', 12, (0, 0, 0)))).hears(2, data(1, 0, 0, 'hx 1 0x41'))
-    r.hears(2, nack(3, request('Items', 12, (0, 0, 0)))).tick(2, 0).hears(2, data(1, 0, 0, 'hx 1 0x41'), 60000, 0)
-    return r.tick(2, 60000, [4, 1, 12, 0, 0, 0])
-
-
-@small
-def needs_of_objects():
-    """Blocks before the farthest point, or at most at the flush's."""
-    r = Run(b=2, max_n=3).hears(2, data(0, 1, 0, 'hx 64 0x%s' % ('41' * 64), l=320, b=2, max_n=3))
-    r.tick(2, 0, [4, 3, 1, 0, 0, 2]).hears(2, command('Flush', 0, 1, 1), 60000, 0).tick(2, 60000, [4, 3, 1, 0, 0, 2, 0, 1, 1])
-    return r.hears(2, data(1, 0, 0, 'hx 1 0x41'), 120000, 0).tick(2, 120000, [4, 3, 1, 0, 0, 2, 0, 1, 1, 0, 2, 1])
-
-
-@small
-def needs_of_a_stream():
-    """Earlier blocks by count, the flush's and the end's block by symbols, and the rest where the end is not held."""
-    def make(block, symbol, payload):
-        return data(0, block, symbol, payload, l=2048, flags=32, b=3, max_n=4)
-    r = Run(b=3, max_n=4).hears(2, make(1, 2, segment(64 * 5, 64)), 0, 0).tick(2, 0, [4, 3, 1, 0, 0, 3])
-    r.hears(2, command('Flush', 0, 1, 1), 60000, 0).tick(2, 60000, [4, 3, 1, 0, 0, 3, 1, 1, 0, 1, 0, 0, 1, 1])
-    r.hears(2, command('Flush', 0, 1, 3), 120000, 0).tick(2, 120000, [4, 3, 1, 0, 0, 3, 1, 1, 0, 1, 0, 0, 1, 1])
-    r.hears(2, data(1, 0, 0, 'hx 1 0x41'), 180000, 0).tick(2, 180000, [4, 3, 1, 0, 0, 3, 1, 1, 0, 1, 0, 0, 1, 1, 2, 2, 0, 1, 0, 0, 16777215, 0])
-    r.hears(2, make(3, 2, segment(0, 0)), 240000, 0)
-    r.tick(2, 240000, [4, 3, 1, 0, 0, 3, 0, 1, 2, 0, 2, 3, 1, 1, 0, 1, 0, 0, 1, 1, 0, 3, 0, 0, 3, 1])
-    return r
-
-
-@small
-def the_end_of_a_stream():
-    """In the block of a held end each symbol before it is missing; a symbol stands once."""
-    def make(block, symbol, payload):
-        return data(0, block, symbol, payload, l=2048, flags=32, b=4, max_n=4)
-    r = Run(b=4, max_n=4).hears(2, make(0, 3, segment(0, 0)), 0, 0).tick(2, 0).hears(2, command('Flush', 0, 0, 1), 0, 0)
-    r.tick(2, 0, [4, 1, 1, 0, 0, 0, 0, 0, 1, 0, 0, 2]).hears(2, make(0, 0, segment(0, 64)), 60000, 0)
-    return r.tick(2, 60000, [4, 1, 1, 0, 0, 1, 0, 0, 2])
-
-
-@small
-def the_block_behind_a_whole_one():
-    """From a whole greatest block on the rest begins behind it."""
-    r = Run(**STREAM).hears(2, stream_data(0, 0, 64)).take(2, [42, 0]).take(2, [43, 0, 0, *[0x5a] * 64])
-    return r.hears(2, data(1, 0, 0, 'hx 1 0x41'), 0, 0).tick(2, 0, [4, 2, 2, 0, 1, 0, 0, 16777215, 0])

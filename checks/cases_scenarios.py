@@ -1,5 +1,5 @@
 """Scenarios in which a near miss of a rule shows. What each lists was computed from the rules by hand."""
-from steps import NONE, NOTHING, STREAM, Run, ack, command, data, nack, request, small, stream_data
+from steps import NOTHING, STREAM, Run, ack, command, data, nack, request, small, stream_data
 
 
 def three_objects(r, size=64):
@@ -132,8 +132,8 @@ def an_acknowledgement_of_what_was_dropped():
 
 @small
 def acknowledged_positions():
-    """Source means the block's own k: an object of 257 octets has blocks of 3 and 2."""
-    r = Run().data(257, 0, [1, 0, 257])
+    """Of a flush alone; and source means the block's own k: an object of 257 octets has blocks of 3 and 2."""
+    r = Run().data(257, 0, [1, 0, 257]).hears(1, ack(2, 0, 1, 1).replace('ack_type = 2', 'ack_type = 1')).news([20])
     for at, news in [((0, 0, 3), [20]), ((0, 1, 2), [20]), ((0, 2, 0), [20]), ((1, 0, 0), [20]), ((0, 1, 1), [21, 2, 0, 1, 1]), ((0, 1, 0), [20])]:
         r.hears(1, ack(2, *at)).news(news)
     return r.hears(1, ack(3, 0, 1, 1)).hears(1, ack(2, 0, 1, 1, instance=8)).news([20])
@@ -159,6 +159,29 @@ def squelch_behind_a_held_block():
 def squelch_before_a_held_block():
     """A stream is lost without an open where its first block never came."""
     return Run(**STREAM).hears(2, stream_data(1, 1, 1)).hears(2, command('Squelch', 0, 1, 0)).take(2, [45, 0]).take(2, [40])
+
+
+def stream_behind_a_gap(blocks):
+    """Object 0 is missing, and of the stream behind it these blocks of one octet are held."""
+    r = Run(**STREAM)
+    for block in blocks:
+        r.hears(2, stream_data(block, block, 1).replace('object = 0', 'object = 1'))
+    return r.take(2, [40])
+
+
+@small
+def squelch_behind_a_stream():
+    """What is there next of a stream is handed up before the rest of it is lost, and nothing after."""
+    r = stream_behind_a_gap([0, 1]).hears(2, command('Squelch', 2, 0, 0)).take(2, [45, 0]).take(2, [42, 1])
+    r.take(2, [43, 1, 0, 0x5a]).take(2, [43, 1, 1, 0x5a]).take(2, [45, 1]).take(2, [40])
+    return r.hears(2, stream_data(2, 2, 1).replace('object = 0', 'object = 1')).take(2, [40])
+
+
+@small
+def squelch_within_a_stream():
+    """Its next block is held, and then the one behind that is neither held nor in the window."""
+    r = stream_behind_a_gap([0]).hears(2, command('Squelch', 1, 1, 0)).take(2, [45, 0]).take(2, [42, 1]).take(2, [43, 1, 0, 0x5a]).take(2, [40])
+    return r.hears(2, command('Squelch', 1, 2, 0)).take(2, [45, 1]).take(2, [40])
 
 
 @small

@@ -1,6 +1,7 @@
 """Small runs of the sender's rules: rounds, drops, flushes, refusals."""
 from cases_asked import many_objects
-from steps import NONE, Run, command, nack, request, small
+from cases_heard import repair_adv
+from steps import NONE, Run, ack, command, nack, request, small
 
 
 @small
@@ -20,6 +21,14 @@ def asked_of_a_stream():
     r.tick(1, 12).wants([0, 0, 0]).hears(1, nack(2, request('Erasures', 1, (0, 0, 1))), 20).write(3, 21, [3, 0, 129, 3])
     r.job('job.Close', 21, [4, 0]).tick(1, 22).wants([0, 0, 0, 0, 0, 3])
     return r.hears(1, nack(2, request('Erasures', 1, (0, 1, 1)), request('Erasures', 1, (0, 0, 0))), 30).tick(1, 32).wants([0, 0, 0, 0, 0, 3, 0, 1, 0])
+
+
+@small
+def a_count_of_a_block_without_a_segment():
+    """It is not kept where nothing of the block was closed as it came, though something is as the round closes."""
+    r = Run(b=3, max_n=4, k=0, grtt=1, gap=1000000).job('job.Open', 0, [2, 0]).write(63, 0, [3, 0, 0, 63]).tick(1, 0)
+    r.hears(1, nack(2, request('Erasures', 1, (0, 0, 1))), 10).write(1, 10, [3, 0, 63, 1]).tick(1, 10, [2, 32, 0, 0, 0]).tick(1, 12).wants([])
+    return r.hears(1, nack(2, request('Erasures', 1, (0, 0, 1))), 20).tick(1, 22).wants([0, 0, 0])
 
 
 @small
@@ -74,6 +83,15 @@ def the_count_of_flushes_and_a_round():
 
 
 @small
+def a_request_that_is_satisfied_as_it_is_made():
+    """Every receiver is listed past its position already; the one behind it waits, and its flush is the first that counts."""
+    r = Run(receivers=2).data(1, 0, [1, 0, 1]).tick(1, 0, [2, 0, 0, 0, 0]).hears(1, ack(2, 0, 0, 0)).hears(1, ack(3, 0, 0, 0))
+    r.job('job.Mark', 0, [5, 1, 0, 0, 0]).news([21, 2, 0, 0, 0]).news([21, 3, 0, 0, 0]).news([22, 1, 1]).news([20]).tick(1, 1000)
+    r.data(1, 1000, [1, 1, 1]).job('job.Mark', 1000, [5, 2, 1, 0, 0]).tick(1, 1000, [2, 0, 1, 0, 0]).tick(1, 2000, [31, 1, 0, 0, 2, 3])
+    return r.hears(1, ack(3, 1, 0, 0)).tick(1, 22000, [31, 1, 0, 0, 2]).news([21, 3, 1, 0, 0]).news([20])
+
+
+@small
 def a_refused_mark_leaves_its_cut():
     r = Run().job('job.Open', 0, [2, 0]).write(64, 0, [3, 0, 0, 64])
     for i in range(16):
@@ -88,6 +106,16 @@ def refusals_of_commands():
     r.data(1, 0, [7, 3, 65], info='(Some (hx 65 0x%s))' % ('00' * 65)).write(257, 0, [7, 2, 257]).job('job.Open', 0, [2, 0])
     r.data(1, 0, [7, 4, 0]).job('job.Open', 0, [7, 4, 0]).write(256, 0, [3, 0, 0, 256]).write(256, 0, [3, 0, 256, 256]).write(1, 0, [7, 8, 0])
     return r.job('job.Close', 0, [7, 8, 0])
+
+
+@small
+def ids_that_are_spent():
+    """An instance has 65,536 object ids: after 65,535 entries there is one more, and then none, for a stream neither."""
+    r = Run().data(1, 0, [1, 0, 1])
+    for order, job, gives in [('drop 1 (doubled 16 w.sender.current.order)', '(job.Data None (1 ∷ []))', [1, 65535, 1]),
+                              ('doubled 16 w.sender.current.order', '(job.Data None (1 ∷ []))', [7, 6]), ('doubled 16 w.sender.current.order', 'job.Open', [7, 6])]:
+        r.look('brief (world_step PROFILE (with_order (%s) w) (Commanded (record { producer = 1; number = 9 }) %s 0)).1' % (order, job), gives)
+    return r
 
 
 @small
@@ -115,11 +143,52 @@ def a_restart_ends_repairs():
 
 
 @small
+def a_restart_forgets_what_was_sent():
+    """An object of the new instance goes once its symbol and its info were sent there. A listing of the old one is not told, and satisfies nothing."""
+    def enqueues(r, now, gives):
+        return r.data(1, now, gives, info='(Some (9 ∷ []))')
+    r = enqueues(Run(mode='drop', window=1, k=0, grtt=1, gap=1), 0, [1, 0, 1]).tick(1, 0, [1, 4, 0]).tick(1, 1, [2, 4, 0, 0, 0])
+    r.hears(1, ack(2, 0, 0, 0)).job('job.Mark', 1, [5, 1, 0, 0, 0]).job('(job.Restart 8)', 2, [6, 8]).news([22, 1, 1]).news([20])
+    enqueues(r, 2, [1, 0, 1]).job('job.Mark', 2, [5, 2, 0, 0, 0]).news([20]).hears(1, nack(2, request('Items', 1, (0, 0, 0)), instance=8), 2)
+    enqueues(r.tick(1, 3, [2, 7, 0, 0, 0]), 3, [7, 9, 0]).tick(1, 4, [1, 4, 0])
+    enqueues(r.job('(job.Restart 9)', 4, [6, 9]), 4, [1, 0, 1]).tick(1, 5, [1, 4, 0])
+    return enqueues(enqueues(r, 5, [7, 9, 0]).tick(1, 6, [2, 4, 0, 0, 0]), 6, [1, 1, 1])
+
+
+@small
+def the_first_flush_after_a_restart():
+    """It waits for no flush of the instance before."""
+    r = Run().data(1, 0, [1, 0, 1]).tick(1, 0, [2, 0, 0, 0, 0]).job('job.Mark', 0, [5, 1, 0, 0, 0]).tick(1, 1000, [31, 0, 0, 0, 2])
+    r.job('(job.Restart 8)', 1000, [6, 8]).data(1, 1000, [1, 0, 1]).tick(1, 2000, [2, 0, 0, 0, 0]).job('job.Mark', 2000, [5, 2, 0, 0, 0])
+    return r.tick(1, 3000, [31, 0, 0, 0, 2])
+
+
+@small
+def when_a_sender_is_idle():
+    """Where no squelch, want, new symbol or open round is there; an open request leaves it idle."""
+    def idle(r, gives):
+        return r.look('elim (is_idle PROFILE w.sender) [ true ↦ 1 ∷ [] | false ↦ 0 ∷ [] ]', [gives])
+    r = idle(idle(Run(mode='drop', window=1, k=0, grtt=1), 1).data(1, 0, [1, 0, 1]), 0).tick(1, 0, [2, 0, 0, 0, 0])
+    idle(idle(idle(r, 1).hears(1, nack(2, request('Items', 1, (0, 0, 0))), 10), 0).tick(1, 12), 0)
+    idle(idle(r.data(1, 20, [1, 1, 1]), 0).tick(1, 1000, [33, 1, 0, 0]), 0)
+    idle(idle(r.tick(1, 2000, [2, 0, 1, 0, 0]), 1).job('job.Mark', 2000, [5, 1, 1, 0, 0]), 1)
+    r.hears(1, nack(2, request('Items', 1, (0, 0, 0)), request('Items', 1, (9, 0, 0))), 2000)
+    return idle(idle(r.tick(1, 2001), 0).tick(1, 3000, [33, 1, 0, 0]), 1)
+
+
+@small
+def listings_that_rise():
+    """Each is told once with its latest position, in order of node."""
+    r = Run(receivers=2).data(257, 0, [1, 0, 257]).hears(1, ack(3, 0, 0, 0)).hears(1, ack(2, 0, 0, 1)).hears(1, ack(3, 0, 1, 1)).hears(1, ack(3, 0, 0, 2))
+    return r.news([21, 2, 0, 0, 1]).news([21, 3, 0, 1, 1]).news([20])
+
+
+@small
 def which_messages_a_sender_hears():
     """A listed receiver's, to this sender and its current instance."""
     look = 'shown_option (λ (r : Round). r.closes ∷ []) w.sender.round'
     r = Run(k=0, grtt=1).data(1, 0, [1, 0, 1])
     for bad in (nack(3, request('Items', 1, (0, 0, 0))), nack(2, request('Items', 1, (0, 0, 0)), instance=8), nack(2, request('Items', 1, (0, 0, 0)), sender=9),
-                command('Flush', 0, 0, 0, nodes=[2]), '[]'):
+                command('Flush', 0, 0, 0, nodes=[2]), repair_adv(request('Items', 1, (0, 0, 0))), '[]'):
         r.hears(1, bad).look(look, [NONE])
     return r.hears(1, nack(2, request('Items', 1, (0, 0, 0)))).look(look, [1])

@@ -10,7 +10,8 @@ the statement "they never part" is `refl`. Nothing is proved or built of the cra
 Without a flag the runs are compared. `--safe` evaluates the tests of lawfulness and safety along each run, `--cases` the
 small runs and values of checks/cases.py, `--damaged` the tests of safety on damaged runs, and `--errors` looks whether
 each deliberate error of checks/errors.py in a definition is noticed. `--gate` compares ten runs and evaluates the cases and
-the damaged runs. NAME is a part of a run's name, and `--count N` takes N runs evenly. Exit status: 0 where all is as expected, 1 where something differs, 2 where the evaluation failed.
+the damaged runs. NAME is a part of a run's name, or with `--errors` of an error's words, and `--count N` takes N runs evenly.
+Exit status: 0 where all is as expected, 1 where something differs, 2 where the evaluation failed.
 """
 import argparse, glob, json, os, re, sys, tempfile, time
 

@@ -22,13 +22,18 @@ PUBLIC = re.findall(r'^(?:abbrev pub|pub data) (\S+) :', terms.NUMERALS + SHARED
 
 # names that a changed text may need, and where they are
 NAMES = {
-    'Rattle.std.specs.Prelude': ['None', 'Some', 'true', 'false', 'not', '◌&&◌', '◌||◌', '◌+◌', '◌*◌', 'max', 'min', 'length', 'map', 'filter', 'reverse', 'take',
+    'Rattle.std.specs.Prelude': ['None', 'Some', 'true', 'false', 'not', '◌&&◌', '◌||◌', '◌+◌', '◌*◌', '◌%◌', 'max', 'min', 'length', 'map', 'filter', 'reverse', 'take',
                                  'nat_lt', 'nat_le', '[]', '◌∷◌', '◌++◌'],
     'Rattle.std.specs.List': ['list_any'],
     'Rattle.fec_plan.specs.Partition': ['source_symbols'],
+    'Rattle.fec_plan.specs.Points': ['point_before', 'point_of'],
+    'Rattle.norm_ext.specs.Message': ['RepairAdv'],
     'Rattle.norm_order.specs.Shapes': ['is_encoded'],
     'Rattle.norm_send_rules.specs.SenderState': ['Listing'],
+    'Rattle.norm_send_rules.specs.Requests': ['open_requests'],
     'Rattle.norm_receive_rules.specs.ReceiverState': ['Held'],
+    'Rattle.norm_receive_rules.specs.Lazy': ['all_of'],
+    'Rattle.norm_order.specs.Segments': ['written'],
 }
 
 
@@ -49,7 +54,7 @@ class Variant:
             path = os.path.join(space.work, 'crates', crate + suffix, 'specs', name + '.antt')
             text = open(path, encoding='utf-8').read()
             if text.count(self.named(old)) != 1:
-                raise Failed('its text stands %d times in %s' % (text.count(old), name))
+                raise Failed('its text stands %d times in %s' % (text.count(old), path))
             text = text.replace(self.named(old), self.named(new))
             put(path, self.named(self.uses(text, new)) + text)
 

@@ -12,7 +12,7 @@ use Rattle.norm_base.specs.declared.kinds.Kind.{Kind}
 use Rattle.norm_base.specs.declared.kinds.Kind.TheVariants as kind
 use Rattle.norm_base.specs.declared.node.Origin.{Origin}
 use Rattle.fec_plan.specs.declared.position.Position.{Position}
-use Rattle.fec_plan.specs.Points.{Point, position}
+use Rattle.fec_plan.specs.Points.{Point, point, position}
 use Rattle.norm_ext.specs.Extensions.{fti_extension}
 use Rattle.norm_ext.specs.Message.{Message, AckContent}
 use Rattle.norm_ext.specs.Message as message
@@ -21,10 +21,12 @@ use Rattle.norm_ext.specs.Octets.{octets_of}
 use Rattle.norm_ext.specs.Reading.{decoded}
 use Rattle.norm_ext.specs.Requests.{Request, RequestItem}
 use Rattle.norm_ext.specs.declared.kinds.Form.TheVariants as form
+use Rattle.norm_order.specs.Entries.{Entry}
 use Rattle.norm_order.specs.declared.up.Up.{Up}
 use Rattle.norm_order.specs.declared.up.Up.TheVariants as up
 use Rattle.norm_send_rules.specs.SenderState.{SenderState, Round, Listing, Watermark}
 use Rattle.norm_send_rules.specs.Requests.{outcome_of}
+use Rattle.norm_send_rules.specs.Ticking.{is_idle}
 use Rattle.norm_send_rules.specs.declared.job.Job.{Job}
 use Rattle.norm_send_rules.specs.declared.job.Job.TheVariants as job
 use Rattle.norm_send_rules.specs.declared.job.Receipt.{Receipt}

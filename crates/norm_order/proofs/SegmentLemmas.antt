@@ -6,7 +6,7 @@ use Rattle.std.proofs.lemmas.List.{take-append-drop, take_all}
 use Rattle.std.proofs.Math.Seq.{take-add, take-append_seam}
 use Rattle.std.proofs.Math.Nat.{div-add-mod, mul_comm}
 use Rattle.norm_order.specs.Entries.{Part, Write, Cut, End}
-use Rattle.norm_order.specs.Segments.{pieces, full_pieces, all_pieces, closed_from, placed, segments, written, since_cut, unclosed, has_end}
+use Rattle.norm_order.specs.Segments.{pieces, full_pieces, all_pieces, closed_from, placed, written, since_cut, unclosed, has_end}
 use Rattle.norm_order.specs.Laws.{joined_octets, SegmentLaws}
 
 -- lists in a row

@@ -69,16 +69,16 @@ part_of_all p at (Stream parts) =
     let n = 2 + (at.block * p.b + at.symbol) in
     (drop n (parts_of p at.index (Stream parts)), take-append-drop n (parts_of p at.index (Stream parts)))
 
-source_entry : (p : Settings) (order : List Entry) (i : ℕ) (test : Shape → Bool) → at_index (shapes_of p order) i false test ≡ true
+pub source_entry : (p : Settings) (order : List Entry) (i : ℕ) (test : Shape → Bool) → at_index (shapes_of p order) i false test ≡ true
     → (entry : Entry) × ((slice_get order i ≡ Some entry) × (test (shape_of p entry.object) ≡ true))
 source_entry p [] i test e = absurd (clash e)
 source_entry p (entry ∷ order) zero test e = (entry, (refl, e))
 source_entry p (entry ∷ order) (suc i) test e = source_entry p order i test e
 
-same_entry : (x y : Entry) → Some x ≡ Some y → x ≡ y
+pub same_entry : (x y : Entry) → Some x ≡ Some y → x ≡ y
 same_entry x y e = cc
 
-nothing_there : (x : Entry) → None ≡ Some x → ⊥
+pub nothing_there : (x : Entry) → None ≡ Some x → ⊥
 nothing_there x e = cc
 
 entries_front : (p : Settings) (first n : ℕ) (order : List Entry) (i j : ℕ) (entry : Entry) → slice_get order i ≡ Some entry → i < j → n ≡ first + i
@@ -110,20 +110,26 @@ joins a t r p s all e h k =
     ∙ ap (λ x. x ++ e) k
 
 -- what stands at the watermark's index
-abbrev there : Settings → Position → Option Entry → List Up
+abbrev pub there : Settings → Position → Option Entry → List Up
 there p at found = elim found [ Some entry ↦ parts_through p at entry.object | None ↦ [] ]
 
-found_front : (xs ys : List Entry) (i : ℕ) (x : Entry) → slice_get xs i ≡ Some x → slice_get (xs ++ ys) i ≡ Some x
+pub found_front : (xs ys : List Entry) (i : ℕ) (x : Entry) → slice_get xs i ≡ Some x → slice_get (xs ++ ys) i ≡ Some x
 found_front [] ys i x e = absurd (nothing_there x e)
 found_front (y ∷ xs) ys zero x e = e
 found_front (y ∷ xs) ys (suc i) x e = found_front xs ys i x e
 
+-- what joins the order behind a watermark's entry changes nothing before the watermark
+pub kept_within : (p : Settings) (order more : List Entry) (at : Position) (entry : Entry) → slice_get order at.index ≡ Some entry
+    → upto p (order ++ more) at ≡ upto p order at
+kept_within p order more at entry found =
+    let within : at.index < length order = slice_get_within order at.index entry found in
+    ap (λ before. all_parts p 0 before ++ there p at (slice_get (order ++ more) at.index)) (take-append-le at.index order more (omega arith))
+    ∙ ap (λ now. all_parts p 0 (take at.index order) ++ there p at now) (found_front order more at.index entry found ∙ sym found)
+
 pub kept_as_order_grows : KeptAsOrderGrows
 kept_as_order_grows p order more at is =
     let s = source_entry p order at.index (λ shape. nat_lt at.symbol (closed_in shape at.block)) is in
-    let within : at.index < length order = slice_get_within order at.index s.0 s.1.0 in
-    ap (λ before. all_parts p 0 before ++ there p at (slice_get (order ++ more) at.index)) (take-append-le at.index order more (omega arith))
-    ∙ ap (λ found. all_parts p 0 (take at.index order) ++ there p at found) (found_front order more at.index s.0 s.1.0 ∙ sym s.1.0)
+    kept_within p order more at s.0 s.1.0
 
 later_object : (p : Settings) (order : List Entry) (at later : Position) (entry : Entry) → slice_get order at.index ≡ Some entry → at.index < later.index
     → (rest : List Up) × (upto p order at ++ rest ≡ upto p order later)

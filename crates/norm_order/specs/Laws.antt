@@ -1,10 +1,11 @@
 -- What is promised of the order's definitions.
 use Rattle.std.specs.Prelude.{◌≡◌, ◌<◌, ℕ, ◌-◌, List, [], ◌∷◌, ◌++◌, length, take, false, true, flat_map}
 use Rattle.norm_base.specs.Settings.{Settings}
+use Rattle.norm_base.specs.declared.node.Origin.{Origin}
 use Rattle.fec_plan.specs.Points.{reaches}
 use Rattle.fec_plan.specs.declared.position.Position.{Position}
 use Rattle.norm_order.specs.declared.up.Up.{Up}
-use Rattle.norm_order.specs.Entries.{Part, End, Entry}
+use Rattle.norm_order.specs.Entries.{Part, End, Stream, Entry}
 use Rattle.norm_order.specs.Segments.{Segment, segments, written, unclosed, has_end}
 use Rattle.norm_order.specs.Shapes.{shapes_of, is_source}
 use Rattle.norm_order.specs.Upto.{upto}
@@ -31,3 +32,16 @@ GrowsWithPosition = (p : Settings) (order : List Entry) (at later : Position)
 abbrev pub KeptAsOrderGrows : Type 0
 KeptAsOrderGrows = (p : Settings) (order more : List Entry) (at : Position)
     → is_source (shapes_of p order) at ≡ true → upto p (order ++ more) at ≡ upto p order at
+
+-- the order with this stream as its last entry
+abbrev pub with_stream : List Entry → Origin → List Part → List Entry
+with_stream order by parts = order ++ record { by = by; object = Stream parts } ∷ []
+
+-- an open stream that goes on leaves what stands before a watermark as it is, and the watermark a source symbol
+pub record KeptAsStreamGoesOn : Type 0 where
+  pub still_source : (p : Settings) (order : List Entry) (by : Origin) (parts more : List Part) (at : Position)
+      → 0 < p.e → has_end parts ≡ false → is_source (shapes_of p (with_stream order by parts)) at ≡ true
+      → is_source (shapes_of p (with_stream order by (parts ++ more))) at ≡ true
+  pub same_before : (p : Settings) (order : List Entry) (by : Origin) (parts more : List Part) (at : Position)
+      → 0 < p.e → has_end parts ≡ false → is_source (shapes_of p (with_stream order by parts)) at ≡ true
+      → upto p (with_stream order by (parts ++ more)) at ≡ upto p (with_stream order by parts) at

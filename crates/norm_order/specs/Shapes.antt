@@ -33,7 +33,7 @@ shape_of p (Stream parts) = record {
 abbrev pub is_stream : Shape → Bool
 is_stream s = elim s.cut.l [ Some l ↦ false | None ↦ true ]
 
--- the source symbols of a block that are closed: none behind the last closed one
+-- how many source symbols of a block are closed: none behind the last closed one
 abbrev pub closed_in : Shape → ℕ → ℕ
 closed_in s block = min (source_symbols s.cut block) (s.closed - symbol_number s.cut block 0)
 
@@ -41,11 +41,11 @@ closed_in s block = min (source_symbols s.cut block) (s.closed - symbol_number s
 abbrev pub is_full : Shape → ℕ → Bool
 is_full s block = closed_in s block == source_symbols s.cut block
 
--- the encoded symbols of a block: parity only where all its source symbols are closed
+-- how many encoded symbols a block has: parity only where all its source symbols are closed
 abbrev pub encoded_in : Shape → ℕ → ℕ
 encoded_in s block = elim (is_full s block) [ true ↦ encoding_symbols s.cut block | false ↦ closed_in s block ]
 
--- the blocks that have a closed source symbol
+-- how many blocks have a closed source symbol
 abbrev pub closed_blocks : Shape → ℕ
 closed_blocks s = elim s.cut.l [ Some l ↦ blocks s.cut | None ↦ div_ceil s.closed s.cut.b ]
 

@@ -1,6 +1,6 @@
 //! What is promised of the order's definitions. Each law is the contract of a function that does nothing.
 
-ghost use Rattle.norm_order.specs.Laws.{SegmentLaws, GrowsWithPosition, KeptAsOrderGrows};
+ghost use Rattle.norm_order.specs.Laws.{SegmentLaws, GrowsWithPosition, KeptAsOrderGrows, KeptAsStreamGoesOn};
 
 /// The segments of a stream concatenate to its octets.
 #[tactic(auto, using(crate::proofs::SegmentLemmas::segment_laws))]
@@ -18,4 +18,10 @@ pub fn later_watermarks()
 #[tactic(auto, using(crate::proofs::UptoLemmas::kept_as_order_grows))]
 pub fn later_entries()
     ensures { KeptAsOrderGrows }
+{}
+
+/// An open stream that goes on leaves what stands before a watermark as it is.
+#[tactic(auto, using(crate::proofs::GoingOnLemmas::kept_as_stream_goes_on))]
+pub fn longer_streams()
+    ensures { KeptAsStreamGoesOn }
 {}

@@ -1,1 +1,2 @@
 pub mod HandUpLemmas
+pub mod NeedLemmas

@@ -13,6 +13,7 @@ pub mod Overhearing
 pub mod Needs
 pub mod StreamNeeds
 pub mod AllNeeds
+pub mod NothingMissing
 pub mod HeardNeeds
 pub mod Nack
 pub mod BackingOff

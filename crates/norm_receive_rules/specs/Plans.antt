@@ -7,15 +7,15 @@ use Rattle.norm_ext.specs.Asking.{has_flag}
 use Rattle.norm_ext.specs.declared.fti.Fti.{Fti}
 use Rattle.norm_receive_rules.specs.ReceiverState.{ReceiverState, Plan, Held, HeldInfo}
 
--- the flags of INFO and DATA (RFC 5740 section 4.2.1); STREAM comes before FILE
+-- the flags of INFO and DATA (RFC 5740 section 4.2.1) have INFO: the object has an info
 abbrev pub says_info : ℕ → Bool
 says_info flags = has_flag flags 4
 
--- FILE
+-- the flags have FILE: the object is a file, where it is no stream
 abbrev pub says_file : ℕ → Bool
 says_file flags = has_flag flags 16
 
--- STREAM
+-- the flags have STREAM, which comes before FILE where both are set
 abbrev pub says_stream : ℕ → Bool
 says_stream flags = has_flag flags 32
 

@@ -1,65 +1,31 @@
 -- The tests of safety say what they test.
-use Rattle.std.proofs.Common.{◌≡◌, List, [], ◌∷◌, Bool, true, false, not, refl, sym}
-use Rattle.std.specs.Prelude.{◌&&◌, ◌||◌, nat_eq, IsTrue}
+use Rattle.std.proofs.Common.{◌≡◌, List, Bool, true, false, refl, sym}
+use Rattle.std.specs.Prelude.{nat_eq, IsTrue, IfSome, Option, None, Some}
 use Rattle.std.specs.Bool.{Decides, beq}
-use Rattle.std.specs.List.{list_all, list_any, IsDistinct, AllByRecursion}
 use Rattle.std.proofs.lemmas.Bool.Decides.{Decides-and}
 use Rattle.norm_send_rules.specs.SenderState.{Watermark}
 use Rattle.norm_safety.specs.Lawful.{same_origin}
-use Rattle.norm_safety.specs.History.{Happening, History}
-use Rattle.norm_safety.specs.OnceEach.{OnceEach, is_once_each, origins, instance_ids, has_its_place, are_distinct}
+use Rattle.norm_base.specs.Settings.{Settings}
+use Rattle.fec_plan.specs.declared.position.Position.{Position}
+use Rattle.norm_send_rules.specs.SenderState.{Listing}
+use Rattle.norm_safety.specs.Events.{Event}
+use Rattle.norm_safety.specs.History.{Happening, History, history}
+use Rattle.norm_safety.specs.Fronts.{IsFront, is_front}
+use Rattle.norm_safety.specs.ListedAfter.{ListedAfter, is_listed_after, before_mark, handed_now}
+use Rattle.norm_safety.specs.Safe.{Safe, is_safe}
+use Rattle.norm_safety.specs.OnceEach.{OnceEach, is_once_each, origins, instance_ids, has_its_place}
 use Rattle.norm_safety.specs.SatisfiedExactly.{SatisfiedExactly, is_satisfied_exactly, is_satisfied, was_past, keeps_outcomes}
 use Rattle.norm_safety.specs.Laws.{TestLaws}
+use Rattle.norm_safety.proofs.FrontLemmas.{front_decides}
+use Rattle.norm_safety.proofs.DistinctLemmas.{each_decides, distinct_decides}
+use Rattle.norm_safety.proofs.LawfulLemmas.{lawful_decides}
+use Rattle.norm_safety.proofs.RunLemmas.{order_decides}
 
 clash : false ≡ true → ⊥
 clash e = cc
 
-both : (a b : Bool) → (a && b) ≡ true → (a ≡ true) × (b ≡ true)
-both true b e = (refl, e)
-both false b e = absurd (clash e)
-
-of_both : (a b : Bool) → a ≡ true → b ≡ true → (a && b) ≡ true
-of_both true b e f = f
-of_both false b e f = absurd (clash e)
-
--- a test of each element
-each_decides : {X : Type 0} (test : X → Bool) (P : X → Type 0) → ((x : X) → Decides (test x) (P x)) → (xs : List X)
-    → Decides (list_all test xs) (AllByRecursion P xs)
-each_decides test P each [] = (λ e. tt, λ all. refl)
-each_decides test P each (x ∷ xs) =
-    let rest = each_decides test P each xs in (
-      λ e. let two = both (test x) (list_all test xs) e in ((each x).0 two.0, rest.0 two.1),
-      λ all. of_both (test x) (list_all test xs) ((each x).1 all.0) (rest.1 all.1),
-    )
-
 is_true_decides : (b : Bool) → Decides b (IsTrue b)
 is_true_decides b = (λ e. e, λ e. e)
-
-neither : (a b : Bool) → not (a || b) ≡ true → (a ≡ false) × (not b ≡ true)
-neither true b e = absurd (clash e)
-neither false b e = (refl, e)
-
-of_neither : (a b : Bool) → a ≡ false → not b ≡ true → not (a || b) ≡ true
-of_neither true b e f = absurd (clash (sym e))
-of_neither false b e f = f
-
-none_decides : {X : Type 0} (test : X → Bool) (xs : List X) → Decides (not (list_any test xs)) (AllByRecursion (λ x. test x ≡ false) xs)
-none_decides test [] = (λ e. tt, λ all. refl)
-none_decides test (x ∷ xs) =
-    let rest = none_decides test xs in (
-      λ e. let two = neither (test x) (list_any test xs) e in (two.0, rest.0 two.1),
-      λ all. of_neither (test x) (list_any test xs) all.0 (rest.1 all.1),
-    )
-
-distinct_decides : {X : Type 0} (same : X → X → Bool) (xs : List X) → Decides (are_distinct same xs) (IsDistinct same xs)
-unfolding are_distinct IsDistinct
-distinct_decides same [] = (λ e. tt, λ all. refl)
-distinct_decides same (x ∷ xs) =
-    let head = none_decides (same x) xs in
-    let rest = distinct_decides same xs in (
-      λ e. let two = both (not (list_any (same x) xs)) (are_distinct same xs) e in (head.0 two.0, rest.0 two.1),
-      λ all. of_both (not (list_any (same x) xs)) (are_distinct same xs) (head.1 all.0) (rest.1 all.1),
-    )
 
 same_decides : (a b : Bool) → Decides (beq a b) (a ≡ b)
 same_decides true true = (λ e. refl, λ e. refl)
@@ -88,5 +54,33 @@ satisfied_decides h =
       λ right. all.1 (right.exactly, right.stays),
     )
 
+listed_decides : (p : Settings) (h : History) → Decides (is_listed_after p h) (ListedAfter p h)
+listed_decides p h =
+    let all = each_decides (λ (l : Listing). test l l.past) (λ l. IfSome l.past (λ at. IsFront (before_mark p h at) (handed_now h l.node)))
+    (λ l. go l l.past) h.now.sender.listings in
+    (λ e. record { each = all.0 e }, λ listed. all.1 listed.each)
+  where
+    test : Listing → Option Position → Bool
+    test l past = elim past [ Some at ↦ is_front (before_mark p h at) (handed_now h l.node) | None ↦ true ]
+
+    go : (l : Listing) (past : Option Position) → Decides (test l past) (IfSome past (λ at. IsFront (before_mark p h at) (handed_now h l.node)))
+    go l (Some at) = front_decides (before_mark p h at) (handed_now h l.node)
+    go l None = (λ e. tt, λ all. refl)
+
+safe_decides : (p : Settings) (events : List Event) → Decides (is_safe p (history p events)) (Safe p events)
+safe_decides p events =
+    let h = history p events in
+    let all = Decides-and _ _ (Decides-and _ _ (Decides-and _ _ (once_decides h) (order_decides p events)) (listed_decides p h)) (satisfied_decides h) in (
+      λ e. let parts = all.0 e in record { once = parts.0.0.0; order = parts.0.0.1; listed = parts.0.1; satisfied = parts.1 },
+      λ safe. all.1 (((safe.once, safe.order), safe.listed), safe.satisfied),
+    )
+
 pub test_laws : TestLaws
-test_laws = record { once = once_decides; satisfied = satisfied_decides }
+test_laws = record {
+  once = once_decides;
+  order = order_decides;
+  listed = listed_decides;
+  satisfied = satisfied_decides;
+  safe = safe_decides;
+  lawful = lawful_decides;
+}

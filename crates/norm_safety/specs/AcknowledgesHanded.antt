@@ -1,5 +1,5 @@
 -- Tied, part 4: what a receiver acknowledges it handed up, everything before included.
-use Rattle.std.specs.Prelude.{ℕ, ◌&&◌, List, Bool, true, false, Option, None, Some, IfSome}
+use Rattle.std.specs.Prelude.{ℕ, ◌&&◌, List, Bool, true, Option, None, Some, IfSome}
 use Rattle.std.specs.List.{list_all, AllByRecursion}
 use Rattle.norm_base.specs.Settings.{Settings}
 use Rattle.fec_plan.specs.Points.{position}

@@ -1,5 +1,5 @@
 -- Tied, part 7: in hold mode every receiver handed up all that was dropped.
-use Rattle.std.specs.Prelude.{ℕ, ◌&&◌, List, [], ◌∷◌, reverse, filter, Bool, true, false, Option, None, Some, IfSome, ⊤}
+use Rattle.std.specs.Prelude.{List, [], ◌∷◌, reverse, filter, Bool, true, Option, None, Some, IfSome, ⊤}
 use Rattle.std.specs.List.{list_all, AllByRecursion}
 use Rattle.norm_base.specs.Settings.{Settings}
 use Rattle.norm_base.specs.declared.kinds.Mode.TheVariants as mode

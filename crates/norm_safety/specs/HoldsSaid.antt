@@ -1,5 +1,5 @@
 -- Tied, part 3: what a receiver holds was said, and what it handed up, with what was not taken yet, goes in order.
-use Rattle.std.specs.Prelude.{ℕ, ◌≡◌, ◌/◌, ◌==◌, ◌&&◌, ◌||◌, List, [], ◌∷◌, ◌++◌, flat_map, Bool, true, false, nat_eq, Option, None, Some, IsTrue, IfSome}
+use Rattle.std.specs.Prelude.{ℕ, ◌≡◌, ◌/◌, ◌==◌, ◌&&◌, ◌||◌, List, [], ◌∷◌, ◌++◌, Bool, true, nat_eq, None, Some, IsTrue, IfSome}
 use Rattle.std.specs.List.{list_all, list_any, AllByRecursion}
 use Rattle.std.specs.Cmp.Lexicographic.{pointwise}
 use Rattle.std.specs.Option.{option_eq}

@@ -1,5 +1,5 @@
 -- Tied, part 5: listings and outcomes are right, and ids are used and left once.
-use Rattle.std.specs.Prelude.{ℕ, ◌&&◌, List, Bool, nat_eq}
+use Rattle.std.specs.Prelude.{◌&&◌, Bool, nat_eq}
 use Rattle.std.specs.List.{list_all, IsDistinct, AllByRecursion}
 use Rattle.norm_base.specs.Settings.{Settings}
 use Rattle.norm_receive_rules.specs.Leaving.{left_now}

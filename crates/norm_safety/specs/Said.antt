@@ -1,5 +1,5 @@
 -- What the nodes of a world said: all messages that were offered, or given by a tick and not offered yet.
-use Rattle.std.specs.Prelude.{ℕ, List, [], ◌∷◌, ◌++◌, flat_map, find, slice_get, Option, None, Some, Result, Ok, Err, ◌==◌}
+use Rattle.std.specs.Prelude.{ℕ, List, [], ◌∷◌, ◌++◌, flat_map, slice_get, Option, Result, Ok}
 use Rattle.norm_base.specs.Settings.{Settings}
 use Rattle.fec_plan.specs.Points.{position}
 use Rattle.fec_plan.specs.declared.position.Position.{Position}

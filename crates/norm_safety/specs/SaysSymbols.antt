@@ -1,5 +1,5 @@
 -- Tied, part 1: what the sender says of an object is that object's, and an order only grows.
-use Rattle.std.specs.Prelude.{ℕ, ◌≡◌, ◌*◌, ◌/◌, ◌==◌, ◌&&◌, List, ◌++◌, map, Bool, true, false, nat_eq, nat_lt, slice_get, Option, None, Some, IsTrue, IsSomeAnd, IfSome}
+use Rattle.std.specs.Prelude.{ℕ, ◌≡◌, ◌*◌, ◌/◌, ◌==◌, ◌&&◌, List, ◌++◌, Bool, false, nat_eq, nat_lt, slice_get, Option, None, Some, IsTrue, IsSomeAnd, IfSome}
 use Rattle.std.specs.List.{list_all, AllByRecursion}
 use Rattle.std.specs.Cmp.Lexicographic.{pointwise}
 use Rattle.std.specs.Option.{option_eq}
@@ -9,7 +9,7 @@ use Rattle.norm_ext.specs.Message.{InfoMessage, DataMessage}
 use Rattle.norm_ext.specs.ObjectIds.{index_of}
 use Rattle.norm_ext.specs.declared.fti.Fti.{Fti}
 use Rattle.norm_order.specs.Entries.{Part, Object, Whole, Stream, Entry}
-use Rattle.norm_order.specs.Segments.{Segment, segments}
+use Rattle.norm_order.specs.Segments.{segments}
 use Rattle.norm_order.specs.Shapes.{shape_of, encoded_in}
 use Rattle.norm_order.specs.Symbols.{symbol_octets}
 use Rattle.norm_send_rules.specs.Messages.{fti_of_object, object_flags}

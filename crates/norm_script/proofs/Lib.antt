@@ -10,3 +10,7 @@ pub mod SpellLemmas
 pub mod AgainLemmas
 pub mod GeneratedLemmas
 pub mod RowLemmas
+pub mod BackLemmas
+pub mod PlainLemmas
+pub mod TextLemmas
+pub mod ValueLemmas

@@ -9,4 +9,6 @@ pub mod Scripts
 pub mod Reading
 pub mod Refused
 pub mod Written
+pub mod Plain
+pub mod OneScript
 pub mod Generated

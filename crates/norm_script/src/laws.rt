@@ -3,6 +3,7 @@
 ghost use Rattle.std.specs.Prelude.{◌≡◌, ◌≤◌, ℕ, List, Ok, IfOk};
 ghost use Rattle.norm_script.specs.Commands.{Commands};
 ghost use Rattle.norm_script.specs.Generated.{generate_text, generated_script};
+ghost use Rattle.norm_script.specs.OneScript.{OneScriptLaws};
 ghost use Rattle.norm_script.specs.Reading.{script_of};
 ghost use Rattle.norm_script.specs.Scripts.{IsScript, IsOf};
 ghost use Rattle.norm_script.specs.Written.{script_octets};
@@ -27,4 +28,11 @@ pub fn reads_back()
 #[tactic(auto, using(crate::proofs::GeneratedLemmas::generated_laws))]
 pub fn reads_generated()
     ensures { (n : ℕ) → n ≤ 4294967295 → script_of Extent.Whole (generate_text n) ≡ Ok (generated_script n) }
+{}
+
+/// The texts of one script differ in nothing but comments, empty lines, the case of hexadecimal digits, the order of
+/// settings, and settings that repeat a default.
+#[tactic(auto, using(crate::proofs::ValueLemmas::one_script_laws))]
+pub fn texts_of_one()
+    ensures { OneScriptLaws }
 {}

@@ -58,7 +58,7 @@ want_trans (Symbol a) (Symbol b) (Symbol c) h g =
     (before_decides a c).1 (before_both a b c ((before_decides a b).0 h) ((before_decides b c).0 g))
 
 -- of each want
-abbrev Each : (Want → Bool) → List Want → Type 0
+abbrev pub Each : (Want → Bool) → List Want → Type 0
 Each test wants = AllByRecursion (λ want. test want ≡ true) wants
 
 each_later : (u v : Want) (wants : List Want) → want_before u v ≡ true → Each (want_before v) wants → Each (want_before u) wants
@@ -92,16 +92,16 @@ rise_with x (y ∷ ys) rise = go (want_before x y) (want_before y x) refl refl (
     go false true e f more = (each_with (want_before y) x ys f rise.0, more)
     go false false e f more = (rise.0, rise.1)
 
-rise_more : (more wants : List Want) → Rise wants → Rise (with_members want_before more wants)
+pub rise_more : (more wants : List Want) → Rise wants → Rise (with_members want_before more wants)
 rise_more [] wants rise = rise
 rise_more (x ∷ more) wants rise = rise_more more (with_member want_before x wants) (rise_with x wants rise)
 
-each_more : (test : Want → Bool) (more wants : List Want) → Each test more → Each test wants → Each test (with_members want_before more wants)
+pub each_more : (test : Want → Bool) (more wants : List Want) → Each test more → Each test wants → Each test (with_members want_before more wants)
 each_more test [] wants all these = these
 each_more test (x ∷ more) wants all these =
     each_more test more (with_member want_before x wants) all.1 (each_with test x wants all.0 these)
 
-kept_passes : (test : Want → Bool) (wants : List Want) → Each test (filter test wants)
+pub kept_passes : (test : Want → Bool) (wants : List Want) → Each test (filter test wants)
 kept_passes test [] = tt
 kept_passes test (w ∷ wants) = go (test w) refl (kept_passes test wants)
   where

@@ -32,7 +32,7 @@ last_index s = next_index s - 1
 abbrev pub ids_spent : SenderState → Bool
 ids_spent s = nat_le 65536 (next_index s)
 
--- an info has more octets than a symbol
+-- how many octets an info has; without one there are none
 abbrev pub info_length : Option (List ℕ) → ℕ
 info_length info = elim info [ Some octets ↦ length octets | None ↦ 0 ]
 

@@ -1,18 +1,21 @@
 -- What is promised of the sender's rules.
-use Rattle.std.specs.Prelude.{◌≡◌, List, [], ◌∷◌, ⊤, true, Err}
+use Rattle.std.specs.Prelude.{◌≡◌, List, [], ◌∷◌, ⊤, Bool, true, Err}
 use Rattle.std.specs.List.{AllByRecursion}
-use Rattle.norm_base.specs.Settings.{Settings}
+use Rattle.norm_base.specs.Settings.{Settings, InRange}
 use Rattle.norm_base.specs.declared.node.Origin.{Origin}
+use Rattle.norm_order.specs.Shapes.{Shape, is_encoded, has_info}
 use Rattle.norm_send_rules.specs.Wants.{want_before}
-use Rattle.norm_send_rules.specs.SenderState.{SenderState, Round}
-use Rattle.norm_send_rules.specs.InWindow.{stands_behind}
+use Rattle.norm_send_rules.specs.SenderState.{SenderState, Round, sender_opening}
+use Rattle.norm_send_rules.specs.InWindow.{stands_behind, current_shapes}
 use Rattle.norm_send_rules.specs.Streaming.{cut}
 use Rattle.norm_send_rules.specs.Commanding.{commanded}
 use Rattle.norm_send_rules.specs.Closing.{round_closed}
+use Rattle.norm_send_rules.specs.SenderStep.{SenderEvent, sender_step}
 use Rattle.norm_send_rules.specs.declared.fault.SendFault.{SendFault}
 use Rattle.norm_send_rules.specs.declared.job.Job.{Job}
 use Rattle.norm_send_rules.specs.declared.job.Job.TheVariants as job
 use Rattle.norm_send_rules.specs.declared.want.Want.{Want}
+use Rattle.norm_send_rules.specs.declared.want.Want.TheVariants.{Info, Symbol}
 
 -- the state that a refused command leaves: the old one, where a refused mark cuts the open stream
 abbrev pub left_by : Settings → SenderState → Job → SenderState
@@ -42,3 +45,20 @@ AreInWindow s wants = AllByRecursion (λ want. stands_behind s.current.drop want
 pub record ClosingLaws : Type 0 where
   pub rise : (p : Settings) (r : Round) (s : SenderState) → Rise s.wants → Rise (round_closed p r s).wants
   pub in_window : (p : Settings) (r : Round) (s : SenderState) → AreInWindow s s.wants → AreInWindow s (round_closed p r s).wants
+
+-- the want is an info or an encoded symbol of an entry of the order
+abbrev pub is_of_order : List Shape → Want → Bool
+is_of_order shapes (Info index) = has_info shapes index
+is_of_order shapes (Symbol at) = is_encoded shapes at
+
+-- What a sender wants to send again stands in order, none of it twice, so that the first want is the lowest; each is an
+-- info or an encoded symbol of an entry of the order; and none lies before the drop point.
+pub record WantsHold (p : Settings) (s : SenderState) : Type 0 where
+  pub rise : Rise s.wants
+  pub of_order : AllByRecursion (λ want. is_of_order (current_shapes p s) want ≡ true) s.wants
+  pub in_window : AreInWindow s s.wants
+
+-- the wants of a sender hold as it begins, and each step keeps that
+pub record WantLaws : Type 0 where
+  pub at_first : (p : Settings) → WantsHold p (sender_opening p)
+  pub always : (p : Settings) (s : SenderState) (event : SenderEvent) → InRange p → WantsHold p s → WantsHold p (sender_step p s event).0

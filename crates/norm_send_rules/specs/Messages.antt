@@ -24,7 +24,7 @@ told_length p (Stream parts) = p.blocks * p.b * p.e
 abbrev pub fti_of_object : Settings → Object → Fti
 fti_of_object p object = record { l = told_length p object; e = p.e; b = p.b; max_n = p.max_n }
 
--- FILE
+-- what the kind adds to the flags: FILE of a file (RFC 5740 section 4.2.1)
 abbrev pub file_flag : Kind → ℕ
 file_flag kind.Data = 0
 file_flag kind.File = 16
@@ -34,11 +34,11 @@ abbrev pub object_flags : Object → ℕ
 object_flags (Whole kind info octets) = file_flag kind + (if is_some info then 4 else 0)
 object_flags (Stream parts) = 32
 
--- REPAIR on a repaired parity symbol; REPAIR and EXPLICIT on a repaired source symbol or info
+-- the flag of a repaired parity symbol: REPAIR
 abbrev pub parity_repair : ℕ
 parity_repair = 1
 
--- REPAIR and EXPLICIT
+-- the flags of a repaired source symbol or info: REPAIR and EXPLICIT
 abbrev pub explicit_repair : ℕ
 explicit_repair = 3
 

@@ -34,7 +34,7 @@ opened p s by = elim (open_fault p s) [
   | None ↦ (joined p by (Stream []) s, Ok (Opened (next_index s)))
 ]
 
--- the segments of a stream, the one that is not closed included
+-- how many segments a stream takes room for: those that are closed, and the one that holds octets and is not
 abbrev pub used_segments : Settings → List Part → ℕ
 used_segments p parts = length (closed_from p.e [] parts) + min 1 (unclosed p.e parts)
 

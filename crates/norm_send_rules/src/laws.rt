@@ -1,6 +1,6 @@
 //! What is promised of the sender's rules. Each law is the contract of a function that does nothing.
 
-ghost use Rattle.norm_send_rules.specs.Laws.{RefusedLeaves, ClosingLaws};
+ghost use Rattle.norm_send_rules.specs.Laws.{RefusedLeaves, ClosingLaws, WantLaws};
 
 /// A refused command leaves the state but for the cut of the open stream, which a refused mark makes too.
 #[tactic(auto, using(crate::proofs::RefusedLemmas::refused_leaves))]
@@ -12,4 +12,10 @@ pub fn refused_leaves()
 #[tactic(auto, using(crate::proofs::ClosingLemmas::closing_laws))]
 pub fn closings()
     ensures { ClosingLaws }
+{}
+
+/// What a sender wants to send again is always an info or a symbol of the order's window, the lowest want first.
+#[tactic(auto, using(crate::proofs::StepLemmas::want_laws))]
+pub fn wants()
+    ensures { WantLaws }
 {}

@@ -1,0 +1,239 @@
+-- Each step of the sender keeps its wants in order, of the order, and in the window.
+use Rattle.std.proofs.Common.{◌≡◌, ℕ, zero, suc, ◌+◌, List, [], ◌∷◌, ◌++◌, length, map, Bool, true, false, Option, None, Some, Result, Ok, Err, refl, sym, subst, arith}
+use Rattle.std.specs.Prelude.{slice_get, filter, nat_lt, nat_le, unwrap_or, is_some, find, ◌==◌}
+use Rattle.std.proofs.Math.Nat.{zero-mod}
+use Rattle.norm_base.specs.Settings.{Settings, InRange}
+use Rattle.norm_base.specs.declared.kinds.Kind.TheVariants as kind
+use Rattle.norm_base.specs.declared.node.Origin.{Origin}
+use Rattle.fec_plan.specs.Points.{position}
+use Rattle.fec_plan.specs.declared.position.Position.{Position}
+use Rattle.norm_ext.specs.Message.{Message, Nack, Ack, AckContent, Mark, Unread}
+use Rattle.norm_ext.specs.ObjectIds.{index_of}
+use Rattle.norm_ext.specs.Reading.{decoded}
+use Rattle.norm_ext.specs.Requests.{Request}
+use Rattle.norm_order.specs.Entries.{Part, Write, Cut, End, Object, Whole, Stream, Entry}
+use Rattle.norm_order.specs.Segments.{since_cut, unclosed}
+use Rattle.norm_order.specs.Shapes.{last_source, is_source}
+use Rattle.norm_order.specs.Sets.{with_member}
+use Rattle.norm_send_rules.specs.SenderState.{SenderState, Watermark, Round}
+use Rattle.norm_send_rules.specs.SenderStep as events
+use Rattle.norm_send_rules.specs.SenderStep.{SenderEvent, sender_step}
+use Rattle.norm_send_rules.specs.InWindow.{stands_behind, current_shapes}
+use Rattle.norm_send_rules.specs.Requests.{counted_anew, settled, end_where, open_requests, pending}
+use Rattle.norm_send_rules.specs.Enqueuing.{open_stream, object_fault, joined}
+use Rattle.norm_send_rules.specs.Streaming.{open_fault, with_parts, parts_now, write_fault, close_fault, grown, cut}
+use Rattle.norm_send_rules.specs.Marking.{most_open, request_at, requested}
+use Rattle.norm_send_rules.specs.Restarting.{is_used, begun_anew}
+use Rattle.norm_send_rules.specs.Commanding.{commanded}
+use Rattle.norm_send_rules.specs.Closing.{asked_in, round_closed}
+use Rattle.norm_send_rules.specs.Hearing.{is_for, joined_round, listed_past, rises, credited, credited_at, message_heard, heard}
+use Rattle.norm_send_rules.specs.Messages.{squelch_message}
+use Rattle.norm_send_rules.specs.Sending.{next_new, behind, repair_flags, sends, noted, sends_want, repairs_next, sends_new, message_of}
+use Rattle.norm_send_rules.specs.Flushing.{most_flushes, may_flush, flushes_for, expired, flushed, flushes}
+use Rattle.norm_send_rules.specs.Ticking.{closed_where_due, sends_further, sends_wanted, sends_first, sends_in_time}
+use Rattle.norm_send_rules.specs.Telling.{told, past_news, done_news, listing_of}
+use Rattle.norm_send_rules.specs.declared.job.Job.{Job}
+use Rattle.norm_send_rules.specs.declared.job.Job.TheVariants as job
+use Rattle.norm_send_rules.specs.declared.news.News.{News}
+use Rattle.norm_send_rules.specs.declared.news.Outcome.TheVariants.{Expired}
+use Rattle.norm_send_rules.specs.declared.want.Want.{Want}
+use Rattle.norm_send_rules.specs.declared.want.Want.TheVariants.{Info, Symbol}
+use Rattle.norm_send_rules.specs.Laws.{Rise, is_of_order, WantsHold, WantLaws}
+use Rattle.norm_send_rules.proofs.ClosingLemmas.{Each, rise_more, each_more, kept_passes}
+use Rattle.norm_send_rules.proofs.ShapeLemmas.{Blocks, shapes_parity}
+use Rattle.norm_send_rules.proofs.AskingLemmas.{all_filtered, asked_in_order}
+use Rattle.norm_send_rules.proofs.WantLemmas.{Same, same_both, same_by, either, same_step, anew, hold_same, joins, unless, goes_on, grown_holds, no_row}
+
+either_holds : {A : Type 0} (p : Settings) (b : Bool) (t u : SenderState × A) → WantsHold p t.0 → WantsHold p u.0 → WantsHold p (either b t u).0
+either_holds p true t u h k = h
+either_holds p false t u h k = k
+
+-- Commands.
+
+cut_holds : (p : Settings) → Blocks p → (s : SenderState) → WantsHold p s → WantsHold p (cut p s)
+unfolding since_cut
+cut_holds p blocks s h = go (open_stream s) refl
+  where
+    cut_where : ℕ → List Part → SenderState
+    cut_where n parts = elim n [ zero ↦ s | suc k ↦ with_parts (parts ++ Cut ∷ []) s ]
+
+    some : (parts : List Part) → open_stream s ≡ Some parts → (n : ℕ) → WantsHold p (cut_where n parts)
+    some parts e zero = h
+    some parts e (suc n) = goes_on p blocks s parts (Cut ∷ []) e h
+
+    go : (found : Option (List Part)) → open_stream s ≡ found → WantsHold p (cut_where (unclosed p.e (unwrap_or found [])) (unwrap_or found []))
+    go None e = subst (λ (n : ℕ). WantsHold p (cut_where n [])) (sym (zero-mod p.e)) h
+    go (Some parts) e = some parts e (unclosed p.e parts)
+
+request_holds : (p : Settings) (s : SenderState) (by : Origin) (found : Option Position) → WantsHold p s → WantsHold p (request_at s by found).0
+request_holds p s by None h = h
+request_holds p s by (Some at) h =
+    let more = record s { requests = s.requests ++ record { mark = length s.requests + 1; by = by; at = at; ended = None } ∷ [] } in
+    hold_same p s (request_at s by (Some at)).0
+    (same_step (nat_le most_open (length (open_requests s))) s (s, _) (requested s by at, _) (refl, refl) (anew s s (settled more) (refl, refl))) h
+
+commands_hold : (p : Settings) → Blocks p → (s : SenderState) (by : Origin) (job : Job) → WantsHold p s → WantsHold p (commanded p s by job).0
+commands_hold p blocks s by (job.Data info bytes) h =
+    unless p (object_fault p s info bytes) s (joined p by (Whole kind.Data info bytes) s) Err (Ok _) h (λ e. joins p blocks by (Whole kind.Data info bytes) s h)
+commands_hold p blocks s by (job.File name bytes) h =
+    unless p (object_fault p s (Some name) bytes) s (joined p by (Whole kind.File (Some name) bytes) s) Err (Ok _) h (λ e. joins p blocks by (Whole kind.File (Some name) bytes) s h)
+commands_hold p blocks s by job.Open h =
+    unless p (open_fault p s) s (joined p by (Stream []) s) Err (Ok _) h (λ e. joins p blocks by (Stream []) s h)
+commands_hold p blocks s by (job.Write bytes) h =
+    let parts = parts_now s ++ Write by bytes ∷ [] in
+    unless p (write_fault p s bytes parts) s (grown p s parts) Err (Ok _) h (λ e.
+    let first = no_row _ _ _ e in
+    let second = no_row _ _ _ first.1 in
+    grown_holds p blocks s (Write by bytes ∷ []) (no_row _ _ _ second.1).0 h)
+commands_hold p blocks s by job.Close h =
+    let parts = parts_now s ++ End ∷ [] in
+    unless p (close_fault p s parts) s (grown p s parts) Err (Ok _) h (λ e. grown_holds p blocks s (End ∷ []) (no_row _ _ _ e).0 h)
+commands_hold p blocks s by job.Mark h = request_holds p (cut p s) by (last_source (current_shapes p (cut p s))) (cut_holds p blocks s h)
+commands_hold p blocks s by (job.Restart instance) h =
+    either_holds p (is_used s instance) (s, _) (begun_anew p instance s, _) h (record { rise = tt; of_order = tt; in_window = tt })
+
+-- Datagrams.
+
+round_same : (p : Settings) (s : SenderState) (now : ℕ) (requests : List Request) → Same s (joined_round p s now requests)
+round_same p s now [] = (refl, refl)
+round_same p s now (r ∷ requests) = (refl, refl)
+
+credited_same : (node : ℕ) (at : Position) (s : SenderState) → Same s (credited node at s)
+credited_same node at s =
+    let risen = record s { listings = map (listed_past node at) s.listings; untold_nodes = with_member nat_lt node s.untold_nodes } in
+    same_by (rises node at s) s (counted_anew s (settled risen)) s (anew s s (settled risen) (refl, refl)) (refl, refl)
+
+credited_at_same : (p : Settings) (node : ℕ) (at : Position) (s : SenderState) → Same s (credited_at p node at s)
+credited_at_same p node at s = same_by (is_source (current_shapes p s) at) s (credited node at s) s (credited_same node at s) (refl, refl)
+
+heard_same : {E : Type 0} (p : Settings) (s : SenderState) (now : ℕ) (read : Result Message E) → Same s (message_heard p s now read)
+heard_same p s now (Ok (Nack m)) =
+    same_by (is_for p s m.source m.sender m.instance) s (joined_round p s now m.requests) s (round_same p s now m.requests) (refl, refl)
+heard_same p s now (Ok (Ack m)) = same_by (is_for p s m.source m.sender m.instance) s _ s (go m.content) (refl, refl)
+  where
+    go : (content : AckContent) → Same s (elim content [
+      | Mark item ↦ credited_at p m.source (position (index_of p item.object) item.id.block item.id.symbol) s
+      | Unread octets ↦ s
+    ])
+    go (Mark item) = credited_at_same p m.source (position (index_of p item.object) item.id.block item.id.symbol) s
+    go (Unread octets) = (refl, refl)
+heard_same p s now _ = (refl, refl)
+
+-- Ticks.
+
+closed_holds : (p : Settings) → Blocks p → (r : Round) (s : SenderState) → WantsHold p s → WantsHold p (round_closed p r s)
+closed_holds p blocks r s h =
+    let asked = asked_in p s r.asked in
+    let kept = filter (stands_behind s.current.drop) asked in
+    let of_order = is_of_order (current_shapes p s) in
+    record {
+      rise = rise_more kept s.wants h.rise;
+      of_order = each_more of_order kept s.wants (all_filtered (λ w. of_order w ≡ true) (stands_behind s.current.drop) asked
+          (asked_in_order p s r.asked (shapes_parity p blocks s.current.order))) h.of_order;
+      in_window = each_more (stands_behind s.current.drop) kept s.wants (kept_passes (stands_behind s.current.drop) asked) h.in_window;
+    }
+
+due_holds : (p : Settings) → Blocks p → (now : ℕ) (s : SenderState) → WantsHold p s → WantsHold p (closed_where_due p now s)
+due_holds p blocks now s h = go s.round
+  where
+    by : (b : Bool) (r : Round) → WantsHold p (elim b [ true ↦ round_closed p r s | false ↦ s ])
+    by true r = closed_holds p blocks r s h
+    by false r = h
+
+    go : (round : Option Round) → WantsHold p (elim round [ Some r ↦ elim (nat_le r.closes now) [ true ↦ round_closed p r s | false ↦ s ] | None ↦ s ])
+    go (Some r) = by (nat_le r.closes now) r
+    go None = h
+
+noted_same : (w : Want) (s : SenderState) → Same s (noted w s)
+noted_same (Info index) s = (refl, refl)
+noted_same (Symbol at) s = (refl, refl)
+
+sends_same : (p : Settings) (now : ℕ) (repair : Object → ℕ) (w : Want) (s : SenderState) → Same s (sends_want p now repair w s).0
+sends_same p now repair w s = go (slice_get s.current.order _)
+  where
+    sent : Option Entry → SenderState × Option (List ℕ)
+    sent found = elim found [ Some entry ↦ sends p now (message_of p s w entry.object (repair entry.object)) (noted w s) | None ↦ (s, None) ]
+
+    go : (found : Option Entry) → Same s (sent found).0
+    go (Some entry) = noted_same w s
+    go None = (refl, refl)
+
+expired_same : (mark : ℕ) (s : SenderState) → Same s (expired mark s)
+expired_same mark s = anew s s (end_where (λ w. w.mark == mark) (λ w. Expired (length (pending s w.at))) s) (refl, refl)
+
+flushed_same : (p : Settings) (now : ℕ) (requests : List Watermark) (s : SenderState) → Same s (flushed p now requests s).0
+unfolding flushed
+flushed_same p now [] s = (refl, refl)
+flushed_same p now (w ∷ requests) s = same_step (nat_lt s.flushes most_flushes) s (flushes_for p now w s)
+    (either (is_some s.round) (s, None) (flushed p now requests (expired w.mark s))) (refl, refl)
+    (same_step (is_some s.round) s (s, None) (flushed p now requests (expired w.mark s)) (refl, refl)
+    (same_both s (expired w.mark s) (flushed p now requests (expired w.mark s)).0 (expired_same w.mark s) (flushed_same p now requests (expired w.mark s))))
+
+further_same : (p : Settings) (now : ℕ) (s : SenderState) → Same s (sends_further p now s).0
+further_same p now s = go (next_new p s)
+  where
+    further : Option Want → SenderState × Option (List ℕ)
+    further found = elim found [ Some w ↦ sends_new p now w s | None ↦ flushes p now s ]
+
+    go : (found : Option Want) → Same s (further found).0
+    go (Some w) = sends_same p now (λ object. 0) w (record s { next = behind w })
+    go None = same_step (may_flush p s now) s (flushed p now (open_requests s) s) (s, None) (flushed_same p now (open_requests s) s) (refl, refl)
+
+repairs_hold : (p : Settings) (now : ℕ) (w : Want) (wants : List Want) (s : SenderState) → s.wants ≡ w ∷ wants → WantsHold p s
+    → WantsHold p (repairs_next p now w wants s).0
+repairs_hold p now w wants s e h =
+    let rise = subst Rise e h.rise in
+    let of_order = subst (Each (is_of_order (current_shapes p s))) e h.of_order in
+    let in_window = subst (Each (stands_behind s.current.drop)) e h.in_window in
+    hold_same p (record s { wants = wants }) (repairs_next p now w wants s).0
+    (sends_same p now (λ object. repair_flags p object w) w (record s { wants = wants }))
+    (record { rise = rise.1; of_order = of_order.1; in_window = in_window.1 })
+
+wanted_holds : (p : Settings) (now : ℕ) (s : SenderState) → WantsHold p s → WantsHold p (sends_wanted p now s).0
+wanted_holds p now s h = go s.wants refl
+  where
+    sent : List Want → SenderState × Option (List ℕ)
+    sent found = elim found [ [] ↦ sends_further p now s | w ∷ wants ↦ repairs_next p now w wants s ]
+
+    go : (found : List Want) → s.wants ≡ found → WantsHold p (sent found).0
+    go [] e = hold_same p s (sends_further p now s).0 (further_same p now s) h
+    go (w ∷ wants) e = repairs_hold p now w wants s e h
+
+in_time_holds : (p : Settings) (now : ℕ) (s : SenderState) → WantsHold p s → WantsHold p (sends_in_time p now s).0
+in_time_holds p now s h = either_holds p (nat_lt now s.next_send) (s, None) (sends_first p now s) h
+    (either_holds p s.squelch_due (sends p now (squelch_message p s s.current.drop) (record s { squelch_due = false })) (sends_wanted p now s)
+    (hold_same p s _ (refl, refl) h) (wanted_holds p now s h))
+
+-- News.
+
+told_same : (s : SenderState) → Same s (told s).0
+told_same s = go s.untold_nodes s.untold_marks
+  where
+    news : List ℕ → List ℕ → SenderState × Option News
+    news nodes marks = elim nodes [
+      | node ∷ others ↦ (record s { untold_nodes = others }, past_news node (listing_of s node))
+      | [] ↦ elim marks [
+        | mark ∷ others ↦ (record s { untold_marks = others }, done_news s mark (find (λ (w : Watermark). w.mark == mark) s.requests))
+        | [] ↦ (s, None)
+      ]
+    ]
+
+    go : (nodes marks : List ℕ) → Same s (news nodes marks).0
+    go (node ∷ nodes) marks = (refl, refl)
+    go [] (mark ∷ marks) = (refl, refl)
+    go [] [] = (refl, refl)
+
+step_holds : (p : Settings) → Blocks p → (s : SenderState) (event : SenderEvent) → WantsHold p s → WantsHold p (sender_step p s event).0
+step_holds p blocks s (events.Commanded by job now) h = commands_hold p blocks s by job h
+step_holds p blocks s (events.Delivered datagram now) h = hold_same p s (heard p s datagram now) (heard_same p s now (decoded datagram)) h
+step_holds p blocks s (events.Ticked now) h = in_time_holds p now (closed_where_due p now s) (due_holds p blocks now s h)
+step_holds p blocks s events.NewsAsked h = hold_same p s (told s).0 (told_same s) h
+
+blocks_of : (p : Settings) → InRange p → Blocks p
+blocks_of p range = record { e_pos = omega (arith, range.e.0); b_pos = omega (arith, range.b.0); most = range.longest }
+
+pub want_laws : WantLaws
+want_laws = record {
+  at_first = λ p. record { rise = tt; of_order = tt; in_window = tt };
+  always = λ p s event range h. step_holds p (blocks_of p range) s event h;
+}
