@@ -1,7 +1,6 @@
 -- What is written of commands is how they are spelled.
 use Rattle.std.proofs.Common.{◌≡◌, ℕ, ◌+◌, ◌/◌, ◌%◌, List, [], ◌∷◌, ◌++◌, length, sym, ap, ◌∙◌}
-use Rattle.byteorder.specs.Endian.{big_bytes}
-use Rattle.fec_plan.specs.Payload.{Name, name_octets}
+use Rattle.fec_plan.specs.Payload.{Name}
 use Rattle.norm_ext.specs.Extensions.{extensions_of, IsChecked}
 use Rattle.norm_ext.specs.Requests.{requests_of, IsRequests}
 use Rattle.norm_ext.specs.Lists.{nodes_of, objects_of}

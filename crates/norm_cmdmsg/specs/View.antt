@@ -1,5 +1,5 @@
 -- A command that is lent, as what it says.
-use Rattle.norm_ext.specs.Message.{Message, Info, Data, Flush, Eot, Squelch, RepairAdv, AckReq, Opaque, Nack, Ack, Report}
+use Rattle.norm_ext.specs.Message.{Message, Flush, Eot, Squelch, RepairAdv, AckReq, Opaque}
 use Rattle.norm_ext.specs.Extensions.{extensions_of}
 use Rattle.norm_ext.specs.Requests.{requests_of}
 use Rattle.norm_ext.specs.Lists.{nodes_of, objects_of}

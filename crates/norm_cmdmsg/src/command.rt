@@ -1,7 +1,15 @@
 //! What a command says.
 
+ghost use Rattle.std.specs.Prelude.{◌≡◌, ◌≤◌, ◌↔◌, ◌%◌, ◌⊎◌, IsTrue, [], length};
+ghost use Rattle.norm_ext.specs.Requests.{IsRequests};
+ghost use Rattle.norm_cmdmsg.specs.CanWrite.{CanWrite, IsNarrow, HasRoom, IsUnread};
+
 use fec_plan::PayloadId;
 use norm_ext::CmdHead;
+use norm_ext::fitting::{MOST_OCTETS, are_requests, has_room, is_narrow};
+
+/// The octets before the rest of a command that is not read.
+const BEFORE_REST: usize = 13;
 
 /// A command. Its parts are lent from the datagram.
 #[derive(Clone, Copy, Debug, PartialEq, Eq)]
@@ -57,4 +65,72 @@ pub enum CommandMsg<'a> {
         /// All octets behind the sub-type.
         rest: &'a [u8],
     },
+}
+
+/// Whether the back-off factor and the group's size have four bits each.
+fn head_fits(head: &CmdHead) -> bool
+    ensures { IsTrue result ↔ IsNarrow head.now }
+{
+    is_narrow(head.backoff, head.gsize)
+}
+
+/// Whether the extensions and the content have room behind so many octets of fixed fields.
+fn parts_fit(fixed: usize, exts: &[u8], content: &[u8]) -> bool
+    requires { fixed ≤ 1020 }
+    ensures { IsTrue result ↔ HasRoom fixed exts.now content.now }
+{
+    has_room(fixed, exts, content.len())
+}
+
+/// Whether a command that is not read has such a sub-type, and a header that its octets have.
+fn unread_fits(sub_type: u8, words: u8, rest: &[u8]) -> bool
+    ensures { IsTrue result ↔ IsUnread sub_type words rest.now }
+{
+    let known = sub_type == 4 || sub_type == 7;
+    let short = rest.len() <= MOST_OCTETS - BEFORE_REST;
+    known && short && words >= 4 && 4 * usize::from(words) <= BEFORE_REST + rest.len()
+}
+
+impl<'a> CommandMsg<'a> {
+    /// Whether it can be written: its extensions are whole, its header has at most 255 words, the whole at most 1,500
+    /// octets, `backoff` and `gsize` are below 16, a list of node ids is a multiple of four octets and one of object ids
+    /// of two, requests are whole, and a command that is not read has sub-type 4 or 7 and at least the header that
+    /// `words` says.
+    pub fn fits(&self) -> bool
+        ensures { IsTrue result ↔ CanWrite self.now }
+    {
+        match self {
+            CommandMsg::Flush {
+                head,
+                exts,
+                nodes,
+                ..
+            } => head_fits(head) && parts_fit(20, exts, nodes) && nodes.len() % 4 == 0,
+            CommandMsg::Eot { head, exts } => head_fits(head) && parts_fit(16, exts, &[]),
+            CommandMsg::Squelch {
+                head,
+                exts,
+                invalid,
+                ..
+            } => head_fits(head) && parts_fit(20, exts, invalid) && invalid.len() % 2 == 0,
+            CommandMsg::RepairAdv {
+                head,
+                exts,
+                requests,
+                ..
+            } => head_fits(head) && parts_fit(16, exts, requests) && are_requests(requests),
+            CommandMsg::AckReq {
+                head,
+                exts,
+                nodes,
+                ..
+            } => head_fits(head) && parts_fit(16, exts, nodes) && nodes.len() % 4 == 0,
+            CommandMsg::Opaque {
+                head,
+                sub_type,
+                words,
+                rest,
+            } => head_fits(head) && unread_fits(*sub_type, *words, rest),
+        }
+    }
 }

@@ -1,5 +1,5 @@
 -- What is found is spelled, and where nothing is found nothing is spelled.
-use Rattle.std.proofs.Common.{◌≡◌, ℕ, List, Result, Ok, Err, sym, ◌∙◌}
+use Rattle.std.proofs.Common.{◌≡◌, ℕ, List, Result, Ok, Err}
 use Rattle.std.specs.Prelude.{MatchResult, IfOk, IfErr}
 use Rattle.norm_ext.specs.Message.{Message}
 use Rattle.norm_ext.specs.Spells.{Spells}

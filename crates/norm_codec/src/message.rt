@@ -1,7 +1,11 @@
 //! A message of any type.
 
+ghost use Rattle.std.specs.Prelude.{◌≡◌, ◌↔◌, IsTrue, length};
+ghost use Rattle.norm_codec.specs.CanEncode.{CanEncode, IsReport};
+
 use norm_base::NodeId;
 use norm_cmdmsg::CommandMsg;
+use norm_ext::fitting::MOST_OCTETS;
 use norm_fbmsg::{AckMsg, NackMsg};
 use norm_objmsg::grammar::{DataMsg, InfoMsg};
 
@@ -22,4 +26,34 @@ pub enum Message<'a> {
         /// All octets behind the common header.
         rest: &'a [u8],
     },
+}
+
+/// The octets of the common header.
+const COMMON: usize = 8;
+/// The words of the common header.
+const COMMON_WORDS: u8 = 2;
+
+/// Whether a report has the header that `words` says, and room.
+fn report_fits(words: u8, rest: &[u8]) -> bool
+    ensures { IsTrue result ↔ IsReport words rest.now }
+{
+    let short = rest.len() <= MOST_OCTETS - COMMON;
+    short && words >= COMMON_WORDS && 4 * usize::from(words) <= COMMON + rest.len()
+}
+
+impl<'a> Message<'a> {
+    /// Whether `encode` can write it: the condition of its own message's write, and of a report that `words` is at least
+    /// 2, that it has so many words, and that the whole has at most 1,500 octets.
+    pub fn fits(&self) -> bool
+        ensures { IsTrue result ↔ CanEncode self.now }
+    {
+        match self {
+            Message::Info(msg) => msg.fits(),
+            Message::Data(msg) => msg.fits(),
+            Message::Command(msg) => msg.fits(),
+            Message::Nack(msg) => msg.fits(),
+            Message::Ack(msg) => msg.fits(),
+            Message::Report { words, rest, .. } => report_fits(*words, rest),
+        }
+    }
 }

@@ -1,11 +1,12 @@
 //! Worked datagrams: what is refused, and with what, and what is read and written.
 
-ghost use Rattle.std.specs.Prelude.{◌≡◌};
+ghost use Rattle.std.specs.Prelude.{◌≡◌, ◌≤◌, []};
 
 use super::*;
 use fec_plan::PayloadId;
 use norm_base::{Datagram, InstanceId, NodeId};
 use norm_cmdmsg::{CmdHead, CommandMsg};
+use norm_ext::{Form, Item, RequestWriter, flags};
 use std::process::Abort;
 use std::test::Fail;
 
@@ -88,6 +89,7 @@ fn a_flush_is_written_and_read(rt: HostRuntime) -> Result<(), Fail> {
         exts: &none,
         nodes: &nodes,
     });
+    assert!(rt; msg.fits());
     let mut out = Datagram::new(rt.alloc())?;
     out.clear();
     encode(&msg, &mut out);
@@ -99,5 +101,27 @@ fn a_flush_is_written_and_read(rt: HostRuntime) -> Result<(), Fail> {
         Ok(found) => assert_eq!(rt; found, msg),
         Err(_) => panic!(rt; "the worked FLUSH is refused"),
     }
+    Ok(())
+}
+
+/// Whether a writer of so many octets takes one erasure count of 1 for object 0 and block 0.
+fn takes_a_count(limit: u16, out: &mut Datagram) -> bool
+    requires empty { out.old ≡ [] }
+    requires limit { limit ≤ 1500 }
+{
+    let id = PayloadId::read([0, 0, 0, 1]);
+    let item = Item { object: 0, id };
+    let mut requests = RequestWriter::new(limit);
+    requests.push_item(out, Form::Erasures, flags::WANT_SEGMENT, item, None)
+}
+
+#[test]
+fn a_request_is_written_as_in_the_worked_row(rt: HostRuntime) -> Result<(), Fail> {
+    let mut out = Datagram::new(rt.alloc())?;
+    assert!(rt; !takes_a_count(11, &mut out), "eleven octets");
+    out.clear();
+    assert!(rt; takes_a_count(12, &mut out), "twelve octets");
+    let worked = [3, 1, 0, 8, 5, 0, 0, 0, 0, 0, 0, 1];
+    assert_eq!(rt; out.bytes(), worked.as_slice());
     Ok(())
 }

@@ -8,6 +8,8 @@ pub mod Lists
 pub mod Segment
 pub mod Message
 pub mod Octets
+pub mod Headers
+pub mod Commands
 pub mod Reading
 pub mod ObjectIds
 pub mod Fitting

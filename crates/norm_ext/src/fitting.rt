@@ -9,7 +9,7 @@ use crate::extensions::check_list;
 use crate::requests::check_requests;
 
 /// The most octets of a datagram.
-const MOST_OCTETS: usize = 1500;
+pub const MOST_OCTETS: usize = 1500;
 /// The most octets of a header: 255 words.
 const MOST_HEADER: usize = 1020;
 

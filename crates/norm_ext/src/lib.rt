@@ -1,6 +1,7 @@
 //! The grammar of NORM messages (RFC 5740 section 4), and what all messages share: header extensions, the FEC
 //! Object Transmission Information, and repair requests. `specs/` has the whole grammar; the crates above read and
-//! write its messages with the calls of `header`, `Extensions` and `requests_of`.
+//! write its messages with the calls of `header`, `pushing`, `Extensions` and `requests_of`, and ask by `fitting` whether
+//! a message can be written. A receiver writes its requests by a `RequestWriter`.
 #![tactic(auto)]
 
 mod extensions;

@@ -57,7 +57,7 @@ fn push_one(item: &Item, out: &mut Datagram)
 }
 
 /// The octets of an item, or of the two ends of a range.
-fn octets_of(last: &Option<Item>) -> u16
+fn ends_len(last: &Option<Item>) -> u16
     ensures exact { (first : Named) → result ≡ 8 * length (ends_of first last.now) }
     ensures few { result ≤ 16 }
 {
@@ -154,7 +154,7 @@ impl RequestWriter {
         ensures kept { result ≡ false → (self.new ≡ self.old) × (out.new ≡ out.old) }
         ensures limit { self.new.limit ≡ self.old.limit }
     {
-        let items = octets_of(&last);
+        let items = ends_len(&last);
         let joins = self.joins(form, flags);
         let more = if joins { items } else { FRONT + items };
         if self.limit - self.used < more {

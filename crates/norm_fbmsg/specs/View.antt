@@ -1,5 +1,5 @@
 -- Feedback that is lent, as what it says.
-use Rattle.norm_ext.specs.Message.{Message, Info, Data, Flush, Eot, Squelch, RepairAdv, AckReq, Opaque, Nack, Ack, Report, AckContent, Mark, Unread}
+use Rattle.norm_ext.specs.Message.{Message, Nack, Ack, AckContent, Mark, Unread}
 use Rattle.norm_ext.specs.Extensions.{extensions_of}
 use Rattle.norm_ext.specs.Requests.{requests_of}
 use Rattle.norm_fbmsg.specs.declared.message.NackMsg.{NackMsg}

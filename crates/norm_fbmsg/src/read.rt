@@ -4,15 +4,10 @@ ghost use Rattle.std.specs.Prelude.{◌≡◌, ◌+◌, ◌*◌, ◌≤◌, ◌<
 ghost use Rattle.norm_ext.specs.Reading.{nack_read, ack_read, ack_encoding_checked, ack_length_checked, ack_content_of};
 ghost use Rattle.norm_fbmsg.specs.View.{nack_of, ack_of, content_of};
 
-use crate::message::{AckBody, AckMsg, NackMsg};
+use crate::message::{AckBody, AckMsg, FLUSH_ACK, ITEM, NackMsg};
 use norm_base::InstanceId;
 use norm_ext::header::{ENCODING_ID, check_extensions, check_header, check_member, check_source};
 use norm_ext::{Item, MessageType, Refusal, check_requests, read_16, read_32, read_name};
-
-/// The type of an acknowledgement that answers a FLUSH (RFC 5740 section 4.3.2).
-const FLUSH_ACK: u8 = 2;
-/// The octets of an item.
-const ITEM: usize = 8;
 
 /// The negative acknowledgement that the octets spell, or the first refusal.
 #[tactic(auto, unfolding(norm_ext::specs::Reading::nack_read))]

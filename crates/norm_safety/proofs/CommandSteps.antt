@@ -1,31 +1,25 @@
 -- What a command does to the orders: it adds its own origin at most, a new instance has a new id, and all keep their places.
-use Rattle.std.proofs.Common.{◌≡◌, ℕ, zero, suc, ◌+◌, ◌-◌, cond, List, [], ◌∷◌, ◌++◌, length, Bool, true, false, Option, None, Some, Result, Ok, Err, refl, sym, ap, ◌∙◌, subst, append_assoc, arith, ◌⊎◌, inl, inr}
-use Rattle.std.specs.Prelude.{map, ◌==◌, nat_le, is_ok, is_none, unwrap_or, slice_get, IsTrue, flat_map}
+use Rattle.std.proofs.Common.{◌≡◌, ℕ, zero, suc, ◌+◌, List, [], ◌∷◌, ◌++◌, length, Bool, true, false, Option, None, Some, Result, Ok, Err, refl, sym, ap, ◌∙◌, subst, append_assoc, arith, ◌⊎◌, inl, inr}
+use Rattle.std.specs.Prelude.{map, nat_le, is_ok, is_none, unwrap_or}
 use Rattle.std.proofs.lemmas.List.{append-nil, map-append}
 use Rattle.norm_base.specs.Settings.{Settings}
-use Rattle.norm_base.specs.declared.kinds.Kind.{Kind}
 use Rattle.norm_base.specs.declared.kinds.Kind.TheVariants as kind
 use Rattle.norm_base.specs.declared.node.Origin.{Origin}
 use Rattle.fec_plan.specs.declared.position.Position.{Position}
-use Rattle.fec_plan.specs.Points.{Point}
 use Rattle.norm_order.specs.First.{first_where}
 use Rattle.norm_order.specs.Entries.{Part, Write, Cut, End, Object, Whole, Stream, Entry}
 use Rattle.norm_order.specs.Segments.{unclosed, since_cut}
 use Rattle.norm_order.specs.Shapes.{last_source}
 use Rattle.norm_send_rules.specs.SenderState.{SenderState, Instance, Watermark, begun}
-use Rattle.norm_send_rules.specs.InWindow.{next_index, current_shapes}
+use Rattle.norm_send_rules.specs.InWindow.{current_shapes}
 use Rattle.norm_send_rules.specs.Restarting.{instances, is_used, begun_anew, restarted}
-use Rattle.norm_send_rules.specs.Room.{size_of, window, has_to_go, drop_after, stream_drop}
-use Rattle.norm_send_rules.specs.Dropping.{dropped_to}
-use Rattle.norm_send_rules.specs.Enqueuing.{open_stream, object_fault, with_entry, joined, enqueued, last_index}
-use Rattle.norm_send_rules.specs.Streaming.{open_fault, opened, parts_now, used_segments, with_parts, write_fault, close_fault, grown, wrote, closed, cut, with_last}
-use Rattle.norm_send_rules.specs.Marking.{most_open, requested, request_at, marked}
-use Rattle.norm_send_rules.specs.Requests.{open_requests, counted_anew, settled}
+use Rattle.norm_send_rules.specs.Enqueuing.{open_stream, object_fault, joined}
+use Rattle.norm_send_rules.specs.Streaming.{open_fault, parts_now, with_parts, write_fault, close_fault, grown, wrote, closed, cut, with_last}
+use Rattle.norm_send_rules.specs.Marking.{most_open, requested, request_at}
+use Rattle.norm_send_rules.specs.Requests.{open_requests}
 use Rattle.norm_send_rules.specs.Commanding.{commanded, answered}
 use Rattle.norm_send_rules.specs.declared.news.Outcome.TheVariants.{Cut as CutOff}
 use Rattle.norm_send_rules.specs.declared.fault.EnqueueFault.{EnqueueFault}
-use Rattle.norm_send_rules.specs.declared.fault.EnqueueFault.TheVariants.{NoStream}
-use Rattle.norm_send_rules.specs.declared.fault.MarkFault.{MarkFault}
 use Rattle.norm_send_rules.specs.declared.fault.MarkFault.TheVariants.{TooMany}
 use Rattle.norm_send_rules.specs.declared.fault.SendFault.{SendFault}
 use Rattle.norm_send_rules.specs.declared.fault.SendFault.TheVariants.{Enqueue, Mark, IdUsed}

@@ -1,15 +1,13 @@
 -- The cut of an object of a profile: it is sound, its symbols' numbers have 8 bits, and its blocks' 24.
-use Rattle.std.proofs.Common.{◌≡◌, ℕ, zero, suc, ◌+◌, ◌-◌, ◌*◌, ◌/◌, ◌<◌, ◌≤◌, length, Bool, true, false, refl, sym, ap, ◌∙◌, subst, arith, ◌⊎◌, inl, inr}
+use Rattle.std.proofs.Common.{◌≡◌, ℕ, ◌-◌, ◌*◌, ◌<◌, ◌≤◌, Bool, true, false, refl, sym, ◌∙◌, arith}
 use Rattle.std.specs.Prelude.{◌==◌, min, nat_lt}
-use Rattle.std.proofs.lemmas.Bool.{cases_lt}
 use Rattle.std.proofs.lemmas.Bool.Decides.{Decides-eqb, Decides-ltb}
-use Rattle.std.proofs.lemmas.Grind.{div_ceil_times}
 use Rattle.std.proofs.Math.Nat.{mul-le-mul_left, mul-le-mul_right, div-le_of_le-mul}
 use Rattle.norm_base.specs.Settings.{Settings, InRange}
-use Rattle.fec_plan.specs.Partition.{Cut, IsSound, cut_of, symbols_in, blocks_in, small_block, large_block, larger_blocks, symbols_before, source_symbols, encoding_symbols, symbol_number, most_blocks}
+use Rattle.fec_plan.specs.Partition.{Cut, IsSound, cut_of, symbols_in, blocks_in, small_block, large_block, larger_blocks, symbols_before, source_symbols, encoding_symbols}
 use Rattle.fec_plan.proofs.CutLemmas.{some_blocks}
 use Rattle.fec_plan.proofs.CoverLemmas.{blocks_are_even_law, few_blocks, small_some, between}
-use Rattle.norm_order.specs.Shapes.{Shape, closed_in, encoded_in, is_full}
+use Rattle.norm_order.specs.Shapes.{Shape, closed_in, encoded_in}
 
 -- the ranges of a profile's numbers that its cuts go by
 pub record CutRange (p : Settings) : Type 0 where

@@ -1,19 +1,17 @@
 -- Entries keep their places while orders grow at their ends, and a command adds its origin to all origins at most.
-use Rattle.std.proofs.Common.{◌≡◌, ℕ, zero, suc, cond, List, [], ◌∷◌, ◌++◌, length, Bool, true, false, Option, None, Some, refl, sym, ap, ◌∙◌, subst, append_assoc, arith, ◌⊎◌, inl, inr}
-use Rattle.std.specs.Prelude.{map, find, flat_map, reverse, slice_get, ◌==◌, ◌&&◌, nat_eq}
-use Rattle.std.proofs.lemmas.List.{append-nil, reverse-append, map-append}
+use Rattle.std.proofs.Common.{◌≡◌, ℕ, zero, suc, cond, List, [], ◌∷◌, ◌++◌, Bool, true, false, Option, None, Some, refl, sym, ap, ◌∙◌, subst, append_assoc, ◌⊎◌, inl, inr}
+use Rattle.std.specs.Prelude.{find, flat_map, reverse, slice_get, ◌==◌}
+use Rattle.std.proofs.lemmas.List.{append-nil, reverse-append}
 use Rattle.std.proofs.lemmas.Grind.{flat_map-append}
 use Rattle.norm_base.specs.declared.node.Origin.{Origin}
 use Rattle.fec_plan.specs.Points.{Point}
-use Rattle.norm_order.specs.Entries.{Part, Write, Cut, End, Object, Whole, Stream, Entry}
+use Rattle.norm_order.specs.Entries.{Part, Object, Whole, Stream, Entry}
 use Rattle.norm_order.specs.Segments.{has_end}
-use Rattle.norm_send_rules.specs.SenderState.{SenderState, Instance, Watermark, begun}
-use Rattle.norm_send_rules.specs.Restarting.{instances}
+use Rattle.norm_send_rules.specs.SenderState.{Instance, begun}
 use Rattle.norm_send_rules.specs.Enqueuing.{open_parts}
 use Rattle.norm_send_rules.specs.Streaming.{with_last}
 use Rattle.norm_safety.specs.Lawful.{same_origin}
-use Rattle.norm_safety.specs.OnceEach.{origin_of_part, origins_of, origins, instance_ids}
-use Rattle.norm_safety.proofs.SenderKeeps.{bys}
+use Rattle.norm_safety.specs.OnceEach.{origin_of_part, origins_of}
 
 pub clash : false ≡ true → ⊥
 clash e = cc

@@ -1,11 +1,11 @@
 -- Hand-ups that go through an order, entry by entry: each is handed up whole, or lost below the drop point.
-use Rattle.std.proofs.Common.{◌≡◌, ℕ, zero, suc, ◌+◌, ◌-◌, ◌<◌, ◌≤◌, List, [], ◌∷◌, ◌++◌, length, take, Bool, true, false, Option, None, Some, refl, sym, ap, ◌∙◌, subst, append_assoc, arith, ◌⊎◌, inl, inr}
+use Rattle.std.proofs.Common.{◌≡◌, ℕ, zero, suc, ◌+◌, ◌<◌, ◌≤◌, List, [], ◌∷◌, ◌++◌, length, take, Bool, true, false, None, Some, refl, sym, ap, ◌∙◌, subst, append_assoc, arith, ◌⊎◌, inl, inr}
 use Rattle.std.specs.Prelude.{slice_get, nat_lt, ◌==◌, ◌&&◌, ◌||◌, IsTrue}
 use Rattle.std.proofs.lemmas.Bool.Decides.{Decides-ltb}
 use Rattle.std.proofs.lemmas.List.{append-nil}
 use Rattle.norm_base.specs.Settings.{Settings}
-use Rattle.fec_plan.specs.Points.{Point, point}
-use Rattle.norm_order.specs.Entries.{Part, Object, Whole, Stream, Entry}
+use Rattle.fec_plan.specs.Points.{Point}
+use Rattle.norm_order.specs.Entries.{Object, Whole, Stream, Entry}
 use Rattle.norm_order.specs.Upto.{parts_of}
 use Rattle.norm_order.specs.declared.up.Up.{Up}
 use Rattle.norm_order.specs.declared.up.Up.TheVariants as up
@@ -26,19 +26,19 @@ exactly_hands p d index [] ups x at e h =
     let P : ℕ → Type 0 = λ n. Exactly p d index (x ∷ []) (ups ++ parts_of p n x.object) in
     let same : index ≡ at = omega arith in
     let is : ups ++ parts_of p index x.object ≡ parts_of p index x.object ++ [] =
-        ap (λ (xs : List Up). xs ++ parts_of p index x.object) h ∙ sym (append-nil (parts_of p index x.object)) in
+    ap (λ (xs : List Up). xs ++ parts_of p index x.object) h ∙ sym (append-nil (parts_of p index x.object)) in
     subst P same (inl ([], is, refl))
 exactly_hands p d index (y ∷ entries) ups x at e (inl (rest, is, more)) = inl (
-    rest ++ parts_of p at x.object,
-    ap (λ (xs : List Up). xs ++ parts_of p at x.object) is ∙ append_assoc (parts_of p index y.object) rest (parts_of p at x.object),
-    exactly_hands p d (suc index) entries rest x at (omega arith) more,
-    )
+  rest ++ parts_of p at x.object,
+  ap (λ (xs : List Up). xs ++ parts_of p at x.object) is ∙ append_assoc (parts_of p index y.object) rest (parts_of p at x.object),
+  exactly_hands p d (suc index) entries rest x at (omega arith) more,
+)
 exactly_hands p d index (y ∷ entries) ups x at e (inr (rest, is, lt, more)) = inr (
-    rest ++ parts_of p at x.object,
-    ap (λ (xs : List Up). xs ++ parts_of p at x.object) is,
-    lt,
-    exactly_hands p d (suc index) entries rest x at (omega arith) more,
-    )
+  rest ++ parts_of p at x.object,
+  ap (λ (xs : List Up). xs ++ parts_of p at x.object) is,
+  lt,
+  exactly_hands p d (suc index) entries rest x at (omega arith) more,
+)
 
 -- one more entry is lost
 pub exactly_loses : (p : Settings) (d index : ℕ) (entries : List Entry) (ups : List Up) (x : Entry) (at : ℕ) → at ≡ index + length entries → at < d
@@ -47,16 +47,16 @@ exactly_loses p d index [] ups x at e lt h =
     let same : at ≡ index = omega arith in
     inr ([], ap (λ (xs : List Up). xs ++ up.Lost at ∷ []) h ∙ ap (λ (n : ℕ). up.Lost n ∷ []) same, omega arith, refl)
 exactly_loses p d index (y ∷ entries) ups x at e lt (inl (rest, is, more)) = inl (
-    rest ++ up.Lost at ∷ [],
-    ap (λ (xs : List Up). xs ++ up.Lost at ∷ []) is ∙ append_assoc (parts_of p index y.object) rest (up.Lost at ∷ []),
-    exactly_loses p d (suc index) entries rest x at (omega arith) lt more,
-    )
+  rest ++ up.Lost at ∷ [],
+  ap (λ (xs : List Up). xs ++ up.Lost at ∷ []) is ∙ append_assoc (parts_of p index y.object) rest (up.Lost at ∷ []),
+  exactly_loses p d (suc index) entries rest x at (omega arith) lt more,
+)
 exactly_loses p d index (y ∷ entries) ups x at e lt (inr (rest, is, below, more)) = inr (
-    rest ++ up.Lost at ∷ [],
-    ap (λ (xs : List Up). xs ++ up.Lost at ∷ []) is,
-    below,
-    exactly_loses p d (suc index) entries rest x at (omega arith) lt more,
-    )
+  rest ++ up.Lost at ∷ [],
+  ap (λ (xs : List Up). xs ++ up.Lost at ∷ []) is,
+  below,
+  exactly_loses p d (suc index) entries rest x at (omega arith) lt more,
+)
 
 -- a drop point that is further on
 pub exactly_later : (p : Settings) (d e index : ℕ) (entries : List Entry) (ups : List Up) → d ≤ e → Exactly p d index entries ups → Exactly p e index entries ups
@@ -102,7 +102,7 @@ front_exactly p d index (y ∷ entries) (x ∷ front) rest sized h =
           exactly = inl (
             front,
             ap (λ (z : Up). z ∷ front) (head_of x (up.Object index kind info octets) (front ++ rest) others whole)
-            ∙ sym (ap (λ (xs : List Up). xs ++ front) parts),
+                ∙ sym (ap (λ (xs : List Up). xs ++ front) parts),
             fewer.exactly,
           );
         }
@@ -131,9 +131,11 @@ exactly_through p drop index (suc n) (x ∷ order) ups (inr (rest, is, lt, more)
     none : (object : Object) → IsHandedOf p index object []
     none (Whole kind info octets) = refl
     none (Stream parts) = (up.StreamOpen index, _, refl)
+
     or_first : (a b : Bool) → a ≡ true → (a || b) ≡ true
     or_first true b e = refl
     or_first false b e = absurd (cc)
+
     below : nat_lt index drop.index ≡ true → IsTrue (may_be_lost p drop index x.object 0)
     below e = or_first (nat_lt index drop.index) (index == drop.index && is_stream_object x.object && nat_lt (whole_blocks p 0) drop.block) e
 

@@ -1,5 +1,5 @@
 -- What receivers say, and a flush, says nothing of objects, whatever is read of it.
-use Rattle.std.proofs.Common.{◌≡◌, ℕ, ◌*◌, List, [], ◌∷◌, ◌++◌, Bool, true, false, Option, None, Some, Result, Ok, Err, refl, sym, ◌∙◌, subst}
+use Rattle.std.proofs.Common.{◌≡◌, ℕ, ◌*◌, List, [], Bool, true, false, Option, None, Some, Result, Ok, Err, refl, sym, ◌∙◌, subst}
 use Rattle.std.specs.Prelude.{⊤, nat_le}
 use Rattle.std.specs.List.{list_all}
 use Rattle.norm_base.specs.Settings.{Settings}
@@ -163,27 +163,32 @@ receiver_says_nothing p s now = due s.due
   where
     sent : ReceiverState × Option (List ℕ) → Option (List ℕ)
     sent step = step.1
+
     asked : (wanted : List Need) (r : ReceiverState) (all : Bool) → SendsNothingOf (sent (elim all [
       | true ↦ (holds_off p now r, None)
       | false ↦ sends (nack_message p r wanted) (holds_off p now r)
     ]))
     asked wanted r true = tt
     asked wanted r false = nack_said (nack_of p r wanted)
+
     needed : (r : ReceiverState) (none : Bool) → SendsNothingOf (sent (elim none [
       | true ↦ (r, None)
       | false ↦ asks p now (fitting (needs p r) None p.e) r
     ]))
     needed r true = tt
     needed r false = asked (fitting (needs p r) None p.e) r (list_all (is_heard p r) (fitting (needs p r) None p.e))
+
     ended : (r : ReceiverState) (reached : Bool) → SendsNothingOf (sent (elim reached [ true ↦ asks_where_needed p now r | false ↦ (s, None) ]))
     ended r true = needed r (needs_nothing p r)
     ended r false = tt
+
     backed : (backoff : Option ℕ) → SendsNothingOf (sent (elim backoff [
       | Some ends ↦ elim (nat_le ends now) [ true ↦ asks_where_needed p now (record s { backoff = None }) | false ↦ (s, None) ]
       | None ↦ (s, None)
     ]))
     backed None = tt
     backed (Some ends) = ended (record s { backoff = None }) (nat_le ends now)
+
     due : (at : Option Position) → SendsNothingOf (sent (elim at [
       | Some at ↦ sends (ack_message p s at) (record s { due = None })
       | None ↦ ends_back_off p now s

@@ -1,20 +1,17 @@
 -- What a receiver of data and files holds in an instance: plans, symbols and infos of the instance's order, and hand-ups
 -- that went exactly through it up to the hand-up point.
-use Rattle.std.proofs.Common.{◌≡◌, ℕ, zero, suc, ◌+◌, ◌-◌, ◌*◌, ◌/◌, ◌%◌, ◌<◌, ◌≤◌, cond, List, [], ◌∷◌, ◌++◌, length, take, Bool, true, false, Option, None, Some, refl, sym, ap, ◌∙◌, subst, append_assoc, arith, ◌⊎◌, inl, inr}
-use Rattle.std.specs.Prelude.{find, slice_get, ◌==◌, ◌&&◌, nat_lt, is_some, is_none, IsSomeAnd, IsTrue, ⊤, if◌then◌else◌}
+use Rattle.std.proofs.Common.{◌≡◌, ℕ, suc, ◌+◌, ◌*◌, ◌/◌, ◌%◌, ◌≤◌, cond, List, [], ◌∷◌, ◌++◌, length, take, Bool, true, false, Option, None, Some, refl, sym, ap, ◌∙◌, subst, append_assoc, arith}
+use Rattle.std.specs.Prelude.{find, slice_get, ◌==◌, ◌&&◌, nat_lt, is_some, IsSomeAnd, if◌then◌else◌}
 use Rattle.std.specs.List.{AllByRecursion, list_all, range_with_len}
-use Rattle.std.proofs.lemmas.Bool.Decides.{Decides-ltb, Decides-eqb}
+use Rattle.std.proofs.lemmas.Bool.Decides.{Decides-eqb}
 use Rattle.std.proofs.lemmas.List.{length-take}
 use Rattle.std.proofs.lemmas.Option.{slice_get_within}
 use Rattle.norm_base.specs.Settings.{Settings, InRange}
 use Rattle.norm_base.specs.declared.kinds.Kind.{Kind}
 use Rattle.norm_base.specs.declared.kinds.Kind.TheVariants as kind
 use Rattle.fec_plan.specs.Partition.{blocks}
-use Rattle.fec_plan.specs.Points.{Point, point, position, position_before}
-use Rattle.fec_plan.specs.declared.position.Position.{Position}
 use Rattle.norm_ext.specs.Asking.{has_flag}
-use Rattle.norm_ext.specs.declared.fti.Fti.{Fti}
-use Rattle.norm_order.specs.Entries.{Part, Object, Whole, Stream, Entry}
+use Rattle.norm_order.specs.Entries.{Object, Whole, Stream, Entry}
 use Rattle.norm_order.specs.Sets.{with_member}
 use Rattle.norm_order.proofs.PositionLemmas.{before_decides, before_both}
 use Rattle.norm_order.specs.Shapes.{shape_of, encoded_in}
@@ -24,17 +21,16 @@ use Rattle.norm_order.specs.declared.up.Up.{Up}
 use Rattle.norm_order.specs.declared.up.Up.TheVariants as up
 use Rattle.norm_send_rules.specs.Messages.{fti_of_object, object_flags}
 use Rattle.norm_receive_rules.specs.ReceiverState.{ReceiverState, Plan, Held, HeldInfo}
-use Rattle.norm_receive_rules.specs.Plans.{cut_of_plan, says_stream, says_info, says_file, plan_of, is_done, has_its_info, info_of}
-use Rattle.norm_receive_rules.specs.Fitting.{plan_before, with_plan}
-use Rattle.norm_receive_rules.specs.Putting.{held_before, info_before}
-use Rattle.norm_receive_rules.specs.HandingUp.{after_object, handed, is_whole, object_octets, kind_of, told_info, hands_object, hands_next, hands_one, hands_most, handed_up}
+use Rattle.norm_receive_rules.specs.Plans.{cut_of_plan, says_stream, says_info, plan_of, is_done, has_its_info, info_of}
+use Rattle.norm_receive_rules.specs.Putting.{held_before}
+use Rattle.norm_receive_rules.specs.HandingUp.{after_object, handed, is_whole, object_octets, kind_of, told_info, hands_object, hands_next, hands_one}
 use Rattle.norm_safety.specs.SaysSymbols.{info_of_object}
 use Rattle.norm_safety.proofs.EntryLemmas.{clash}
 use Rattle.norm_safety.proofs.WholeOrders.{IsSized, AreSized}
 use Rattle.norm_safety.proofs.Spoken.{sized_at}
 use Rattle.norm_safety.proofs.Cuts.{cut_range}
-use Rattle.norm_safety.proofs.ObjectLemmas.{Rising, IsOfObject, ObjectHeld, object_again}
-use Rattle.norm_safety.proofs.Exact.{Exactly, exactly_hands, exactly_loses, take_next}
+use Rattle.norm_safety.proofs.ObjectLemmas.{Rising, IsOfObject, object_again}
+use Rattle.norm_safety.proofs.Exact.{Exactly, exactly_hands, take_next}
 
 -- ---- what is held
 
@@ -155,6 +151,7 @@ found_plan P (x ∷ plans) index plan all e = go (x.index == index) refl (λ e. 
   where
     same_plan : (x y : Plan) → Some x ≡ Some y → x ≡ y
     same_plan x y e = cc
+
     go : (b : Bool) → (x.index == index) ≡ b → (find (λ (x : Plan). x.index == index) plans ≡ Some plan → P plan × (plan.index ≡ index))
         → cond b (Some x) (find (λ (x : Plan). x.index == index) plans) ≡ Some plan → P plan × (plan.index ≡ index)
     go true is more e =
@@ -172,12 +169,14 @@ found_info order (h ∷ infos) index x info all is e = go (h.index == index) ref
   where
     same_info : (a b : List ℕ) → Some a ≡ Some b → a ≡ b
     same_info a b e = cc
+
     told : (o : Option Entry) → o ≡ Some x → IsSomeAnd o (λ (y : Entry). info_of_object y.object ≡ Some h.info) → info_of_object x.object ≡ Some h.info
     told (Some y) e said = let I : Entry → Type 0 = λ z. info_of_object z.object ≡ Some h.info in subst I (same y x e) said
       where
         same : (a b : Entry) → Some a ≡ Some b → a ≡ b
         same a b e = cc
     told None e said = absurd said
+
     go : (b : Bool) → (h.index == index) ≡ b → (info_found (find (λ (h : HeldInfo). h.index == index) infos) ≡ Some info → info_of_object x.object ≡ Some info)
         → info_found (cond b (Some h) (find (λ (h : HeldInfo). h.index == index) infos)) ≡ Some info → info_of_object x.object ≡ Some info
     go true same more e =
@@ -198,12 +197,13 @@ of_object p order (h ∷ held) index x is all = (one, of_object p order held ind
   where
     same : (a b : Entry) → Some a ≡ Some b → a ≡ b
     same a b e = cc
+
     one : IsOfObject p x.object index h
     one at =
         let found = some_and _ (slice_get order h.at.index) all.0 in
         let is_x : found.0 ≡ x = same found.0 x (sym found.1 ∙ ap (slice_get order) at ∙ is) in
         let S : Entry → Type 0 = λ y.
-            (nat_lt h.at.symbol (encoded_in (shape_of p y.object) h.at.block) ≡ true) × (h.octets ≡ symbol_octets p y.object h.at.block h.at.symbol) in
+        (nat_lt h.at.symbol (encoded_in (shape_of p y.object) h.at.block) ≡ true) × (h.octets ≡ symbol_octets p y.object h.at.block h.at.symbol) in
         subst S is_x found.2
 
 and_parts : (a b : Bool) → (a && b) ≡ true → (a ≡ true) × (b ≡ true)
@@ -234,12 +234,15 @@ whole_up p range order r plan x (Whole kind info octets) is sized found fti flag
   where
     by_info : Bool → Option (List ℕ)
     by_info b = elim b [ true ↦ info_of r plan.index | false ↦ None ]
+
     has_info : Bool → Bool
     has_info b = elim b [ true ↦ is_some (info_of r plan.index) | false ↦ true ]
+
     found_some : (o : Option (List ℕ)) (i : List ℕ) → info_of r plan.index ≡ o → is_some o ≡ true → (info_of_object x.object ≡ Some i)
         → info_of r plan.index ≡ Some i
     found_some None i e has own = absurd (clash has)
     found_some (Some j) i e has own = e ∙ sym (found_info order r.infos plan.index x j infos found e) ∙ own
+
     told : (known : Option (List ℕ)) → info ≡ known → says_info plan.flags ≡ is_some known → has_its_info r plan ≡ true → told_info r plan ≡ known
     told None e says has = ap by_info says
     told (Some i) e says has =
@@ -253,17 +256,20 @@ hands_holding p range order d taken r after sized h e = go (plan_of r r.point.in
   where
     same_state : (a b : ReceiverState) → Some a ≡ Some b → a ≡ b
     same_state a b e = cc
+
     none_state : (a : ReceiverState) → None ≡ Some a → ⊥
     none_state a e = cc
+
     next : Plan → ReceiverState
     next plan = handed (up.Object plan.index (kind_of plan.flags) (told_info r plan) (object_octets r plan) ∷ []) (after_object plan.index) r
+
     whole : (plan : Plan) → plan_of r r.point.index ≡ Some plan → is_whole r plan ≡ true → Holding p order d taken (next plan)
     whole plan is done =
         let found = found_plan (IsPlanOf p order) r.plans r.point.index plan h.plans is in
         let entry = some_and _ (slice_get order plan.index) found.0 in
         let x : Entry = entry.0 in
         let up_is = whole_up p range order r plan x x.object refl (sized_at p order plan.index x sized entry.1) entry.1 entry.2.0 entry.2.1
-            h.symbols h.infos h.rising done in
+        h.symbols h.infos h.rising done in
         let lt = slice_get_within order plan.index x entry.1 in
         let at : slice_get order r.point.index ≡ Some x = ap (slice_get order) (sym found.1) ∙ entry.1 in
         let many = length-take r.point.index order in
@@ -271,7 +277,7 @@ hands_holding p range order d taken r after sized h e = go (plan_of r r.point.in
         let F : List Entry → Type 0 = λ xs. Exactly p d 0 xs (taken ++ (r.ups ++ up.Object plan.index (kind_of plan.flags) (told_info r plan) (object_octets r plan) ∷ [])) in
         let U : List Up → Type 0 = λ us. Exactly p d 0 (take r.point.index order ++ x ∷ []) us in
         let joined : (taken ++ r.ups) ++ parts_of p plan.index x.object ≡ taken ++ (r.ups ++ up.Object plan.index (kind_of plan.flags) (told_info r plan) (object_octets r plan) ∷ []) =
-            append_assoc taken r.ups (parts_of p plan.index x.object) ∙ ap (λ (us : List Up). taken ++ (r.ups ++ us)) (sym up_is) in
+        append_assoc taken r.ups (parts_of p plan.index x.object) ∙ ap (λ (us : List Up). taken ++ (r.ups ++ us)) (sym up_is) in
         record {
           plans = h.plans;
           symbols = h.symbols;
@@ -281,14 +287,16 @@ hands_holding p range order d taken r after sized h e = go (plan_of r r.point.in
           symbol = refl;
           within = omega arith;
           gone = subst E (let z : suc r.point.index ≡ plan.index + 1 = (let w = found.1 in omega arith) in z)
-            (subst F (sym (take_next order r.point.index x at))
+              (subst F (sym (take_next order r.point.index x at))
               (subst U joined (exactly_hands p d 0 (take r.point.index order) (taken ++ r.ups) x plan.index
-                (let w = found.1 in let v = h.within in omega arith) h.gone)));
+              (let w = found.1 in let v = h.within in omega arith) h.gone)));
         }
+
     object : (plan : Plan) → plan_of r r.point.index ≡ Some plan → (b : Bool) → is_whole r plan ≡ b
         → (elim b [ true ↦ Some (next plan) | false ↦ None ]) ≡ Some after → Holding p order d taken after
     object plan is true done e = let K : ReceiverState → Type 0 = λ s. Holding p order d taken s in subst K (same_state (next plan) after e) (whole plan is done)
     object plan is false done e = absurd (none_state after e)
+
     not_stream : (plan : Plan) → plan_of r r.point.index ≡ Some plan → says_stream plan.flags ≡ false
     not_stream plan is =
         let found = found_plan (IsPlanOf p order) r.plans r.point.index plan h.plans is in
@@ -298,10 +306,12 @@ hands_holding p range order d taken r after sized h e = go (plan_of r r.point.in
         of_kind : (o : Object) → IsSized p o → 4 * (plan.flags / 4) ≡ object_flags o → says_stream plan.flags ≡ false
         of_kind (Whole kind info octets) s f = (flags_say plan.flags kind info octets f).stream
         of_kind (Stream parts) s f = absurd s
+
     plain : (plan : Plan) → plan_of r r.point.index ≡ Some plan → (b : Bool) → b ≡ false
         → (elim b [ true ↦ hands_next p r plan | false ↦ hands_object r plan ]) ≡ Some after → Holding p order d taken after
     plain plan is true never e = absurd (clash (sym never))
     plain plan is false never e = object plan is (is_whole r plan) refl e
+
     go : (found : Option Plan) → plan_of r r.point.index ≡ found → (elim found [
       | Some plan ↦ elim (says_stream plan.flags) [ true ↦ hands_next p r plan | false ↦ hands_object r plan ]
       | None ↦ None

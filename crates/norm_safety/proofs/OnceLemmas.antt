@@ -1,38 +1,16 @@
 -- Origins and ids that differ go on to differ; an accepted object stands at its place, and stays there.
-use Rattle.std.proofs.Common.{◌≡◌, ℕ, zero, suc, ◌+◌, ◌-◌, cond, List, [], ◌∷◌, ◌++◌, length, Bool, true, false, Option, None, Some, Result, Ok, Err, refl, sym, ap, ◌∙◌, subst, append_assoc, arith, ◌⊎◌, inl, inr}
-use Rattle.std.specs.Prelude.{map, find, ◌==◌, ◌&&◌, ◌||◌, nat_eq, nat_le, slice_get, IsTrue, Contains}
+use Rattle.std.proofs.Common.{◌≡◌, ℕ, List, [], ◌∷◌, ◌++◌, Bool, true, false, refl, sym, ap, ◌∙◌, subst, arith, inl, inr}
+use Rattle.std.specs.Prelude.{map, ◌==◌, ◌&&◌, ◌||◌, nat_eq, Contains}
 use Rattle.std.specs.List.{IsDistinct, AllByRecursion, list_any}
 use Rattle.std.proofs.lemmas.Bool.Decides.{Decides-eqb}
-use Rattle.std.proofs.lemmas.List.{append-nil, map-append}
 use Rattle.std.proofs.lemmas.List.Elements.{Contains-append_left, Contains-append_right}
-use Rattle.norm_base.specs.Settings.{Settings}
-use Rattle.norm_base.specs.declared.kinds.Kind.{Kind}
-use Rattle.norm_base.specs.declared.kinds.Kind.TheVariants as kind
 use Rattle.norm_base.specs.declared.node.Origin.{Origin}
-use Rattle.fec_plan.specs.Points.{Point}
-use Rattle.fec_plan.specs.declared.position.Position.{Position}
-use Rattle.norm_order.specs.Entries.{Part, Write, End, Object, Whole, Stream, Entry}
-use Rattle.norm_order.specs.Shapes.{last_source}
 use Rattle.norm_send_rules.specs.SenderState.{SenderState, Instance}
-use Rattle.norm_send_rules.specs.InWindow.{next_index, current_shapes}
-use Rattle.norm_send_rules.specs.Restarting.{instances, is_used, begun_anew}
-use Rattle.norm_send_rules.specs.Enqueuing.{object_fault, joined, enqueued}
-use Rattle.norm_send_rules.specs.Streaming.{open_fault, opened, write_fault, close_fault, grown, parts_now, cut}
-use Rattle.norm_send_rules.specs.Marking.{most_open, requested, request_at}
-use Rattle.norm_send_rules.specs.Requests.{open_requests}
-use Rattle.norm_send_rules.specs.Commanding.{commanded, answered}
-use Rattle.norm_send_rules.specs.declared.fault.EnqueueFault.{EnqueueFault}
-use Rattle.norm_send_rules.specs.declared.fault.MarkFault.TheVariants.{TooMany}
-use Rattle.norm_send_rules.specs.declared.fault.SendFault.{SendFault}
-use Rattle.norm_send_rules.specs.declared.fault.SendFault.TheVariants.{Enqueue, Mark, IdUsed}
-use Rattle.norm_send_rules.specs.declared.job.Job.{Job}
-use Rattle.norm_send_rules.specs.declared.job.Job.TheVariants as job
-use Rattle.norm_send_rules.specs.declared.job.Receipt.{Receipt}
-use Rattle.norm_send_rules.specs.declared.job.Receipt.TheVariants as receipt
+use Rattle.norm_send_rules.specs.Restarting.{instances}
 use Rattle.norm_safety.specs.Lawful.{same_origin}
-use Rattle.norm_safety.specs.OnceEach.{origins, instance_ids, is_entry_by}
-use Rattle.norm_safety.proofs.EntryLemmas.{clash, by_at, order_in, PlacesKept, AllKept}
-use Rattle.norm_safety.proofs.CommandSteps.{Adds, IdsGo, where_free}
+use Rattle.norm_safety.specs.OnceEach.{origins, instance_ids}
+use Rattle.norm_safety.proofs.EntryLemmas.{clash}
+use Rattle.norm_safety.proofs.CommandSteps.{Adds, IdsGo}
 
 -- what is not true is false
 not_true : (b : Bool) → (b ≡ true → ⊥) → b ≡ false

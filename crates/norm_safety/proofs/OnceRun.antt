@@ -1,9 +1,8 @@
 -- Accepted objects enter the transport order once each: kept by each event of a lawful run, and so at its end.
-use Rattle.std.proofs.Common.{◌≡◌, ℕ, List, [], ◌∷◌, ◌++◌, Bool, true, false, Option, None, Some, Result, Ok, Err, refl, sym, ap, ◌∙◌, subst, inl}
-use Rattle.std.specs.Prelude.{◌==◌, is_ok, nat_eq, IsTrue, Contains, map}
+use Rattle.std.proofs.Common.{◌≡◌, ℕ, List, [], ◌∷◌, Bool, true, false, Option, None, Some, Result, Ok, Err, refl, sym, ap, ◌∙◌, subst}
+use Rattle.std.specs.Prelude.{◌==◌, is_ok, nat_eq, IsTrue, Contains}
 use Rattle.std.specs.List.{IsDistinct, AllByRecursion}
 use Rattle.norm_base.specs.Settings.{Settings}
-use Rattle.norm_base.specs.Members.{receivers_of}
 use Rattle.norm_base.specs.declared.node.Origin.{Origin}
 use Rattle.norm_send_rules.specs.SenderState.{SenderState, Instance, sender_opening}
 use Rattle.norm_send_rules.specs.Restarting.{instances}
@@ -24,7 +23,7 @@ use Rattle.norm_safety.specs.World.{World, world_opening, receiver_at, with_rece
 use Rattle.norm_safety.specs.WorldStep.{world_step, sender_ticks, receiver_ticks}
 use Rattle.norm_safety.specs.Lawful.{same_origin, accepted_with, MayCome, LawfulFrom, Lawful}
 use Rattle.norm_safety.specs.History.{Happening, happens, last_world, history}
-use Rattle.norm_safety.specs.OnceEach.{OnceEach, has_its_place, instance_ids, origins}
+use Rattle.norm_safety.specs.OnceEach.{OnceEach, has_its_place}
 use Rattle.norm_safety.proofs.SenderKeeps.{Keeps, keeps_all, heard_keeps, ticked_keeps, told_keeps}
 use Rattle.norm_safety.proofs.EntryLemmas.{AllKept}
 use Rattle.norm_safety.proofs.CommandSteps.{keeps_origins, keeps_ids, same_instances, kept_all, command_goes}

@@ -1,14 +1,12 @@
 -- Instances go on: what an instance has in its order it keeps, and its drop point never falls.
-use Rattle.std.proofs.Common.{◌≡◌, ℕ, zero, suc, ◌+◌, ◌<◌, ◌≤◌, cond, List, [], ◌∷◌, ◌++◌, length, Bool, true, false, Option, None, Some, refl, sym, ap, ◌∙◌, subst, append_assoc, arith, ◌⊎◌, inl, inr}
-use Rattle.std.specs.Prelude.{find, ◌==◌, ◌||◌, ◌&&◌, nat_lt, slice_get}
+use Rattle.std.proofs.Common.{◌≡◌, ℕ, ◌<◌, ◌≤◌, cond, List, [], ◌∷◌, ◌++◌, Bool, true, false, Option, None, Some, refl, sym, ap, ◌∙◌, subst, append_assoc, arith, ◌⊎◌, inl, inr}
+use Rattle.std.specs.Prelude.{find, ◌==◌, ◌||◌, ◌&&◌, nat_lt}
 use Rattle.std.proofs.lemmas.Bool.Decides.{Decides-ltb, Decides-eqb}
 use Rattle.std.proofs.lemmas.List.{append-nil}
-use Rattle.fec_plan.specs.Points.{Point, point, point_before}
-use Rattle.norm_order.specs.Entries.{Object, Entry}
-use Rattle.norm_send_rules.specs.SenderState.{SenderState, Instance, begun}
+use Rattle.fec_plan.specs.Points.{Point, point_before}
+use Rattle.norm_order.specs.Entries.{Entry}
+use Rattle.norm_send_rules.specs.SenderState.{SenderState, Instance}
 use Rattle.norm_send_rules.specs.Restarting.{instances}
-use Rattle.norm_safety.specs.OnceEach.{order_of}
-use Rattle.norm_safety.specs.InOrder.{drop_of}
 use Rattle.norm_safety.proofs.EntryLemmas.{clash}
 
 -- an instance among others

@@ -1,6 +1,6 @@
 -- A receiver hands up the transport order: kept by each event of a lawful run of data and files, and so at its end.
-use Rattle.std.proofs.Common.{◌≡◌, ℕ, zero, suc, ◌+◌, ◌<◌, ◌≤◌, cond, List, [], ◌∷◌, ◌++◌, length, take, Bool, true, false, Option, None, Some, Result, Ok, Err, refl, sym, ap, ◌∙◌, subst, append_assoc, arith}
-use Rattle.std.specs.Prelude.{map, find, filter, ◌==◌, not, nat_eq, Contains, ⊤}
+use Rattle.std.proofs.Common.{◌≡◌, ℕ, cond, List, [], ◌∷◌, ◌++◌, Bool, true, false, Option, None, Some, refl, sym, subst, append_assoc, arith}
+use Rattle.std.specs.Prelude.{map, find, ◌==◌, nat_eq, Contains}
 use Rattle.std.specs.List.{AllByRecursion, IsDistinct}
 use Rattle.std.proofs.lemmas.Bool.Decides.{Decides-eqb}
 use Rattle.std.proofs.lemmas.List.{append-nil}
@@ -22,29 +22,28 @@ use Rattle.norm_send_rules.specs.Ticking.{ticked as sender_ticked}
 use Rattle.norm_send_rules.specs.Telling.{told}
 use Rattle.norm_send_rules.specs.declared.job.Job.{Job}
 use Rattle.norm_send_rules.proofs.StepLemmas.{step_holds as wants_step, blocks_of}
-use Rattle.norm_safety.specs.Events.{Event, Commanded, Delivered, Ticked, Offered, UpTaken, NewsAsked, Answer, Gave, Sent, Took, Told, Silent}
+use Rattle.norm_safety.specs.Events.{Event, Commanded, Delivered, Ticked, Offered, UpTaken, NewsAsked, Answer, Sent, Took, Told, Silent}
 use Rattle.norm_safety.specs.Jobs.{IsJob, OpensNone, IsEvent, IsOfObjects, AreEvents, AreOfObjects}
 use Rattle.norm_safety.specs.World.{World, world_opening, receiver_at, with_receiver, with_given, with_offer, given_others}
 use Rattle.norm_safety.specs.WorldStep.{world_step, sender_ticks, receiver_ticks}
 use Rattle.norm_safety.specs.Lawful.{accepted_with, MayCome, LawfulFrom, Lawful}
 use Rattle.norm_safety.specs.History.{Happening, happens, last_world, history}
-use Rattle.norm_safety.specs.Hands.{hands, instance_at}
-use Rattle.norm_safety.specs.InOrder.{came_to, InOrder, drop_of, HandsInOrder}
+use Rattle.norm_safety.specs.InOrder.{came_to, InOrder, drop_of}
 use Rattle.norm_safety.specs.OnceEach.{order_of}
-use Rattle.norm_safety.proofs.SenderKeeps.{Keeps, keeps_all, heard_keeps, ticked_keeps, told_keeps}
+use Rattle.norm_safety.proofs.SenderKeeps.{Keeps, heard_keeps, ticked_keeps, told_keeps}
 use Rattle.norm_safety.specs.Hands.{taken_in}
 use Rattle.norm_safety.specs.Lawful.{same_origin}
 use Rattle.norm_safety.proofs.CommandSteps.{keeps_origins, keeps_ids}
 use Rattle.norm_safety.proofs.OnceLemmas.{OnceSoFar}
-use Rattle.norm_safety.proofs.OnceRun.{Leaves, event_leaves}
+use Rattle.norm_safety.proofs.OnceRun.{event_leaves}
 use Rattle.norm_safety.proofs.Onward.{Onward, goes_on_itself}
-use Rattle.norm_safety.proofs.SenderHolds.{SenderHolds, Steps, command_steps, keeps_steps, orders_hold, opening_holds}
+use Rattle.norm_safety.proofs.SenderHolds.{Steps, command_steps, keeps_steps, orders_hold, opening_holds}
 use Rattle.norm_safety.proofs.Spoken.{SaysTrue}
 use Rattle.norm_safety.proofs.Feedback.{SendsNothingOf, receiver_says_nothing}
 use Rattle.norm_safety.proofs.TickTrue.{SentTrue, tick_true, nothing_true, true_later}
 use Rattle.norm_safety.proofs.Exact.{exactly_through}
 use Rattle.norm_safety.proofs.ReceiverMoves.{Moved, Remains, Enters, received_moves, same_moves, tick_same, held_same}
-use Rattle.norm_safety.proofs.WorldHolds.{Through, AtReceiver, AtNone, AtNode, WorldHolds, last_in, instance_of, said_later, all_filter, all_end, all_contains, quiet_world}
+use Rattle.norm_safety.proofs.WorldHolds.{AtNode, WorldHolds, instance_of, said_later, all_filter, all_end, all_contains, quiet_world}
 use Rattle.norm_safety.proofs.WorldMoves.{moved_world}
 use Rattle.norm_safety.proofs.WorldTakes.{taken_world}
 
@@ -66,7 +65,7 @@ command_holds p range past accepted w by job now may is none h =
     let steps = command_steps p range w.sender by job now is none h.sender in
     let after : SenderState = (commanded p w.sender by job).0 in
     quiet_world p past accepted _ w (record w { sender = after }) (Commanded by job now) _ refl steps.holds leaves.once steps.onward
-      (said_later p w.sender after w.offered steps.onward h.offered) (said_later p w.sender after w.given steps.onward h.given) (λ node. refl) h
+    (said_later p w.sender after w.offered steps.onward h.offered) (said_later p w.sender after w.given steps.onward h.given) (λ node. refl) h
 
 -- where a node moved is where it was
 moved_node_is : (p : Settings) (s : SenderState) (r t : ReceiverState) → Moved p s r t → t.node ≡ r.node
@@ -88,7 +87,7 @@ sender_holds : (p : Settings) (past : List Happening) (accepted : List Origin) (
     → WorldHolds p (past ++ record { before = w; event = e; answer = answer; after = record w { sender = t } } ∷ []) accepted (record w { sender = t })
 sender_holds p past accepted w t e answer steps keeps none h =
     quiet_world p past accepted accepted w (record w { sender = t }) e answer refl steps.holds (once_kept w.sender t accepted keeps h.once) steps.onward
-      (said_later p w.sender t w.offered steps.onward h.offered) (said_later p w.sender t w.given steps.onward h.given) none h
+    (said_later p w.sender t w.offered steps.onward h.offered) (said_later p w.sender t w.given steps.onward h.given) none h
 
 -- a receiver that moved
 receiver_holds : (p : Settings) (past : List Happening) (accepted : List Origin) (w : World) (node : ℕ) (r t : ReceiverState) (e : Event) (answer : Answer)
@@ -117,11 +116,11 @@ delivery_holds p range past accepted w node datagram now draw says h = go (node 
         let keeps = heard_keeps p w.sender datagram now in
         let wants = wants_step p (blocks_of p range) w.sender (events.Delivered datagram now) h.sender.wants in
         sender_holds p past accepted w (heard p w.sender datagram now) (Delivered node datagram now draw) Silent
-          (keeps_steps p w.sender (heard p w.sender datagram now) keeps wants h.sender) keeps (λ other. refl) h
+        (keeps_steps p w.sender (heard p w.sender datagram now) keeps wants h.sender) keeps (λ other. refl) h
     go false None e = nothing_holds p past accepted w (Delivered node datagram now draw) Silent (λ other. refl) h
     go false (Some r) e =
         receiver_holds p past accepted w node r (received p r datagram now draw) (Delivered node datagram now draw) Silent e
-          (received_moves p range w.sender r datagram now draw (orders_hold p w.sender h.sender) says) (λ other. refl) h
+        (received_moves p range w.sender r datagram now draw (orders_hold p w.sender h.sender) says) (λ other. refl) h
 
 -- what a node's tick gave is its to offer
 given_holds : (p : Settings) (past : List Happening) (accepted : List Origin) (w : World) (x : Happening) (node : ℕ) (sent : Option (List ℕ))
@@ -130,7 +129,7 @@ given_holds : (p : Settings) (past : List Happening) (accepted : List Origin) (w
 given_holds p past accepted w x node None says h = all_filter (λ (o : ℕ × List ℕ). SaysTrue p w.sender o.1) _ w.given h.given
 given_holds p past accepted w x node (Some datagram) says h =
     all_end (λ (o : ℕ × List ℕ). SaysTrue p w.sender o.1) (given_others node w) (node, datagram)
-      (all_filter (λ (o : ℕ × List ℕ). SaysTrue p w.sender o.1) _ w.given h.given) says
+    (all_filter (λ (o : ℕ × List ℕ). SaysTrue p w.sender o.1) _ w.given h.given) says
 
 -- a receiver says nothing false
 says_nothing_false : (p : Settings) (s : SenderState) (sent : Option (List ℕ)) → SendsNothingOf sent → SentTrue p s sent
@@ -152,18 +151,19 @@ sender_tick_holds p range past accepted w node now h =
         all_filter (λ (o : ℕ × List ℕ). SaysTrue p t o.1) _ w.given (said_later p w.sender t w.given onward h.given)
     said t (Some datagram) onward says =
         all_end (λ (o : ℕ × List ℕ). SaysTrue p t o.1) (given_others p.sender w) (p.sender, datagram)
-          (all_filter (λ (o : ℕ × List ℕ). SaysTrue p t o.1) _ w.given (said_later p w.sender t w.given onward h.given))
-          (true_later p w.sender t (decoded datagram) onward says)
+        (all_filter (λ (o : ℕ × List ℕ). SaysTrue p t o.1) _ w.given (said_later p w.sender t w.given onward h.given))
+        (true_later p w.sender t (decoded datagram) onward says)
+
     go : (t : SenderState) (sent : Option (List ℕ)) → Steps p w.sender t → Keeps w.sender t → SentTrue p w.sender sent
         → HoldsAfter p past accepted w (Ticked node now) (with_given p.sender sent (record w { sender = t }), Sent sent)
     go t None steps keeps says =
         quiet_world p past accepted accepted w (with_given p.sender None (record w { sender = t })) (Ticked node now) (Sent None) refl steps.holds
-          (once_kept w.sender t accepted keeps h.once) steps.onward (said_later p w.sender t w.offered steps.onward h.offered)
-          (said t None steps.onward says) (λ other. refl) h
+        (once_kept w.sender t accepted keeps h.once) steps.onward (said_later p w.sender t w.offered steps.onward h.offered)
+        (said t None steps.onward says) (λ other. refl) h
     go t (Some datagram) steps keeps says =
         quiet_world p past accepted accepted w (with_given p.sender (Some datagram) (record w { sender = t })) (Ticked node now) (Sent (Some datagram)) refl
-          steps.holds (once_kept w.sender t accepted keeps h.once) steps.onward (said_later p w.sender t w.offered steps.onward h.offered)
-          (said t (Some datagram) steps.onward says) (λ other. refl) h
+        steps.holds (once_kept w.sender t accepted keeps h.once) steps.onward (said_later p w.sender t w.offered steps.onward h.offered)
+        (said t (Some datagram) steps.onward says) (λ other. refl) h
 
 receiver_tick_holds : (p : Settings) (past : List Happening) (accepted : List Origin) (w : World) (node now : ℕ) (r : ReceiverState) → receiver_at w node ≡ Some r
     → WorldHolds p past accepted w → HoldsAfter p past accepted w (Ticked node now) (receiver_ticks p now w r)
@@ -176,13 +176,13 @@ receiver_tick_holds p past accepted w node now r found h =
         → HoldsAfter p past accepted w (Ticked node now) (with_given r.node sent (with_receiver t w), Sent sent)
     go t None moved says =
         moved_world p past accepted w (with_given r.node None (with_receiver t w)) (Ticked node now) (Sent None) node r t found
-          (moved_node_is p w.sender r t moved) refl refl refl moved (λ other. refl)
-          (all_filter (λ (o : ℕ × List ℕ). SaysTrue p w.sender o.1) _ w.given h.given) h
+        (moved_node_is p w.sender r t moved) refl refl refl moved (λ other. refl)
+        (all_filter (λ (o : ℕ × List ℕ). SaysTrue p w.sender o.1) _ w.given h.given) h
     go t (Some datagram) moved says =
         moved_world p past accepted w (with_given r.node (Some datagram) (with_receiver t w)) (Ticked node now) (Sent (Some datagram)) node r t found
-          (moved_node_is p w.sender r t moved) refl refl refl moved (λ other. refl)
-          (all_end (λ (o : ℕ × List ℕ). SaysTrue p w.sender o.1) (given_others r.node w) (r.node, datagram)
-            (all_filter (λ (o : ℕ × List ℕ). SaysTrue p w.sender o.1) _ w.given h.given) says) h
+        (moved_node_is p w.sender r t moved) refl refl refl moved (λ other. refl)
+        (all_end (λ (o : ℕ × List ℕ). SaysTrue p w.sender o.1) (given_others r.node w) (r.node, datagram)
+        (all_filter (λ (o : ℕ × List ℕ). SaysTrue p w.sender o.1) _ w.given h.given) says) h
 
 tick_holds : (p : Settings) → InRange p → (past : List Happening) (accepted : List Origin) (w : World) (node now : ℕ) → WorldHolds p past accepted w
     → HoldsAfter p past accepted w (Ticked node now) (world_step p w (Ticked node now))
@@ -200,9 +200,9 @@ offer_holds : (p : Settings) (past : List Happening) (accepted : List Origin) (w
     → WorldHolds p past accepted w → HoldsAfter p past accepted w (Offered node datagram) (world_step p w (Offered node datagram))
 offer_holds p past accepted w node datagram has h =
     quiet_world p past accepted accepted w (with_offer node datagram w) (Offered node datagram) Silent refl h.sender h.once (goes_on_itself (instances w.sender))
-      (all_end (λ (o : ℕ × List ℕ). SaysTrue p w.sender o.1) w.offered (node, datagram) h.offered
-        (all_contains (λ (o : ℕ × List ℕ). SaysTrue p w.sender o.1) w.given (node, datagram) h.given has))
-      (all_filter (λ (o : ℕ × List ℕ). SaysTrue p w.sender o.1) _ w.given h.given) (λ other. refl) h
+    (all_end (λ (o : ℕ × List ℕ). SaysTrue p w.sender o.1) w.offered (node, datagram) h.offered
+    (all_contains (λ (o : ℕ × List ℕ). SaysTrue p w.sender o.1) w.given (node, datagram) h.given has))
+    (all_filter (λ (o : ℕ × List ℕ). SaysTrue p w.sender o.1) _ w.given h.given) (λ other. refl) h
 
 -- a world and the answer after a receiver's next hand-up was asked for
 abbrev taken_by : World → ReceiverState × Option Up → World × Answer
@@ -216,6 +216,7 @@ taking_holds p past accepted w node h = go (receiver_at w node) refl
         (taken_by w (elim waiting [ up ∷ more ↦ (record r { ups = more }, Some up) | [] ↦ (r, None) ]))
     ups r found [] e = receiver_holds p past accepted w node r r (UpTaken node) (Took None) found (same_moves p w.sender r r (held_same r)) (λ other. refl) h
     ups r found (up ∷ more) e = taken_world p past accepted w (with_receiver (record r { ups = more }) w) node r up more found e refl refl refl refl h
+
     go : (found : Option ReceiverState) → receiver_at w node ≡ found → HoldsAfter p past accepted w (UpTaken node) (elim found [
       | Some r ↦ (with_receiver (took r).0 w, Took (took r).1)
       | None ↦ (w, Silent)
@@ -228,7 +229,7 @@ event_holds : (p : Settings) → InRange p → (past : List Happening) (accepted
 event_holds p range past accepted w (Commanded by job now) may is of h = command_holds p range past accepted w by job now may is of h
 event_holds p range past accepted w (Delivered node datagram now draw) may is of h =
     delivery_holds p range past accepted w node datagram now draw
-      (all_contains (λ (o : ℕ × List ℕ). SaysTrue p w.sender o.1) w.offered (may.0, datagram) h.offered may.2) h
+    (all_contains (λ (o : ℕ × List ℕ). SaysTrue p w.sender o.1) w.offered (may.0, datagram) h.offered may.2) h
 event_holds p range past accepted w (Ticked node now) may is of h = tick_holds p range past accepted w node now h
 event_holds p range past accepted w (Offered node datagram) may is of h = offer_holds p past accepted w node datagram may h
 event_holds p range past accepted w (UpTaken node) may is of h = taking_holds p past accepted w node h
@@ -236,7 +237,7 @@ event_holds p range past accepted w NewsAsked may is of h =
     let keeps = told_keeps w.sender in
     let wants = wants_step p (blocks_of p range) w.sender events.NewsAsked h.sender.wants in
     sender_holds p past accepted w (told w.sender).0 NewsAsked (Told (told w.sender).1) (keeps_steps p w.sender (told w.sender).0 keeps wants h.sender) keeps
-      (λ other. refl) h
+    (λ other. refl) h
 
 -- ---- a run
 
@@ -300,14 +301,15 @@ pub in_order_run : (p : Settings) → InRange p → (events : List Event) → La
 unfolding IsDistinct
 in_order_run p range events lawful are of = record {
   through = λ node id. (
-    let t = run.holds.through node id in
-    exactly_through p (drop_of (history p events).now.sender id) 0 t.count (order_of (history p events).now.sender id) _ t.exactly
-  );
+      let t = run.holds.through node id in
+      exactly_through p (drop_of (history p events).now.sender id) 0 t.count (order_of (history p events).now.sender id) _ t.exactly
+      );
   once = λ node. once node (receiver_at (history p events).now node) (run.holds.nodes node);
 }
   where
     run : RunHolds p [] (world_opening p) events
     run = run_of p range events lawful are of
+
     once : (node : ℕ) (found : Option ReceiverState) → AtNode p (history p events).now.sender (history p events).happened node found
         → IsDistinct nat_eq (came_to node None (history p events).happened)
     once node None h = let D : List ℕ → Type 0 = λ xs. IsDistinct nat_eq xs in subst D (sym h.came) tt

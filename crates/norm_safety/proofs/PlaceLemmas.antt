@@ -1,12 +1,11 @@
 -- An accepted object stands at the index that it was answered, and stays there.
-use Rattle.std.proofs.Common.{◌≡◌, ℕ, zero, suc, ◌+◌, cond, List, [], ◌∷◌, ◌++◌, length, Bool, true, false, Option, None, Some, Result, Ok, Err, refl, sym, ap, ◌∙◌}
-use Rattle.std.specs.Prelude.{map, find, ◌==◌, ◌&&◌, nat_eq, nat_le, slice_get, IsTrue}
+use Rattle.std.proofs.Common.{◌≡◌, ℕ, ◌+◌, cond, List, [], ◌∷◌, ◌++◌, length, Bool, true, false, Option, None, Some, Result, Ok, Err, refl, sym, ap, ◌∙◌}
+use Rattle.std.specs.Prelude.{map, find, ◌==◌, nat_eq, nat_le}
 use Rattle.std.specs.List.{IsDistinct, AllByRecursion}
 use Rattle.std.proofs.lemmas.Bool.Decides.{Decides-eqb}
 use Rattle.norm_base.specs.Settings.{Settings}
 use Rattle.norm_base.specs.declared.kinds.Kind.TheVariants as kind
 use Rattle.norm_base.specs.declared.node.Origin.{Origin}
-use Rattle.fec_plan.specs.Points.{Point}
 use Rattle.fec_plan.specs.declared.position.Position.{Position}
 use Rattle.norm_order.specs.Entries.{Write, End, Object, Whole, Stream, Entry}
 use Rattle.norm_order.specs.Shapes.{last_source}
@@ -26,9 +25,8 @@ use Rattle.norm_send_rules.specs.declared.job.Job.{Job}
 use Rattle.norm_send_rules.specs.declared.job.Job.TheVariants as job
 use Rattle.norm_send_rules.specs.declared.job.Receipt.{Receipt}
 use Rattle.norm_send_rules.specs.declared.job.Receipt.TheVariants as receipt
-use Rattle.norm_safety.specs.Lawful.{same_origin}
 use Rattle.norm_safety.specs.OnceEach.{instance_ids, is_entry_by}
-use Rattle.norm_safety.proofs.EntryLemmas.{clash, by_at, order_in, AllKept}
+use Rattle.norm_safety.proofs.EntryLemmas.{clash, by_at, AllKept}
 use Rattle.norm_safety.proofs.OnceLemmas.{same_self}
 use Rattle.norm_safety.proofs.CommandSteps.{where_free}
 

@@ -1,30 +1,27 @@
 -- What a receiver does with a message that is true of an order keeps what it holds of it.
-use Rattle.std.proofs.Common.{◌≡◌, ℕ, zero, suc, ◌+◌, ◌-◌, ◌*◌, ◌/◌, ◌<◌, ◌≤◌, cond, List, [], ◌∷◌, ◌++◌, length, take, Bool, true, false, Option, None, Some, Result, Ok, Err, refl, sym, ap, ◌∙◌, subst, append_assoc, arith, ◌⊎◌, inl, inr}
-use Rattle.std.specs.Prelude.{slice_get, ◌==◌, ◌&&◌, not, nat_lt, is_some, is_none, IsSomeAnd, ⊤}
-use Rattle.std.specs.List.{AllByRecursion}
-use Rattle.std.proofs.lemmas.Bool.{cases_lt}
-use Rattle.std.proofs.lemmas.Bool.Decides.{Decides-ltb, Decides-eqb}
+use Rattle.std.proofs.Common.{◌≡◌, ℕ, zero, suc, ◌+◌, ◌-◌, ◌*◌, ◌/◌, ◌<◌, ◌≤◌, List, [], ◌∷◌, ◌++◌, length, take, Bool, true, false, Option, None, Some, refl, sym, ap, ◌∙◌, subst, append_assoc, arith}
+use Rattle.std.specs.Prelude.{slice_get, ◌==◌, ◌&&◌, nat_lt, is_none, IsSomeAnd}
+use Rattle.std.proofs.lemmas.Bool.Decides.{Decides-ltb}
 use Rattle.std.proofs.lemmas.List.{length-take}
-use Rattle.std.proofs.lemmas.Option.{slice_get_within}
 use Rattle.norm_base.specs.Settings.{Settings, InRange}
-use Rattle.fec_plan.specs.Points.{Point, point, position, point_of, point_before}
+use Rattle.fec_plan.specs.Points.{Point, point, position, point_of}
 use Rattle.fec_plan.specs.declared.position.Position.{Position}
-use Rattle.norm_ext.specs.Extensions.{Extension, fti_of}
+use Rattle.norm_ext.specs.Extensions.{Extension}
 use Rattle.norm_ext.specs.ObjectIds.{index_of}
 use Rattle.norm_ext.specs.declared.fti.Fti.{Fti}
 use Rattle.norm_ext.specs.Message.{InfoMessage, DataMessage, SquelchCommand}
-use Rattle.norm_order.specs.Entries.{Object, Whole, Stream, Entry}
+use Rattle.norm_order.specs.Entries.{Entry}
 use Rattle.norm_order.specs.Shapes.{shape_of, encoded_in}
 use Rattle.norm_order.specs.Symbols.{symbol_octets}
 use Rattle.norm_order.specs.declared.up.Up.{Up}
 use Rattle.norm_order.specs.declared.up.Up.TheVariants as up
 use Rattle.norm_send_rules.specs.Messages.{fti_of_object, object_flags}
-use Rattle.norm_receive_rules.specs.ReceiverState.{ReceiverState, Plan, Held, HeldInfo}
+use Rattle.norm_receive_rules.specs.ReceiverState.{ReceiverState, Plan}
 use Rattle.norm_receive_rules.specs.Plans.{plan_of, says_stream}
-use Rattle.norm_receive_rules.specs.Fitting.{fit_of, fitted, lets_put, with_plan, plan_before}
+use Rattle.norm_receive_rules.specs.Fitting.{fit_of, fitted, lets_put, plan_before}
 use Rattle.norm_receive_rules.specs.Putting.{put_of, put_symbol, with_symbol, held_before, put_info_of, put_info, with_info, info_before}
-use Rattle.norm_receive_rules.specs.HandingUp.{after_object, handed, next_segment, hands_one, hands_most, handed_up}
-use Rattle.norm_receive_rules.specs.Losing.{loses_one, loses_before, is_cut_off, loses_at, squelched}
+use Rattle.norm_receive_rules.specs.HandingUp.{next_segment, hands_one, hands_most, handed_up}
+use Rattle.norm_receive_rules.specs.Losing.{loses_one, loses_before, is_cut_off}
 use Rattle.norm_receive_rules.specs.Seeing.{sees}
 use Rattle.norm_receive_rules.specs.Receiving.{object_received, info_received, data_received, squelch_received}
 use Rattle.norm_receive_rules.specs.declared.words.Fit.{Fit}
@@ -33,11 +30,10 @@ use Rattle.norm_receive_rules.specs.declared.words.Put.{Put}
 use Rattle.norm_receive_rules.specs.declared.words.Put.TheVariants as put
 use Rattle.norm_safety.specs.SaysSymbols.{SaysObject, info_of_object}
 use Rattle.norm_safety.proofs.EntryLemmas.{clash}
-use Rattle.norm_safety.proofs.WholeOrders.{IsSized, AreSized}
-use Rattle.norm_safety.proofs.Spoken.{sized_at}
+use Rattle.norm_safety.proofs.WholeOrders.{AreSized}
 use Rattle.norm_safety.proofs.Onward.{not_true}
 use Rattle.norm_safety.proofs.Exact.{Exactly, exactly_loses, take_next}
-use Rattle.norm_safety.proofs.Holding.{Holding, IsPlanOf, IsSymbolOf, IsInfoOf, all_with, rising_with, flags_say, found_plan, some_and, hands_holding}
+use Rattle.norm_safety.proofs.Holding.{Holding, IsPlanOf, IsSymbolOf, IsInfoOf, all_with, rising_with, some_and, hands_holding}
 
 -- what the lemmas below are about: a receiver's state that holds what holds of an order
 abbrev pub Holds : Settings → List Entry → ℕ → List Up → ReceiverState → Type 0
@@ -141,14 +137,18 @@ object_holding p range order d taken at extensions flags x brings r sized found 
   where
     f : Fti
     f = fti_of_object p x.object
+
     word : Fit
     word = fit_of p r at.index (fti_of_object p x.object) flags
+
     plan : IsPlanOf p order (record { index = at.index; fti = fti_of_object p x.object; flags = flags })
     plan =
         let S : Option Entry → Type 0 = λ o. IsSomeAnd o (λ (y : Entry). (fti_of_object p x.object ≡ fti_of_object p y.object) × (4 * (flags / 4) ≡ object_flags y.object)) in
         subst S (sym found) (refl, says.1)
+
     between : Holding p order d taken (sees (point_of at) (fitted (fit_of p r at.index (fti_of_object p x.object) flags) at.index (fti_of_object p x.object) flags r))
     between = seen_holding p order d taken (point_of at) _ (fitted_holding p order d taken (fit_of p r at.index (fti_of_object p x.object) flags) at.index _ flags r plan h)
+
     put : (b : Bool) → (Holding p order d taken (sees (point_of at) (fitted (fit_of p r at.index (fti_of_object p x.object) flags) at.index (fti_of_object p x.object) flags r)))
         → Holding p order d taken (elim b [
           | true ↦ handed_up p (brings (sees (point_of at) (fitted (fit_of p r at.index (fti_of_object p x.object) flags) at.index (fti_of_object p x.object) flags r)))
@@ -159,27 +159,27 @@ object_holding p range order d taken at extensions flags x brings r sized found 
 
 pub data_holding : (p : Settings) → InRange p → (order : List Entry) (d : ℕ) (taken : List Up) (m : DataMessage) (r : ReceiverState) → AreSized p order
     → IsSomeAnd (slice_get order (index_of p m.head.object)) (λ (x : Entry).
-        (nat_lt m.id.symbol (encoded_in (shape_of p x.object) m.id.block) ≡ true)
-        × (m.payload ≡ symbol_octets p x.object m.id.block m.id.symbol) × SaysObject p x.object m.extensions m.head.flags)
+    (nat_lt m.id.symbol (encoded_in (shape_of p x.object) m.id.block) ≡ true)
+    × (m.payload ≡ symbol_octets p x.object m.id.block m.id.symbol) × SaysObject p x.object m.extensions m.head.flags)
     → Holding p order d taken r → Holding p order d taken (data_received p m r)
 data_holding p range order d taken m r sized says h =
     let at : Position = position (index_of p m.head.object) m.id.block m.id.symbol in
     let entry = some_and _ (slice_get order (index_of p m.head.object)) says in
     let S : Option Entry → Type 0 = λ o. IsSomeAnd o (λ (y : Entry).
-        (nat_lt m.id.symbol (encoded_in (shape_of p y.object) m.id.block) ≡ true) × (m.payload ≡ symbol_octets p y.object m.id.block m.id.symbol)) in
+    (nat_lt m.id.symbol (encoded_in (shape_of p y.object) m.id.block) ≡ true) × (m.payload ≡ symbol_octets p y.object m.id.block m.id.symbol)) in
     object_holding p range order d taken at m.extensions m.head.flags entry.0 (put_symbol p at m.payload) r sized entry.1 entry.2.2
-      (λ s held. symbol_holding p order d taken (put_of p s at m.payload) at m.payload s (subst S (sym entry.1) (entry.2.0, entry.2.1)) held) h
+    (λ s held. symbol_holding p order d taken (put_of p s at m.payload) at m.payload s (subst S (sym entry.1) (entry.2.0, entry.2.1)) held) h
 
 pub info_is_holding : (p : Settings) → InRange p → (order : List Entry) (d : ℕ) (taken : List Up) (m : InfoMessage) (r : ReceiverState) → AreSized p order
     → IsSomeAnd (slice_get order (index_of p m.head.object)) (λ (x : Entry).
-        (info_of_object x.object ≡ Some m.info) × SaysObject p x.object m.extensions m.head.flags)
+    (info_of_object x.object ≡ Some m.info) × SaysObject p x.object m.extensions m.head.flags)
     → Holding p order d taken r → Holding p order d taken (info_received p m r)
 info_is_holding p range order d taken m r sized says h =
     let index : ℕ = index_of p m.head.object in
     let entry = some_and _ (slice_get order index) says in
     let S : Option Entry → Type 0 = λ o. IsSomeAnd o (λ (y : Entry). info_of_object y.object ≡ Some m.info) in
     object_holding p range order d taken (position index 0 0) m.extensions m.head.flags entry.0 (put_info p index m.info) r sized entry.1 entry.2.1
-      (λ s held. info_holding p order d taken (put_info_of p s index m.info) index m.info s (subst S (sym entry.1) entry.2.0) held) h
+    (λ s held. info_holding p order d taken (put_info_of p s index m.info) index m.info s (subst S (sym entry.1) entry.2.0) held) h
 
 -- ---- a squelch
 
@@ -208,9 +208,9 @@ lost_holding p order d taken r most lt h =
       symbol = refl;
       within = omega arith;
       gone = subst E (let z : suc n ≡ n + 1 = omega arith in z)
-        (subst F (sym (take_next order n entry.0 entry.1))
+          (subst F (sym (take_next order n entry.0 entry.1))
           (subst U (append_assoc taken r.ups (up.Lost n ∷ []))
-            (exactly_loses p d 0 (take n order) (taken ++ r.ups) entry.0 n (let w = h.within in omega arith) lt h.gone)));
+          (exactly_loses p d 0 (take n order) (taken ++ r.ups) entry.0 n (let w = h.within in omega arith) lt h.gone)));
     }
 
 before_holding : (p : Settings) → InRange p → (order : List Entry) (d : ℕ) (taken : List Up) (n index : ℕ) (r : ReceiverState) → AreSized p order
@@ -238,9 +238,11 @@ not_cut_off p order d taken r first none = go (plan_of r r.point.index)
       where
         nothing : (n : ℕ) → nat_lt n 0 ≡ false
         nothing n = not_true (nat_lt n 0) (λ e. (let lt = (Decides-ltb n 0).0 e in omega arith))
+
     and_false : (a b : Bool) → (a && (false && b)) ≡ false
     and_false true b = refl
     and_false false b = refl
+
     go : (found : Option Plan) → (elim found [
       | Some plan ↦ says_stream plan.flags && nat_lt r.point.block first.block && is_none (next_segment r plan)
       | None ↦ nat_lt 0 first.block
@@ -259,7 +261,7 @@ squelch_holding p range order d taken m r sized most le none h =
     let first : Point = point (index_of p m.object) m.id.block in
     let s : ReceiverState = loses_before (first.index - r.point.index) p first.index r in
     go s (s.point.index == first.index) (is_cut_off s first) (not_cut_off p order d taken s first none)
-      (before_holding p range order d taken (first.index - r.point.index) first.index r sized most le h)
+    (before_holding p range order d taken (first.index - r.point.index) first.index r sized most le h)
   where
     go : (s : ReceiverState) (a b : Bool) → b ≡ false → Holding p order d taken s
         → Holding p order d taken (elim (a && b) [ true ↦ handed_up p (loses_one s) | false ↦ s ])

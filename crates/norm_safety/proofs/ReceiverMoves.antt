@@ -1,19 +1,19 @@
 -- What an event does to a receiver: it keeps what is held, or leaves its instance for one that it never was in.
-use Rattle.std.proofs.Common.{◌≡◌, ℕ, zero, suc, ◌-◌, ◌+◌, ◌*◌, ◌<◌, ◌≤◌, List, [], ◌∷◌, ◌++◌, length, take, Bool, true, false, Option, None, Some, Result, Ok, Err, refl, sym, ap, ◌∙◌, subst, arith, ◌⊎◌, inl, inr}
-use Rattle.std.specs.Prelude.{slice_get, ◌==◌, ◌&&◌, not, nat_lt, nat_le, is_none, IsSomeAnd, ⊤}
+use Rattle.std.proofs.Common.{◌≡◌, ℕ, zero, suc, ◌-◌, ◌<◌, ◌≤◌, List, [], ◌∷◌, ◌++◌, length, take, Bool, true, false, Option, None, Some, Result, Ok, Err, refl, sym, ap, ◌∙◌, subst, arith, ◌⊎◌, inl, inr}
+use Rattle.std.specs.Prelude.{◌==◌, ◌&&◌, not, nat_lt, nat_le, ⊤}
 use Rattle.std.specs.List.{AllByRecursion, list_all}
 use Rattle.std.proofs.lemmas.Bool.Decides.{Decides-eqb}
 use Rattle.norm_base.specs.Settings.{Settings, InRange}
 use Rattle.fec_plan.specs.Points.{Point, point, position, point_of}
 use Rattle.fec_plan.specs.declared.position.Position.{Position}
 use Rattle.norm_ext.specs.ObjectIds.{index_of}
-use Rattle.norm_ext.specs.Message.{Message, Info, Data, Flush, Eot, Squelch, RepairAdv, AckReq, Opaque, Nack, Ack, Report, InfoMessage, DataMessage, FlushCommand, SquelchCommand, RepairAdvCommand, NackMessage}
+use Rattle.norm_ext.specs.Message.{Message, Info, Data, Flush, Eot, Squelch, RepairAdv, AckReq, Opaque, Nack, Ack, Report, SquelchCommand, RepairAdvCommand}
 use Rattle.norm_ext.specs.Reading.{decoded}
 use Rattle.norm_ext.specs.Requests.{Request}
 use Rattle.norm_ext.specs.declared.refusal.Refusal.{Refusal}
 use Rattle.norm_order.specs.Entries.{Entry}
 use Rattle.norm_order.specs.declared.up.Up.{Up}
-use Rattle.norm_receive_rules.specs.ReceiverState.{ReceiverState, Plan, Held, HeldInfo, knowing_nothing}
+use Rattle.norm_receive_rules.specs.ReceiverState.{ReceiverState, Plan, Held, HeldInfo}
 use Rattle.norm_ext.specs.Extensions.{Extension, fti_of}
 use Rattle.norm_ext.specs.declared.fti.Fti.{Fti}
 use Rattle.norm_order.specs.declared.up.Up.TheVariants as up
@@ -30,8 +30,8 @@ use Rattle.norm_receive_rules.specs.declared.words.Put.TheVariants as put
 use Rattle.norm_receive_rules.specs.Needs.{Need}
 use Rattle.norm_receive_rules.specs.AllNeeds.{needs, needs_nothing}
 use Rattle.norm_receive_rules.specs.HeardNeeds.{is_heard}
-use Rattle.norm_receive_rules.specs.Leaving.{is_in, has_left, left_now, enters, entered}
-use Rattle.norm_receive_rules.specs.BackingOff.{may_back_off, backs_off, backs_off_for_needs, may_need}
+use Rattle.norm_receive_rules.specs.Leaving.{is_in, has_left, left_now, enters}
+use Rattle.norm_receive_rules.specs.BackingOff.{may_back_off, backs_off, may_need}
 use Rattle.norm_receive_rules.specs.Acknowledging.{flushed}
 use Rattle.norm_receive_rules.specs.Overhearing.{overhears, nack_overheard, adv_overheard}
 use Rattle.norm_receive_rules.specs.Receiving.{object_received, info_received, data_received, flush_received, squelch_received, in_instance, message_received, received}
@@ -41,7 +41,6 @@ use Rattle.norm_send_rules.specs.SenderState.{SenderState, Instance}
 use Rattle.norm_safety.specs.OnceEach.{order_of}
 use Rattle.norm_safety.specs.InOrder.{drop_of}
 use Rattle.norm_safety.proofs.EntryLemmas.{clash}
-use Rattle.norm_safety.proofs.WholeOrders.{AreSized}
 use Rattle.norm_safety.proofs.Onward.{behind_point}
 use Rattle.norm_safety.proofs.SenderHolds.{OrdersHold, point_in}
 use Rattle.norm_safety.proofs.Spoken.{IsTrueOf, SquelchesDropped}
@@ -119,15 +118,18 @@ tick_same p r now = due r.due
     ]))
     asked wanted s h true = record { node = h.node; instance = h.instance; left = h.left; plans = h.plans; held = h.held; infos = h.infos; point = h.point; ups = h.ups }
     asked wanted s h false = record { node = h.node; instance = h.instance; left = h.left; plans = h.plans; held = h.held; infos = h.infos; point = h.point; ups = h.ups }
+
     needed : (s : ReceiverState) → SameHeld r s → (none : Bool) → SameHeld r (state_of (elim none [
       | true ↦ (s, None)
       | false ↦ asks p now (fitting (needs p s) None p.e) s
     ]))
     needed s h true = h
     needed s h false = asked (fitting (needs p s) None p.e) s h (list_all (is_heard p s) (fitting (needs p s) None p.e))
+
     ended : (s : ReceiverState) → SameHeld r s → (reached : Bool) → SameHeld r (state_of (elim reached [ true ↦ asks_where_needed p now s | false ↦ (r, None) ]))
     ended s h true = needed s h (needs_nothing p s)
     ended s h false = held_same r
+
     backed : (backoff : Option ℕ) → SameHeld r (state_of (elim backoff [
       | Some ends ↦ elim (nat_le ends now) [ true ↦ asks_where_needed p now (record r { backoff = None }) | false ↦ (r, None) ]
       | None ↦ (r, None)
@@ -135,6 +137,7 @@ tick_same p r now = due r.due
     backed None = held_same r
     backed (Some ends) = ended (record r { backoff = None })
         (record { node = refl; instance = refl; left = refl; plans = refl; held = refl; infos = refl; point = refl; ups = refl }) (nat_le ends now)
+
     due : (at : Option Position) → SameHeld r (state_of (elim at [
       | Some at ↦ sends (ack_message p r at) (record r { due = None })
       | None ↦ ends_back_off p now r
@@ -169,21 +172,25 @@ one_ids p r = go (plan_of r r.point.index)
     segments : (plan : Plan) (next : Option (List ℕ)) → IdsOf r (elim next [ Some symbol ↦ Some (hands_segment p r plan symbol) | None ↦ None ])
     segments plan None = tt
     segments plan (Some symbol) = record { node = refl; instance = refl; left = refl }
+
     streams : (plan : Plan) (b : Bool) → IdsOf r (elim b [
       | true ↦ elim (next_segment r plan) [ Some symbol ↦ Some (hands_segment p r plan symbol) | None ↦ None ]
       | false ↦ None
     ])
     streams plan true = segments plan (next_segment r plan)
     streams plan false = tt
+
     objects : (plan : Plan) (b : Bool) → IdsOf r (elim b [
       | true ↦ Some (handed (up.Object plan.index (kind_of plan.flags) (told_info r plan) (object_octets r plan) ∷ []) (after_object plan.index) r)
       | false ↦ None
     ])
     objects plan true = record { node = refl; instance = refl; left = refl }
     objects plan false = tt
+
     kinds : (plan : Plan) (b : Bool) → IdsOf r (elim b [ true ↦ hands_next p r plan | false ↦ hands_object r plan ])
     kinds plan true = streams plan (has_its_info r plan)
     kinds plan false = objects plan (is_whole r plan)
+
     go : (found : Option Plan) → IdsOf r (elim found [
       | Some plan ↦ elim (says_stream plan.flags) [ true ↦ hands_next p r plan | false ↦ hands_object r plan ]
       | None ↦ None
@@ -228,11 +235,14 @@ object_ids p at extensions flags brings r same = go (fti_of extensions)
   where
     seen : (s : ReceiverState) → SameIds r s → SameIds r (sees (point_of at) s)
     seen s h = record { node = h.node; instance = h.instance; left = h.left }
+
     brought : (s : ReceiverState) → SameIds r s → SameIds r (handed_up p (brings s))
     brought s h = ids_both r s _ h (ids_both s (brings s) _ (same s) (up_ids p (brings s)))
+
     put : (s : ReceiverState) → SameIds r s → (b : Bool) → SameIds r (elim b [ true ↦ handed_up p (brings s) | false ↦ s ])
     put s h true = brought s h
     put s h false = h
+
     go : (found : Option Fti) → SameIds r (elim found [
       | Some f ↦ (
           let word = fit_of p r at.index f flags in
@@ -244,7 +254,7 @@ object_ids p at extensions flags brings r same = go (fti_of extensions)
     go None = brought (sees (point_of at) r) (seen r (ids_same r))
     go (Some f) =
         put (sees (point_of at) (fitted (fit_of p r at.index f flags) at.index f flags r))
-          (seen _ (fitted_ids (fit_of p r at.index f flags) at.index f flags r)) (lets_put (fit_of p r at.index f flags))
+        (seen _ (fitted_ids (fit_of p r at.index f flags) at.index f flags r)) (lets_put (fit_of p r at.index f flags))
 
 before_ids : (p : Settings) (n index : ℕ) (r : ReceiverState) → SameIds r (loses_before n p index r)
 unfolding loses_before
@@ -327,13 +337,17 @@ instance_moves p s now draw source id brings r same kept = go (source == p.sende
   where
     after : ReceiverState → ReceiverState
     after t = may_need p now draw (brings t)
+
     after_ids : (t : ReceiverState) → SameIds t (may_need p now draw (brings t))
     after_ids t = ids_both t (brings t) _ (same t) (held_ids (brings t) _ (need_same p now draw (brings t)))
+
     after_holds : (taken : List Up) (t : ReceiverState) → Holding p (order_of s id) (drop_of s id).index taken t
         → Holding p (order_of s id) (drop_of s id).index taken (may_need p now draw (brings t))
     after_holds taken t h = same_holding p (order_of s id) (drop_of s id).index taken (brings t) _ (need_same p now draw (brings t)) (kept taken t h)
+
     entering : Bool → Bool → Option ReceiverState
     entering inside left = elim inside [ true ↦ Some r | false ↦ elim left [ true ↦ None | false ↦ Some (enters id r) ] ]
+
     go : (own inside left : Bool) → is_in r id ≡ inside → has_left r id ≡ left → Moved p s r (elim own [
       | true ↦ elim (entering inside left) [ Some s' ↦ may_need p now draw (brings s') | None ↦ r ]
       | false ↦ r
@@ -343,10 +357,10 @@ instance_moves p s now draw source id brings r same kept = go (source == p.sende
         let is = in_instance_is r id e in
         let later = (after_ids r).instance ∙ is in
         Remains (after_ids r) (λ taken h. (
-          let S : Option ℕ → Type 0 = λ instance. StandingIn p s taken r instance in
-          let T : Option ℕ → Type 0 = λ instance. StandingIn p s taken (may_need p now draw (brings r)) instance in
-          subst T (sym later) (after_holds (taken id) r (subst S is h))
-          ))
+        let S : Option ℕ → Type 0 = λ instance. StandingIn p s taken r instance in
+        let T : Option ℕ → Type 0 = λ instance. StandingIn p s taken (may_need p now draw (brings r)) instance in
+        subst T (sym later) (after_holds (taken id) r (subst S is h))
+        ))
     go true false true e f = same_moves p s r r (held_same r)
     go true false false e f =
         let ids = after_ids (enters id r) in
@@ -360,40 +374,44 @@ received_moves p range s r bytes now draw orders = go (decoded bytes)
     adv_same : (m : RepairAdvCommand) (own : Bool) → SameHeld r (elim own [ true ↦ adv_overheard m r | false ↦ r ])
     adv_same m true = where_same (is_in r m.head.instance) r (overhears m.requests r) (overhears_same m.requests r)
     adv_same m false = held_same r
+
     flushed_same : (at : Position) (nodes : List ℕ) (t : ReceiverState) → SameHeld t (flushed at nodes t)
     flushed_same at nodes t = record { node = refl; instance = refl; left = refl; plans = refl; held = refl; infos = refl; point = refl; ups = refl }
+
     not_above : (a b : Point) → (b.index < a.index) ⊎ ((b.index ≡ a.index) × (b.block ≤ a.block)) → b.index ≤ a.index
     not_above a b (inl lt) = omega arith
     not_above a b (inr same) = (let e = same.0 in omega arith)
+
     dropped_to : (m : SquelchCommand) → SquelchesDropped p s m → index_of p m.object ≤ (drop_of s m.head.instance).index
     dropped_to m says =
         let is : (drop_of s m.head.instance).index ≡ says.0.drop.index = ap (λ (found : Option Instance). (point_in found).index) says.1 in
         let le = not_above says.0.drop (point (index_of p m.object) m.id.block) (behind_point says.0.drop (point (index_of p m.object) m.id.block) says.2) in
         omega arith
+
     go : (said : Result Message Refusal) → IsTrueOf p s said → Moved p s r (message_received p now draw said r)
     go (Ok (Info m)) says =
         let id : ℕ = m.head.instance in
         instance_moves p s now draw m.head.source id (info_received p m) r
-          (λ t. object_ids p (position (index_of p m.head.object) 0 0) m.extensions m.head.flags (put_info p (index_of p m.head.object) m.info) t
-            (λ u. info_ids (put_info_of p u (index_of p m.head.object) m.info) (index_of p m.head.object) m.info u))
-          (λ taken t h. info_is_holding p range (order_of s id) (drop_of s id).index taken m t (orders.sized id) says h)
+        (λ t. object_ids p (position (index_of p m.head.object) 0 0) m.extensions m.head.flags (put_info p (index_of p m.head.object) m.info) t
+        (λ u. info_ids (put_info_of p u (index_of p m.head.object) m.info) (index_of p m.head.object) m.info u))
+        (λ taken t h. info_is_holding p range (order_of s id) (drop_of s id).index taken m t (orders.sized id) says h)
     go (Ok (Data m)) says =
         let id : ℕ = m.head.instance in
         let at : Position = position (index_of p m.head.object) m.id.block m.id.symbol in
         instance_moves p s now draw m.head.source id (data_received p m) r
-          (λ t. object_ids p at m.extensions m.head.flags (put_symbol p at m.payload) t (λ u. symbol_ids (put_of p u at m.payload) at m.payload u))
-          (λ taken t h. data_holding p range (order_of s id) (drop_of s id).index taken m t (orders.sized id) says h)
+        (λ t. object_ids p at m.extensions m.head.flags (put_symbol p at m.payload) t (λ u. symbol_ids (put_of p u at m.payload) at m.payload u))
+        (λ taken t h. data_holding p range (order_of s id) (drop_of s id).index taken m t (orders.sized id) says h)
     go (Ok (Flush m)) says =
         let id : ℕ = m.head.instance in
         let at : Position = position (index_of p m.object) m.id.block m.id.symbol in
         let same = λ (t : ReceiverState). flushed_same at m.nodes t in
         instance_moves p s now draw m.head.source id (flush_received p m) r (λ t. held_ids t (flushed at m.nodes t) (same t))
-          (λ taken t h. same_holding p (order_of s id) (drop_of s id).index taken t (flushed at m.nodes t) (same t) h)
+        (λ taken t h. same_holding p (order_of s id) (drop_of s id).index taken t (flushed at m.nodes t) (same t) h)
     go (Ok (Squelch m)) says =
         let id : ℕ = m.head.instance in
         instance_moves p s now draw m.head.source id (squelch_received p m) r (λ t. squelched_ids p (point (index_of p m.object) m.id.block) t)
-          (λ taken t h. squelch_holding p range (order_of s id) (drop_of s id).index taken m t (orders.sized id) (orders.within id)
-            (dropped_to m says) says.3 h)
+        (λ taken t h. squelch_holding p range (order_of s id) (drop_of s id).index taken m t (orders.sized id) (orders.within id)
+        (dropped_to m says) says.3 h)
     go (Ok (RepairAdv m)) says = same_moves p s r (elim (m.head.source == p.sender) [ true ↦ adv_overheard m r | false ↦ r ]) (adv_same m (m.head.source == p.sender))
     go (Ok (Nack m)) says = same_moves p s r (nack_overheard p m r)
         (where_same (not (m.source == r.node) && m.sender == p.sender && is_in r m.instance) r (overhears m.requests r) (overhears_same m.requests r))

@@ -1,15 +1,15 @@
 -- What was said in a lawful run of data and files is true of the orders: each symbol, each info and each squelch.
-use Rattle.std.proofs.Common.{◌≡◌, ℕ, List, [], ◌∷◌, ◌++◌, Bool, true, false, Option, None, Some, Result, Ok, Err, refl, sym, ap, ◌∙◌, subst}
+use Rattle.std.proofs.Common.{◌≡◌, ℕ, List, [], ◌∷◌, ◌++◌, Bool, true, false, Result, Ok, Err, refl, ap, ◌∙◌}
 use Rattle.std.specs.Prelude.{flat_map, ◌==◌, ◌&&◌, ◌||◌, not, IsTrue}
 use Rattle.std.specs.List.{AllByRecursion}
 use Rattle.std.proofs.lemmas.Bool.Decides.{Decides-eqb}
 use Rattle.norm_base.specs.Settings.{Settings, InRange}
 use Rattle.fec_plan.specs.Points.{Point, point, point_before}
-use Rattle.norm_ext.specs.Message.{Message, Info, Data, Flush, Eot, Squelch, RepairAdv, AckReq, Opaque, Nack, Ack, Report, InfoMessage, DataMessage, SquelchCommand}
+use Rattle.norm_ext.specs.Message.{Message, Info, Data, Flush, Eot, Squelch, RepairAdv, AckReq, Opaque, Nack, Ack, Report, SquelchCommand}
 use Rattle.norm_ext.specs.ObjectIds.{index_of}
 use Rattle.norm_ext.specs.Reading.{decoded}
 use Rattle.norm_ext.specs.declared.refusal.Refusal.{Refusal}
-use Rattle.norm_send_rules.specs.SenderState.{SenderState, Instance}
+use Rattle.norm_send_rules.specs.SenderState.{SenderState}
 use Rattle.norm_safety.specs.Events.{Event}
 use Rattle.norm_safety.specs.History.{history}
 use Rattle.norm_safety.specs.InOrder.{drop_of}
@@ -19,7 +19,7 @@ use Rattle.norm_safety.specs.Lawful.{Lawful}
 use Rattle.norm_safety.specs.Said.{data_said, info_said, squelch_said}
 use Rattle.norm_safety.specs.SaysPositions.{squelches_dropped, is_stream_at}
 use Rattle.norm_safety.specs.SaysSymbols.{SaysSymbol, SaysInfo}
-use Rattle.norm_safety.specs.World.{World, world_opening}
+use Rattle.norm_safety.specs.World.{World}
 use Rattle.norm_safety.proofs.OrderRun.{run_of}
 use Rattle.norm_safety.proofs.SenderHolds.{point_in}
 use Rattle.norm_safety.proofs.Spoken.{IsTrueOf, SaysTrue, SquelchesDropped}
@@ -68,13 +68,14 @@ dropped_test : (p : Settings) (s : SenderState) (m : SquelchCommand) → Squelch
 dropped_test p s m h =
     let at : drop_of s m.head.instance ≡ h.0.drop = ap point_in h.1 in
     both (not (point_before (drop_of s m.head.instance) (point (index_of p m.object) m.id.block)))
-      (m.id.block == 0 || is_stream_at s m.head.instance (index_of p m.object))
-      (ap (λ (d : Point). not (point_before d (point (index_of p m.object) m.id.block))) at ∙ ap not h.2)
-      (first (m.id.block == 0) (is_stream_at s m.head.instance (index_of p m.object)) ((Decides-eqb m.id.block 0).1 h.3))
+    (m.id.block == 0 || is_stream_at s m.head.instance (index_of p m.object))
+    (ap (λ (d : Point). not (point_before d (point (index_of p m.object) m.id.block))) at ∙ ap not h.2)
+    (first (m.id.block == 0) (is_stream_at s m.head.instance (index_of p m.object)) ((Decides-eqb m.id.block 0).1 h.3))
   where
     both : (a b : Bool) → a ≡ true → b ≡ true → (a && b) ≡ true
     both true b e f = f
     both false b e f = e
+
     first : (a b : Bool) → a ≡ true → (a || b) ≡ true
     first true b e = refl
     first false b e = absurd (cc)

@@ -1,19 +1,18 @@
 -- What holds of a sender of data and files after every event, and that its instances go on.
-use Rattle.std.proofs.Common.{cond, ◌≡◌, ℕ, zero, suc, ◌+◌, ◌-◌, ◌<◌, ◌≤◌, List, [], ◌∷◌, ◌++◌, length, drop, Bool, true, false, Option, None, Some, refl, sym, ap, ◌∙◌, subst, arith, ◌⊎◌, inl, inr}
-use Rattle.std.specs.Prelude.{map, nat_eq, ◌==◌}
-use Rattle.std.specs.List.{AllByRecursion, IsDistinct}
+use Rattle.std.proofs.Common.{cond, ◌≡◌, ℕ, zero, suc, ◌+◌, ◌<◌, ◌≤◌, List, [], ◌∷◌, ◌++◌, length, Bool, true, false, Option, None, Some, refl, sym, ap, ◌∙◌, subst, arith, ◌⊎◌, inl, inr}
+use Rattle.std.specs.Prelude.{map, ◌==◌}
+use Rattle.std.specs.List.{AllByRecursion}
 use Rattle.std.proofs.lemmas.List.{length-append, length-drop}
 use Rattle.norm_base.specs.Settings.{Settings, InRange}
 use Rattle.norm_base.specs.Members.{receivers_of}
-use Rattle.norm_base.specs.declared.kinds.Kind.{Kind}
 use Rattle.norm_base.specs.declared.node.Origin.{Origin}
 use Rattle.fec_plan.specs.Points.{Point, point}
 use Rattle.norm_order.specs.Entries.{Object, Whole, Entry}
-use Rattle.norm_send_rules.specs.SenderState.{SenderState, Instance, Listing, begun, unlisted, sender_opening}
+use Rattle.norm_send_rules.specs.SenderState.{SenderState, Instance, begun, sender_opening}
 use Rattle.norm_send_rules.specs.SenderStep.{sender_step}
 use Rattle.norm_send_rules.specs.SenderStep as events
 use Rattle.norm_send_rules.specs.InWindow.{next_index}
-use Rattle.norm_send_rules.specs.Restarting.{instances, is_used, begun_anew}
+use Rattle.norm_send_rules.specs.Restarting.{instances, begun_anew}
 use Rattle.norm_send_rules.specs.Room.{size_of, window, has_room, has_to_go, drop_after}
 use Rattle.norm_send_rules.specs.Enqueuing.{joined}
 use Rattle.norm_send_rules.specs.Commanding.{commanded}
@@ -24,7 +23,6 @@ use Rattle.norm_safety.specs.OnceEach.{order_of}
 use Rattle.norm_safety.specs.InOrder.{drop_of}
 use Rattle.norm_safety.specs.Jobs.{IsJob, OpensNone}
 use Rattle.norm_safety.proofs.SenderKeeps.{Keeps, nodes_in}
-use Rattle.norm_safety.proofs.CommandSteps.{same_instances}
 use Rattle.norm_safety.proofs.WholeOrders.{IsSized, AreSized, Steady, keeps_steady, CommandCase, Stays, Joins, Restarts, command_case}
 use Rattle.norm_safety.proofs.Onward.{GoOn, Onward, LaterThan, instance_in, goes_on_itself, last_goes_on, more_goes_on, not_before, behind_point}
 
@@ -140,7 +138,7 @@ joins_holds p by object s is few wants h =
     record {
       wants = wants;
       sized = last_more (IsKept p) s.earlier s.current new.current
-        (entries_more p s.current.order entry is (current_sized p s h), omega arith) h.sized;
+          (entries_more p s.current.order entry is (current_sized p s h), omega arith) h.sized;
       id = h.id;
       many = omega arith;
       sequence = h.sequence;
@@ -197,7 +195,7 @@ pub command_steps : (p : Settings) → InRange p → (s : SenderState) (by : Ori
     → Steps p s (commanded p s by job).0
 command_steps p range s by job now is none h =
     go (commanded p s by job).0 (command_case p s by job (current_sized p s h) is none)
-      (wants_step p (blocks_of p range) s (events.Commanded by job now) h.wants)
+    (wants_step p (blocks_of p range) s (events.Commanded by job now) h.wants)
   where
     go : (t : SenderState) → CommandCase p s by t → WantsHold p t → Steps p s t
     go t (Stays same) wants = record { holds = steady_holds p s t same wants h; onward = steady_onward s t same }
@@ -241,7 +239,7 @@ found_kept p (i ∷ more) id all = go (i.id == id) (found_kept p more id all.1)
   where
     go : (b : Bool) → AreSized p (entries_in (instance_in more id)) × ((point_in (instance_in more id)).index ≤ length (entries_in (instance_in more id)))
         → AreSized p (entries_in (cond b (Some i) (instance_in more id)))
-          × ((point_in (cond b (Some i) (instance_in more id))).index ≤ length (entries_in (cond b (Some i) (instance_in more id))))
+        × ((point_in (cond b (Some i) (instance_in more id))).index ≤ length (entries_in (cond b (Some i) (instance_in more id))))
     go true rest = all.0
     go false rest = rest
 

@@ -13,7 +13,7 @@ use Rattle.norm_ext.specs.Reading.{decoded}
 use Rattle.norm_ext.specs.Requests.{Request}
 use Rattle.norm_order.specs.Entries.{Entry, Object}
 use Rattle.norm_order.specs.Shapes.{is_source}
-use Rattle.norm_send_rules.specs.SenderState.{Listing, SenderState, Instance, Watermark, Round}
+use Rattle.norm_send_rules.specs.SenderState.{Listing, SenderState, Watermark, Round}
 use Rattle.norm_send_rules.specs.InWindow.{current_shapes}
 use Rattle.norm_send_rules.specs.Requests.{is_past, pending, is_open, keeps_oldest, counted_anew, ended_with, end_where, settled, open_requests}
 use Rattle.norm_send_rules.specs.Hearing.{listed_past, is_for, joined_round, rises, credited, credited_at, nack_heard, ack_heard, message_heard, heard}

@@ -1,50 +1,46 @@
 -- What a sender of data and files says is read again of its octets, and is true of its orders.
-use Rattle.std.proofs.Common.{◌≡◌, ◌≢◌, ℕ, zero, suc, ◌+◌, ◌-◌, ◌*◌, ◌/◌, ◌%◌, ◌<◌, ◌≤◌, cond, List, [], ◌∷◌, ◌++◌, length, drop, Bool, true, false, Option, None, Some, Result, Ok, Err, refl, sym, ap, ◌∙◌, subst, arith, ◌⊎◌, inl, inr}
-use Rattle.std.specs.Prelude.{map, find, slice_get, ◌==◌, nat_lt, is_some, nat_eq, ⊤, IsTrue, IsSomeAnd, if◌then◌else◌}
-use Rattle.std.specs.List.{AllByRecursion, IsDistinct}
+use Rattle.std.proofs.Common.{◌≡◌, ℕ, zero, suc, ◌+◌, ◌*◌, ◌/◌, ◌<◌, ◌≤◌, List, [], ◌∷◌, ◌++◌, length, Bool, true, false, Option, None, Some, Result, Ok, refl, sym, ap, ◌∙◌, subst, arith}
+use Rattle.std.specs.Prelude.{slice_get, nat_lt, is_some, nat_eq, ⊤, IsTrue, IsSomeAnd}
+use Rattle.std.specs.List.{IsDistinct}
 use Rattle.byteorder.specs.Endian.{big_bytes}
 use Rattle.norm_base.specs.Settings.{Settings, InRange}
-use Rattle.norm_base.specs.Member.{IsMember}
 use Rattle.norm_base.specs.declared.kinds.Kind.{Kind}
 use Rattle.norm_base.specs.declared.kinds.Kind.TheVariants as kind
-use Rattle.fec_plan.specs.Points.{Point, point, position, point_before}
+use Rattle.fec_plan.specs.Points.{Point, point, point_before}
 use Rattle.fec_plan.specs.declared.position.Position.{Position}
-use Rattle.norm_ext.specs.Extensions.{Extension, IsExtension, fti_extension, fti_of, extension_octets}
-use Rattle.norm_ext.specs.Message.{Message, Info, Data, Flush, Squelch, InfoMessage, DataMessage, FlushCommand, SquelchCommand}
+use Rattle.norm_ext.specs.Extensions.{IsExtension, fti_extension, fti_of}
+use Rattle.norm_ext.specs.Message.{Message, Info, Data, Squelch, InfoMessage, DataMessage, SquelchCommand}
 use Rattle.norm_ext.specs.Numbers.{number}
 use Rattle.norm_ext.specs.ObjectIds.{object_id, index_of}
 use Rattle.norm_ext.specs.Octets.{octets_of}
 use Rattle.norm_ext.specs.Reading.{decoded}
 use Rattle.norm_ext.specs.Spells.{IsMessage, IsObjectHead, IsCommandHead, AreExtensions}
 use Rattle.norm_ext.specs.declared.fti.Fti.{Fti}
-use Rattle.norm_ext.specs.declared.head.ObjHead.{ObjHead}
-use Rattle.norm_ext.specs.declared.head.CmdHead.{CmdHead}
 use Rattle.norm_ext.specs.declared.refusal.Refusal.{Refusal}
 use Rattle.norm_ext.proofs.LawsHold.{read_again_law}
 use Rattle.norm_order.specs.Entries.{Object, Whole, Stream, Entry}
-use Rattle.norm_order.specs.Shapes.{Shape, shape_of, shapes_of, encoded_in, is_encoded, has_info, at_index}
+use Rattle.norm_order.specs.Shapes.{Shape, shape_of, shapes_of, encoded_in, at_index}
 use Rattle.norm_order.specs.Symbols.{symbol_octets}
 use Rattle.norm_order.proofs.UptoLemmas.{same_entry, nothing_there}
 use Rattle.std.proofs.lemmas.Option.{slice_get_within}
 use Rattle.norm_send_rules.specs.SenderState.{SenderState, Instance}
 use Rattle.norm_send_rules.specs.InWindow.{current_shapes}
 use Rattle.norm_send_rules.specs.Restarting.{instances}
-use Rattle.norm_send_rules.specs.Messages.{fti_of_object, object_flags, file_flag, object_head, command_head, info_message, data_message, squelch_message}
+use Rattle.norm_send_rules.specs.Messages.{fti_of_object, object_flags, object_head, command_head, data_message, squelch_message}
 use Rattle.norm_send_rules.specs.Sending.{message_of}
 use Rattle.norm_send_rules.specs.Wants.{want_index}
 use Rattle.norm_send_rules.specs.Laws.{is_of_order}
 use Rattle.norm_send_rules.specs.declared.want.Want.{Want}
 use Rattle.norm_send_rules.specs.declared.want.Want.TheVariants.{Info as WantedInfo, Symbol}
 use Rattle.norm_safety.specs.OnceEach.{order_of, instance_ids}
-use Rattle.norm_safety.specs.InOrder.{drop_of}
-use Rattle.norm_safety.specs.Said.{entry_at, place_of}
+use Rattle.norm_safety.specs.Said.{entry_at}
 use Rattle.norm_safety.specs.SaysSymbols.{SaysSymbol, SaysInfo, SaysObject, info_of_object}
 use Rattle.norm_safety.proofs.EntryLemmas.{clash}
 use Rattle.norm_safety.proofs.PlaceLemmas.{current_found}
 use Rattle.norm_safety.proofs.WholeOrders.{IsSized, AreSized}
-use Rattle.norm_safety.proofs.Onward.{Onward, LaterThan, instance_in, not_before_itself, not_before_both}
-use Rattle.norm_safety.proofs.SenderHolds.{SenderHolds, AllSized, current_sized}
-use Rattle.norm_safety.proofs.Cuts.{CutRange, cut_range, names_fit}
+use Rattle.norm_safety.proofs.Onward.{instance_in, not_before_itself}
+use Rattle.norm_safety.proofs.SenderHolds.{SenderHolds, current_sized}
+use Rattle.norm_safety.proofs.Cuts.{cut_range, names_fit}
 
 -- ---- numbers
 
@@ -177,21 +173,21 @@ symbol_true p range s at entry (Whole kind info octets) repair is h differ found
       payload = symbol_octets p object at.block at.symbol;
     } in
     let P : Entry → Type 0 = λ e.
-        IsTrue (nat_lt at.symbol (encoded_in (shape_of p e.object) at.block))
-        × (m.payload ≡ symbol_octets p e.object at.block at.symbol)
-        × SaysObject p e.object m.extensions m.head.flags in
+    IsTrue (nat_lt at.symbol (encoded_in (shape_of p e.object) at.block))
+    × (m.payload ≡ symbol_octets p e.object at.block at.symbol)
+    × SaysObject p e.object m.extensions m.head.flags in
     let O : Object → Type 0 = λ o.
-        IsTrue (nat_lt at.symbol (encoded_in (shape_of p o) at.block))
-        × (m.payload ≡ symbol_octets p o at.block at.symbol)
-        × SaysObject p o m.extensions m.head.flags in
+    IsTrue (nat_lt at.symbol (encoded_in (shape_of p o) at.block))
+    × (m.payload ≡ symbol_octets p o at.block at.symbol)
+    × SaysObject p o m.extensions m.head.flags in
     true_again p s (Data m)
-      (record {
-        head = object_head_fits p range s at.index object repair h (flags_fit kind info octets repair few).0;
-        id = names;
-        extensions = extensions_fit 5 (fti_of_object p object) (omega arith);
-      })
-      (says_some P (entry_at s s.current.id (index_of p (object_id p at.index))) entry (entry_told p range s at.index entry differ index found)
-        (subst O (sym is) (encoded, refl, says_object p range kind info octets repair sized few)))
+    (record {
+      head = object_head_fits p range s at.index object repair h (flags_fit kind info octets repair few).0;
+      id = names;
+      extensions = extensions_fit 5 (fti_of_object p object) (omega arith);
+    })
+    (says_some P (entry_at s s.current.id (index_of p (object_id p at.index))) entry (entry_told p range s at.index entry differ index found)
+    (subst O (sym is) (encoded, refl, says_object p range kind info octets repair sized few)))
 
 info_true : (p : Settings) → InRange p → (s : SenderState) (index : ℕ) (entry : Entry) (object : Object) (repair : ℕ) → entry.object ≡ object
     → SenderHolds p s → IsDistinct nat_eq (instance_ids s) → slice_get s.current.order index ≡ Some entry → IsSized p object
@@ -210,12 +206,12 @@ info_true p range s index entry (Whole kind (Some info) octets) repair is h diff
     let P : Entry → Type 0 = λ e. (info_of_object e.object ≡ Some info) × SaysObject p e.object m.extensions m.head.flags in
     let O : Object → Type 0 = λ o. (info_of_object o ≡ Some info) × SaysObject p o m.extensions m.head.flags in
     true_again p s (Info m)
-      (record {
-        head = object_head_fits p range s index object repair h (flags_fit kind (Some info) octets repair few).0;
-        extensions = extensions_fit 4 (fti_of_object p object) (omega arith);
-      })
-      (says_some P (entry_at s s.current.id (index_of p (object_id p index))) entry (entry_told p range s index entry differ place found)
-        (subst O (sym is) (refl, says_object p range kind (Some info) octets repair sized few)))
+    (record {
+      head = object_head_fits p range s index object repair h (flags_fit kind (Some info) octets repair few).0;
+      extensions = extensions_fit 4 (fti_of_object p object) (omega arith);
+    })
+    (says_some P (entry_at s s.current.id (index_of p (object_id p index))) entry (entry_told p range s index entry differ place found)
+    (subst O (sym is) (refl, says_object p range kind (Some info) octets repair sized few)))
 
 -- a test of an entry's shape, by its index
 tested_at : (p : Settings) (order : List Entry) (i : ℕ) (test : Shape → Bool) (entry : Entry) → slice_get order i ≡ Some entry
@@ -231,11 +227,11 @@ pub want_true : (p : Settings) → InRange p → (s : SenderState) (w : Want) (e
 want_true p range s (Symbol at) entry repair h differ of found few =
     let sized = sized_at p s.current.order at.index entry (current_sized p s h) found in
     symbol_true p range s at entry entry.object repair refl h differ found sized
-      (tested_at p s.current.order at.index (λ x. nat_lt at.symbol (encoded_in x at.block)) entry found of) few
+    (tested_at p s.current.order at.index (λ x. nat_lt at.symbol (encoded_in x at.block)) entry found of) few
 want_true p range s (WantedInfo index) entry repair h differ of found few =
     let sized = sized_at p s.current.order index entry (current_sized p s h) found in
     info_true p range s index entry entry.object repair refl h differ found sized
-      (tested_at p s.current.order index (λ x. x.info) entry found of) few
+    (tested_at p s.current.order index (λ x. x.info) entry found of) few
 
 -- the drop point is said truly
 pub squelch_true : (p : Settings) → InRange p → (s : SenderState) → SenderHolds p s → IsDistinct nat_eq (instance_ids s)
@@ -253,11 +249,11 @@ squelch_true p range s h differ =
     let again : index_of p (object_id p drop.index) ≡ drop.index = index_again p range drop.index h.index in
     let B : ℕ → Type 0 = λ i. point_before drop (point i drop.block) ≡ false in
     true_again p s (Squelch m)
-      (record {
-        head = command_head_fits p range s h;
-        object = omega arith;
-        id = (block, omega arith);
-        extensions = record { each = tt; most = omega arith };
-        invalid = tt;
-      })
-      (s.current, current_found s.earlier s.current s.current refl differ, subst B (sym again) (not_before_itself drop), h.block)
+    (record {
+      head = command_head_fits p range s h;
+      object = omega arith;
+      id = (block, omega arith);
+      extensions = record { each = tt; most = omega arith };
+      invalid = tt;
+    })
+    (s.current, current_found s.earlier s.current s.current refl differ, subst B (sym again) (not_before_itself drop), h.block)

@@ -1,43 +1,41 @@
 -- What a sender's tick sends is true of its orders, and stays true as its instances go on.
-use Rattle.std.proofs.Common.{◌≡◌, ℕ, zero, suc, ◌+◌, ◌-◌, ◌<◌, ◌≤◌, cond, List, [], ◌∷◌, ◌++◌, length, take, drop, Bool, true, false, Option, None, Some, Result, Ok, Err, refl, sym, ap, ◌∙◌, subst, arith, ◌⊎◌, inl, inr}
-use Rattle.std.specs.Prelude.{map, find, flat_map, slice_get, ◌==◌, ◌&&◌, not, min, nat_lt, is_some, nat_eq, ⊤, IsSomeAnd, if◌then◌else◌}
+use Rattle.std.proofs.Common.{◌≡◌, ℕ, zero, suc, ◌+◌, ◌<◌, ◌≤◌, cond, List, [], ◌∷◌, ◌++◌, length, take, drop, Bool, true, false, Option, None, Some, Result, Ok, Err, refl, sym, ap, ◌∙◌, subst, arith, ◌⊎◌, inl, inr}
+use Rattle.std.specs.Prelude.{map, find, flat_map, slice_get, ◌&&◌, not, min, nat_lt, is_some, nat_eq, ⊤, IsSomeAnd}
 use Rattle.std.specs.List.{AllByRecursion, IsDistinct, range_with_len}
 use Rattle.std.proofs.Common.{append_assoc}
 use Rattle.std.proofs.lemmas.Bool.{cases_lt}
 use Rattle.std.proofs.lemmas.Bool.Decides.{Decides-ltb}
 use Rattle.std.proofs.lemmas.List.{map-append, length-append, length-take, take-append-drop}
 use Rattle.norm_base.specs.Settings.{Settings, InRange}
-use Rattle.fec_plan.specs.Points.{Point, point, position, point_before}
+use Rattle.fec_plan.specs.Points.{position}
 use Rattle.fec_plan.specs.Partition.{source_symbols, encoding_symbols}
-use Rattle.fec_plan.specs.declared.position.Position.{Position}
 use Rattle.norm_ext.specs.Message.{Message, Info, Data, Flush, Eot, Squelch, RepairAdv, AckReq, Opaque, Nack, Ack, Report, FlushCommand}
 use Rattle.norm_ext.specs.Reading.{decoded}
 use Rattle.norm_ext.specs.declared.refusal.Refusal.{Refusal}
 use Rattle.norm_order.specs.Entries.{Object, Entry}
 use Rattle.norm_order.specs.Shapes.{Shape, shape_of, shapes_of, symbols_of, closed_in, encoded_in, is_full, closed_blocks, at_index}
 use Rattle.norm_order.proofs.UptoLemmas.{found_front}
-use Rattle.norm_send_rules.specs.SenderState.{SenderState, Instance, Watermark, Round}
+use Rattle.norm_send_rules.specs.SenderState.{SenderState, Instance, Watermark}
 use Rattle.norm_send_rules.specs.InWindow.{current_shapes, stands_behind}
 use Rattle.norm_send_rules.specs.Restarting.{instances}
 use Rattle.norm_ext.specs.ObjectIds.{object_id}
-use Rattle.norm_send_rules.specs.Messages.{command_head, squelch_message, flush_message, explicit_repair, parity_repair}
+use Rattle.norm_send_rules.specs.Messages.{command_head, squelch_message, explicit_repair, parity_repair}
 use Rattle.norm_send_rules.specs.Sending.{sent_once, new_of, new_from, next_new, behind, sends, noted, repair_flags, message_of, sends_want, repairs_next, sends_new}
 use Rattle.norm_send_rules.specs.Flushing.{most_flushes, flushes_for, expired, flushed, flushes, may_flush}
 use Rattle.norm_send_rules.specs.Requests.{open_requests, pending}
-use Rattle.norm_send_rules.specs.Ticking.{closed_where_due, sends_further, sends_wanted, sends_first, sends_in_time, ticked}
+use Rattle.norm_send_rules.specs.Ticking.{closed_where_due, sends_further, sends_wanted, sends_first, ticked}
 use Rattle.norm_send_rules.specs.Wants.{want_before, want_index}
 use Rattle.norm_send_rules.specs.Laws.{Rise, is_of_order, WantsHold}
 use Rattle.norm_send_rules.specs.declared.want.Want.{Want}
 use Rattle.norm_send_rules.specs.declared.want.Want.TheVariants.{Info as WantedInfo, Symbol}
 use Rattle.norm_send_rules.proofs.StepLemmas.{due_holds, blocks_of}
-use Rattle.norm_send_rules.proofs.ShapeLemmas.{Blocks, HasParity, closed_is_encoded, shape_parity}
-use Rattle.norm_safety.specs.OnceEach.{order_of, instance_ids}
+use Rattle.norm_send_rules.proofs.ShapeLemmas.{Blocks, HasParity, shape_parity}
+use Rattle.norm_safety.specs.OnceEach.{instance_ids}
 use Rattle.norm_safety.specs.Said.{entry_at}
-use Rattle.norm_safety.proofs.EntryLemmas.{clash}
 use Rattle.norm_safety.proofs.CommandSteps.{same_instances, keeps_ids}
 use Rattle.norm_safety.proofs.Onward.{GoOn, Onward, LaterThan, instance_in, not_before_both, goes_on_itself}
-use Rattle.norm_safety.proofs.SenderKeeps.{Keeps, ticked_keeps, closed_keeps}
-use Rattle.norm_safety.proofs.SenderHolds.{SenderHolds, Steps, keeps_steps}
+use Rattle.norm_safety.proofs.SenderKeeps.{Keeps, closed_keeps}
+use Rattle.norm_safety.proofs.SenderHolds.{SenderHolds, keeps_steps}
 use Rattle.norm_safety.proofs.Spoken.{IsTrueOf, SaysTrue, want_true, squelch_true}
 use Rattle.norm_safety.proofs.Feedback.{SaysNothing, flush_said}
 
@@ -63,10 +61,12 @@ entry_later P s t id index onward h = go (instance_in (instances s) id) (onward 
   where
     order_in : Option Instance → List Entry
     order_in found = elim found [ Some i ↦ i.order | None ↦ [] ]
+
     there : (order more : List Entry) (found : Option Entry) → slice_get order index ≡ found → IsSomeAnd found P → IsSomeAnd (slice_get (order ++ more) index) P
     there order more None e h = absurd h
     there order more (Some entry) e h =
         let S : Option Entry → Type 0 = λ o. IsSomeAnd o P in subst S (sym (found_front order more index entry e)) h
+
     go : (found : Option Instance)
         → ((i : Instance) → found ≡ Some i → (j : Instance) × (instance_in (instances t) id ≡ Some j) × LaterThan j i)
         → IsSomeAnd (slice_get (order_in found) index) P → IsSomeAnd (entry_at t id index) P
@@ -124,9 +124,9 @@ blocks_of_shape p index s parity from zero = tt
 blocks_of_shape p index s parity from (suc count) =
     let A : List Want → Type 0 = λ ws. AllByRecursion (IsOfShape index s) ws in
     subst A (sym (map-append Symbol (symbols_of index (sent_once p s from) from) _))
-      (all_append (IsOfShape index s) _ _
-        (symbols_of_shape p index s from 0 (sent_once p s from) (let le = sent_encoded p s from parity in omega arith))
-        (blocks_of_shape p index s parity (from + 1) count))
+    (all_append (IsOfShape index s) _ _
+    (symbols_of_shape p index s from 0 (sent_once p s from) (let le = sent_encoded p s from parity in omega arith))
+    (blocks_of_shape p index s parity (from + 1) count))
 
 new_of_shape : (p : Settings) (index : ℕ) (s : Shape) → HasParity s.cut → AllByRecursion (IsOfShape index s) (new_of p index s)
 new_of_shape p index s parity =
@@ -168,12 +168,12 @@ new_of_order p front [] index e parity = tt
 new_of_order p front (s ∷ rest) index e parity =
     let A : List Shape → Type 0 = λ all. AllByRecursion (λ w. is_of_order all w ≡ true) (new_from p (index + 1) rest) in
     let found : (test : Shape → Bool) → at_index (front ++ s ∷ rest) index false test ≡ test s =
-        λ test. ap (λ (n : ℕ). at_index (front ++ s ∷ rest) n false test) e ∙ found_behind front s rest test in
+    λ test. ap (λ (n : ℕ). at_index (front ++ s ∷ rest) n false test) e ∙ found_behind front s rest test in
     let more = length-append front (s ∷ []) in
     all_append (λ w. is_of_order (front ++ s ∷ rest) w ≡ true) _ _
-      (all_implied (IsOfShape index s) (λ w. is_of_order (front ++ s ∷ rest) w ≡ true) (new_of p index s)
-        (of_order_by (front ++ s ∷ rest) index s found) (new_of_shape p index s parity.0))
-      (subst A (append_assoc front (s ∷ []) rest) (new_of_order p (front ++ s ∷ []) rest (index + 1) (omega arith) parity.1))
+    (all_implied (IsOfShape index s) (λ w. is_of_order (front ++ s ∷ rest) w ≡ true) (new_of p index s)
+    (of_order_by (front ++ s ∷ rest) index s found) (new_of_shape p index s parity.0))
+    (subst A (append_assoc front (s ∷ []) rest) (new_of_order p (front ++ s ∷ []) rest (index + 1) (omega arith) parity.1))
 
 found_in : (P : Want → Type 0) (test : Want → Bool) (ws : List Want) (w : Want) → AllByRecursion P ws → find test ws ≡ Some w → P w
 found_in P test [] w all e = absurd (none_some w e)
@@ -184,6 +184,7 @@ found_in P test (x ∷ ws) w all e = go (test x) (λ e. found_in P test ws w all
   where
     same_want : (x y : Want) → Some x ≡ Some y → x ≡ y
     same_want x y e = cc
+
     go : (b : Bool) → (find test ws ≡ Some w → P w) → cond b (Some x) (find test ws) ≡ Some w → P w
     go true more e = subst P (same_want x w e) all.0
     go false more e = more e
@@ -210,6 +211,7 @@ new_all p blocks order index = go (cases_lt index (length order))
   where
     all : List Shape
     all = shapes_of p order
+
     go : (index < length order) ⊎ (length order ≤ index)
         → AllByRecursion (λ w. is_of_order all w ≡ true) (new_from p index (shapes_of p (drop index order)))
     go (inl lt) =
@@ -217,7 +219,7 @@ new_all p blocks order index = go (cases_lt index (length order))
         let taken = length-take index all in
         let many : length all ≡ length order = shapes_many p order in
         let whole : take index all ++ shapes_of p (drop index order) ≡ all =
-            ap (λ (xs : List Shape). take index all ++ xs) (shapes_drop p index order) ∙ take-append-drop index all in
+        ap (λ (xs : List Shape). take index all ++ xs) (shapes_drop p index order) ∙ take-append-drop index all in
         subst A whole (new_of_order p (take index all) (shapes_of p (drop index order)) index (omega arith) (shapes_parity p blocks (drop index order)))
     go (inr le) =
         let A : List Want → Type 0 = λ ws. AllByRecursion (λ w. is_of_order all w ≡ true) ws in
@@ -227,8 +229,8 @@ new_all p blocks order index = go (cases_lt index (length order))
 next_of_order : (p : Settings) → Blocks p → (s : SenderState) (w : Want) → next_new p s ≡ Some w → is_of_order (current_shapes p s) w ≡ true
 next_of_order p blocks s w e =
     found_in (λ w. is_of_order (current_shapes p s) w ≡ true) (λ w. not (want_before w s.next) && stands_behind s.current.drop w)
-      (new_from p (want_index s.next) (shapes_of p (drop (want_index s.next) s.current.order))) w
-      (new_all p blocks s.current.order (want_index s.next)) e
+    (new_from p (want_index s.next) (shapes_of p (drop (want_index s.next) s.current.order))) w
+    (new_all p blocks s.current.order (want_index s.next)) e
 
 -- ---- a tick
 
@@ -305,20 +307,22 @@ further_true p range now s h differ = go (next_new p s) refl
   where
     next : Want → SenderState
     next w = record s { next = behind w }
+
     go : (found : Option Want) → next_new p s ≡ found → SentTrue p s (given (elim found [ Some w ↦ sends_new p now w s | None ↦ flushes p now s ]))
     go None e = flushes_true p now s
     go (Some w) e =
         let keeps : Keeps s (next w) = record { earlier = refl; current = refl; by = refl; nodes = refl; sequence = λ n. n } in
         let wants : WantsHold p (next w) = record { rise = h.wants.rise; of_order = h.wants.of_order; in_window = h.wants.in_window } in
         same_true p (next w) s _ (goes_on_itself (instances s))
-          (wanted_true p range (next w) now (λ object. 0) w (without p s (next w) keeps wants h) differ
-            (next_of_order p (blocks_of p range) s w e) (λ object. omega arith))
+        (wanted_true p range (next w) now (λ object. 0) w (without p s (next w) keeps wants h) differ
+        (next_of_order p (blocks_of p range) s w e) (λ object. omega arith))
 
 wants_true : (p : Settings) → InRange p → (now : ℕ) (s : SenderState) → SenderHolds p s → IsDistinct nat_eq (instance_ids s) → SentTrue p s (sends_wanted p now s).1
 wants_true p range now s h differ = go s.wants refl
   where
     rest : List Want → SenderState
     rest wants = record s { wants = wants }
+
     go : (wants : List Want) → s.wants ≡ wants → SentTrue p s (given (elim wants [ [] ↦ sends_further p now s | w ∷ wants ↦ repairs_next p now w wants s ]))
     go [] e = further_true p range now s h differ
     go (w ∷ wants) e =
@@ -331,8 +335,8 @@ wants_true p range now s h differ = go s.wants refl
         let keeps : Keeps s (rest wants) = record { earlier = refl; current = refl; by = refl; nodes = refl; sequence = λ n. n } in
         let hold : WantsHold p (rest wants) = record { rise = rise.1; of_order = of.1; in_window = within.1 } in
         same_true p (rest wants) s _ (goes_on_itself (instances s))
-          (wanted_true p range (rest wants) now (λ object. repair_flags p object w) w (without p s (rest wants) keeps hold h) differ of.0
-            (λ object. repair_few p object w))
+        (wanted_true p range (rest wants) now (λ object. repair_flags p object w) w (without p s (rest wants) keeps hold h) differ of.0
+        (λ object. repair_few p object w))
 
 first_true : (p : Settings) → InRange p → (now : ℕ) (s : SenderState) → SenderHolds p s → IsDistinct nat_eq (instance_ids s) → SentTrue p s (sends_first p now s).1
 first_true p range now s h differ = go s.squelch_due

@@ -1,6 +1,6 @@
 -- Orders of data and files alone: what a command does to them is one of three things.
 use Rattle.std.proofs.Common.{◌≡◌, ℕ, zero, suc, ◌+◌, ◌<◌, ◌≤◌, List, [], ◌∷◌, ◌++◌, length, Bool, true, false, Option, None, Some, Result, Ok, Err, refl, sym, ap, ◌∙◌, subst, arith, ◌⊎◌, inl, inr}
-use Rattle.std.specs.Prelude.{◌==◌, reverse, nat_le, nat_lt, is_none, unwrap_or, ⊤}
+use Rattle.std.specs.Prelude.{◌==◌, nat_le, nat_lt, is_none, unwrap_or}
 use Rattle.std.specs.List.{AllByRecursion}
 use Rattle.std.proofs.lemmas.Bool.Decides.{Decides-ltb, leb_tells}
 use Rattle.std.proofs.lemmas.List.{reverse-append}
@@ -13,7 +13,7 @@ use Rattle.fec_plan.specs.declared.position.Position.{Position}
 use Rattle.norm_order.specs.Entries.{Part, Write, Cut, End, Object, Whole, Stream, Entry}
 use Rattle.norm_order.specs.Segments.{unclosed}
 use Rattle.norm_order.specs.Shapes.{last_source}
-use Rattle.norm_send_rules.specs.SenderState.{SenderState, Instance}
+use Rattle.norm_send_rules.specs.SenderState.{SenderState}
 use Rattle.norm_send_rules.specs.InWindow.{next_index, current_shapes}
 use Rattle.norm_send_rules.specs.Restarting.{is_used, begun_anew}
 use Rattle.norm_send_rules.specs.Enqueuing.{info_length, open_parts, open_stream, object_fault, joined, ids_spent}
@@ -24,7 +24,7 @@ use Rattle.norm_send_rules.specs.Commanding.{commanded, answered}
 use Rattle.norm_send_rules.specs.declared.fault.EnqueueFault.{EnqueueFault}
 use Rattle.norm_send_rules.specs.declared.fault.MarkFault.TheVariants.{TooMany}
 use Rattle.norm_send_rules.specs.declared.fault.SendFault.{SendFault}
-use Rattle.norm_send_rules.specs.declared.fault.SendFault.TheVariants.{Enqueue, Mark, IdUsed}
+use Rattle.norm_send_rules.specs.declared.fault.SendFault.TheVariants.{Mark, IdUsed}
 use Rattle.norm_send_rules.specs.declared.job.Job.{Job}
 use Rattle.norm_send_rules.specs.declared.job.Job.TheVariants as job
 use Rattle.norm_send_rules.specs.declared.job.Receipt.{Receipt}
@@ -32,7 +32,7 @@ use Rattle.norm_send_rules.specs.declared.job.Receipt.TheVariants as receipt
 use Rattle.norm_safety.specs.Jobs.{IsJob, OpensNone}
 use Rattle.norm_safety.proofs.SenderKeeps.{Keeps, keeps_all, nodes_in}
 use Rattle.norm_safety.proofs.EntryLemmas.{open_in, ends, clash}
-use Rattle.norm_safety.proofs.CommandSteps.{where_free, first_none, no_parts, with_request, requested_keeps}
+use Rattle.norm_safety.proofs.CommandSteps.{where_free, first_none, no_parts, requested_keeps}
 
 -- data or a file, of octets, and no larger than the profile lets it be
 abbrev pub IsSized : Settings → Object → Type 0
@@ -115,8 +115,8 @@ object_case p by kind info octets s are none =
     let fourth = first_none _ _ _ third.1 in
     let fifth = first_none _ _ _ fourth.1 in
     Joins kind info octets
-      (some_length first.0, not_less p.octets (length octets) second.0, not_less p.e (info_length info) third.0, are)
-      (below fifth.0)
+    (some_length first.0, not_less p.octets (length octets) second.0, not_less p.e (info_length info) third.0, are)
+    (below fifth.0)
   where
     some_length : (length octets == 0) ≡ false → 0 < length octets
     some_length e = go (length octets) e
@@ -124,6 +124,7 @@ object_case p by kind info octets s are none =
         go : (n : ℕ) → (n == 0) ≡ false → 0 < n
         go zero e = absurd (clash (sym e))
         go (suc n) e = omega arith
+
     below : ids_spent s ≡ false → next_index s < 65536
     below e = go (nat_le 65536 (next_index s)) refl
       where
@@ -161,6 +162,7 @@ mark_case p by s between found same =
     few at false =
         let kept = requested_keeps by s at in
         Stays (record { earlier = kept.earlier; current = kept.current; nodes = kept.nodes; sequence = kept.sequence })
+
     at : (found : Option Position) → CommandCase p s by (answered Mark (request_at s by found)).0
     at None = Stays (keeps_steady s s (keeps_all s))
     at (Some position) = few position (nat_le most_open (length (open_requests s)))
@@ -171,12 +173,12 @@ command_case p s by (job.Data info bytes) all are none =
     free_case p by (object_fault p s info bytes) s (joined p by (Whole kind.Data info bytes) s) _ (object_case p by kind.Data info bytes s are)
 command_case p s by (job.File name bytes) all are none =
     free_case p by (object_fault p s (Some name) bytes) s (joined p by (Whole kind.File (Some name) bytes) s) _
-      (object_case p by kind.File (Some name) bytes s are)
+    (object_case p by kind.File (Some name) bytes s are)
 command_case p s by job.Open all are none = absurd none
 command_case p s by (job.Write bytes) all are none =
     let parts = parts_now s ++ Write by bytes ∷ [] in
     closed_case p by s (none_open p s.current.order all) (write_fault p s bytes parts)
-      (λ e. (let first = first_none _ _ _ e in let second = first_none _ _ _ first.1 in (first_none _ _ _ second.1).0)) (grown p s parts) _
+    (λ e. (let first = first_none _ _ _ e in let second = first_none _ _ _ first.1 in (first_none _ _ _ second.1).0)) (grown p s parts) _
 command_case p s by job.Close all are none =
     let parts = parts_now s ++ End ∷ [] in
     closed_case p by s (none_open p s.current.order all) (close_fault p s parts) (λ e. (first_none _ _ _ e).0) (grown p s parts) _

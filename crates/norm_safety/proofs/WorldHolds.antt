@@ -1,35 +1,34 @@
 -- What holds of a world of data and files after every lawful event.
-use Rattle.std.proofs.Common.{◌≡◌, ℕ, zero, suc, ◌+◌, ◌<◌, ◌≤◌, cond, List, [], ◌∷◌, ◌++◌, length, take, Bool, true, false, Option, None, Some, Result, Ok, Err, refl, sym, ap, ◌∙◌, subst, append_assoc, arith, ◌⊎◌, inl, inr}
+use Rattle.std.proofs.Common.{◌≡◌, ℕ, zero, suc, ◌+◌, ◌≤◌, cond, List, [], ◌∷◌, ◌++◌, length, take, Bool, true, false, Option, None, Some, refl, sym, ap, ◌∙◌, subst, append_assoc, arith}
 use Rattle.norm_order.proofs.UptoLemmas.{found_front}
-use Rattle.std.specs.Prelude.{slice_get, IsSomeAnd, map, filter, find, flat_map, ◌==◌, ◌||◌, not, nat_eq, Contains, ⊤}
-use Rattle.std.specs.List.{AllByRecursion, IsDistinct, list_any}
+use Rattle.std.specs.Prelude.{slice_get, IsSomeAnd, filter, find, ◌==◌, nat_eq, Contains}
+use Rattle.std.specs.List.{AllByRecursion, IsDistinct}
 use Rattle.std.proofs.lemmas.Bool.Decides.{Decides-eqb}
 use Rattle.std.proofs.lemmas.List.{append-nil, length-append, take-append-le}
 use Rattle.std.proofs.lemmas.Grind.{flat_map-append}
-use Rattle.norm_base.specs.Settings.{Settings, InRange}
+use Rattle.norm_base.specs.Settings.{Settings}
 use Rattle.norm_base.specs.declared.node.Origin.{Origin}
 use Rattle.norm_ext.specs.Reading.{decoded}
 use Rattle.norm_order.specs.Entries.{Entry}
 use Rattle.norm_order.specs.declared.up.Up.{Up}
-use Rattle.norm_receive_rules.specs.ReceiverState.{ReceiverState, receiver_opening}
+use Rattle.norm_receive_rules.specs.ReceiverState.{ReceiverState}
 use Rattle.norm_receive_rules.specs.Leaving.{is_in, has_left, left_now}
-use Rattle.norm_receive_rules.specs.Taking.{took}
 use Rattle.norm_send_rules.specs.SenderState.{SenderState}
-use Rattle.norm_safety.specs.Events.{Event, UpTaken, Answer, Took}
-use Rattle.norm_safety.specs.World.{World, receiver_at, with_receiver, given_others}
+use Rattle.norm_safety.specs.Events.{Event, Answer}
+use Rattle.norm_safety.specs.World.{World, receiver_at}
 use Rattle.norm_safety.specs.History.{Happening}
 use Rattle.norm_safety.specs.Hands.{hands, taken_in, is_at, instance_at}
-use Rattle.norm_safety.specs.InOrder.{came_to, newly, is_same, drop_of}
+use Rattle.norm_safety.specs.InOrder.{came_to, newly, drop_of}
 use Rattle.norm_safety.specs.OnceEach.{order_of}
 use Rattle.norm_safety.proofs.EntryLemmas.{clash}
-use Rattle.norm_safety.proofs.Onward.{Onward, not_true}
-use Rattle.norm_safety.proofs.SenderHolds.{SenderHolds, OrdersHold, OrderLater, order_later}
+use Rattle.norm_safety.proofs.Onward.{Onward}
+use Rattle.norm_safety.proofs.SenderHolds.{SenderHolds, order_later}
 use Rattle.norm_safety.proofs.OnceLemmas.{OnceSoFar}
-use Rattle.norm_safety.proofs.Spoken.{IsTrueOf, SaysTrue}
+use Rattle.norm_safety.proofs.Spoken.{SaysTrue}
 use Rattle.norm_safety.proofs.TickTrue.{true_later}
-use Rattle.norm_safety.proofs.Exact.{Exactly, exactly_later, Front, front_exactly}
+use Rattle.norm_safety.proofs.Exact.{Exactly, exactly_later}
 use Rattle.norm_safety.proofs.Holding.{Holding, IsPlanOf, IsSymbolOf, IsInfoOf, some_and}
-use Rattle.norm_safety.proofs.ReceiverMoves.{Standing, StandingIn, Moved, SameIds}
+use Rattle.norm_safety.proofs.ReceiverMoves.{Standing, StandingIn}
 
 -- hand-ups went exactly through a front of an instance's order
 pub record Through (p : Settings) (s : SenderState) (id : ℕ) (ups : List Up) : Type 0 where
@@ -121,7 +120,7 @@ through_later p s t id ups onward h =
       count = h.count;
       within = omega arith;
       exactly = subst E (sym later.order) (subst F (sym (take_longer h.count (order_of s id) later.more le))
-        (exactly_later p (drop_of s id).index (drop_of t id).index 0 _ ups later.drop h.exactly));
+          (exactly_later p (drop_of s id).index (drop_of t id).index 0 _ ups later.drop h.exactly));
     }
 
 some_later : (P : Entry → Type 0) (order more : List Entry) (index : ℕ) → IsSomeAnd (slice_get order index) P → IsSomeAnd (slice_get (order ++ more) index) P
@@ -185,6 +184,7 @@ hands_same past x node id none =
   where
     taken_where : Bool → List Up
     taken_where b = elim b [ true ↦ taken_in node x.event x.answer | false ↦ [] ]
+
     go : (b : Bool) → taken_where b ≡ []
     go true = none
     go false = refl
@@ -246,21 +246,21 @@ pub quiet_world : (p : Settings) (past : List Happening) (accepted after : List 
 quiet_world p past accepted after w v e answer same holds once onward offered given none h =
     let x : Happening = record { before = w; event = e; answer = answer; after = v } in
     let at : (node : ℕ) → receiver_at v node ≡ receiver_at w node =
-        λ node. ap (λ (rs : List ReceiverState). find (λ (r : ReceiverState). r.node == node) rs) same in
+    λ node. ap (λ (rs : List ReceiverState). find (λ (r : ReceiverState). r.node == node) rs) same in
     let instance : (node : ℕ) → last_in node None past ≡ instance_at v node =
-        λ node. h.latest node ∙ sym (ap instance_of (at node)) in
+    λ node. h.latest node ∙ sym (ap instance_of (at node)) in
     record {
       sender = holds;
       once = once;
       offered = offered;
       given = given;
       nodes = λ node. (
-        let A : Option ReceiverState → Type 0 = λ found. AtNode p v.sender (past ++ x ∷ []) node found in
-        subst A (sym (at node)) (node_later p w.sender v.sender past x node (receiver_at w node) onward (none node) (instance node) (h.nodes node))
-      );
+          let A : Option ReceiverState → Type 0 = λ found. AtNode p v.sender (past ++ x ∷ []) node found in
+          subst A (sym (at node)) (node_later p w.sender v.sender past x node (receiver_at w node) onward (none node) (instance node) (h.nodes node))
+          );
       through = λ node id. (
-        let T : List Up → Type 0 = λ ups. Through p v.sender id ups in
-        subst T (sym (hands_same past x node id (none node))) (through_later p w.sender v.sender id (hands past node id) onward (h.through node id))
-      );
+          let T : List Up → Type 0 = λ ups. Through p v.sender id ups in
+          subst T (sym (hands_same past x node id (none node))) (through_later p w.sender v.sender id (hands past node id) onward (h.through node id))
+          );
       latest = λ node. last_more node None past x;
     }

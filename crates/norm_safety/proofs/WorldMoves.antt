@@ -1,6 +1,6 @@
 -- What holds of a world of data and files after a receiver moved.
-use Rattle.std.proofs.Common.{◌≡◌, ℕ, zero, suc, ◌+◌, ◌<◌, ◌≤◌, cond, List, [], ◌∷◌, ◌++◌, length, take, Bool, true, false, Option, None, Some, refl, sym, ap, ◌∙◌, subst, append_assoc, arith, ◌⊎◌, inl, inr}
-use Rattle.std.specs.Prelude.{map, find, ◌==◌, ◌||◌, not, nat_eq, ⊤}
+use Rattle.std.proofs.Common.{◌≡◌, ℕ, cond, List, [], ◌∷◌, ◌++◌, Bool, true, false, Option, None, Some, refl, sym, ap, ◌∙◌, subst}
+use Rattle.std.specs.Prelude.{map, find, ◌==◌, ◌||◌, nat_eq}
 use Rattle.std.specs.List.{AllByRecursion, IsDistinct, list_any}
 use Rattle.std.proofs.lemmas.Bool.Decides.{Decides-eqb}
 use Rattle.std.proofs.lemmas.List.{append-nil}
@@ -13,18 +13,18 @@ use Rattle.norm_send_rules.specs.SenderState.{SenderState}
 use Rattle.norm_send_rules.specs.Restarting.{instances}
 use Rattle.norm_safety.proofs.SenderHolds.{SenderHolds}
 use Rattle.norm_safety.proofs.OnceLemmas.{OnceSoFar}
-use Rattle.norm_safety.specs.Events.{Event, UpTaken, Answer, Took}
+use Rattle.norm_safety.specs.Events.{Event, Answer}
 use Rattle.norm_safety.specs.World.{World, receiver_at, with_receiver}
 use Rattle.norm_safety.specs.History.{Happening}
-use Rattle.norm_safety.specs.Hands.{hands, taken_in, is_at, instance_at}
-use Rattle.norm_safety.specs.InOrder.{came_to, newly, is_same, drop_of}
+use Rattle.norm_safety.specs.Hands.{hands, taken_in, instance_at}
+use Rattle.norm_safety.specs.InOrder.{came_to, newly, drop_of}
 use Rattle.norm_safety.specs.OnceEach.{order_of}
 use Rattle.norm_safety.proofs.EntryLemmas.{clash}
-use Rattle.norm_safety.proofs.Onward.{goes_on_itself, Onward}
+use Rattle.norm_safety.proofs.Onward.{goes_on_itself}
 use Rattle.norm_safety.proofs.Spoken.{SaysTrue}
 use Rattle.norm_safety.proofs.Holding.{Holding}
-use Rattle.norm_safety.proofs.ReceiverMoves.{Standing, StandingIn, Moved, Remains, Enters, SameIds}
-use Rattle.norm_safety.proofs.WorldHolds.{Through, AtReceiver, AtNone, AtNode, WorldHolds, last_in, last_more, came_more, hands_more, hands_same, newly_none, new_id, same_taken, node_later, instance_of}
+use Rattle.norm_safety.proofs.ReceiverMoves.{StandingIn, Moved, Remains, Enters, SameIds}
+use Rattle.norm_safety.proofs.WorldHolds.{Through, AtReceiver, AtNode, WorldHolds, last_in, last_more, came_more, hands_same, newly_none, new_id, same_taken, node_later, instance_of}
 
 -- ---- a world where one receiver is another
 
@@ -55,6 +55,7 @@ found_put t r (x ∷ rs) e = go (x.node == t.node) refl (λ more. found_put t r 
   where
     own : cond (t.node == t.node) (Some t) (at_node (map (put_in t) rs) t.node) ≡ Some t
     own = ap (λ (b : Bool). cond b (Some t) (at_node (map (put_in t) rs) t.node)) (same_self t.node)
+
     go : (b : Bool) → (x.node == t.node) ≡ b → (at_node rs t.node ≡ Some r → at_node (map (put_in t) rs) t.node ≡ Some t)
         → cond b (Some x) (at_node rs t.node) ≡ Some r
         → at_node ((elim b [ true ↦ t | false ↦ x ]) ∷ map (put_in t) rs) t.node ≡ Some t
@@ -132,6 +133,7 @@ distinct_end id (x ∷ xs) e all = go (x == id) refl (λ none. distinct_end id x
     last : (ids : List ℕ) → (x == id) ≡ false → AllByRecursion (λ y. (x == y) ≡ false) ids → AllByRecursion (λ y. (x == y) ≡ false) (ids ++ id ∷ [])
     last [] e h = (e, tt)
     last (y ∷ ids) e h = (h.0, last ids e h.1)
+
     go : (a : Bool) → (x == id) ≡ a → (list_any (λ y. y == id) xs ≡ false → IsDistinct nat_eq (xs ++ id ∷ []))
         → (a || list_any (λ y. y == id) xs) ≡ false → AllByRecursion (λ y. (x == y) ≡ false) (xs ++ id ∷ []) × IsDistinct nat_eq (xs ++ id ∷ [])
     go true is more e = absurd (clash (sym e))
@@ -151,8 +153,10 @@ moved_node p s past x node r t moved none latest now h = go moved
         ∙ ap (λ (ids : List ℕ). ids ++ newly (last_in node None past) (instance_at x.after node)) h.came
         ∙ ap (λ (was : Option ℕ). left_now r ++ newly was (instance_at x.after node)) latest
         ∙ ap (λ (is : Option ℕ). left_now r ++ newly r.instance is) now
+
     same : (id : ℕ) → hands (past ++ x ∷ []) node id ≡ hands past node id
     same id = hands_same past x node id none
+
     go : Moved p s r t → AtReceiver p s (past ++ x ∷ []) node t
     go (Remains ids stands) =
         let left : left_now t ≡ left_now r = left_same r t ids in
@@ -169,9 +173,9 @@ moved_node p s past x node r t moved none latest now h = go moved
         }
     go (Enters id out gone at instance left holds) =
         let joined : left_now t ≡ left_now r ++ id ∷ [] =
-            ap (λ (is : Option ℕ). left_by is t.left) instance ∙ ap (λ (ids : List ℕ). ids ++ id ∷ []) left in
+        ap (λ (is : Option ℕ). left_by is t.left) instance ∙ ap (λ (ids : List ℕ). ids ++ id ∷ []) left in
         let new : newly r.instance t.instance ≡ id ∷ [] =
-            ap (λ (is : Option ℕ). newly r.instance is) instance ∙ ap (λ (b : Bool). new_id b id) out in
+        ap (λ (is : Option ℕ). newly r.instance is) instance ∙ ap (λ (b : Bool). new_id b id) out in
         let D : List ℕ → Type 0 = λ xs. IsDistinct nat_eq xs in
         let S : Option ℕ → Type 0 = λ is. StandingIn p s (hands (past ++ x ∷ []) node) t is in
         let H : List Up → Type 0 = λ ups. Holding p (order_of s id) (drop_of s id).index ups t in
@@ -181,9 +185,9 @@ moved_node p s past x node r t moved none latest now h = go moved
           once = subst D (sym joined) (distinct_end id (left_now r) (not_come r id out gone) h.once);
           stands = subst S (sym instance) (subst H (sym (same id ∙ h.never id out gone)) holds);
           never = λ other not_in not_left. (
-            let none_of = ap (λ (xs : List ℕ). list_any (λ y. y == other) xs) left in
-            let none = come_not r other (sym none_of ∙ not_left) in same other ∙ h.never other none.0 none.1
-          );
+              let none_of = ap (λ (xs : List ℕ). list_any (λ y. y == other) xs) left in
+              let none = come_not r other (sym none_of ∙ not_left) in same other ∙ h.never other none.0 none.1
+              );
         }
 
 -- ---- the world of a receiver that moved
@@ -200,32 +204,42 @@ moved_world p past accepted w v e answer node r t found same sender receivers of
   given = subst GivenOf (sym sender) given;
   nodes = λ other. subst (NodeOf other) (sym sender) (nodes other (t.node == other) refl);
   through = λ other id. subst (ThroughOf other id) (sym sender) (
-    let T : List Up → Type 0 = λ ups. Through p w.sender id ups in
-    subst T (sym (hands_same past x other id (none other))) (h.through other id)
-    );
+      let T : List Up → Type 0 = λ ups. Through p w.sender id ups in
+      subst T (sym (hands_same past x other id (none other))) (h.through other id)
+      );
   latest = λ other. last_more other None past x;
 }
   where
     x : Happening
     x = record { before = w; event = e; answer = answer; after = v }
+
     HoldsOf : SenderState → Type 0
     HoldsOf s = SenderHolds p s
+
     OnceOf : SenderState → Type 0
     OnceOf s = OnceSoFar s accepted
+
     Said : List (ℕ × List ℕ) → Type 0
     Said said = AllByRecursion (λ (o : ℕ × List ℕ). SaysTrue p w.sender o.1) said
+
     SaidOf : SenderState → Type 0
     SaidOf s = AllByRecursion (λ (o : ℕ × List ℕ). SaysTrue p s o.1) v.offered
+
     GivenOf : SenderState → Type 0
     GivenOf s = AllByRecursion (λ (o : ℕ × List ℕ). SaysTrue p s o.1) v.given
+
     NodeOf : ℕ → SenderState → Type 0
     NodeOf other s = AtNode p s (past ++ record { before = w; event = e; answer = answer; after = v } ∷ []) other (receiver_at v other)
+
     ThroughOf : ℕ → ℕ → SenderState → Type 0
     ThroughOf other id s = Through p s id (hands (past ++ record { before = w; event = e; answer = answer; after = v } ∷ []) other id)
+
     here : AtReceiver p w.sender past node r
     here = let A : Option ReceiverState → Type 0 = λ o. AtNode p w.sender past node o in subst A found (h.nodes node)
+
     at_v : (other : ℕ) → receiver_at v other ≡ at_node (map (put_in t) w.receivers) other
     at_v other = ap (λ (rs : List ReceiverState). at_node rs other) receivers
+
     nodes : (other : ℕ) (b : Bool) → (t.node == other) ≡ b
         → AtNode p w.sender (past ++ record { before = w; event = e; answer = answer; after = v } ∷ []) other (receiver_at v other)
     nodes other true is =
@@ -237,10 +251,10 @@ moved_world p past accepted w v e answer node r t found same sender receivers of
         let R : ℕ → Type 0 = λ n. AtReceiver p w.sender past n r in
         let L : ℕ → Type 0 = λ n. last_in n None past ≡ r.instance in
         subst A (sym at) (moved_node p w.sender past x other r t moved (none other)
-          (subst L is_node (h.latest node ∙ ap instance_of found)) (ap instance_of at) (subst R is_node here))
+        (subst L is_node (h.latest node ∙ ap instance_of found)) (ap instance_of at) (subst R is_node here))
     nodes other false is =
         let not_t : t.node ≡ other → ⊥ = λ e. clash (sym is ∙ (Decides-eqb t.node other).1 e) in
         let at : receiver_at v other ≡ receiver_at w other = at_v other ∙ found_other t w.receivers other not_t in
         let A : Option ReceiverState → Type 0 = λ o. AtNode p w.sender (past ++ record { before = w; event = e; answer = answer; after = v } ∷ []) other o in
         subst A (sym at) (node_later p w.sender w.sender past x other (receiver_at w other) (goes_on_itself (instances w.sender)) (none other)
-          (h.latest other ∙ sym (ap instance_of at)) (h.nodes other))
+        (h.latest other ∙ sym (ap instance_of at)) (h.nodes other))

@@ -1,7 +1,7 @@
 -- What holds of a world of data and files after a hand-up was taken.
-use Rattle.std.proofs.Common.{◌≡◌, ℕ, zero, suc, ◌+◌, ◌<◌, ◌≤◌, cond, List, [], ◌∷◌, ◌++◌, length, take, Bool, true, false, Option, None, Some, refl, sym, ap, ◌∙◌, subst, append_assoc, arith, ◌⊎◌, inl, inr}
-use Rattle.std.specs.Prelude.{map, find, ◌==◌, nat_eq}
-use Rattle.std.specs.List.{AllByRecursion, IsDistinct, list_any}
+use Rattle.std.proofs.Common.{◌≡◌, ℕ, zero, suc, ◌≤◌, List, [], ◌∷◌, ◌++◌, take, Bool, true, false, Option, None, Some, refl, sym, ap, ◌∙◌, subst, append_assoc, arith}
+use Rattle.std.specs.Prelude.{map, ◌==◌}
+use Rattle.std.specs.List.{AllByRecursion}
 use Rattle.std.proofs.lemmas.Bool.Decides.{Decides-eqb}
 use Rattle.std.proofs.lemmas.List.{append-nil, length-take}
 use Rattle.norm_base.specs.Settings.{Settings}
@@ -9,26 +9,26 @@ use Rattle.norm_base.specs.declared.node.Origin.{Origin}
 use Rattle.norm_order.specs.Entries.{Entry}
 use Rattle.norm_order.specs.declared.up.Up.{Up}
 use Rattle.norm_receive_rules.specs.ReceiverState.{ReceiverState}
-use Rattle.norm_receive_rules.specs.Leaving.{is_in, has_left, left_now}
+use Rattle.norm_receive_rules.specs.Leaving.{is_in, left_now}
 use Rattle.norm_send_rules.specs.SenderState.{SenderState}
 use Rattle.norm_send_rules.specs.Restarting.{instances}
-use Rattle.norm_safety.specs.Events.{Event, UpTaken, Answer, Took}
+use Rattle.norm_safety.specs.Events.{UpTaken, Took}
 use Rattle.norm_safety.specs.World.{World, receiver_at, with_receiver}
 use Rattle.norm_safety.specs.History.{Happening}
 use Rattle.norm_safety.specs.Hands.{hands, taken_in, is_at, instance_at}
-use Rattle.norm_safety.specs.InOrder.{came_to, newly, drop_of}
+use Rattle.norm_safety.specs.InOrder.{newly, drop_of}
 use Rattle.norm_safety.specs.OnceEach.{order_of}
 use Rattle.norm_safety.proofs.EntryLemmas.{clash}
 use Rattle.norm_safety.proofs.WholeOrders.{AreSized}
 use Rattle.norm_safety.proofs.Onward.{goes_on_itself}
 use Rattle.norm_safety.proofs.OnceLemmas.{OnceSoFar}
 use Rattle.norm_safety.proofs.Spoken.{SaysTrue}
-use Rattle.norm_safety.proofs.Exact.{Exactly, Front, front_exactly}
-use Rattle.norm_safety.proofs.SenderHolds.{SenderHolds, OrdersHold, orders_hold}
+use Rattle.norm_safety.proofs.Exact.{Exactly, front_exactly}
+use Rattle.norm_safety.proofs.SenderHolds.{SenderHolds, orders_hold}
 use Rattle.norm_safety.proofs.Holding.{Holding}
-use Rattle.norm_safety.proofs.ReceiverMoves.{Standing, StandingIn, in_instance_is}
-use Rattle.norm_safety.proofs.WorldHolds.{Through, AtReceiver, AtNone, AtNode, WorldHolds, last_in, last_more, came_more, hands_more, hands_same, newly_none, node_later, instance_of}
-use Rattle.norm_safety.proofs.WorldMoves.{at_node, put_in, found_put, found_other, same_self, not_same}
+use Rattle.norm_safety.proofs.ReceiverMoves.{StandingIn, in_instance_is}
+use Rattle.norm_safety.proofs.WorldHolds.{Through, AtReceiver, AtNode, WorldHolds, last_in, last_more, came_more, hands_more, hands_same, newly_none, node_later, instance_of}
+use Rattle.norm_safety.proofs.WorldMoves.{at_node, put_in, found_put, found_other, same_self}
 
 -- a front of a front of an order
 take_of_take : (n m : ℕ) (order : List Entry) → n ≤ m → take n (take m order) ≡ take n order
@@ -103,30 +103,43 @@ taken_world p past accepted w v node r up ups found is sender receivers offered 
   where
     x : Happening
     x = record { before = w; event = UpTaken node; answer = Took (Some up); after = v }
+
     t : ReceiverState
     t = record r { ups = ups }
+
     HoldsOf : SenderState → Type 0
     HoldsOf s = SenderHolds p s
+
     OnceOf : SenderState → Type 0
     OnceOf s = OnceSoFar s accepted
+
     Said : List (ℕ × List ℕ) → Type 0
     Said said = AllByRecursion (λ (o : ℕ × List ℕ). SaysTrue p w.sender o.1) said
+
     SaidOf : SenderState → Type 0
     SaidOf s = AllByRecursion (λ (o : ℕ × List ℕ). SaysTrue p s o.1) v.offered
+
     GivenOf : SenderState → Type 0
     GivenOf s = AllByRecursion (λ (o : ℕ × List ℕ). SaysTrue p s o.1) v.given
+
     now : List Happening
     now = past ++ record { before = w; event = UpTaken node; answer = Took (Some up); after = v } ∷ []
+
     NodeOf : ℕ → SenderState → Type 0
     NodeOf other s = AtNode p s (past ++ record { before = w; event = UpTaken node; answer = Took (Some up); after = v } ∷ []) other (receiver_at v other)
+
     ThroughOf : ℕ → ℕ → SenderState → Type 0
     ThroughOf other id s = Through p s id (hands (past ++ record { before = w; event = UpTaken node; answer = Took (Some up); after = v } ∷ []) other id)
+
     here : AtReceiver p w.sender past node r
     here = let A : Option ReceiverState → Type 0 = λ o. AtNode p w.sender past node o in subst A found (h.nodes node)
+
     nothing_at : (other : ℕ) → (node == other) ≡ false → taken_in other (UpTaken node) (Took (Some up)) ≡ []
     nothing_at other e = ap (λ (b : Bool). taken_if b up) e
+
     inside : (id : ℕ) → is_at w node id ≡ is_in r id
     inside id = ap (λ (o : Option ReceiverState). elim o [ Some y ↦ is_in y id | None ↦ false ]) found
+
     -- what was handed up at the node by then
     own_hands : (id : ℕ) → hands (past ++ record { before = w; event = UpTaken node; answer = Took (Some up); after = v } ∷ []) node id
         ≡ hands past node id ++ elim (is_in r id) [ true ↦ up ∷ [] | false ↦ [] ]
@@ -134,27 +147,35 @@ taken_world p past accepted w v node r up ups found is sender receivers offered 
         hands_more past x node id
         ∙ ap (λ (b : Bool). hands past node id ++ taken_where b (taken_if (node == node) up)) (inside id)
         ∙ ap (λ (c : Bool). hands past node id ++ taken_where (is_in r id) (taken_if c up)) (same_self node)
+
     outside : (id : ℕ) → is_in r id ≡ false → hands (past ++ record { before = w; event = UpTaken node; answer = Took (Some up); after = v } ∷ []) node id ≡ hands past node id
     outside id out = own_hands id ∙ ap (λ (b : Bool). hands past node id ++ taken_where b (up ∷ [])) out ∙ append-nil (hands past node id)
+
     within : (id : ℕ) → is_in r id ≡ true → hands (past ++ record { before = w; event = UpTaken node; answer = Took (Some up); after = v } ∷ []) node id ≡ hands past node id ++ up ∷ []
     within id in_it = own_hands id ∙ ap (λ (b : Bool). hands past node id ++ taken_where b (up ∷ [])) in_it
+
     at_v : (other : ℕ) → receiver_at v other ≡ at_node (map (put_in (behind_up ups r)) w.receivers) other
     at_v other = ap (λ (rs : List ReceiverState). at_node rs other) receivers
+
     holds_in : (id : ℕ) → r.instance ≡ Some id → Holding p (order_of w.sender id) (drop_of w.sender id).index (hands past node id) r
     holds_in id e = let S : Option ℕ → Type 0 = λ instance. StandingIn p w.sender (hands past node) r instance in subst S e here.stands
+
     stands : (instance : Option ℕ) → r.instance ≡ instance → StandingIn p w.sender (hands (past ++ record { before = w; event = UpTaken node; answer = Took (Some up); after = v } ∷ []) node) (behind_up ups r) instance
     stands None e =
         let S : Option ℕ → Type 0 = λ instance. StandingIn p w.sender (hands past node) r instance in
         absurd (some_up (sym is ∙ subst S e here.stands))
     stands (Some id) e =
         let inside_it : is_in r id ≡ true =
-            ap (λ (instance : Option ℕ). elim instance [ Some current ↦ current == id | None ↦ false ]) e ∙ same_self id in
+        ap (λ (instance : Option ℕ). elim instance [ Some current ↦ current == id | None ↦ false ]) e ∙ same_self id in
         let H : List Up → Type 0 = λ us. Holding p (order_of w.sender id) (drop_of w.sender id).index us (behind_up ups r) in
         subst H (sym (within id inside_it)) (take_holding p (order_of w.sender id) (drop_of w.sender id).index (hands past node id) up ups r is (holds_in id e))
+
     own_there : at_node w.receivers r.node ≡ Some r
     own_there = ap (at_node w.receivers) here.here ∙ found
+
     own_found : receiver_at v node ≡ Some (behind_up ups r)
     own_found = at_v node ∙ ap (at_node (map (put_in (behind_up ups r)) w.receivers)) (sym here.here) ∙ found_put (behind_up ups r) r w.receivers own_there
+
     at_own : AtReceiver p w.sender (past ++ record { before = w; event = UpTaken node; answer = Took (Some up); after = v } ∷ []) node (behind_up ups r)
     at_own = record {
       here = here.here;
@@ -167,6 +188,7 @@ taken_world p past accepted w v node r up ups found is sender receivers offered 
       stands = stands r.instance refl;
       never = λ id out gone. outside id out ∙ here.never id out gone;
     }
+
     nodes : (other : ℕ) (b : Bool) → (node == other) ≡ b
         → AtNode p w.sender (past ++ record { before = w; event = UpTaken node; answer = Took (Some up); after = v } ∷ []) other (receiver_at v other)
     nodes other true e =
@@ -178,7 +200,8 @@ taken_world p past accepted w v node r up ups found is sender receivers offered 
         let at : receiver_at v other ≡ receiver_at w other = at_v other ∙ found_other (behind_up ups r) w.receivers other not_own in
         let A : Option ReceiverState → Type 0 = λ o. AtNode p w.sender (past ++ record { before = w; event = UpTaken node; answer = Took (Some up); after = v } ∷ []) other o in
         subst A (sym at) (node_later p w.sender w.sender past x other (receiver_at w other) (goes_on_itself (instances w.sender)) (nothing_at other e)
-          (h.latest other ∙ sym (ap instance_of at)) (h.nodes other))
+        (h.latest other ∙ sym (ap instance_of at)) (h.nodes other))
+
     through : (other id : ℕ) (b c : Bool) → (node == other) ≡ b → is_in r id ≡ c
         → Through p w.sender id (hands (past ++ record { before = w; event = UpTaken node; answer = Took (Some up); after = v } ∷ []) other id)
     through other id true true e f =
@@ -186,7 +209,7 @@ taken_world p past accepted w v node r up ups found is sender receivers offered 
         let T : List Up → Type 0 = λ us. Through p w.sender id us in
         let held = take_holding p (order_of w.sender id) (drop_of w.sender id).index (hands past node id) up ups r is (holds_in id (in_instance_is r id f)) in
         subst N ((Decides-eqb node other).0 e) (subst T (sym (within id f))
-          (taken_through p w.sender id (hands past node id ++ up ∷ []) (behind_up ups r) ((orders_hold p w.sender h.sender).sized id) held))
+        (taken_through p w.sender id (hands past node id ++ up ∷ []) (behind_up ups r) ((orders_hold p w.sender h.sender).sized id) held))
     through other id true false e f =
         let N : ℕ → Type 0 = λ n. Through p w.sender id (hands (past ++ record { before = w; event = UpTaken node; answer = Took (Some up); after = v } ∷ []) n id) in
         let T : List Up → Type 0 = λ us. Through p w.sender id us in

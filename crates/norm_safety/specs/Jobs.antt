@@ -5,7 +5,7 @@ use Rattle.std.specs.List.{AllByRecursion}
 use Rattle.gf_field.specs.Octet.{AreOctets}
 use Rattle.norm_send_rules.specs.declared.job.Job.{Job}
 use Rattle.norm_send_rules.specs.declared.job.Job.TheVariants as job
-use Rattle.norm_safety.specs.Events.{Event, Commanded, Delivered, Ticked, Offered, UpTaken, NewsAsked}
+use Rattle.norm_safety.specs.Events.{Event, Commanded}
 
 -- a command's octets and its instance id
 abbrev pub IsJob : Job → Type 0

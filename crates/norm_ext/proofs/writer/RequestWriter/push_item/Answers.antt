@@ -7,7 +7,7 @@ use Rattle.norm_ext.proofs.writer.RequestWriter.push_item.Goals.{then-joins, els
 pub returns-then-self-more-clause-added : goal.returns-then-self-more-clause-added
 returns-then-self-more-clause-added c front asked has =
     let b = asked_for c.args.form c.args.flags c.args.first c.args.last in
-    let size = c.octets_of-items.ensures.exact c.args.first in
+    let size = c.ends_len-items.ensures.exact c.args.first in
     let limit = ap (λ (x : Writing). x.limit) c.self.view_is in
     let used = ap (λ (x : Writing). x.used) c.self.view_is in
     elim c.if-joins.branch [
@@ -24,8 +24,8 @@ returns-then-self-more-clause-added c front asked has =
 pub returns-clause-added : goal.returns-clause-added
 returns-clause-added c front asked has =
     let b = asked_for c.args.form c.args.flags c.args.first c.args.last in
-    let n : ℕ = c.octets_of-items.result in
-    let size = c.octets_of-items.ensures.exact c.args.first in
+    let n : ℕ = c.ends_len-items.result in
+    let size = c.ends_len-items.ensures.exact c.args.first in
     let limit = ap (λ (x : Writing). x.limit) c.self.view_is in
     let used = ap (λ (x : Writing). x.used) c.self.view_is in
     elim c.if-joins-2.branch [
