@@ -1,0 +1,4 @@
+pub mod Booked
+pub mod Ending
+pub mod Answers
+pub mod Sound
