@@ -5,3 +5,6 @@
 mod mask;
 
 pub use crate::mask::Mask;
+
+#[cfg(test)]
+mod tests;

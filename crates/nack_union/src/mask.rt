@@ -60,17 +60,29 @@ impl Mask {
         self.words[place / WORD] >> (place % WORD) & 1 == 1
     }
 
-    /// Puts a place into the set.
-    pub fn insert(&mut self, place: usize)
+    /// Puts a place into the set, and says whether it is new there.
+    pub fn insert(&mut self, place: usize) -> bool
         requires { place < self.old.size }
+        ensures new { result ≡ not (is_member nat_lt place self.old.members) }
         ensures members { self.new.members ≡ with_member nat_lt place self.old.members }
         ensures size { self.new.size ≡ self.old.size }
     {
+        let is_new = !self.contains(place);
         let word = place / WORD;
         self.words[word] |= 1 << (place % WORD);
         if word < self.lowest {
             self.lowest = word;
         }
+        is_new
+    }
+
+    /// Leaves the set without members.
+    pub fn clear(&mut self)
+        ensures members { self.new.members ≡ [] }
+        ensures size { self.new.size ≡ self.old.size }
+    {
+        self.words.fill(0);
+        self.lowest = 0;
     }
 
     /// Takes out the lowest member. `None` exactly where there is none.
