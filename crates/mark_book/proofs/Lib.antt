@@ -5,3 +5,4 @@ pub mod Tellings
 pub mod Keeping
 pub mod Lookups
 pub mod Standing
+pub mod SomeState

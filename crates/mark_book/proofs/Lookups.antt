@@ -9,11 +9,11 @@ use Rattle.norm_send_rules.specs.SenderState.{SenderState, Watermark, Listing}
 use Rattle.norm_send_rules.specs.Requests.{open_requests, is_past}
 use Rattle.norm_send_rules.specs.declared.news.Outcome.{Outcome}
 use Rattle.norm_send_rules.specs.declared.news.Outcome.TheVariants.{Open}
-use Rattle.mark_book.specs.Booked.{Asked, Kept, Booked, asked, asked_kept, Stands}
+use Rattle.mark_book.specs.Booked.{MarkState, Kept, Booked, mark_state, kept_state, Stands}
 use Rattle.mark_book.specs.Ending.{is_finished, left_of, left_count, outcome_by}
 use Rattle.mark_book.specs.Sound.{AreNumbered}
 
-pub find_through : {X : Type 0} (p : X → Asked) (test : Asked → Bool) (xs : List X) → option_map p (find (λ x. test (p x)) xs) ≡ find test (map p xs)
+pub find_through : {X : Type 0} (p : X → MarkState) (test : MarkState → Bool) (xs : List X) → option_map p (find (λ x. test (p x)) xs) ≡ find test (map p xs)
 find_through p test [] = refl
 find_through p test (x ∷ xs) = go (test (p x)) (find_through p test xs)
   where
@@ -22,7 +22,7 @@ find_through p test (x ∷ xs) = go (test (p x)) (find_through p test xs)
     go true rest = refl
     go false rest = rest
 
-count_through : {X : Type 0} (p : X → Asked) (test : Asked → Bool) (xs : List X) → length (filter (λ x. test (p x)) xs) ≡ length (filter test (map p xs))
+count_through : {X : Type 0} (p : X → MarkState) (test : MarkState → Bool) (xs : List X) → length (filter (λ x. test (p x)) xs) ≡ length (filter test (map p xs))
 count_through p test [] = refl
 count_through p test (x ∷ xs) = go (test (p x)) (count_through p test xs)
   where
@@ -32,49 +32,49 @@ count_through p test (x ∷ xs) = go (test (p x)) (count_through p test xs)
     go false rest = rest
 
 -- what a test finds in both
-pub found_in_both : (test : Asked → Bool) (b : Booked) (s : SenderState) → Stands b s
-    → option_map asked_kept (find (λ k. test (asked_kept k)) b.requests) ≡ option_map asked (find (λ w. test (asked w)) s.requests)
+pub found_in_both : (test : MarkState → Bool) (b : Booked) (s : SenderState) → Stands b s
+    → option_map kept_state (find (λ k. test (kept_state k)) b.requests) ≡ option_map mark_state (find (λ w. test (mark_state w)) s.requests)
 found_in_both test b s stands =
-    find_through asked_kept test b.requests ∙ ap (find test) stands.requests ∙ sym (find_through asked test s.requests)
+    find_through kept_state test b.requests ∙ ap (find test) stands.requests ∙ sym (find_through mark_state test s.requests)
 
 pub open_in_both : (b : Booked) (s : SenderState) → Stands b s → length (filter (λ k. is_none k.ended) b.requests) ≡ length (open_requests s)
 open_in_both b s stands =
-    count_through asked_kept (λ a. is_none a.ended) b.requests ∙ ap (λ both. length (filter (λ (a : Asked). is_none a.ended) both)) stands.requests
-    ∙ sym (count_through asked (λ a. is_none a.ended) s.requests)
+    count_through kept_state (λ a. is_none a.ended) b.requests ∙ ap (λ both. length (filter (λ (a : MarkState). is_none a.ended) both)) stands.requests
+    ∙ sym (count_through mark_state (λ a. is_none a.ended) s.requests)
 
 pub many_in_both : (b : Booked) (s : SenderState) → Stands b s → length b.requests ≡ length s.requests
-many_in_both b s stands = sym (length-map b.requests asked_kept) ∙ ap length stands.requests ∙ length-map s.requests asked
+many_in_both b s stands = sym (length-map b.requests kept_state) ∙ ap length stands.requests ∙ length-map s.requests mark_state
 
-map_through : {Y : Type 0} (g : Asked → Y) (o : Option Watermark) → option_map (λ w. g (asked w)) o ≡ option_map g (option_map asked o)
+map_through : {Y : Type 0} (g : MarkState → Y) (o : Option Watermark) → option_map (λ w. g (mark_state w)) o ≡ option_map g (option_map mark_state o)
 map_through g None = refl
 map_through g (Some w) = refl
 
-then_through : {Y : Type 0} (g : Asked → Option Y) (o : Option Watermark) → option_and_then (λ w. g (asked w)) o ≡ option_and_then g (option_map asked o)
+then_through : {Y : Type 0} (g : MarkState → Option Y) (o : Option Watermark) → option_and_then (λ w. g (mark_state w)) o ≡ option_and_then g (option_map mark_state o)
 then_through g None = refl
 then_through g (Some w) = refl
 
 -- what is read off what is found
-pub read_none : {Y : Type 0} (g : Asked → Y) (o : Option Kept) (p : Option Watermark) → option_map asked_kept o ≡ option_map asked p → o ≡ None
-    → None ≡ option_map (λ w. g (asked w)) p
-read_none g o p both is = ap (λ o. option_map g (option_map asked_kept o)) (sym is) ∙ ap (option_map g) both ∙ sym (map_through g p)
+pub read_none : {Y : Type 0} (g : MarkState → Y) (o : Option Kept) (p : Option Watermark) → option_map kept_state o ≡ option_map mark_state p → o ≡ None
+    → None ≡ option_map (λ w. g (mark_state w)) p
+read_none g o p both is = ap (λ o. option_map g (option_map kept_state o)) (sym is) ∙ ap (option_map g) both ∙ sym (map_through g p)
 
-pub read_some : {Y : Type 0} (g : Asked → Y) (o : Option Kept) (p : Option Watermark) (k : Kept) → option_map asked_kept o ≡ option_map asked p → o ≡ Some k
-    → Some (g (asked_kept k)) ≡ option_map (λ w. g (asked w)) p
-read_some g o p k both is = ap (λ o. option_map g (option_map asked_kept o)) (sym is) ∙ ap (option_map g) both ∙ sym (map_through g p)
+pub read_some : {Y : Type 0} (g : MarkState → Y) (o : Option Kept) (p : Option Watermark) (k : Kept) → option_map kept_state o ≡ option_map mark_state p → o ≡ Some k
+    → Some (g (kept_state k)) ≡ option_map (λ w. g (mark_state w)) p
+read_some g o p k both is = ap (λ o. option_map g (option_map kept_state o)) (sym is) ∙ ap (option_map g) both ∙ sym (map_through g p)
 
-pub then_none : {Y : Type 0} (g : Asked → Option Y) (o : Option Kept) (p : Option Watermark) → option_map asked_kept o ≡ option_map asked p → o ≡ None
-    → None ≡ option_and_then (λ w. g (asked w)) p
-then_none g o p both is = ap (λ o. option_and_then g (option_map asked_kept o)) (sym is) ∙ ap (option_and_then g) both ∙ sym (then_through g p)
+pub then_none : {Y : Type 0} (g : MarkState → Option Y) (o : Option Kept) (p : Option Watermark) → option_map kept_state o ≡ option_map mark_state p → o ≡ None
+    → None ≡ option_and_then (λ w. g (mark_state w)) p
+then_none g o p both is = ap (λ o. option_and_then g (option_map kept_state o)) (sym is) ∙ ap (option_and_then g) both ∙ sym (then_through g p)
 
-pub then_some : {Y : Type 0} (g : Asked → Option Y) (o : Option Kept) (p : Option Watermark) (k : Kept) → option_map asked_kept o ≡ option_map asked p → o ≡ Some k
-    → g (asked_kept k) ≡ option_and_then (λ w. g (asked w)) p
-then_some g o p k both is = ap (λ o. option_and_then g (option_map asked_kept o)) (sym is) ∙ ap (option_and_then g) both ∙ sym (then_through g p)
+pub then_some : {Y : Type 0} (g : MarkState → Option Y) (o : Option Kept) (p : Option Watermark) (k : Kept) → option_map kept_state o ≡ option_map mark_state p → o ≡ Some k
+    → g (kept_state k) ≡ option_and_then (λ w. g (mark_state w)) p
+then_some g o p k both is = ap (λ o. option_and_then g (option_map kept_state o)) (sym is) ∙ ap (option_and_then g) both ∙ sym (then_through g p)
 
 -- the outcome of a request
-abbrev pub outcome_at : List Listing → Asked → Outcome
+abbrev pub outcome_at : List Listing → MarkState → Outcome
 outcome_at ls a = elim a.ended [ Some outcome ↦ outcome | None ↦ Open (length (left_of ls a.at)) ]
 
-pub outcome_is : (ls : List Listing) (k : Kept) → outcome_by ls k ≡ outcome_at ls (asked_kept k)
+pub outcome_is : (ls : List Listing) (k : Kept) → outcome_by ls k ≡ outcome_at ls (kept_state k)
 outcome_is ls k = go k.ended
   where
     go : (o : Option Outcome) → elim o as (λ _. Outcome) [ Some outcome ↦ outcome | None ↦ Open (left_count ls k.at) ]

@@ -24,7 +24,7 @@ use Rattle.norm_send_rules.specs.declared.job.Receipt.TheVariants.{Mark}
 use Rattle.norm_send_rules.specs.Requests.{is_open, ended_with, end_where, told_later, keeps_oldest, counted_anew, settled, pending, is_past, open_requests}
 use Rattle.norm_send_rules.specs.declared.news.Outcome.{Outcome}
 use Rattle.norm_send_rules.specs.declared.news.Outcome.TheVariants.{Satisfied, Expired, Cut}
-use Rattle.mark_book.specs.Booked.{Asked, Kept, Booked, asked, asked_kept, untold_marks, unlisted_node, Stands}
+use Rattle.mark_book.specs.Booked.{MarkState, Kept, Booked, mark_state, kept_state, untold_marks, unlisted_node, Stands}
 use Rattle.mark_book.specs.Ending.{ended_where, settled_by, expired_by, cut_off, left_of, left_count, opened, told_first, outcome_by}
 use Rattle.mark_book.specs.Sound.{AreNumbered}
 use Rattle.mark_book.specs.Answers.{numbered}
@@ -37,24 +37,24 @@ through p g f each [] = refl
 through p g f each (x ∷ xs) = rw (each x, through p g f each xs)
 
 -- a request, ended where it is open and passes a test
-abbrev ended_asked : (Asked → Bool) → (Asked → Outcome) → Asked → Asked
-ended_asked test outcome a = elim (is_none a.ended && test a) [ true ↦ record a { ended = Some (outcome a) } | false ↦ a ]
+abbrev ended_state : (MarkState → Bool) → (MarkState → Outcome) → MarkState → MarkState
+ended_state test outcome a = elim (is_none a.ended && test a) [ true ↦ record a { ended = Some (outcome a) } | false ↦ a ]
 
-kept_ends : (test : Asked → Bool) (outcome : Asked → Outcome) (kept : Kept → Outcome) → ((k : Kept) → kept k ≡ outcome (asked_kept k)) → (k : Kept)
-    → asked_kept (ended_where (λ k. test (asked_kept k)) kept k) ≡ ended_asked test outcome (asked_kept k)
-kept_ends test outcome kept same k = go (is_none k.ended && test (asked_kept k))
+kept_ends : (test : MarkState → Bool) (outcome : MarkState → Outcome) (kept : Kept → Outcome) → ((k : Kept) → kept k ≡ outcome (kept_state k)) → (k : Kept)
+    → kept_state (ended_where (λ k. test (kept_state k)) kept k) ≡ ended_state test outcome (kept_state k)
+kept_ends test outcome kept same k = go (is_none k.ended && test (kept_state k))
   where
-    go : (b : Bool) → asked_kept (elim b as (λ _. Kept) [ true ↦ record k { ended = Some (kept k); untold = true } | false ↦ k ])
-        ≡ elim b as (λ _. Asked) [ true ↦ record (asked_kept k) { ended = Some (outcome (asked_kept k)) } | false ↦ asked_kept k ]
-    go true = ap (λ (o : Outcome). record (asked_kept k) { ended = Some o }) (same k)
+    go : (b : Bool) → kept_state (elim b as (λ _. Kept) [ true ↦ record k { ended = Some (kept k); untold = true } | false ↦ k ])
+        ≡ elim b as (λ _. MarkState) [ true ↦ record (kept_state k) { ended = Some (outcome (kept_state k)) } | false ↦ kept_state k ]
+    go true = ap (λ (o : Outcome). record (kept_state k) { ended = Some o }) (same k)
     go false = refl
 
-watermark_ends : (test : Asked → Bool) (outcome : Asked → Outcome) (w : Watermark)
-    → asked (if is_open w && test (asked w) then ended_with (outcome (asked w)) w else w) ≡ ended_asked test outcome (asked w)
-watermark_ends test outcome w = go (is_none w.ended && test (asked w))
+watermark_ends : (test : MarkState → Bool) (outcome : MarkState → Outcome) (w : Watermark)
+    → mark_state (if is_open w && test (mark_state w) then ended_with (outcome (mark_state w)) w else w) ≡ ended_state test outcome (mark_state w)
+watermark_ends test outcome w = go (is_none w.ended && test (mark_state w))
   where
-    go : (b : Bool) → asked (if b then ended_with (outcome (asked w)) w else w)
-        ≡ elim b as (λ _. Asked) [ true ↦ record (asked w) { ended = Some (outcome (asked w)) } | false ↦ asked w ]
+    go : (b : Bool) → mark_state (if b then ended_with (outcome (mark_state w)) w else w)
+        ≡ elim b as (λ _. MarkState) [ true ↦ record (mark_state w) { ended = Some (outcome (mark_state w)) } | false ↦ mark_state w ]
     go true = refl
     go false = refl
 
@@ -62,37 +62,37 @@ told_by_marks : (ws : List Watermark) (u : List ℕ) → told_later ws u ≡ fol
 told_by_marks [] u = refl
 told_by_marks (w ∷ ws) u = told_by_marks ws (with_member nat_lt w.mark u)
 
-marks_through : {X : Type 0} (p : X → Asked) (test : Asked → Bool) (xs : List X)
-    → map (λ x. (p x).mark) (filter (λ x. test (p x)) xs) ≡ map (λ (a : Asked). a.mark) (filter test (map p xs))
+marks_through : {X : Type 0} (p : X → MarkState) (test : MarkState → Bool) (xs : List X)
+    → map (λ x. (p x).mark) (filter (λ x. test (p x)) xs) ≡ map (λ (a : MarkState). a.mark) (filter test (map p xs))
 marks_through p test [] = refl
 marks_through p test (x ∷ xs) = go (test (p x)) (marks_through p test xs)
   where
-    go : (b : Bool) → map (λ x. (p x).mark) (filter (λ x. test (p x)) xs) ≡ map (λ (a : Asked). a.mark) (filter test (map p xs))
+    go : (b : Bool) → map (λ x. (p x).mark) (filter (λ x. test (p x)) xs) ≡ map (λ (a : MarkState). a.mark) (filter test (map p xs))
         → map (λ x. (p x).mark) (cond b (x ∷ filter (λ x. test (p x)) xs) (filter (λ x. test (p x)) xs))
-        ≡ map (λ (a : Asked). a.mark) (cond b (p x ∷ filter test (map p xs)) (filter test (map p xs)))
+        ≡ map (λ (a : MarkState). a.mark) (cond b (p x ∷ filter test (map p xs)) (filter test (map p xs)))
     go true rest = ap (λ u. (p x).mark ∷ u) rest
     go false rest = rest
 
 -- where a book stands for a state, and requests end in both, it stands for the state after
-pub stands_ended : (test : Asked → Bool) (outcome : Asked → Outcome) (kept : Kept → Outcome) → ((k : Kept) → kept k ≡ outcome (asked_kept k))
+pub stands_ended : (test : MarkState → Bool) (outcome : MarkState → Outcome) (kept : Kept → Outcome) → ((k : Kept) → kept k ≡ outcome (kept_state k))
     → (b : Booked) (s : SenderState) → AreNumbered 1 b.requests → Stands b s
-    → Stands (record b { requests = map (ended_where (λ k. test (asked_kept k)) kept) b.requests })
-    (end_where (λ w. test (asked w)) (λ w. outcome (asked w)) s)
+    → Stands (record b { requests = map (ended_where (λ k. test (kept_state k)) kept) b.requests })
+    (end_where (λ w. test (mark_state w)) (λ w. outcome (mark_state w)) s)
 stands_ended test outcome kept same b s numbered stands = record {
   listings = stands.listings;
   requests =
-      through asked_kept _ (ended_asked test outcome) (kept_ends test outcome kept same) b.requests
-      ∙ ap (map (ended_asked test outcome)) stands.requests
-      ∙ sym (through asked _ (ended_asked test outcome) (watermark_ends test outcome) s.requests);
+      through kept_state _ (ended_state test outcome) (kept_ends test outcome kept same) b.requests
+      ∙ ap (map (ended_state test outcome)) stands.requests
+      ∙ sym (through mark_state _ (ended_state test outcome) (watermark_ends test outcome) s.requests);
   nodes = stands.nodes;
   marks =
-      marks_after (λ k. test (asked_kept k)) kept 1 b.requests numbered
-      ∙ ap (λ u. fold more_of u (marks_where (λ k. is_none k.ended && test (asked_kept k)) b.requests)) stands.marks
+      marks_after (λ k. test (kept_state k)) kept 1 b.requests numbered
+      ∙ ap (λ u. fold more_of u (marks_where (λ k. is_none k.ended && test (kept_state k)) b.requests)) stands.marks
       ∙ ap (fold more_of s.untold_marks) (
-      marks_through asked_kept (λ a. is_none a.ended && test a) b.requests
-      ∙ ap (λ both. map (λ (a : Asked). a.mark) (filter (λ a. is_none a.ended && test a) both)) stands.requests
-      ∙ sym (marks_through asked (λ a. is_none a.ended && test a) s.requests))
-      ∙ sym (told_by_marks (filter (λ w. is_open w && test (asked w)) s.requests) s.untold_marks);
+      marks_through kept_state (λ a. is_none a.ended && test a) b.requests
+      ∙ ap (λ both. map (λ (a : MarkState). a.mark) (filter (λ a. is_none a.ended && test a) both)) stands.requests
+      ∙ sym (marks_through mark_state (λ a. is_none a.ended && test a) s.requests))
+      ∙ sym (told_by_marks (filter (λ w. is_open w && test (mark_state w)) s.requests) s.untold_marks);
 }
 
 -- the count of flushes is none of the book's
@@ -107,7 +107,7 @@ stands_counted b old new stands = go (keeps_oldest old new)
 pub stands_by : (b c : Booked) (s : SenderState) → c.listings ≡ b.listings → c.requests ≡ b.requests → c.untold_nodes ≡ b.untold_nodes → Stands b s → Stands c s
 stands_by b c s listings requests nodes stands = record {
   listings = listings ∙ stands.listings;
-  requests = ap (map asked_kept) requests ∙ stands.requests;
+  requests = ap (map kept_state) requests ∙ stands.requests;
   nodes = nodes ∙ stands.nodes;
   marks = ap untold_marks requests ∙ stands.marks;
 }
@@ -190,10 +190,10 @@ stands_requested by at b s numbered stands =
     (record {
       listings = stands.listings;
       requests =
-          map-append asked_kept b.requests (opened (length b.requests + 1) at ∷ [])
-          ∙ ap (λ (xs : List Asked). xs ++ asked_kept (opened (length b.requests + 1) at) ∷ []) stands.requests
-          ∙ ap (λ n. map asked s.requests ++ asked_kept (opened (n + 1) at) ∷ []) (many_in_both b s stands)
-          ∙ sym (map-append asked s.requests (one ∷ []));
+          map-append kept_state b.requests (opened (length b.requests + 1) at ∷ [])
+          ∙ ap (λ (xs : List MarkState). xs ++ kept_state (opened (length b.requests + 1) at) ∷ []) stands.requests
+          ∙ ap (λ n. map mark_state s.requests ++ kept_state (opened (n + 1) at) ∷ []) (many_in_both b s stands)
+          ∙ sym (map-append mark_state s.requests (one ∷ []));
       nodes = stands.nodes;
       marks = opened_untold b.requests (length b.requests + 1) at ∙ stands.marks;
     }))
@@ -282,7 +282,7 @@ told_nothing b s none_nodes none_marks stands =
     subst (λ (ns : List ℕ). Stands b (told_from s ns s.untold_marks).0 × (None ≡ (told_from s ns s.untold_marks).1)) (sym (sym stands.nodes ∙ none_nodes))
     (subst (λ (ms : List ℕ). Stands b (told_from s [] ms).0 × (None ≡ (told_from s [] ms).1)) (sym (sym stands.marks ∙ none_marks)) (stands, refl))
 
-done_is : (s : SenderState) (mark : ℕ) (o : Option Watermark) → option_map (λ w. Done mark (outcome_at s.listings (asked w))) o ≡ done_news s mark o
+done_is : (s : SenderState) (mark : ℕ) (o : Option Watermark) → option_map (λ w. Done mark (outcome_at s.listings (mark_state w))) o ≡ done_news s mark o
 done_is s mark None = refl
 done_is s mark (Some w) = refl
 
@@ -292,7 +292,7 @@ pub told_mark : (k : Kept) (b : Booked) (s : SenderState) → AreNumbered 1 b.re
 told_mark k b s numbered none_nodes first stands =
     let marks : s.untold_marks ≡ k.mark ∷ untold_marks (told_first b.requests) = sym stands.marks ∙ first_goes b.requests k first in
     let news : Some (Done k.mark (outcome_by b.listings k)) ≡ done_news s k.mark (find (λ (w : Watermark). w.mark == k.mark) s.requests) =
-    ap (λ (o : Outcome). Some (Done k.mark o)) (outcome_is b.listings k ∙ ap (λ ls. outcome_at ls (asked_kept k)) stands.listings)
+    ap (λ (o : Outcome). Some (Done k.mark o)) (outcome_is b.listings k ∙ ap (λ ls. outcome_at ls (kept_state k)) stands.listings)
     ∙ read_some (λ a. Done k.mark (outcome_at s.listings a)) _ _ k (found_in_both (λ a. a.mark == k.mark) b s stands)
     (found_by_number (λ (k : Kept). k.untold) 1 b.requests k numbered first)
     ∙ done_is s k.mark (find (λ (w : Watermark). w.mark == k.mark) s.requests) in

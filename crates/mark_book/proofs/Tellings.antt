@@ -3,7 +3,7 @@ use Rattle.std.proofs.Common.{◌≡◌, ℕ, ◌+◌, ◌<◌, ◌≤◌, List,
 use Rattle.std.specs.Prelude.{◌==◌, filter, find, Option, None, Some}
 use Rattle.std.proofs.lemmas.Bool.{eq-eqb, ne_eqb}
 use Rattle.std.proofs.lemmas.List.{drop_more, set_split}
-use Rattle.mark_book.specs.Booked.{Asked, Kept, asked_kept, untold_marks}
+use Rattle.mark_book.specs.Booked.{MarkState, Kept, kept_state, untold_marks}
 use Rattle.mark_book.specs.Ending.{told_first}
 use Rattle.mark_book.specs.Sound.{AreNumbered}
 
@@ -30,14 +30,14 @@ told_here ks now i k new d lt same at untold is so_far =
     drop_next xs i d lt = drop_more xs i d lt ∙ ap (λ n. get_or xs i d ∷ drop n xs) (add-one i)
 
 -- Telling keeps the requests, their order and their numbers.
-pub told_keeps : (ks : List Kept) → map asked_kept (told_first ks) ≡ map asked_kept ks
+pub told_keeps : (ks : List Kept) → map kept_state (told_first ks) ≡ map kept_state ks
 told_keeps [] = refl
 told_keeps (k ∷ ks) = go k.untold (told_keeps ks)
   where
-    go : (b : Bool) → map asked_kept (told_first ks) ≡ map asked_kept ks
-        → map asked_kept (elim b as (λ _. List Kept) [ true ↦ record k { untold = false } ∷ ks | false ↦ k ∷ told_first ks ]) ≡ asked_kept k ∷ map asked_kept ks
+    go : (b : Bool) → map kept_state (told_first ks) ≡ map kept_state ks
+        → map kept_state (elim b as (λ _. List Kept) [ true ↦ record k { untold = false } ∷ ks | false ↦ k ∷ told_first ks ]) ≡ kept_state k ∷ map kept_state ks
     go true rest = refl
-    go false rest = ap (λ (xs : List Asked). asked_kept k ∷ xs) rest
+    go false rest = ap (λ (xs : List MarkState). kept_state k ∷ xs) rest
 
 pub told_numbered : (n : ℕ) (ks : List Kept) → AreNumbered n ks → AreNumbered n (told_first ks)
 told_numbered n [] all = tt

@@ -5,7 +5,7 @@ use Rattle.norm_send_rules.specs.SenderState.{SenderState, Listing, Watermark}
 use Rattle.norm_send_rules.specs.declared.news.Outcome.{Outcome}
 
 -- a watermark request without the command that it came by: its number, its position, and its outcome where it ended
-pub record Asked : Type 0 where
+pub record MarkState : Type 0 where
   pub mark : ℕ
   pub at : Position
   pub ended : Option Outcome
@@ -24,12 +24,12 @@ pub record Booked : Type 0 where
   pub untold_nodes : List ℕ
 
 -- a request of the sender's state, without its command
-abbrev pub asked : Watermark → Asked
-asked w = record { mark = w.mark; at = w.at; ended = w.ended }
+abbrev pub mark_state : Watermark → MarkState
+mark_state w = record { mark = w.mark; at = w.at; ended = w.ended }
 
 -- a kept request as one of the sender's state
-abbrev pub asked_kept : Kept → Asked
-asked_kept k = record { mark = k.mark; at = k.at; ended = k.ended }
+abbrev pub kept_state : Kept → MarkState
+kept_state k = record { mark = k.mark; at = k.at; ended = k.ended }
 
 -- the numbers of the kept requests whose outcome is to be told, in order
 abbrev pub untold_marks : List Kept → List ℕ
@@ -38,7 +38,7 @@ untold_marks requests = map (λ (k : Kept). k.mark) (filter (λ k. k.untold) req
 -- A book stands for a sender's state: it lists the same, has the same requests, and has the same to tell.
 pub record Stands (book : Booked) (s : SenderState) : Type 0 where
   pub listings : book.listings ≡ s.listings
-  pub requests : map asked_kept book.requests ≡ map asked s.requests
+  pub requests : map kept_state book.requests ≡ map mark_state s.requests
   pub nodes : book.untold_nodes ≡ s.untold_nodes
   pub marks : untold_marks book.requests ≡ s.untold_marks
 

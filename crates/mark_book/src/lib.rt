@@ -4,6 +4,7 @@
 #![tactic(auto)]
 
 mod book;
+pub mod laws;
 mod listed;
 mod request;
 mod untold;
