@@ -1,4 +1,4 @@
-use Rattle.std.proofs.Common.{◌≡◌, List, ℕ, get_or, ap, ◌∙◌}
+use Rattle.std.proofs.Common.{List, ℕ, get_or, ap, ◌∙◌}
 use Rattle.nack_union.proofs.Bits.{no_members, zero_words}
 use Rattle.nack_union.proofs.mask.Mask.clear.Goals as goal
 

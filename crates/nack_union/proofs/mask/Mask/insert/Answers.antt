@@ -1,4 +1,4 @@
-use Rattle.std.proofs.Common.{◌*◌, ◌/◌, ◌%◌, ◌^◌, ◌<◌, ◌≤◌, length, set, ap, ◌∙◌, arith}
+use Rattle.std.proofs.Common.{ℕ, ◌*◌, ◌/◌, ◌%◌, ◌^◌, ◌<◌, ◌≤◌, length, set, ap, ◌∙◌, arith}
 use Rattle.std.specs.Prelude.{bit_or, nat_lt}
 use Rattle.std.proofs.lemmas.List.{get_or_read, length-set}
 use Rattle.std.proofs.Math.Nat.{div-add-mod}
@@ -14,8 +14,8 @@ invariant_of-self c =
     let le : c.args.place / 64 ≤ c.self.inside.lowest = omega arith in
     let small = c.self.invariant.small in
     record {
-      small = omega (arith, small, length-set c.self.inside.words.items (c.args.place / 64) (bit_or c.index_mut.result.now (1 * 2 ^ (c.args.place % 64) % 2 ^ 64)));
-      within = omega (arith, lt, div-add-mod c.args.place 64, length-set c.self.inside.words.items (c.args.place / 64) (bit_or c.index_mut.result.now (1 * 2 ^ (c.args.place % 64) % 2 ^ 64)));
+      small = omega (arith, small, length-set {A = ℕ});
+      within = omega (arith, lt, div-add-mod c.args.place 64, length-set {A = ℕ});
       empty = shorter_front c.self.inside.words.items c.self.inside.lowest (c.args.place / 64) _ c.self.invariant.empty le;
     }
 

@@ -1,6 +1,6 @@
-use Rattle.std.proofs.Common.{◌≡◌, ◌*◌, ◌^◌, ◌%◌, ◌<◌, [], ◌∷◌, List, ℕ, length, get_or, refl, sym, ap, subst, ◌∙◌, arith}
-use Rattle.std.specs.Prelude.{bit_and, Option, MatchOption}
-use Rattle.std.specs.Int.{w64, bit_not, trailing_zeros}
+use Rattle.std.proofs.Common.{◌≡◌, ◌^◌, ◌<◌, [], ◌∷◌, List, ℕ, length, get_or, refl, sym, ap, subst, ◌∙◌, arith}
+use Rattle.std.specs.Prelude.{Option, MatchOption}
+use Rattle.std.specs.Int.{w64, trailing_zeros}
 use Rattle.std.proofs.lemmas.List.{get_or_read, length-set}
 use Rattle.std.proofs.lemmas.Nat.Bits.{bit_at-trailing_zeros}
 use Rattle.nack_union.specs.Places.{Places}
@@ -17,7 +17,7 @@ returns-in_err-word-clause-members c =
 
 -- the word that is found stands in the words
 in_words : (c : goal.After-self-2-1) → c.in_ok-word.word < length c.self.inside.words.items
-in_words c = let at : c.in_ok-word.word < length c.deref.result.now = c.in_ok-word.ensures.found.1 in let same = ap length c.deref.ensures.value in omega (arith, at, same)
+in_words c = let at : c.in_ok-word.word < length c.deref.result.now = c.in_ok-word.ensures.found.1 in let same = ap length c.deref.ensures.value in omega (arith, at, length-set {A = ℕ})
 
 -- what is read there
 reads : (c : goal.After-self-2-1) → c.index-bits.result.now ≡ get_or c.self.inside.words.items c.in_ok-word.word 0
@@ -46,11 +46,9 @@ pub invariant_of-self : goal.invariant_of-self
 invariant_of-self c =
     let small = c.self.invariant.small in
     let at = in_words c in
-    let same = length-set c.self.inside.words.items c.in_ok-word.word
-    (bit_and c.index-bits.result.now (bit_not w64 (1 * 2 ^ trailing_zeros w64 c.index-bits.result.now % 2 ^ 64))) in
     record {
-      small = omega (arith, small, same);
-      within = omega (arith, at, same);
+      small = omega (arith, small, length-set {A = ℕ});
+      within = omega (arith, at, length-set {A = ℕ});
       empty = front_below c.self.inside.words.items c.in_ok-word.word _ (zeros c);
     }
 
