@@ -33,7 +33,7 @@ const MOST_OPEN: u32 = 16;
 /// The most requests that 32 bits number.
 const MOST_REQUESTS: usize = 4_294_967_295;
 
-/// The book.
+/// The book. It begins over the receivers of a session; its calls may come in any order.
 #[derive(Debug, Drop)]
 pub struct Book {
     listings: Vec<Listed>,
@@ -164,7 +164,8 @@ impl Book {
         cut(&mut self.requests[self.done..]);
     }
 
-    /// One more request, for everything up to a position. Its number is one above the last one's, or 1.
+    /// One more request, for everything up to a position. Its number is one above the last one's, or 1. `NothingEnqueued`
+    /// exactly where there is no position, `TooMany` exactly where 16 are open.
     pub fn request(&mut self, at: Option<Position>) -> Result<u32, MarkFault>
         ensures stands { (s : SenderState) (by : Origin) → Stands self.old s → result ≢ Err fault.Memory
             → Stands self.new (request_at s by at).0 × (result ≡ numbered (request_at s by at).1) }
