@@ -1,9 +1,8 @@
 -- A state that a book stands for.
-use Rattle.std.proofs.Common.{◌≡◌, List, [], ◌∷◌, map, refl, ap, ℕ}
+use Rattle.std.proofs.Common.{◌≡◌, List, [], ◌∷◌, map, refl, ap}
 use Rattle.norm_base.specs.Settings.{defaults}
-use Rattle.norm_base.specs.declared.node.Origin.{Origin}
-use Rattle.norm_send_rules.specs.SenderState.{SenderState, Watermark, sender_opening}
-use Rattle.mark_book.specs.Booked.{MarkState, Kept, Booked, Stands, mark_state, kept_state, untold_marks}
+use Rattle.norm_send_rules.specs.SenderState.{Watermark, sender_opening}
+use Rattle.mark_book.specs.Booked.{MarkState, Kept, mark_state, kept_state, untold_marks}
 use Rattle.mark_book.specs.Laws.{EachBookStands}
 
 -- a request under the name of a command
