@@ -1,0 +1,54 @@
+-- How the kept requests of a book change.
+use Rattle.std.specs.Prelude.{ℕ, ◌==◌, ◌&&◌, not, List, [], ◌∷◌, length, map, filter, Bool, true, false, is_none, is_some, None, Some}
+use Rattle.std.specs.List.{list_all}
+use Rattle.fec_plan.specs.declared.position.Position.{Position}
+use Rattle.norm_send_rules.specs.SenderState.{Listing}
+use Rattle.norm_send_rules.specs.Requests.{is_past}
+use Rattle.norm_send_rules.specs.declared.news.Outcome.{Outcome}
+use Rattle.norm_send_rules.specs.declared.news.Outcome.TheVariants.{Open, Satisfied, Expired, Cut}
+use Rattle.mark_book.specs.Booked.{Kept}
+
+-- the nodes of the listings that are not past a position, in their order
+abbrev pub left_of : List Listing → Position → List ℕ
+left_of listings at = map (λ (l : Listing). l.node) (filter (λ l. not (is_past at l)) listings)
+
+-- how many these are
+abbrev pub left_count : List Listing → Position → ℕ
+left_count listings at = length (filter (λ l. not (is_past at l)) listings)
+
+-- a kept request that is open and passes a test ends with its outcome, which is to be told
+abbrev pub ended_where : (Kept → Bool) → (Kept → Outcome) → Kept → Kept
+ended_where test outcome k = elim (is_none k.ended && test k) [
+  | true ↦ record k { ended = Some (outcome k); untold = true }
+  | false ↦ k
+]
+
+-- a request of which all is done: it ended, and that was told
+abbrev pub is_finished : Kept → Bool
+is_finished k = is_some k.ended && not k.untold
+
+-- satisfied, where it is open and all receivers are listed past it
+abbrev pub settled_by : List Listing → Kept → Kept
+settled_by listings k = ended_where (λ k. list_all (is_past k.at) listings) (λ k. Satisfied) k
+
+-- expired, where it is open and has this number
+abbrev pub expired_by : List Listing → ℕ → Kept → Kept
+expired_by listings mark k =
+    ended_where (λ k. k.mark == mark) (λ k. Expired (left_count listings k.at)) k
+
+-- cut, where it is open
+abbrev pub cut_off : Kept → Kept
+cut_off k = ended_where (λ k. true) (λ k. Cut) k
+
+-- the outcome of a kept request, or how many receivers are left
+abbrev pub outcome_by : List Listing → Kept → Outcome
+outcome_by listings k = elim k.ended [ Some outcome ↦ outcome | None ↦ Open (left_count listings k.at) ]
+
+-- a request as it is made
+abbrev pub opened : ℕ → Position → Kept
+opened mark at = record { mark = mark; at = at; ended = None; untold = false }
+
+-- the first request whose outcome is to be told is told
+abbrev pub told_first : List Kept → List Kept
+told_first [] = []
+told_first (k ∷ ks) = elim k.untold [ true ↦ record k { untold = false } ∷ ks | false ↦ k ∷ told_first ks ]

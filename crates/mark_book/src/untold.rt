@@ -1,0 +1,24 @@
+//! The receivers whose listing is to be told: a rising list of nodes.
+
+ghost use Rattle.std.specs.Prelude.{◌≡◌, ◌≤◌, length, nat_lt, vec_capacity};
+ghost use Rattle.norm_order.specs.Sets.{with_member};
+
+use norm_base::NodeId;
+
+/// Puts a node into a rising list that has room for it.
+pub fn put_node(nodes: &mut Vec<NodeId>, node: NodeId)
+    requires { length (with_member nat_lt node nodes.old.items) ≤ vec_capacity nodes.old }
+    ensures nodes { nodes.new.items ≡ with_member nat_lt node nodes.old.items }
+    ensures capacity { vec_capacity nodes.old ≤ vec_capacity nodes.new }
+{
+    for (place, other) in nodes.iter().enumerate() {
+        if node == *other {
+            return;
+        }
+        if node < *other {
+            nodes.insert(place, node).unwrap();
+            return;
+        }
+    }
+    nodes.push(node).unwrap();
+}

@@ -1,0 +1,101 @@
+//! A set of places as words of 64 bits.
+
+ghost use Rattle.std.specs.Prelude.{◌≡◌, ◌<◌, ◌≤◌, ◌∷◌, [], not, nat_lt, length, IfOk, MatchOption, slice_index, ◌≢◌, ℕ, IfSome};
+ghost use Rattle.norm_order.specs.Sets.{with_member, is_member};
+
+use norm_base::Memory;
+use std::alloc::Global;
+use std::marker::Model;
+
+/// The places of a word.
+const WORD: usize = 64;
+
+/// A set of places below a size. Room for all of them is made at once.
+#[derive(Debug, Drop)]
+pub struct Mask {
+    words: Vec<u64>,
+    lowest: usize,
+}
+
+impl Model for Mask {
+    ghost use Rattle.nack_union.specs.Places.{Places};
+
+    ghost Value = { Places };
+
+    ghost use Rattle.nack_union.specs.Words.{IsSound, mask_view};
+
+    ghost view = { mask_view };
+
+    ghost invariant = { IsSound };
+}
+
+/// The first word from one on that has a member.
+fn first_filled(words: &[u64], from: usize) -> Option<usize>
+    ensures found { IfSome result (λ i. (from ≤ i) × (i < length words.now) × (slice_index words.now i ≢ 0)) }
+    ensures before { MatchOption result ((k : ℕ) → from ≤ k → slice_index words.now k ≡ 0) (λ i. (k : ℕ) → from ≤ k → k < i → slice_index words.now k ≡ 0) }
+{
+    for i in from..words.len() {
+        if words[i] != 0 {
+            return Some(i);
+        }
+    }
+    None
+}
+
+impl Mask {
+    /// The empty set, with room for so many places.
+    pub fn with_room(alloc: Global, places: usize) -> Result<Mask, Memory>
+        ensures empty { IfOk result (λ mask. mask.members ≡ []) }
+        ensures room { IfOk result (λ mask. places ≤ mask.size) }
+    {
+        let words = vec![in alloc; 0; places.div_ceil(WORD)]?;
+        Ok(Mask { words, lowest: 0 })
+    }
+
+    /// Whether a place is a member.
+    pub fn contains(&self, place: usize) -> bool
+        requires { place < self.now.size }
+        ensures { result ≡ is_member nat_lt place self.now.members }
+    {
+        self.words[place / WORD] >> (place % WORD) & 1 == 1
+    }
+
+    /// Puts a place into the set, and says whether it is new there.
+    pub fn insert(&mut self, place: usize) -> bool
+        requires { place < self.old.size }
+        ensures new { result ≡ not (is_member nat_lt place self.old.members) }
+        ensures members { self.new.members ≡ with_member nat_lt place self.old.members }
+        ensures size { self.new.size ≡ self.old.size }
+    {
+        let is_new = !self.contains(place);
+        let word = place / WORD;
+        self.words[word] |= 1 << (place % WORD);
+        if word < self.lowest {
+            self.lowest = word;
+        }
+        is_new
+    }
+
+    /// Leaves the set without members.
+    pub fn clear(&mut self)
+        ensures members { self.new.members ≡ [] }
+        ensures size { self.new.size ≡ self.old.size }
+    {
+        self.words.fill(0);
+        self.lowest = 0;
+    }
+
+    /// Takes out the lowest member. `None` exactly where there is none.
+    pub fn take_lowest(&mut self) -> Option<usize>
+        ensures members { MatchOption result ((self.old.members ≡ []) × (self.new.members ≡ []))
+            (λ place. self.old.members ≡ place ∷ self.new.members) }
+        ensures size { self.new.size ≡ self.old.size }
+    {
+        let word = first_filled(&self.words, self.lowest)?;
+        self.lowest = word;
+        let bits = self.words[word];
+        let bit = bits.trailing_zeros() as usize;
+        self.words[word] = bits & !(1 << bit);
+        Some(WORD * word + bit)
+    }
+}
