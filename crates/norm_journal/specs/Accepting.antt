@@ -5,13 +5,13 @@ use Rattle.norm_send_rules.specs.declared.news.News.{News}
 use Rattle.norm_safety.specs.Events.{NewsAsked, Told}
 use Rattle.norm_journal.specs.declared.event.Event.{Event}
 use Rattle.norm_journal.specs.declared.event.Event.TheVariants as event
-use Rattle.norm_journal.specs.Commands.{accepts_pull, accepts_job}
+use Rattle.norm_journal.specs.Commands.{pulls_at, jobs_at}
 use Rattle.norm_journal.specs.InWorld.{comes}
 use Rattle.norm_journal.specs.Judged.{Judged, news_due}
-use Rattle.norm_journal.specs.Takes.{accepts_took, accepts_empty}
-use Rattle.norm_journal.specs.Ticks.{accepts_tick, accepts_offer, accepts_up}
+use Rattle.norm_journal.specs.Takes.{takes_at, finds_none_at}
+use Rattle.norm_journal.specs.Ticks.{ticks_at, offers_at, ups_at}
 use Rattle.norm_journal.specs.Totals.{with_news}
-use Rattle.norm_journal.specs.Turns.{accepts_start, accepts_turn, accepts_end}
+use Rattle.norm_journal.specs.Turns.{starts_at, turns_at, ends_at}
 
 -- what was told is counted
 abbrev pub told_of : News → Judged → Judged
@@ -24,17 +24,17 @@ accepts_news j _ = None
 
 -- what may come where no change is to be told
 abbrev pub accepts_next : Judged → Event → Option Judged
-accepts_next j event.Start = accepts_start j
-accepts_next j (event.Turn turn now) = accepts_turn j turn now
-accepts_next j (event.Pull by) = accepts_pull j by
-accepts_next j (event.Job by job gave) = accepts_job j by job gave
-accepts_next j (event.Tick node sent) = accepts_tick j node sent
-accepts_next j (event.Offer from octets) = accepts_offer j from octets
-accepts_next j (event.Took to octets) = accepts_took j to octets
-accepts_next j event.Empty = accepts_empty j
-accepts_next j (event.Up node instance up) = accepts_up j node instance up
+accepts_next j event.Start = starts_at j.place j
+accepts_next j (event.Turn turn now) = turns_at j.place j turn now
+accepts_next j (event.Pull by) = pulls_at j.place j by
+accepts_next j (event.Job by job gave) = jobs_at j.place j by job gave
+accepts_next j (event.Tick node sent) = ticks_at j.place j node sent
+accepts_next j (event.Offer from octets) = offers_at j.place j from octets
+accepts_next j (event.Took to octets) = takes_at j.place j to octets
+accepts_next j event.Empty = finds_none_at j.place j
+accepts_next j (event.Up node instance up) = ups_at j.place j node instance up
 accepts_next j (event.News news) = None
-accepts_next j event.End = accepts_end j
+accepts_next j event.End = ends_at j.place j
 
 -- Changes that an event made are told directly after it.
 abbrev pub accepts : Judged → Event → Option Judged
@@ -43,4 +43,4 @@ accepts j e = elim (news_due j) [ Some news ↦ accepts_news j e | None ↦ acce
 -- the state after these events, each of which may come
 unfoldable pub judged_from : Judged → List Event → Option Judged
 judged_from j [] = Some j
-judged_from j (e ∷ events) = elim (accepts j e) [ Some next ↦ judged_from next events | None ↦ None ]
+judged_from j (e ∷ events) = option_and_then (λ next. judged_from next events) (accepts j e)

@@ -44,8 +44,9 @@ abbrev pub line_pulled : Judged → Line × List Line → Judged
 line_pulled j found = record j { left = found.1; place = Giving found.0 }
 
 -- a pull
-abbrev pub accepts_pull : Judged → Origin → Option Judged
-accepts_pull j by = elim j.place [ Pulling ↦ option_map (line_pulled j) (pulled by j.left) | _ ↦ None ]
+abbrev pub pulls_at : Place → Judged → Origin → Option Judged
+pulls_at Pulling j by = option_map (line_pulled j) (pulled by j.left)
+pulls_at _ j by = None
 
 -- the first offer of a line's command, with its job
 abbrev pub gives : Line → Origin → Option Job → Result Receipt SendFault → Judged → Option Judged
@@ -61,9 +62,7 @@ gives_again command by (Some job) gave j = None
 gives_again command by None gave j = elim (same_origin command.by by) [ true ↦ offers by command.job gave j | false ↦ None ]
 
 -- an offer of a command
-abbrev pub accepts_job : Judged → Origin → Option Job → Result Receipt SendFault → Option Judged
-accepts_job j by job gave = elim j.place [
-  | Giving line ↦ gives line by job gave j
-  | Again command ↦ gives_again command by job gave j
-  | _ ↦ None
-]
+abbrev pub jobs_at : Place → Judged → Origin → Option Job → Result Receipt SendFault → Option Judged
+jobs_at (Giving line) j by job gave = gives line by job gave j
+jobs_at (Again command) j by job gave = gives_again command by job gave j
+jobs_at _ j by job gave = None

@@ -16,3 +16,4 @@ pub mod Honest
 pub mod Words
 pub mod Lines
 pub mod Printed
+pub mod Laws

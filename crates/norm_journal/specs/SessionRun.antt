@@ -33,13 +33,15 @@ abbrev pub absent_of : Told → Verb → Option Ending
 absent_of files (verb.File name) = elim (may_be_absent files name) [ true ↦ Some (Absent name) | false ↦ None ]
 absent_of files _ = None
 
--- the ending of a run whose events are over
+-- the ending of a run at a place
+abbrev pub ends_in : Place → Judged → Option Ending
+ends_in Over j = elim (is_whole j) [ true ↦ Some Whole | false ↦ Some Spent ]
+ends_in (Giving line) j = absent_of j.files line.verb
+ends_in _ j = None
+
+-- the ending of a run that has this state last
 abbrev pub ending_of : Judged → Option Ending
-ending_of j = elim j.place [
-  | Over ↦ elim (is_whole j) [ true ↦ Some Whole | false ↦ Some Spent ]
-  | Giving line ↦ absent_of j.files line.verb
-  | _ ↦ None
-]
+ending_of j = ends_in j.place j
 
 -- A journal is a whole run of a script with this ending.
 pub record SessionRun (script : Commands) (files : Told) (journal : List Event) (ending : Ending) : Type 0 where

@@ -36,12 +36,11 @@ delivered node octets j = elim (node == j.profile.sender) [
 ]
 
 -- a take that gave a datagram
-abbrev pub accepts_took : Judged → ℕ → List ℕ → Option Judged
-accepts_took j node octets = elim j.place [
-  | Taking taken ↦ Some (at (after_take taken j) (delivered node octets j))
-  | _ ↦ None
-]
+abbrev pub takes_at : Place → Judged → ℕ → List ℕ → Option Judged
+takes_at (Taking taken) j node octets = Some (at (after_take taken j) (delivered node octets j))
+takes_at _ j node octets = None
 
 -- a take that gave none
-abbrev pub accepts_empty : Judged → Option Judged
-accepts_empty j = elim j.place [ Taking taken ↦ Some (at (receivers_due j) j) | _ ↦ None ]
+abbrev pub finds_none_at : Place → Judged → Option Judged
+finds_none_at (Taking taken) j = Some (at (receivers_due j) j)
+finds_none_at _ j = None

@@ -26,37 +26,35 @@ abbrev pub ticks : ℕ → Sent → Place → Judged → Option Judged
 ticks node sent next j =
     let e = Ticked node j.now in gave_datagram node sent next (answer_to e j) (world_after e j)
 
--- a tick: the sender's, or that of a receiver of which all hand-ups were taken
-abbrev pub accepts_tick : Judged → ℕ → Sent → Option Judged
-accepts_tick j node sent = elim j.place [
-  | Sending ↦ elim (node == j.profile.sender) [ true ↦ ticks node sent (Taking 0) j | false ↦ None ]
-  | Handing next nodes ↦ elim (node == next && all_taken (receiver_at j.world node)) [
-    | true ↦ ticks node sent (handing nodes) j
-    | false ↦ None
-  ]
-  | _ ↦ None
+-- the tick of the node whose turn it is, where all its hand-ups were taken
+abbrev pub tick_of : ℕ → Place → Judged → ℕ → Sent → Option Judged
+tick_of due next j node sent = elim (node == due && all_taken (receiver_at j.world node)) [
+  | true ↦ ticks node sent next j
+  | false ↦ None
 ]
 
+-- a tick: the sender's, and then the turn takes; or a receiver's
+abbrev pub ticks_at : Place → Judged → ℕ → Sent → Option Judged
+ticks_at Sending j node sent = tick_of j.profile.sender (Taking 0) j node sent
+ticks_at (Handing due nodes) j node sent = tick_of due (handing nodes) j node sent
+ticks_at _ j node sent = None
+
 -- an offer: of what the last tick gave
-abbrev pub accepts_offer : Judged → ℕ → List ℕ → Option Judged
-accepts_offer j from octets = elim j.place [
-  | Offering node datagram next ↦ elim (from == node && same_octets octets datagram) [
-    | true ↦ option_map (at next) (comes (Offered from octets) Silent j)
-    | false ↦ None
-  ]
-  | _ ↦ None
+abbrev pub offers_at : Place → Judged → ℕ → List ℕ → Option Judged
+offers_at (Offering node datagram next) j from octets = elim (from == node && same_octets octets datagram) [
+  | true ↦ option_map (at next) (comes (Offered from octets) Silent j)
+  | false ↦ None
 ]
+offers_at _ j from octets = None
 
 -- with a hand-up counted
 abbrev pub handed : Up → Judged → Judged
 handed up j = record j { totals = with_up up j.totals }
 
 -- a hand-up of the node whose turn it is, in the instance that it is in
-abbrev pub accepts_up : Judged → ℕ → ℕ → Up → Option Judged
-accepts_up j node instance up = elim j.place [
-  | Handing next nodes ↦ elim (node == next && is_at j.world node instance) [
-    | true ↦ option_map (handed up) (comes (UpTaken node) (Took (Some up)) j)
-    | false ↦ None
-  ]
-  | _ ↦ None
+abbrev pub ups_at : Place → Judged → ℕ → ℕ → Up → Option Judged
+ups_at (Handing due nodes) j node instance up = elim (node == due && is_at j.world node instance) [
+  | true ↦ option_map (handed up) (comes (UpTaken node) (Took (Some up)) j)
+  | false ↦ None
 ]
+ups_at _ j node instance up = None

@@ -5,5 +5,6 @@
 #![tactic(auto)]
 
 mod event;
+pub mod laws;
 
 pub use crate::event::{Event, Journal};

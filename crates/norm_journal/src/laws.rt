@@ -1,0 +1,27 @@
+//! What is promised of the judge. Each law is the contract of a function that does nothing.
+
+ghost use Rattle.norm_journal.specs.Laws.{FrontsAreAccepted, FrontsArePrinted, PullsInOrder, WholeIsDone};
+
+/// Each front of a journal that is accepted is accepted.
+#[tactic(auto, using(crate::proofs::FrontLemmas::fronts_accepted))]
+pub fn fronts_are_accepted()
+    ensures { FrontsAreAccepted }
+{}
+
+/// A journal prints the lines of its front, and then those of the rest.
+#[tactic(auto, using(crate::proofs::FrontLemmas::fronts_printed))]
+pub fn fronts_are_printed()
+    ensures { FrontsArePrinted }
+{}
+
+/// Each producer's pulls are its commands in their order.
+#[tactic(auto, using(crate::proofs::PullLemmas::pulls_in_order))]
+pub fn pulls_in_order()
+    ensures { PullsInOrder }
+{}
+
+/// In a run that ended whole nothing is left to do.
+#[tactic(auto, using(crate::proofs::FrontLemmas::whole_done))]
+pub fn whole_is_done()
+    ensures { WholeIsDone }
+{}
