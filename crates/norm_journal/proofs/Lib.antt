@@ -1,2 +1,4 @@
 pub mod FrontLemmas
 pub mod PullLemmas
+pub mod DigitLemmas
+pub mod NodeLemmas

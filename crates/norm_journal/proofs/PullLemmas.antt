@@ -159,10 +159,10 @@ found_later : (producer : ℕ) (l : Line) (lines : List Line) (line : Line) (res
 found_later producer l lines line rest other found = record {
   its = found.its;
   each = λ q. ap (λ xs. first_by q line ++ xs) (commands_by-cons q l rest)
-  ∙ exchanged (line.producer == q) (l.producer == q) (origin_of line) (origin_of l) (commands_by q rest)
-    (λ a b. differ (eqb-true line.producer q a) (eqb-true l.producer q b) found.its)
-  ∙ ap (λ xs. first_by q l ++ xs) (found.each q)
-  ∙ sym (commands_by-cons q l lines);
+      ∙ exchanged (line.producer == q) (l.producer == q) (origin_of line) (origin_of l) (commands_by q rest)
+      (λ a b. differ (eqb-true line.producer q a) (eqb-true l.producer q b) found.its)
+      ∙ ap (λ xs. first_by q l ++ xs) (found.each q)
+      ∙ sym (commands_by-cons q l lines);
 } where
   differ : {q : ℕ} → line.producer ≡ q → l.producer ≡ q → line.producer ≡ producer → ⊥
   differ a b its = grind (arith, other)
@@ -177,27 +177,28 @@ unfolding first_line
 found_first producer [] line rest e = absurd (none-some _ e)
 found_first producer (l ∷ lines) line rest e =
     at_head (l.producer == producer) (first_line producer lines) refl (λ found more is. found_first producer lines found more is) e where
-  later : (o : Option (Line × List Line))
-      → ((found : Line) (more : List Line) → ◌≡◌ {A = Option (Line × List Line)} o (Some (found, more)) → Found producer lines found more)
-      → l.producer == producer ≡ false
-      → ◌≡◌ {A = Option (Line × List Line)} (option_map (λ (found : Line × List Line). (found.0, l ∷ found.1)) o) (Some (line, rest))
-      → Found producer (l ∷ lines) line rest
-  later None each other is = absurd (none-some _ is)
-  later (Some found) each other is =
-      let same = same_line found.0 line (l ∷ found.1) rest is in
-      subst (λ x. Found producer (l ∷ lines) x rest) same.0
-      (subst (λ x. Found producer (l ∷ lines) found.0 x) same.1 (found_later producer l lines found.0 found.1 other (each found.0 found.1 refl)))
-  at_head : (b : Bool) (o : Option (Line × List Line)) → l.producer == producer ≡ b
-      → ((found : Line) (more : List Line) → ◌≡◌ {A = Option (Line × List Line)} o (Some (found, more)) → Found producer lines found more)
-      → ◌≡◌ {A = Option (Line × List Line)}
-        (elim b [ true ↦ Some (l, lines) | false ↦ option_map (λ (found : Line × List Line). (found.0, l ∷ found.1)) o ]) (Some (line, rest))
-      → Found producer (l ∷ lines) line rest
-  at_head true o is each e =
-      let same = same_line l line lines rest e in
-      subst (λ x. Found producer (l ∷ lines) x rest) same.0
-      (subst (λ x. Found producer (l ∷ lines) l x) same.1
-      (record { its = eqb-true l.producer producer is; each = λ q. sym (commands_by-cons q l lines) }))
-  at_head false o is each e = later o each is e
+      later : (o : Option (Line × List Line))
+          → ((found : Line) (more : List Line) → ◌≡◌ {A = Option (Line × List Line)} o (Some (found, more)) → Found producer lines found more)
+          → l.producer == producer ≡ false
+          → ◌≡◌ {A = Option (Line × List Line)} (option_map (λ (found : Line × List Line). (found.0, l ∷ found.1)) o) (Some (line, rest))
+          → Found producer (l ∷ lines) line rest
+      later None each other is = absurd (none-some _ is)
+      later (Some found) each other is =
+          let same = same_line found.0 line (l ∷ found.1) rest is in
+          subst (λ x. Found producer (l ∷ lines) x rest) same.0
+          (subst (λ x. Found producer (l ∷ lines) found.0 x) same.1 (found_later producer l lines found.0 found.1 other (each found.0 found.1 refl)))
+
+      at_head : (b : Bool) (o : Option (Line × List Line)) → l.producer == producer ≡ b
+          → ((found : Line) (more : List Line) → ◌≡◌ {A = Option (Line × List Line)} o (Some (found, more)) → Found producer lines found more)
+          → ◌≡◌ {A = Option (Line × List Line)}
+          (elim b [ true ↦ Some (l, lines) | false ↦ option_map (λ (found : Line × List Line). (found.0, l ∷ found.1)) o ]) (Some (line, rest))
+          → Found producer (l ∷ lines) line rest
+      at_head true o is each e =
+          let same = same_line l line lines rest e in
+          subst (λ x. Found producer (l ∷ lines) x rest) same.0
+          (subst (λ x. Found producer (l ∷ lines) l x) same.1
+          (record { its = eqb-true l.producer producer is; each = λ q. sym (commands_by-cons q l lines) }))
+      at_head false o is each e = later o each is e
 
 from_map : {X Y P : Type 0} (f : X → Y) (o : Option X) (y : Y) → option_map f o ≡ Some y → ((x : X) → o ≡ Some x → f x ≡ y → P) → P
 from_map f None y e so = absurd (none-some y e)
@@ -205,7 +206,7 @@ from_map f (Some x) y e so = so x refl (same_Some (f x) y e)
 
 numbered : (number : ℕ) (o : Option (Line × List Line)) (found : Line × List Line)
     → ◌≡◌ {A = Option (Line × List Line)}
-      (elim o [ Some found ↦ elim (found.0.number == number) [ true ↦ Some found | false ↦ None ] | None ↦ None ]) (Some found)
+    (elim o [ Some found ↦ elim (found.0.number == number) [ true ↦ Some found | false ↦ None ] | None ↦ None ]) (Some found)
     → (o ≡ Some found) × (found.0.number ≡ number)
 numbered number None found e = absurd (none-some found e)
 numbered number (Some x) found e = by_test (x.0.number == number) refl e where

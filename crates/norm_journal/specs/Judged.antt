@@ -12,7 +12,8 @@ use Rattle.norm_safety.specs.World.{World, world_opening}
 use Rattle.norm_journal.specs.Draws.{first_draws}
 use Rattle.norm_journal.specs.Jobs.{Told}
 use Rattle.norm_journal.specs.Places.{Place, Starting, Waiting}
-use Rattle.norm_journal.specs.Totals.{Totals, nothing_counted}
+use Rattle.norm_journal.specs.declared.totals.Totals.{Totals}
+use Rattle.norm_journal.specs.Totals.{nothing_counted}
 
 -- The profile and the files that are there; the nodes, and what they gave to the network; the turn, its moment, and the
 -- place in it; the lines that are left to pull, and the command that waits; the draws that are to come; the counts.

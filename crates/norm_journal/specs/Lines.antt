@@ -22,12 +22,12 @@ use Rattle.norm_send_rules.specs.declared.news.News.{News}
 use Rattle.norm_send_rules.specs.declared.news.News.TheVariants as news
 use Rattle.norm_send_rules.specs.declared.news.Outcome.{Outcome}
 use Rattle.norm_send_rules.specs.declared.news.Outcome.TheVariants as outcome
-use Rattle.norm_journal.specs.Totals.{Totals}
+use Rattle.norm_journal.specs.declared.totals.Totals.{Totals}
 use Rattle.norm_journal.specs.Words.{line, kind_word, info_word, origin_words, position_words, node_words}
 
 -- an accepted command, in the sender's instance
 abbrev pub enq_line : Origin → ℕ → ℕ → List (List ℕ) → List ℕ
-enq_line by instance index words = line (codes "enq" ∷ origin_words by ++ decimal instance ∷ decimal index ∷ words)
+enq_line by instance index words = line (codes "enq") (origin_words by ++ decimal instance ∷ decimal index ∷ words)
 
 -- what an object's command enqueued
 abbrev pub kind_of : Job → Kind
@@ -42,30 +42,39 @@ receipt_line by instance what (receipt.Wrote index offset len) =
     enq_line by instance index (codes "write" ∷ decimal len ∷ decimal offset ∷ [])
 receipt_line by instance what (receipt.Closed index) = enq_line by instance index (codes "close" ∷ [])
 receipt_line by instance what (receipt.Mark number at) =
-    line (codes "mark" ∷ origin_words by ++ decimal instance ∷ decimal number ∷ position_words at)
-receipt_line by instance what (receipt.Restarted next) = line (codes "restart" ∷ origin_words by ++ decimal next ∷ [])
+    line (codes "mark") (origin_words by ++ decimal instance ∷ decimal number ∷ position_words at)
+receipt_line by instance what (receipt.Restarted next) = line (codes "restart") (origin_words by ++ decimal next ∷ [])
+
+-- a reason: its word, and the number that it tells
+abbrev pub Reason : Type 0
+Reason = List ℕ × Option ℕ
 
 -- why nothing was enqueued; a command that waits has no reason
-abbrev pub enqueue_reason : EnqueueFault → Option (List (List ℕ))
-enqueue_reason enqueue.Empty = Some (codes "empty" ∷ [])
-enqueue_reason (enqueue.TooBig len) = Some (codes "too-big" ∷ decimal len ∷ [])
-enqueue_reason (enqueue.InfoTooBig len) = Some (codes "info-too-big" ∷ decimal len ∷ [])
-enqueue_reason (enqueue.StreamOpen index) = Some (codes "stream-open" ∷ decimal index ∷ [])
-enqueue_reason enqueue.NoStream = Some (codes "no-stream" ∷ [])
-enqueue_reason enqueue.IdsSpent = Some (codes "ids-spent" ∷ [])
-enqueue_reason (enqueue.Stream (stream.Spent octets)) = Some (codes "spent" ∷ decimal octets ∷ [])
+abbrev pub enqueue_reason : EnqueueFault → Option Reason
+enqueue_reason enqueue.Empty = Some (codes "empty", None)
+enqueue_reason (enqueue.TooBig len) = Some (codes "too-big", Some len)
+enqueue_reason (enqueue.InfoTooBig len) = Some (codes "info-too-big", Some len)
+enqueue_reason (enqueue.StreamOpen index) = Some (codes "stream-open", Some index)
+enqueue_reason enqueue.NoStream = Some (codes "no-stream", None)
+enqueue_reason enqueue.IdsSpent = Some (codes "ids-spent", None)
+enqueue_reason (enqueue.Stream (stream.Spent octets)) = Some (codes "spent", Some octets)
 enqueue_reason _ = None
 
 -- why a command was refused for good
-abbrev pub reason_of : SendFault → Option (List (List ℕ))
+abbrev pub reason_of : SendFault → Option Reason
 reason_of (send.Enqueue fault) = enqueue_reason fault
-reason_of (send.Mark mark.NothingEnqueued) = Some (codes "nothing-enqueued" ∷ [])
-reason_of (send.IdUsed instance) = Some (codes "id-used" ∷ decimal instance ∷ [])
+reason_of (send.Mark mark.NothingEnqueued) = Some (codes "nothing-enqueued", None)
+reason_of (send.IdUsed instance) = Some (codes "id-used", Some instance)
 reason_of _ = None
 
+-- the number that a reason tells
+abbrev pub number_words : Option ℕ → List (List ℕ)
+number_words None = []
+number_words (Some n) = decimal n ∷ []
+
 -- the line of a command that was refused for good
-abbrev pub no_line : Origin → List (List ℕ) → List ℕ
-no_line by reason = line (codes "no" ∷ origin_words by ++ reason)
+abbrev pub no_line : Origin → Reason → List ℕ
+no_line by reason = line (codes "no") (origin_words by ++ reason.0 ∷ number_words reason.1)
 
 -- the line of what a command gave
 abbrev pub gave_line : Origin → ℕ → Kind → Result Receipt SendFault → Option (List ℕ)
@@ -74,7 +83,7 @@ gave_line by instance what (Err fault) = option_map (no_line by) (reason_of faul
 
 -- a node's hand-up, in the instance that it is in
 abbrev pub part_line : ℕ → ℕ → ℕ → List (List ℕ) → List ℕ
-part_line node instance index words = line (codes "up" ∷ decimal node ∷ decimal instance ∷ decimal index ∷ words)
+part_line node instance index words = line (codes "up") (decimal node ∷ decimal instance ∷ decimal index ∷ words)
 
 -- a hand-up
 abbrev pub up_line : ℕ → ℕ → Up → List ℕ
@@ -89,20 +98,20 @@ up_line node instance (up.Lost index) = part_line node instance index (codes "lo
 -- a request's outcome, with the nodes that are left; an open request has no line
 abbrev pub done_line : ℕ → List ℕ → Outcome → Option (List ℕ)
 done_line number left (outcome.Open many) = None
-done_line number left outcome.Satisfied = Some (line (codes "done" ∷ decimal number ∷ codes "satisfied" ∷ []))
-done_line number left (outcome.Expired many) = Some (line (codes "done" ∷ decimal number ∷ codes "expired" ∷ node_words left))
-done_line number left outcome.Cut = Some (line (codes "done" ∷ decimal number ∷ codes "cut" ∷ []))
+done_line number left outcome.Satisfied = Some (line (codes "done") (decimal number ∷ codes "satisfied" ∷ []))
+done_line number left (outcome.Expired many) = Some (line (codes "done") (decimal number ∷ codes "expired" ∷ node_words left))
+done_line number left outcome.Cut = Some (line (codes "done") (decimal number ∷ codes "cut" ∷ []))
 
 -- a change that was told, in the sender's instance
 abbrev pub news_line : ℕ → List ℕ → News → Option (List ℕ)
 news_line instance left (news.Past node at) =
-    Some (line (codes "past" ∷ decimal node ∷ decimal instance ∷ position_words at))
+    Some (line (codes "past") (decimal node ∷ decimal instance ∷ position_words at))
 news_line instance left (news.Done number outcome) = done_line number left outcome
 
 -- the summary
 abbrev pub end_line : Totals → List ℕ
-end_line t = line (
-    codes "end" ∷ codes "objects" ∷ decimal t.objects ∷ codes "octets" ∷ decimal t.octets
+end_line t = line (codes "end") (
+    codes "objects" ∷ decimal t.objects ∷ codes "octets" ∷ decimal t.octets
     ∷ codes "handed" ∷ decimal t.handed ∷ codes "lost" ∷ decimal t.lost
     ∷ codes "satisfied" ∷ decimal t.satisfied ∷ codes "expired" ∷ decimal t.expired ∷ codes "cut" ∷ decimal t.cut ∷ []
     )

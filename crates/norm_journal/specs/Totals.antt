@@ -9,17 +9,7 @@ use Rattle.norm_send_rules.specs.declared.news.News.{News}
 use Rattle.norm_send_rules.specs.declared.news.News.TheVariants as news
 use Rattle.norm_send_rules.specs.declared.news.Outcome.{Outcome}
 use Rattle.norm_send_rules.specs.declared.news.Outcome.TheVariants as outcome
-
--- Accepted objects, a stream as one, and their octets without infos; the data, files and ended streams that were handed
--- up, over all receivers; the losses; and the requests by their outcome.
-pub record Totals : Type 0 where
-  pub objects : ℕ
-  pub octets : ℕ
-  pub handed : ℕ
-  pub lost : ℕ
-  pub satisfied : ℕ
-  pub expired : ℕ
-  pub cut : ℕ
+use Rattle.norm_journal.specs.declared.totals.Totals.{Totals}
 
 -- as a run begins
 abbrev pub nothing_counted : Totals

@@ -1,5 +1,5 @@
 -- The words of a printed line.
-use Rattle.std.specs.Prelude.{ℕ, List, [], ◌∷◌, ◌++◌, map, codes, Option, None, Some}
+use Rattle.std.specs.Prelude.{ℕ, List, [], ◌∷◌, ◌++◌, map, fold, codes, Option, None, Some}
 use Rattle.std.specs.Fmt.{decimal}
 use Rattle.hex.specs.Hex.{encode_lower}
 use Rattle.fec_plan.specs.declared.position.Position.{Position}
@@ -7,11 +7,17 @@ use Rattle.norm_base.specs.declared.kinds.Kind.{Kind}
 use Rattle.norm_base.specs.declared.kinds.Kind.TheVariants as kind
 use Rattle.norm_base.specs.declared.node.Origin.{Origin}
 
--- a line: words with single spaces between them, and a line feed
-abbrev pub line : List (List ℕ) → List ℕ
-line [] = codes "\n"
-line (word ∷ []) = word ++ codes "\n"
-line (word ∷ next ∷ words) = word ++ 32 ∷ line (next ∷ words)
+-- one more word behind a space
+abbrev pub with_word : List ℕ → List ℕ → List ℕ
+with_word text word = text ++ 32 ∷ word
+
+-- more words
+abbrev pub with_words : List ℕ → List (List ℕ) → List ℕ
+with_words text words = fold with_word text words
+
+-- a line: its first word, the further words, and a line feed
+abbrev pub line : List ℕ → List (List ℕ) → List ℕ
+line word words = with_words word words ++ codes "\n"
 
 -- what an object is
 abbrev pub kind_word : Kind → List ℕ

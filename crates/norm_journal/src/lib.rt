@@ -6,5 +6,11 @@
 
 mod event;
 pub mod laws;
+mod line;
+mod lines;
+mod totals;
+mod words;
 
 pub use crate::event::{Event, Journal};
+pub use crate::lines::{gave_line, news_line, up_line};
+pub use crate::totals::{Totals, end_line};
