@@ -2,3 +2,4 @@ pub mod FrontLemmas
 pub mod PullLemmas
 pub mod DigitLemmas
 pub mod NodeLemmas
+pub mod WorldLemmas

@@ -16,7 +16,7 @@ use Rattle.norm_journal.specs.Jobs.{is_job_of}
 use Rattle.norm_journal.specs.Judged.{Judged}
 use Rattle.norm_journal.specs.Places.{Place, Pulling, Giving, Again, Sending, Waiting}
 use Rattle.norm_journal.specs.Pulling.{pulled, origin_of}
-use Rattle.norm_journal.specs.Same.{same_origin}
+use Rattle.norm_safety.specs.Lawful.{same_origin}
 use Rattle.norm_journal.specs.Totals.{with_gave}
 
 -- a command waits where there is no room yet: in the window, in the stream's buffer, or for one more request

@@ -2,16 +2,21 @@
 use Rattle.std.specs.Prelude.{◌≡◌, ℕ, ◌==◌, List, [], ◌∷◌, ◌++◌, map, filter, true, false, Option, None, Some, IsSome}
 use Rattle.std.specs.List.{flat_map}
 use Rattle.norm_base.specs.declared.node.Origin.{Origin}
+use Rattle.norm_script.specs.Commands.{Commands}
 use Rattle.norm_script.specs.declared.script.Line.{Line}
 use Rattle.norm_send_rules.specs.Requests.{open_requests}
 use Rattle.norm_send_rules.specs.Ticking.{is_idle}
+use Rattle.norm_safety.specs.Lawful.{Lawful}
+use Rattle.norm_safety.specs.WorldStep.{run_from}
 use Rattle.norm_journal.specs.declared.event.Event.{Event}
 use Rattle.norm_journal.specs.declared.event.Event.TheVariants as event
 use Rattle.norm_journal.specs.Accepting.{judged_from}
-use Rattle.norm_journal.specs.Judged.{Judged}
+use Rattle.norm_journal.specs.Jobs.{Told}
+use Rattle.norm_journal.specs.Judged.{Judged, judged_opening}
 use Rattle.norm_journal.specs.Printed.{lines_from}
 use Rattle.norm_journal.specs.Pulling.{origin_of}
-use Rattle.norm_journal.specs.SessionRun.{ending_of, Whole}
+use Rattle.norm_journal.specs.SessionRun.{Begun, ending_of, Whole}
+use Rattle.norm_journal.specs.WorldEvents.{world_events, TakesHonestly, NamedOnce}
 
 -- Each front of a journal that is accepted is accepted.
 abbrev pub FrontsAreAccepted : Type 0
@@ -46,3 +51,14 @@ pub record LeavesNothing (j : Judged) : Type 0 where
 -- In a run that ended whole all commands were pulled, none waits, no request is open, and the sender is idle.
 abbrev pub WholeIsDone : Type 0
 WholeIsDone = (j : Judged) → ending_of j ≡ Some Whole → LeavesNothing j
+
+-- A journal moves the nodes as its events do in the world: the judge's world is the one after them.
+abbrev pub MovesTheWorld : Type 0
+MovesTheWorld = (j last : Judged) (events : List Event) → judged_from j events ≡ Some last
+    → run_from j.profile j.world (world_events j events) ≡ last.world
+
+-- From the opening on, the world's events of a journal are a lawful run where its takes are honest.
+abbrev pub BeginsLawfully : Type 0
+BeginsLawfully = (script : Commands) (files : Told) (events : List Event) → NamedOnce script.lines
+    → Begun script files events → TakesHonestly (judged_opening script files) events
+    → Lawful script.profile (world_events (judged_opening script files) events)

@@ -17,3 +17,4 @@ pub mod Words
 pub mod Lines
 pub mod Printed
 pub mod Laws
+pub mod WorldEvents

@@ -1,8 +1,6 @@
 -- Answers that are equal, as tests that compute.
-use Rattle.std.specs.Prelude.{ℕ, ◌==◌, ◌&&◌, List, Bool, true, false, Option, None, Some, Result, Ok, Err, nat_eq}
+use Rattle.std.specs.Prelude.{ℕ, ◌==◌, ◌&&◌, List, Bool, true, false, Option, None, Some, Result, Ok, Err}
 use Rattle.std.specs.Option.{option_eq}
-use Rattle.std.specs.Cmp.Lexicographic.{pointwise}
-use Rattle.norm_base.specs.declared.node.Origin.{Origin}
 use Rattle.norm_base.specs.declared.kinds.Sent.{Sent}
 use Rattle.norm_base.specs.declared.kinds.Sent.TheVariants as sent
 use Rattle.fec_plan.specs.declared.position.Position.{Position}
@@ -22,14 +20,6 @@ use Rattle.norm_send_rules.specs.declared.news.Outcome.{Outcome}
 use Rattle.norm_send_rules.specs.declared.news.Outcome.TheVariants as outcome
 use Rattle.norm_safety.specs.Events.{Answer, Gave, Sent as SentAnswer, Took, Told, Silent}
 use Rattle.norm_safety.specs.Fronts.{same_up}
-
--- two lists of octets
-abbrev pub same_octets : List ℕ → List ℕ → Bool
-same_octets a b = pointwise nat_eq a b
-
--- two commands' names
-abbrev pub same_origin : Origin → Origin → Bool
-same_origin a b = a.producer == b.producer && a.number == b.number
 
 -- two positions
 abbrev pub same_position : Position → Position → Bool

@@ -5,12 +5,12 @@ use Rattle.norm_base.specs.declared.kinds.Sent.{Sent}
 use Rattle.norm_order.specs.declared.up.Up.{Up}
 use Rattle.norm_safety.specs.Events.{Ticked, Offered, UpTaken, Sent as Gives, Took, Answer, Silent}
 use Rattle.norm_safety.specs.Hands.{is_at}
-use Rattle.norm_safety.specs.Lawful.{all_taken}
+use Rattle.norm_safety.specs.Lawful.{all_taken, same_octets}
 use Rattle.norm_safety.specs.World.{receiver_at}
 use Rattle.norm_journal.specs.InWorld.{world_after, answer_to, at, comes}
 use Rattle.norm_journal.specs.Judged.{Judged}
 use Rattle.norm_journal.specs.Places.{Place, Sending, Offering, Taking, Handing, handing, after_tick}
-use Rattle.norm_journal.specs.Same.{same_octets, same_sent}
+use Rattle.norm_journal.specs.Same.{same_sent}
 use Rattle.norm_journal.specs.Totals.{with_up}
 
 -- a tick gave a datagram or none, as was said

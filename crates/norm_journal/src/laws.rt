@@ -1,6 +1,6 @@
 //! What is promised of the judge. Each law is the contract of a function that does nothing.
 
-ghost use Rattle.norm_journal.specs.Laws.{FrontsAreAccepted, FrontsArePrinted, PullsInOrder, WholeIsDone};
+ghost use Rattle.norm_journal.specs.Laws.{FrontsAreAccepted, FrontsArePrinted, PullsInOrder, WholeIsDone, MovesTheWorld};
 
 /// Each front of a journal that is accepted is accepted.
 #[tactic(auto, using(crate::proofs::FrontLemmas::fronts_accepted))]
@@ -24,4 +24,10 @@ pub fn pulls_in_order()
 #[tactic(auto, using(crate::proofs::FrontLemmas::whole_done))]
 pub fn whole_is_done()
     ensures { WholeIsDone }
+{}
+
+/// A journal moves the nodes as its events do in their world.
+#[tactic(auto, using(crate::proofs::WorldLemmas::moves_world))]
+pub fn moves_the_world()
+    ensures { MovesTheWorld }
 {}
