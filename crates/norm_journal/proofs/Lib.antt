@@ -3,3 +3,5 @@ pub mod PullLemmas
 pub mod DigitLemmas
 pub mod NodeLemmas
 pub mod WorldLemmas
+pub mod NameLemmas
+pub mod LawfulLemmas

@@ -200,11 +200,11 @@ found_first producer (l ∷ lines) line rest e =
           (record { its = eqb-true l.producer producer is; each = λ q. sym (commands_by-cons q l lines) }))
       at_head false o is each e = later o each is e
 
-from_map : {X Y P : Type 0} (f : X → Y) (o : Option X) (y : Y) → option_map f o ≡ Some y → ((x : X) → o ≡ Some x → f x ≡ y → P) → P
+pub from_map : {X Y P : Type 0} (f : X → Y) (o : Option X) (y : Y) → option_map f o ≡ Some y → ((x : X) → o ≡ Some x → f x ≡ y → P) → P
 from_map f None y e so = absurd (none-some y e)
 from_map f (Some x) y e so = so x refl (same_Some (f x) y e)
 
-numbered : (number : ℕ) (o : Option (Line × List Line)) (found : Line × List Line)
+pub numbered : (number : ℕ) (o : Option (Line × List Line)) (found : Line × List Line)
     → ◌≡◌ {A = Option (Line × List Line)}
     (elim o [ Some found ↦ elim (found.0.number == number) [ true ↦ Some found | false ↦ None ] | None ↦ None ]) (Some found)
     → (o ≡ Some found) × (found.0.number ≡ number)
@@ -215,10 +215,10 @@ numbered number (Some x) found e = by_test (x.0.number == number) refl e where
   by_test true is e = (e, ap (λ (y : Line × List Line). y.0.number) (sym (same_Some x found e)) ∙ eqb-true x.0.number number is)
   by_test false is e = absurd (none-some found e)
 
-abbrev name_of : ℕ → ℕ → Origin
+abbrev pub name_of : ℕ → ℕ → Origin
 name_of producer number = record { producer = producer; number = number }
 
-same_name : (a b c d : ℕ) → a ≡ c → b ≡ d → name_of a b ≡ name_of c d
+pub same_name : (a b c d : ℕ) → a ≡ c → b ≡ d → name_of a b ≡ name_of c d
 same_name a b c d e f = ap (λ x. name_of x b) e ∙ ap (λ x. name_of c x) f
 
 -- a name, where its producer is the one that is asked for

@@ -1,6 +1,6 @@
 //! What is promised of the judge. Each law is the contract of a function that does nothing.
 
-ghost use Rattle.norm_journal.specs.Laws.{FrontsAreAccepted, FrontsArePrinted, PullsInOrder, WholeIsDone, MovesTheWorld};
+ghost use Rattle.norm_journal.specs.Laws.{FrontsAreAccepted, FrontsArePrinted, PullsInOrder, WholeIsDone, MovesTheWorld, BeginsLawfully};
 
 /// Each front of a journal that is accepted is accepted.
 #[tactic(auto, using(crate::proofs::FrontLemmas::fronts_accepted))]
@@ -30,4 +30,10 @@ pub fn whole_is_done()
 #[tactic(auto, using(crate::proofs::WorldLemmas::moves_world))]
 pub fn moves_the_world()
     ensures { MovesTheWorld }
+{}
+
+/// Where the takes of a journal are honest, its events are a lawful run of the nodes' world.
+#[tactic(auto, using(crate::proofs::LawfulLemmas::begins_lawfully))]
+pub fn begins_lawfully()
+    ensures { BeginsLawfully }
 {}
