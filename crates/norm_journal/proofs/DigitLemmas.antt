@@ -1,5 +1,5 @@
 -- Octets as digits, one after the other.
-use Rattle.std.proofs.Common.{◌≡◌, ◌∙◌, sym, ap, ◌+◌, ◌/◌, ◌%◌, ◌<◌, ℕ, List, [], ◌∷◌, ◌++◌, length, refl, arith, take, append_assoc, get_or, slice_index}
+use Rattle.std.proofs.Common.{◌≡◌, ◌∙◌, sym, ap, ◌+◌, ◌/◌, ◌%◌, ◌<◌, ℕ, List, [], ◌∷◌, ◌++◌, length, refl, take, append_assoc, get_or, slice_index}
 use Rattle.std.proofs.lemmas.List.{append-nil, take_more}
 use Rattle.hex.specs.Hex.{encode_with, encode_lower, lower_digits}
 

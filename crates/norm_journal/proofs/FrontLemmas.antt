@@ -2,19 +2,18 @@
 use Rattle.std.proofs.Common.{◌≡◌, List, [], ◌∷◌, ◌++◌, length, Bool, true, false, Option, None, Some, refl, sym, ap, ◌∙◌, arith, append_assoc}
 use Rattle.std.specs.Prelude.{◌==◌, ◌&&◌, option_and_then, IsSome, is_none, ℕ}
 use Rattle.std.specs.Option.{option_to_list}
-use Rattle.std.proofs.lemmas.Option.{none-some, same_Some, option_and_then_some}
-use Rattle.std.proofs.lemmas.Bool.{eqb-true}
+use Rattle.std.proofs.lemmas.Option.{none-some, same_Some}
 use Rattle.norm_send_rules.specs.Requests.{open_requests}
 use Rattle.norm_send_rules.specs.Ticking.{is_idle}
 use Rattle.norm_journal.specs.declared.event.Event.{Event}
 use Rattle.norm_journal.specs.Accepting.{accepts, judged_from}
 use Rattle.norm_journal.specs.Judged.{Judged, is_whole}
-use Rattle.norm_journal.specs.Places.{Place, Starting, Between, Pulling, Giving, Again, Sending, Offering, Taking, Handing, Over}
+use Rattle.norm_journal.specs.Places.{Place, Giving, Over}
 use Rattle.norm_journal.specs.Printed.{line_of, lines_from}
 use Rattle.norm_script.specs.declared.script.Verb.{Verb}
 use Rattle.norm_script.specs.declared.script.Verb.TheVariants as verb
 use Rattle.norm_journal.specs.Jobs.{Told, may_be_absent}
-use Rattle.norm_journal.specs.SessionRun.{Ending, Whole, Spent, Absent, absent_of, ends_in, ending_of}
+use Rattle.norm_journal.specs.SessionRun.{Ending, Whole, Spent, Absent, absent_of, ends_in}
 use Rattle.norm_journal.specs.Laws.{FrontsAreAccepted, FrontsArePrinted, LeavesNothing, WholeIsDone}
 
 clash : false ≡ true → ⊥

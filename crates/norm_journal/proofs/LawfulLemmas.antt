@@ -1,6 +1,6 @@
 -- The world's events of a journal are lawful, where its takes are honest.
 use Rattle.std.proofs.Common.{◌≡◌, ℕ, ◌+◌, ◌≤◌, List, [], ◌∷◌, ◌++◌, Bool, true, false, cond, Option, None, Some, Result, refl, sym, ap, subst, ◌∙◌, arith}
-use Rattle.std.specs.Prelude.{◌==◌, ◌&&◌, option_and_then, map, find, Contains, IsSome, IfSome, ⊤, nat_eq}
+use Rattle.std.specs.Prelude.{◌==◌, ◌&&◌, map, find, Contains, IsSome, IfSome, ⊤}
 use Rattle.std.specs.Option.{option_map, option_to_list}
 use Rattle.std.proofs.lemmas.Option.{none-some, same_Some, option_and_then_some}
 use Rattle.std.proofs.lemmas.Bool.{eqb-true}
@@ -11,7 +11,6 @@ use Rattle.norm_base.specs.declared.node.Origin.{Origin}
 use Rattle.norm_base.specs.declared.kinds.Sent.{Sent}
 use Rattle.norm_order.specs.declared.up.Up.{Up}
 use Rattle.norm_receive_rules.specs.ReceiverState.{ReceiverState}
-use Rattle.norm_script.specs.Commands.{Commands}
 use Rattle.norm_script.specs.declared.script.Line.{Line}
 use Rattle.norm_send_rules.specs.declared.job.Job.{Job}
 use Rattle.norm_send_rules.specs.declared.job.Receipt.{Receipt}
@@ -19,27 +18,26 @@ use Rattle.norm_send_rules.specs.declared.fault.SendFault.{SendFault}
 use Rattle.norm_send_rules.specs.declared.news.News.{News}
 use Rattle.norm_send_rules.specs.Commanding.{commanded}
 use Rattle.norm_safety.specs.Events.{Event as WorldEvent, Commanded, Delivered, Ticked, Offered, UpTaken, NewsAsked, Answer, Gave, Sent as Gives, Took, Told, Silent}
-use Rattle.norm_safety.specs.Lawful.{accepted_with, AllTaken, all_taken, MayCome, LawfulFrom, Lawful, same_origin, same_octets}
+use Rattle.norm_safety.specs.Lawful.{accepted_with, AllTaken, all_taken, MayCome, LawfulFrom, same_octets}
 use Rattle.norm_safety.specs.World.{World, receiver_at, with_given, given_others}
-use Rattle.norm_safety.specs.WorldStep.{world_step, run_from, gives as gives_datagram, at_receiver, sender_ticks, receiver_ticks}
+use Rattle.norm_safety.specs.WorldStep.{run_from, gives as gives_datagram, at_receiver, sender_ticks, receiver_ticks}
 use Rattle.norm_journal.specs.declared.event.Event.{Event}
 use Rattle.norm_journal.specs.declared.event.Event.TheVariants as event
 use Rattle.norm_journal.specs.Accepting.{accepts, accepts_news, accepts_next, told_of, judged_from}
-use Rattle.norm_journal.specs.Commands.{offered, offers, line_pulled, pulls_at, gives, gives_again, jobs_at}
+use Rattle.norm_journal.specs.Commands.{offered, offers, line_pulled, pulls_at, jobs_at}
 use Rattle.norm_journal.specs.Draws.{next_draw, draws_after}
 use Rattle.norm_journal.specs.Honest.{IsHonest}
 use Rattle.norm_journal.specs.InWorld.{world_after, answer_to, at, comes}
-use Rattle.norm_journal.specs.Jobs.{Told as ToldFiles}
-use Rattle.norm_journal.specs.Judged.{Judged, judged_opening, news_due, is_done}
+use Rattle.norm_journal.specs.Judged.{Judged, judged_opening, news_due}
 use Rattle.norm_journal.specs.Laws.{BeginsLawfully}
 use Rattle.norm_journal.specs.Places.{Place, Starting, Between, Pulling, Giving, Again, Sending, Offering, Taking, Handing, Over, Waiting, handing, after_tick, command_due}
 use Rattle.norm_journal.specs.Pulling.{origin_of, first_line, pulled}
-use Rattle.norm_journal.specs.Same.{same_answer, same_sent, same_gave}
-use Rattle.norm_journal.specs.Takes.{takes_at, finds_none_at, delivered, is_receiver, receivers_due, after_take}
-use Rattle.norm_journal.specs.Ticks.{gave_datagram, ticks, tick_of, ticks_at, offers_at, handed, ups_at}
+use Rattle.norm_journal.specs.Same.{same_answer}
+use Rattle.norm_journal.specs.Takes.{takes_at, finds_none_at, is_receiver, receivers_due, after_take}
+use Rattle.norm_journal.specs.Ticks.{gave_datagram, tick_of, ticks_at, offers_at, handed, ups_at}
 use Rattle.norm_journal.specs.Turns.{starts_at, turns_at, ends_at, in_turn}
-use Rattle.norm_journal.specs.SessionRun.{judged, Begun}
-use Rattle.norm_journal.specs.WorldEvents.{job_at, delivery, world_event, world_events, TakesHonestly, NamedOnce}
+use Rattle.norm_journal.specs.SessionRun.{judged}
+use Rattle.norm_journal.specs.WorldEvents.{job_at, delivery, world_event, world_events, TakesHonestly}
 use Rattle.norm_journal.proofs.PullLemmas.{from_map, numbered}
 use Rattle.norm_journal.proofs.NameLemmas.{both, one_name, count, count_itself, counted_at, count_found, names_waiting, given_once}
 use Rattle.norm_journal.proofs.WorldLemmas.{event_moves}
@@ -118,9 +116,9 @@ calm_sound : (accepted : List Origin) (old place : Place) (j x : Judged) → IsC
     → Once accepted old j → Sound accepted place x
 calm_sound accepted old place j x calm waiting left once = record {
   once = λ q. fewer (count q accepted) (count q (names_waiting x.waiting)) (count q (map origin_of x.left)) (count q (names_in old)) (count q (names_in place))
-  (calm_names place q calm)
-  (subst (λ w. count q accepted + (count q (names_in old) + count q (names_waiting w) + count q (map origin_of x.left)) ≤ 1) (sym waiting)
-    (subst (λ l. count q accepted + (count q (names_in old) + count q (names_waiting j.waiting) + count q (map origin_of l)) ≤ 1) (sym left) (once q)));
+      (calm_names place q calm)
+      (subst (λ w. count q accepted + (count q (names_in old) + count q (names_waiting w) + count q (map origin_of x.left)) ≤ 1) (sym waiting)
+      (subst (λ l. count q accepted + (count q (names_in old) + count q (names_waiting j.waiting) + count q (map origin_of l)) ≤ 1) (sym left) (once q)));
   ready = calm_ready place x calm;
 }
 
@@ -164,7 +162,7 @@ pulls_lead accepted Pulling j by s next is = from_map (line_pulled j) (pulled by
       may = tt;
       sound = record {
         once = λ q. one_more (count q accepted) (count q (names_waiting j.waiting)) (count q (map origin_of found.1)) (count q (map origin_of j.left))
-        (count q (origin_of found.0 ∷ [])) (count_found q by.producer j.left found.0 found.1 first) (s.once q);
+            (count q (origin_of found.0 ∷ [])) (count_found q by.producer j.left found.0 found.1 first) (s.once q);
         ready = tt;
       };
     }))
@@ -190,16 +188,16 @@ offers_lead : (accepted : List Origin) (j : Judged) (by : Origin) (job : Job) (g
 offers_lead accepted j by job gave once next is =
     let e = Commanded by job j.now in
     from_map (offered by job gave) (comes e (Gave gave) j) next is (λ x comes_so same.
-      let two = came e (Gave gave) j x comes_so in
-      subst (λ y. Leads accepted j (Some e) y) (ap (offered by job gave) two.1 ∙ same) (record {
-        may = λ there. not_yet (count by accepted) (count by (by ∷ [])) (count by (map origin_of j.left)) (counted_at accepted by there.0 there.1 there.2)
-        (count_itself by) (once by);
-        sound = record {
-          once = λ q. given_fits _ _ (count q accepted) (count q (by ∷ [])) (count q (map origin_of j.left))
-          (given_once q by job j.now accepted (commanded j.profile j.world.sender by job).1 gave two.0) (once q);
-          ready = tt;
-        };
-      }))
+    let two = came e (Gave gave) j x comes_so in
+    subst (λ y. Leads accepted j (Some e) y) (ap (offered by job gave) two.1 ∙ same) (record {
+      may = λ there. not_yet (count by accepted) (count by (by ∷ [])) (count by (map origin_of j.left)) (counted_at accepted by there.0 there.1 there.2)
+          (count_itself by) (once by);
+      sound = record {
+        once = λ q. given_fits _ _ (count q accepted) (count q (by ∷ [])) (count q (map origin_of j.left))
+            (given_once q by job j.now accepted (commanded j.profile j.world.sender by job).1 gave two.0) (once q);
+        ready = tt;
+      };
+    }))
 
 -- what an offer of a command is in the world
 abbrev command : Place → Judged → Origin → Option Job → Option WorldEvent
@@ -222,7 +220,7 @@ once_again : (accepted : List Origin) (command : Waiting) (by : Origin) (j : Jud
 once_again accepted command by j same s q =
     subst (λ x. count q accepted + (count q (x ∷ []) + count q (map origin_of j.left)) ≤ 1) same
     (as_waiting (count q accepted) (count q (names_waiting j.waiting)) (count q (command.by ∷ [])) (count q (map origin_of j.left))
-      (ap (λ w. count q (names_waiting w)) s.ready) (s.once q))
+    (ap (λ w. count q (names_waiting w)) s.ready) (s.once q))
 
 jobs_lead : (accepted : List Origin) (place : Place) (j : Judged) (by : Origin) (job : Option Job) (gave : Result Receipt SendFault)
     → Sound accepted place j → Leading accepted j (command place j by job) (jobs_at place j by job gave)
@@ -247,8 +245,8 @@ given_there : (node : ℕ) (o : Option (List ℕ)) (w : World) (datagram : List 
 given_there node None w datagram e = absurd (cc)
 given_there node (Some other) w datagram e =
     subst (λ d. Contains (with_given node (Some other) w).given (node, d)) (same_datagram other datagram e) (Contains-push (given_others node w) (node, other)) where
-  same_datagram : (a b : List ℕ) → ◌≡◌ {A = Answer} (Gives (Some a)) (Gives (Some b)) → a ≡ b
-  same_datagram a b e = cc
+      same_datagram : (a b : List ℕ) → ◌≡◌ {A = Answer} (Gives (Some a)) (Gives (Some b)) → a ≡ b
+      same_datagram a b e = cc
 
 found_node : (node : ℕ) (rs : List ReceiverState) (r : ReceiverState) → find (λ (r : ReceiverState). r.node == node) rs ≡ Some r → r.node ≡ node
 found_node node [] r e = absurd (none-some r e)
@@ -316,14 +314,14 @@ offers_at_lead : (accepted : List Origin) (place : Place) (j : Judged) (from : �
     → Leading accepted j (Some (Offered from octets)) (offers_at place j from octets)
 offers_at_lead accepted (Offering node datagram next) j from octets s =
     when (from == node && same_octets octets datagram) accepted j (Some (Offered from octets)) _ (λ test last is.
-      let two = both (from == node) (same_octets octets datagram) test in
-      from_map (at next) (comes (Offered from octets) Silent j) last is (λ x comes_so same.
-        let came_so = came (Offered from octets) Silent j x comes_so in
-        subst (λ y. Leads accepted j (Some (Offered from octets)) y) (ap (at next) came_so.1 ∙ same) (record {
-          may = subst (λ n. Contains j.world.given (n, octets)) (sym (eqb-true from node two.0))
+    let two = both (from == node) (same_octets octets datagram) test in
+    from_map (at next) (comes (Offered from octets) Silent j) last is (λ x comes_so same.
+    let came_so = came (Offered from octets) Silent j x comes_so in
+    subst (λ y. Leads accepted j (Some (Offered from octets)) y) (ap (at next) came_so.1 ∙ same) (record {
+      may = subst (λ n. Contains j.world.given (n, octets)) (sym (eqb-true from node two.0))
           (subst (λ d. Contains j.world.given (node, d)) (sym ((bytes_decides octets datagram).0 two.1)) s.ready.0);
-          sound = calm_sound accepted (Offering node datagram next) next j _ s.ready.1 refl refl s.once;
-        })))
+      sound = calm_sound accepted (Offering node datagram next) next j _ s.ready.1 refl refl s.once;
+    })))
 offers_at_lead accepted _ j from octets s = no_event accepted j (Some (Offered from octets))
 
 -- who a taken datagram is for decides what comes in the world, and what the judge has then
@@ -350,9 +348,9 @@ takes_lead : (accepted : List Origin) (place : Place) (j : Judged) (node : ℕ) 
     → IsHonest j (event.Took node octets) → Leading accepted j (delivery j node octets) (takes_at place j node octets)
 takes_lead accepted (Taking taken) j node octets s honest = this accepted j _ (delivery j node octets)
     (taken_by (node == j.profile.sender) (is_receiver j node) accepted (Taking taken) (after_take taken j) j
-      (world_after (Delivered node octets j.now 0) j)
-      (record (world_after (Delivered node octets j.now (next_draw j.draws)) j) { draws = draws_after j.draws })
-      node octets j.now 0 (next_draw j.draws) (after_take_calm _ taken _) s.once honest refl refl refl refl)
+    (world_after (Delivered node octets j.now 0) j)
+    (record (world_after (Delivered node octets j.now (next_draw j.draws)) j) { draws = draws_after j.draws })
+    node octets j.now 0 (next_draw j.draws) (after_take_calm _ taken _) s.once honest refl refl refl refl)
 takes_lead accepted _ j node octets s honest = no_event accepted j (delivery j node octets)
 
 none_leads : (accepted : List Origin) (place : Place) (j : Judged) → Sound accepted place j → Leading accepted j None (finds_none_at place j)
@@ -379,12 +377,12 @@ ups_lead : (accepted : List Origin) (place : Place) (j : Judged) (node instance 
     → Leading accepted j (Some (UpTaken node)) (ups_at place j node instance up)
 ups_lead accepted (Handing due nodes) j node instance up here s =
     when _ accepted j (Some (UpTaken node)) _ (λ _ last is.
-      from_map (handed up) (comes (UpTaken node) (Took (Some up)) j) last is (λ x comes_so same.
-        let came_so = came (UpTaken node) (Took (Some up)) j x comes_so in
-        subst (λ y. Leads accepted j (Some (UpTaken node)) y) (ap (handed up) came_so.1 ∙ same) (record {
-          may = tt;
-          sound = subst (λ p. Sound accepted p (handed up (world_after (UpTaken node) j))) (sym here) (record { once = s.once; ready = tt });
-        })))
+    from_map (handed up) (comes (UpTaken node) (Took (Some up)) j) last is (λ x comes_so same.
+    let came_so = came (UpTaken node) (Took (Some up)) j x comes_so in
+    subst (λ y. Leads accepted j (Some (UpTaken node)) y) (ap (handed up) came_so.1 ∙ same) (record {
+      may = tt;
+      sound = subst (λ p. Sound accepted p (handed up (world_after (UpTaken node) j))) (sym here) (record { once = s.once; ready = tt });
+    })))
 ups_lead accepted _ j node instance up here s = no_event accepted j (Some (UpTaken node))
 
 next_leads : (accepted : List Origin) (j : Judged) (e : Event) → Sound accepted j.place j → IsHonest j e
@@ -404,11 +402,11 @@ next_leads accepted j event.End s honest = ends_lead accepted j.place j s
 news_lead : (accepted : List Origin) (j : Judged) (e : Event) → Sound accepted j.place j → Leading accepted j (world_event j e) (accepts_news j e)
 news_lead accepted j (event.News news) s last is =
     from_map (told_of news) (comes NewsAsked (Told (Some news)) j) last is (λ x comes_so same.
-      let came_so = came NewsAsked (Told (Some news)) j x comes_so in
-      subst (λ y. Leads accepted j (Some NewsAsked) y) (ap (told_of news) came_so.1 ∙ same) (record {
-        may = tt;
-        sound = record { once = s.once; ready = ready_stays j.place j (told_of news (world_after NewsAsked j)) refl refl s.ready };
-      }))
+    let came_so = came NewsAsked (Told (Some news)) j x comes_so in
+    subst (λ y. Leads accepted j (Some NewsAsked) y) (ap (told_of news) came_so.1 ∙ same) (record {
+      may = tt;
+      sound = record { once = s.once; ready = ready_stays j.place j (told_of news (world_after NewsAsked j)) refl refl s.ready };
+    }))
 news_lead accepted j event.Start s next is = no_event accepted j (world_event j event.Start) next is
 news_lead accepted j (event.Turn turn now) s next is = no_event accepted j None next is
 news_lead accepted j (event.Pull by) s next is = no_event accepted j None next is
@@ -434,7 +432,7 @@ joins None accepted j next rest may profile world lawful =
 joins (Some e) accepted j next rest may profile world lawful = (
   may,
   subst (λ p. LawfulFrom p (world_after e j).world (accepted_with accepted e (answer_to e j)) rest) (sym profile)
-  (subst (λ w. LawfulFrom next.profile w (accepted_with accepted e (answer_to e j)) rest) (sym world) lawful),
+      (subst (λ w. LawfulFrom next.profile w (accepted_with accepted e (answer_to e j)) rest) (sym world) lawful),
 )
 
 if_some : {X : Type 0} (o : Option X) (P : X → Type 0) (x : X) → o ≡ Some x → IfSome o P → P x
@@ -450,12 +448,12 @@ unfolding judged_from world_events TakesHonestly
 lawful_from [] accepted j last s is honest = tt
 lawful_from (e ∷ events) accepted j last s is honest =
     option_and_then_some (λ next. judged_from next events) (accepts j e) last is (λ next comes_so more.
-      let leads = event_leads accepted j e (news_due j) s honest.0 next comes_so in
-      let moves = event_moves j e next comes_so in
-      let rest = if_some (accepts j e) (λ next. TakesHonestly next events) next comes_so honest.1 in
-      subst (λ o. LawfulFrom j.profile j.world accepted (option_to_list (world_event j e) ++ after_that o events)) (sym comes_so)
-      (joins (world_event j e) accepted j next (world_events next events) leads.may moves.0 moves.1
-        (lawful_from events (accepted_after accepted j (world_event j e)) next last leads.sound more rest)))
+    let leads = event_leads accepted j e (news_due j) s honest.0 next comes_so in
+    let moves = event_moves j e next comes_so in
+    let rest = if_some (accepts j e) (λ next. TakesHonestly next events) next comes_so honest.1 in
+    subst (λ o. LawfulFrom j.profile j.world accepted (option_to_list (world_event j e) ++ after_that o events)) (sym comes_so)
+    (joins (world_event j e) accepted j next (world_events next events) leads.may moves.0 moves.1
+    (lawful_from events (accepted_after accepted j (world_event j e)) next last leads.sound more rest)))
 
 some_of : {X : Type 0} (o : Option X) → IsSome o → (x : X) × (o ≡ Some x)
 some_of None e = absurd (cc)

@@ -1,8 +1,8 @@
 -- Names of commands, and how often one stands in a list.
-use Rattle.std.proofs.Common.{◌≡◌, ℕ, zero, suc, ◌+◌, ◌≤◌, ◌<◌, List, [], ◌∷◌, ◌++◌, length, Bool, true, false, cond, Option, None, Some, Result, Ok, Err, refl, sym, ap, subst, ◌∙◌, arith}
-use Rattle.std.specs.Prelude.{◌==◌, ◌&&◌, map, count_by, Contains, slice_index_or}
+use Rattle.std.proofs.Common.{◌≡◌, ℕ, zero, suc, ◌+◌, ◌≤◌, ◌<◌, List, [], ◌∷◌, ◌++◌, length, Bool, true, false, cond, Option, None, Some, Result, Ok, Err, refl, ap, subst, ◌∙◌, arith}
+use Rattle.std.specs.Prelude.{◌==◌, ◌&&◌, map, count_by, slice_index_or}
 use Rattle.std.specs.Option.{option_map}
-use Rattle.std.proofs.lemmas.Option.{none-some, same_Some, some_pair_parts}
+use Rattle.std.proofs.lemmas.Option.{none-some, some_pair_parts}
 use Rattle.std.proofs.lemmas.Bool.{eqb-true, eq-eqb}
 use Rattle.std.proofs.lemmas.List.Sums.{sum_by-append}
 use Rattle.norm_base.specs.declared.node.Origin.{Origin}
@@ -10,7 +10,7 @@ use Rattle.norm_script.specs.declared.script.Line.{Line}
 use Rattle.norm_send_rules.specs.declared.job.Job.{Job}
 use Rattle.norm_send_rules.specs.declared.job.Receipt.{Receipt}
 use Rattle.norm_send_rules.specs.declared.fault.SendFault.{SendFault}
-use Rattle.norm_safety.specs.Events.{Event as WorldEvent, Commanded, Answer, Gave}
+use Rattle.norm_safety.specs.Events.{Commanded, Gave}
 use Rattle.norm_safety.specs.Lawful.{same_origin, accepted_with}
 use Rattle.norm_journal.specs.Commands.{waits, waiting_after}
 use Rattle.norm_journal.specs.Places.{Waiting}
@@ -86,32 +86,33 @@ unfolding first_line
 count_found q producer [] line rest e = absurd (none-some _ e)
 count_found q producer (l ∷ lines) line rest e =
     at_head (l.producer == producer) (first_line producer lines) (λ found more is. count_found q producer lines found more is) e where
-  later : (o : Option (Line × List Line))
-      → ((found : Line) (more : List Line) → ◌≡◌ {A = Option (Line × List Line)} o (Some (found, more))
-        → count q (map origin_of lines) ≡ count q (origin_of found ∷ []) + count q (map origin_of more))
-      → ◌≡◌ {A = Option (Line × List Line)} (option_map (λ (found : Line × List Line). (found.0, l ∷ found.1)) o) (Some (line, rest))
-      → count q (map origin_of (l ∷ lines)) ≡ count q (origin_of line ∷ []) + count q (map origin_of rest)
-  later None each is = absurd (none-some _ is)
-  later (Some found) each is =
-      let two = some_pair_parts found.0 line (l ∷ found.1) rest is in
-      let inner = each found.0 found.1 refl in
-      subst (λ (x : Line). count q (map origin_of (l ∷ lines)) ≡ count q (origin_of x ∷ []) + count q (map origin_of rest)) two.0
-      (subst (λ (xs : List Line). count q (map origin_of (l ∷ lines)) ≡ count q (origin_of found.0 ∷ []) + count q (map origin_of xs)) two.1
-        (exchanged _ _ _ _ _ (here q (origin_of l)) (here q (origin_of found.0)) inner
+      later : (o : Option (Line × List Line))
+          → ((found : Line) (more : List Line) → ◌≡◌ {A = Option (Line × List Line)} o (Some (found, more))
+          → count q (map origin_of lines) ≡ count q (origin_of found ∷ []) + count q (map origin_of more))
+          → ◌≡◌ {A = Option (Line × List Line)} (option_map (λ (found : Line × List Line). (found.0, l ∷ found.1)) o) (Some (line, rest))
+          → count q (map origin_of (l ∷ lines)) ≡ count q (origin_of line ∷ []) + count q (map origin_of rest)
+      later None each is = absurd (none-some _ is)
+      later (Some found) each is =
+          let two = some_pair_parts found.0 line (l ∷ found.1) rest is in
+          let inner = each found.0 found.1 refl in
+          subst (λ (x : Line). count q (map origin_of (l ∷ lines)) ≡ count q (origin_of x ∷ []) + count q (map origin_of rest)) two.0
+          (subst (λ (xs : List Line). count q (map origin_of (l ∷ lines)) ≡ count q (origin_of found.0 ∷ []) + count q (map origin_of xs)) two.1
+          (exchanged _ _ _ _ _ (here q (origin_of l)) (here q (origin_of found.0)) inner
           (count_cons q (origin_of l) (map origin_of lines)) (count_cons q (origin_of found.0) [])
           (count_cons q (origin_of l) (map origin_of found.1))))
-  at_head : (b : Bool) (o : Option (Line × List Line))
-      → ((found : Line) (more : List Line) → ◌≡◌ {A = Option (Line × List Line)} o (Some (found, more))
-        → count q (map origin_of lines) ≡ count q (origin_of found ∷ []) + count q (map origin_of more))
-      → ◌≡◌ {A = Option (Line × List Line)}
-        (elim b [ true ↦ Some (l, lines) | false ↦ option_map (λ (found : Line × List Line). (found.0, l ∷ found.1)) o ]) (Some (line, rest))
-      → count q (map origin_of (l ∷ lines)) ≡ count q (origin_of line ∷ []) + count q (map origin_of rest)
-  at_head true o each is =
-      let two = some_pair_parts l line lines rest is in
-      subst (λ (x : Line). count q (map origin_of (l ∷ lines)) ≡ count q (origin_of x ∷ []) + count q (map origin_of rest)) two.0
-      (subst (λ (xs : List Line). count q (map origin_of (l ∷ lines)) ≡ count q (origin_of l ∷ []) + count q (map origin_of xs)) two.1
-        (sum_by-append (λ y. here q y) (origin_of l ∷ []) (map origin_of lines)))
-  at_head false o each is = later o each is
+
+      at_head : (b : Bool) (o : Option (Line × List Line))
+          → ((found : Line) (more : List Line) → ◌≡◌ {A = Option (Line × List Line)} o (Some (found, more))
+          → count q (map origin_of lines) ≡ count q (origin_of found ∷ []) + count q (map origin_of more))
+          → ◌≡◌ {A = Option (Line × List Line)}
+          (elim b [ true ↦ Some (l, lines) | false ↦ option_map (λ (found : Line × List Line). (found.0, l ∷ found.1)) o ]) (Some (line, rest))
+          → count q (map origin_of (l ∷ lines)) ≡ count q (origin_of line ∷ []) + count q (map origin_of rest)
+      at_head true o each is =
+          let two = some_pair_parts l line lines rest is in
+          subst (λ (x : Line). count q (map origin_of (l ∷ lines)) ≡ count q (origin_of x ∷ []) + count q (map origin_of rest)) two.0
+          (subst (λ (xs : List Line). count q (map origin_of (l ∷ lines)) ≡ count q (origin_of l ∷ []) + count q (map origin_of xs)) two.1
+          (sum_by-append (λ y. here q y) (origin_of l ∷ []) (map origin_of lines)))
+      at_head false o each is = later o each is
 
 -- the name of a command that waits
 abbrev pub names_waiting : Option Waiting → List Origin

@@ -1,6 +1,6 @@
 -- Pulls: an event other than a pull leaves the lines as they are.
 use Rattle.std.proofs.Common.{◌≡◌, ℕ, List, [], ◌∷◌, ◌++◌, Bool, true, false, cond, Option, None, Some, Result, refl, sym, ap, subst, ◌∙◌, arith, append_assoc}
-use Rattle.std.specs.Prelude.{◌==◌, ◌&&◌, option_and_then, map, filter}
+use Rattle.std.specs.Prelude.{◌==◌, map, filter}
 use Rattle.std.specs.List.{flat_map}
 use Rattle.std.specs.Option.{option_map}
 use Rattle.std.proofs.lemmas.Option.{none-some, same_Some, some_pair_parts, option_and_then_some}
@@ -21,11 +21,11 @@ use Rattle.norm_journal.specs.Commands.{offered, offers, line_pulled, pulls_at, 
 use Rattle.norm_journal.specs.InWorld.{world_after, answer_to, at, comes}
 use Rattle.norm_journal.specs.Judged.{Judged, news_due, is_done}
 use Rattle.norm_journal.specs.Laws.{commands_by, pull_by, PullsInOrder}
-use Rattle.norm_journal.specs.Places.{Place, Starting, Between, Pulling, Giving, Again, Sending, Offering, Taking, Handing, Over, Waiting}
+use Rattle.norm_journal.specs.Places.{Place, Starting, Between, Pulling, Giving, Again, Sending, Offering, Taking, Handing, Waiting}
 use Rattle.norm_journal.specs.Pulling.{origin_of, first_line, pulled}
-use Rattle.norm_journal.specs.Same.{same_answer, same_sent}
-use Rattle.norm_journal.specs.Takes.{takes_at, finds_none_at, delivered, is_receiver}
-use Rattle.norm_journal.specs.Ticks.{gave_datagram, ticks, tick_of, ticks_at, offers_at, handed, ups_at}
+use Rattle.norm_journal.specs.Same.{same_answer}
+use Rattle.norm_journal.specs.Takes.{takes_at, finds_none_at, is_receiver}
+use Rattle.norm_journal.specs.Ticks.{gave_datagram, tick_of, ticks_at, offers_at, handed, ups_at}
 use Rattle.norm_journal.specs.Turns.{starts_at, turns_at, ends_at}
 
 -- the lines left stay as they are

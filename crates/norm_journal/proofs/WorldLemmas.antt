@@ -1,6 +1,6 @@
 -- An accepted event is what it is in the world.
-use Rattle.std.proofs.Common.{◌≡◌, ℕ, List, [], ◌∷◌, ◌++◌, Bool, true, false, Option, None, Some, Result, refl, sym, ap, subst, ◌∙◌}
-use Rattle.std.specs.Prelude.{◌==◌, ◌&&◌, option_and_then}
+use Rattle.std.proofs.Common.{◌≡◌, ℕ, List, [], ◌∷◌, Bool, true, false, Option, None, Some, Result, refl, ap, subst, ◌∙◌}
+use Rattle.std.specs.Prelude.{◌==◌}
 use Rattle.std.specs.Option.{option_map, option_to_list}
 use Rattle.std.proofs.lemmas.Option.{none-some, same_Some, option_and_then_some}
 use Rattle.std.proofs.lemmas.List.Sums.{fold-append}
@@ -19,16 +19,16 @@ use Rattle.norm_safety.specs.WorldStep.{world_step, run_from}
 use Rattle.norm_journal.specs.declared.event.Event.{Event}
 use Rattle.norm_journal.specs.declared.event.Event.TheVariants as event
 use Rattle.norm_journal.specs.Accepting.{accepts, accepts_news, accepts_next, told_of, judged_from}
-use Rattle.norm_journal.specs.Commands.{offered, offers, line_pulled, pulls_at, gives, gives_again, jobs_at}
+use Rattle.norm_journal.specs.Commands.{offered, offers, line_pulled, pulls_at, jobs_at}
 use Rattle.norm_journal.specs.Draws.{next_draw, draws_after}
 use Rattle.norm_journal.specs.InWorld.{world_after, answer_to, at, comes}
 use Rattle.norm_journal.specs.Judged.{Judged, news_due, is_done}
 use Rattle.norm_journal.specs.Laws.{MovesTheWorld}
-use Rattle.norm_journal.specs.Places.{Place, Starting, Between, Pulling, Giving, Again, Sending, Offering, Taking, Handing, Over, Waiting}
+use Rattle.norm_journal.specs.Places.{Place, Starting, Between, Pulling, Giving, Again, Sending, Offering, Taking, Handing}
 use Rattle.norm_journal.specs.Pulling.{pulled}
 use Rattle.norm_journal.specs.Same.{same_answer, same_sent}
-use Rattle.norm_journal.specs.Takes.{takes_at, finds_none_at, delivered, is_receiver}
-use Rattle.norm_journal.specs.Ticks.{gave_datagram, ticks, tick_of, ticks_at, offers_at, handed, ups_at}
+use Rattle.norm_journal.specs.Takes.{takes_at, finds_none_at, is_receiver}
+use Rattle.norm_journal.specs.Ticks.{gave_datagram, tick_of, ticks_at, offers_at, handed, ups_at}
 use Rattle.norm_journal.specs.Turns.{starts_at, turns_at, ends_at}
 use Rattle.norm_journal.specs.WorldEvents.{job_at, delivery, world_event, world_events}
 
@@ -134,7 +134,7 @@ ticks_move _ j node sent = no_event j (Some (Ticked node j.now))
 offers_at_move : (place : Place) (j : Judged) (from : ℕ) (octets : List ℕ) → Moves j (Some (Offered from octets)) (offers_at place j from octets)
 offers_at_move (Offering node datagram next) j from octets =
     when _ j (Some (Offered from octets)) _ (then (at next) j (Some (Offered from octets)) (comes (Offered from octets) Silent j) (λ x. same x _ refl refl)
-      (comes_moves (Offered from octets) Silent j))
+    (comes_moves (Offered from octets) Silent j))
 offers_at_move _ j from octets = no_event j (Some (Offered from octets))
 
 -- who a taken datagram is for decides what comes in the world, and what the judge has then
@@ -152,10 +152,10 @@ takes_move : (place : Place) (j : Judged) (node : ℕ) (octets : List ℕ) → M
 takes_move (Taking taken) j node octets =
     this j _ (delivery j node octets)
     (takes_move_by (node == j.profile.sender) (is_receiver j node) _ j
-      (world_after (Delivered node octets j.now 0) j)
-      (record (world_after (Delivered node octets j.now (next_draw j.draws)) j) { draws = draws_after j.draws })
-      (Delivered node octets j.now 0) (Delivered node octets j.now (next_draw j.draws))
-      (record { profile = refl; world = refl }) (record { profile = refl; world = refl }))
+    (world_after (Delivered node octets j.now 0) j)
+    (record (world_after (Delivered node octets j.now (next_draw j.draws)) j) { draws = draws_after j.draws })
+    (Delivered node octets j.now 0) (Delivered node octets j.now (next_draw j.draws))
+    (record { profile = refl; world = refl }) (record { profile = refl; world = refl }))
 takes_move _ j node octets = no_event j (delivery j node octets)
 
 none_moves : (place : Place) (j : Judged) → Moves j None (finds_none_at place j)
@@ -165,7 +165,7 @@ none_moves _ j = no_event j None
 ups_move : (place : Place) (j : Judged) (node instance : ℕ) (up : Up) → Moves j (Some (UpTaken node)) (ups_at place j node instance up)
 ups_move (Handing due nodes) j node instance up =
     when _ j (Some (UpTaken node)) _ (then (handed up) j (Some (UpTaken node)) (comes (UpTaken node) (Took (Some up)) j) (λ x. same x _ refl refl)
-      (comes_moves (UpTaken node) (Took (Some up)) j))
+    (comes_moves (UpTaken node) (Took (Some up)) j))
 ups_move _ j node instance up = no_event j (Some (UpTaken node))
 
 next_moves : (j : Judged) (e : Event) → Moves j (world_event j e) (accepts_next j e)

@@ -1,5 +1,5 @@
 -- The judge: the state after an event that may come with that answer, and None for any other.
-use Rattle.std.specs.Prelude.{List, [], ◌∷◌, true, false, Option, None, Some, option_and_then}
+use Rattle.std.specs.Prelude.{List, [], ◌∷◌, Option, None, Some, option_and_then}
 use Rattle.std.specs.Option.{option_map}
 use Rattle.norm_send_rules.specs.declared.news.News.{News}
 use Rattle.norm_safety.specs.Events.{NewsAsked, Told}

@@ -1,5 +1,5 @@
 -- Commands in a turn: a pull gives the next one, and it is offered to the sender, again in each turn while it has to wait.
-use Rattle.std.specs.Prelude.{ℕ, ◌&&◌, List, Bool, true, false, Option, None, Some, Result, Ok, Err}
+use Rattle.std.specs.Prelude.{◌&&◌, List, Bool, true, false, Option, None, Some, Result, Err}
 use Rattle.std.specs.Option.{option_map}
 use Rattle.norm_base.specs.declared.node.Origin.{Origin}
 use Rattle.norm_script.specs.declared.script.Line.{Line}
@@ -11,7 +11,7 @@ use Rattle.norm_send_rules.specs.declared.fault.EnqueueFault.TheVariants as enqu
 use Rattle.norm_send_rules.specs.declared.fault.StreamFault.TheVariants as stream
 use Rattle.norm_send_rules.specs.declared.fault.MarkFault.TheVariants as mark
 use Rattle.norm_safety.specs.Events.{Commanded, Gave}
-use Rattle.norm_journal.specs.InWorld.{at, comes}
+use Rattle.norm_journal.specs.InWorld.{comes}
 use Rattle.norm_journal.specs.Jobs.{is_job_of}
 use Rattle.norm_journal.specs.Judged.{Judged}
 use Rattle.norm_journal.specs.Places.{Place, Pulling, Giving, Again, Sending, Waiting}

@@ -1,5 +1,5 @@
 -- Takes that an honest network gives: what another member offered.
-use Rattle.std.specs.Prelude.{ℕ, List, Bool, true, ⊤}
+use Rattle.std.specs.Prelude.{Bool, true, ⊤}
 use Rattle.norm_safety.specs.Lawful.{LawfulDelivery, is_lawful_delivery}
 use Rattle.norm_journal.specs.declared.event.Event.{Event}
 use Rattle.norm_journal.specs.declared.event.Event.TheVariants as event

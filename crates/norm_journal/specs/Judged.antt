@@ -1,5 +1,5 @@
 -- What the judge knows of a run: all that decides what may come next.
-use Rattle.std.specs.Prelude.{ℕ, ◌==◌, ◌&&◌, ◌||◌, List, [], Bool, not, nat_le, Option, None, length, is_none}
+use Rattle.std.specs.Prelude.{ℕ, ◌==◌, ◌&&◌, ◌||◌, List, Bool, nat_le, Option, None, length, is_none}
 use Rattle.rand_pcg.specs.Lcg.{Lcg}
 use Rattle.norm_base.specs.Settings.{Settings}
 use Rattle.norm_script.specs.Commands.{Commands}

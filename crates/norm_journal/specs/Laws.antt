@@ -1,5 +1,5 @@
 -- What is promised of the judge.
-use Rattle.std.specs.Prelude.{◌≡◌, ℕ, ◌==◌, List, [], ◌∷◌, ◌++◌, map, filter, true, false, Option, None, Some, IsSome}
+use Rattle.std.specs.Prelude.{◌≡◌, ℕ, ◌==◌, List, [], ◌∷◌, ◌++◌, map, filter, true, false, None, Some, IsSome}
 use Rattle.std.specs.List.{flat_map}
 use Rattle.norm_base.specs.declared.node.Origin.{Origin}
 use Rattle.norm_script.specs.Commands.{Commands}

@@ -14,7 +14,6 @@ use Rattle.norm_journal.specs.declared.event.Event.TheVariants as event
 use Rattle.norm_journal.specs.Accepting.{accepts}
 use Rattle.norm_journal.specs.Judged.{Judged}
 use Rattle.norm_journal.specs.Lines.{kind_of, gave_line, up_line, news_line, end_line}
-use Rattle.norm_journal.specs.Places.{Waiting}
 
 -- the sender's instance
 abbrev pub instance_now : Judged → ℕ

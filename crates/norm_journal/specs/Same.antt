@@ -18,7 +18,7 @@ use Rattle.norm_send_rules.specs.declared.news.News.{News}
 use Rattle.norm_send_rules.specs.declared.news.News.TheVariants as news
 use Rattle.norm_send_rules.specs.declared.news.Outcome.{Outcome}
 use Rattle.norm_send_rules.specs.declared.news.Outcome.TheVariants as outcome
-use Rattle.norm_safety.specs.Events.{Answer, Gave, Sent as SentAnswer, Took, Told, Silent}
+use Rattle.norm_safety.specs.Events.{Answer, Gave, Took, Told, Silent}
 use Rattle.norm_safety.specs.Fronts.{same_up}
 
 -- two positions

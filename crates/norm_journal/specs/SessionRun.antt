@@ -1,7 +1,6 @@
 -- What a session may do: its journal is one that the judge accepts event by event, from the opening on.
 use Rattle.std.specs.Prelude.{◌≡◌, ℕ, List, true, false, Option, None, Some, IsSome}
 use Rattle.norm_script.specs.Commands.{Commands}
-use Rattle.norm_script.specs.declared.script.Line.{Line}
 use Rattle.norm_script.specs.declared.script.Verb.{Verb}
 use Rattle.norm_script.specs.declared.script.Verb.TheVariants as verb
 use Rattle.norm_journal.specs.declared.event.Event.{Event}

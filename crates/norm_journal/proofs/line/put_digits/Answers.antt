@@ -1,6 +1,5 @@
-use Rattle.std.proofs.Common.{◌≡◌, ◌++◌, ◌∷◌, [], ap, ◌∙◌, arith, get_or}
+use Rattle.std.proofs.Common.{arith}
 use Rattle.std.proofs.lemmas.Grind.{common_steps}
-use Rattle.hex.specs.Hex.{encode_lower}
 use Rattle.norm_journal.proofs.DigitLemmas.{no_digits, one_more_octet}
 use Rattle.norm_journal.proofs.line.put_digits.Goals as goal
 
