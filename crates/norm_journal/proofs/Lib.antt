@@ -5,3 +5,4 @@ pub mod NodeLemmas
 pub mod WorldLemmas
 pub mod NameLemmas
 pub mod LawfulLemmas
+pub mod ScriptLemmas

@@ -3,6 +3,7 @@ use Rattle.std.specs.Prelude.{◌≡◌, ℕ, ◌==◌, List, [], ◌∷◌, ◌
 use Rattle.std.specs.List.{flat_map}
 use Rattle.norm_base.specs.declared.node.Origin.{Origin}
 use Rattle.norm_script.specs.Commands.{Commands}
+use Rattle.norm_script.specs.Scripts.{IsScript}
 use Rattle.norm_script.specs.declared.script.Line.{Line}
 use Rattle.norm_send_rules.specs.Requests.{open_requests}
 use Rattle.norm_send_rules.specs.Ticking.{is_idle}
@@ -62,3 +63,7 @@ abbrev pub BeginsLawfully : Type 0
 BeginsLawfully = (script : Commands) (files : Told) (events : List Event) → NamedOnce script.lines
     → Begun script files events → TakesHonestly (judged_opening script files) events
     → Lawful script.profile (world_events (judged_opening script files) events)
+
+-- In a script each command has a name of its own.
+abbrev pub ScriptsNameOnce : Type 0
+ScriptsNameOnce = (script : Commands) → IsScript script → NamedOnce script.lines

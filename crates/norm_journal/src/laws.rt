@@ -1,6 +1,6 @@
 //! What is promised of the judge. Each law is the contract of a function that does nothing.
 
-ghost use Rattle.norm_journal.specs.Laws.{FrontsAreAccepted, FrontsArePrinted, PullsInOrder, WholeIsDone, MovesTheWorld, BeginsLawfully};
+ghost use Rattle.norm_journal.specs.Laws.{FrontsAreAccepted, FrontsArePrinted, PullsInOrder, WholeIsDone, MovesTheWorld, BeginsLawfully, ScriptsNameOnce};
 
 /// Each front of a journal that is accepted is accepted.
 #[tactic(auto, using(crate::proofs::FrontLemmas::fronts_accepted))]
@@ -36,4 +36,9 @@ pub fn moves_the_world()
 #[tactic(auto, using(crate::proofs::LawfulLemmas::begins_lawfully))]
 pub fn begins_lawfully()
     ensures { BeginsLawfully }
+{}
+
+/// In a script each command has a name of its own.
+pub fn scripts_name_once()
+    ensures { ScriptsNameOnce }
 {}
