@@ -6,3 +6,4 @@ pub mod WorldLemmas
 pub mod NameLemmas
 pub mod LawfulLemmas
 pub mod ScriptLemmas
+pub mod EndLemmas

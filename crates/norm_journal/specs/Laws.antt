@@ -11,9 +11,9 @@ use Rattle.norm_safety.specs.Lawful.{Lawful}
 use Rattle.norm_safety.specs.WorldStep.{run_from}
 use Rattle.norm_journal.specs.declared.event.Event.{Event}
 use Rattle.norm_journal.specs.declared.event.Event.TheVariants as event
-use Rattle.norm_journal.specs.Accepting.{judged_from}
+use Rattle.norm_journal.specs.Accepting.{accepts, judged_from}
 use Rattle.norm_journal.specs.Jobs.{Told}
-use Rattle.norm_journal.specs.Judged.{Judged, judged_opening}
+use Rattle.norm_journal.specs.Judged.{Judged, judged_opening, is_done}
 use Rattle.norm_journal.specs.Printed.{lines_from}
 use Rattle.norm_journal.specs.Pulling.{origin_of}
 use Rattle.norm_journal.specs.SessionRun.{Begun, ending_of, Whole}
@@ -67,3 +67,7 @@ BeginsLawfully = (script : Commands) (files : Told) (events : List Event) → Na
 -- In a script each command has a name of its own.
 abbrev pub ScriptsNameOnce : Type 0
 ScriptsNameOnce = (script : Commands) → IsScript script → NamedOnce script.lines
+
+-- The summary comes only where the last turn was done, and nothing comes after it.
+abbrev pub EndsLast : Type 0
+EndsLast = (j last : Judged) → accepts j event.End ≡ Some last → (is_done j ≡ true) × ((e : Event) → accepts last e ≡ None)

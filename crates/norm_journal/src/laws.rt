@@ -1,6 +1,6 @@
 //! What is promised of the judge. Each law is the contract of a function that does nothing.
 
-ghost use Rattle.norm_journal.specs.Laws.{FrontsAreAccepted, FrontsArePrinted, PullsInOrder, WholeIsDone, MovesTheWorld, BeginsLawfully, ScriptsNameOnce};
+ghost use Rattle.norm_journal.specs.Laws.{FrontsAreAccepted, FrontsArePrinted, PullsInOrder, WholeIsDone, EndsLast, MovesTheWorld, BeginsLawfully, ScriptsNameOnce};
 
 /// Each front of a journal that is accepted is accepted.
 #[tactic(auto, using(crate::proofs::FrontLemmas::fronts_accepted))]
@@ -41,4 +41,9 @@ pub fn begins_lawfully()
 /// In a script each command has a name of its own.
 pub fn scripts_name_once()
     ensures { ScriptsNameOnce }
+{}
+
+/// The summary comes only where the last turn was done, and nothing comes after it.
+pub fn ends_last()
+    ensures { EndsLast }
 {}
