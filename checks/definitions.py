@@ -1,7 +1,7 @@
 #!/usr/bin/env python3
 """Evaluates the definitions of the protocol (crates/*/specs) on recorded runs.
 
-    checks/definitions.py [--traces DIR] [--count N] [--safe] [--cases] [--damaged] [--errors] [--gate] [NAME ..]
+    checks/definitions.py [--traces DIR] [--count N] [--safe] [--cases] [--damaged] [--journals] [--errors] [--gate] [NAME ..]
 
 A recorded run is a list of events with what each gave, and where the nodes stood at its end (checks/traces). For each run
 antt computes the defined steps, event by event, and compares each answer and the end state with the record: the proof of
@@ -9,9 +9,11 @@ the statement "they never part" is `refl`. Nothing is proved or built of the cra
 
 Without a flag the runs are compared. `--safe` evaluates the tests of lawfulness and safety along each run, `--cases` the
 small runs and values of checks/cases.py, `--damaged` the tests of safety on damaged runs, and `--errors` looks whether
-each deliberate error of checks/errors.py in a definition is noticed. `--gate` compares ten runs and evaluates the cases and
-the damaged runs. NAME is a part of a run's name, or with `--errors` of an error's words, and `--count N` takes N runs evenly.
-Exit status: 0 where all is as expected, 1 where something differs, 2 where the evaluation failed.
+each deliberate error of checks/errors.py in a definition is noticed. `--journals` judges each recorded journal, which has to be
+accepted event by event, to end as recorded and to print the recorded text, and damaged ones, which have to be refused (with
+`--count N` those of the N shortest). `--gate` compares ten runs, and evaluates the cases, the damaged runs, all journals and the
+damaged ones of the ten shortest. NAME is a part of a run's name, or with `--errors` of an error's words, and `--count N` takes N
+runs evenly. Exit status: 0 where all is as expected, 1 where something differs, 2 where the evaluation failed.
 """
 import argparse, glob, json, os, re, sys, tempfile, time
 
@@ -58,13 +60,21 @@ def compare(space, runs, more=()):
     return '%d runs of %d events, %d cases' % (len(runs), events, len(more)), sum(1 for x in said.values() if x)
 
 
+def judge(a, count=0):
+    """Judges the recorded journals, and damaged ones of as many."""
+    import journals
+    recorded = journals.runs_of(a.traces, a.names)
+    with tempfile.TemporaryDirectory() as scratch:
+        return journals.look(journals.Judge(scratch), recorded, journals.runs_of(a.traces, a.names, a.count or count))
+
+
 def main():
     a = argparse.ArgumentParser(description=__doc__, formatter_class=argparse.RawDescriptionHelpFormatter)
     a.add_argument('names', nargs='*')
     a.add_argument('--traces', default=os.path.join(HERE, 'traces'))
     a.add_argument('--count', type=int, default=0)
     a.add_argument('--work')
-    for flag in ('safe', 'cases', 'damaged', 'errors', 'gate'):
+    for flag in ('safe', 'cases', 'damaged', 'journals', 'errors', 'gate'):
         a.add_argument('--' + flag, action='store_true')
     a = a.parse_args()
     runs = list(runs_of(a.traces, [] if a.errors else a.names, 0 if a.gate else a.count))
@@ -75,6 +85,8 @@ def main():
             if a.errors:
                 import errors
                 said, differ = errors.look(space, runs, a.names)
+            elif a.journals:
+                said, differ = judge(a)
             elif a.safe:
                 said, differ = compare(space, [], [(n, *terms.safe_case(n, r)) for n, r in runs])
             elif a.gate or a.damaged or a.cases:
@@ -82,6 +94,9 @@ def main():
                 import damaged
                 more = (cases.cases() if a.gate or a.cases else []) + (damaged.cases(runs) if a.gate or a.damaged else [])
                 said, differ = compare(space, [runs[i * len(runs) // 10] for i in range(10)] if a.gate else [], more)
+                if a.gate:
+                    judged, refused = judge(a, 10)
+                    said, differ = '%s, %s' % (said, judged), differ + refused
             else:
                 said, differ = compare(space, runs)
         except Failed as e:

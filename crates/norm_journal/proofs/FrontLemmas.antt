@@ -1,0 +1,109 @@
+-- Journals event by event: fronts, what they print, and how a run ends.
+use Rattle.std.proofs.Common.{◌≡◌, List, [], ◌∷◌, ◌++◌, length, Bool, true, false, Option, None, Some, refl, sym, ap, ◌∙◌, arith, append_assoc}
+use Rattle.std.specs.Prelude.{◌==◌, ◌&&◌, option_and_then, IsSome, is_none, ℕ}
+use Rattle.std.specs.Option.{option_to_list}
+use Rattle.std.proofs.lemmas.Option.{none-some, same_Some}
+use Rattle.norm_send_rules.specs.Requests.{open_requests}
+use Rattle.norm_send_rules.specs.Ticking.{is_idle}
+use Rattle.norm_journal.specs.declared.event.Event.{Event}
+use Rattle.norm_journal.specs.Accepting.{accepts, judged_from}
+use Rattle.norm_journal.specs.Judged.{Judged, is_whole}
+use Rattle.norm_journal.specs.Places.{Place, Giving, Over}
+use Rattle.norm_journal.specs.Printed.{line_of, lines_from}
+use Rattle.norm_script.specs.declared.script.Verb.{Verb}
+use Rattle.norm_script.specs.declared.script.Verb.TheVariants as verb
+use Rattle.norm_journal.specs.Jobs.{Told, may_be_absent}
+use Rattle.norm_journal.specs.SessionRun.{Ending, Whole, Spent, Absent, absent_of, ends_in}
+use Rattle.norm_journal.specs.Laws.{FrontsAreAccepted, FrontsArePrinted, LeavesNothing, WholeIsDone}
+
+clash : false ≡ true → ⊥
+clash e = cc
+
+both : (a b : Bool) → (a && b) ≡ true → (a ≡ true) × (b ≡ true)
+both true b e = (refl, e)
+both false b e = absurd (clash e)
+
+-- what follows in two steps, in one
+in_two : {X Y Z : Type 0} (o : Option X) (f : X → Option Z) (g : X → Option Y) (h : Y → Option Z)
+    → ((x : X) → f x ≡ option_and_then h (g x)) → option_and_then f o ≡ option_and_then h (option_and_then g o)
+in_two None f g h each = refl
+in_two (Some x) f g h each = each x
+
+pub judged_from-append : (j : Judged) (front rest : List Event)
+    → judged_from j (front ++ rest) ≡ option_and_then (λ next. judged_from next rest) (judged_from j front)
+unfolding judged_from
+judged_from-append j [] rest = refl
+judged_from-append j (e ∷ front) rest =
+    in_two (accepts j e) (λ next. judged_from next (front ++ rest)) (λ next. judged_from next front) (λ next. judged_from next rest)
+    (λ next. judged_from-append next front rest)
+
+begins : {X Y : Type 0} (o : Option X) (f : X → Option Y) (p : Option Y) → p ≡ option_and_then f o → IsSome p → IsSome o
+begins None f (Some y) same some = absurd (none-some y (sym same))
+begins None f None same some = some
+begins (Some x) f p same some = refl
+
+pub fronts_accepted : FrontsAreAccepted
+fronts_accepted j front rest some =
+    begins (judged_from j front) (λ next. judged_from next rest) (judged_from j (front ++ rest)) (judged_from-append j front rest) some
+
+-- the lines from what an event leaves, if it may come
+abbrev lines_after : Option Judged → List Event → List (List ℕ)
+lines_after o events = elim o [ Some next ↦ lines_from next events | None ↦ [] ]
+
+lines_on : (o : Option Judged) (events front rest : List Event) (last : Judged) → option_and_then (λ next. judged_from next front) o ≡ Some last
+    → ((next : Judged) → judged_from next front ≡ Some last → lines_from next (front ++ rest) ≡ lines_from next front ++ lines_from last rest)
+    → lines_after o (front ++ rest) ≡ lines_after o front ++ lines_from last rest
+lines_on None events front rest last is each = absurd (none-some last is)
+lines_on (Some next) events front rest last is each = each next is
+
+fronts_print : (j last : Judged) (front rest : List Event) → judged_from j front ≡ Some last
+    → lines_from j (front ++ rest) ≡ lines_from j front ++ lines_from last rest
+unfolding judged_from lines_from
+fronts_print j last [] rest is = ap (λ (x : Judged). lines_from x rest) (same_Some j last is)
+fronts_print j last (e ∷ front) rest is =
+    ap (λ more. option_to_list (line_of j e) ++ more)
+    (lines_on (accepts j e) front front rest last is (λ next so. fronts_print next last front rest so))
+    ∙ sym (append_assoc (option_to_list (line_of j e)) (lines_after (accepts j e) front) (lines_from last rest))
+
+pub fronts_printed : FrontsArePrinted
+fronts_printed j next front rest is = fronts_print j next front rest is
+
+no_items : {X : Type 0} (xs : List X) → (length xs == 0) ≡ true → xs ≡ []
+no_items [] e = refl
+no_items (x ∷ xs) e = absurd (grind arith)
+
+is_no : {X : Type 0} (o : Option X) → is_none o ≡ true → o ≡ None
+is_no None e = refl
+is_no (Some x) e = absurd (clash e)
+
+leaves_nothing : (j : Judged) → is_whole j ≡ true → LeavesNothing j
+leaves_nothing j e =
+    let last = both (length j.left == 0 && is_none j.waiting && length (open_requests j.world.sender) == 0) (is_idle j.profile j.world.sender) e in
+    let requests = both (length j.left == 0 && is_none j.waiting) (length (open_requests j.world.sender) == 0) last.0 in
+    let pulled = both (length j.left == 0) (is_none j.waiting) requests.0 in
+    record {
+      pulled = no_items j.left pulled.0;
+      waiting = is_no j.waiting pulled.1;
+      requests = no_items (open_requests j.world.sender) requests.1;
+      idle = last.1;
+    }
+
+spent_or_whole : (whole : Bool) → ◌≡◌ {A = Option Ending} (elim whole [ true ↦ Some Whole | false ↦ Some Spent ]) (Some Whole) → whole ≡ true
+spent_or_whole true e = refl
+spent_or_whole false e = absurd (cc)
+
+absent_or_whole : (absent : Bool) (name : List ℕ) → ◌≡◌ {A = Option Ending} (elim absent [ true ↦ Some (Absent name) | false ↦ None ]) (Some Whole) → ⊥
+absent_or_whole true name e = cc
+absent_or_whole false name e = cc
+
+no_file_whole : (files : Told) (v : Verb) → absent_of files v ≡ Some Whole → ⊥
+no_file_whole files (verb.File name) e = absent_or_whole (may_be_absent files name) name e
+no_file_whole files _ e = none-some Whole e
+
+whole_at : (place : Place) (j : Judged) → ends_in place j ≡ Some Whole → is_whole j ≡ true
+whole_at Over j e = spent_or_whole (is_whole j) e
+whole_at (Giving line) j e = absurd (no_file_whole j.files line.verb e)
+whole_at _ j e = absurd (none-some Whole e)
+
+pub whole_done : WholeIsDone
+whole_done j e = leaves_nothing j (whole_at j.place j e)

@@ -1,0 +1,7 @@
+use Rattle.std.proofs.Common.{◌≡◌, take}
+use Rattle.norm_journal.specs.Words.{with_words, node_words}
+use Rattle.norm_journal.proofs.lines.put_nodes.Given as goal
+
+-- the words of the nodes so far
+abbrev pub invariant-loop-node : goal.invariant-loop-node
+invariant-loop-node l = l.line ≡ with_words l.fn.line (node_words (take l.node-index l.nodes))

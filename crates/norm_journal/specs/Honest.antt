@@ -1,0 +1,16 @@
+-- Takes that an honest network gives: what another member offered.
+use Rattle.std.specs.Prelude.{Bool, true, ⊤}
+use Rattle.norm_safety.specs.Lawful.{LawfulDelivery, is_lawful_delivery}
+use Rattle.norm_journal.specs.declared.event.Event.{Event}
+use Rattle.norm_journal.specs.declared.event.Event.TheVariants as event
+use Rattle.norm_journal.specs.Judged.{Judged}
+
+-- a take gives what another member offered
+abbrev pub IsHonest : Judged → Event → Type 0
+IsHonest j (event.Took to octets) = LawfulDelivery j.world to octets
+IsHonest j _ = ⊤
+
+-- The same as a test.
+abbrev pub is_honest : Judged → Event → Bool
+is_honest j (event.Took to octets) = is_lawful_delivery j.world to octets
+is_honest j _ = true

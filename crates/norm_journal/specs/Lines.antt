@@ -1,0 +1,117 @@
+-- The line of an event.
+use Rattle.std.specs.Prelude.{ℕ, List, [], ◌∷◌, ◌++◌, length, codes, Option, None, Some, Result, Ok, Err}
+use Rattle.std.specs.Option.{option_map}
+use Rattle.std.specs.Fmt.{decimal}
+use Rattle.hex.specs.Hex.{encode_lower}
+use Rattle.norm_base.specs.declared.kinds.Kind.{Kind}
+use Rattle.norm_base.specs.declared.kinds.Kind.TheVariants as kind
+use Rattle.norm_base.specs.declared.node.Origin.{Origin}
+use Rattle.norm_order.specs.declared.up.Up.{Up}
+use Rattle.norm_order.specs.declared.up.Up.TheVariants as up
+use Rattle.norm_send_rules.specs.declared.job.Job.{Job}
+use Rattle.norm_send_rules.specs.declared.job.Job.TheVariants as job
+use Rattle.norm_send_rules.specs.declared.job.Receipt.{Receipt}
+use Rattle.norm_send_rules.specs.declared.job.Receipt.TheVariants as receipt
+use Rattle.norm_send_rules.specs.declared.fault.SendFault.{SendFault}
+use Rattle.norm_send_rules.specs.declared.fault.SendFault.TheVariants as send
+use Rattle.norm_send_rules.specs.declared.fault.EnqueueFault.{EnqueueFault}
+use Rattle.norm_send_rules.specs.declared.fault.EnqueueFault.TheVariants as enqueue
+use Rattle.norm_send_rules.specs.declared.fault.StreamFault.TheVariants as stream
+use Rattle.norm_send_rules.specs.declared.fault.MarkFault.TheVariants as mark
+use Rattle.norm_send_rules.specs.declared.news.News.{News}
+use Rattle.norm_send_rules.specs.declared.news.News.TheVariants as news
+use Rattle.norm_send_rules.specs.declared.news.Outcome.{Outcome}
+use Rattle.norm_send_rules.specs.declared.news.Outcome.TheVariants as outcome
+use Rattle.norm_journal.specs.declared.totals.Totals.{Totals}
+use Rattle.norm_journal.specs.Words.{line, kind_word, info_word, origin_words, position_words, node_words}
+
+-- an accepted command, in the sender's instance
+abbrev pub enq_line : Origin → ℕ → ℕ → List (List ℕ) → List ℕ
+enq_line by instance index words = line (codes "enq") (origin_words by ++ decimal instance ∷ decimal index ∷ words)
+
+-- what an object's command enqueued
+abbrev pub kind_of : Job → Kind
+kind_of (job.File name octets) = kind.File
+kind_of _ = kind.Data
+
+-- what a command did, in the instance in which it came
+abbrev pub receipt_line : Origin → ℕ → Kind → Receipt → List ℕ
+receipt_line by instance what (receipt.Object index len) = enq_line by instance index (kind_word what ∷ decimal len ∷ [])
+receipt_line by instance what (receipt.Opened index) = enq_line by instance index (codes "open" ∷ [])
+receipt_line by instance what (receipt.Wrote index offset len) =
+    enq_line by instance index (codes "write" ∷ decimal len ∷ decimal offset ∷ [])
+receipt_line by instance what (receipt.Closed index) = enq_line by instance index (codes "close" ∷ [])
+receipt_line by instance what (receipt.Mark number at) =
+    line (codes "mark") (origin_words by ++ decimal instance ∷ decimal number ∷ position_words at)
+receipt_line by instance what (receipt.Restarted next) = line (codes "restart") (origin_words by ++ decimal next ∷ [])
+
+-- a reason: its word, and the number that it tells
+abbrev pub Reason : Type 0
+Reason = List ℕ × Option ℕ
+
+-- why nothing was enqueued; a command that waits has no reason
+abbrev pub enqueue_reason : EnqueueFault → Option Reason
+enqueue_reason enqueue.Empty = Some (codes "empty", None)
+enqueue_reason (enqueue.TooBig len) = Some (codes "too-big", Some len)
+enqueue_reason (enqueue.InfoTooBig len) = Some (codes "info-too-big", Some len)
+enqueue_reason (enqueue.StreamOpen index) = Some (codes "stream-open", Some index)
+enqueue_reason enqueue.NoStream = Some (codes "no-stream", None)
+enqueue_reason enqueue.IdsSpent = Some (codes "ids-spent", None)
+enqueue_reason (enqueue.Stream (stream.Spent octets)) = Some (codes "spent", Some octets)
+enqueue_reason _ = None
+
+-- why a command was refused for good
+abbrev pub reason_of : SendFault → Option Reason
+reason_of (send.Enqueue fault) = enqueue_reason fault
+reason_of (send.Mark mark.NothingEnqueued) = Some (codes "nothing-enqueued", None)
+reason_of (send.IdUsed instance) = Some (codes "id-used", Some instance)
+reason_of _ = None
+
+-- the number that a reason tells
+abbrev pub number_words : Option ℕ → List (List ℕ)
+number_words None = []
+number_words (Some n) = decimal n ∷ []
+
+-- the line of a command that was refused for good
+abbrev pub no_line : Origin → Reason → List ℕ
+no_line by reason = line (codes "no") (origin_words by ++ reason.0 ∷ number_words reason.1)
+
+-- the line of what a command gave
+abbrev pub gave_line : Origin → ℕ → Kind → Result Receipt SendFault → Option (List ℕ)
+gave_line by instance what (Ok receipt) = Some (receipt_line by instance what receipt)
+gave_line by instance what (Err fault) = option_map (no_line by) (reason_of fault)
+
+-- a node's hand-up, in the instance that it is in
+abbrev pub part_line : ℕ → ℕ → ℕ → List (List ℕ) → List ℕ
+part_line node instance index words = line (codes "up") (decimal node ∷ decimal instance ∷ decimal index ∷ words)
+
+-- a hand-up
+abbrev pub up_line : ℕ → ℕ → Up → List ℕ
+up_line node instance (up.Object index what info octets) =
+    part_line node instance index (kind_word what ∷ decimal (length octets) ∷ info_word info ∷ encode_lower octets ∷ [])
+up_line node instance (up.StreamOpen index) = part_line node instance index (codes "open" ∷ [])
+up_line node instance (up.StreamBytes index offset octets) =
+    part_line node instance index (codes "bytes" ∷ decimal offset ∷ decimal (length octets) ∷ encode_lower octets ∷ [])
+up_line node instance (up.StreamEnd index) = part_line node instance index (codes "end" ∷ [])
+up_line node instance (up.Lost index) = part_line node instance index (codes "lost" ∷ [])
+
+-- a request's outcome, with the nodes that are left; an open request has no line
+abbrev pub done_line : ℕ → List ℕ → Outcome → Option (List ℕ)
+done_line number left (outcome.Open many) = None
+done_line number left outcome.Satisfied = Some (line (codes "done") (decimal number ∷ codes "satisfied" ∷ []))
+done_line number left (outcome.Expired many) = Some (line (codes "done") (decimal number ∷ codes "expired" ∷ node_words left))
+done_line number left outcome.Cut = Some (line (codes "done") (decimal number ∷ codes "cut" ∷ []))
+
+-- a change that was told, in the sender's instance
+abbrev pub news_line : ℕ → List ℕ → News → Option (List ℕ)
+news_line instance left (news.Past node at) =
+    Some (line (codes "past") (decimal node ∷ decimal instance ∷ position_words at))
+news_line instance left (news.Done number outcome) = done_line number left outcome
+
+-- the summary
+abbrev pub end_line : Totals → List ℕ
+end_line t = line (codes "end") (
+    codes "objects" ∷ decimal t.objects ∷ codes "octets" ∷ decimal t.octets
+    ∷ codes "handed" ∷ decimal t.handed ∷ codes "lost" ∷ decimal t.lost
+    ∷ codes "satisfied" ∷ decimal t.satisfied ∷ codes "expired" ∷ decimal t.expired ∷ codes "cut" ∷ decimal t.cut ∷ []
+    )

@@ -1,0 +1,71 @@
+//! The journal of a session.
+
+use norm_base::{InstanceId, Moment, NodeId, Octets, Origin, Sent};
+use norm_order::Up;
+use norm_send_rules::{Job, News, Receipt, SendFault};
+use std::marker::Model;
+
+/// What happened in a session, with what it gave.
+#[derive(Clone, Debug, PartialEq, Eq, Drop)]
+pub enum Event {
+    /// The network was started.
+    Start,
+    /// A turn began, at its moment.
+    Turn {
+        t: u32,
+        now: Moment,
+    },
+    /// A command was pulled from its producer.
+    Pull {
+        by: Origin,
+    },
+    /// A command was offered to the sender. Where it had to wait it is offered again in each turn, and then kept without
+    /// its octets.
+    Job {
+        by: Origin,
+        job: Option<Job>,
+        gave: Result<Receipt, SendFault>,
+    },
+    /// A node ticked.
+    Tick {
+        node: NodeId,
+        sent: Sent,
+    },
+    /// A node's datagram was offered to the network.
+    Offer {
+        from: NodeId,
+        bytes: Octets,
+    },
+    /// A datagram was taken from the network, and delivered where the run has that node.
+    Took {
+        to: NodeId,
+        bytes: Octets,
+    },
+    /// The network had no datagram ready.
+    Empty,
+    /// A receiver handed something up.
+    Up {
+        node: NodeId,
+        instance: InstanceId,
+        up: Up,
+    },
+    /// The sender told a change.
+    News(News),
+    /// The run ended, and its summary was made.
+    End,
+}
+
+/// The events of a session in their order.
+#[derive(Debug, Drop)]
+pub struct Journal {
+    pub events: Vec<Event>,
+}
+
+impl Model for Journal {
+    ghost use Rattle.std.specs.Prelude.{List};
+    ghost use Rattle.norm_journal.specs.declared.event.Event.{Event};
+
+    ghost Value = { List Event };
+
+    ghost view = { λ j. j.events.items };
+}

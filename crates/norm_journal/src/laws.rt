@@ -1,0 +1,49 @@
+//! What is promised of the judge. Each law is the contract of a function that does nothing.
+
+ghost use Rattle.norm_journal.specs.Laws.{FrontsAreAccepted, FrontsArePrinted, PullsInOrder, WholeIsDone, EndsLast, MovesTheWorld, BeginsLawfully, ScriptsNameOnce};
+
+/// Each front of a journal that is accepted is accepted.
+#[tactic(auto, using(crate::proofs::FrontLemmas::fronts_accepted))]
+pub fn fronts_are_accepted()
+    ensures { FrontsAreAccepted }
+{}
+
+/// A journal prints the lines of its front, and then those of the rest.
+#[tactic(auto, using(crate::proofs::FrontLemmas::fronts_printed))]
+pub fn fronts_are_printed()
+    ensures { FrontsArePrinted }
+{}
+
+/// Each producer's pulls are its commands in their order.
+#[tactic(auto, using(crate::proofs::PullLemmas::pulls_in_order))]
+pub fn pulls_in_order()
+    ensures { PullsInOrder }
+{}
+
+/// In a run that ended whole nothing is left to do.
+#[tactic(auto, using(crate::proofs::FrontLemmas::whole_done))]
+pub fn whole_is_done()
+    ensures { WholeIsDone }
+{}
+
+/// A journal moves the nodes as its events do in their world.
+#[tactic(auto, using(crate::proofs::WorldLemmas::moves_world))]
+pub fn moves_the_world()
+    ensures { MovesTheWorld }
+{}
+
+/// Where the takes of a journal are honest, its events are a lawful run of the nodes' world.
+#[tactic(auto, using(crate::proofs::LawfulLemmas::begins_lawfully))]
+pub fn begins_lawfully()
+    ensures { BeginsLawfully }
+{}
+
+/// In a script each command has a name of its own.
+pub fn scripts_name_once()
+    ensures { ScriptsNameOnce }
+{}
+
+/// The summary comes only where the last turn was done, and nothing comes after it.
+pub fn ends_last()
+    ensures { EndsLast }
+{}

@@ -1,0 +1,18 @@
+//! The journal of a session: its events, and the judge that says which journals a session may have.
+//!
+//! An [`Event`] is one thing that a session did, with what it gave; a [`Journal`] is all of them in order. The judge is a
+//! definition (`specs/Accepting`): it goes over the events and answers the state after each that may come there.
+#![tactic(auto)]
+
+mod event;
+pub mod laws;
+mod line;
+mod lines;
+#[cfg(test)]
+mod tests;
+mod totals;
+mod words;
+
+pub use crate::event::{Event, Journal};
+pub use crate::lines::{gave_line, news_line, up_line};
+pub use crate::totals::{Totals, end_line};
