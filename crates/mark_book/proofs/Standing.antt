@@ -9,7 +9,7 @@ use Rattle.norm_send_rules.specs.SenderState.{SenderState, Watermark, Listing}
 use Rattle.norm_base.specs.Settings.{Settings}
 use Rattle.norm_base.specs.declared.node.Origin.{Origin}
 use Rattle.fec_plan.specs.declared.position.Position.{Position}
-use Rattle.norm_order.specs.Receivers.{receivers_of}
+use Rattle.norm_base.specs.Members.{receivers_of}
 use Rattle.norm_send_rules.specs.Flushing.{expired}
 use Rattle.norm_send_rules.specs.Hearing.{listed_past, rises, credited}
 use Rattle.norm_send_rules.specs.Marking.{requested, request_at}

@@ -4,7 +4,7 @@ ghost use Rattle.std.specs.Prelude.{◌≡◌, ◌≢◌, ◌<◌, ◌≤◌, �
 ghost use Rattle.norm_base.specs.Settings.{Settings};
 ghost use Rattle.norm_base.specs.declared.node.Origin.{Origin};
 ghost use Rattle.fec_plan.specs.declared.position.Position.{Position};
-ghost use Rattle.norm_order.specs.Receivers.{receivers_of};
+ghost use Rattle.norm_base.specs.Members.{receivers_of};
 ghost use Rattle.norm_send_rules.specs.SenderState.{SenderState, Watermark, Listing, sender_opening};
 ghost use Rattle.norm_send_rules.specs.Requests.{pending, all_past, oldest, outcome_of};
 ghost use Rattle.norm_send_rules.specs.Hearing.{credited};

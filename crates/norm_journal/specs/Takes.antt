@@ -1,6 +1,6 @@
 -- Takes in a turn: what the network gives is delivered, until there is none, or 512 were taken.
 use Rattle.std.specs.Prelude.{ℕ, ◌+◌, ◌==◌, List, Bool, true, false, Option, None, Some, is_some}
-use Rattle.norm_order.specs.Receivers.{receivers_of}
+use Rattle.norm_base.specs.Members.{receivers_of}
 use Rattle.norm_safety.specs.Events.{Delivered}
 use Rattle.norm_safety.specs.World.{receiver_at}
 use Rattle.norm_journal.specs.Draws.{next_draw, draws_after}
