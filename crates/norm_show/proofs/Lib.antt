@@ -1,1 +1,3 @@
 mod ListLemmas
+mod SplitLemmas
+mod ShowLemmas
