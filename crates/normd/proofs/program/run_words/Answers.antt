@@ -1,7 +1,7 @@
 use Rattle.std.proofs.Common.{ℕ, map}
 use Rattle.std.specs.Prelude.{string_bytes}
 use Rattle.normd.proofs.EndingLemmas.{last_ends, broken_ends}
-use Rattle.normd.proofs.program.end_of.Goals as goal
+use Rattle.normd.proofs.program.run_words.Goals as goal
 
 -- where a fault broke the session off
 pub returns-clause-ends : goal.returns-clause-ends
