@@ -284,7 +284,7 @@ fn leaves<R: Threads + Wait + Sync + Abort>(
 }
 
 /// A session that read its script asked for these.
-fn asked(offered: usize, takes: u64) -> Asked {
+fn once_read(offered: usize, takes: u64) -> Asked {
     Asked {
         reads: 2,
         offered,
@@ -304,11 +304,11 @@ fn a_failing_read_or_write_leaves_the_lines_so_far(rt: HostRuntime) -> Result<()
         leaves(&rt, alloc, Fails::Read(reads), 0, b"fault read\n", 4, asked)?;
     }
     let writes = [
-        (1u64, 0usize, asked(0, 0)),
-        (2, 19, asked(1, 2)),
-        (3, 40, asked(1, 2)),
-        (4, 59, asked(2, 4)),
-        (5, 80, asked(2, 4)),
+        (1u64, 0usize, once_read(0, 0)),
+        (2, 19, once_read(1, 2)),
+        (3, 40, once_read(1, 2)),
+        (4, 59, once_read(2, 4)),
+        (5, 80, once_read(2, 4)),
     ];
     for (number, end, asked) in writes {
         leaves(&rt, alloc, Fails::Write(number), end, b"", 5, asked)?;
@@ -320,7 +320,7 @@ fn a_failing_read_or_write_leaves_the_lines_so_far(rt: HostRuntime) -> Result<()
 fn a_failing_call_of_the_network_leaves_the_lines_so_far(rt: HostRuntime) -> Result<(), Fail> {
     let alloc = rt.alloc();
     let last = b"fault fabric\n";
-    for (number, end, asked) in [(1u64, 19usize, asked(0, 0)), (2, 59, asked(1, 2))] {
+    for (number, end, asked) in [(1u64, 19usize, once_read(0, 0)), (2, 59, once_read(1, 2))] {
         leaves(&rt, alloc, Fails::Offer(number), end, last, 6, asked)?;
     }
     for (takes, end, offered) in [(1u64, 19usize, 1usize), (2, 19, 1), (3, 59, 2), (4, 59, 2)] {
@@ -331,7 +331,7 @@ fn a_failing_call_of_the_network_leaves_the_lines_so_far(rt: HostRuntime) -> Res
             end,
             last,
             6,
-            asked(offered, takes),
+            once_read(offered, takes),
         )?;
     }
     Ok(())
