@@ -1,11 +1,14 @@
 //! The line of each message, and of each refusal.
 
 ghost use Rattle.std.specs.Prelude.{◌≡◌, IfOk, string_bytes};
-ghost use Rattle.norm_ext.specs.Extensions.{extensions_of};
+ghost use Rattle.norm_ext.specs.Lists.{nodes_of};
+ghost use Rattle.norm_ext.specs.Requests.{requests_of};
 ghost use Rattle.norm_codec.specs.View.{message_of};
 ghost use Rattle.norm_cmdmsg.specs.View.{command_of};
 ghost use Rattle.norm_fbmsg.specs.View.{nack_of, ack_of, content_of};
 ghost use Rattle.norm_objmsg.specs.MessageView.{info_of, data_of};
+ghost use Rattle.norm_show.specs.Phrases.{numbers_word};
+ghost use Rattle.norm_show.specs.Words.{command_words, requests_word};
 ghost use Rattle.norm_show.specs.Line.{info_line, data_line, symbol_line, eot_line, adv_line, ackreq_line, opaque_line, nack_line, ack_line, report_line, unread_words, ack_words, message_line, refused_line};
 
 use crate::lists::{nodes_word, objects_word, requests_word};
@@ -15,8 +18,9 @@ use crate::words::{
 use norm_base::Memory;
 use norm_cmdmsg::CommandMsg;
 use norm_codec::{Message, Refusal};
+use norm_ext::CmdHead;
 use norm_fbmsg::{AckBody, AckMsg, NackMsg};
-use norm_objmsg::grammar::{DataMsg, InfoMsg};
+use norm_objmsg::{DataMsg, InfoMsg};
 use std::alloc::{AllocError, Global};
 
 /// INFO by its words.
@@ -122,6 +126,60 @@ fn opaque_by(alloc: Global, command: &str, sub_type: u8) -> Result<String, Alloc
     format!(in alloc; "opaque {command} {sub_type}\n")
 }
 
+/// The line of FLUSH or SQUELCH, whose list is made already.
+fn symbol_text(
+    alloc: Global,
+    name: &str,
+    head: &CmdHead,
+    symbol: &str,
+    list: &str,
+) -> Result<String, Memory>
+    ensures { IfOk result (λ text. string_bytes text ≡ symbol_line name.now (command_words head.now) symbol.now list.now) }
+{
+    let command = command_words(alloc, head)?;
+    Ok(symbol_by(alloc, name, command.as_str(), symbol, list)?)
+}
+
+/// The line of REPAIR_ADV.
+fn adv_text(alloc: Global, head: &CmdHead, flags: u8, requests: &[u8]) -> Result<String, Memory>
+    ensures { IfOk result (λ text. string_bytes text ≡ adv_line (command_words head.now) flags (requests_word (requests_of requests.now))) }
+{
+    let command = command_words(alloc, head)?;
+    let requests = requests_word(alloc, requests)?;
+    Ok(adv_by(alloc, command.as_str(), flags, requests.as_str())?)
+}
+
+/// The line of ACK_REQ.
+fn ackreq_text(
+    alloc: Global,
+    head: &CmdHead,
+    ack_type: u8,
+    ack_id: u8,
+    nodes: &[u8],
+) -> Result<String, Memory>
+    ensures { IfOk result (λ text. string_bytes text ≡ ackreq_line (command_words head.now) ack_type ack_id (numbers_word (nodes_of nodes.now))) }
+{
+    let command = command_words(alloc, head)?;
+    let nodes = nodes_word(alloc, nodes)?;
+    Ok(ackreq_by(alloc, command.as_str(), ack_type, ack_id, nodes.as_str())?)
+}
+
+/// The line of EOT.
+fn eot_text(alloc: Global, head: &CmdHead) -> Result<String, Memory>
+    ensures { IfOk result (λ text. string_bytes text ≡ eot_line (command_words head.now)) }
+{
+    let command = command_words(alloc, head)?;
+    Ok(eot_by(alloc, command.as_str())?)
+}
+
+/// The line of a command that is not read.
+fn opaque_text(alloc: Global, head: &CmdHead, sub_type: u8) -> Result<String, Memory>
+    ensures { IfOk result (λ text. string_bytes text ≡ opaque_line (command_words head.now) sub_type) }
+{
+    let command = command_words(alloc, head)?;
+    Ok(opaque_by(alloc, command.as_str(), sub_type)?)
+}
+
 /// The line of a command.
 fn command_text(alloc: Global, msg: &CommandMsg<'_>) -> Result<String, Memory>
     ensures { IfOk result (λ text. string_bytes text ≡ message_line (command_of msg.now)) }
@@ -134,21 +192,11 @@ fn command_text(alloc: Global, msg: &CommandMsg<'_>) -> Result<String, Memory>
             nodes,
             ..
         } => {
-            let command = command_words(alloc, head)?;
             let symbol = symbol_words(alloc, *object, id.block, id.symbol)?;
             let list = nodes_word(alloc, nodes)?;
-            Ok(symbol_by(
-                alloc,
-                "flush",
-                command.as_str(),
-                symbol.as_str(),
-                list.as_str(),
-            )?)
+            symbol_text(alloc, "flush", head, symbol.as_str(), list.as_str())
         }
-        CommandMsg::Eot { head, .. } => {
-            let command = command_words(alloc, head)?;
-            Ok(eot_by(alloc, command.as_str())?)
-        }
+        CommandMsg::Eot { head, .. } => eot_text(alloc, head),
         CommandMsg::Squelch {
             head,
             object,
@@ -156,42 +204,24 @@ fn command_text(alloc: Global, msg: &CommandMsg<'_>) -> Result<String, Memory>
             invalid,
             ..
         } => {
-            let command = command_words(alloc, head)?;
             let symbol = symbol_words(alloc, *object, id.block, id.symbol)?;
             let list = objects_word(alloc, invalid)?;
-            Ok(symbol_by(
-                alloc,
-                "squelch",
-                command.as_str(),
-                symbol.as_str(),
-                list.as_str(),
-            )?)
+            symbol_text(alloc, "squelch", head, symbol.as_str(), list.as_str())
         }
         CommandMsg::RepairAdv {
             head,
             flags,
             requests,
             ..
-        } => {
-            let command = command_words(alloc, head)?;
-            let requests = requests_word(alloc, requests)?;
-            Ok(adv_by(alloc, command.as_str(), *flags, requests.as_str())?)
-        }
+        } => { adv_text(alloc, head, *flags, requests) }
         CommandMsg::AckReq {
             head,
             ack_type,
             ack_id,
             nodes,
             ..
-        } => {
-            let command = command_words(alloc, head)?;
-            let nodes = nodes_word(alloc, nodes)?;
-            Ok(ackreq_by(alloc, command.as_str(), *ack_type, *ack_id, nodes.as_str())?)
-        }
-        CommandMsg::Opaque { head, sub_type, .. } => {
-            let command = command_words(alloc, head)?;
-            Ok(opaque_by(alloc, command.as_str(), *sub_type)?)
-        }
+        } => { ackreq_text(alloc, head, *ack_type, *ack_id, nodes) }
+        CommandMsg::Opaque { head, sub_type, .. } => opaque_text(alloc, head, *sub_type),
     }
 }
 

@@ -1,4 +1,3 @@
 pub mod SayLemmas
 pub mod EndingLemmas
 pub mod ScriptLemmas
-pub mod ShowLemmas

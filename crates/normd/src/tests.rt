@@ -252,16 +252,8 @@ fn offers_in(fabric: &ListFabric) -> usize {
     3
 }
 
-/// The calls that a session asked for: reads, datagrams that the network has, and takes.
-#[derive(Clone, Copy)]
-struct Asked {
-    reads: u64,
-    offered: usize,
-    takes: u64,
-}
-
 /// Two commands of which one call fails: the status, the lines that stand, the last line, and the calls that were asked
-/// for: a body that asks again after a failed call has asked for more.
+/// for, as reads, datagrams that the network has, and takes: a body that asks again after a failed call has asked for more.
 fn leaves<R: Threads + Wait + Sync + Abort>(
     rt: &R,
     alloc: Global,
@@ -269,48 +261,37 @@ fn leaves<R: Threads + Wait + Sync + Abort>(
     end: usize,
     last: &[u8],
     want: u8,
-    asked: Asked,
+    asked: (u64, usize, u64),
 ) -> Result<(), Fail> {
     let words = session(alloc)?;
     let left = outcome(rt, alloc, &words, b"1 data 61\n1 data 62\n", fails)?;
     assert_eq!(rt; left.status, want);
-    assert_eq!(rt; left.reads, asked.reads);
-    assert_eq!(rt; offers_in(&left.fabric), asked.offered);
-    assert_eq!(rt; left.fabric.takes(), asked.takes);
+    let (reads, offered, takes) = asked;
+    assert_eq!(rt; left.reads, reads);
+    assert_eq!(rt; offers_in(&left.fabric), offered);
+    assert_eq!(rt; left.fabric.takes(), takes);
     let mut text = Vec::from_slice(alloc, TWO.get(..end).ok_or("too short")?)?;
     text.extend_from_slice(last)?;
     assert_eq!(rt; left.output.bytes(), text.as_slice());
     Ok(())
 }
 
-/// A session that read its script asked for these.
-fn once_read(offered: usize, takes: u64) -> Asked {
-    Asked {
-        reads: 2,
-        offered,
-        takes,
-    }
-}
-
 #[test]
 fn a_failing_read_or_write_leaves_the_lines_so_far(rt: HostRuntime) -> Result<(), Fail> {
     let alloc = rt.alloc();
-    for reads in [1u64, 2] {
-        let asked = Asked {
-            reads,
-            offered: 0,
-            takes: 0,
-        };
-        leaves(&rt, alloc, Fails::Read(reads), 0, b"fault read\n", 4, asked)?;
+    for number in [1u64, 2] {
+        let asked = (number, 0usize, 0u64);
+        leaves(&rt, alloc, Fails::Read(number), 0, b"fault read\n", 4, asked)?;
     }
     let writes = [
-        (1u64, 0usize, once_read(0, 0)),
-        (2, 19, once_read(1, 2)),
-        (3, 40, once_read(1, 2)),
-        (4, 59, once_read(2, 4)),
-        (5, 80, once_read(2, 4)),
+        (1u64, 0usize, 0usize, 0u64),
+        (2, 19, 1, 2),
+        (3, 40, 1, 2),
+        (4, 59, 2, 4),
+        (5, 80, 2, 4),
     ];
-    for (number, end, asked) in writes {
+    for (number, end, offered, takes) in writes {
+        let asked = (2u64, offered, takes);
         leaves(&rt, alloc, Fails::Write(number), end, b"", 5, asked)?;
     }
     Ok(())
@@ -320,95 +301,69 @@ fn a_failing_read_or_write_leaves_the_lines_so_far(rt: HostRuntime) -> Result<()
 fn a_failing_call_of_the_network_leaves_the_lines_so_far(rt: HostRuntime) -> Result<(), Fail> {
     let alloc = rt.alloc();
     let last = b"fault fabric\n";
-    for (number, end, asked) in [(1u64, 19usize, once_read(0, 0)), (2, 59, once_read(1, 2))] {
+    for (number, end, offered, takes) in [(1u64, 19usize, 0usize, 0u64), (2, 59, 1, 2)] {
+        let asked = (2u64, offered, takes);
         leaves(&rt, alloc, Fails::Offer(number), end, last, 6, asked)?;
     }
     for (takes, end, offered) in [(1u64, 19usize, 1usize), (2, 19, 1), (3, 59, 2), (4, 59, 2)] {
-        leaves(
-            &rt,
-            alloc,
-            Fails::Take(takes),
-            end,
-            last,
-            6,
-            once_read(offered, takes),
-        )?;
+        let asked = (2u64, offered, takes);
+        leaves(&rt, alloc, Fails::Take(takes), end, last, 6, asked)?;
     }
+    Ok(())
+}
+
+/// A show of this input leaves these lines and this status, and asked for so many reads.
+fn shows<R: Threads + Wait + Sync + Abort>(
+    rt: &R,
+    alloc: Global,
+    input: &[u8],
+    fails: Fails,
+    want: &[u8],
+    status: u8,
+    reads: u64,
+) -> Result<(), Fail> {
+    let words = vec![in alloc; String::from_str(alloc, "show")?]?;
+    let left = outcome(rt, alloc, &words, input, fails)?;
+    assert_eq!(rt; left.status, status);
+    assert_eq!(rt; left.output.bytes(), want);
+    assert_eq!(rt; left.reads, reads);
     Ok(())
 }
 
 /// Two datagrams behind an empty line, of which the second is refused, and their lines.
 const SHOWN: &[u8] = b"\n13041685fffffffe8068007702000001\n1908000000000001\n";
-
 const SHOWN_LINES: &[u8] = b"eot 4294967294 5765 32872 0.7.7\nrefused type 9\n";
 
 #[test]
 fn datagrams_are_shown_line_by_line(rt: HostRuntime) -> Result<(), Fail> {
     let alloc = rt.alloc();
-    let words = vec![in alloc; String::from_str(alloc, "show")?]?;
-    let cases: [(&[u8], Fails, &[u8], u8, u64); 8] = [
-        (b"", Fails::Nothing, b"", 0, 1),
-        (SHOWN, Fails::Nothing, SHOWN_LINES, 9, 2),
-        (
-            b"16029abb00002010",
-            Fails::Nothing,
-            b"report 8208 39611\n",
-            0,
-            2,
-        ),
-        (
-            b"16029abb00002010\n\nxy\n16",
-            Fails::Nothing,
-            b"report 8208 39611\nrefused line 3\n",
-            3,
-            1,
-        ),
-        (
-            b"1908000000000001\n1",
-            Fails::Nothing,
-            b"refused type 9\nrefused line 2\n",
-            3,
-            2,
-        ),
-        (
-            b"16029abb00002010\n16029abb00002010",
-            Fails::Read(2),
-            b"report 8208 39611\nfault read\n",
-            4,
-            2,
-        ),
-        (SHOWN, Fails::Read(1), b"fault read\n", 4, 1),
-        (
-            SHOWN,
-            Fails::Write(2),
-            b"eot 4294967294 5765 32872 0.7.7\n",
-            5,
-            1,
-        ),
-    ];
-    for (input, fails, want, status, reads) in cases {
-        let left = outcome(&rt, alloc, &words, input, fails)?;
-        assert_eq!(rt; left.status, status);
-        assert_eq!(rt; left.output.bytes(), want);
-        assert_eq!(rt; left.reads, reads);
-    }
-    Ok(())
+    shows(&rt, alloc, SHOWN, Fails::Nothing, SHOWN_LINES, 9, 2)?;
+    let unended = b"16029ABB00002010";
+    shows(&rt, alloc, unended, Fails::Nothing, b"report 8208 39611\n", 0, 2)?;
+    let stopped = b"16029abb00002010\n\nxy\n16";
+    let lines = b"report 8208 39611\nrefused line 3\n";
+    shows(&rt, alloc, stopped, Fails::Nothing, lines, 3, 1)
+}
+
+#[test]
+fn a_failing_call_leaves_the_datagrams_so_far(rt: HostRuntime) -> Result<(), Fail> {
+    let alloc = rt.alloc();
+    let cut = b"16029abb00002010\n16029abb00002010";
+    let lines = b"report 8208 39611\nfault read\n";
+    shows(&rt, alloc, cut, Fails::Read(2), lines, 4, 2)?;
+    shows(&rt, alloc, SHOWN, Fails::Write(2), b"eot 4294967294 5765 32872 0.7.7\n", 5, 1)
 }
 
 #[test]
 fn a_line_of_3001_digits_is_refused(rt: HostRuntime) -> Result<(), Fail> {
     let alloc = rt.alloc();
-    let words = vec![in alloc; String::from_str(alloc, "show")?]?;
     let mut input = Vec::new(alloc);
-    for _ in 0..3000 {
+    for _ in 0..3000u32 {
         input.push(b'0')?;
     }
-    let left = outcome(&rt, alloc, &words, &input, Fails::Nothing)?;
-    assert_eq!(rt; left.output.bytes(), b"refused version 0\n".as_slice());
+    shows(&rt, alloc, &input, Fails::Nothing, b"refused version 0\n", 9, 2)?;
     input.push(b'0')?;
-    let left = outcome(&rt, alloc, &words, &input, Fails::Nothing)?;
-    assert_eq!(rt; left.output.bytes(), b"refused line 1\n".as_slice());
-    Ok(())
+    shows(&rt, alloc, &input, Fails::Nothing, b"refused line 1\n", 3, 1)
 }
 
 /// The output of a script of one object, of which the receiver handed up all or nothing.
