@@ -281,7 +281,15 @@ fn a_failing_read_or_write_leaves_the_lines_so_far(rt: HostRuntime) -> Result<()
     let alloc = rt.alloc();
     for number in [1u64, 2] {
         let asked = (number, 0usize, 0u64);
-        leaves(&rt, alloc, Fails::Read(number), 0, b"fault read\n", 4, asked)?;
+        leaves(
+            &rt,
+            alloc,
+            Fails::Read(number),
+            0,
+            b"fault read\n",
+            4,
+            asked,
+        )?;
     }
     let writes = [
         (1u64, 0usize, 0usize, 0u64),
@@ -332,6 +340,7 @@ fn shows<R: Threads + Wait + Sync + Abort>(
 
 /// Two datagrams behind an empty line, of which the second is refused, and their lines.
 const SHOWN: &[u8] = b"\n13041685fffffffe8068007702000001\n1908000000000001\n";
+
 const SHOWN_LINES: &[u8] = b"eot 4294967294 5765 32872 0.7.7\nrefused type 9\n";
 
 #[test]
@@ -339,7 +348,15 @@ fn datagrams_are_shown_line_by_line(rt: HostRuntime) -> Result<(), Fail> {
     let alloc = rt.alloc();
     shows(&rt, alloc, SHOWN, Fails::Nothing, SHOWN_LINES, 9, 2)?;
     let unended = b"16029ABB00002010";
-    shows(&rt, alloc, unended, Fails::Nothing, b"report 8208 39611\n", 0, 2)?;
+    shows(
+        &rt,
+        alloc,
+        unended,
+        Fails::Nothing,
+        b"report 8208 39611\n",
+        0,
+        2,
+    )?;
     let stopped = b"16029abb00002010\n\nxy\n16";
     let lines = b"report 8208 39611\nrefused line 3\n";
     shows(&rt, alloc, stopped, Fails::Nothing, lines, 3, 1)
@@ -351,7 +368,15 @@ fn a_failing_call_leaves_the_datagrams_so_far(rt: HostRuntime) -> Result<(), Fai
     let cut = b"16029abb00002010\n16029abb00002010";
     let lines = b"report 8208 39611\nfault read\n";
     shows(&rt, alloc, cut, Fails::Read(2), lines, 4, 2)?;
-    shows(&rt, alloc, SHOWN, Fails::Write(2), b"eot 4294967294 5765 32872 0.7.7\n", 5, 1)
+    shows(
+        &rt,
+        alloc,
+        SHOWN,
+        Fails::Write(2),
+        b"eot 4294967294 5765 32872 0.7.7\n",
+        5,
+        1,
+    )
 }
 
 #[test]
@@ -361,9 +386,25 @@ fn a_line_of_3001_digits_is_refused(rt: HostRuntime) -> Result<(), Fail> {
     for _ in 0..3000u32 {
         input.push(b'0')?;
     }
-    shows(&rt, alloc, &input, Fails::Nothing, b"refused version 0\n", 9, 2)?;
+    shows(
+        &rt,
+        alloc,
+        &input,
+        Fails::Nothing,
+        b"refused version 0\n",
+        9,
+        2,
+    )?;
     input.push(b'0')?;
-    shows(&rt, alloc, &input, Fails::Nothing, b"refused line 1\n", 3, 1)
+    shows(
+        &rt,
+        alloc,
+        &input,
+        Fails::Nothing,
+        b"refused line 1\n",
+        3,
+        1,
+    )
 }
 
 /// The output of a script of one object, of which the receiver handed up all or nothing.
