@@ -1,5 +1,5 @@
 #!/bin/sh
-# Runs the built program at the statuses 0, 2, 3, 4 and 5, and compares what it writes on standard output and standard error.
+# Runs the built program at the statuses 0, 2, 3, 4, 5 and 9, and compares what it writes on standard output and standard error.
 # It is run after `rt ci`, which leaves the program; the first row that differs is named, and ends it with status 1.
 cd "$(dirname "$0")/.." || exit 1
 program=crates/normd/out/normd
@@ -45,6 +45,15 @@ printf '1 data 61\n1 mark\n' >"$scratch/in"
 reason='line 2: a session runs only `1 data HEX` yet\n'
 row 'a command that is not built' 3 'refused line 2\n' session
 reason=
+printf '1908000000000001\n\n1304E4DB0000000183CD53C40600FF3E' >"$scratch/in"
+row 'datagrams of which one is refused' 9 'refused type 9\nackreq 1 58587 33741 83.12.4 255 62 -\n' show
+printf '13041685fffffffe8068007702000001\n' >"$scratch/in"
+row 'a datagram' 0 'eot 4294967294 5765 32872 0.7.7\n' show
+printf '1908000000000001\nxy\n1908000000000001\n' >"$scratch/in"
+reason='line 2: a datagram is an even number of hexadecimal digits, at most 3000\n'
+row 'a line that is no hexadecimal' 3 'refused type 9\nrefused line 2\n' show
+reason=
+row 'a show with a word too many' 2 "$usage\n" show now
 
 "$program" session <. >"$scratch/out" 2>"$scratch/err"
 ended $? 'a folder as input' 4

@@ -62,6 +62,13 @@ impl ListFabric {
     {
         self.network.offered(place)
     }
+
+    /// How many takes were asked for since the last start, failed ones too.
+    pub fn takes(&self) -> u64
+        ensures { result ≡ self.now.takes.made }
+    {
+        self.takes.made()
+    }
 }
 
 impl Fabric for ListFabric {

@@ -42,6 +42,13 @@ impl MemSource {
             calls: CallCount::of(failing),
         }
     }
+
+    /// How many reads were asked for, failed ones too.
+    pub fn reads(&self) -> u64
+        ensures { result ≡ self.now.calls.made }
+    {
+        self.calls.made()
+    }
 }
 
 /// Copies the octets into the front of the buffer.

@@ -1,3 +1,2 @@
-pub mod FieldLemmas
-pub mod Spelling
+pub mod Checked
 pub mod Written

@@ -1,12 +1,12 @@
 //! INFO and DATA with any header extensions (RFC 5740 section 4.2.1 and 4.2.2), read by the grammar of `norm_ext`.
 //! Their parts are lent from the datagram.
 
-ghost use Rattle.std.specs.Prelude.{◌≡◌, ◌↔◌, ◌+◌, ◌*◌, ◌≤◌, ◌<◌, IsTrue, Ok, Err, MatchResult, [], length};
-ghost use Rattle.norm_ext.specs.Reading.{info_read, data_read};
+ghost use Rattle.std.specs.Prelude.{◌≡◌, ◌↔◌, ◌+◌, ◌*◌, ◌≤◌, ◌<◌, IsTrue, Ok, Err, MatchResult, IfOk, [], length};
+ghost use Rattle.norm_ext.specs.Reading.{info_read, data_read, words_of, header_extensions_checked, header_from};
 ghost use Rattle.norm_ext.specs.Segment.{segment_in};
 ghost use Rattle.norm_objmsg.specs.MessageView.{info_of, data_of, part_of};
 ghost use Rattle.std.specs.Option.{option_map};
-ghost use Rattle.norm_ext.specs.Extensions.{extensions_of};
+ghost use Rattle.norm_ext.specs.Extensions.{extensions_of, IsChecked};
 ghost use Rattle.norm_ext.specs.Message.{Info, Data};
 ghost use Rattle.norm_ext.specs.Octets.{octets_of};
 ghost use Rattle.norm_objmsg.specs.CanWriteMessage.{CanWrite};
@@ -70,14 +70,32 @@ pub struct StreamPart<'a> {
     pub octets: &'a [u8],
 }
 
+/// The header's extensions, from a place on up to the header's end: a list of whole ones.
+fn extensions_in(bytes: &[u8], from: usize, end: usize) -> Result<&[u8], Refusal>
+    requires end { end ≡ 4 * words_of bytes.now }
+    requires from { from ≤ end }
+    requires long { end ≤ length bytes.now }
+    ensures exact { MatchResult result
+        (λ exts. (header_extensions_checked from bytes.now ≡ Ok tt) × (exts.now ≡ header_from from bytes.now))
+        (λ refusal. header_extensions_checked from bytes.now ≡ Err refusal) }
+    ensures whole { IfOk result (λ exts. IsChecked exts.now) }
+{
+    match check_extensions(bytes, from, end) {
+        Ok(exts) => Ok(exts),
+        Err(refusal) => Err(refusal),
+    }
+}
+
 /// The NORM_INFO message that the octets spell, or the first refusal.
 #[tactic(auto, unfolding(norm_ext::specs::Reading::info_read))]
 pub fn read_info(bytes: &[u8]) -> Result<InfoMsg<'_>, Refusal>
-    ensures { MatchResult result (λ m. info_read bytes.now ≡ Ok (info_of m)) (λ refusal. info_read bytes.now ≡ Err refusal) }
+    ensures exact { MatchResult result (λ m. info_read bytes.now ≡ Ok (info_of m)) (λ refusal. info_read bytes.now ≡ Err refusal) }
+    // Its extensions may be walked.
+    ensures whole { IfOk result (λ m. IsChecked m.exts.now) }
 {
     let end = check_header(MessageType::Info, bytes)?;
     check_encoding(bytes[13])?;
-    let exts = check_extensions(bytes, 16, end)?;
+    let exts = extensions_in(bytes, 16, end)?;
     let source = check_source(bytes)?;
     Ok(InfoMsg {
         head: read_object_head(bytes, source),
@@ -89,11 +107,13 @@ pub fn read_info(bytes: &[u8]) -> Result<InfoMsg<'_>, Refusal>
 /// The NORM_DATA message that the octets spell, or the first refusal.
 #[tactic(auto, unfolding(norm_ext::specs::Reading::data_read))]
 pub fn read_data(bytes: &[u8]) -> Result<DataMsg<'_>, Refusal>
-    ensures { MatchResult result (λ m. data_read bytes.now ≡ Ok (data_of m)) (λ refusal. data_read bytes.now ≡ Err refusal) }
+    ensures exact { MatchResult result (λ m. data_read bytes.now ≡ Ok (data_of m)) (λ refusal. data_read bytes.now ≡ Err refusal) }
+    // Its extensions may be walked.
+    ensures whole { IfOk result (λ m. IsChecked m.exts.now) }
 {
     let end = check_header(MessageType::Data, bytes)?;
     check_encoding(bytes[13])?;
-    let exts = check_extensions(bytes, 20, end)?;
+    let exts = extensions_in(bytes, 20, end)?;
     let source = check_source(bytes)?;
     Ok(DataMsg {
         head: read_object_head(bytes, source),

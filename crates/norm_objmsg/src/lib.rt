@@ -1,15 +1,16 @@
-//! The messages that carry objects (RFC 5740 section 4.2.1): NORM_DATA with FEC Encoding ID 5.
+//! The messages that carry objects (RFC 5740 sections 4.2.1 and 4.2.2), read and written by the grammar of `norm_ext`:
+//! NORM_INFO as `InfoMsg` and NORM_DATA as `DataMsg`, whose parts are lent from the datagram, a stream's segment as
+//! `StreamPart`, and with `fti_words` the extension that both lend.
 #![tactic(auto)]
 
-mod fields;
-mod fti;
 pub mod grammar;
-mod message;
-mod read;
+mod transmission;
 
-pub use crate::fti::Fti;
-pub use crate::message::{DataMsg, ObjHead, write_data};
-pub use crate::read::read_data;
+pub use crate::grammar::{
+    DataMsg, InfoMsg, StreamPart, read_data, read_info, read_part, write_data, write_info,
+};
+pub use crate::transmission::fti_words;
+pub use norm_ext::ObjHead;
 
 #[cfg(test)]
 mod tests;

@@ -5,6 +5,7 @@ ghost use Rattle.std.specs.Prelude.{◌<◌};
 use super::*;
 use fec_plan::PayloadId;
 use norm_base::{Datagram, InstanceId, NodeId};
+use norm_ext::{Extensions, Fti, read_fti};
 use std::process::Abort;
 use std::test::Fail;
 
@@ -30,15 +31,17 @@ fn worked_head(rt: &impl Abort) -> ObjHead
     }
 }
 
+/// What its extension says.
+const FTI: Fti = Fti {
+    l: 5,
+    e: 64,
+    b: 4,
+    max_n: 6,
+};
+
 #[test]
 fn the_worked_message_is_written(rt: HostRuntime) -> Result<(), Fail> {
-    let fti = Fti {
-        l: 5,
-        e: 64,
-        b: 4,
-        max_n: 6,
-    };
-    let exts = fti.octets();
+    let exts = fti_words(&FTI);
     let msg = DataMsg {
         head: worked_head(&rt),
         id: PayloadId::read([0, 0, 0, 0]),
@@ -55,17 +58,16 @@ fn the_worked_message_is_written(rt: HostRuntime) -> Result<(), Fail> {
 #[test]
 fn the_worked_message_is_read(rt: HostRuntime) {
     let bytes = WORKED;
-    let Some(msg) = read_data(&bytes) else {
+    let Ok(msg) = read_data(&bytes) else {
         panic!(rt; "these are octets of a message");
     };
     assert_eq!(rt; msg.head, worked_head(&rt));
     assert_eq!(rt; (msg.id.block, msg.id.symbol), (0, 0));
     assert_eq!(rt; msg.payload, b"hello".as_slice());
-    let Some((fti, rest)) = Fti::read(msg.exts) else {
-        panic!(rt; "these are octets of EXT_FTI");
+    let Ok(exts) = Extensions::check(msg.exts) else {
+        panic!(rt; "these are octets of extensions");
     };
-    assert_eq!(rt; (fti.l, fti.e, fti.b, fti.max_n), (5, 64, 4, 6));
-    assert_eq!(rt; rest.len(), 0);
+    assert!(rt; read_fti(exts) == Some(FTI), "the extension says another");
 }
 
 #[test]
@@ -73,23 +75,16 @@ fn other_octets_are_not_read(rt: HostRuntime) {
     for (place, octet) in [
         (0, 0x22),
         (0, 0x11),
-        (1, 7),
-        (1, 9),
+        (1, 4),
+        (1, 10),
         (7, 0),
         (13, 129),
-        (20, 65),
-        (21, 2),
+        (21, 4),
     ] {
         let mut bytes = WORKED;
         bytes[place] = octet;
-        assert!(rt; read_data(&bytes).is_none(), "octet {place} is {octet}");
+        assert!(rt; read_data(&bytes).is_err(), "octet {place} is {octet}");
     }
-    let mut any = WORKED;
-    for place in 4..8usize {
-        any[place] = 255;
-    }
-    assert!(rt; read_data(&any).is_none(), "source 4294967295");
-    assert!(rt; read_data(&WORKED[..31]).is_none(), "31 octets");
-    assert!(rt; read_data(&WORKED[..0]).is_none(), "no octet");
-    assert!(rt; read_data(&WORKED[..32]).is_some(), "no payload");
+    assert!(rt; read_data(&WORKED[..31]).is_err(), "31 octets");
+    assert!(rt; read_data(&WORKED[..32]).is_ok(), "no payload");
 }

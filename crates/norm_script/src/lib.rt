@@ -3,7 +3,8 @@
 //! `read_script` makes a `Script` (a profile and the commands) of a text, or answers the first line without
 //! meaning; `why_refused` says why that line has none. `read_commands` reads a script for a profile that is
 //! given, and `read` reads as much of the grammar as it is told to. `generate` writes a script to try a
-//! session with. The program reads with these, and `norm_session` runs what they read.
+//! session with. The program reads with these, and `norm_session` runs what they read. `split_at_first` cuts a
+//! text at a line feed or a space, for whoever reads other lines.
 #![tactic(auto)]
 
 mod built;
@@ -27,3 +28,4 @@ pub use crate::reader::{read, read_commands, read_script, why_refused};
 pub use crate::refusal::{Extent, Refusal, ScriptFault, Why};
 pub use crate::script::{Line, Script, Verb};
 pub use crate::setting::Setting;
+pub use crate::words::split_at_first;

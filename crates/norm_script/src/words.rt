@@ -17,7 +17,7 @@ const MOST_DIGITS: usize = 16_384;
 const MOST_NAME: usize = 64;
 
 /// The octets before the first of these, and those after it. `None` where there is none.
-pub(crate) fn split_at_first(bytes: &[u8], octet: u8) -> Option<(&[u8], &[u8])>
+pub fn split_at_first(bytes: &[u8], octet: u8) -> Option<(&[u8], &[u8])>
     ensures { option_map (λ x. (x.0.now, x.1.now)) result ≡ split_at_first octet bytes.now }
 {
     for (i, x) in bytes.iter().enumerate() {

@@ -4,10 +4,9 @@ use Rattle.std.specs.List.{AllByRecursion}
 use Rattle.std.proofs.lemmas.List.Elements.{All-from_recursion}
 use Rattle.norm_base.specs.Network.{WasOffered}
 use Rattle.norm_base.specs.Settings.{Settings, InRange}
-use Rattle.norm_objmsg.specs.DataText.{data_octets}
 use Rattle.norm_session.specs.ReceiverState.{Got, ReceiverState, object_in, receiver_got, had, next_up, without}
 use Rattle.norm_session.specs.Safe.{IsHonest}
-use Rattle.norm_session.specs.SenderState.{Entry, symbol_of}
+use Rattle.norm_session.specs.SenderState.{Entry, symbol_octets}
 use Rattle.norm_session.specs.Turn.{Answer, take_event, delivered, delivered_all, receiver_node}
 use Rattle.norm_session.specs.declared.event.Event.{Event}
 use Rattle.norm_session.proofs.ObjectLemmas.{object_made}
@@ -25,7 +24,7 @@ pub record IsOffer (p : Settings) (order : List Entry) (offer : ℕ × List ℕ)
   pub small : index < 65536
   pub wide : sequence < 65536
   pub object : HasOctets order index octets
-  pub datagram : offer.1 ≡ data_octets (symbol_of p sequence index octets)
+  pub datagram : offer.1 ≡ symbol_octets p sequence index octets
 
 abbrev pub IsHeldOf : List Entry → Got → Type 0
 IsHeldOf order got = HasOctets order got.index got.octets

@@ -7,10 +7,9 @@ use Rattle.std.proofs.lemmas.Grind.{flat_map-append}
 use Rattle.std.proofs.lemmas.Option.{slice_get_within}
 use Rattle.norm_base.specs.Settings.{Settings, InRange}
 use Rattle.norm_base.specs.declared.kinds.Sent.TheVariants as sent
-use Rattle.norm_objmsg.specs.DataText.{data_octets}
 use Rattle.norm_session.specs.ReceiverState.{ReceiverState, receiver_opening}
 use Rattle.norm_session.specs.Safe.{accepted_in, handed_in, numbered, IsHonest, octets_in}
-use Rattle.norm_session.specs.SenderState.{Entry, SenderState, sender_opening, symbol_of, sender_datagram, sender_after}
+use Rattle.norm_session.specs.SenderState.{Entry, SenderState, sender_opening, symbol_octets, sender_datagram, sender_after}
 use Rattle.norm_session.specs.SessionRun.{first_of, rest_of}
 use Rattle.norm_session.specs.Turn.{Answer, take_event, delivered_all, receiver_node, ups_of, taken_ups, up_events, offer_events, entry_of, octets_of, job_of, origin_of, pull_events}
 use Rattle.norm_session.specs.WholeTurn.{pulled, pull_part, moment_of, turn_events, sender_after_turn, receiver_after_turn}
@@ -90,8 +89,8 @@ pub kept-sent : (p : Settings) (all : List Entry) (s : SenderState) (r : Receive
     → Kept p all (sender_after p s now d) r left (offers ++ offered_by p.sender d) accepted handed
 kept-sent p all s r left offers accepted handed now None is k = rw (append-nil offers) k
 kept-sent p all s r left offers accepted handed now (Some datagram) is k =
-    let entry = map_some (λ (e : Entry). data_octets (symbol_of p s.sequence s.next e.octets)) (slice_get s.order s.next) datagram
-    (unguarded (ltb now s.next_send) (option_map (λ (e : Entry). data_octets (symbol_of p s.sequence s.next e.octets)) (slice_get s.order s.next)) datagram is) in
+    let entry = map_some (λ (e : Entry). symbol_octets p s.sequence s.next e.octets) (slice_get s.order s.next) datagram
+    (unguarded (ltb now s.next_send) (option_map (λ (e : Entry). symbol_octets p s.sequence s.next e.octets) (slice_get s.order s.next)) datagram is) in
     let within : s.next < length s.order = slice_get_within s.order s.next entry.0 entry.1.0 in
     let whole : length all ≡ length s.order + length (map entry_of left) = ap length k.order ∙ length-append s.order (map entry_of left) in
     let few = k.few in

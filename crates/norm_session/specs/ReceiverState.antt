@@ -1,10 +1,11 @@
-use Rattle.std.specs.Prelude.{ℕ, ◌+◌, ◌-◌, ◌%◌, ◌==◌, ◌&&◌, ◌||◌, Bool, false, List, [], ◌∷◌, ◌++◌, length, nat_lt, nat_le, Option, None, Some, if◌then◌else◌, option_and_then}
+use Rattle.std.specs.Prelude.{ℕ, ◌+◌, ◌-◌, ◌%◌, ◌==◌, ◌&&◌, ◌||◌, Bool, false, List, [], ◌∷◌, ◌++◌, length, nat_lt, nat_le, Option, None, Some, Result, Ok, Err, if◌then◌else◌}
 use Rattle.std.specs.List.{list_any}
 use Rattle.norm_base.specs.Settings.{Settings}
-use Rattle.norm_objmsg.specs.FtiText.{fti_at}
-use Rattle.norm_objmsg.specs.DataText.{Data}
-use Rattle.norm_objmsg.specs.DataReading.{data_at}
-use Rattle.norm_objmsg.specs.declared.fti.Fti.{Fti}
+use Rattle.norm_ext.specs.Extensions.{fti_of}
+use Rattle.norm_ext.specs.Message.{Message, DataMessage, Info, Data, Flush, Eot, Squelch, RepairAdv, AckReq, Opaque, Nack, Ack, Report}
+use Rattle.norm_ext.specs.Reading.{data_read}
+use Rattle.norm_ext.specs.declared.fti.Fti.{Fti}
+use Rattle.norm_ext.specs.declared.refusal.Refusal.{Refusal}
 
 -- an object that came whole: its index and its octets
 pub record Got : Type 0 where
@@ -26,22 +27,29 @@ abbrev pub index_of : Settings → ℕ → ℕ
 index_of p object = (65536 + object - p.first) % 65536
 
 -- the transmission information is the profile's, for one source symbol of this length
-abbrev pub fits_profile : Settings → ℕ → Option (Fti × List ℕ) → Bool
+abbrev pub fits_profile : Settings → ℕ → Option Fti → Bool
 fits_profile p len None = false
 fits_profile p len (Some fti) =
-    fti.0.e == p.e && fti.0.b == p.b && fti.0.max_n == p.max_n && fti.0.l == len && nat_le 1 len && nat_le len p.e
+    fti.e == p.e && fti.b == p.b && fti.max_n == p.max_n && fti.l == len && nat_le 1 len && nat_le len p.e
 
 -- a message counts: it is the sender's, of the profile's instance, and the whole of an object of one symbol
-abbrev pub counts : Settings → Data → Bool
+abbrev pub counts : Settings → DataMessage → Bool
 counts p m =
     m.head.source == p.sender && m.head.instance == p.instance && m.id.block == 0 && m.id.symbol == 0
-    && fits_profile p (length m.payload) (fti_at m.exts)
+    && fits_profile p (length m.payload) (fti_of m.extensions)
 
--- the object that a datagram brings, if it counts
+-- the object that a message brings, if it counts
+abbrev pub object_by : Settings → Message → Option Got
+object_by p (Data m) = if counts p m then Some (record { index = index_of p m.head.object; octets = m.payload }) else None
+object_by p _ = None
+
+-- the object that a datagram brings, if it is one of NORM_DATA (RFC 5740 section 4.2.1) that counts
+abbrev pub object_read : Settings → Result Message Refusal → Option Got
+object_read p (Ok m) = object_by p m
+object_read p (Err refusal) = None
+
 abbrev pub object_in : Settings → List ℕ → Option Got
-object_in p bytes = option_and_then
-    (λ (m : Data). if counts p m then Some (record { index = index_of p m.head.object; octets = m.payload }) else None)
-    (data_at bytes)
+object_in p octets = object_read p (data_read octets)
 
 -- an object of this index was handed up or is held
 abbrev pub had : ReceiverState → ℕ → Bool

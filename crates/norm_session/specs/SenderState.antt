@@ -4,8 +4,9 @@ use Rattle.std.specs.Option.{option_map}
 use Rattle.norm_base.specs.declared.kinds.Sent.{Sent}
 use Rattle.norm_base.specs.declared.kinds.Sent.TheVariants.{Nothing, Datagram}
 use Rattle.norm_base.specs.Settings.{Settings}
-use Rattle.norm_objmsg.specs.FtiText.{fti_octets}
-use Rattle.norm_objmsg.specs.DataText.{Data, data_octets}
+use Rattle.norm_ext.specs.Extensions.{fti_extension}
+use Rattle.norm_ext.specs.Message.{DataMessage, Data}
+use Rattle.norm_ext.specs.Octets.{octets_of}
 
 -- an object of the transport order: the producer and number of its command, and its octets
 pub record Entry : Type 0 where
@@ -30,7 +31,7 @@ abbrev pub enqueued : SenderState → Entry → SenderState
 enqueued s entry = record { order = s.order ++ entry ∷ []; next = s.next; next_send = s.next_send; sequence = s.sequence }
 
 -- the one symbol of an object of at most e octets, as NORM_DATA (RFC 5740 section 4.2.1)
-abbrev pub symbol_of : Settings → ℕ → ℕ → List ℕ → Data
+abbrev pub symbol_of : Settings → ℕ → ℕ → List ℕ → DataMessage
 symbol_of p sequence index octets = record {
   head = record {
     source = p.sender;
@@ -43,9 +44,13 @@ symbol_of p sequence index octets = record {
     object = (p.first + index) % 65536;
   };
   id = record { block = 0; symbol = 0 };
-  exts = fti_octets (record { l = length octets; e = p.e; b = p.b; max_n = p.max_n });
+  extensions = fti_extension (record { l = length octets; e = p.e; b = p.b; max_n = p.max_n }) ∷ [];
   payload = octets;
 }
+
+-- the datagram of that symbol
+unfoldable pub symbol_octets : Settings → ℕ → ℕ → List ℕ → List ℕ
+symbol_octets p sequence index octets = octets_of (Data (symbol_of p sequence index octets))
 
 -- a sum of moments that passes 64 bits is the last one
 abbrev pub later : ℕ → ℕ → ℕ
@@ -65,7 +70,7 @@ sent_next p s now = record {
 abbrev pub sender_datagram : Settings → SenderState → ℕ → Option (List ℕ)
 sender_datagram p s now =
     if nat_lt now s.next_send then None
-    else option_map (λ (entry : Entry). data_octets (symbol_of p s.sequence s.next entry.octets)) (slice_get s.order s.next)
+    else option_map (λ (entry : Entry). symbol_octets p s.sequence s.next entry.octets) (slice_get s.order s.next)
 
 -- the state after a tick that gave this
 abbrev pub sender_after : Settings → SenderState → ℕ → Option (List ℕ) → SenderState

@@ -6,12 +6,12 @@ ghost use Rattle.std.specs.List.{list_any};
 ghost use Rattle.norm_session.specs.ReceiverState.{Got, receiver_opening, index_of, fits_profile, counts, object_in, had, receiver_got, next_up, without, receiver_took};
 ghost use Rattle.norm_session.specs.ReceiverStep.{ReceiverStep, Delivered, Taken, Silent, Ups};
 ghost use Rattle.norm_base.specs.Settings.{Settings};
-ghost use Rattle.norm_objmsg.specs.DataView.{data_of};
-ghost use Rattle.norm_objmsg.specs.FtiText.{fti_at};
+ghost use Rattle.norm_ext.specs.Extensions.{extensions_of, fti_of, IsChecked};
 
 use fec_plan::PayloadId;
 use norm_base::{Memory, Octets, Profile};
-use norm_objmsg::{DataMsg, Fti, read_data};
+use norm_ext::{Extensions, read_fti};
+use norm_objmsg::{DataMsg, read_data};
 use std::alloc::Global;
 use std::marker::Model;
 
@@ -50,7 +50,8 @@ impl Held {
 
 /// Whether a message is the whole of an object of this profile's sender and instance.
 fn does_count(profile: &Profile, message: &DataMsg<'_>) -> bool
-    ensures { result ≡ counts profile.now (data_of message.now) }
+    requires { IsChecked message.now.exts.now }
+    ensures { result ≡ counts profile.now (record { head = message.now.head; id = message.now.id; extensions = extensions_of message.now.exts.now; payload = message.now.payload.now }) }
 {
     let source = message.head.source.number();
     let id = message.id;
@@ -65,10 +66,14 @@ fn does_count(profile: &Profile, message: &DataMsg<'_>) -> bool
 
 /// Whether the transmission information is the profile's, for one source symbol of this length.
 fn fits(profile: &Profile, exts: &[u8], len: usize) -> bool
-    requires { len < 2 ^ 63 }
-    ensures { result ≡ fits_profile profile.now len (fti_at exts.now) }
+    requires whole { IsChecked exts.now }
+    requires length { len < 2 ^ 63 }
+    ensures { result ≡ fits_profile profile.now len (fti_of (extensions_of exts.now)) }
 {
-    let Some((fti, _)) = Fti::read(exts) else {
+    let Ok(exts) = Extensions::check(exts) else {
+        return false;
+    };
+    let Some(fti) = read_fti(exts) else {
         return false;
     };
     fti.e == profile.e
@@ -84,7 +89,7 @@ fn object_of<'a>(profile: &Profile, bytes: &'a [u8]) -> Option<(u32, &'a [u8])>
     ensures value { option_map (λ x. record { index = x.0; octets = x.1.now }) result ≡ object_in profile.now bytes.now }
     ensures index { IfSome result (λ x. x.0 < 65536) }
 {
-    let Some(message) = read_data(bytes) else {
+    let Ok(message) = read_data(bytes) else {
         return None;
     };
     if !does_count(profile, &message) {

@@ -1,15 +1,15 @@
 //! The sender of one-symbol data objects (RFC 5740 section 5.2).
 
 ghost use Rattle.std.specs.Prelude.{◌≡◌, ◌+◌, ◌≤◌, ◌<◌, [], ◌++◌, length, ◌^◌, ◌↔◌, IsTrue, IfOk, OnOk, OnErr, unwrap_or};
-ghost use Rattle.norm_session.specs.SenderState.{sender_opening, enqueued, symbol_of, sender_datagram, sender_after, sent_of};
+ghost use Rattle.norm_session.specs.SenderState.{sender_opening, enqueued, symbol_octets, sender_datagram, sender_after, sent_of};
 ghost use Rattle.norm_session.specs.SenderStep.{SenderStep, Given, Ticked, Accepted, Sends};
 ghost use Rattle.norm_base.specs.Settings.{Settings};
-ghost use Rattle.norm_objmsg.specs.DataText.{data_octets};
 
 use crate::job::Receipt;
 use fec_plan::PayloadId;
 use norm_base::{Datagram, InstanceId, Memory, Moment, NodeId, Octets, Origin, Profile, Sent};
-use norm_objmsg::{DataMsg, Fti, ObjHead, write_data};
+use norm_ext::Fti;
+use norm_objmsg::{DataMsg, ObjHead, fti_words, write_data};
 use std::alloc::Global;
 use std::marker::Model;
 
@@ -43,11 +43,12 @@ impl Kept {
 }
 
 /// Writes the one symbol of an object into the empty datagram.
+#[tactic(auto, unfolding(crate::specs::SenderState::symbol_octets))]
 fn write_symbol(profile: &Profile, sequence: u16, index: usize, octets: &[u8], out: &mut Datagram)
     requires empty { out.old ≡ [] }
     requires index { index < 2 ^ 63 }
     requires most { length octets.now ≤ 1400 }
-    ensures { out.new ≡ data_octets (symbol_of profile.now sequence index octets.now) }
+    ensures { out.new ≡ symbol_octets profile.now sequence index octets.now }
 {
     let fti = Fti {
         l: octets.len() as u64,
@@ -71,7 +72,7 @@ fn write_symbol(profile: &Profile, sequence: u16, index: usize, octets: &[u8], o
             block: 0,
             symbol: 0,
         },
-        exts: &fti.octets(),
+        exts: &fti_words(&fti),
         payload: octets,
     };
     write_data(&message, out);

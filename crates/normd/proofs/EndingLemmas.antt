@@ -12,7 +12,7 @@ use Rattle.norm_session.specs.declared.fault.SessionFault.{SessionFault}
 use Rattle.norm_session.specs.declared.fault.SessionFault.TheVariants.{Write as Writing, Fabric as Calling, Memory as Wanting}
 use Rattle.normd.specs.Ends.{outside, Ends, EndsEarly, Prepared, IsReadEnding, IsTextEnding, IsLastEnding, IsBrokenEnding, IsInput, RanSession, BrokeSession, is_session}
 use Rattle.normd.specs.declared.status.Ending.{Ending}
-use Rattle.normd.specs.declared.status.Ending.TheVariants.{Done, Memory, Words, Refused, Read, Write, Fabric, Spent}
+use Rattle.normd.specs.declared.status.Ending.TheVariants.{Done, Datagram, Memory, Words, Refused, Line, Read, Write, Fabric, Spent}
 
 -- Each part that ends the program early, or at last, in plain variables: the input before and after (i, j), the network
 -- (m, n), the output's pieces (u, v, w), and the counts of failed reads (r, s), calls (f, g) and writes (k, l, t).
@@ -31,6 +31,8 @@ read_ends Memory words i j u w r s k t is h = λ n f. (
 read_ends Read words i j u w r s k t is h = λ n f. (is, record { cause = h.0; network = refl; calls = refl; output = h.1 })
 read_ends Done words i j u w r s k t is h = absurd h
 read_ends Words words i j u w r s k t is h = absurd h
+read_ends Datagram words i j u w r s k t is h = absurd h
+read_ends (Line n) words i j u w r s k t is h = absurd h
 read_ends (Refused refusal) words i j u w r s k t is h = absurd h
 read_ends Write words i j u w r s k t is h = absurd h
 read_ends Fabric words i j u w r s k t is h = absurd h
@@ -60,6 +62,8 @@ text_ends (Refused refusal) words text i j u w r s k t is input quiet h = λ n f
 )
 text_ends Done words text i j u w r s k t is input quiet h = absurd h
 text_ends Words words text i j u w r s k t is input quiet h = absurd h
+text_ends Datagram words text i j u w r s k t is input quiet h = absurd h
+text_ends (Line n) words text i j u w r s k t is input quiet h = absurd h
 text_ends Read words text i j u w r s k t is input quiet h = absurd h
 text_ends Write words text i j u w r s k t is input quiet h = absurd h
 text_ends Fabric words text i j u w r s k t is input quiet h = absurd h
@@ -124,6 +128,8 @@ last_ends Write words script journal whole i j m n u v w r s f g k l t p reads r
     )
 last_ends Memory words script journal whole i j m n u v w r s f g k l t p reads runs writes calls h = absurd h
 last_ends Words words script journal whole i j m n u v w r s f g k l t p reads runs writes calls h = absurd h
+last_ends Datagram words script journal whole i j m n u v w r s f g k l t p reads runs writes calls h = absurd h
+last_ends (Line number) words script journal whole i j m n u v w r s f g k l t p reads runs writes calls h = absurd h
 last_ends (Refused refusal) words script journal whole i j m n u v w r s f g k l t p reads runs writes calls h = absurd h
 last_ends Read words script journal whole i j m n u v w r s f g k l t p reads runs writes calls h = absurd h
 last_ends Fabric words script journal whole i j m n u v w r s f g k l t p reads runs writes calls h = absurd h

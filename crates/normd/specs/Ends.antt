@@ -15,13 +15,10 @@ use Rattle.norm_session.specs.declared.fault.SessionFault.TheVariants.{Write as 
 use Rattle.norm_script.specs.Reading.{script_of}
 use Rattle.norm_script.specs.declared.refusal.Extent.TheVariants.{Built}
 use Rattle.norm_script.specs.declared.refusal.Refusal.{Refusal}
-use Rattle.normd.specs.StatusOf.{status_of}
-use Rattle.normd.specs.declared.arguments.WordsFault.{WordsFault}
-use Rattle.normd.specs.declared.arguments.WordsFault.TheVariants.{NotText, Memory as NoMemory}
 use Rattle.normd.specs.declared.status.Ending.{Ending}
-use Rattle.normd.specs.declared.status.Ending.TheVariants.{Done, Memory, Words, Refused, Read, Write, Fabric, Spent}
+use Rattle.normd.specs.declared.status.Ending.TheVariants.{Done, Datagram, Memory, Words, Refused, Line, Read, Write, Fabric, Spent}
 
--- the words of the one command
+-- the words of a session
 abbrev pub is_session : List (List ℕ) → Bool
 is_session [] = false
 is_session (word ∷ []) = pointwise nat_eq word (codes "session")
@@ -159,8 +156,10 @@ EndsSession Memory before after = WantedMemory before after
 EndsSession Write before after = FailedWrite before after
 EndsSession Fabric before after = FailedCall before after
 EndsSession Words before after = ⊥
+EndsSession Datagram before after = ⊥
+EndsSession (Line n) before after = ⊥
 
--- the words are no command exactly where the ending says so, and else a session was run
+-- of words that are not a show's: they are no command exactly where the ending says so, and else a session was run
 abbrev pub Ends : Ending → List (List ℕ) → Outside → Outside → Type 0
 Ends Words words before after = (is_session words ≡ false) × RefusedWords before after
 Ends ending words before after = (is_session words ≡ true) × EndsSession ending before after
@@ -175,19 +174,7 @@ outside input network written read_faults network_faults write_faults = record {
   write_faults = write_faults;
 }
 
--- A call with these words ended so: it answers the ending's status, and what the ending says holds.
-pub record EndsWith (status : ℕ) (words : List (List ℕ)) (before after : Outside) : Type 0 where
-  pub ending : Ending
-  pub is : status ≡ status_of ending
-  pub holds : Ends ending words before after
-
--- The words of the command line were not read: one is no text, which is refused as other words are, or there was no memory
--- for them, and nothing was done.
-abbrev pub EndsUnread : WordsFault → ℕ → Outside → Outside → Type 0
-EndsUnread NotText status before after = (status ≡ status_of Words) × RefusedWords before after
-EndsUnread NoMemory status before after = (status ≡ status_of Memory) × (after ≡ before)
-
--- What there is to run: the words are the one command, and the input is this script.
+-- What there is to run: the words are a session's, and the input is this script.
 pub record Prepared (script : Commands) (words : List (List ℕ)) (before after : Option (List ℕ)) : Type 0 where
   pub command : is_session words ≡ true
   pub text : List ℕ

@@ -1,3 +1,5 @@
 pub mod StatusOf
 pub mod Ends
+pub mod ShowEnds
+pub mod Commands
 pub mod InputCause

@@ -6,6 +6,7 @@ mod arguments;
 mod disturbed;
 mod input;
 mod program;
+mod show;
 mod status;
 #[cfg(test)]
 mod tests;

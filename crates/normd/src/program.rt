@@ -2,12 +2,14 @@
 
 ghost use Rattle.std.specs.Prelude.{◌≡◌, codes, map, string_bytes, Ok, MatchResult, IfOk, IfErr, OnOk};
 ghost use Rattle.std.specs.Process.{exit_status};
-ghost use Rattle.normd.specs.Ends.{is_session, usage_line, refused_line, outside, Says, IsInput, Prepared, IsReadEnding, IsTextEnding, IsLastEnding, IsBrokenEnding, EndsEarly, Ends, EndsWith, EndsUnread};
+ghost use Rattle.normd.specs.Ends.{is_session, usage_line, refused_line, outside, Says, IsInput, Prepared, IsReadEnding, IsTextEnding, IsLastEnding, IsBrokenEnding, EndsEarly, Ends};
+ghost use Rattle.normd.specs.Commands.{is_show, EndsBy, EndsWith, EndsUnread};
 ghost use Rattle.norm_script.specs.Reading.{script_of};
 ghost use Rattle.norm_session.specs.SessionRun.{IsScript};
 
 use crate::arguments::WordsFault;
 use crate::input::{InputFault, read_all};
+use crate::show::show;
 use crate::status::{Ending, Status};
 use norm_base::{Clock, Fabric, Failed, Files, Memory, Sink, Source};
 use norm_script::{Extent, read};
@@ -31,16 +33,26 @@ fn is_session(words: &[String]) -> bool
     }
 }
 
+/// Whether the words are `show` alone.
+fn is_show(words: &[String]) -> bool
+    ensures { result ≡ is_show (map string_bytes words.now) }
+{
+    match words {
+        [word] => word.as_bytes() == b"show".as_slice(),
+        _ => false,
+    }
+}
+
 /// Writes a last line. A failed write leaves a front of it and raises the count, and decides nothing.
-fn say<K: Sink>(output: &mut K, line: &[u8])
+pub(crate) fn say<K: Sink>(output: &mut K, line: &[u8])
     ensures { Says (K.pieces output.old) (K.pieces output.new) (K.fault_count output.old) (K.fault_count output.new) line.now }
 {
     let _ = output.write(line);
 }
 
-/// The line that refuses line `n` of a script.
+/// The line that refuses line `n` of the input.
 #[tactic(auto, unfolding(crate::specs::Ends::refused_line))]
-fn refused_line(alloc: Global, n: u32) -> Result<String, AllocError>
+pub(crate) fn refused_line(alloc: Global, n: u64) -> Result<String, AllocError>
     ensures { IfOk result (λ text. string_bytes text ≡ refused_line n) }
 {
     format!(in alloc; "refused line {n}\n")
@@ -79,7 +91,7 @@ fn read_text<K: Sink>(alloc: Global, text: &[u8], output: &mut K) -> Result<Scri
     match read(alloc, text, Extent::Built) {
         Ok(Ok(script)) => Ok(script),
         Ok(Err(refusal)) => {
-            let line = refused_line(alloc, refusal.line)?;
+            let line = refused_line(alloc, u64::from(refusal.line))?;
             say(output, line.as_bytes());
             Err(Ending::Refused { refusal })
         }
@@ -139,9 +151,9 @@ fn prepare<S: Source, K: Sink>(
     read_text(alloc, &text, output)
 }
 
-/// How the program ends with these words after its name; what each ending says is in `Ends`. It leaves the
+/// How the program ends with these words, which are not a show's; what each ending says is in `Ends`. It leaves the
 /// files and the clock as they were. Only the session itself is handed the runtime.
-fn end_of<R: Threads + Wait + Sync, S: Source, K: Sink, F: Fabric, D: Files, C: Clock>(
+fn run_words<R: Threads + Wait + Sync, S: Source, K: Sink, F: Fabric, D: Files, C: Clock>(
     rt: &R,
     alloc: Global,
     words: &Vec<String>,
@@ -170,6 +182,33 @@ fn end_of<R: Threads + Wait + Sync, S: Source, K: Sink, F: Fabric, D: Files, C: 
     }
 }
 
+/// How the program ends with these words, after its name; what each ending says is in `EndsBy`. It leaves the
+/// files and the clock as they were. Only the session itself is handed the runtime.
+fn end_of<R: Threads + Wait + Sync, S: Source, K: Sink, F: Fabric, D: Files, C: Clock>(
+    rt: &R,
+    alloc: Global,
+    words: &Vec<String>,
+    input: &mut S,
+    output: &mut K,
+    fabric: &mut F,
+    files: &mut D,
+    clock: &mut C,
+) -> Ending
+    ensures ends { EndsBy result (map string_bytes words.now.items)
+        (outside (S.left input.old) (F.told fabric.old) (K.pieces output.old)
+        (S.fault_count input.old) (F.fault_count fabric.old) (K.fault_count output.old))
+        (outside (S.left input.new) (F.told fabric.new) (K.pieces output.new)
+        (S.fault_count input.new) (F.fault_count fabric.new) (K.fault_count output.new)) }
+    ensures files { D.contents files.new ≡ D.contents files.old }
+    ensures file_faults { D.fault_count files.new ≡ D.fault_count files.old }
+    ensures clock { C.moments clock.new ≡ C.moments clock.old }
+{
+    if is_show(words) {
+        return show(alloc, input, output);
+    }
+    run_words(rt, alloc, words, input, output, fabric, files, clock)
+}
+
 /// The program: `words` are those after its name. Answers the exit status; what each one says is in
 /// `Ends`. It leaves the files and the clock as they were.
 pub fn norm_main<R: Threads + Wait + Sync, S: Source, K: Sink, F: Fabric, D: Files, C: Clock>(
@@ -196,8 +235,16 @@ pub fn norm_main<R: Threads + Wait + Sync, S: Source, K: Sink, F: Fabric, D: Fil
 
 /// Says on standard error why a line was refused.
 fn explain(rt: &impl Eprint, ending: &Ending) {
-    if let Ending::Refused { refusal } = ending {
-        let _ = eprintln!(rt; "{refusal}");
+    match ending {
+        Ending::Refused { refusal } => {
+            let _ = eprintln!(rt; "{refusal}");
+        }
+        Ending::Line { number } => {
+            let _ = eprintln!(rt;
+                "line {number}: a datagram is an even number of hexadecimal digits, at most 3000"
+            );
+        }
+        _ => {}
     }
 }
 

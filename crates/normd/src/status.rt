@@ -21,7 +21,7 @@ impl Model for Status {
 
     ghost view = { λ s. s.0 };
 
-    ghost invariant = { λ s. s.0 ≤ 8 };
+    ghost invariant = { λ s. s.0 ≤ 9 };
 
     ghost inverse = { λ n. record { 0 = n } };
 }
@@ -43,17 +43,21 @@ impl From<Status> for ExitCode {
     }
 }
 
-/// How a command ended.
+/// How the program ended.
 #[derive(Clone, Copy, Debug, PartialEq, Eq)]
 pub enum Ending {
     /// All was done.
     Done,
+    /// All was shown, and a datagram was refused.
+    Datagram,
     /// There was no memory.
     Memory,
     /// The words are no command.
     Words,
     /// A line of the script has no meaning, or is none that a session can run today.
     Refused { refusal: Refusal },
+    /// A line to be shown, of this number, spells no datagram.
+    Line { number: u64 },
     /// A read failed.
     Read,
     /// A write failed.
@@ -81,11 +85,12 @@ impl Ending {
             Ending::Done => Status(0),
             Ending::Memory => Status(1),
             Ending::Words => Status(2),
-            Ending::Refused { .. } => Status(3),
+            Ending::Refused { .. } | Ending::Line { .. } => Status(3),
             Ending::Read => Status(4),
             Ending::Write => Status(5),
             Ending::Fabric => Status(6),
             Ending::Spent => Status(8),
+            Ending::Datagram => Status(9),
         }
     }
 }

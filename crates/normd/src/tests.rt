@@ -44,14 +44,24 @@ fn network(alloc: Global, fails: Fails) -> Result<ListFabric, Fail> {
     }
 }
 
-/// The status, the output and the network of these words with this input.
+/// What a call of the program left.
+#[derive(Drop)]
+struct Left {
+    status: u8,
+    output: MemSink,
+    fabric: ListFabric,
+    /// How many reads of the input were asked for.
+    reads: u64,
+}
+
+/// What these words leave with this input.
 fn outcome<R: Threads + Wait + Sync>(
     rt: &R,
     alloc: Global,
     words: &Vec<String>,
     input: &[u8],
     fails: Fails,
-) -> Result<(u8, MemSink, ListFabric), Fail> {
+) -> Result<Left, Fail> {
     let (read, write) = match fails {
         Fails::Read(number) => (Some(number), None),
         Fails::Write(number) => (None, Some(number)),
@@ -72,7 +82,12 @@ fn outcome<R: Threads + Wait + Sync>(
         &mut files,
         &mut clock,
     );
-    Ok((status.code(), output, fabric))
+    Ok(Left {
+        status: status.code(),
+        output,
+        fabric,
+        reads: input.reads(),
+    })
 }
 
 /// `session` alone.
@@ -103,9 +118,9 @@ fn scripts_print_their_journal(rt: HostRuntime) -> Result<(), Fail> {
         (b"# a comment\n\n1 data 61\n\n# \xc3\xa9", ONE),
     ];
     for (input, want) in cases {
-        let (status, output, _fabric) = outcome(&rt, alloc, &words, input, Fails::Nothing)?;
-        assert_eq!(rt; status, 0);
-        assert_eq!(rt; output.bytes(), want);
+        let left = outcome(&rt, alloc, &words, input, Fails::Nothing)?;
+        assert_eq!(rt; left.status, 0);
+        assert_eq!(rt; left.output.bytes(), want);
     }
     Ok(())
 }
@@ -132,9 +147,9 @@ fn the_first_line_without_meaning_refuses_a_script(rt: HostRuntime) -> Result<()
         (b"2 data 61\n", b"refused line 1\n"),
     ];
     for (input, want) in cases {
-        let (status, output, _fabric) = outcome(&rt, alloc, &words, input, Fails::Nothing)?;
-        assert_eq!(rt; status, 3);
-        assert_eq!(rt; output.bytes(), want);
+        let left = outcome(&rt, alloc, &words, input, Fails::Nothing)?;
+        assert_eq!(rt; left.status, 3);
+        assert_eq!(rt; left.output.bytes(), want);
     }
     Ok(())
 }
@@ -147,9 +162,9 @@ fn a_257th_command_is_refused(rt: HostRuntime) -> Result<(), Fail> {
     for _ in 0..257 {
         input.extend_from_slice(b"1 data 61\n")?;
     }
-    let (status, output, _fabric) = outcome(&rt, alloc, &words, &input, Fails::Nothing)?;
-    assert_eq!(rt; status, 3);
-    assert_eq!(rt; output.bytes(), b"refused line 257\n".as_slice());
+    let left = outcome(&rt, alloc, &words, &input, Fails::Nothing)?;
+    assert_eq!(rt; left.status, 3);
+    assert_eq!(rt; left.output.bytes(), b"refused line 257\n".as_slice());
     Ok(())
 }
 
@@ -160,9 +175,9 @@ const USAGE: &[u8] =
 fn other_words_are_answered_with_the_usage(rt: HostRuntime) -> Result<(), Fail> {
     let alloc = rt.alloc();
     let none = Vec::new(alloc);
-    let (status, output, _fabric) = outcome(&rt, alloc, &none, &[], Fails::Nothing)?;
-    assert_eq!(rt; status, 2);
-    assert_eq!(rt; output.bytes(), USAGE);
+    let left = outcome(&rt, alloc, &none, &[], Fails::Nothing)?;
+    assert_eq!(rt; left.status, 2);
+    assert_eq!(rt; left.output.bytes(), USAGE);
     Ok(())
 }
 
@@ -207,19 +222,19 @@ fn a_session_offers_the_one_datagram_of_its_object(rt: HostRuntime) -> Result<()
     let alloc = rt.alloc();
     let words = session(alloc)?;
     let input = b"set instance 7\nset e 64\nset b 4\n1 data 68656c6c6f\n";
-    let (status, output, fabric) = outcome(&rt, alloc, &words, input, Fails::Nothing)?;
-    assert_eq!(rt; status, 0);
-    assert_eq!(rt; output.bytes(), HELLO);
+    let left = outcome(&rt, alloc, &words, input, Fails::Nothing)?;
+    assert_eq!(rt; left.status, 0);
+    assert_eq!(rt; left.output.bytes(), HELLO);
     let want =
         b"\x12\x08\0\0\0\0\0\x01\0\x07\x40\x41\0\x05\0\0\0\0\0\0\x40\x03\0\0\0\0\0\x05\0\x40\x04\x06hello";
-    match fabric.offered(0) {
+    match left.fabric.offered(0) {
         Some((from, datagram)) => {
             assert_eq!(rt; from.number(), 1);
             assert_eq!(rt; datagram, want.as_slice());
         }
         None => assert!(rt; false, "nothing was offered"),
     }
-    assert!(rt; fabric.offered(1).is_none());
+    assert!(rt; left.fabric.offered(1).is_none());
     Ok(())
 }
 
@@ -237,8 +252,8 @@ fn offers_in(fabric: &ListFabric) -> usize {
     3
 }
 
-/// Two commands of which one call fails: the status, the lines that stand, the last line, and how many
-/// datagrams the network has: a body that asks again after a failed call leaves more.
+/// Two commands of which one call fails: the status, the lines that stand, the last line, and the calls that were asked
+/// for, as reads, datagrams that the network has, and takes: a body that asks again after a failed call has asked for more.
 fn leaves<R: Threads + Wait + Sync + Abort>(
     rt: &R,
     alloc: Global,
@@ -246,15 +261,18 @@ fn leaves<R: Threads + Wait + Sync + Abort>(
     end: usize,
     last: &[u8],
     want: u8,
-    offered: usize,
+    asked: (u64, usize, u64),
 ) -> Result<(), Fail> {
     let words = session(alloc)?;
-    let (status, output, fabric) = outcome(rt, alloc, &words, b"1 data 61\n1 data 62\n", fails)?;
-    assert_eq!(rt; status, want);
-    assert_eq!(rt; offers_in(&fabric), offered);
+    let left = outcome(rt, alloc, &words, b"1 data 61\n1 data 62\n", fails)?;
+    assert_eq!(rt; left.status, want);
+    let (reads, offered, takes) = asked;
+    assert_eq!(rt; left.reads, reads);
+    assert_eq!(rt; offers_in(&left.fabric), offered);
+    assert_eq!(rt; left.fabric.takes(), takes);
     let mut text = Vec::from_slice(alloc, TWO.get(..end).ok_or("too short")?)?;
     text.extend_from_slice(last)?;
-    assert_eq!(rt; output.bytes(), text.as_slice());
+    assert_eq!(rt; left.output.bytes(), text.as_slice());
     Ok(())
 }
 
@@ -262,17 +280,27 @@ fn leaves<R: Threads + Wait + Sync + Abort>(
 fn a_failing_read_or_write_leaves_the_lines_so_far(rt: HostRuntime) -> Result<(), Fail> {
     let alloc = rt.alloc();
     for number in [1u64, 2] {
-        leaves(&rt, alloc, Fails::Read(number), 0, b"fault read\n", 4, 0)?;
+        let asked = (number, 0usize, 0u64);
+        leaves(
+            &rt,
+            alloc,
+            Fails::Read(number),
+            0,
+            b"fault read\n",
+            4,
+            asked,
+        )?;
     }
     let writes = [
-        (1u64, 0usize, 0usize),
-        (2, 19, 1),
-        (3, 40, 1),
-        (4, 59, 2),
-        (5, 80, 2),
+        (1u64, 0usize, 0usize, 0u64),
+        (2, 19, 1, 2),
+        (3, 40, 1, 2),
+        (4, 59, 2, 4),
+        (5, 80, 2, 4),
     ];
-    for (number, end, offered) in writes {
-        leaves(&rt, alloc, Fails::Write(number), end, b"", 5, offered)?;
+    for (number, end, offered, takes) in writes {
+        let asked = (2u64, offered, takes);
+        leaves(&rt, alloc, Fails::Write(number), end, b"", 5, asked)?;
     }
     Ok(())
 }
@@ -280,29 +308,103 @@ fn a_failing_read_or_write_leaves_the_lines_so_far(rt: HostRuntime) -> Result<()
 #[test]
 fn a_failing_call_of_the_network_leaves_the_lines_so_far(rt: HostRuntime) -> Result<(), Fail> {
     let alloc = rt.alloc();
-    for (number, end, offered) in [(1u64, 19usize, 0usize), (2, 59, 1)] {
-        leaves(
-            &rt,
-            alloc,
-            Fails::Offer(number),
-            end,
-            b"fault fabric\n",
-            6,
-            offered,
-        )?;
+    let last = b"fault fabric\n";
+    for (number, end, offered, takes) in [(1u64, 19usize, 0usize, 0u64), (2, 59, 1, 2)] {
+        let asked = (2u64, offered, takes);
+        leaves(&rt, alloc, Fails::Offer(number), end, last, 6, asked)?;
     }
-    for (number, end, offered) in [(1u64, 19usize, 1usize), (2, 19, 1), (3, 59, 2), (4, 59, 2)] {
-        leaves(
-            &rt,
-            alloc,
-            Fails::Take(number),
-            end,
-            b"fault fabric\n",
-            6,
-            offered,
-        )?;
+    for (takes, end, offered) in [(1u64, 19usize, 1usize), (2, 19, 1), (3, 59, 2), (4, 59, 2)] {
+        let asked = (2u64, offered, takes);
+        leaves(&rt, alloc, Fails::Take(takes), end, last, 6, asked)?;
     }
     Ok(())
+}
+
+/// A show of this input leaves these lines and this status, and asked for so many reads.
+fn shows<R: Threads + Wait + Sync + Abort>(
+    rt: &R,
+    alloc: Global,
+    input: &[u8],
+    fails: Fails,
+    want: &[u8],
+    status: u8,
+    reads: u64,
+) -> Result<(), Fail> {
+    let words = vec![in alloc; String::from_str(alloc, "show")?]?;
+    let left = outcome(rt, alloc, &words, input, fails)?;
+    assert_eq!(rt; left.status, status);
+    assert_eq!(rt; left.output.bytes(), want);
+    assert_eq!(rt; left.reads, reads);
+    Ok(())
+}
+
+/// Two datagrams behind an empty line, of which the second is refused, and their lines.
+const SHOWN: &[u8] = b"\n13041685fffffffe8068007702000001\n1908000000000001\n";
+
+const SHOWN_LINES: &[u8] = b"eot 4294967294 5765 32872 0.7.7\nrefused type 9\n";
+
+#[test]
+fn datagrams_are_shown_line_by_line(rt: HostRuntime) -> Result<(), Fail> {
+    let alloc = rt.alloc();
+    shows(&rt, alloc, SHOWN, Fails::Nothing, SHOWN_LINES, 9, 2)?;
+    let unended = b"16029ABB00002010";
+    shows(
+        &rt,
+        alloc,
+        unended,
+        Fails::Nothing,
+        b"report 8208 39611\n",
+        0,
+        2,
+    )?;
+    let stopped = b"16029abb00002010\n\nxy\n16";
+    let lines = b"report 8208 39611\nrefused line 3\n";
+    shows(&rt, alloc, stopped, Fails::Nothing, lines, 3, 1)
+}
+
+#[test]
+fn a_failing_call_leaves_the_datagrams_so_far(rt: HostRuntime) -> Result<(), Fail> {
+    let alloc = rt.alloc();
+    let cut = b"16029abb00002010\n16029abb00002010";
+    let lines = b"report 8208 39611\nfault read\n";
+    shows(&rt, alloc, cut, Fails::Read(2), lines, 4, 2)?;
+    shows(
+        &rt,
+        alloc,
+        SHOWN,
+        Fails::Write(2),
+        b"eot 4294967294 5765 32872 0.7.7\n",
+        5,
+        1,
+    )
+}
+
+#[test]
+fn a_line_of_3001_digits_is_refused(rt: HostRuntime) -> Result<(), Fail> {
+    let alloc = rt.alloc();
+    let mut input = Vec::new(alloc);
+    for _ in 0..3000u32 {
+        input.push(b'0')?;
+    }
+    shows(
+        &rt,
+        alloc,
+        &input,
+        Fails::Nothing,
+        b"refused version 0\n",
+        9,
+        2,
+    )?;
+    input.push(b'0')?;
+    shows(
+        &rt,
+        alloc,
+        &input,
+        Fails::Nothing,
+        b"refused line 1\n",
+        3,
+        1,
+    )
 }
 
 /// The output of a script of one object, of which the receiver handed up all or nothing.

@@ -1,0 +1,3 @@
+mod ListLemmas
+mod SplitLemmas
+mod ShowLemmas

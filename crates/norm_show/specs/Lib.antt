@@ -1,0 +1,6 @@
+pub mod Phrases
+pub mod Words
+pub mod Line
+pub mod Showing
+pub mod Progress
+pub mod ShowCause

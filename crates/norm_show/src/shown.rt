@@ -1,0 +1,36 @@
+//! The line that shows a datagram.
+
+ghost use Rattle.std.specs.Prelude.{◌≡◌, IfOk, is_err, string_bytes};
+ghost use Rattle.norm_ext.specs.Reading.{decoded};
+ghost use Rattle.norm_show.specs.Line.{line_of};
+
+use crate::lines::{message_text, refused_text};
+use norm_base::{Memory, Text};
+use norm_codec::decode;
+use std::alloc::Global;
+
+/// What is shown of a datagram.
+#[derive(Debug, Drop)]
+pub struct Shown {
+    /// The line, with its line feed.
+    pub line: Text,
+    /// The octets spell no message.
+    pub is_refused: bool,
+}
+
+/// The line of a datagram: the words of the message that the octets spell, or why they are refused.
+pub fn show_line(alloc: Global, octets: &[u8]) -> Result<Shown, Memory>
+    ensures line { IfOk result (λ shown. shown.line ≡ line_of (decoded octets.now)) }
+    ensures refused { IfOk result (λ shown. shown.is_refused ≡ is_err (decoded octets.now)) }
+{
+    match decode(octets) {
+        Ok(message) => Ok(Shown {
+            line: Text::of(message_text(alloc, &message)?),
+            is_refused: false,
+        }),
+        Err(refusal) => Ok(Shown {
+            line: Text::of(refused_text(alloc, refusal)?),
+            is_refused: true,
+        }),
+    }
+}

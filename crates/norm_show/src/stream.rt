@@ -1,0 +1,190 @@
+//! An input that is shown as it comes: of the next line what came of it is kept, and a line that ended is shown at once.
+
+ghost use Rattle.std.specs.Prelude.{◌≡◌, ◌+◌, ◌≤◌, ◌<◌, ◌^◌, ◌||◌, ℕ, List, [], ◌∷◌, ◌++◌, IfOk, IfErr, OnOk, None, length};
+ghost use Rattle.norm_base.specs.Told.{Pieces};
+ghost use Rattle.norm_script.specs.Text.{split_at_first};
+ghost use Rattle.norm_show.specs.Showing.{Showing, datagram_in, line_shown};
+ghost use Rattle.norm_show.specs.Progress.{Progress, progress_opening, shown_from, Shows, ShowsLine, ShowsEnd, Leaves, ShowsAll, ShowsLess};
+ghost use Rattle.norm_show.specs.ShowCause.{WriteCause, ReadCause};
+
+use crate::fault::ShowFault;
+use crate::shown::show_line;
+use hex::FromHexError;
+use norm_base::{Failed, Memory, Octets, Sink, Source};
+use norm_script::split_at_first;
+use std::alloc::Global;
+use std::marker::Model;
+
+/// The most digits of a line.
+const MOST_DIGITS: usize = 3000;
+/// The octets of a read.
+const PIECE: usize = 16_384;
+/// What ends a line.
+const LINE_FEED: u8 = b'\n';
+
+/// The datagram that a line spells. `None` where it spells none.
+fn datagram_in(alloc: Global, line: &[u8]) -> Result<Option<Octets>, Memory>
+    ensures { IfOk result (λ datagram. datagram ≡ datagram_in line.now) }
+{
+    if line.len() > MOST_DIGITS {
+        return Ok(None);
+    }
+    match hex::decode(alloc, line) {
+        Ok(octets) => Ok(Some(Octets::of(octets))),
+        Err(FromHexError::OutOfMemory) => Err(Memory),
+        Err(_) => Ok(None),
+    }
+}
+
+/// Shows line n. Answers whether its datagram was refused.
+fn show_text<K: Sink>(
+    alloc: Global,
+    number: u64,
+    line: &[u8],
+    output: &mut K,
+) -> Result<bool, ShowFault>
+    ensures shown { IfOk result (λ refused. ShowsLine number line.now refused (K.pieces output.old) (K.pieces output.new)) }
+    ensures left { IfErr result (λ why. (s : Showing) → Leaves why (K.pieces output.old) (K.pieces output.new) (line_shown number line.now s)) }
+    ensures cause { WriteCause result (K.fault_count output.old) (K.fault_count output.new) }
+{
+    if line.is_empty() {
+        return Ok(false);
+    }
+    let Some(datagram) = datagram_in(alloc, line)? else {
+        return Err(ShowFault::Line { number });
+    };
+    let shown = show_line(alloc, datagram.bytes())?;
+    match output.write(shown.line.bytes()) {
+        Ok(()) => Ok(shown.is_refused),
+        Err(Failed) => Err(ShowFault::Write),
+    }
+}
+
+/// Whether one of them holds.
+fn either(a: bool, b: bool) -> bool
+    ensures { result ≡ (a || b) }
+{
+    a || b
+}
+
+/// What came of the next line, its number, and whether a datagram was refused before it.
+#[derive(Debug, Drop)]
+struct Reader {
+    rest: Vec<u8>,
+    number: u64,
+    is_refused: bool,
+}
+
+impl Model for Reader {
+    ghost use Rattle.std.specs.Prelude.{◌≡◌, None};
+    ghost use Rattle.norm_script.specs.Text.{split_at_first};
+    ghost use Rattle.norm_show.specs.Progress.{Progress};
+
+    ghost Value = { Progress };
+
+    ghost view = { λ r. record { rest = r.rest.items; number = r.number; refused = r.is_refused } };
+
+    ghost invariant = { λ r. split_at_first 10 r.rest.items ≡ None };
+}
+
+impl Reader {
+    /// Nothing came yet.
+    fn new(alloc: Global) -> Reader
+        ensures { result ≡ progress_opening }
+    {
+        Reader {
+            rest: Vec::new(alloc),
+            number: 1,
+            is_refused: false,
+        }
+    }
+
+    /// Adds to the next line. It is refused as soon as it is too long, whatever follows.
+    fn add(&mut self, front: &[u8]) -> Result<(), ShowFault>
+        requires { split_at_first 10 front.now ≡ None }
+        ensures shown { OnOk result ((u : Pieces) → Shows self.old front.now self.new [] u u) }
+        ensures number { OnOk result (self.new.number ≡ self.old.number) }
+        ensures left { IfErr result (λ why. (u : Pieces) (more : List ℕ) → Leaves why u u (shown_from self.old (front.now ++ more))) }
+        ensures cause { (n : ℕ) → WriteCause result n n }
+    {
+        if front.len() > MOST_DIGITS.saturating_sub(self.rest.len()) {
+            return Err(ShowFault::Line {
+                number: self.number,
+            });
+        }
+        self.rest.extend_from_slice(front)?;
+        Ok(())
+    }
+
+    /// Ends the next line, and shows it.
+    fn end_line<K: Sink>(&mut self, alloc: Global, output: &mut K) -> Result<(), ShowFault>
+        requires { self.old.number + 1 < 2 ^ 64 }
+        ensures shown { OnOk result (Shows self.old (10 ∷ []) self.new [] (K.pieces output.old) (K.pieces output.new)) }
+        ensures number { OnOk result (self.new.number ≡ self.old.number + 1) }
+        ensures left { IfErr result (λ why. (more : List ℕ) → Leaves why (K.pieces output.old) (K.pieces output.new) (shown_from self.old (10 ∷ more))) }
+        ensures cause { WriteCause result (K.fault_count output.old) (K.fault_count output.new) }
+    {
+        let refused = show_text(alloc, self.number, &self.rest, output)?;
+        self.rest.clear();
+        self.number += 1;
+        self.is_refused = either(self.is_refused, refused);
+        Ok(())
+    }
+
+    /// Shows the lines that end in a piece of the input, and keeps what came of the next.
+    fn show_piece<K: Sink>(
+        &mut self,
+        alloc: Global,
+        piece: &[u8],
+        output: &mut K,
+    ) -> Result<(), ShowFault>
+        requires { self.old.number + length piece.now < 2 ^ 64 }
+        ensures shown { OnOk result (Shows self.old piece.now self.new [] (K.pieces output.old) (K.pieces output.new)) }
+        ensures number { OnOk result (self.new.number ≤ self.old.number + length piece.now) }
+        ensures left { IfErr result (λ why. (more : List ℕ) → Leaves why (K.pieces output.old) (K.pieces output.new) (shown_from self.old (piece.now ++ more))) }
+        ensures cause { WriteCause result (K.fault_count output.old) (K.fault_count output.new) }
+    {
+        let mut rest = piece;
+        'lines: while let Some((front, behind)) = split_at_first(rest, LINE_FEED) {
+            self.add(front)?;
+            self.end_line(alloc, output)?;
+            rest = behind;
+        }
+        self.add(rest)
+    }
+
+    /// Shows the last line, which lacks its end, where there is one. Answers whether a datagram was refused.
+    fn finish<K: Sink>(&self, alloc: Global, output: &mut K) -> Result<bool, ShowFault>
+        ensures shown { IfOk result (λ refused. ShowsEnd self.now refused (K.pieces output.old) (K.pieces output.new)) }
+        ensures left { IfErr result (λ why. Leaves why (K.pieces output.old) (K.pieces output.new) (shown_from self.now [])) }
+        ensures cause { WriteCause result (K.fault_count output.old) (K.fault_count output.new) }
+    {
+        let refused = show_text(alloc, self.number, &self.rest, output)?;
+        Ok(either(self.is_refused, refused))
+    }
+}
+
+/// Shows the datagrams of an input, line by line as it comes: each line of output is one write. Answers whether one was
+/// refused. An empty line is passed over; the first line that spells no datagram ends it.
+pub fn show<S: Source, K: Sink>(
+    alloc: Global,
+    input: &mut S,
+    output: &mut K,
+) -> Result<bool, ShowFault>
+    ensures shown { IfOk result (λ refused. ShowsAll refused (S.left input.old) (S.left input.new) (K.pieces output.old) (K.pieces output.new)) }
+    ensures left { IfErr result (λ why. ShowsLess why (S.left input.old) (S.left input.new) (K.pieces output.old) (K.pieces output.new)) }
+    ensures reads { ReadCause result (S.fault_count input.old) (S.fault_count input.new) }
+    ensures writes { WriteCause result (K.fault_count output.old) (K.fault_count output.new) }
+{
+    let mut reader = Reader::new(alloc);
+    let mut buffer = [0u8; PIECE];
+    'pieces: loop {
+        let Ok(n) = input.read(&mut buffer) else {
+            return Err(ShowFault::Read);
+        };
+        if n == 0 {
+            return reader.finish(alloc, output);
+        }
+        reader.show_piece(alloc, buffer.split_at(n).0, output)?;
+    }
+}
