@@ -1,4 +1,4 @@
-//! A worked row, what is told and in which order, and what a restart leaves.
+//! A book over one node, what is told and in which order, and what a restart leaves.
 
 use super::*;
 use fec_plan::Position;

@@ -1,16 +1,14 @@
--- What receivers say, and a flush, says nothing of objects, whatever is read of it.
+-- What receivers say says nothing of objects and of the sender's points, whatever is read of it.
 use Rattle.std.proofs.Common.{◌≡◌, ℕ, ◌*◌, List, [], Bool, true, false, Option, None, Some, Result, Ok, Err, refl, sym, ◌∙◌, subst}
 use Rattle.std.specs.Prelude.{⊤, nat_le}
 use Rattle.std.specs.List.{list_all}
 use Rattle.norm_base.specs.Settings.{Settings}
 use Rattle.fec_plan.specs.declared.position.Position.{Position}
-use Rattle.norm_ext.specs.Message.{Message, Info, Data, Flush, Eot, Squelch, RepairAdv, AckReq, Opaque, Nack, Ack, Report, NackMessage, AckMessage, FlushCommand, Mark}
+use Rattle.norm_ext.specs.Message.{Message, Info, Data, Flush, Eot, Squelch, RepairAdv, AckReq, Opaque, Nack, Ack, Report, NackMessage, AckMessage, Mark}
 use Rattle.norm_ext.specs.Octets.{octets_of}
-use Rattle.norm_ext.specs.Reading.{decoded, words_of, content_of, source_of, version_checked, header_checked, header_extensions_checked, member_checked, list_checked, encoding_checked, ack_encoding_checked, ack_length_checked, known_type, read_as, nack_read, ack_read, command_read, command_by, sub_type_in, flush_read}
+use Rattle.norm_ext.specs.Reading.{decoded, words_of, content_of, source_of, version_checked, header_checked, header_extensions_checked, member_checked, ack_encoding_checked, ack_length_checked, known_type, read_as, nack_read, ack_read}
 use Rattle.norm_ext.specs.declared.kinds.MessageType.{MessageType}
 use Rattle.norm_ext.specs.declared.kinds.MessageType.TheVariants as types
-use Rattle.norm_ext.specs.declared.kinds.SubType.{SubType}
-use Rattle.norm_ext.specs.declared.kinds.SubType.TheVariants as commands
 use Rattle.norm_ext.specs.Numbers.{octet, number, flush_ack}
 use Rattle.norm_ext.specs.Requests.{requests_checked}
 use Rattle.norm_ext.proofs.MessageLemmas.{bind_ok, pass_ok}
@@ -22,25 +20,27 @@ use Rattle.norm_receive_rules.specs.HeardNeeds.{is_heard}
 use Rattle.norm_receive_rules.specs.Nack.{fitting, requests_for, item_of, instance_id, nack_message, ack_message}
 use Rattle.norm_receive_rules.specs.Ticking.{sends, holds_off, asks, asks_where_needed, ends_back_off, ticked}
 
--- it says nothing of objects and of the drop point: a refusal, or a message of another kind
+-- it says nothing of objects and of positions: a refusal, or a message of another kind
 abbrev pub SaysNothing : Result Message Refusal → Type 0
 SaysNothing (Ok (Info m)) = ⊥
 SaysNothing (Ok (Data m)) = ⊥
 SaysNothing (Ok (Squelch m)) = ⊥
+SaysNothing (Ok (Flush m)) = ⊥
 SaysNothing _ = ⊤
 
--- a message that says nothing of objects and of the drop point
+-- a message that says nothing of objects and of positions
 abbrev IsOther : Message → Type 0
 IsOther (Info m) = ⊥
 IsOther (Data m) = ⊥
 IsOther (Squelch m) = ⊥
+IsOther (Flush m) = ⊥
 IsOther _ = ⊤
 
 nothing_of : (r : Result Message Refusal) → ((m : Message) → r ≡ Ok m → IsOther m) → SaysNothing r
 nothing_of (Ok (Info m)) h = h (Info m) refl
 nothing_of (Ok (Data m)) h = h (Data m) refl
 nothing_of (Ok (Squelch m)) h = h (Squelch m) refl
-nothing_of (Ok (Flush m)) h = tt
+nothing_of (Ok (Flush m)) h = h (Flush m) refl
 nothing_of (Ok (Eot m)) h = tt
 nothing_of (Ok (RepairAdv m)) h = tt
 nothing_of (Ok (AckReq m)) h = tt
@@ -80,20 +80,8 @@ ack_other octets m e =
     let g = pass_ok (ack_length_checked (octet 14 octets) (content_of octets)) _ m f.1 in
     other_is _ m tt g.1
 
-flush_other : (octets : List ℕ) (m : Message) → flush_read octets ≡ Ok m → IsOther m
-unfolding flush_read
-flush_other octets m e =
-    let a = pass_ok (encoding_checked (octet 13 octets)) _ m e in
-    let b = pass_ok (header_extensions_checked 20 octets) _ m a.1 in
-    let c = pass_ok (member_checked (source_of octets)) _ m b.1 in
-    let d = pass_ok (list_checked 4 (content_of octets)) _ m c.1 in
-    other_is _ m tt d.1
-
 abbrev as_type : MessageType → Result MessageType Refusal
 as_type kind = Ok kind
-
-abbrev as_sub_type : SubType → Result SubType Refusal
-as_sub_type kind = Ok kind
 
 -- the type that octets name decides which reading is taken
 by_type : (octets : List ℕ) (kind : MessageType) (m : Message) → known_type octets ≡ Ok kind → decoded octets ≡ Ok m → read_as kind octets ≡ Ok m
@@ -112,22 +100,6 @@ nack_said m = nothing_of (decoded (octets_of (Nack m))) (λ n e. nack_other (oct
 
 pub ack_said : (m : AckMessage) → SaysNothing (decoded (octets_of (Ack m)))
 ack_said m = nothing_of (decoded (octets_of (Ack m))) (λ n e. ack_other (octets_of (Ack m)) n (by_type (octets_of (Ack m)) types.Ack n refl e))
-
--- a command whose sub-type says a flush
-flush_command : (octets : List ℕ) (m : Message) → sub_type_in octets ≡ Ok commands.Flush → command_read octets ≡ Ok m → flush_read octets ≡ Ok m
-unfolding command_read
-flush_command octets m is e =
-    let a = pass_ok (header_checked types.Command octets) _ m e in
-    let b = bind_ok (sub_type_in octets) _ m a.1 in
-    let R : SubType → Type 0 = λ k. command_by k octets ≡ Ok m in
-    subst R (same b.0 commands.Flush (sym b.1 ∙ is)) b.2
-  where
-    same : (a b : SubType) → as_sub_type a ≡ as_sub_type b → a ≡ b
-    same a b e = cc
-
-pub flush_said : (m : FlushCommand) → SaysNothing (decoded (octets_of (Flush m)))
-flush_said m = nothing_of (decoded (octets_of (Flush m))) (λ n e. flush_other (octets_of (Flush m)) n
-    (flush_command (octets_of (Flush m)) n refl (by_type (octets_of (Flush m)) types.Command n refl e)))
 
 -- what a receiver's NACK and its acknowledgement say
 abbrev nack_of : Settings → ReceiverState → List Need → NackMessage

@@ -13,8 +13,9 @@ pub mod PlaceLemmas
 pub mod OnceRun
 pub mod WholeOrders
 pub mod Onward
-pub mod SenderHolds
 pub mod Cuts
+pub mod LastLemmas
+pub mod SenderHolds
 pub mod Spoken
 pub mod Feedback
 pub mod TickTrue

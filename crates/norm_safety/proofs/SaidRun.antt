@@ -1,4 +1,4 @@
--- What was said in a lawful run of data and files is true of the orders: each symbol, each info and each squelch.
+-- What was said in a lawful run of data and files is true of the orders: each symbol, info, flush and squelch.
 use Rattle.std.proofs.Common.{◌≡◌, ℕ, List, [], ◌∷◌, ◌++◌, Bool, true, false, Result, Ok, Err, refl, ap, ◌∙◌}
 use Rattle.std.specs.Prelude.{flat_map, ◌==◌, ◌&&◌, ◌||◌, not, IsTrue}
 use Rattle.std.specs.List.{AllByRecursion}
@@ -16,8 +16,8 @@ use Rattle.norm_safety.specs.InOrder.{drop_of}
 use Rattle.norm_safety.specs.Jobs.{AreEvents, AreOfObjects}
 use Rattle.norm_safety.specs.Laws.{SaidOfOrders}
 use Rattle.norm_safety.specs.Lawful.{Lawful}
-use Rattle.norm_safety.specs.Said.{data_said, info_said, squelch_said}
-use Rattle.norm_safety.specs.SaysPositions.{squelches_dropped, is_stream_at}
+use Rattle.norm_safety.specs.Said.{data_said, info_said, flush_said, squelch_said}
+use Rattle.norm_safety.specs.SaysPositions.{flushes_source, squelches_dropped, is_stream_at}
 use Rattle.norm_safety.specs.SaysSymbols.{SaysSymbol, SaysInfo}
 use Rattle.norm_safety.specs.World.{World}
 use Rattle.norm_safety.proofs.OrderRun.{run_of}
@@ -95,6 +95,20 @@ squelch_true p s (Ok (Ack m)) h = tt
 squelch_true p s (Ok (Report m)) h = tt
 squelch_true p s (Err refusal) h = tt
 
+flush_true : (p : Settings) (s : SenderState) (r : Result Message Refusal) → IsTrueOf p s r → AllByRecursion (λ m. IsTrue (flushes_source p s m)) (flush_said r)
+flush_true p s (Ok (Flush m)) h = (h, tt)
+flush_true p s (Ok (Info m)) h = tt
+flush_true p s (Ok (Data m)) h = tt
+flush_true p s (Ok (Squelch m)) h = tt
+flush_true p s (Ok (Eot m)) h = tt
+flush_true p s (Ok (RepairAdv m)) h = tt
+flush_true p s (Ok (AckReq m)) h = tt
+flush_true p s (Ok (Opaque m)) h = tt
+flush_true p s (Ok (Nack m)) h = tt
+flush_true p s (Ok (Ack m)) h = tt
+flush_true p s (Ok (Report m)) h = tt
+flush_true p s (Err refusal) h = tt
+
 pub said_run : (p : Settings) → InRange p → (events : List Event) → Lawful p events → AreEvents events → AreOfObjects events
     → SaidOfOrders p (history p events)
 said_run p range events lawful are of =
@@ -104,5 +118,6 @@ said_run p range events lawful are of =
     record {
       symbols = each_said p w.sender (SaysSymbol p w.sender) data_said (data_true p w.sender) (w.offered ++ w.given) said;
       infos = each_said p w.sender (SaysInfo p w.sender) info_said (info_true p w.sender) (w.offered ++ w.given) said;
+      flushes = each_said p w.sender (λ m. IsTrue (flushes_source p w.sender m)) flush_said (flush_true p w.sender) (w.offered ++ w.given) said;
       squelches = each_said p w.sender (λ m. IsTrue (squelches_dropped p w.sender m)) squelch_said (squelch_true p w.sender) (w.offered ++ w.given) said;
     }

@@ -1,18 +1,22 @@
 -- What holds of a sender of data and files after every event, and that its instances go on.
 use Rattle.std.proofs.Common.{cond, ◌≡◌, ℕ, zero, suc, ◌+◌, ◌<◌, ◌≤◌, List, [], ◌∷◌, ◌++◌, length, Bool, true, false, Option, None, Some, refl, sym, ap, ◌∙◌, subst, arith, ◌⊎◌, inl, inr}
-use Rattle.std.specs.Prelude.{map, ◌==◌}
+use Rattle.std.specs.Prelude.{map, ◌==◌, ◌&&◌}
 use Rattle.std.specs.List.{AllByRecursion}
 use Rattle.std.proofs.lemmas.List.{length-append, length-drop}
 use Rattle.norm_base.specs.Settings.{Settings, InRange}
 use Rattle.norm_base.specs.Members.{receivers_of}
 use Rattle.norm_base.specs.declared.node.Origin.{Origin}
 use Rattle.fec_plan.specs.Points.{Point, point}
+use Rattle.fec_plan.specs.declared.position.Position.{Position}
 use Rattle.norm_order.specs.Entries.{Object, Whole, Entry}
-use Rattle.norm_send_rules.specs.SenderState.{SenderState, Instance, begun, sender_opening}
+use Rattle.norm_order.specs.Shapes.{shapes_of, is_source, last_source}
+use Rattle.norm_send_rules.specs.SenderState.{SenderState, Instance, Watermark, begun, sender_opening}
 use Rattle.norm_send_rules.specs.SenderStep.{sender_step}
 use Rattle.norm_send_rules.specs.SenderStep as events
-use Rattle.norm_send_rules.specs.InWindow.{next_index}
+use Rattle.norm_send_rules.specs.InWindow.{next_index, current_shapes}
 use Rattle.norm_send_rules.specs.Restarting.{instances, begun_anew}
+use Rattle.norm_send_rules.specs.Requests.{is_open, ended_with}
+use Rattle.norm_send_rules.specs.declared.news.Outcome.TheVariants.{Cut as CutOff}
 use Rattle.norm_send_rules.specs.Room.{size_of, window, has_room, has_to_go, drop_after}
 use Rattle.norm_send_rules.specs.Enqueuing.{joined}
 use Rattle.norm_send_rules.specs.Commanding.{commanded}
@@ -22,7 +26,10 @@ use Rattle.norm_send_rules.proofs.StepLemmas.{step_holds as wants_step, blocks_o
 use Rattle.norm_safety.specs.OnceEach.{order_of}
 use Rattle.norm_safety.specs.InOrder.{drop_of}
 use Rattle.norm_safety.specs.Jobs.{IsJob, OpensNone}
-use Rattle.norm_safety.proofs.SenderKeeps.{Keeps, nodes_in}
+use Rattle.norm_safety.proofs.SenderKeeps.{Keeps, nodes_in, AllOpen, request_at_of}
+use Rattle.norm_safety.proofs.EntryLemmas.{clash}
+use Rattle.norm_safety.proofs.Cuts.{cut_range}
+use Rattle.norm_safety.proofs.LastLemmas.{last_is_source, source_still}
 use Rattle.norm_safety.proofs.WholeOrders.{IsSized, AreSized, Steady, keeps_steady, CommandCase, Stays, Joins, Restarts, command_case}
 use Rattle.norm_safety.proofs.Onward.{GoOn, Onward, LaterThan, instance_in, goes_on_itself, last_goes_on, more_goes_on, not_before, behind_point}
 
@@ -35,7 +42,8 @@ abbrev pub AllSized : Settings → List Instance → Type 0
 AllSized p all = AllByRecursion (IsKept p) all
 
 -- What holds: wants are symbols and infos of the window; objects are data and files of their sizes; ids, indices and the
--- sequence number have 16 bits; listings are the receivers'; and the drop point lies within the order, before a block 0.
+-- sequence number have 16 bits; listings are the receivers'; the drop point lies within the order, before a block 0; and
+-- open requests are of source symbols of the order.
 pub record SenderHolds (p : Settings) (s : SenderState) : Type 0 where
   pub wants : WantsHold p s
   pub sized : AllSized p (instances s)
@@ -46,21 +54,24 @@ pub record SenderHolds (p : Settings) (s : SenderState) : Type 0 where
   pub within : s.current.drop.index ≤ length s.current.order
   pub index : s.current.drop.index < 65536
   pub block : s.current.drop.block ≡ 0
+  pub asked : AllOpen (is_source (shapes_of p s.current.order)) s.requests
 
-same_all : (s t : SenderState) → Steady s t → instances t ≡ instances s
-same_all s t h = ap (λ (xs : List Instance). xs ++ t.current ∷ []) h.earlier ∙ ap (λ (x : Instance). s.earlier ++ x ∷ []) h.current
+same_all : (p : Settings) (s t : SenderState) → Steady p s t → instances t ≡ instances s
+same_all p s t h = ap (λ (xs : List Instance). xs ++ t.current ∷ []) h.earlier ∙ ap (λ (x : Instance). s.earlier ++ x ∷ []) h.current
 
-steady_holds : (p : Settings) (s t : SenderState) → Steady s t → WantsHold p t → SenderHolds p s → SenderHolds p t
-steady_holds p s t same wants h =
+steady_holds : (p : Settings) (s t : SenderState) → Steady p s t → AllOpen (is_source (shapes_of p s.current.order)) t.requests
+    → WantsHold p t → SenderHolds p s → SenderHolds p t
+steady_holds p s t same asked wants h =
     let A : List Instance → Type 0 = λ all. AllSized p all in
     let C : Instance → Type 0 = λ i. i.id < 65536 in
     let M : Instance → Type 0 = λ i. length i.order ≤ 65536 in
     let W : Instance → Type 0 = λ i. i.drop.index ≤ length i.order in
     let I : Instance → Type 0 = λ i. i.drop.index < 65536 in
     let B : Instance → Type 0 = λ i. i.drop.block ≡ 0 in
+    let O : Instance → Type 0 = λ i. AllOpen (is_source (shapes_of p i.order)) t.requests in
     record {
       wants = wants;
-      sized = subst A (sym (same_all s t same)) h.sized;
+      sized = subst A (sym (same_all p s t same)) h.sized;
       id = subst C (sym same.current) h.id;
       many = subst M (sym same.current) h.many;
       sequence = same.sequence h.sequence;
@@ -68,11 +79,12 @@ steady_holds p s t same wants h =
       within = subst W (sym same.current) h.within;
       index = subst I (sym same.current) h.index;
       block = subst B (sym same.current) h.block;
+      asked = subst O (sym same.current) asked;
     }
 
-pub steady_onward : (s t : SenderState) → Steady s t → Onward s t
-steady_onward s t same =
-    let G : List Instance → Type 0 = λ all. GoOn (instances s) all in subst G (sym (same_all s t same)) (goes_on_itself (instances s))
+pub steady_onward : (p : Settings) (s t : SenderState) → Steady p s t → Onward s t
+steady_onward p s t same =
+    let G : List Instance → Type 0 = λ all. GoOn (instances s) all in subst G (sym (same_all p s t same)) (goes_on_itself (instances s))
 
 -- the drop point of an instance that is found
 abbrev pub point_in : Option Instance → Point
@@ -128,6 +140,24 @@ entries_more p (x ∷ order) entry h all = (all.0, entries_more p order entry h 
 pub current_sized : (p : Settings) (s : SenderState) → SenderHolds p s → AreSized p s.current.order
 current_sized p s h = (last_of (IsKept p) s.earlier s.current h.sized).0
 
+-- where more joins, the positions that are asked for stay source symbols
+still_asked : (p : Settings) (order more : List Entry) (requests : List Watermark) → AllOpen (is_source (shapes_of p order)) requests
+    → AllOpen (is_source (shapes_of p (order ++ more))) requests
+still_asked p order more [] all = tt
+still_asked p order more (w ∷ requests) all = (λ is. source_still p order more w.at (all.0 is), still_asked p order more requests all.1)
+
+-- where all requests end, none is open
+ended_all : (test : Position → Bool) (requests : List Watermark) → AllOpen test (map (λ (w : Watermark). cond (is_open w && true) (ended_with CutOff w) w) requests)
+ended_all test [] = tt
+ended_all test (w ∷ requests) = (go (is_open w) refl, ended_all test requests)
+  where
+    now : Bool → Watermark
+    now b = cond (b && true) (ended_with CutOff w) w
+
+    go : (b : Bool) → is_open w ≡ b → is_open (now b) ≡ true → test (request_at_of (now b)) ≡ true
+    go true is e = absurd (clash e)
+    go false is e = absurd (clash (sym is ∙ e))
+
 joins_holds : (p : Settings) (by : Origin) (object : Object) (s : SenderState) → IsSized p object → next_index s < 65536
     → WantsHold p (joined p by object s) → SenderHolds p s → SenderHolds p (joined p by object s)
 joins_holds p by object s is few wants h =
@@ -146,6 +176,7 @@ joins_holds p by object s is few wants h =
       within = omega arith;
       index = omega arith;
       block = drop_block s.current.drop (going p object s) h.block;
+      asked = still_asked p s.current.order (entry ∷ []) s.requests h.asked;
     }
 
 joins_onward : (p : Settings) (by : Origin) (object : Object) (s : SenderState) → s.current.drop.block ≡ 0 → Onward s (joined p by object s)
@@ -184,6 +215,7 @@ restarts_holds p id s few wants h = record {
   within = omega arith;
   index = omega arith;
   block = refl;
+  asked = ended_all (is_source []) s.requests;
 }
 
 -- a command keeps what holds, and instances go on
@@ -198,7 +230,12 @@ command_steps p range s by job now is none h =
     (wants_step p (blocks_of p range) s (events.Commanded by job now) h.wants)
   where
     go : (t : SenderState) → CommandCase p s by t → WantsHold p t → Steps p s t
-    go t (Stays same) wants = record { holds = steady_holds p s t same wants h; onward = steady_onward s t same }
+    go t (Stays same) wants =
+        let last = λ (at : Position) (e : last_source (current_shapes p s) ≡ Some at). last_is_source p (cut_range p range) s.current.order at (current_sized p s h) e in
+        record {
+          holds = steady_holds p s t same (same.asked (is_source (shapes_of p s.current.order)) last h.asked) wants h;
+          onward = steady_onward p s t same;
+        }
     go t (Joins kind info octets sized few) wants = record {
       holds = joins_holds p by (Whole kind info octets) s sized few wants h;
       onward = joins_onward p by (Whole kind info octets) s h.block;
@@ -211,8 +248,11 @@ command_steps p range s by job now is none h =
 -- and so does what keeps the orders
 pub keeps_steps : (p : Settings) (s t : SenderState) → Keeps s t → WantsHold p t → SenderHolds p s → Steps p s t
 keeps_steps p s t keeps wants h =
-    let same = keeps_steady s t keeps in
-    record { holds = steady_holds p s t same wants h; onward = steady_onward s t same }
+    let same = keeps_steady p s t keeps in
+    record {
+      holds = steady_holds p s t same (keeps.asked (is_source (shapes_of p s.current.order)) h.asked) wants h;
+      onward = steady_onward p s t same;
+    }
 
 pub opening_holds : (p : Settings) → InRange p → SenderHolds p (sender_opening p)
 opening_holds p range = record {
@@ -225,6 +265,7 @@ opening_holds p range = record {
   within = omega arith;
   index = omega arith;
   block = refl;
+  asked = tt;
 }
 
 -- what is kept of the instance with an id, where there is one

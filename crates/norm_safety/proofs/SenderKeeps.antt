@@ -1,6 +1,7 @@
 -- What a sender hears, sends and tells leaves its orders, and the commands of its requests.
 use Rattle.std.proofs.Math.Nat.{mod-lt}
 use Rattle.std.proofs.Common.{arith, ◌+◌, ◌<◌, ◌≡◌, ℕ, cond, List, [], ◌∷◌, Bool, true, false, Option, None, Some, Result, Ok, Err, refl, ap, ◌∙◌}
+use Rattle.std.specs.List.{AllByRecursion}
 use Rattle.std.specs.Prelude.{map, find, ◌==◌, ◌&&◌, nat_le, nat_lt, is_some, slice_get}
 use Rattle.norm_base.specs.Settings.{Settings}
 use Rattle.norm_base.specs.declared.node.Origin.{Origin}
@@ -33,24 +34,33 @@ use Rattle.norm_send_rules.specs.declared.want.Want.TheVariants.{Info as WantedI
 abbrev pub bys : List Watermark → List Origin
 bys requests = map (λ (w : Watermark). w.by) requests
 
+-- each open request is of a position that passes a test
+abbrev pub AllOpen : (Position → Bool) → List Watermark → Type 0
+AllOpen test requests = AllByRecursion (λ (w : Watermark). is_open w ≡ true → test w.at ≡ true) requests
+
 -- the nodes that may be listed
 abbrev pub nodes_in : List Listing → List ℕ
 nodes_in listings = map (λ (l : Listing). l.node) listings
 
 -- A later state has the instances, orders and drop points of an earlier one; its listings are of the same nodes, its
--- requests of the same commands; and its sequence number has 16 bits where that had.
+-- requests of the same commands, and open only where they were; and its sequence number has 16 bits where that had.
 pub record Keeps (old new : SenderState) : Type 0 where
   pub earlier : new.earlier ≡ old.earlier
   pub current : new.current ≡ old.current
   pub by : bys new.requests ≡ bys old.requests
   pub nodes : nodes_in new.listings ≡ nodes_in old.listings
   pub sequence : old.sequence < 65536 → new.sequence < 65536
+  pub asked : (test : Position → Bool) → AllOpen test old.requests → AllOpen test new.requests
 
 pub keeps_all : (s : SenderState) → Keeps s s
-keeps_all s = record { earlier = refl; current = refl; by = refl; nodes = refl; sequence = λ h. h }
+keeps_all s = record { earlier = refl; current = refl; by = refl; nodes = refl; sequence = λ h. h; asked = λ test all. all }
 
 pub keeps_on : (a b c : SenderState) → Keeps a b → Keeps b c → Keeps a c
-keeps_on a b c h g = record { earlier = g.earlier ∙ h.earlier; current = g.current ∙ h.current; by = g.by ∙ h.by; nodes = g.nodes ∙ h.nodes; sequence = λ n. g.sequence (h.sequence n) }
+keeps_on a b c h g = record { earlier = g.earlier ∙ h.earlier; current = g.current ∙ h.current; by = g.by ∙ h.by; nodes = g.nodes ∙ h.nodes; sequence = λ n. g.sequence (h.sequence n); asked = λ test all. g.asked test (h.asked test all) }
+
+-- the position of a request
+abbrev pub request_at_of : Watermark → Position
+request_at_of w = w.at
 
 -- the state of a step
 abbrev step_of : SenderState × Option (List ℕ) → SenderState
@@ -75,12 +85,32 @@ ended_by test outcome (w ∷ requests) = go (is_open w && test w) (ended_by test
     go true e = ap (λ (xs : List Origin). w.by ∷ xs) e
     go false e = ap (λ (xs : List Origin). w.by ∷ xs) e
 
+-- A request that ends is open no more.
+ended_open : (asks : Position → Bool) (test : Watermark → Bool) (outcome : Watermark → Outcome) (requests : List Watermark) → AllOpen asks requests
+    → AllOpen asks (map (λ w. cond (is_open w && test w) (ended_with (outcome w) w) w) requests)
+ended_open asks test outcome [] all = tt
+ended_open asks test outcome (w ∷ requests) all = (go (is_open w && test w), ended_open asks test outcome requests all.1)
+  where
+    now : Bool → Watermark
+    now b = cond b (ended_with (outcome w) w) w
+
+    go : (b : Bool) → is_open (now b) ≡ true → asks (request_at_of (now b)) ≡ true
+    go true e = absurd (cc)
+    go false e = all.0 e
+
 pub ends_keeps : (test : Watermark → Bool) (outcome : Watermark → Outcome) (s : SenderState) → Keeps s (end_where test outcome s)
-ends_keeps test outcome s = record { earlier = refl; current = refl; by = ended_by test outcome s.requests; nodes = refl; sequence = λ h. h }
+ends_keeps test outcome s = record {
+  earlier = refl;
+  current = refl;
+  by = ended_by test outcome s.requests;
+  nodes = refl;
+  sequence = λ h. h;
+  asked = λ asks all. ended_open asks test outcome s.requests all;
+}
 
 anew : (b : Bool) (old new : SenderState) → Keeps old new → Keeps old (elim b [ true ↦ new | false ↦ record new { flushes = 0 } ])
 anew true old new h = h
-anew false old new h = record { earlier = h.earlier; current = h.current; by = h.by; nodes = h.nodes; sequence = h.sequence }
+anew false old new h = record { earlier = h.earlier; current = h.current; by = h.by; nodes = h.nodes; sequence = h.sequence; asked = h.asked }
 
 pub counted_keeps : (before old new : SenderState) → Keeps old new → Keeps old (counted_anew before new)
 counted_keeps before old new h = anew (keeps_oldest before new) old new h
@@ -90,7 +120,7 @@ settled_keeps old new h = keeps_on old new (settled new) h (ends_keeps _ _ new)
 
 joined_keeps : (p : Settings) (s : SenderState) (now : ℕ) (requests : List Request) → Keeps s (joined_round p s now requests)
 joined_keeps p s now [] = keeps_all s
-joined_keeps p s now (r ∷ requests) = record { earlier = refl; current = refl; by = refl; nodes = refl; sequence = λ h. h }
+joined_keeps p s now (r ∷ requests) = record { earlier = refl; current = refl; by = refl; nodes = refl; sequence = λ h. h; asked = λ test all. all }
 
 where_true : (b : Bool) (s new : SenderState) → Keeps s new → Keeps s (elim b [ true ↦ new | false ↦ s ])
 where_true true s new h = h
@@ -116,6 +146,7 @@ credited_keeps node at s = where_true (rises node at s) s _
       by = refl;
       nodes = listed_nodes node at s.listings;
       sequence = λ h. h;
+      asked = λ test all. all;
     })))
 
 credited_at_keeps : (p : Settings) (node : ℕ) (at : Position) (s : SenderState) → Keeps s (credited_at p node at s)
@@ -152,8 +183,8 @@ heard_keeps p s bytes now = message_keeps p s now (decoded bytes)
 
 -- A tick: what is sent changes what was sent, and the moments.
 noted_keeps : (w : Want) (s : SenderState) → Keeps s (noted w s)
-noted_keeps (WantedInfo index) s = record { earlier = refl; current = refl; by = refl; nodes = refl; sequence = λ h. h }
-noted_keeps (Symbol at) s = record { earlier = refl; current = refl; by = refl; nodes = refl; sequence = λ h. h }
+noted_keeps (WantedInfo index) s = record { earlier = refl; current = refl; by = refl; nodes = refl; sequence = λ h. h; asked = λ test all. all }
+noted_keeps (Symbol at) s = record { earlier = refl; current = refl; by = refl; nodes = refl; sequence = λ h. h; asked = λ test all. all }
 
 sends_keeps : (p : Settings) (now : ℕ) (m : Message) (old s : SenderState) → Keeps old s → Keeps old (sends p now m s).0
 sends_keeps p now m old s h = record {
@@ -162,6 +193,7 @@ sends_keeps p now m old s h = record {
   by = h.by;
   nodes = h.nodes;
   sequence = λ n. mod-lt (s.sequence + 1) (omega arith);
+  asked = h.asked;
 }
 
 entry_sends : (p : Settings) (now : ℕ) (old s : SenderState) (m : Entry → Message) (w : Want) (found : Option Entry) → Keeps old s
@@ -176,13 +208,16 @@ want_keeps p now repair w old s h =
 
 flushes_for_keeps : (p : Settings) (now : ℕ) (w : Watermark) (s : SenderState) → Keeps s (flushes_for p now w s).0
 flushes_for_keeps p now w s = sends_keeps p now (flush_message p s w.at (pending s w.at)) s
-    (record s { flushes = s.flushes + 1; last_flush = Some now }) (record { earlier = refl; current = refl; by = refl; nodes = refl; sequence = λ h. h })
+    (record s { flushes = s.flushes + 1; last_flush = Some now }) (record { earlier = refl; current = refl; by = refl; nodes = refl; sequence = λ h. h; asked = λ test all. all })
+
+pub expired_keeps : (mark : ℕ) (s : SenderState) → Keeps s (expired mark s)
+expired_keeps mark s = counted_keeps s s _ (ends_keeps _ _ s)
 
 flushed_keeps : (p : Settings) (now : ℕ) (requests : List Watermark) (s : SenderState) → Keeps s (flushed p now requests s).0
 unfolding flushed
 flushed_keeps p now [] s = keeps_all s
 flushed_keeps p now (w ∷ requests) s = go (nat_lt s.flushes most_flushes) (is_some s.round)
-    (keeps_on s (expired w.mark s) _ (counted_keeps s s _ (ends_keeps _ _ s)) (flushed_keeps p now requests (expired w.mark s)))
+    (keeps_on s (expired w.mark s) _ (expired_keeps w.mark s) (flushed_keeps p now requests (expired w.mark s)))
   where
     go : (b c : Bool) → Keeps s (flushed p now requests (expired w.mark s)).0
         → Keeps s (step_of (elim b [
@@ -205,7 +240,7 @@ further_keeps : (p : Settings) (now : ℕ) (s : SenderState) → Keeps s (sends_
 further_keeps p now s = go (next_new p s)
   where
     go : (found : Option Want) → Keeps s (step_of (elim found [ Some w ↦ sends_new p now w s | None ↦ flushes p now s ]))
-    go (Some w) = want_keeps p now _ w s _ (record { earlier = refl; current = refl; by = refl; nodes = refl; sequence = λ h. h })
+    go (Some w) = want_keeps p now _ w s _ (record { earlier = refl; current = refl; by = refl; nodes = refl; sequence = λ h. h; asked = λ test all. all })
     go None = flushes_keeps p now s
 
 wanted_keeps : (p : Settings) (now : ℕ) (s : SenderState) → Keeps s (sends_wanted p now s).0
@@ -213,7 +248,7 @@ wanted_keeps p now s = go s.wants
   where
     go : (wants : List Want) → Keeps s (step_of (elim wants [ [] ↦ sends_further p now s | w ∷ wants ↦ repairs_next p now w wants s ]))
     go [] = further_keeps p now s
-    go (w ∷ wants) = want_keeps p now _ w s _ (record { earlier = refl; current = refl; by = refl; nodes = refl; sequence = λ h. h })
+    go (w ∷ wants) = want_keeps p now _ w s _ (record { earlier = refl; current = refl; by = refl; nodes = refl; sequence = λ h. h; asked = λ test all. all })
 
 first_keeps : (p : Settings) (now : ℕ) (s : SenderState) → Keeps s (sends_first p now s).0
 first_keeps p now s = go s.squelch_due
@@ -223,7 +258,7 @@ first_keeps p now s = go s.squelch_due
       | false ↦ sends_wanted p now s
     ]))
     go true = sends_keeps p now (squelch_message p s s.current.drop) s (record s { squelch_due = false })
-        (record { earlier = refl; current = refl; by = refl; nodes = refl; sequence = λ h. h })
+        (record { earlier = refl; current = refl; by = refl; nodes = refl; sequence = λ h. h; asked = λ test all. all })
     go false = wanted_keeps p now s
 
 in_time_keeps : (p : Settings) (now : ℕ) (s : SenderState) → Keeps s (sends_in_time p now s).0
@@ -240,7 +275,7 @@ closed_keeps p now s = go s.round
       | Some r ↦ elim (nat_le r.closes now) [ true ↦ round_closed p r s | false ↦ s ]
       | None ↦ s
     ])
-    go (Some r) = where_true (nat_le r.closes now) s _ (record { earlier = refl; current = refl; by = refl; nodes = refl; sequence = λ h. h })
+    go (Some r) = where_true (nat_le r.closes now) s _ (record { earlier = refl; current = refl; by = refl; nodes = refl; sequence = λ h. h; asked = λ test all. all })
     go None = keeps_all s
 
 pub ticked_keeps : (p : Settings) (s : SenderState) (now : ℕ) → Keeps s (ticked p s now).0
@@ -254,7 +289,7 @@ told_keeps s = nodes s.untold_nodes
       | [] ↦ (s, None)
     ]))
     marks [] news = keeps_all s
-    marks (mark ∷ more) news = record { earlier = refl; current = refl; by = refl; nodes = refl; sequence = λ h. h }
+    marks (mark ∷ more) news = record { earlier = refl; current = refl; by = refl; nodes = refl; sequence = λ h. h; asked = λ test all. all }
 
     nodes : (ns : List ℕ) → Keeps s (news_of (elim ns [
       | node ∷ more ↦ (record s { untold_nodes = more }, past_news node (listing_of s node))
@@ -263,5 +298,5 @@ told_keeps s = nodes s.untold_nodes
         | [] ↦ (s, None)
       ]
     ]))
-    nodes (node ∷ more) = record { earlier = refl; current = refl; by = refl; nodes = refl; sequence = λ h. h }
+    nodes (node ∷ more) = record { earlier = refl; current = refl; by = refl; nodes = refl; sequence = λ h. h; asked = λ test all. all }
     nodes [] = marks s.untold_marks (λ mark. done_news s mark (find (λ (w : Watermark). w.mark == mark) s.requests))

@@ -1,25 +1,26 @@
 -- What a sender of data and files says is read again of its octets, and is true of its orders.
 use Rattle.std.proofs.Common.{◌≡◌, ℕ, zero, suc, ◌+◌, ◌*◌, ◌/◌, ◌<◌, ◌≤◌, List, [], ◌∷◌, ◌++◌, length, Bool, true, false, Option, None, Some, Result, Ok, refl, sym, ap, ◌∙◌, subst, arith}
 use Rattle.std.specs.Prelude.{slice_get, nat_lt, is_some, nat_eq, ⊤, IsTrue, IsSomeAnd}
-use Rattle.std.specs.List.{IsDistinct}
+use Rattle.std.specs.List.{AllByRecursion, IsDistinct}
 use Rattle.byteorder.specs.Endian.{big_bytes}
 use Rattle.norm_base.specs.Settings.{Settings, InRange}
 use Rattle.norm_base.specs.declared.kinds.Kind.{Kind}
 use Rattle.norm_base.specs.declared.kinds.Kind.TheVariants as kind
-use Rattle.fec_plan.specs.Points.{Point, point, point_before}
+use Rattle.fec_plan.specs.Points.{Point, point, point_before, position}
 use Rattle.fec_plan.specs.declared.position.Position.{Position}
 use Rattle.norm_ext.specs.Extensions.{IsExtension, fti_extension, fti_of}
-use Rattle.norm_ext.specs.Message.{Message, Info, Data, Squelch, InfoMessage, DataMessage, SquelchCommand}
+use Rattle.norm_ext.specs.Message.{Message, Info, Data, Flush, Squelch, InfoMessage, DataMessage, FlushCommand, SquelchCommand}
 use Rattle.norm_ext.specs.Numbers.{number}
 use Rattle.norm_ext.specs.ObjectIds.{object_id, index_of}
 use Rattle.norm_ext.specs.Octets.{octets_of}
 use Rattle.norm_ext.specs.Reading.{decoded}
 use Rattle.norm_ext.specs.Spells.{IsMessage, IsObjectHead, IsCommandHead, AreExtensions}
 use Rattle.norm_ext.specs.declared.fti.Fti.{Fti}
+use Rattle.norm_ext.specs.declared.head.CmdHead.{CmdHead}
 use Rattle.norm_ext.specs.declared.refusal.Refusal.{Refusal}
 use Rattle.norm_ext.proofs.LawsHold.{read_again_law}
 use Rattle.norm_order.specs.Entries.{Object, Whole, Stream, Entry}
-use Rattle.norm_order.specs.Shapes.{Shape, shape_of, shapes_of, encoded_in, at_index}
+use Rattle.norm_order.specs.Shapes.{Shape, shape_of, shapes_of, closed_in, encoded_in, at_index, is_source}
 use Rattle.norm_order.specs.Symbols.{symbol_octets}
 use Rattle.norm_order.proofs.UptoLemmas.{same_entry, nothing_there}
 use Rattle.std.proofs.lemmas.Option.{slice_get_within}
@@ -34,13 +35,14 @@ use Rattle.norm_send_rules.specs.declared.want.Want.{Want}
 use Rattle.norm_send_rules.specs.declared.want.Want.TheVariants.{Info as WantedInfo, Symbol}
 use Rattle.norm_safety.specs.OnceEach.{order_of, instance_ids}
 use Rattle.norm_safety.specs.Said.{entry_at}
+use Rattle.norm_safety.specs.SaysPositions.{flushes_source}
 use Rattle.norm_safety.specs.SaysSymbols.{SaysSymbol, SaysInfo, SaysObject, info_of_object}
 use Rattle.norm_safety.proofs.EntryLemmas.{clash}
 use Rattle.norm_safety.proofs.PlaceLemmas.{current_found}
 use Rattle.norm_safety.proofs.WholeOrders.{IsSized, AreSized}
 use Rattle.norm_safety.proofs.Onward.{instance_in, not_before_itself}
 use Rattle.norm_safety.proofs.SenderHolds.{SenderHolds, current_sized}
-use Rattle.norm_safety.proofs.Cuts.{cut_range, names_fit}
+use Rattle.norm_safety.proofs.Cuts.{cut_range, AreNames, names_fit, source_names_fit}
 
 -- ---- numbers
 
@@ -90,11 +92,11 @@ object_head_fits p range s index object repair h flags = record {
   object = omega arith;
 }
 
-pub command_head_fits : (p : Settings) → InRange p → (s : SenderState) → SenderHolds p s → IsCommandHead (command_head p s)
-command_head_fits p range s h = record {
+pub command_head_fits : (p : Settings) → InRange p → (s : SenderState) → s.sequence < 65536 → s.current.id < 65536 → IsCommandHead (command_head p s)
+command_head_fits p range s sequence id = record {
   source = (omega (arith, range.sender.0), omega (arith, range.sender.1));
-  sequence = h.sequence;
-  instance = h.id;
+  sequence = sequence;
+  instance = id;
   grtt = omega (arith, range.grtt_code.1);
   backoff = omega (arith, range.k.1);
   gsize = omega (arith, range.gsize_code.1);
@@ -141,6 +143,7 @@ abbrev pub IsTrueOf : Settings → SenderState → Result Message Refusal → Ty
 IsTrueOf p s (Ok (Data m)) = SaysSymbol p s m
 IsTrueOf p s (Ok (Info m)) = SaysInfo p s m
 IsTrueOf p s (Ok (Squelch m)) = SquelchesDropped p s m
+IsTrueOf p s (Ok (Flush m)) = IsTrue (flushes_source p s m)
 IsTrueOf p s _ = ⊤
 
 -- so does a datagram
@@ -250,10 +253,59 @@ squelch_true p range s h differ =
     let B : ℕ → Type 0 = λ i. point_before drop (point i drop.block) ≡ false in
     true_again p s (Squelch m)
     (record {
-      head = command_head_fits p range s h;
+      head = command_head_fits p range s h.sequence h.id;
       object = omega arith;
       id = (block, omega arith);
       extensions = record { each = tt; most = omega arith };
       invalid = tt;
     })
     (s.current, current_found s.earlier s.current s.current refl differ, subst B (sym again) (not_before_itself drop), h.block)
+
+-- the entry of which a test of a shape is true
+entry_with : (p : Settings) (order : List Entry) (i : ℕ) (test : Shape → Bool) → at_index (shapes_of p order) i false test ≡ true
+    → (entry : Entry) × (slice_get order i ≡ Some entry) × (test (shape_of p entry.object) ≡ true)
+entry_with p [] i test e = absurd (clash e)
+entry_with p (x ∷ order) zero test e = (x, refl, e)
+entry_with p (x ∷ order) (suc i) test e = entry_with p order i test e
+
+-- a closed source symbol of an object of its size has a name
+source_named : (p : Settings) → InRange p → (object : Object) (block symbol : ℕ) → IsSized p object
+    → nat_lt symbol (closed_in (shape_of p object) block) ≡ true → AreNames block symbol
+source_named p range (Whole kind info octets) block symbol sized e =
+    source_names_fit p (cut_range p range) (length octets) (is_some info) block symbol sized.0 sized.1 e
+source_named p range (Stream parts) block symbol sized e = absurd sized
+
+-- A source symbol of the current order is flushed up to truly.
+pub flush_true : (p : Settings) → InRange p → (s : SenderState) (head : CmdHead) (at : Position) (nodes : List ℕ) → SenderHolds p s
+    → IsDistinct nat_eq (instance_ids s) → IsCommandHead head → head.instance ≡ s.current.id → is_source (current_shapes p s) at ≡ true
+    → AllByRecursion (λ n. n < 4294967296) nodes
+    → SaysTrue p s (octets_of (Flush (record {
+      head = head;
+      object = object_id p at.index;
+      id = record { block = at.block; symbol = at.symbol };
+      extensions = [];
+      nodes = nodes;
+    })))
+flush_true p range s head at nodes h differ fits current source few =
+    let m : FlushCommand = record {
+      head = head;
+      object = object_id p at.index;
+      id = record { block = at.block; symbol = at.symbol };
+      extensions = [];
+      nodes = nodes;
+    } in
+    let found = entry_with p s.current.order at.index (λ x. nat_lt at.symbol (closed_in x at.block)) source in
+    let index : at.index < 65536 = (let lt = slice_get_within s.current.order at.index found.0 found.1 in omega (arith, lt, h.many)) in
+    let sized = sized_at p s.current.order at.index found.0 (current_sized p s h) found.1 in
+    true_again p s (Flush m)
+    (record {
+      head = fits;
+      object = omega arith;
+      id = source_named p range found.0.object at.block at.symbol sized found.2;
+      extensions = record { each = tt; most = omega arith };
+      nodes = few;
+    })
+    (ap (λ (id : ℕ). is_source (shapes_of p (order_of s id)) (position (index_of p (object_id p at.index)) at.block at.symbol)) current
+    ∙ ap (λ (order : List Entry). is_source (shapes_of p order) (position (index_of p (object_id p at.index)) at.block at.symbol)) (current_order s differ)
+    ∙ ap (λ (i : ℕ). is_source (shapes_of p s.current.order) (position i at.block at.symbol)) (index_again p range at.index index)
+    ∙ source)

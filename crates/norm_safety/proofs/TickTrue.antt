@@ -1,28 +1,30 @@
 -- What a sender's tick sends is true of its orders, and stays true as its instances go on.
 use Rattle.std.proofs.Common.{◌≡◌, ℕ, zero, suc, ◌+◌, ◌<◌, ◌≤◌, cond, List, [], ◌∷◌, ◌++◌, length, take, drop, Bool, true, false, Option, None, Some, Result, Ok, Err, refl, sym, ap, ◌∙◌, subst, arith, ◌⊎◌, inl, inr}
-use Rattle.std.specs.Prelude.{map, find, flat_map, slice_get, ◌&&◌, not, min, nat_lt, is_some, nat_eq, ⊤, IsSomeAnd}
+use Rattle.std.specs.Prelude.{map, filter, find, flat_map, slice_get, ◌&&◌, not, min, nat_lt, is_some, nat_eq, ⊤, IsSomeAnd}
 use Rattle.std.specs.List.{AllByRecursion, IsDistinct, range_with_len}
 use Rattle.std.proofs.Common.{append_assoc}
 use Rattle.std.proofs.lemmas.Bool.{cases_lt}
 use Rattle.std.proofs.lemmas.Bool.Decides.{Decides-ltb}
 use Rattle.std.proofs.lemmas.List.{map-append, length-append, length-take, take-append-drop}
 use Rattle.norm_base.specs.Settings.{Settings, InRange}
+use Rattle.norm_base.specs.Members.{receivers_of}
 use Rattle.fec_plan.specs.Points.{position}
+use Rattle.fec_plan.specs.declared.position.Position.{Position}
 use Rattle.fec_plan.specs.Partition.{source_symbols, encoding_symbols}
-use Rattle.norm_ext.specs.Message.{Message, Info, Data, Flush, Eot, Squelch, RepairAdv, AckReq, Opaque, Nack, Ack, Report, FlushCommand}
+use Rattle.norm_ext.specs.Message.{Message, Info, Data, Flush, Eot, Squelch, RepairAdv, AckReq, Opaque, Nack, Ack, Report}
 use Rattle.norm_ext.specs.Reading.{decoded}
 use Rattle.norm_ext.specs.declared.refusal.Refusal.{Refusal}
 use Rattle.norm_order.specs.Entries.{Object, Entry}
-use Rattle.norm_order.specs.Shapes.{Shape, shape_of, shapes_of, symbols_of, closed_in, encoded_in, is_full, closed_blocks, at_index}
+use Rattle.norm_order.specs.Shapes.{Shape, shape_of, shapes_of, symbols_of, closed_in, encoded_in, is_full, closed_blocks, at_index, is_source}
 use Rattle.norm_order.proofs.UptoLemmas.{found_front}
-use Rattle.norm_send_rules.specs.SenderState.{SenderState, Instance, Watermark}
+use Rattle.norm_send_rules.specs.SenderState.{SenderState, Instance, Listing, Watermark}
 use Rattle.norm_send_rules.specs.InWindow.{current_shapes, stands_behind}
 use Rattle.norm_send_rules.specs.Restarting.{instances}
-use Rattle.norm_ext.specs.ObjectIds.{object_id}
+use Rattle.norm_ext.specs.ObjectIds.{index_of}
 use Rattle.norm_send_rules.specs.Messages.{command_head, squelch_message, explicit_repair, parity_repair}
 use Rattle.norm_send_rules.specs.Sending.{sent_once, new_of, new_from, next_new, behind, sends, noted, repair_flags, message_of, sends_want, repairs_next, sends_new}
 use Rattle.norm_send_rules.specs.Flushing.{most_flushes, flushes_for, expired, flushed, flushes, may_flush}
-use Rattle.norm_send_rules.specs.Requests.{open_requests, pending}
+use Rattle.norm_send_rules.specs.Requests.{is_open, open_requests, pending}
 use Rattle.norm_send_rules.specs.Ticking.{closed_where_due, sends_further, sends_wanted, sends_first, ticked}
 use Rattle.norm_send_rules.specs.Wants.{want_before, want_index}
 use Rattle.norm_send_rules.specs.Laws.{Rise, is_of_order, WantsHold}
@@ -30,21 +32,22 @@ use Rattle.norm_send_rules.specs.declared.want.Want.{Want}
 use Rattle.norm_send_rules.specs.declared.want.Want.TheVariants.{Info as WantedInfo, Symbol}
 use Rattle.norm_send_rules.proofs.StepLemmas.{due_holds, blocks_of}
 use Rattle.norm_send_rules.proofs.ShapeLemmas.{Blocks, HasParity, shape_parity}
-use Rattle.norm_safety.specs.OnceEach.{instance_ids}
+use Rattle.norm_safety.specs.OnceEach.{order_of, instance_ids}
 use Rattle.norm_safety.specs.Said.{entry_at}
 use Rattle.norm_safety.proofs.CommandSteps.{same_instances, keeps_ids}
 use Rattle.norm_safety.proofs.Onward.{GoOn, Onward, LaterThan, instance_in, not_before_both, goes_on_itself}
-use Rattle.norm_safety.proofs.SenderKeeps.{Keeps, closed_keeps}
-use Rattle.norm_safety.proofs.SenderHolds.{SenderHolds, keeps_steps}
-use Rattle.norm_safety.proofs.Spoken.{IsTrueOf, SaysTrue, want_true, squelch_true}
-use Rattle.norm_safety.proofs.Feedback.{SaysNothing, flush_said}
+use Rattle.norm_safety.proofs.SenderKeeps.{Keeps, keeps_all, keeps_on, expired_keeps, closed_keeps, nodes_in, AllOpen}
+use Rattle.norm_safety.proofs.SenderHolds.{SenderHolds, keeps_steps, order_later}
+use Rattle.norm_safety.proofs.LastLemmas.{found_behind, source_still}
+use Rattle.norm_safety.proofs.Spoken.{IsTrueOf, SaysTrue, command_head_fits, want_true, squelch_true, flush_true}
+use Rattle.norm_safety.proofs.Feedback.{SaysNothing}
 
 -- what says nothing of objects is true
 pub nothing_true : (p : Settings) (s : SenderState) (r : Result Message Refusal) → SaysNothing r → IsTrueOf p s r
 nothing_true p s (Ok (Info m)) h = absurd h
 nothing_true p s (Ok (Data m)) h = absurd h
 nothing_true p s (Ok (Squelch m)) h = absurd h
-nothing_true p s (Ok (Flush m)) h = tt
+nothing_true p s (Ok (Flush m)) h = absurd h
 nothing_true p s (Ok (Eot m)) h = tt
 nothing_true p s (Ok (RepairAdv m)) h = tt
 nothing_true p s (Ok (AckReq m)) h = tt
@@ -83,7 +86,10 @@ true_later p s t (Ok (Data m)) onward h = entry_later _ s t m.head.instance _ on
 true_later p s t (Ok (Squelch m)) onward h =
     let later = onward m.head.instance h.0 h.1 in
     (later.0, later.1, not_before_both _ h.0.drop later.0.drop h.2 later.2.drop, h.3)
-true_later p s t (Ok (Flush m)) onward h = tt
+true_later p s t (Ok (Flush m)) onward h =
+    let later = order_later s t onward m.head.instance in
+    let at : Position = position (index_of p m.object) m.id.block m.id.symbol in
+    ap (λ (order : List Entry). is_source (shapes_of p order) at) later.order ∙ source_still p (order_of s m.head.instance) later.more at h
 true_later p s t (Ok (Eot m)) onward h = tt
 true_later p s t (Ok (RepairAdv m)) onward h = tt
 true_later p s t (Ok (AckReq m)) onward h = tt
@@ -143,11 +149,6 @@ HaveParity shapes = AllByRecursion (λ (s : Shape). HasParity s.cut) shapes
 shapes_parity : (p : Settings) → Blocks p → (order : List Entry) → HaveParity (shapes_of p order)
 shapes_parity p blocks [] = tt
 shapes_parity p blocks (x ∷ order) = (shape_parity p blocks x.object, shapes_parity p blocks order)
-
--- a shape behind others is found by its index
-found_behind : (front : List Shape) (s : Shape) (rest : List Shape) (test : Shape → Bool) → at_index (front ++ s ∷ rest) (length front) false test ≡ test s
-found_behind [] s rest test = refl
-found_behind (x ∷ front) s rest test = found_behind front s rest test
 
 of_order_by : (all : List Shape) (index : ℕ) (s : Shape) → ((test : Shape → Bool) → at_index all index false test ≡ test s)
     → (w : Want) → IsOfShape index s w → is_of_order all w ≡ true
@@ -264,34 +265,75 @@ wanted_true p range s now repair w h differ of few = go (slice_get s.current.ord
     go None e = tt
     go (Some entry) e = want_true p range s w entry (repair entry.object) h differ of e (few entry.object)
 
--- a flush's message
-abbrev flush_of : Settings → SenderState → Watermark → FlushCommand
-flush_of p s w = record {
-  head = command_head p s;
-  object = object_id p w.at.index;
-  id = record { block = w.at.block; symbol = w.at.symbol };
-  extensions = [];
-  nodes = pending s w.at;
-}
+-- the receivers have ids of 32 bits
+receivers_few : (p : Settings) → InRange p → (n : ℕ) → n ≤ p.receivers → AllByRecursion (λ id. id < 4294967296) (receivers_of p n)
+receivers_few p range zero le = tt
+receivers_few p range (suc n) le =
+    ids_append (receivers_of p n) (p.sender + 1 + n) (receivers_few p range n (omega arith)) (omega (arith, range.sender.1, range.receivers.1))
+  where
+    ids_append : (ids : List ℕ) (id : ℕ) → AllByRecursion (λ id. id < 4294967296) ids → id < 4294967296 → AllByRecursion (λ id. id < 4294967296) (ids ++ id ∷ [])
+    ids_append [] id all few = (few, tt)
+    ids_append (x ∷ ids) id all few = (all.0, ids_append ids id all.1 few)
 
-flushed_true : (p : Settings) (t : SenderState) (now : ℕ) (requests : List Watermark) (s : SenderState) → SentTrue p t (flushed p now requests s).1
+-- and so have those that are waited for
+pending_few : (test : Listing → Bool) (listings : List Listing) → AllByRecursion (λ id. id < 4294967296) (nodes_in listings)
+    → AllByRecursion (λ id. id < 4294967296) (map (λ (l : Listing). l.node) (filter test listings))
+pending_few test [] all = tt
+pending_few test (l ∷ listings) all = go (test l) (pending_few test listings all.1)
+  where
+    nodes : List Listing → List ℕ
+    nodes ls = map (λ (l : Listing). l.node) ls
+
+    go : (b : Bool) → AllByRecursion (λ id. id < 4294967296) (nodes (filter test listings))
+        → AllByRecursion (λ id. id < 4294967296) (nodes (cond b (l ∷ filter test listings) (filter test listings)))
+    go true more = (all.0, more)
+    go false more = more
+
+-- the requests that are open are of positions that pass the test
+open_pass : (test : Position → Bool) (requests : List Watermark) → AllOpen test requests
+    → AllByRecursion (λ (w : Watermark). test w.at ≡ true) (filter is_open requests)
+open_pass test [] all = tt
+open_pass test (w ∷ requests) all = go (is_open w) refl (open_pass test requests all.1)
+  where
+    go : (b : Bool) → is_open w ≡ b → AllByRecursion (λ (w : Watermark). test w.at ≡ true) (filter is_open requests)
+        → AllByRecursion (λ (w : Watermark). test w.at ≡ true) (cond b (w ∷ filter is_open requests) (filter is_open requests))
+    go true is more = (all.0 is, more)
+    go false is more = more
+
+-- a flush of a state that keeps the orders
+flushed_one : (p : Settings) → InRange p → (t : SenderState) → SenderHolds p t → IsDistinct nat_eq (instance_ids t) → (s : SenderState) → Keeps t s
+    → (w : Watermark) → is_source (current_shapes p t) w.at ≡ true → (now : ℕ) → SentTrue p t (flushes_for p now w s).1
+flushed_one p range t h differ s keeps w source now =
+    let I : Instance → Type 0 = λ i. i.id < 65536 in
+    let N : List ℕ → Type 0 = λ ids. AllByRecursion (λ id. id < 4294967296) ids in
+    let nodes : AllByRecursion (λ id. id < 4294967296) (nodes_in s.listings) =
+    subst N (sym (keeps.nodes ∙ h.nodes)) (receivers_few p range p.receivers (omega arith)) in
+    flush_true p range t (command_head p s) w.at (pending s w.at) h differ
+    (command_head_fits p range s (keeps.sequence h.sequence) (subst I (sym keeps.current) h.id))
+    (ap (λ (i : Instance). i.id) keeps.current) source (pending_few _ s.listings nodes)
+
+flushed_true : (p : Settings) → InRange p → (t : SenderState) → SenderHolds p t → IsDistinct nat_eq (instance_ids t) → (now : ℕ) (requests : List Watermark)
+    → AllByRecursion (λ (w : Watermark). is_source (current_shapes p t) w.at ≡ true) requests → (s : SenderState) → Keeps t s
+    → SentTrue p t (flushed p now requests s).1
 unfolding flushed
-flushed_true p t now [] s = tt
-flushed_true p t now (w ∷ requests) s = go (nat_lt s.flushes most_flushes) (is_some s.round) (flushed_true p t now requests (expired w.mark s))
+flushed_true p range t h differ now [] all s keeps = tt
+flushed_true p range t h differ now (w ∷ requests) all s keeps =
+    go (nat_lt s.flushes most_flushes) (is_some s.round)
+    (flushed_true p range t h differ now requests all.1 (expired w.mark s) (keeps_on t s (expired w.mark s) keeps (expired_keeps w.mark s)))
   where
     go : (b c : Bool) → SentTrue p t (flushed p now requests (expired w.mark s)).1 → SentTrue p t (given (elim b [
       | true ↦ flushes_for p now w s
       | false ↦ elim c [ true ↦ (s, None) | false ↦ flushed p now requests (expired w.mark s) ]
     ]))
-    go true c more = nothing_true p t _ (flush_said (flush_of p s w))
+    go true c more = flushed_one p range t h differ s keeps w all.0 now
     go false true more = tt
     go false false more = more
 
-flushes_true : (p : Settings) (now : ℕ) (s : SenderState) → SentTrue p s (flushes p now s).1
-flushes_true p now s = go (may_flush p s now)
+flushes_true : (p : Settings) → InRange p → (now : ℕ) (s : SenderState) → SenderHolds p s → IsDistinct nat_eq (instance_ids s) → SentTrue p s (flushes p now s).1
+flushes_true p range now s h differ = go (may_flush p s now)
   where
     go : (b : Bool) → SentTrue p s (given (elim b [ true ↦ flushed p now (open_requests s) s | false ↦ (s, None) ]))
-    go true = flushed_true p s now (open_requests s) s
+    go true = flushed_true p range s h differ now (open_requests s) (open_pass (is_source (current_shapes p s)) s.requests h.asked) s (keeps_all s)
     go false = tt
 
 -- the state in which a want is sent holds what holds, and has the same orders
@@ -309,9 +351,9 @@ further_true p range now s h differ = go (next_new p s) refl
     next w = record s { next = behind w }
 
     go : (found : Option Want) → next_new p s ≡ found → SentTrue p s (given (elim found [ Some w ↦ sends_new p now w s | None ↦ flushes p now s ]))
-    go None e = flushes_true p now s
+    go None e = flushes_true p range now s h differ
     go (Some w) e =
-        let keeps : Keeps s (next w) = record { earlier = refl; current = refl; by = refl; nodes = refl; sequence = λ n. n } in
+        let keeps : Keeps s (next w) = record { earlier = refl; current = refl; by = refl; nodes = refl; sequence = λ n. n; asked = λ test all. all } in
         let wants : WantsHold p (next w) = record { rise = h.wants.rise; of_order = h.wants.of_order; in_window = h.wants.in_window } in
         same_true p (next w) s _ (goes_on_itself (instances s))
         (wanted_true p range (next w) now (λ object. 0) w (without p s (next w) keeps wants h) differ
@@ -332,7 +374,7 @@ wants_true p range now s h differ = go s.wants refl
         let rise = subst R e h.wants.rise in
         let of = subst O e h.wants.of_order in
         let within = subst W e h.wants.in_window in
-        let keeps : Keeps s (rest wants) = record { earlier = refl; current = refl; by = refl; nodes = refl; sequence = λ n. n } in
+        let keeps : Keeps s (rest wants) = record { earlier = refl; current = refl; by = refl; nodes = refl; sequence = λ n. n; asked = λ test all. all } in
         let hold : WantsHold p (rest wants) = record { rise = rise.1; of_order = of.1; in_window = within.1 } in
         same_true p (rest wants) s _ (goes_on_itself (instances s))
         (wanted_true p range (rest wants) now (λ object. repair_flags p object w) w (without p s (rest wants) keeps hold h) differ of.0

@@ -13,7 +13,7 @@ use Rattle.fec_plan.specs.declared.position.Position.{Position}
 use Rattle.norm_order.specs.Entries.{Part, Write, Cut, End, Object, Whole, Stream, Entry}
 use Rattle.norm_order.specs.Segments.{unclosed}
 use Rattle.norm_order.specs.Shapes.{last_source}
-use Rattle.norm_send_rules.specs.SenderState.{SenderState}
+use Rattle.norm_send_rules.specs.SenderState.{SenderState, Watermark}
 use Rattle.norm_send_rules.specs.InWindow.{next_index, current_shapes}
 use Rattle.norm_send_rules.specs.Restarting.{is_used, begun_anew}
 use Rattle.norm_send_rules.specs.Enqueuing.{info_length, open_parts, open_stream, object_fault, joined, ids_spent}
@@ -30,7 +30,7 @@ use Rattle.norm_send_rules.specs.declared.job.Job.TheVariants as job
 use Rattle.norm_send_rules.specs.declared.job.Receipt.{Receipt}
 use Rattle.norm_send_rules.specs.declared.job.Receipt.TheVariants as receipt
 use Rattle.norm_safety.specs.Jobs.{IsJob, OpensNone}
-use Rattle.norm_safety.proofs.SenderKeeps.{Keeps, keeps_all, nodes_in}
+use Rattle.norm_safety.proofs.SenderKeeps.{Keeps, keeps_all, nodes_in, AllOpen}
 use Rattle.norm_safety.proofs.EntryLemmas.{open_in, ends, clash}
 use Rattle.norm_safety.proofs.CommandSteps.{where_free, first_none, no_parts, requested_keeps}
 
@@ -65,18 +65,27 @@ none_open p order all = go (ends order)
         ap open_in is ∙ ap last_open (reverse-append front (last ∷ [])) ∙ not_open p last.object (last_sized p front last (subst A is all))
 
 -- What stays but for requests: orders, instances, drop points, whom listings are of; and the sequence number has 16 bits.
-pub record Steady (old new : SenderState) : Type 0 where
+-- A request is open where it was, or is of the last source symbol of the order.
+pub record Steady (p : Settings) (old new : SenderState) : Type 0 where
   pub earlier : new.earlier ≡ old.earlier
   pub current : new.current ≡ old.current
   pub nodes : nodes_in new.listings ≡ nodes_in old.listings
   pub sequence : old.sequence < 65536 → new.sequence < 65536
+  pub asked : (test : Position → Bool) → ((at : Position) → last_source (current_shapes p old) ≡ Some at → test at ≡ true)
+      → AllOpen test old.requests → AllOpen test new.requests
 
-pub keeps_steady : (old new : SenderState) → Keeps old new → Steady old new
-keeps_steady old new h = record { earlier = h.earlier; current = h.current; nodes = h.nodes; sequence = h.sequence }
+pub keeps_steady : (p : Settings) (old new : SenderState) → Keeps old new → Steady p old new
+keeps_steady p old new h = record {
+  earlier = h.earlier;
+  current = h.current;
+  nodes = h.nodes;
+  sequence = h.sequence;
+  asked = λ test last all. h.asked test all;
+}
 
 -- What a command does to orders of data and files: nothing, or an object joins, or a new instance begins.
 pub data CommandCase (p : Settings) (s : SenderState) (by : Origin) : SenderState → Type 0 where
-  Stays : {new : SenderState} → Steady s new → CommandCase p s by new
+  Stays : {new : SenderState} → Steady p s new → CommandCase p s by new
   Joins : (kind : Kind) (info : Option (List ℕ)) (octets : List ℕ) → IsSized p (Whole kind info octets) → next_index s < 65536
       → CommandCase p s by (joined p by (Whole kind info octets) s)
   Restarts : (id : ℕ) → is_used s id ≡ false → id < 65536 → CommandCase p s by (begun_anew p id s)
@@ -103,7 +112,7 @@ not_less a b e = by_cases (nat_lt a b) refl
 free_case : (p : Settings) (by : Origin) (found : Option EnqueueFault) (s after : SenderState) (receipt : Receipt)
     → (found ≡ None → CommandCase p s by after) → CommandCase p s by (where_free found s after receipt).0
 free_case p by None s after receipt h = h refl
-free_case p by (Some fault) s after receipt h = Stays (keeps_steady s s (keeps_all s))
+free_case p by (Some fault) s after receipt h = Stays (keeps_steady p s s (keeps_all s))
 
 -- an object that has no fault joins
 object_case : (p : Settings) (by : Origin) (kind : Kind) (info : Option (List ℕ)) (octets : List ℕ) (s : SenderState) → AreOctets octets
@@ -148,24 +157,36 @@ cut_nothing p s none =
     cut_by : ℕ → SenderState
     cut_by n = elim n [ zero ↦ s | suc n ↦ with_parts (parts_now s ++ Cut ∷ []) s ]
 
-mark_case : (p : Settings) (by : Origin) (s between : SenderState) (found : Option Position) → between ≡ s
-    → CommandCase p s by (answered Mark (request_at between by found)).0
-mark_case p by s between found same =
+-- one more request of a position that passes the test
+open_more : (test : Position → Bool) (requests : List Watermark) (w : Watermark) → test w.at ≡ true → AllOpen test requests → AllOpen test (requests ++ w ∷ [])
+open_more test [] w h all = (λ is. h, tt)
+open_more test (x ∷ requests) w h all = (all.0, open_more test requests w h all.1)
+
+-- a mark asks for the last source symbol, or changes nothing
+mark_case : (p : Settings) (by : Origin) (s between : SenderState) (found : Option Position) → found ≡ last_source (current_shapes p between)
+    → between ≡ s → CommandCase p s by (answered Mark (request_at between by found)).0
+mark_case p by s between found last same =
     let C : SenderState → Type 0 = λ x. CommandCase p s by (answered Mark (request_at x by found)).0 in
-    subst C (sym same) (at found)
+    subst C (sym same) (at found (last ∙ ap (λ (x : SenderState). last_source (current_shapes p x)) same))
   where
-    few : (at : Position) (many : Bool) → CommandCase p s by (state_of (answered Mark (elim many [
+    few : (at : Position) → Some at ≡ last_source (current_shapes p s) → (many : Bool) → CommandCase p s by (state_of (answered Mark (elim many [
       | true ↦ (s, Err (TooMany (length (open_requests s))))
       | false ↦ (requested s by at, Ok (receipt.Mark (length s.requests + 1) at))
     ])))
-    few at true = Stays (keeps_steady s s (keeps_all s))
-    few at false =
+    few at is true = Stays (keeps_steady p s s (keeps_all s))
+    few at is false =
         let kept = requested_keeps by s at in
-        Stays (record { earlier = kept.earlier; current = kept.current; nodes = kept.nodes; sequence = kept.sequence })
+        Stays (record {
+          earlier = kept.earlier;
+          current = kept.current;
+          nodes = kept.nodes;
+          sequence = kept.sequence;
+          asked = λ test last all. kept.asked test (open_more test s.requests _ (last at (sym is)) all);
+        })
 
-    at : (found : Option Position) → CommandCase p s by (answered Mark (request_at s by found)).0
-    at None = Stays (keeps_steady s s (keeps_all s))
-    at (Some position) = few position (nat_le most_open (length (open_requests s)))
+    at : (found : Option Position) → found ≡ last_source (current_shapes p s) → CommandCase p s by (answered Mark (request_at s by found)).0
+    at None is = Stays (keeps_steady p s s (keeps_all s))
+    at (Some position) is = few position is (nat_le most_open (length (open_requests s)))
 
 pub command_case : (p : Settings) (s : SenderState) (by : Origin) (job : Job) → AreSized p s.current.order → IsJob job → OpensNone job
     → CommandCase p s by (commanded p s by job).0
@@ -183,12 +204,12 @@ command_case p s by job.Close all are none =
     let parts = parts_now s ++ End ∷ [] in
     closed_case p by s (none_open p s.current.order all) (close_fault p s parts) (λ e. (first_none _ _ _ e).0) (grown p s parts) _
 command_case p s by job.Mark all are none =
-    mark_case p by s (cut p s) (last_source (current_shapes p (cut p s))) (cut_nothing p s (none_open p s.current.order all))
+    mark_case p by s (cut p s) (last_source (current_shapes p (cut p s))) refl (cut_nothing p s (none_open p s.current.order all))
 command_case p s by (job.Restart id) all are none = go (is_used s id) refl
   where
     go : (used : Bool) → is_used s id ≡ used → CommandCase p s by (state_of (elim used [
       | true ↦ (s, Err (IdUsed id))
       | false ↦ (begun_anew p id s, Ok (receipt.Restarted id))
     ]))
-    go true e = Stays (keeps_steady s s (keeps_all s))
+    go true e = Stays (keeps_steady p s s (keeps_all s))
     go false e = Restarts id e are

@@ -13,8 +13,8 @@ use Rattle.norm_safety.specs.SatisfiedExactly.{SatisfiedExactly, is_satisfied_ex
 use Rattle.norm_safety.specs.Lawful.{Lawful, is_lawful}
 use Rattle.norm_safety.specs.Jobs.{AreEvents, AreOfObjects}
 use Rattle.norm_safety.specs.Safe.{Safe, is_safe}
-use Rattle.norm_safety.specs.Said.{said_data, said_infos, said_squelches}
-use Rattle.norm_safety.specs.SaysPositions.{squelches_dropped}
+use Rattle.norm_safety.specs.Said.{said_data, said_infos, said_flushes, said_squelches}
+use Rattle.norm_safety.specs.SaysPositions.{flushes_source, squelches_dropped}
 use Rattle.norm_safety.specs.SaysSymbols.{SaysSymbol, SaysInfo}
 use Rattle.norm_safety.specs.WorldStep.{run}
 
@@ -35,11 +35,12 @@ abbrev pub WantsHoldInRuns : Type 0
 WantsHoldInRuns = (p : Settings) (events : List Event) → InRange p → WantsHold p (run p events).sender
 
 -- What was said, or waits to be, is true of the orders: each DATA carries an encoded symbol of its entry, each INFO the info of
--- its entry, with the entry's transmission information and flags; and a squelch names a point that its instance's drop
--- point is not before.
+-- its entry, with the entry's transmission information and flags; each flush names a closed source symbol of the order; and a
+-- squelch names a point that its instance's drop point is not before.
 pub record SaidOfOrders (p : Settings) (h : History) : Type 0 where
   pub symbols : AllByRecursion (SaysSymbol p h.now.sender) (said_data h.now)
   pub infos : AllByRecursion (SaysInfo p h.now.sender) (said_infos h.now)
+  pub flushes : AllByRecursion (λ m. IsTrue (flushes_source p h.now.sender m)) (said_flushes h.now)
   pub squelches : AllByRecursion (λ m. IsTrue (squelches_dropped p h.now.sender m)) (said_squelches h.now)
 
 -- a promise of each lawful run of data and files under a profile, whatever the network loses, repeats, reorders or delays,

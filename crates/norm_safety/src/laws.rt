@@ -13,7 +13,8 @@ pub fn safe_run()
 {}
 
 /// In lawful runs of data and files each DATA and INFO that was said carries the encoded symbol or the info of its entry, with
-/// the entry's transmission information and flags, and each squelch a point that its instance's drop point is not before.
+/// the entry's transmission information and flags; each flush names a closed source symbol of its instance's order; and each
+/// squelch a point that its instance's drop point is not before.
 #[tactic(auto, using(crate::proofs::SaidRun::said_run))]
 pub fn said_run()
     ensures { OfRunsOfObjects SaidOfOrders }
