@@ -1,61 +1,8 @@
 """Recorded runs as terms of antt, and what their answers are as lists of numbers (see Shown.txt)."""
-import re
+import os, re
 
 NONE = 4294967295
-USES = '''use Rattle.std.proofs.Common.{◌≡◌, ◌∷◌, [], Ok, Err, Option, Some, None, codes, refl}
-use Rattle.std.specs.Prelude.{ℕ, zero, suc, ◌+◌, ◌/◌, ◌%◌, ◌==◌, ◌&&◌, ⊤, Result, List, ◌++◌, Bool, true, false, not, length, map, filter, find, take, drop, nat_le, cond, flat_map}
-use Rattle.std.specs.List.{list_all}
-use Rattle.norm_base.specs.Settings.{Settings}
-use Rattle.norm_base.specs.declared.kinds.Mode.TheVariants as mode
-use Rattle.norm_base.specs.declared.kinds.FabricKind.TheVariants as fabric
-use Rattle.norm_base.specs.declared.kinds.Kind.{Kind}
-use Rattle.norm_base.specs.declared.kinds.Kind.TheVariants as kind
-use Rattle.norm_base.specs.declared.node.Origin.{Origin}
-use Rattle.fec_plan.specs.declared.position.Position.{Position}
-use Rattle.fec_plan.specs.Points.{Point, point, position}
-use Rattle.norm_ext.specs.Extensions.{fti_extension}
-use Rattle.norm_ext.specs.Message.{Message, AckContent}
-use Rattle.norm_ext.specs.Message as message
-use Rattle.norm_ext.specs.Numbers.{form_number}
-use Rattle.norm_ext.specs.Octets.{octets_of}
-use Rattle.norm_ext.specs.Reading.{decoded}
-use Rattle.norm_ext.specs.Requests.{Request, RequestItem}
-use Rattle.norm_ext.specs.declared.kinds.Form.TheVariants as form
-use Rattle.norm_order.specs.Entries.{Entry}
-use Rattle.norm_order.specs.declared.up.Up.{Up}
-use Rattle.norm_order.specs.declared.up.Up.TheVariants as up
-use Rattle.norm_send_rules.specs.SenderState.{SenderState, Round, Listing, Watermark}
-use Rattle.norm_send_rules.specs.Requests.{outcome_of}
-use Rattle.norm_send_rules.specs.Ticking.{is_idle}
-use Rattle.norm_send_rules.specs.declared.job.Job.{Job}
-use Rattle.norm_send_rules.specs.declared.job.Job.TheVariants as job
-use Rattle.norm_send_rules.specs.declared.job.Receipt.{Receipt}
-use Rattle.norm_send_rules.specs.declared.job.Receipt.TheVariants as receipt
-use Rattle.norm_send_rules.specs.declared.fault.EnqueueFault.{EnqueueFault}
-use Rattle.norm_send_rules.specs.declared.fault.EnqueueFault.TheVariants as enqueue
-use Rattle.norm_send_rules.specs.declared.fault.StreamFault.TheVariants as stream
-use Rattle.norm_send_rules.specs.declared.fault.SendFault.{SendFault}
-use Rattle.norm_send_rules.specs.declared.fault.SendFault.TheVariants as send
-use Rattle.norm_send_rules.specs.declared.fault.MarkFault.TheVariants as mark
-use Rattle.norm_send_rules.specs.declared.news.News.{News}
-use Rattle.norm_send_rules.specs.declared.news.News.TheVariants as news
-use Rattle.norm_send_rules.specs.declared.news.Outcome.{Outcome}
-use Rattle.norm_send_rules.specs.declared.news.Outcome.TheVariants as outcome
-use Rattle.norm_send_rules.specs.declared.want.Want.{Want}
-use Rattle.norm_send_rules.specs.declared.want.Want.TheVariants as want
-use Rattle.norm_receive_rules.specs.ReceiverState.{ReceiverState, Plan, Held, HeldInfo}
-use Rattle.norm_safety.specs.Events.{Event, Commanded, Delivered, Ticked, Offered, UpTaken, NewsAsked, Answer, Gave, Sent, Took, Told, Silent}
-use Rattle.norm_safety.specs.World.{World, world_opening, receiver_at}
-use Rattle.norm_safety.specs.WorldStep.{world_step, run_from}
-use Rattle.norm_safety.specs.History.{Happening, History, history, last_world}
-use Rattle.norm_safety.specs.Lawful.{is_lawful}
-use Rattle.norm_safety.specs.OnceEach.{is_once_each}
-use Rattle.norm_safety.specs.InOrder.{is_in_order}
-use Rattle.norm_safety.specs.ListedAfter.{is_listed_after}
-use Rattle.norm_safety.specs.SatisfiedExactly.{is_satisfied_exactly}
-use Rattle.norm_safety.specs.Safe.{is_safe}
-use Rattle.norm_safety.specs.Tied.{is_tied}
-'''
+USES = open(os.path.join(os.path.dirname(os.path.abspath(__file__)), 'Uses.txt'), encoding='utf-8').read()
 # a list of so many octets from one numeral, which is read several times faster than a list
 NUMERALS = '''
 abbrev pub octets_onto : ℕ → ℕ → List ℕ → List ℕ
