@@ -1,4 +1,6 @@
 pub mod FrontLemmas
+pub mod SameLemmas
+pub mod FollowLemmas
 pub mod PullLemmas
 pub mod DigitLemmas
 pub mod NodeLemmas

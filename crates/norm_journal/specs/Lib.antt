@@ -11,6 +11,7 @@ pub mod Ticks
 pub mod Takes
 pub mod Turns
 pub mod Accepting
+pub mod Follows
 pub mod SessionRun
 pub mod Honest
 pub mod Words

@@ -1,5 +1,6 @@
 //! What is promised of the judge. Each law is the contract of a function that does nothing.
 
+ghost use Rattle.norm_journal.specs.Follows.{JudgesWhatFollows};
 ghost use Rattle.norm_journal.specs.Laws.{FrontsAreAccepted, FrontsArePrinted, PullsInOrder, WholeIsDone, EndsLast, MovesTheWorld, BeginsLawfully, ScriptsNameOnce};
 
 /// Each front of a journal that is accepted is accepted.
@@ -46,4 +47,10 @@ pub fn scripts_name_once()
 /// The summary comes only where the last turn was done, and nothing comes after it.
 pub fn ends_last()
     ensures { EndsLast }
+{}
+
+/// The judge accepts an event with a state exactly where the event may come, and leads there.
+#[tactic(auto, using(crate::proofs::FollowLemmas::judges_what_follows))]
+pub fn judges_what_follows()
+    ensures { JudgesWhatFollows }
 {}
