@@ -1,6 +1,8 @@
 pub mod FrontLemmas
 pub mod SameLemmas
 pub mod FollowLemmas
+pub mod WordsLemmas
+pub mod SaidLemmas
 pub mod PullLemmas
 pub mod DigitLemmas
 pub mod NodeLemmas

@@ -17,5 +17,6 @@ pub mod Honest
 pub mod Words
 pub mod Lines
 pub mod Printed
+pub mod Said
 pub mod Laws
 pub mod WorldEvents

@@ -1,6 +1,7 @@
 //! What is promised of the judge. Each law is the contract of a function that does nothing.
 
 ghost use Rattle.norm_journal.specs.Follows.{JudgesWhatFollows};
+ghost use Rattle.norm_journal.specs.Said.{LinesReadBack};
 ghost use Rattle.norm_journal.specs.Laws.{FrontsAreAccepted, FrontsArePrinted, PullsInOrder, WholeIsDone, EndsLast, MovesTheWorld, BeginsLawfully, ScriptsNameOnce};
 
 /// Each front of a journal that is accepted is accepted.
@@ -53,4 +54,9 @@ pub fn ends_last()
 #[tactic(auto, using(crate::proofs::FollowLemmas::judges_what_follows))]
 pub fn judges_what_follows()
     ensures { JudgesWhatFollows }
+{}
+
+/// Two events that print one line say the same.
+pub fn lines_read_back()
+    ensures { LinesReadBack }
 {}
