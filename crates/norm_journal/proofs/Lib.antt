@@ -3,6 +3,7 @@ pub mod SameLemmas
 pub mod FollowLemmas
 pub mod WordsLemmas
 pub mod SaidLemmas
+pub mod CountLemmas
 pub mod PullLemmas
 pub mod DigitLemmas
 pub mod NodeLemmas

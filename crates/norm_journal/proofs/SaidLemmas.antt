@@ -1,6 +1,6 @@
 -- Lines read back.
-use Rattle.std.proofs.Common.{◌≡◌, ℕ, ◌<◌, ◌*◌, ◌^◌, List, [], ◌∷◌, ◌++◌, length, map, codes, Bool, true, false, Option, None, Some, Result, Ok, Err, refl, sym, ap, subst, ◌∙◌, arith, decimal}
-use Rattle.std.specs.Prelude.{◌&&◌, All, IfSome, ⊤, is_some}
+use Rattle.std.proofs.Common.{◌≡◌, ℕ, ◌<◌, ◌*◌, ◌^◌, List, [], ◌∷◌, length, map, codes, Bool, true, false, Option, None, Some, Result, Ok, Err, refl, sym, ap, ◌∙◌, arith, decimal}
+use Rattle.std.specs.Prelude.{All, IfSome, ⊤, is_some}
 use Rattle.std.specs.Option.{option_map}
 use Rattle.std.proofs.lemmas.Option.{none-some, same_Some}
 use Rattle.std.proofs.lemmas.List.Elements.{All-head, All-tail}
@@ -19,24 +19,19 @@ use Rattle.norm_send_rules.specs.declared.job.Receipt.{Receipt}
 use Rattle.norm_send_rules.specs.declared.job.Receipt.TheVariants as receipt
 use Rattle.norm_send_rules.specs.declared.fault.SendFault.{SendFault}
 use Rattle.norm_send_rules.specs.declared.fault.SendFault.TheVariants as send
-use Rattle.norm_send_rules.specs.declared.fault.EnqueueFault.{EnqueueFault}
 use Rattle.norm_send_rules.specs.declared.fault.EnqueueFault.TheVariants as enqueue
-use Rattle.norm_send_rules.specs.declared.fault.StreamFault.{StreamFault}
 use Rattle.norm_send_rules.specs.declared.fault.StreamFault.TheVariants as stream
-use Rattle.norm_send_rules.specs.declared.fault.MarkFault.{MarkFault}
 use Rattle.norm_send_rules.specs.declared.fault.MarkFault.TheVariants as mark
 use Rattle.norm_send_rules.specs.declared.news.News.{News}
 use Rattle.norm_send_rules.specs.declared.news.News.TheVariants as news
-use Rattle.norm_send_rules.specs.declared.news.Outcome.{Outcome}
 use Rattle.norm_send_rules.specs.declared.news.Outcome.TheVariants as outcome
 use Rattle.norm_journal.specs.declared.event.Event.{Event}
 use Rattle.norm_journal.specs.declared.event.Event.TheVariants as event
-use Rattle.norm_journal.specs.declared.totals.Totals.{Totals}
 use Rattle.norm_journal.specs.Judged.{Judged}
-use Rattle.norm_journal.specs.Lines.{Reason, reason_of, enqueue_reason, number_words, kind_of, gave_line, receipt_line, up_line, news_line, done_line, end_line, no_line}
+use Rattle.norm_journal.specs.Lines.{Reason, reason_of, number_words, gave_line, up_line, news_line, no_line}
 use Rattle.norm_journal.specs.Printed.{instance_now, kind_offered, left_in, line_of}
-use Rattle.norm_journal.specs.Said.{Said, Enqueued, Opened, Wrote, Closed, Marked, Restarted, Refused, HandedUp, Listed, Satisfied, Expired, Cut, Summary, receipt_said, gave_said, done_said, news_said, said_of, Is64, OriginInRange, PositionInRange, OctetsInRange, UpInRange, FaultInRange, TotalsInRange, InRange, LinesReadBack}
-use Rattle.norm_journal.specs.Words.{line, kind_word, info_word, origin_words, position_words, node_words}
+use Rattle.norm_journal.specs.Said.{Said, Enqueued, Opened, Wrote, Closed, Marked, Restarted, Refused, HandedUp, Listed, Satisfied, Expired, Cut, Summary, gave_said, news_said, said_of, Is64, OriginInRange, PositionInRange, OctetsInRange, UpInRange, FaultInRange, InRange, LinesReadBack}
+use Rattle.norm_journal.specs.Words.{line, kind_word, info_word, position_words, node_words}
 use Rattle.norm_journal.proofs.WordsLemmas.{AreWords, line-back}
 
 clash : false ≡ true → ⊥

@@ -18,5 +18,6 @@ pub mod Words
 pub mod Lines
 pub mod Printed
 pub mod Said
+pub mod Counts
 pub mod Laws
 pub mod WorldEvents

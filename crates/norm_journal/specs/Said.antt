@@ -11,10 +11,8 @@ use Rattle.norm_send_rules.specs.declared.job.Receipt.{Receipt}
 use Rattle.norm_send_rules.specs.declared.job.Receipt.TheVariants as receipt
 use Rattle.norm_send_rules.specs.declared.fault.SendFault.{SendFault}
 use Rattle.norm_send_rules.specs.declared.fault.SendFault.TheVariants as send
-use Rattle.norm_send_rules.specs.declared.fault.EnqueueFault.{EnqueueFault}
 use Rattle.norm_send_rules.specs.declared.fault.EnqueueFault.TheVariants as enqueue
 use Rattle.norm_send_rules.specs.declared.fault.StreamFault.TheVariants as stream
-use Rattle.norm_send_rules.specs.declared.fault.MarkFault.TheVariants as mark
 use Rattle.norm_send_rules.specs.declared.news.News.{News}
 use Rattle.norm_send_rules.specs.declared.news.News.TheVariants as news
 use Rattle.norm_send_rules.specs.declared.news.Outcome.{Outcome}
@@ -23,6 +21,7 @@ use Rattle.norm_journal.specs.declared.event.Event.{Event}
 use Rattle.norm_journal.specs.declared.event.Event.TheVariants as event
 use Rattle.norm_journal.specs.declared.totals.Totals.{Totals}
 use Rattle.norm_journal.specs.Judged.{Judged}
+use Rattle.norm_journal.specs.Totals.{CountsFit}
 use Rattle.norm_journal.specs.Lines.{reason_of}
 use Rattle.norm_journal.specs.Printed.{instance_now, kind_offered, left_in, line_of}
 
@@ -115,16 +114,6 @@ FaultInRange (send.Enqueue (enqueue.Stream (stream.Spent octets))) = Is64 octets
 FaultInRange (send.IdUsed instance) = Is64 instance
 FaultInRange _ = ⊤
 
--- a summary's counts have 64 bits
-pub record TotalsInRange (t : Totals) : Type 0 where
-  pub objects : Is64 t.objects
-  pub octets : Is64 t.octets
-  pub handed : Is64 t.handed
-  pub lost : Is64 t.lost
-  pub satisfied : Is64 t.satisfied
-  pub expired : Is64 t.expired
-  pub cut : Is64 t.cut
-
 -- The numbers of what is said have 64 bits, and its octets are below 256, as the types of an event have them.
 abbrev pub InRange : Said → Type 0
 InRange (Enqueued by instance index kind len) = OriginInRange by × Is64 instance × Is64 index × Is64 len
@@ -139,7 +128,7 @@ InRange (Listed node instance at) = Is64 node × Is64 instance × PositionInRang
 InRange (Satisfied number) = Is64 number
 InRange (Expired number left) = Is64 number × All Is64 left
 InRange (Cut number) = Is64 number
-InRange (Summary totals) = TotalsInRange totals
+InRange (Summary totals) = CountsFit totals
 
 -- Lines read back: an event has a line exactly where something is said of it, and two events with one line say the same, in
 -- whichever states they come.

@@ -2,6 +2,7 @@
 
 ghost use Rattle.norm_journal.specs.Follows.{JudgesWhatFollows};
 ghost use Rattle.norm_journal.specs.Said.{LinesReadBack};
+ghost use Rattle.norm_journal.specs.Counts.{JournalIsCounted};
 ghost use Rattle.norm_journal.specs.Laws.{FrontsAreAccepted, FrontsArePrinted, PullsInOrder, WholeIsDone, EndsLast, MovesTheWorld, BeginsLawfully, ScriptsNameOnce};
 
 /// Each front of a journal that is accepted is accepted.
@@ -59,4 +60,10 @@ pub fn judges_what_follows()
 /// Two events that print one line say the same.
 pub fn lines_read_back()
     ensures { LinesReadBack }
+{}
+
+/// The counts of the summary are those of what the journal says.
+#[tactic(auto, using(crate::proofs::CountLemmas::journal_is_counted))]
+pub fn journal_is_counted()
+    ensures { JournalIsCounted }
 {}
