@@ -1,6 +1,7 @@
 pub mod FrontLemmas
 pub mod SameLemmas
 pub mod FollowLemmas
+pub mod FreeLemmas
 pub mod WordsLemmas
 pub mod SaidLemmas
 pub mod CountLemmas

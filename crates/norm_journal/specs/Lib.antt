@@ -12,6 +12,7 @@ pub mod Takes
 pub mod Turns
 pub mod Accepting
 pub mod Follows
+pub mod Free
 pub mod SessionRun
 pub mod Honest
 pub mod Words

@@ -2,6 +2,7 @@
 
 ghost use Rattle.norm_journal.specs.Follows.{JudgesWhatFollows};
 ghost use Rattle.norm_journal.specs.Said.{LinesReadBack};
+ghost use Rattle.norm_journal.specs.Free.{OnlyTheseAreFree};
 ghost use Rattle.norm_journal.specs.Counts.{JournalIsCounted};
 ghost use Rattle.norm_journal.specs.Laws.{FrontsAreAccepted, FrontsArePrinted, PullsInOrder, WholeIsDone, EndsLast, MovesTheWorld, BeginsLawfully, ScriptsNameOnce};
 
@@ -66,4 +67,9 @@ pub fn lines_read_back()
 #[tactic(auto, using(crate::proofs::CountLemmas::journal_is_counted))]
 pub fn journal_is_counted()
     ensures { JournalIsCounted }
+{}
+
+/// Two events that may come after one state are one, but for those that are free.
+pub fn only_these_are_free()
+    ensures { OnlyTheseAreFree }
 {}
