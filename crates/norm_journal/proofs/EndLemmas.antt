@@ -1,5 +1,5 @@
 -- The end of a journal: its summary.
-use Rattle.std.proofs.Common.{◌≡◌, Bool, true, false, Option, None, Some, refl, sym, ap, subst, ◌∙◌}
+use Rattle.std.proofs.Common.{◌≡◌, Bool, true, false, Option, None, Some, refl, ap, subst, ◌∙◌}
 use Rattle.std.proofs.lemmas.Option.{none-some, same_Some}
 use Rattle.norm_send_rules.specs.declared.news.News.{News}
 use Rattle.norm_journal.specs.declared.event.Event.{Event}

@@ -1,4 +1,10 @@
 pub mod FrontLemmas
+pub mod SameLemmas
+pub mod FollowLemmas
+pub mod FreeLemmas
+pub mod WordsLemmas
+pub mod SaidLemmas
+pub mod CountLemmas
 pub mod PullLemmas
 pub mod DigitLemmas
 pub mod NodeLemmas

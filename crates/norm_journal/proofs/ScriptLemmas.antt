@@ -1,12 +1,11 @@
 -- In a script each command has a name of its own.
 use Rattle.std.proofs.Common.{◌≡◌, ℕ, ◌+◌, ◌≤◌, ◌<◌, List, [], ◌∷◌, ◌++◌, Bool, true, false, cond, refl, sym, ap, subst, ◌∙◌, arith, append_assoc, append-nil}
 use Rattle.std.specs.Prelude.{◌==◌, map, count_by}
-use Rattle.std.proofs.lemmas.Bool.{eqb-true, eq-eqb}
+use Rattle.std.proofs.lemmas.Bool.{eq-eqb}
 use Rattle.std.proofs.lemmas.List.{map-append}
 use Rattle.std.proofs.lemmas.List.Sums.{sum_by-append}
 use Rattle.norm_base.specs.declared.node.Origin.{Origin}
-use Rattle.norm_script.specs.Commands.{Commands}
-use Rattle.norm_script.specs.Scripts.{AreNumbered, IsScript}
+use Rattle.norm_script.specs.Scripts.{AreNumbered}
 use Rattle.norm_script.specs.declared.script.Line.{Line}
 use Rattle.norm_safety.specs.Lawful.{same_origin}
 use Rattle.norm_journal.specs.Laws.{ScriptsNameOnce}

@@ -11,10 +11,14 @@ pub mod Ticks
 pub mod Takes
 pub mod Turns
 pub mod Accepting
+pub mod Follows
+pub mod Free
 pub mod SessionRun
 pub mod Honest
 pub mod Words
 pub mod Lines
 pub mod Printed
+pub mod Said
+pub mod Counts
 pub mod Laws
 pub mod WorldEvents

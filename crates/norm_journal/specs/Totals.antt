@@ -1,5 +1,5 @@
 -- The counts of a run's summary.
-use Rattle.std.specs.Prelude.{◌+◌, Result, Ok}
+use Rattle.std.specs.Prelude.{◌+◌, ◌<◌, ◌^◌, Result, Ok}
 use Rattle.norm_order.specs.declared.up.Up.{Up}
 use Rattle.norm_order.specs.declared.up.Up.TheVariants as up
 use Rattle.norm_send_rules.specs.declared.job.Receipt.{Receipt}
@@ -13,6 +13,16 @@ use Rattle.norm_journal.specs.declared.totals.Totals.{Totals}
 -- as a run begins
 abbrev pub nothing_counted : Totals
 nothing_counted = record { objects = 0; octets = 0; handed = 0; lost = 0; satisfied = 0; expired = 0; cut = 0 }
+
+-- each count is a number of 64 bits
+pub record CountsFit (t : Totals) : Type 0 where
+  pub objects : t.objects < 2 ^ 64
+  pub octets : t.octets < 2 ^ 64
+  pub handed : t.handed < 2 ^ 64
+  pub lost : t.lost < 2 ^ 64
+  pub satisfied : t.satisfied < 2 ^ 64
+  pub expired : t.expired < 2 ^ 64
+  pub cut : t.cut < 2 ^ 64
 
 -- with what a command gave
 abbrev pub with_gave : Result Receipt SendFault → Totals → Totals

@@ -1,5 +1,9 @@
 //! What is promised of the judge. Each law is the contract of a function that does nothing.
 
+ghost use Rattle.norm_journal.specs.Follows.{JudgesWhatFollows};
+ghost use Rattle.norm_journal.specs.Said.{LinesReadBack};
+ghost use Rattle.norm_journal.specs.Free.{OnlyTheseAreFree};
+ghost use Rattle.norm_journal.specs.Counts.{JournalIsCounted};
 ghost use Rattle.norm_journal.specs.Laws.{FrontsAreAccepted, FrontsArePrinted, PullsInOrder, WholeIsDone, EndsLast, MovesTheWorld, BeginsLawfully, ScriptsNameOnce};
 
 /// Each front of a journal that is accepted is accepted.
@@ -46,4 +50,26 @@ pub fn scripts_name_once()
 /// The summary comes only where the last turn was done, and nothing comes after it.
 pub fn ends_last()
     ensures { EndsLast }
+{}
+
+/// The judge accepts an event with a state exactly where the event may come, and leads there.
+#[tactic(auto, using(crate::proofs::FollowLemmas::judges_what_follows))]
+pub fn judges_what_follows()
+    ensures { JudgesWhatFollows }
+{}
+
+/// Two events that print one line say the same.
+pub fn lines_read_back()
+    ensures { LinesReadBack }
+{}
+
+/// The counts of the summary are those of what the journal says.
+#[tactic(auto, using(crate::proofs::CountLemmas::journal_is_counted))]
+pub fn journal_is_counted()
+    ensures { JournalIsCounted }
+{}
+
+/// Two events that may come after one state are one, but for those that are free.
+pub fn only_these_are_free()
+    ensures { OnlyTheseAreFree }
 {}

@@ -3,8 +3,11 @@
 ghost use Rattle.std.specs.Prelude.{◌≡◌, ◌∷◌, [], decimal, IfOk, OnOk};
 ghost use Rattle.norm_journal.specs.Words.{with_words};
 ghost use Rattle.norm_journal.specs.Lines.{end_line};
+ghost use Rattle.norm_journal.specs.Totals.{nothing_counted, with_gave, with_up, with_news, CountsFit};
 
 use crate::line::Line;
+use norm_order::Up;
+use norm_send_rules::{News, Outcome, Receipt, SendFault};
 use std::alloc::{AllocError, Global};
 
 /// What a run counts.
@@ -24,6 +27,66 @@ pub struct Totals {
     pub expired: u64,
     /// Requests that a restart ended.
     pub cut: u64,
+}
+
+impl Totals {
+    /// Nothing was counted yet.
+    pub fn new() -> Totals
+        ensures { result ≡ nothing_counted }
+    {
+        Totals {
+            objects: 0,
+            octets: 0,
+            handed: 0,
+            lost: 0,
+            satisfied: 0,
+            expired: 0,
+            cut: 0,
+        }
+    }
+
+    /// Counts what a command gave: an object or a stream that was accepted, and octets. The counts must fit into 64 bits then.
+    pub fn count_gave(&mut self, gave: &Result<Receipt, SendFault>)
+        requires { CountsFit (with_gave gave.now self.old) }
+        ensures { self.new ≡ with_gave gave.now self.old }
+    {
+        match gave {
+            Ok(Receipt::Object { len, .. }) => {
+                self.objects += 1;
+                self.octets += *len;
+            }
+            Ok(Receipt::Opened { .. }) => self.objects += 1,
+            Ok(Receipt::Wrote { len, .. }) => self.octets += *len,
+            _ => {}
+        }
+    }
+
+    /// Counts a hand-up: an object or an ended stream, or a loss. The counts must fit into 64 bits then.
+    pub fn count_up(&mut self, up: &Up)
+        requires { CountsFit (with_up up.now self.old) }
+        ensures { self.new ≡ with_up up.now self.old }
+    {
+        match up {
+            Up::Object { .. } | Up::StreamEnd { .. } => self.handed += 1,
+            Up::Lost { .. } => self.lost += 1,
+            _ => {}
+        }
+    }
+
+    /// Counts a request that ended. The counts must fit into 64 bits then.
+    pub fn count_news(&mut self, news: &News)
+        requires { CountsFit (with_news news.now self.old) }
+        ensures { self.new ≡ with_news news.now self.old }
+    {
+        if let News::Done { outcome, .. } = news {
+            match outcome {
+                Outcome::Open { .. } => {}
+                Outcome::Satisfied => self.satisfied += 1,
+                Outcome::Expired { .. } => self.expired += 1,
+                Outcome::Cut => self.cut += 1,
+            }
+        }
+    }
 }
 
 /// Puts a count behind its word.
