@@ -1,7 +1,7 @@
 //! How an object is cut (RFC 5052 section 9.1).
 
 ghost use Rattle.std.specs.Prelude.{◌≡◌, ◌^◌, ◌<◌, None, Some, MatchResult, ◌≤◌};
-ghost use Rattle.fec_plan.specs.Partition.{cut_of, stream_cut, first_fault, first_shape_fault, symbols_in, blocks_in, large_block, small_block, larger_blocks, block_size, symbols_before, blocks, source_symbols, encoding_symbols, symbol_number, sent_octets};
+ghost use Rattle.fec_plan.specs.Partition.{IsSound, cut_of, stream_cut, first_fault, first_shape_fault, symbols_in, blocks_in, large_block, small_block, larger_blocks, block_size, symbols_before, blocks, source_symbols, encoding_symbols, symbol_number, sent_octets};
 
 use std::marker::Model;
 use thiserror::Error;
@@ -172,7 +172,7 @@ impl Plan {
     /// The octets of a symbol.
     pub fn e(&self) -> u16
         ensures exact { result ≡ self.now.e }
-        ensures most { result ≤ 1400 }
+        ensures sound { IsSound self.now }
     {
         self.e
     }
@@ -181,6 +181,7 @@ impl Plan {
     pub fn blocks(&self) -> u32
         ensures exact { result ≡ blocks self.now }
         ensures most { result ≤ 16777216 }
+        ensures sound { IsSound self.now }
     {
         match self.l {
             Some(l) => blocks_of(l, self.e, self.b) as u32,
@@ -192,6 +193,7 @@ impl Plan {
     pub fn source_len(&self, block: u32) -> u8
         ensures exact { result ≡ source_symbols self.now block }
         ensures most { result ≤ self.now.b }
+        ensures sound { IsSound self.now }
     {
         match self.l {
             Some(l) => {
