@@ -3,4 +3,5 @@
 //! [`Window`] keeps them; its private `Ring` is the memory that their octets lie in.
 #![tactic(auto)]
 
+mod held;
 mod ring;
