@@ -1,2 +1,4 @@
 pub mod Round
 pub mod Held
+pub mod Windowed
+pub mod Asked

@@ -5,3 +5,6 @@
 
 mod held;
 mod ring;
+mod window;
+
+pub use crate::window::Window;
