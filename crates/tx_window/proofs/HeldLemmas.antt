@@ -21,11 +21,11 @@ use Rattle.tx_window.specs.Held.{AnswersSymbol}
 use Rattle.tx_window.specs.Round.{round}
 use Rattle.tx_window.proofs.RoundLemmas.{length-round}
 
-taken : {X : Type 0} (b : Bool) (x y : X) → b ≡ true → (elim b as (λ v. X) [ true ↦ x | false ↦ y ]) ≡ x
+pub taken : {X : Type 0} (b : Bool) (x y : X) → b ≡ true → (elim b as (λ v. X) [ true ↦ x | false ↦ y ]) ≡ x
 taken true x y e = refl
 taken false x y e = absurd (cc)
 
-refused : {X : Type 0} (b : Bool) (x y : X) → b ≡ false → (elim b as (λ v. X) [ true ↦ x | false ↦ y ]) ≡ y
+pub refused : {X : Type 0} (b : Bool) (x y : X) → b ≡ false → (elim b as (λ v. X) [ true ↦ x | false ↦ y ]) ≡ y
 refused true x y e = absurd (cc)
 refused false x y e = refl
 

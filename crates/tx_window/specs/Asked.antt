@@ -1,5 +1,5 @@
 -- What a window is asked, in the words of the sender's rules.
-use Rattle.std.specs.Prelude.{ℕ, ◌≡◌, List, Bool, true, false, Option, None, Some, MatchOption, slice_get}
+use Rattle.std.specs.Prelude.{ℕ, ◌≡◌, List, Bool, true, false, Option, None, Some, MatchOption, slice_get, nat_lt, ◌-◌}
 use Rattle.norm_base.specs.Settings.{Settings}
 use Rattle.fec_plan.specs.declared.position.Position.{Position}
 use Rattle.norm_order.specs.Entries.{Object, Whole, Stream, Entry}
@@ -7,6 +7,10 @@ use Rattle.norm_send_rules.specs.SenderState.{SenderState}
 use Rattle.norm_send_rules.specs.InWindow.{stands_behind}
 use Rattle.norm_send_rules.specs.declared.want.Want.TheVariants.{Info}
 use Rattle.tx_window.specs.Held.{AnswersSymbol}
+
+-- of a list that begins behind the first n, the one with an index among all
+abbrev pub from_first : {X : Type 0} → ℕ → List X → ℕ → Option X
+from_first n xs index = elim (nat_lt index n) [ true ↦ None | false ↦ slice_get xs (index - n) ]
 
 -- the object with an index, where it was enqueued and not dropped
 abbrev pub kept_at : SenderState → ℕ → Option Object

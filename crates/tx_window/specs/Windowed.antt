@@ -73,6 +73,7 @@ window_view w = record {
 -- an object's octets lie in the ring, padded, and it is cut by the profile
 pub record IsPlaced (ring : List ℕ) (p : Settings) (h : HeldObject) : Type 0 where
   pub lies : LiesIn ring h
+  pub most : h.cut.e ≤ 1400
   pub holds : HoldsObject h.cut (octets_in ring h) p (take (octets_of h.cut) (octets_in ring h))
 
 -- each object lies in the ring, and transport ids suffice

@@ -4,7 +4,7 @@ ghost use Rattle.std.specs.Prelude.{ℕ, ◌≡◌, ◌+◌, ◌-◌, ◌<◌, �
 ghost use Rattle.norm_send_rules.specs.SenderState.{SenderState};
 ghost use Rattle.norm_send_rules.specs.InWindow.{next_index as next_index_of};
 ghost use Rattle.tx_window.specs.Windowed.{Stands};
-ghost use Rattle.tx_window.specs.Asked.{info_at, AnswersAt};
+ghost use Rattle.tx_window.specs.Asked.{from_first, info_at, AnswersAt};
 
 use crate::held::Held;
 use crate::ring::Ring;
@@ -34,6 +34,16 @@ impl Model for Window {
     ghost view = { window_view };
 
     ghost invariant = { IsSoundWindow };
+}
+
+/// The object with an index, where so many objects were dropped.
+fn held_at(held: &VecDeque<Held>, dropped: u32, index: u32) -> Option<&Held>
+    ensures { option_copied result ≡ from_first dropped held.now.items index }
+{
+    if index < dropped {
+        return None;
+    }
+    held.get((index - dropped) as usize)
 }
 
 impl Window {
@@ -70,6 +80,28 @@ impl Window {
         ensures { (s : SenderState) → Stands self.now s → result ≡ next_index_of s }
     {
         self.dropped + self.held.len() as u32
+    }
+
+    /// Adds a symbol, and answers how many octets it has. `None` exactly where its object was dropped or not enqueued, or
+    /// has no such encoded symbol; then nothing is added. It takes no memory.
+    pub fn symbol(&self, at: Position, out: &mut Datagram) -> Option<u16>
+        requires { length out.old + 1408 ≤ 1500 }
+        ensures { (s : SenderState) → Stands self.now s → AnswersAt self.now.p s at out.old out.new result }
+    {
+        let Some(held) = held_at(&self.held, self.dropped, at.index) else {
+            return None;
+        };
+        held.symbol(&self.ring, at.block, at.symbol, out)
+    }
+
+    /// The info of an object; of a file its name. `None` where it was dropped or not enqueued, or has none.
+    pub fn info(&self, index: u32) -> Option<&[u8]>
+        ensures { (s : SenderState) → Stands self.now s → option_copied result ≡ info_at s index }
+    {
+        let Some(held) = held_at(&self.held, self.dropped, index) else {
+            return None;
+        };
+        held.info()
     }
 
     /// The least position that all receivers are listed past, as it is now.
