@@ -6,9 +6,9 @@ use Rattle.fec_plan.specs.Points.{point, position_before, reaches}
 use Rattle.fec_plan.specs.declared.position.Position.{Position}
 use Rattle.norm_order.specs.Entries.{Object, Whole, Entry}
 use Rattle.norm_order.specs.Sets.{is_member}
-use Rattle.norm_order.specs.Shapes.{shape_of, sources_in}
+use Rattle.norm_order.specs.Shapes.{shape_of, sources_in, last_source}
 use Rattle.norm_send_rules.specs.SenderState.{SenderState}
-use Rattle.norm_send_rules.specs.InWindow.{next_index}
+use Rattle.norm_send_rules.specs.InWindow.{next_index, current_shapes}
 use Rattle.norm_send_rules.specs.Requests.{all_past}
 use Rattle.std.specs.Prelude.{nat_lt}
 use Rattle.obj_buffer.specs.Pieces.{HoldsObject}
@@ -21,12 +21,13 @@ pub record WindowObject : Type 0 where
   pub sent : List Bool
   pub info_sent : Bool
 
--- a window: its profile, how many objects were dropped, the others in their order, and the least position that all
--- receivers are listed past
+-- a window: its profile, how many objects were dropped, the others in their order, the last closed source symbol, and the
+-- least position that all receivers are listed past
 pub record Windowed : Type 0 where
   pub p : Settings
   pub dropped : ℕ
   pub objects : List WindowObject
+  pub last : Option Position
   pub past : Option Position
 
 -- there is such a position, and it is at this one or behind it
@@ -45,6 +46,7 @@ pub record Stands (w : Windowed) (s : SenderState) : Type 0 where
   pub dropped : s.current.drop ≡ point w.dropped 0
   pub objects : map (λ (entry : Entry). entry.object) (drop w.dropped s.current.order) ≡ map (λ (o : WindowObject). o.object) w.objects
   pub next : next_index s ≡ w.dropped + length w.objects
+  pub last : last_source (current_shapes w.p s) ≡ w.last
   pub sent : (n : ℕ) (o : WindowObject) → slice_get w.objects n ≡ Some o → KnowsSent s (w.dropped + n) w.p o
   pub past : (at : Position) → all_past s at ≡ reached_by w.past at
 
@@ -67,6 +69,7 @@ window_view w = record {
   p = w.profile;
   dropped = w.dropped;
   objects = map (window_object w.ring) w.held.items;
+  last = w.last;
   past = w.past;
 }
 

@@ -2,7 +2,8 @@
 
 ghost use Rattle.std.specs.Prelude.{ℕ, ◌≡◌, ◌+◌, ◌-◌, ◌<◌, ◌≤◌, [], IfOk, MatchOption, None, Some, length, option_copied, slice_get};
 ghost use Rattle.norm_send_rules.specs.SenderState.{SenderState};
-ghost use Rattle.norm_send_rules.specs.InWindow.{next_index as next_index_of};
+ghost use Rattle.norm_send_rules.specs.InWindow.{current_shapes, next_index as next_index_of};
+ghost use Rattle.norm_order.specs.Shapes.{last_source};
 ghost use Rattle.tx_window.specs.Windowed.{Stands};
 ghost use Rattle.tx_window.specs.Asked.{from_first, info_at, AnswersAt};
 
@@ -22,6 +23,8 @@ pub struct Window {
     held: VecDeque<Held>,
     /// How many objects were dropped.
     dropped: u32,
+    /// The last source symbol of the last object.
+    last: Option<Position>,
     /// The least position that all receivers are listed past.
     past: Option<Position>,
 }
@@ -53,7 +56,7 @@ impl Window {
     ///
     /// `Memory` where memory runs out.
     pub fn new(alloc: Global, profile: &Profile) -> Result<Window, Memory>
-        ensures { IfOk result (λ window. window ≡ record { p = profile.now; dropped = 0; objects = []; past = None }) }
+        ensures { IfOk result (λ window. window ≡ record { p = profile.now; dropped = 0; objects = []; last = None; past = None }) }
     {
         let e = u64::from(profile.e);
         let slots = u64::from(profile.octets) / e + u64::from(profile.window);
@@ -64,6 +67,7 @@ impl Window {
             ring,
             held,
             dropped: 0,
+            last: None,
             past: None,
         })
     }
@@ -73,6 +77,13 @@ impl Window {
         ensures { (s : SenderState) → Stands self.now s → (result.0 ≡ s.current.drop.index) × (result.1 ≡ s.current.drop.block) }
     {
         (self.dropped, 0)
+    }
+
+    /// The last closed source symbol, also where its object was dropped.
+    pub fn end(&self) -> Option<Position>
+        ensures { (s : SenderState) → Stands self.now s → result ≡ last_source (current_shapes self.now.p s) }
+    {
+        self.last
     }
 
     /// The index of the next object.
