@@ -1,15 +1,19 @@
 -- What a window knows of the states that it stands for.
-use Rattle.std.proofs.Common.{◌≡◌, ℕ, zero, suc, ◌+◌, ◌-◌, ◌<◌, ◌≤◌, ◌⊎◌, inl, inr, Bool, true, false, refl, sym, ap, ◌∙◌, subst, arith, Option, Some, None, List, [], ◌∷◌, take, drop, map}
+use Rattle.std.proofs.Common.{◌≡◌, ℕ, zero, suc, ◌+◌, ◌-◌, ◌<◌, ◌≤◌, ◌⊎◌, inl, inr, Bool, true, false, refl, sym, ap, ◌∙◌, subst, arith, Option, Some, None, List, [], ◌∷◌, take, drop, map, length, length-append}
 use Rattle.std.specs.Prelude.{nat_lt, not, slice_get, option_map, MatchOption}
 use Rattle.std.proofs.lemmas.Bool.{cases_lt, lt-ltb, le-ltb}
 use Rattle.std.proofs.lemmas.Option.{slice_get-map}
 use Rattle.fec_plan.specs.Points.{Point}
 use Rattle.fec_plan.specs.declared.position.Position.{Position}
 use Rattle.norm_base.specs.Settings.{Settings}
+use Rattle.norm_order.specs.Shapes.{last_from}
 use Rattle.norm_order.specs.Entries.{Object, Whole, Entry}
-use Rattle.norm_send_rules.specs.SenderState.{SenderState}
+use Rattle.norm_send_rules.specs.SenderState.{SenderState, sender_opening}
+use Rattle.std.specs.List.{list_all}
+use Rattle.norm_base.specs.Members.{receivers_of}
+use Rattle.norm_send_rules.specs.Requests.{is_past}
 use Rattle.tx_window.specs.Held.{HeldObject, AnswersSymbol}
-use Rattle.tx_window.specs.Windowed.{WindowObject, Windowed, Stands, window_object, object_in}
+use Rattle.tx_window.specs.Windowed.{WindowObject, Windowed, Stands, empty_window, window_object, object_in}
 use Rattle.tx_window.specs.Asked.{from_first, kept_at, info_of, info_at, AnswersAt}
 use Rattle.tx_window.proofs.HeldLemmas.{taken, refused}
 
@@ -79,3 +83,25 @@ answers_kept p s at object old new answer kept is =
 
 pub info_kept : (s : SenderState) (index : ℕ) (ring : List ℕ) (h : HeldObject) → kept_at s index ≡ Some (object_in ring h) → info_at s index ≡ h.info
 info_kept s index ring h kept = ap (λ (r : Option Object). elim r as (λ v. Option (List ℕ)) [ Some object ↦ info_of object | None ↦ None ]) kept
+
+-- ---- a window as it begins
+
+none_past : (at : Position) (nodes : List ℕ) → 0 < length nodes
+    → list_all (is_past at) (map (λ node. record { node = node; past = None }) nodes) ≡ false
+none_past at [] some = absurd (omega arith)
+none_past at (n ∷ ns) some = refl
+
+some_receivers : (p : Settings) (n : ℕ) → 1 ≤ n → 0 < length (receivers_of p n)
+some_receivers p zero some = absurd (omega arith)
+some_receivers p (suc i) some = omega (arith, length-append (receivers_of p i) ((p.sender + 1 + i) ∷ []))
+
+pub begins : (p : Settings) → 1 ≤ p.receivers → Stands (empty_window p) (sender_opening p)
+unfolding last_from
+begins p some = record {
+  dropped = refl;
+  objects = refl;
+  next = refl;
+  last = refl;
+  sent = λ n o is. absurd (cc);
+  past = λ at. none_past at (receivers_of p p.receivers) (some_receivers p p.receivers some);
+}

@@ -1,5 +1,5 @@
 -- What a window is seen as, which states of the sender it stands for, and what holds of each window.
-use Rattle.std.specs.Prelude.{ℕ, ◌≡◌, ◌+◌, ◌*◌, ◌/◌, ◌≤◌, List, length, take, drop, map, Bool, Option, Some, None, slice_get}
+use Rattle.std.specs.Prelude.{ℕ, ◌≡◌, ◌+◌, ◌*◌, ◌/◌, ◌≤◌, ◌<◌, List, [], length, take, drop, map, Bool, Option, Some, None, slice_get}
 use Rattle.norm_base.specs.Settings.{Settings}
 use Rattle.fec_plan.specs.Partition.{Cut}
 use Rattle.fec_plan.specs.Points.{point, position_before, reaches}
@@ -29,6 +29,10 @@ pub record Windowed : Type 0 where
   pub objects : List WindowObject
   pub last : Option Position
   pub past : Option Position
+
+-- a window as it begins
+abbrev pub empty_window : Settings → Windowed
+empty_window p = record { p = p; dropped = 0; objects = []; last = None; past = None }
 
 -- there is such a position, and it is at this one or behind it
 abbrev pub reached_by : Option Position → Position → Bool

@@ -1,6 +1,7 @@
 //! The window of a NORM sender (RFC 5740 section 5.1): the objects that it may still repair, in one ring of symbols.
 //!
-//! [`Window`] keeps them; its private `Ring` is the memory that their octets lie in.
+//! A sender makes a [`Window`] and asks it for symbols and infos. Within, `Ring` is the memory that all octets lie in, and
+//! `Held` an object that lies in it, which makes its symbols by `obj_buffer` and marks what of it was sent.
 #![tactic(auto)]
 
 mod held;
@@ -8,3 +9,6 @@ mod ring;
 mod window;
 
 pub use crate::window::Window;
+
+#[cfg(test)]
+mod tests;

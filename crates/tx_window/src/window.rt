@@ -1,10 +1,10 @@
 //! The objects that a sender may still repair, in the order of their indexes.
 
 ghost use Rattle.std.specs.Prelude.{ℕ, ◌≡◌, ◌+◌, ◌-◌, ◌<◌, ◌≤◌, [], IfOk, MatchOption, None, Some, length, option_copied, slice_get};
-ghost use Rattle.norm_send_rules.specs.SenderState.{SenderState};
+ghost use Rattle.norm_send_rules.specs.SenderState.{SenderState, sender_opening};
 ghost use Rattle.norm_send_rules.specs.InWindow.{current_shapes, next_index as next_index_of};
 ghost use Rattle.norm_order.specs.Shapes.{last_source};
-ghost use Rattle.tx_window.specs.Windowed.{Stands};
+ghost use Rattle.tx_window.specs.Windowed.{Stands, empty_window};
 ghost use Rattle.tx_window.specs.Asked.{from_first, info_at, AnswersAt};
 
 use crate::held::Held;
@@ -56,7 +56,8 @@ impl Window {
     ///
     /// `Memory` where memory runs out.
     pub fn new(alloc: Global, profile: &Profile) -> Result<Window, Memory>
-        ensures { IfOk result (λ window. window ≡ record { p = profile.now; dropped = 0; objects = []; last = None; past = None }) }
+        ensures empty { IfOk result (λ window. window ≡ empty_window profile.now) }
+        ensures begun { IfOk result (λ window. Stands window (sender_opening profile.now)) }
     {
         let e = u64::from(profile.e);
         let slots = u64::from(profile.octets) / e + u64::from(profile.window);
