@@ -1,7 +1,7 @@
 //! How an object is cut (RFC 5052 section 9.1).
 
 ghost use Rattle.std.specs.Prelude.{◌≡◌, ◌^◌, ◌<◌, None, Some, MatchResult, ◌≤◌};
-ghost use Rattle.fec_plan.specs.Partition.{cut_of, stream_cut, first_fault, first_shape_fault, symbols_in, blocks_in, large_block, small_block, larger_blocks, block_size, symbols_before, blocks, source_symbols, encoding_symbols, sent_octets};
+ghost use Rattle.fec_plan.specs.Partition.{IsSound, cut_of, stream_cut, first_fault, first_shape_fault, symbols_in, blocks_in, large_block, small_block, larger_blocks, block_size, symbols_before, blocks, source_symbols, encoding_symbols, symbol_number, sent_octets};
 
 use std::marker::Model;
 use thiserror::Error;
@@ -169,10 +169,19 @@ impl Plan {
         })
     }
 
+    /// The octets of a symbol.
+    pub fn e(&self) -> u16
+        ensures exact { result ≡ self.now.e }
+        ensures sound { IsSound self.now }
+    {
+        self.e
+    }
+
     /// The number of blocks, at most 16,777,216; a stream has them all.
     pub fn blocks(&self) -> u32
         ensures exact { result ≡ blocks self.now }
         ensures most { result ≤ 16777216 }
+        ensures sound { IsSound self.now }
     {
         match self.l {
             Some(l) => blocks_of(l, self.e, self.b) as u32,
@@ -184,6 +193,7 @@ impl Plan {
     pub fn source_len(&self, block: u32) -> u8
         ensures exact { result ≡ source_symbols self.now block }
         ensures most { result ≤ self.now.b }
+        ensures sound { IsSound self.now }
     {
         match self.l {
             Some(l) => {
@@ -202,6 +212,20 @@ impl Plan {
         (u16::from(sources) * u16::from(self.max_n) / u16::from(self.b)) as u8
     }
 
+    /// A source symbol's number in the whole object or stream, from 0.
+    pub fn symbol_number(&self, block: u32, symbol: u8) -> u64
+        ensures exact { result ≡ symbol_number self.now block symbol }
+        ensures most { result < 2 ^ 43 }
+    {
+        match self.l {
+            Some(l) => {
+                let symbols = l.div_ceil(u64::from(self.e));
+                count_before(symbols, self.b, block) + u64::from(symbol)
+            }
+            None => u64::from(block) * u64::from(self.b) + u64::from(symbol),
+        }
+    }
+
     /// The octets of a symbol as it is sent: of an object the last source symbol at its own length, of a stream the
     /// most that a segment's symbol has.
     pub fn symbol_octets(&self, block: u32, symbol: u8) -> u16
@@ -213,8 +237,7 @@ impl Plan {
         if symbol >= self.source_len(block) {
             return self.e;
         }
-        let symbols = l.div_ceil(u64::from(self.e));
-        let number = count_before(symbols, self.b, block) + u64::from(symbol);
+        let number = self.symbol_number(block, symbol);
         let left = l.saturating_sub(number * u64::from(self.e));
         u64::from(self.e).min(left) as u16
     }

@@ -1,0 +1,3 @@
+pub mod PartitionLemmas
+pub mod PieceLemmas
+pub mod ParityLemmas

@@ -1,0 +1,22 @@
+-- An object's octets as they lie in memory: whole symbols in a row, the last one padded with zeros.
+use Rattle.std.specs.Prelude.{ℕ, ◌≡◌, ◌-◌, ◌*◌, ◌++◌, List, length, replicate}
+use Rattle.norm_base.specs.Settings.{Settings}
+use Rattle.fec_plan.specs.Partition.{Cut, cut_of, symbols_in}
+use Rattle.rs_block.specs.Code.{CodeShape}
+use Rattle.rs_block.specs.Codeword.{IsSymbol}
+
+-- the octets, padded with zeros to whole symbols of e octets
+abbrev pub padded : ℕ → List ℕ → List ℕ
+padded e octets = octets ++ replicate (symbols_in (length octets) e * e - length octets) 0
+
+-- the pieces are together the octets of an object, padded, and the cut is the object's under the profile
+pub record HoldsObject (c : Cut) (pieces : List ℕ) (p : Settings) (octets : List ℕ) : Type 0 where
+  pub cut : c ≡ cut_of (length octets) p.e p.b p.max_n
+  pub padded : pieces ≡ padded p.e octets
+
+-- what was appended is one symbol of e octets: symbol j of the codeword of the source symbols
+pub record AppendsSymbol (code : CodeShape) (e : ℕ) (sources : List ℕ) (j : ℕ) (old new : List ℕ) : Type 0 where
+  pub symbol : List ℕ
+  pub appended : new ≡ old ++ symbol
+  pub size : length symbol ≡ e
+  pub is : IsSymbol code.k code.n e sources j symbol

@@ -1,0 +1,149 @@
+//! One object with its codes.
+
+ghost use Rattle.std.specs.Prelude.{ℕ, ◌≡◌, ◌+◌, ◌<◌, ◌≤◌, ◌++◌, List, Option, IfOk, length, option_map, option_copied};
+ghost use Rattle.norm_base.specs.Settings.{Settings};
+ghost use Rattle.fec_plan.specs.Partition.{cut_of, blocks, encoding_symbols};
+ghost use Rattle.norm_order.specs.Shapes.{shape_of};
+ghost use Rattle.norm_order.specs.Symbols.{symbol_octets};
+ghost use Rattle.obj_buffer.specs.Buffered.{Buffered, object_of, fti_of};
+
+use crate::codes::Codes;
+use crate::symbol::symbol_of;
+use fec_plan::Plan;
+use norm_base::{Datagram, Kind, Memory, Octets, Profile};
+use norm_ext::Fti;
+use std::alloc::Global;
+use std::marker::Model;
+
+/// A data object or a file with its info, whole in memory, and the codes of its blocks.
+#[derive(Debug, Drop)]
+pub struct ObjectBuf {
+    plan: Plan,
+    codes: Codes,
+    kind: Kind,
+    info: Option<Octets>,
+    /// The object's octets, padded with zeros to whole symbols.
+    symbols: Vec<u8>,
+    fti: Fti,
+}
+
+impl Model for ObjectBuf {
+    ghost use Rattle.obj_buffer.specs.Buffered.{Buffered, buffered, IsBuffer};
+
+    ghost Value = { Buffered };
+
+    ghost view = { buffered };
+
+    ghost invariant = { IsBuffer };
+}
+
+/// The plan of an object of so many octets.
+fn plan_of(profile: &Profile, len: u64) -> Plan
+    requires some { 1 ≤ len }
+    requires most { len ≤ 16777216 }
+    ensures { result ≡ cut_of len profile.now.e profile.now.b profile.now.max_n }
+{
+    Plan::of(len, profile.e, profile.b, profile.max_n).unwrap()
+}
+
+impl ObjectBuf {
+    /// The object with these octets, 1 to 16,777,216 of them. Its info is sent in one message, and so has at most
+    /// the profile's `e` octets.
+    ///
+    /// # Errors
+    ///
+    /// `Memory` where memory runs out.
+    pub fn whole(
+        alloc: Global,
+        profile: &Profile,
+        kind: Kind,
+        info: Option<Vec<u8>>,
+        bytes: Vec<u8>,
+    ) -> Result<ObjectBuf, Memory>
+        requires some { 1 ≤ length bytes.items }
+        requires most { length bytes.items ≤ 16777216 }
+        ensures { IfOk result (λ buffer. buffer ≡ record {
+            cut = cut_of (length bytes.items) profile.now.e profile.now.b profile.now.max_n;
+            kind = kind;
+            info = option_map (λ v. v.items) info;
+            octets = bytes.items;
+        }) }
+    {
+        let len = bytes.len() as u64;
+        let plan = plan_of(profile, len);
+        let codes = Codes::of(alloc, &plan)?;
+        let e = u64::from(profile.e);
+        let mut symbols = bytes;
+        symbols.resize((len.div_ceil(e) * e) as usize, 0)?;
+        Ok(ObjectBuf {
+            plan,
+            codes,
+            kind,
+            info: info.map(Octets::of),
+            symbols,
+            fti: Fti {
+                l: len,
+                e: profile.e,
+                b: profile.b,
+                max_n: profile.max_n,
+            },
+        })
+    }
+
+    /// Adds a symbol of the object: a source symbol at its own length, a parity symbol at e octets. It takes no memory.
+    pub fn symbol(&self, block: u32, symbol: u8, out: &mut Datagram)
+        requires block { block < blocks self.now.cut }
+        requires symbol { symbol < encoding_symbols self.now.cut block }
+        requires room { length out.old + self.now.cut.e ≤ 1500 }
+        ensures { (p : Settings) → self.now.cut ≡ (shape_of p (object_of self.now)).cut
+            → out.new ≡ out.old ++ symbol_octets p (object_of self.now) block symbol }
+    {
+        symbol_of(
+            &self.plan,
+            &self.codes,
+            &self.symbols,
+            &[],
+            block,
+            symbol,
+            out,
+        );
+    }
+
+    /// How the object is cut.
+    pub fn plan(&self) -> Plan
+        ensures { result ≡ self.now.cut }
+    {
+        self.plan
+    }
+
+    /// The object's transmission information.
+    pub fn fti(&self) -> Fti
+        ensures { result ≡ fti_of self.now }
+    {
+        self.fti
+    }
+
+    /// Whether it is a data object or a file.
+    pub fn kind(&self) -> Kind
+        ensures { result ≡ self.now.kind }
+    {
+        self.kind
+    }
+
+    /// The object's info; of a file its name.
+    pub fn info(&self) -> Option<&[u8]>
+        ensures { option_copied result ≡ self.now.info }
+    {
+        match &self.info {
+            Some(info) => Some(info.bytes()),
+            None => None,
+        }
+    }
+
+    /// How many octets the object has.
+    pub fn len(&self) -> u64
+        ensures { result ≡ length self.now.octets }
+    {
+        self.fti.l
+    }
+}

@@ -1,0 +1,80 @@
+//! The codes of a plan's blocks (RFC 5052 section 9.1, RFC 5510 section 8.2).
+
+ghost use Rattle.std.specs.Prelude.{◌≡◌, ◌<◌, ◌≤◌, IfOk};
+ghost use Rattle.fec_plan.specs.Partition.{blocks};
+ghost use Rattle.obj_buffer.specs.Codes.{IsCodeOf};
+
+use fec_plan::Plan;
+use norm_base::Memory;
+use rs_block::Code;
+use std::alloc::Global;
+use std::marker::Model;
+
+/// The codes of the blocks of one plan: blocks have one length or two, and the first block has the greater one.
+#[derive(Debug, Drop)]
+pub struct Codes {
+    plan: Plan,
+    first: Code,
+    last: Option<Code>,
+}
+
+impl Model for Codes {
+    ghost use Rattle.fec_plan.specs.Partition.{Cut};
+    ghost use Rattle.obj_buffer.specs.Codes.{AreCodes};
+
+    ghost Value = { Cut };
+
+    ghost view = { λ c. c.plan };
+
+    ghost invariant = { λ c. AreCodes c.plan c.first c.last };
+}
+
+/// The code of a block.
+#[tactic(auto, using(crate::proofs::PartitionLemmas::some_sources, crate::proofs::PartitionLemmas::sources_fit))]
+fn code_of(alloc: Global, plan: &Plan, block: u32) -> Result<Code, Memory>
+    requires { block < blocks plan.now }
+    ensures { IfOk result (IsCodeOf plan.now block) }
+{
+    Code::new(alloc, plan.source_len(block), plan.encoded_len(block))
+}
+
+impl Codes {
+    /// The codes of the plan's blocks.
+    ///
+    /// # Errors
+    ///
+    /// `Memory` where memory runs out.
+    pub fn of(alloc: Global, plan: &Plan) -> Result<Codes, Memory>
+        ensures { IfOk result (λ codes. codes ≡ plan.now) }
+    {
+        let last_block = plan.blocks() - 1;
+        let first = code_of(alloc, plan, 0)?;
+        if plan.source_len(last_block) == plan.source_len(0) {
+            return Ok(Codes {
+                plan: *plan,
+                first,
+                last: None,
+            });
+        }
+        let last = code_of(alloc, plan, last_block)?;
+        Ok(Codes {
+            plan: *plan,
+            first,
+            last: Some(last),
+        })
+    }
+
+    /// The code of a block.
+    pub fn code(&self, block: u32) -> &Code
+        requires { block < blocks self.now }
+        ensures { IsCodeOf self.now block result.now }
+    {
+        if self.plan.source_len(block) == self.plan.source_len(0) {
+            return &self.first;
+        }
+        match &self.last {
+            Some(last) => last,
+            None => &self.first,
+        }
+    }
+}

@@ -1,0 +1,3 @@
+pub mod RoundLemmas
+pub mod HeldLemmas
+pub mod WindowLemmas

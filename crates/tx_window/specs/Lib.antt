@@ -1,0 +1,4 @@
+pub mod Round
+pub mod Held
+pub mod Windowed
+pub mod Asked

@@ -1,0 +1,148 @@
+//! An object of the window: what it is, where it lies in the ring, and what of it was sent.
+
+ghost use Rattle.std.specs.Prelude.{ℕ, ◌≡◌, ◌+◌, ◌<◌, ◌≤◌, List, Option, Bool, true, ◌||◌, ◌&&◌, is_none, option_copied, IfOk, IsSome, length};
+ghost use Rattle.std.specs.List.{list_all};
+ghost use Rattle.norm_base.specs.Settings.{Settings};
+ghost use Rattle.norm_base.specs.declared.kinds.Kind.{Kind as AnyKind};
+ghost use Rattle.fec_plan.specs.Partition.{all_symbols, blocks};
+ghost use Rattle.norm_order.specs.Entries.{Whole};
+ghost use Rattle.obj_buffer.specs.Pieces.{HoldsObject};
+ghost use Rattle.tx_window.specs.Held.{HeldObject, begun_at, with_sent, octets_in, LiesIn, AnswersSymbol};
+
+use crate::ring::Ring;
+use fec_plan::Plan;
+use norm_base::{Datagram, Kind, Memory, Octets};
+use obj_buffer::{Codes, symbol_of};
+use std::alloc::Global;
+use std::marker::Model;
+
+/// A data object or a file whose octets lie in the window's ring.
+#[derive(Debug, Drop)]
+pub struct Held {
+    plan: Plan,
+    codes: Codes,
+    kind: Kind,
+    info: Option<Octets>,
+    /// The place of its first octet in the ring.
+    start: usize,
+    /// For each source symbol, whether it was sent.
+    sent: Vec<bool>,
+    info_sent: bool,
+}
+
+impl Model for Held {
+    ghost use Rattle.std.specs.Prelude.{◌≡◌, vec_len};
+    ghost use Rattle.fec_plan.specs.Partition.{all_symbols};
+    ghost use Rattle.tx_window.specs.Held.{HeldObject};
+
+    ghost Value = { HeldObject };
+
+    ghost view = { λ h. record {
+        cut = h.plan;
+        kind = h.kind;
+        info = h.info;
+        start = h.start;
+        sent = h.sent.items;
+        info_sent = h.info_sent;
+    } };
+
+    ghost invariant = { λ h. (h.codes ≡ h.plan) × (vec_len h.sent ≡ all_symbols h.plan) };
+}
+
+impl Held {
+    /// The object that lies in the ring from octet `start` on, in so many source symbols. Nothing of it was sent.
+    pub fn new(
+        alloc: Global,
+        kind: Kind,
+        info: Option<Octets>,
+        plan: Plan,
+        symbols: usize,
+        start: usize,
+    ) -> Result<Held, Memory>
+        requires { symbols ≡ all_symbols plan }
+        ensures { IfOk result (λ held. held ≡ begun_at plan kind info start) }
+    {
+        let codes = Codes::of(alloc, &plan)?;
+        let sent = vec![in alloc; false; symbols]?;
+        Ok(Held {
+            plan,
+            codes,
+            kind,
+            info,
+            start,
+            sent,
+            info_sent: false,
+        })
+    }
+
+    /// Adds a symbol, and answers how many octets it has. `None` exactly where the object has no such encoded symbol;
+    /// then nothing is added.
+    pub fn symbol(&self, ring: &Ring, block: u32, symbol: u8, out: &mut Datagram) -> Option<u16>
+        requires lies { LiesIn ring.now self.now }
+        requires room { length out.old + self.now.cut.e ≤ 1500 }
+        ensures { (p : Settings) (octets : List ℕ) → HoldsObject self.now.cut (octets_in ring.now self.now) p octets
+            → AnswersSymbol p (Whole self.now.kind self.now.info octets) block symbol out.old out.new result }
+    {
+        if block >= self.plan.blocks() {
+            return None;
+        }
+        if symbol >= self.plan.encoded_len(block) {
+            return None;
+        }
+        let len = self.sent.len() * usize::from(self.plan.e());
+        let (front, back) = ring.pieces(self.start, len);
+        symbol_of(&self.plan, &self.codes, front, back, block, symbol, out);
+        Some(self.plan.symbol_octets(block, symbol))
+    }
+
+    /// Marks an encoded symbol as sent.
+    pub fn note_sent(&mut self, block: u32, symbol: u8)
+        requires object { IsSome self.old.cut.l }
+        requires block { block < blocks self.old.cut }
+        ensures { self.new ≡ with_sent self.old block symbol }
+    {
+        if symbol >= self.plan.source_len(block) {
+            return;
+        }
+        let number = self.plan.symbol_number(block, symbol) as usize;
+        self.sent[number] = true;
+    }
+
+    /// Marks the info as sent.
+    pub fn note_info(&mut self)
+        ensures { self.new ≡ record self.old { info_sent = true } }
+    {
+        self.info_sent = true;
+    }
+
+    /// Whether the info was sent, or there is none.
+    fn is_info_sent(&self) -> bool
+        ensures { result ≡ (is_none self.now.info || self.now.info_sent) }
+    {
+        self.info.is_none() || self.info_sent
+    }
+
+    /// Whether all source symbols were sent.
+    fn are_symbols_sent(&self) -> bool
+        ensures { result ≡ list_all (λ b. b) self.now.sent }
+    {
+        self.sent.iter().all(|sent| *sent)
+    }
+
+    /// Whether all source symbols were sent, and the info where there is one.
+    pub fn is_sent(&self) -> bool
+        ensures { result ≡ ((is_none self.now.info || self.now.info_sent) && list_all (λ b. b) self.now.sent) }
+    {
+        self.is_info_sent() && self.are_symbols_sent()
+    }
+
+    /// The object's info; of a file its name.
+    pub fn info(&self) -> Option<&[u8]>
+        ensures { option_copied result ≡ self.now.info }
+    {
+        match &self.info {
+            Some(info) => Some(info.bytes()),
+            None => None,
+        }
+    }
+}
