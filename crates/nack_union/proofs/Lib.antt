@@ -1,2 +1,4 @@
 pub mod Ranges
 pub mod Bits
+pub mod Counting
+pub mod Orders

@@ -2,6 +2,7 @@
 //! symbols are kept in, a [`Mask`].
 #![tactic(auto)]
 
+mod marks;
 mod mask;
 
 pub use crate::mask::Mask;
