@@ -1,7 +1,8 @@
 -- How many members a set has.
-use Rattle.std.proofs.Common.{◌≡◌, ℕ, suc, ◌<◌, ◌⊎◌, inl, inr, List, [], ◌∷◌, length, Bool, true, false, refl, ap, ◌∙◌, arith}
-use Rattle.std.specs.Prelude.{not, nat_lt}
-use Rattle.std.proofs.lemmas.Bool.{cases_order, le-ltb}
+use Rattle.std.proofs.Common.{◌≡◌, ℕ, zero, suc, ◌+◌, cond, ◌<◌, ◌⊎◌, inl, inr, List, [], ◌∷◌, length, get_or, Bool, true, false, refl, ap, ◌∙◌, arith}
+use Rattle.std.specs.Prelude.{not, nat_lt, None, Some}
+use Rattle.std.proofs.lemmas.Bool.{cases_order, lt-ltb, le-ltb}
+use Rattle.std.specs.List.{position, position_or_len}
 use Rattle.norm_order.specs.Sets.{with_member, is_member}
 
 -- one more where a bit says so
@@ -40,3 +41,34 @@ not_true false e = refl
 pub not_false : (b : Bool) → not b ≡ false → b ≡ true
 not_false true e = refl
 not_false false e = absurd (cc)
+
+-- a set without members
+pub not_wanted : (xs : List ℕ) → nat_lt 0 (length xs) ≡ false → xs ≡ []
+not_wanted [] e = refl
+not_wanted (x ∷ xs) e = let f = lt-ltb 0 (suc (length xs)) (omega arith) in absurd (cc)
+
+-- where some element passes, the first that does is one
+passed : {X : Type 0} (p : X → Bool) (xs : List X) (d : X) (k : ℕ) → k < length xs → p (get_or xs k d) ≡ true → position_or_len p xs < length xs
+passed p [] d k lt e = absurd (omega arith)
+passed p (x ∷ xs) d zero lt e = ap_lt (p x) e
+  where
+    ap_lt : (b : Bool) → b ≡ true → cond (not b) (1 + position_or_len p xs) 0 < suc (length xs)
+    ap_lt true e = omega arith
+    ap_lt false e = absurd (cc)
+passed p (x ∷ xs) d (suc k) lt e = go (p x) (passed p xs d k (omega arith) e)
+  where
+    go : (b : Bool) → position_or_len p xs < length xs → cond (not b) (1 + position_or_len p xs) 0 < suc (length xs)
+    go true h = omega arith
+    go false h = omega arith
+
+-- where none passes, no element does
+pub position-None : {X : Type 0} (p : X → Bool) (xs : List X) (d : X) → position p xs ≡ None → (k : ℕ) → k < length xs → p (get_or xs k d) ≡ false
+position-None {X} p xs d e k lt = go (p (get_or xs k d)) refl
+  where
+    never : (b : Bool) → b ≡ true → cond b (Some (position_or_len p xs)) None ≡ None → ⊥
+    never true f g = absurd (cc)
+    never false f g = absurd (cc)
+
+    go : (b : Bool) → p (get_or xs k d) ≡ b → b ≡ false
+    go true f = absurd (never _ (lt-ltb (position_or_len p xs) (length xs) (passed p xs d k lt f)) e)
+    go false f = refl

@@ -1,11 +1,11 @@
 -- What a union keeps of a sender's state, and which states it stands for: objects of data and files.
-use Rattle.std.specs.Prelude.{◌≡◌, ℕ, suc, ◌+◌, List, [], ◌∷◌, ◌++◌, length, map, filter, drop, Bool, not}
+use Rattle.std.specs.Prelude.{◌≡◌, ℕ, suc, ◌+◌, List, [], ◌∷◌, ◌++◌, length, map, filter, drop, Bool}
 use Rattle.norm_base.specs.Settings.{Settings}
 use Rattle.fec_plan.specs.Partition.{Cut, all_symbols}
-use Rattle.fec_plan.specs.Points.{point_of, point_before}
 use Rattle.norm_order.specs.Shapes.{Shape}
 use Rattle.norm_send_rules.specs.SenderState.{SenderState}
-use Rattle.norm_send_rules.specs.InWindow.{next_index, current_shapes}
+use Rattle.norm_send_rules.specs.Laws.{Rise}
+use Rattle.norm_send_rules.specs.InWindow.{stands_behind, next_index, current_shapes}
 use Rattle.norm_send_rules.specs.declared.want.Want.{Want}
 use Rattle.norm_send_rules.specs.declared.want.Want.TheVariants.{Symbol}
 use Rattle.nack_union.specs.Slots.{want_at}
@@ -44,12 +44,12 @@ abbrev pub shape_of_marked : Marked → Shape
 shape_of_marked m = record { cut = m.cut; closed = all_symbols m.cut; info = m.info }
 
 -- A union stands for a sender's state: it has the objects of the window, the wants, and of the window's symbols those
--- that were sent.
+-- that were sent, which the state has in their order.
 pub record Stands (p : Settings) (u : Kept) (s : SenderState) : Type 0 where
   pub first : u.first ≡ s.current.drop.index
   pub whole : s.current.drop.block ≡ 0
   pub next : u.first + length u.objects ≡ next_index s
   pub shapes : map shape_of_marked u.objects ≡ drop u.first (current_shapes p s)
   pub wants : listed (λ m. m.wants) u.first u.objects ≡ s.wants
-  pub sent : listed (λ m. m.sent) u.first u.objects
-      ≡ map Symbol (filter (λ at. not (point_before (point_of at) s.current.drop)) s.sent)
+  pub rise : Rise (map Symbol s.sent)
+  pub sent : listed (λ m. m.sent) u.first u.objects ≡ filter (stands_behind s.current.drop) (map Symbol s.sent)

@@ -3,3 +3,4 @@ pub mod Words
 pub mod Slots
 pub mod Kept
 pub mod Sound
+pub mod SoundUnion

@@ -1,4 +1,4 @@
--- What holds of each object of a union, and of each union.
+-- What holds of each object of a union.
 use Rattle.std.specs.Prelude.{◌≡◌, ◌<◌, ◌≤◌, ◌^◌, length}
 use Rattle.fec_plan.specs.Partition.{blocks}
 use Rattle.nack_union.specs.Slots.{slots}

@@ -4,8 +4,10 @@
 
 mod marks;
 mod mask;
+mod union;
 
 pub use crate::mask::Mask;
+pub use crate::union::Union;
 
 #[cfg(test)]
 mod tests;
