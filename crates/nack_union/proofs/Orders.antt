@@ -8,10 +8,10 @@ use Rattle.fec_plan.specs.Points.{position}
 use Rattle.norm_order.proofs.PositionLemmas.{Before, before_decides}
 use Rattle.nack_union.specs.Kept.{Marked, listed}
 use Rattle.norm_order.specs.Sets.{with_member}
-use Rattle.norm_send_rules.specs.Wants.{want_before}
+use Rattle.norm_send_rules.specs.Wants.{want_before, want_index}
 use Rattle.norm_send_rules.specs.declared.want.Want.{Want}
-use Rattle.norm_send_rules.specs.declared.want.Want.TheVariants.{Symbol}
-use Rattle.nack_union.specs.Slots.{want_at, symbol_slot}
+use Rattle.norm_send_rules.specs.declared.want.Want.TheVariants.{Info, Symbol}
+use Rattle.nack_union.specs.Slots.{want_at, symbol_slot, slot_of_want, IsNamed}
 
 -- a symbol stands at its slot
 pub symbol_at : (index block symbol : ℕ) → symbol < 256 → want_at index (symbol_slot block symbol) ≡ Symbol (position index block symbol)
@@ -27,6 +27,10 @@ symbol_at index block symbol lt = go (256 * block + symbol) refl
       where
         add_one : n + 1 ≡ suc n
         add_one = omega arith
+
+pub want_there : (index : ℕ) (w : Want) → IsNamed w → want_index w ≡ index → want_at index (slot_of_want w) ≡ w
+want_there index (Info i) few e = ap Info (sym e)
+want_there index (Symbol at) few e = symbol_at index at.block at.symbol few ∙ ap (λ i. Symbol (position i at.block at.symbol)) (sym e)
 
 -- of one object the order of wants is that of slots
 pub same_order : (index a b : ℕ) → want_before (want_at index a) (want_at index b) ≡ nat_lt a b

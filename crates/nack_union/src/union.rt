@@ -15,9 +15,12 @@ ghost use Rattle.fec_plan.specs.Points.{point};
 ghost use Rattle.std.specs.List.{list_any};
 ghost use Rattle.norm_send_rules.specs.declared.want.Want.{Want as Wanted};
 ghost use Rattle.norm_send_rules.specs.declared.want.Want.TheVariants.{Symbol};
+ghost use Rattle.norm_order.specs.Sets.{with_member};
+ghost use Rattle.norm_send_rules.specs.Wants.{want_before, want_index};
+ghost use Rattle.nack_union.specs.Slots.{slots, slot_of_want};
 ghost use Rattle.nack_union.specs.Kept.{Kept, Marked, Stands, begun_union, admitted, with_object, shape_of_marked};
 
-use crate::marks::{Marks, slot_of, want_of};
+use crate::marks::{Marks, index_of_want, slot_of, slot_of_want, want_of};
 use fec_plan::{Plan, Position};
 use norm_base::Memory;
 use norm_send_rules::Want;
@@ -134,6 +137,18 @@ impl Union {
     {
         let object = &mut self.objects[(at.index - self.first) as usize];
         object.note_sent(slot_of(at.block, at.symbol));
+    }
+
+    /// Puts an info or symbol of an object of the window into the wants.
+    pub(crate) fn want(&mut self, want: Want)
+        requires first { self.old.first ≤ want_index want }
+        requires object { want_index want < self.old.first + length self.old.objects }
+        requires slot { (m : Marked) → slice_get self.old.objects (want_index want - self.old.first) ≡ Some m → slot_of_want want < slots (blocks m.cut) }
+        ensures { (p : Settings) (s : SenderState) → Stands p self.old s
+            → Stands p self.new (record s { wants = with_member want_before want s.wants }) }
+    {
+        let object = &mut self.objects[(index_of_want(&want) - self.first) as usize];
+        object.want(slot_of_want(&want));
     }
 
     /// Takes out the lowest want. `None` exactly where there is none.
