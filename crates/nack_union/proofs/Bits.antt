@@ -180,5 +180,8 @@ front_below words k v zeros = front_of_zeros (set words k v) k (λ j lt. get_or-
 -- no more members than places
 pub few_members : (words : List ℕ) → length (places_of words).members ≤ (places_of words).size
 few_members words =
-    omega (arith, length-filter_both (has_bit words) (λ x. not (has_bit words x)) (λ x. refl) (range_with_len 0 (64 * length words)),
-    length-range_with_len 0 (64 * length words))
+    omega (
+      arith,
+      length-filter_both (has_bit words) (λ x. not (has_bit words x)) (λ x. refl) (range_with_len 0 (64 * length words)),
+      length-range_with_len 0 (64 * length words),
+    )

@@ -119,7 +119,7 @@ impl Union {
         requires within { index ≤ self.old.first + length self.old.objects }
         ensures { (p : Settings) (s : SenderState) → Stands p self.old s
             → Stands p self.new (dropped_to (point index 0) s)
-                × (result ≡ list_any (λ want. not (stands_behind (point index 0) want)) s.wants) }
+            × (result ≡ list_any (λ want. not (stands_behind (point index 0) want)) s.wants) }
     {
         let count = (index - self.first) as usize;
         let dropped = is_some_wanted(&self.objects[..count]);
@@ -155,7 +155,7 @@ impl Union {
     pub fn next(&mut self) -> Option<Want>
         ensures { (p : Settings) (s : SenderState) → Stands p self.old s
             → MatchOption result ((s.wants ≡ []) × Stands p self.new s)
-                (λ want. (rest : List Wanted) × (s.wants ≡ want ∷ rest) × Stands p self.new (record s { wants = rest })) }
+            (λ want. (rest : List Wanted) × (s.wants ≡ want ∷ rest) × Stands p self.new (record s { wants = rest })) }
     {
         let place = first_wanted(&self.objects)?;
         let object = &mut self.objects[place];

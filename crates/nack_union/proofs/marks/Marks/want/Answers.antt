@@ -39,7 +39,7 @@ pub invariant_of-self-else-is_new : goal.invariant_of-self-else-is_new
 invariant_of-self-else-is_new c =
     let gone : is_member nat_lt c.args.slot c.self.inside.wants.members ≡ true = not_false _ (sym c.insert-is_new.ensures.new ∙ c.if-is_new.false) in
     let many = ap length c.insert-is_new.ensures.members ∙ length-with_member c.args.slot c.self.inside.wants.members
-        ∙ ap (λ b. more b (length c.self.inside.wants.members)) gone in
+    ∙ ap (λ b. more b (length c.self.inside.wants.members)) gone in
     let size = c.insert-is_new.ensures.size in
     let wants = c.self.invariant.wants in
     let most = c.self.invariant.most in

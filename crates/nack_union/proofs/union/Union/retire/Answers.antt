@@ -21,8 +21,7 @@ returns c = λ p s st.
     let at : c.self.inside.first + (c.args.index - c.self.inside.first) ≡ c.args.index = omega (arith, first, from) in
     let after = stands_retired p s u (c.args.index - c.self.inside.first) (omega (arith, first, many, from, to)) stands in
     let moved : Stands p (record { first = c.args.index; objects = drop (c.args.index - c.self.inside.first) c.self.inside.objects.items }) (dropped_to (point c.args.index 0) s) =
-        subst (λ (i : ℕ). Stands p (record { first = i; objects = drop (c.args.index - c.self.inside.first) c.self.inside.objects.items }) (dropped_to (point i 0) s)) at after in
-    (
+    subst (λ (i : ℕ). Stands p (record { first = i; objects = drop (c.args.index - c.self.inside.first) c.self.inside.objects.items }) (dropped_to (point i 0) s)) at after in (
       subst (λ (ms : List Marked). Stands p (record { first = c.args.index; objects = ms }) (dropped_to (point c.args.index 0) s)) (sym c.drop_front.ensures) moved,
       c.is_some_wanted-dropped.ensures
           ∙ ap (λ (ms : List Marked). list_any (λ (m : Marked). nat_lt 0 (length m.wants)) (take (c.args.index - c.self.inside.first) ms)) c.deref.ensures.value

@@ -1,4 +1,4 @@
-use Rattle.std.proofs.Common.{◌≡◌, ◌+◌, ◌-◌, ◌<◌, ◌≤◌, length, subst, sym, ap, ◌∙◌, arith, ℕ}
+use Rattle.std.proofs.Common.{◌≡◌, ◌+◌, ◌-◌, length, subst, sym, ap, ◌∙◌, arith, ℕ}
 use Rattle.std.specs.Prelude.{nat_lt}
 use Rattle.norm_order.specs.Sets.{with_member}
 use Rattle.norm_send_rules.specs.Wants.{want_index}
