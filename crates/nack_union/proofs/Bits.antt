@@ -1,12 +1,14 @@
 -- One bit of a list of words.
 use Rattle.std.proofs.Common.{◌≡◌, ℕ, zero, suc, ◌+◌, ◌*◌, ◌/◌, ◌%◌, ◌^◌, ◌<◌, ◌≤◌, ◌⊎◌, inl, inr, List, [], ◌∷◌, length, set, get_or, true, false, refl, sym, ap, ◌∙◌, arith, take}
-use Rattle.std.specs.Prelude.{◌==◌, bit_and, bit_or, nat_lt, filter, replicate}
+use Rattle.std.specs.Prelude.{◌==◌, not, bit_and, bit_or, nat_lt, filter, replicate}
 use Rattle.std.specs.Int.{bit_at, bit_not, w64}
 use Rattle.std.specs.List.{range_with_len, AllByRecursion}
 use Rattle.std.proofs.Math.Nat.{div-add-mod}
 use Rattle.std.proofs.lemmas.Bool.{cases_eq, cases_lt}
 use Rattle.std.proofs.lemmas.List.{get_or-set_same, get_or-set_other, length-set, get_or_past, get_or-replicate, length-replicate}
 use Rattle.std.proofs.lemmas.Nat.Bits.{bit_at_set_same, bit_at_set_other, bit_at_clear_same, bit_at_clear_other, bit_at-zero, shr_and_one}
+use Rattle.std.proofs.lemmas.List.Filters.{length-filter_both}
+use Rattle.std.proofs.lemmas.List.FromFn.{length-range_with_len}
 use Rattle.norm_order.specs.Sets.{with_member, is_member}
 use Rattle.nack_union.specs.Words.{has_bit, places_of}
 use Rattle.nack_union.proofs.Ranges.{filter_with, filter_lowest, filter_member, no_filter}
@@ -174,3 +176,12 @@ nobody words now lowest same front searched =
 
 pub front_below : (words : List ℕ) (k v : ℕ) → ((j : ℕ) → j < k → get_or words j 0 ≡ 0) → AllByRecursion (λ word. word ≡ 0) (take k (set words k v))
 front_below words k v zeros = front_of_zeros (set words k v) k (λ j lt. get_or-set_other words k j v 0 (λ e. omega arith) ∙ zeros j lt)
+
+-- no more members than places
+pub few_members : (words : List ℕ) → length (places_of words).members ≤ (places_of words).size
+few_members words =
+    omega (
+      arith,
+      length-filter_both (has_bit words) (λ x. not (has_bit words x)) (λ x. refl) (range_with_len 0 (64 * length words)),
+      length-range_with_len 0 (64 * length words),
+    )

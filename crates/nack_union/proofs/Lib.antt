@@ -1,2 +1,6 @@
 pub mod Ranges
 pub mod Bits
+pub mod Counting
+pub mod Orders
+pub mod Dropped
+pub mod Standing

@@ -1,10 +1,14 @@
-//! What receivers asked a NORM sender to send again (RFC 5740 section 5.4). So far it has the set that wants and sent
-//! symbols are kept in, a [`Mask`].
+//! What receivers asked a NORM sender to send again (RFC 5740 section 5.4). A sender tells its [`Union`] which objects enter
+//! and leave the window and which symbols it sent, and takes the lowest want out of it. A [`Mask`] is the set that it keeps them in.
 #![tactic(auto)]
 
+mod marks;
 mod mask;
+mod union;
 
 pub use crate::mask::Mask;
+pub use crate::union::Union;
+pub use norm_send_rules::Want;
 
 #[cfg(test)]
 mod tests;

@@ -1,6 +1,6 @@
 //! A set of places as words of 64 bits.
 
-ghost use Rattle.std.specs.Prelude.{◌≡◌, ◌<◌, ◌≤◌, ◌∷◌, [], not, nat_lt, length, IfOk, MatchOption, slice_index, ◌≢◌, ℕ, IfSome};
+ghost use Rattle.std.specs.Prelude.{◌≡◌, ◌+◌, ◌<◌, ◌≤◌, ◌∷◌, [], not, nat_lt, length, IfOk, MatchOption, slice_index, ◌≢◌, ℕ, IfSome};
 ghost use Rattle.norm_order.specs.Sets.{with_member, is_member};
 
 use norm_base::Memory;
@@ -47,6 +47,7 @@ impl Mask {
     pub fn with_room(alloc: Global, places: usize) -> Result<Mask, Memory>
         ensures empty { IfOk result (λ mask. mask.members ≡ []) }
         ensures room { IfOk result (λ mask. places ≤ mask.size) }
+        ensures most { IfOk result (λ mask. mask.size < places + 64) }
     {
         let words = vec![in alloc; 0; places.div_ceil(WORD)]?;
         Ok(Mask { words, lowest: 0 })
@@ -65,6 +66,7 @@ impl Mask {
         requires { place < self.old.size }
         ensures new { result ≡ not (is_member nat_lt place self.old.members) }
         ensures members { self.new.members ≡ with_member nat_lt place self.old.members }
+        ensures few { length self.new.members ≤ self.old.size }
         ensures size { self.new.size ≡ self.old.size }
     {
         let is_new = !self.contains(place);
@@ -89,6 +91,7 @@ impl Mask {
     pub fn take_lowest(&mut self) -> Option<usize>
         ensures members { MatchOption result ((self.old.members ≡ []) × (self.new.members ≡ []))
             (λ place. self.old.members ≡ place ∷ self.new.members) }
+        ensures within { IfSome result (λ place. place < self.old.size) }
         ensures size { self.new.size ≡ self.old.size }
     {
         let word = first_filled(&self.words, self.lowest)?;

@@ -1,8 +1,12 @@
-//! A set of a few places across words, and one as large as an object's symbols can be.
+//! A set of a few places across words, one as large as an object's symbols can be, and the calls of a union.
 
-ghost use Rattle.std.specs.Prelude.{◌≤◌};
+ghost use Rattle.std.specs.Prelude.{◌≡◌, ◌≤◌, ◌∷◌, [], true};
+ghost use Rattle.fec_plan.specs.Partition.{cut_of};
+ghost use Rattle.nack_union.specs.Kept.{admitted};
 
 use super::*;
+use crate::marks::{Marks, want_of};
+use fec_plan::{Plan, Position};
 use norm_base::Memory;
 use std::alloc::Global;
 use std::process::Abort;
@@ -45,4 +49,89 @@ fn a_set_may_be_as_large_as_an_object(rt: HostRuntime) {
     assert_eq!(rt; mask.insert(66_846_719), true);
     assert_eq!(rt; mask.take_lowest(), Some(66_846_719));
     assert_eq!(rt; mask.take_lowest(), None);
+}
+
+/// An object of 1,000 octets in three blocks.
+fn plan_of(rt: &impl Abort) -> Plan
+    ensures { result ≡ cut_of 1000 64 6 8 }
+{
+    Plan::of(1000, 64, 6, 8).expect(rt, "a plan")
+}
+
+/// A union with such an object, with info.
+fn union_of(rt: &impl Abort, alloc: Global) -> Union
+    ensures first { result.first ≡ 0 }
+    ensures objects { result.objects ≡ admitted (cut_of 1000 64 6 8) true ∷ [] }
+{
+    let mut union = Union::new(alloc);
+    let plan = plan_of(rt);
+    match union.admit(0, &plan, true) {
+        Ok(()) => union,
+        Err(Memory) => panic!(rt; "no memory for an object"),
+    }
+}
+
+#[test]
+fn slots_are_sent_in_the_order_of_wants(rt: HostRuntime) {
+    let plan = plan_of(&rt);
+    let mut marks = match Marks::new(rt.alloc(), &plan, true) {
+        Ok(marks) => marks,
+        Err(Memory) => panic!(&rt; "no memory for an object"),
+    };
+    assert_eq!(rt; marks.is_wanted(), false);
+    assert_eq!(rt; marks.want(258), true);
+    assert_eq!(rt; marks.want(8), true);
+    assert_eq!(rt; marks.want(258), false);
+    assert_eq!(rt; marks.want(0), true);
+    assert_eq!(rt; marks.is_wanted(), true);
+    assert_eq!(rt; marks.take_lowest(), Some(0));
+    assert_eq!(rt; marks.take_lowest(), Some(8));
+    assert_eq!(rt; marks.take_lowest(), Some(258));
+    assert_eq!(rt; marks.take_lowest(), None);
+    for (slot, block, symbol) in [
+        (1, 0, 0),
+        (8, 0, 7),
+        (256, 0, 255),
+        (257, 1, 0),
+        (258, 1, 1),
+    ] {
+        let at = Position {
+            index: 4,
+            block,
+            symbol,
+        };
+        assert_eq!(rt; want_of(4, slot), Want::Symbol { at }, "slot {slot}");
+    }
+    assert_eq!(rt; want_of(4, 0), Want::Info { index: 4 });
+}
+
+#[test]
+fn a_want_is_sent_once(rt: HostRuntime) {
+    let mut union = union_of(&rt, rt.alloc());
+    let at = Position {
+        index: 0,
+        block: 2,
+        symbol: 5,
+    };
+    union.want(Want::Symbol { at });
+    assert_eq!(rt; union.next(), Some(Want::Symbol { at }));
+    assert_eq!(rt; union.next(), None);
+}
+
+#[test]
+fn a_drop_says_whether_it_took_a_want(rt: HostRuntime) {
+    let mut union = union_of(&rt, rt.alloc());
+    assert_eq!(rt; union.retire(1), false);
+    let mut union = union_of(&rt, rt.alloc());
+    union.withdraw();
+    assert_eq!(rt; union.next(), None);
+    let mut union = union_of(&rt, rt.alloc());
+    let at = Position {
+        index: 0,
+        block: 2,
+        symbol: 4,
+    };
+    union.note_sent(at);
+    union.clear();
+    assert_eq!(rt; union.next(), None);
 }

@@ -4,7 +4,7 @@ use Rattle.std.proofs.lemmas.List.{get_or_read, length-set}
 use Rattle.std.proofs.Math.Nat.{div-add-mod}
 use Rattle.norm_order.specs.Sets.{with_member}
 use Rattle.nack_union.specs.Places.{Places}
-use Rattle.nack_union.proofs.Bits.{set_puts, shorter_front}
+use Rattle.nack_union.proofs.Bits.{set_puts, few_members, shorter_front}
 use Rattle.nack_union.proofs.mask.Mask.insert.Goals as goal
 
 pub invariant_of-self : goal.invariant_of-self
@@ -36,3 +36,15 @@ returns-else-word-self-clause-members c =
     (ap (λ w. set c.self.inside.words.items (c.args.place / 64) (bit_or w (1 * 2 ^ (c.args.place % 64) % 2 ^ 64)))
     (get_or_read c.self.inside.words.items (c.args.place / 64) c.index_mut.result.now (omega (arith, lt, div-add-mod c.args.place 64)) c.index_mut.ensures.value 0))
     ∙ ap (λ (p : Places). with_member nat_lt c.args.place p.members) c.self.view_is
+
+pub returns-then-word-self-clause-few : goal.returns-then-word-self-clause-few
+returns-then-word-self-clause-few c =
+    let size = ap (λ (p : Places). p.size) c.self.view_is in
+    let few = few_members (set c.self.inside.words.items (c.args.place / 64) (bit_or c.index_mut.result.now (1 * 2 ^ (c.args.place % 64) % 2 ^ 64))) in
+    omega (arith, few, size, length-set {A = ℕ})
+
+pub returns-else-word-self-clause-few : goal.returns-else-word-self-clause-few
+returns-else-word-self-clause-few c =
+    let size = ap (λ (p : Places). p.size) c.self.view_is in
+    let few = few_members (set c.self.inside.words.items (c.args.place / 64) (bit_or c.index_mut.result.now (1 * 2 ^ (c.args.place % 64) % 2 ^ 64))) in
+    omega (arith, few, size, length-set {A = ℕ})

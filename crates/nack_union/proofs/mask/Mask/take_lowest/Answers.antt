@@ -57,3 +57,10 @@ returns-clause-members c =
     ap (λ (p : Places). p.members) (sym c.self.view_is)
     ∙ taken c.self.inside.words.items _ c.in_ok-word.word c.index-bits.result.now (trailing_zeros w64 c.index-bits.result.now) (in_words c) (sym (reads c)) (zeros c)
     (bit_at-trailing_zeros w64 c.index-bits.result.now (filled c) (fits c)) refl
+
+pub returns-clause-within : goal.returns-clause-within
+returns-clause-within c =
+    let at = in_words c in
+    let low = (bit_at-trailing_zeros w64 c.index-bits.result.now (filled c) (fits c)).0 in
+    let size = ap (λ (p : Places). p.size) c.self.view_is in
+    omega (arith, at, low, size)

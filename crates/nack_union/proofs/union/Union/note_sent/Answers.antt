@@ -1,0 +1,21 @@
+use Rattle.std.proofs.Common.{◌-◌, length, subst, sym, ap, ◌∙◌, arith, ℕ}
+use Rattle.std.specs.Prelude.{nat_lt}
+use Rattle.norm_order.specs.Sets.{with_member}
+use Rattle.nack_union.specs.Slots.{symbol_slot}
+use Rattle.nack_union.specs.Kept.{Kept, Marked, Stands}
+use Rattle.nack_union.proofs.Standing.{stands_noted}
+use Rattle.nack_union.proofs.union.Union.note_sent.Goals as goal
+
+pub returns : goal.returns
+returns c = λ p s st.
+    let view = c.self.view_is in
+    let first = ap (λ (u : Kept). u.first) view in
+    let many = ap (λ (u : Kept). length u.objects) view in
+    let from = c.requires.first in
+    let to = c.requires.object in
+    stands_noted p s _ (c.args.at.index - c.self.inside.first) c.args.at c.note_sent.new.self c.index_mut-object.result.now
+    (omega (arith, first, many, from, to)) (omega (arith, first, from)) (omega arith)
+    (c.note_sent.ensures
+    ∙ ap (λ (n : ℕ). record (c.index_mut-object.result.now) { sent = with_member nat_lt n c.index_mut-object.result.now.sent }) c.slot_of.ensures
+    ∙ ap (λ (m : Marked). record m { sent = with_member nat_lt (symbol_slot c.args.at.block c.args.at.symbol) m.sent }) c.index_mut-object.ensures.value)
+    (subst (λ (u : Kept). Stands p u s) (sym view) st)

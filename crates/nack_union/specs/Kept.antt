@@ -1,0 +1,55 @@
+-- What a union keeps of a sender's state, and which states it stands for: objects of data and files.
+use Rattle.std.specs.Prelude.{◌≡◌, ℕ, suc, ◌+◌, List, [], ◌∷◌, ◌++◌, length, map, filter, drop, Bool}
+use Rattle.norm_base.specs.Settings.{Settings}
+use Rattle.fec_plan.specs.Partition.{Cut, all_symbols}
+use Rattle.norm_order.specs.Shapes.{Shape}
+use Rattle.norm_send_rules.specs.SenderState.{SenderState}
+use Rattle.norm_send_rules.specs.Laws.{Rise}
+use Rattle.norm_send_rules.specs.InWindow.{stands_behind, next_index, current_shapes}
+use Rattle.norm_send_rules.specs.declared.want.Want.{Want}
+use Rattle.norm_send_rules.specs.declared.want.Want.TheVariants.{Symbol}
+use Rattle.nack_union.specs.Slots.{want_at}
+
+-- an object of the window: how it is cut, whether it has info, and the slots that are wanted and that were sent
+pub record Marked : Type 0 where
+  pub cut : Cut
+  pub info : Bool
+  pub wants : List ℕ
+  pub sent : List ℕ
+
+-- a union: the index of the window's first object, and its objects in order
+pub record Kept : Type 0 where
+  pub first : ℕ
+  pub objects : List Marked
+
+-- an object as it is admitted
+abbrev pub admitted : Cut → Bool → Marked
+admitted cut info = record { cut = cut; info = info; wants = []; sent = [] }
+
+-- the union with one more object
+abbrev pub with_object : Marked → Kept → Kept
+with_object m u = record u { objects = u.objects ++ m ∷ [] }
+
+-- a union as an instance begins
+abbrev pub begun_union : Kept
+begun_union = record { first = 0; objects = [] }
+
+-- the infos and symbols at these slots of the objects from an index on
+abbrev pub listed : (Marked → List ℕ) → ℕ → List Marked → List Want
+listed slots index [] = []
+listed slots index (m ∷ ms) = map (want_at index) (slots m) ++ listed slots (suc index) ms
+
+-- the shape of an object of which all source symbols are closed
+abbrev pub shape_of_marked : Marked → Shape
+shape_of_marked m = record { cut = m.cut; closed = all_symbols m.cut; info = m.info }
+
+-- A union stands for a sender's state: it has the objects of the window, the wants, and of the window's symbols those
+-- that were sent, which the state has in their order.
+pub record Stands (p : Settings) (u : Kept) (s : SenderState) : Type 0 where
+  pub first : u.first ≡ s.current.drop.index
+  pub whole : s.current.drop.block ≡ 0
+  pub next : u.first + length u.objects ≡ next_index s
+  pub shapes : map shape_of_marked u.objects ≡ drop u.first (current_shapes p s)
+  pub wants : listed (λ m. m.wants) u.first u.objects ≡ s.wants
+  pub rise : Rise (map Symbol s.sent)
+  pub sent : listed (λ m. m.sent) u.first u.objects ≡ filter (stands_behind s.current.drop) (map Symbol s.sent)
