@@ -16,6 +16,7 @@ use Rattle.norm_order.proofs.PositionLemmas.{before_decides}
 use Rattle.norm_receive_rules.specs.ReceiverState.{Held}
 use Rattle.norm_receive_rules.specs.Putting.{held_before}
 use Rattle.rx_hold.specs.BlockState.{BlockState, held_at, empty_block, with_held}
+use Rattle.gf_field.specs.Octet.{AreOctets}
 use Rattle.gf_field.specs.Symbol.{AreIds}
 use Rattle.rx_hold.specs.Padding.{padded, padded_row}
 use Rattle.rx_hold.specs.Sound.{arrivals, in_order, IsOf, AreKept, IsSound, block_view}
@@ -29,8 +30,8 @@ joined b c x y ys = elim b [
 ]
 
 -- of two different symbols of one block, one is before the other
-apart : (index block : ℕ) (x y : Held) → IsOf index block x → IsOf index block y → (y.at.symbol == x.at.symbol) ≡ false → held_before x y ≡ false → held_before y x ≡ true
-apart index block x y p q differ e = elim (cases_lt y.at.symbol x.at.symbol) [
+apart : (index block size : ℕ) (x y : Held) → IsOf index block size x → IsOf index block size y → (y.at.symbol == x.at.symbol) ≡ false → held_before x y ≡ false → held_before y x ≡ true
+apart index block size x y p q differ e = elim (cases_lt y.at.symbol x.at.symbol) [
   | inl lt ↦ (before_decides y.at x.at).1 (inr ((q.0 ∙ sym p.0, q.1 ∙ sym p.1), lt))
   | inr le ↦ elim (cases_lt x.at.symbol y.at.symbol) [
     | inl less ↦ absurd (cc (e, (before_decides x.at y.at).1 (inr ((p.0 ∙ sym q.0, p.1 ∙ sym q.1), less))))
@@ -39,11 +40,11 @@ apart index block x y p q differ e = elim (cases_lt y.at.symbol x.at.symbol) [
 ]
 
 -- a new symbol of a block joins those that are held
-pub joins : (index block : ℕ) (x : Held) (s : List Held) → IsOf index block x → AllByRecursion (IsOf index block) s
+pub joins : (index block size : ℕ) (x : Held) (s : List Held) → IsOf index block size x → AllByRecursion (IsOf index block size) s
     → list_any (λ (h : Held). h.at.symbol == x.at.symbol) s ≡ false → IsPermutation (x ∷ s) (with_member held_before x s)
 unfolding with_member
-joins index block x [] p all new = IsPermutation-refl (x ∷ [])
-joins index block x (y ∷ ys) p all new = go (y.at.symbol == x.at.symbol) refl (held_before x y) (held_before y x) refl refl (joins index block x ys p all.1)
+joins index block size x [] p all new = IsPermutation-refl (x ∷ [])
+joins index block size x (y ∷ ys) p all new = go (y.at.symbol == x.at.symbol) refl (held_before x y) (held_before y x) refl refl (joins index block size x ys p all.1)
   where
     go : (d : Bool) → (y.at.symbol == x.at.symbol) ≡ d → (b c : Bool) → held_before x y ≡ b → held_before y x ≡ c
         → (list_any (λ (h : Held). h.at.symbol == x.at.symbol) ys ≡ false → IsPermutation (x ∷ ys) (with_member held_before x ys))
@@ -54,7 +55,7 @@ joins index block x (y ∷ ys) p all new = go (y.at.symbol == x.at.symbol) refl 
         IsPermutation-trans (x ∷ y ∷ ys) (y ∷ x ∷ ys) (y ∷ with_member held_before x ys)
         (IsPermutation-middle (x ∷ []) y ys)
         (IsPermutation-cons y (x ∷ ys) (with_member held_before x ys) (rest (cc (differ, new))))
-    go false differ false false e f rest = absurd (cc (f, apart index block x y p all.0 differ e))
+    go false differ false false e f rest = absurd (cc (f, apart index block size x y p all.0 differ e))
 
 -- what holds of all and of the new one holds of all then
 pub all_with : (P : Held → Type 0) (x : Held) (s : List Held) → P x → AllByRecursion P s → AllByRecursion P (with_member held_before x s)
@@ -111,7 +112,7 @@ pub counted : (index block k size : ℕ) (ids lengths row : List ℕ) → AreKep
     → length (in_order (arrivals index block size ids lengths row)) ≡ length ids
 counted index block k size ids lengths row are = length_permutation _ _ are.order ∙ length-arrived index block size ids lengths row are.paired
 
-length-padded : (size : ℕ) (octets : List ℕ) → length octets ≤ size → length (padded size octets) ≡ size
+pub length-padded : (size : ℕ) (octets : List ℕ) → length octets ≤ size → length (padded size octets) ≡ size
 length-padded size octets le = omega (arith, length-append octets (replicate (size - length octets) 0), length-replicate {A = ℕ} (size - length octets) 0)
 
 take-padded : (size : ℕ) (octets : List ℕ) → take (length octets) (padded size octets) ≡ octets
@@ -163,9 +164,9 @@ padded_row-append size came x =
 
 pub kept_with : (index block k size q : ℕ) (ids lengths row payload : List ℕ) → AreKept index block k size ids lengths row
     → q < 255 → list_any (λ (h : Held). h.at.symbol == q) (in_order (arrivals index block size ids lengths row)) ≡ false
-    → length ids < k → length payload ≤ size
+    → length ids < k → length payload ≤ size → AreOctets payload
     → AreKept index block k size (ids ++ q ∷ []) (lengths ++ length payload ∷ []) (row ++ padded size payload)
-kept_with index block k size q ids lengths row payload are small new lacks le =
+kept_with index block k size q ids lengths row payload are small new lacks le octets =
     let came : List Held = arrivals index block size ids lengths row in
     let x : Held = held_at index block q payload in
     let more = came_with index block k size q ids lengths row payload are in
@@ -183,8 +184,8 @@ kept_with index block k size q ids lengths row payload are small new lacks le =
           (IsPermutation-to_front came x)
           (IsPermutation-trans (x ∷ came) (x ∷ in_order came) (with_member held_before x (in_order came))
           (IsPermutation-cons x came (in_order came) are.order)
-          (joins index block x (in_order came) (refl, refl) are.own new))));
-      own = subst (AllByRecursion (IsOf index block)) (sym held) (all_with (IsOf index block) x (in_order came) (refl, refl) are.own);
+          (joins index block size x (in_order came) (refl, refl, le, octets) are.own new))));
+      own = subst (AllByRecursion (IsOf index block size)) (sym held) (all_with (IsOf index block size) x (in_order came) (refl, refl, le, octets) are.own);
     }
   where
     longer : length (row ++ padded size payload) ≡ length (ids ++ q ∷ []) * size
@@ -219,6 +220,10 @@ none_came index block k size (i ∷ is) lengths row p = absurd (cc p)
 
 -- ---- the answers of a block
 
+octets_by : (xs : List ℕ) → ((i : ℕ) → get_or xs i 0 < 256) → AreOctets xs
+octets_by [] h = tt
+octets_by (x ∷ xs) h = (h 0, octets_by xs (λ i. h (suc i)))
+
 pub edited : {T E : Type 0} (r : Result T E) (t : T) (new changed old : List ℕ) → new ≡ (if is_ok r then changed else old) → r ≡ Ok t → new ≡ changed
 edited r t new changed old e is = e ∙ ap (λ r. if is_ok r then changed else old) is
 
@@ -239,12 +244,12 @@ absent_in x b q is new = ap (λ (b : BlockState). list_any (λ (h : Held). h.at.
 
 -- what is kept with one more symbol, by the lists that then stand there
 pub kept_then : (x : Inside) (b : BlockState) (q : ℕ) (payload ids lengths row : List ℕ) → IsSound x → block_view x ≡ b → q < 255
-    → list_any (λ (h : Held). h.at.symbol == q) b.held ≡ false → length b.held < b.k → length payload ≤ b.size
+    → list_any (λ (h : Held). h.at.symbol == q) b.held ≡ false → length b.held < b.k → length payload ≤ b.size → ((i : ℕ) → get_or payload i 0 < 256)
     → ids ≡ x.ids.items ++ q ∷ [] → lengths ≡ x.lengths.items ++ length payload ∷ [] → row ≡ x.symbols.items ++ padded x.size payload
     → AreKept x.index x.block x.k x.size ids lengths row
-kept_then x b q payload ids lengths row sound is small new lt le e f g =
+kept_then x b q payload ids lengths row sound is small new lt le bytes e f g =
     let size = ap (λ (b : BlockState). b.size) is in
-    let are = kept_with x.index x.block x.k x.size q x.ids.items x.lengths.items x.symbols.items payload sound.kept small (absent_in x b q is new) (lacks x b sound is lt) (omega (arith, size, le)) in
+    let are = kept_with x.index x.block x.k x.size q x.ids.items x.lengths.items x.symbols.items payload sound.kept small (absent_in x b q is new) (lacks x b sound is lt) (omega (arith, size, le)) (octets_by payload bytes) in
     subst (λ r. AreKept x.index x.block x.k x.size ids lengths r) (sym g)
     (subst (λ ns. AreKept x.index x.block x.k x.size ids ns (x.symbols.items ++ padded x.size payload)) (sym f)
     (subst (λ is. AreKept x.index x.block x.k x.size is (x.lengths.items ++ length payload ∷ []) (x.symbols.items ++ padded x.size payload)) (sym e) are))

@@ -1,3 +1,4 @@
 pub mod Padding
 pub mod BlockState
 pub mod Sound
+pub mod Solving

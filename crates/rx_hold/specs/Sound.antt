@@ -2,6 +2,7 @@
 use Rattle.std.specs.Prelude.{ℕ, ◌≡◌, ◌≤◌, ◌*◌, List, [], ◌∷◌, length, take, drop, vec_capacity}
 use Rattle.std.specs.List.{AllByRecursion}
 use Rattle.std.specs.List.Sorted.{IsPermutation}
+use Rattle.gf_field.specs.Octet.{AreOctets}
 use Rattle.gf_field.specs.Symbol.{AreIds}
 use Rattle.norm_order.specs.Sets.{with_members}
 use Rattle.norm_receive_rules.specs.ReceiverState.{Held}
@@ -20,9 +21,9 @@ arrivals index block size (id ∷ ids) (n ∷ ns) row = held_at index block id (
 abbrev pub in_order : List Held → List Held
 in_order came = with_members held_before came []
 
--- a symbol of this block
-abbrev pub IsOf : ℕ → ℕ → Held → Type 0
-IsOf index block h = (h.at.index ≡ index) × (h.at.block ≡ block)
+-- a symbol of this block, no longer than one as it is coded
+abbrev pub IsOf : ℕ → ℕ → ℕ → Held → Type 0
+IsOf index block size h = (h.at.index ≡ index) × (h.at.block ≡ block) × (length h.octets ≤ size) × AreOctets h.octets
 
 -- At most k symbols are kept, with different ids. Each is no longer than a symbol as it is coded, and stands in the row
 -- with zeros behind it.
@@ -34,7 +35,7 @@ pub record AreKept (index block k size : ℕ) (ids lengths row : List ℕ) : Typ
   pub long : length row ≡ length ids * size
   pub zeros : row ≡ padded_row size (arrivals index block size ids lengths row)
   pub order : IsPermutation (arrivals index block size ids lengths row) (in_order (arrivals index block size ids lengths row))
-  pub own : AllByRecursion (IsOf index block) (in_order (arrivals index block size ids lengths row))
+  pub own : AllByRecursion (IsOf index block size) (in_order (arrivals index block size ids lengths row))
 
 abbrev pub block_view : Inside → BlockState
 block_view b = record {
@@ -48,6 +49,7 @@ block_view b = record {
 -- The symbols are well kept, and there is room for all that are lacking.
 pub record IsSound (b : Inside) : Type 0 where
   pub some : 1 ≤ b.k
+  pub sources : b.k ≤ 255
   pub octets : 1 ≤ b.size
   pub most : b.size ≤ 1408
   pub kept : AreKept b.index b.block b.k b.size b.ids.items b.lengths.items b.symbols.items

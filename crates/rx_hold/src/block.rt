@@ -5,8 +5,10 @@ ghost use Rattle.std.specs.List.{list_any};
 ghost use Rattle.norm_receive_rules.specs.ReceiverState.{Held};
 ghost use Rattle.rx_hold.specs.BlockState.{empty_block, with_held};
 ghost use Rattle.rx_hold.specs.Padding.{padded};
+ghost use Rattle.rx_hold.specs.Solving.{sources_row};
 
 use norm_base::Memory;
+use rs_block::Solver;
 use std::alloc::Global;
 use std::marker::Model;
 
@@ -101,5 +103,17 @@ impl Block {
         self.ids.push(symbol).unwrap();
         self.lengths.push(payload.len() as u16).unwrap();
         push_padded(&mut self.symbols, usize::from(self.size), payload);
+    }
+
+    /// Puts the block's source symbols into `out`, in a row, each with zeros behind it where it is shorter than a symbol
+    /// as it is coded. The solver is for the block's number of source symbols and their size. It takes no memory.
+    pub fn solve(&self, solver: &mut Solver, out: &mut [u8])
+        requires whole { length self.now.held ≡ self.now.k }
+        requires solver { solver.old ≡ record { k = self.now.k; size = self.now.size } }
+        requires room { length out.old ≡ self.now.k * self.now.size }
+        ensures sources { out.new ≡ sources_row self.now }
+        ensures same { solver.new ≡ solver.old }
+    {
+        solver.solve(&self.ids, &self.symbols, out);
     }
 }

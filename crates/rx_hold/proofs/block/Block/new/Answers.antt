@@ -5,6 +5,7 @@ use Rattle.rx_hold.proofs.block.Block.new.Goals as goal
 pub invariant_of-result : goal.invariant_of-result
 invariant_of-result c = record {
   some = c.requires.some;
+  sources = let byte = c.ranges.k in omega (arith, byte.fits);
   octets = c.requires.octets;
   most = c.requires.most;
   kept = none_kept c.args.index c.args.block c.args.k c.args.size _ _ _ c.in_ok-ids.ensures.items c.in_ok-lengths.ensures.items c.in_ok-symbols.ensures.items;

@@ -36,10 +36,11 @@ row_is c = c.push_padded.ensures.octets ∙ ap (λ n. c.self.inside.symbols.item
 pub invariant_of-self : goal.invariant_of-self
 invariant_of-self c = record {
   some = c.self.invariant.some;
+  sources = c.self.invariant.sources;
   octets = c.self.invariant.octets;
   most = c.self.invariant.most;
   kept = kept_then c.self.inside c.args.self.now c.args.symbol c.args.payload.now _ _ _ c.self.invariant c.self.view_is
-      c.requires.id c.requires.new c.requires.lacks c.requires.fits (ids_are c) (lengths_are c) (row_is c);
+      c.requires.id c.requires.new c.requires.lacks c.requires.fits (λ i. let byte = c.type_inv.payload i in byte.fits) (ids_are c) (lengths_are c) (row_is c);
   ids_room =
       let room : c.self.inside.k ≤ c.self.inside.ids.cap = c.self.invariant.ids_room in
       let kept : c.self.inside.ids.cap ≤ c.push.new.self.cap = c.push.ensures.capacity in
