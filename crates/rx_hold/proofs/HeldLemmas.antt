@@ -23,14 +23,14 @@ use Rattle.rx_hold.specs.Sound.{arrivals, in_order, IsOf, AreKept, IsSound, bloc
 use Rattle.rx_hold.specs.declared.block.Block.TheInside.{Inside}
 
 -- with one more, by what the two comparisons say
-abbrev joined : Bool → Bool → Held → Held → List Held → List Held
+abbrev pub joined : Bool → Bool → Held → Held → List Held → List Held
 joined b c x y ys = elim b [
   | true ↦ x ∷ y ∷ ys
   | false ↦ elim c [ true ↦ y ∷ with_member held_before x ys | false ↦ y ∷ ys ]
 ]
 
 -- of two different symbols of one block, one is before the other
-apart : (index block size : ℕ) (x y : Held) → IsOf index block size x → IsOf index block size y → (y.at.symbol == x.at.symbol) ≡ false → held_before x y ≡ false → held_before y x ≡ true
+pub apart : (index block size : ℕ) (x y : Held) → IsOf index block size x → IsOf index block size y → (y.at.symbol == x.at.symbol) ≡ false → held_before x y ≡ false → held_before y x ≡ true
 apart index block size x y p q differ e = elim (cases_lt y.at.symbol x.at.symbol) [
   | inl lt ↦ (before_decides y.at x.at).1 (inr ((q.0 ∙ sym p.0, q.1 ∙ sym p.1), lt))
   | inr le ↦ elim (cases_lt x.at.symbol y.at.symbol) [

@@ -1,5 +1,6 @@
 -- What is held of one block, and which states of a receiver that stands for (RFC 5740 section 5.3).
-use Rattle.std.specs.Prelude.{ℕ, ◌≡◌, List, []}
+use Rattle.std.specs.Prelude.{ℕ, ◌≡◌, List, [], ◌∷◌, true}
+use Rattle.std.specs.List.{AllByRecursion}
 use Rattle.fec_plan.specs.Partition.{source_symbols, coded_octets}
 use Rattle.fec_plan.specs.Points.{position}
 use Rattle.norm_order.specs.Sets.{with_member}
@@ -16,12 +17,18 @@ pub record BlockState : Type 0 where
   pub size : ℕ
   pub held : List Held
 
--- A block stands for what a state holds of it.
+-- held symbols in order, each before all that follow it
+abbrev pub Rises : List Held → Type 0
+Rises [] = Unit {0}
+Rises (h ∷ hs) = AllByRecursion (λ g. held_before h g ≡ true) hs × Rises hs
+
+-- A block stands for what a state holds of it. All that the state holds is in order.
 pub record Stands (b : BlockState) (s : ReceiverState) (plan : Plan) : Type 0 where
   pub index : b.index ≡ plan.index
   pub sources : b.k ≡ source_symbols (cut_of_plan plan) b.block
   pub size : b.size ≡ coded_octets (cut_of_plan plan)
   pub held : b.held ≡ held_of s plan.index b.block
+  pub order : Rises s.held
 
 -- a block of which nothing is held
 abbrev pub empty_block : ℕ → ℕ → ℕ → ℕ → BlockState

@@ -2,3 +2,4 @@ pub mod Padding
 pub mod BlockState
 pub mod Sound
 pub mod Solving
+pub mod Laws

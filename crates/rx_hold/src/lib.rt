@@ -4,5 +4,6 @@
 #![tactic(auto)]
 
 mod block;
+pub mod laws;
 
 pub use crate::block::Block;
