@@ -1,8 +1,8 @@
 -- Blocks stand for states.
-use Rattle.std.proofs.Common.{◌≡◌, ◌-◌, ℕ, zero, suc, ◌+◌, ◌<◌, ◌≤◌, ◌⊎◌, inl, inr, List, [], ◌∷◌, ◌++◌, length, map, Bool, true, false, cond, Option, Some, None, refl, sym, ap, ◌∙◌, subst, arith}
-use Rattle.std.specs.Prelude.{◌&&◌, ◌||◌, ◌==◌, ◌≢◌, not, filter, flat_map}
+use Rattle.std.proofs.Common.{◌≡◌, ◌-◌, ℕ, ◌<◌, ◌≤◌, ◌⊎◌, inl, inr, List, [], ◌∷◌, ◌++◌, length, map, Bool, true, false, cond, Option, Some, None, refl, sym, ap, ◌∙◌, subst, arith}
+use Rattle.std.specs.Prelude.{◌&&◌, ◌||◌, ◌==◌, filter, flat_map}
 use Rattle.std.specs.List.{list_any, AllByRecursion, concat, range_with_len}
-use Rattle.std.proofs.lemmas.Bool.{eqb-true, eq-eqb, ne_eqb, cases_lt}
+use Rattle.std.proofs.lemmas.Bool.{eqb-true, eq-eqb, cases_lt}
 use Rattle.std.proofs.lemmas.List.{length-map}
 use Rattle.std.proofs.lemmas.List.Concat.{flat_map-cons}
 use Rattle.fec_plan.specs.declared.position.Position.{Position}
@@ -12,7 +12,7 @@ use Rattle.gf_field.specs.Symbol.{solved_symbol, solved_sources}
 use Rattle.norm_order.specs.Sets.{with_member}
 use Rattle.norm_order.proofs.PositionLemmas.{Before, before_decides, before_both}
 use Rattle.norm_receive_rules.specs.ReceiverState.{ReceiverState, Plan, Held}
-use Rattle.norm_receive_rules.specs.Plans.{cut_of_plan, held_of, holds, lacking, is_done, says_stream}
+use Rattle.norm_receive_rules.specs.Plans.{cut_of_plan, held_of, holds, lacking, is_done}
 use Rattle.norm_receive_rules.specs.BlockValue.{ids_of, octets_of_held, block_value}
 use Rattle.norm_receive_rules.specs.HandingUp.{block_octets}
 use Rattle.norm_receive_rules.specs.Putting.{held_before, with_symbol}
@@ -132,7 +132,7 @@ joins_block index block x (y ∷ ys) rises e f none =
   where
     go : (b c d : Bool) → held_before x y ≡ b → held_before y x ≡ c → OfBlock index block y ≡ d
         → (list_any (λ (h : Held). h.at.symbol == x.at.symbol) (filter (OfBlock index block) ys) ≡ false
-          → filter (OfBlock index block) (with_member held_before x ys) ≡ with_member held_before x (filter (OfBlock index block) ys))
+        → filter (OfBlock index block) (with_member held_before x ys) ≡ with_member held_before x (filter (OfBlock index block) ys))
         → filter (OfBlock index block) (with_member held_before x (y ∷ ys)) ≡ with_member held_before x (filter (OfBlock index block) (y ∷ ys))
     go true c d p q r rest =
         ap (filter (OfBlock index block)) (in_front x y ys p)
@@ -185,9 +185,9 @@ keeping_laws = record {
           sources = st.sources;
           size = st.size;
           held =
-            ap (with_member held_before x) (st.held ∙ ap (λ n. held_of s n b.block) (sym st.index))
-            ∙ sym (joins_block b.index b.block x s.held st.order refl refl new)
-            ∙ ap (λ n. filter (OfBlock n b.block) (with_member held_before x s.held)) st.index;
+              ap (with_member held_before x) (st.held ∙ ap (λ n. held_of s n b.block) (sym st.index))
+              ∙ sym (joins_block b.index b.block x s.held st.order refl refl new)
+              ∙ ap (λ n. filter (OfBlock n b.block) (with_member held_before x s.held)) st.index;
           order = rises_with x s.held st.order;
         }
 

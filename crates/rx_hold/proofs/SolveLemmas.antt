@@ -1,14 +1,14 @@
 -- The symbols that are held give the block's source symbols, in whatever order they came.
-use Rattle.std.proofs.Common.{◌≡◌, ◌-◌, replicate, ℕ, zero, suc, ◌+◌, ◌*◌, ◌%◌, ◌<◌, ◌≤◌, List, [], ◌∷◌, ◌++◌, length, map, take, drop, get_or, Option, Some, None, Bool, true, false, refl, sym, ap, ◌∙◌, subst, arith, zero-add}
-use Rattle.std.specs.Prelude.{◌==◌, ◌≢◌, bit_xor, nat_eq}
-use Rattle.std.specs.List.{AllByRecursion, All, AllPairs, IsDistinct, concat, range_with_len}
+use Rattle.std.proofs.Common.{◌≡◌, ◌-◌, replicate, ℕ, zero, suc, ◌+◌, ◌*◌, ◌%◌, ◌<◌, ◌≤◌, List, [], ◌∷◌, ◌++◌, length, map, drop, get_or, Option, Some, None, Bool, true, false, refl, sym, ap, ◌∙◌, subst, arith}
+use Rattle.std.specs.Prelude.{◌==◌, bit_xor, nat_eq}
+use Rattle.std.specs.List.{AllByRecursion, concat, range_with_len}
 use Rattle.std.specs.List.Sorted.{IsPermutation}
 use Rattle.std.specs.Int.Bits.{xor_zero_l}
 use Rattle.std.proofs.Math.Nat.{suc-mul}
 use Rattle.std.proofs.Math.ListN.{get_or-append}
 use Rattle.std.proofs.lemmas.Bool.{eqb-true, eq-eqb}
 use Rattle.std.proofs.lemmas.Bool.Decides.{Decides-eqb}
-use Rattle.std.proofs.lemmas.List.{get_or-append_right, length-append, length-map, length-take, length-replicate, append-nil}
+use Rattle.std.proofs.lemmas.List.{get_or-append_right, length-map, length-take, length-replicate, append-nil}
 use Rattle.std.proofs.lemmas.List.Elements.{All-from_recursion, recursion_from_All}
 use Rattle.std.proofs.lemmas.List.Sorted.{IsPermutation-map, All-permutation, length_permutation}
 use Rattle.std.proofs.lemmas.Map.Keys.{IsDistinct-IsPermutation}
@@ -134,9 +134,10 @@ row_later size i t h hs le =
 each_meets : (size t : ℕ) (word : List ℕ) (hs : List Held) → AreShort size hs → t < size
     → ((i : ℕ) → i < length hs → get_or word (get_or (ids_of hs) i 0) 0 ≡ get_or (padded_row size hs) (i * size + t) 0) → AllByRecursion (Meets size t word) hs
 each_meets size t word [] short lt h = tt
-each_meets size t word (x ∷ xs) short lt h =
-    (h 0 (omega arith) ∙ row_first size t x xs short.0 lt,
-    each_meets size t word xs short.1 lt (λ i less. h (suc i) (omega arith) ∙ row_later size i t x xs short.0))
+each_meets size t word (x ∷ xs) short lt h = (
+  h 0 (omega arith) ∙ row_first size t x xs short.0 lt,
+  each_meets size t word xs short.1 lt (λ i less. h (suc i) (omega arith) ∙ row_later size i t x xs short.0),
+)
 
 meets_at : (size t : ℕ) (word : List ℕ) (hs : List Held) → AreShort size hs → t < size → AllByRecursion (Meets size t word) hs
     → (i : ℕ) → i < length hs → get_or word (get_or (ids_of hs) i 0) 0 ≡ get_or (padded_row size hs) (i * size + t) 0
@@ -168,7 +169,7 @@ same_ids k came held moved are =
     record {
       count = length_permutation _ _ ids ∙ are.count;
       different = AllPairs-from_IsDistinct Decides-eqb (ids_of held)
-      (IsDistinct-IsPermutation nat_eq flips (ids_of came) (ids_of held) ids (IsDistinct-from_AllPairs Decides-eqb (ids_of came) are.different));
+          (IsDistinct-IsPermutation nat_eq flips (ids_of came) (ids_of held) ids (IsDistinct-from_AllPairs Decides-eqb (ids_of came) are.different));
       below = All-permutation (λ j. j < 255) _ _ ids are.below;
     }
 

@@ -86,7 +86,8 @@ impl Block {
 
     /// How many symbols the block lacks to as many as it has source symbols.
     pub fn lacking(&self) -> u8
-        ensures { result ≡ self.now.k - length self.now.held }
+        ensures wanted { result ≡ self.now.k - length self.now.held }
+        ensures few { length self.now.held ≤ self.now.k }
     {
         self.k - self.ids.len() as u8
     }

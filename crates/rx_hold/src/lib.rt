@@ -7,3 +7,6 @@ mod block;
 pub mod laws;
 
 pub use crate::block::Block;
+
+#[cfg(test)]
+mod tests;

@@ -1,4 +1,4 @@
-use Rattle.std.proofs.Common.{◌≡◌, ◌*◌, ℕ, List, ap, sym, ◌∙◌, subst, length}
+use Rattle.std.proofs.Common.{◌≡◌, ◌*◌, ap, sym, ◌∙◌, subst, length}
 use Rattle.gf_field.specs.Symbol.{AreIds}
 use Rattle.rs_block.specs.Codeword.{AreSources}
 use Rattle.rs_block.specs.Solver.{SolverShape}
