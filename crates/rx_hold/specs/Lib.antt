@@ -1,0 +1,5 @@
+pub mod Padding
+pub mod BlockState
+pub mod Sound
+pub mod Solving
+pub mod Laws
