@@ -1,6 +1,6 @@
 -- What may come next is decided, but for what is free.
-use Rattle.std.proofs.Common.{◌≡◌, ℕ, ◌+◌, ◌*◌, List, [], ◌∷◌, Bool, true, false, Option, None, Some, Result, Ok, Err, refl, sym, ap, subst, ◌∙◌, inl, inr}
-use Rattle.std.specs.Prelude.{◌==◌, ◌⊎◌, ⊤}
+use Rattle.std.proofs.Common.{◌≡◌, ℕ, ◌+◌, ◌*◌, List, [], ◌∷◌, Bool, true, false, Option, None, Some, Result, Err, refl, sym, ap, subst, ◌∙◌, inl, inr}
+use Rattle.std.specs.Prelude.{◌==◌, ◌⊎◌}
 use Rattle.std.specs.Option.{option_map}
 use Rattle.std.proofs.lemmas.Option.{none-some, same_Some}
 use Rattle.std.proofs.lemmas.Bool.{eqb-true, eq-eqb}
@@ -11,7 +11,6 @@ use Rattle.norm_base.specs.declared.node.Origin.{Origin}
 use Rattle.norm_order.specs.declared.up.Up.{Up}
 use Rattle.norm_receive_rules.specs.ReceiverState.{ReceiverState}
 use Rattle.norm_receive_rules.specs.Taking.{took}
-use Rattle.norm_script.specs.declared.script.Line.{Line}
 use Rattle.norm_script.specs.declared.script.Verb.{Verb}
 use Rattle.norm_script.specs.declared.script.Verb.TheVariants as verb
 use Rattle.norm_send_rules.specs.declared.fault.SendFault.{SendFault}
@@ -20,18 +19,18 @@ use Rattle.norm_send_rules.specs.declared.job.Job.{Job}
 use Rattle.norm_send_rules.specs.declared.job.Job.TheVariants as job
 use Rattle.norm_send_rules.specs.declared.job.Receipt.{Receipt}
 use Rattle.norm_send_rules.specs.declared.news.News.{News}
-use Rattle.norm_safety.specs.Events.{Commanded, Ticked, UpTaken, Answer, Gave, Sent as Gives, Took, Told, Silent}
+use Rattle.norm_safety.specs.Events.{Commanded, Ticked, Answer, Gave, Sent as Gives, Took, Silent}
 use Rattle.norm_safety.specs.Lawful.{AllTaken}
 use Rattle.norm_safety.specs.World.{World, receiver_at}
 use Rattle.norm_safety.specs.WorldStep.{of_receiver}
 use Rattle.norm_journal.specs.declared.event.Event.{Event}
 use Rattle.norm_journal.specs.declared.event.Event.TheVariants as event
-use Rattle.norm_journal.specs.Follows.{Follows, IsJobOf, OfferedFirst, OfferedAgain, SendersTick, ReceiversTick, TurnBegins, CommandOffered, NodeTicks, HandedUp, IsQuiet, sent_of}
+use Rattle.norm_journal.specs.Follows.{Follows, IsJobOf, OfferedFirst, OfferedAgain, SendersTick, ReceiversTick, TurnBegins, IsQuiet, sent_of}
 use Rattle.norm_journal.specs.Free.{IsFile, IsFree, OnlyTheseAreFree}
 use Rattle.norm_journal.specs.InWorld.{answer_to}
 use Rattle.norm_journal.specs.Jobs.{Told as Files}
 use Rattle.norm_journal.specs.Judged.{Judged, is_done, news_due}
-use Rattle.norm_journal.specs.Places.{Place, Starting, Between, Pulling, Giving, Again, Sending, Offering, Taking, Handing, Over, Waiting}
+use Rattle.norm_journal.specs.Places.{Place, Starting, Between, Pulling, Giving, Again, Sending, Offering, Taking, Handing, Over}
 use Rattle.norm_journal.specs.Pulling.{origin_of}
 
 -- what was said to be given, and whether a datagram was
@@ -148,14 +147,14 @@ job_decided j by told gave other quiet gives (inl f) =
     let at_due = quiet_due j (Giving f.line) quiet f.place in
     subst (λ t. IsDecided j (event.Job by t gave)) (sym f.told_is)
     (either (job_is j.files f.line.verb other f.its_job)
-      (λ e. at_due ∙ ap (option_map (λ (job : Job). offer_of j (origin_of f.line) (Some job) job)) e
-        ∙ ap Some (offer_is j by (origin_of f.line) (Some other) other gave f.named gives))
-      (λ e. (at_due ∙ ap (option_map (λ (job : Job). offer_of j (origin_of f.line) (Some job) job)) e.0, e.1)))
+    (λ e. at_due ∙ ap (option_map (λ (job : Job). offer_of j (origin_of f.line) (Some job) job)) e
+    ∙ ap Some (offer_is j by (origin_of f.line) (Some other) other gave f.named gives))
+    (λ e. (at_due ∙ ap (option_map (λ (job : Job). offer_of j (origin_of f.line) (Some job) job)) e.0, e.1)))
 job_decided j by told gave other quiet gives (inr a) =
     subst (λ t. IsDecided j (event.Job by t gave)) (sym a.told_is)
     (inl (quiet_due j (Again a.command) quiet a.place
-      ∙ ap (λ job. Some (offer_of j a.command.by None job)) a.its_job
-      ∙ ap Some (offer_is j by a.command.by None other gave a.named gives)))
+    ∙ ap (λ job. Some (offer_of j a.command.by None job)) a.its_job
+    ∙ ap Some (offer_is j by a.command.by None other gave a.named gives)))
 
 tick_is : (j : Judged) (node : ℕ) (said : Sent) (datagram : Option (List ℕ)) → answer_to (Ticked node j.now) j ≡ Gives datagram → said ≡ sent_of datagram
     → tick_due j node ≡ event.Tick node said
