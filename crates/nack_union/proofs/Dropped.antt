@@ -86,7 +86,7 @@ front w (z ∷ zs) all = go (want_before w z) all.0
     go false e = absurd (cc)
 
 -- where w is put in front of a rising list, it is before all of it
-first_of : (w y : Want) (ys : List Want) → want_before w y ≡ true → Rise (y ∷ ys) → Each (want_before w) (y ∷ ys)
+pub first_of : (w y : Want) (ys : List Want) → want_before w y ≡ true → Rise (y ∷ ys) → Each (want_before w) (y ∷ ys)
 unfolding with_member
 first_of w y ys e rise = go (want_before w y) e (rise_more (w ∷ []) (y ∷ ys) rise)
   where

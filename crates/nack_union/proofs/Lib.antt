@@ -4,3 +4,4 @@ pub mod Counting
 pub mod Orders
 pub mod Dropped
 pub mod Standing
+pub mod Unions

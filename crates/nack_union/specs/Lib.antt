@@ -4,3 +4,4 @@ pub mod Slots
 pub mod Kept
 pub mod Sound
 pub mod SoundUnion
+pub mod Laws

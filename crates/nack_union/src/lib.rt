@@ -2,6 +2,7 @@
 //! and leave the window and which symbols it sent, and takes the lowest want out of it. A [`Mask`] is the set that it keeps them in.
 #![tactic(auto)]
 
+pub mod laws;
 mod marks;
 mod mask;
 mod union;
