@@ -1,3 +1,4 @@
 pub mod HeldLemmas
 pub mod SolveLemmas
 pub mod LawLemmas
+pub mod OfferLemmas

@@ -1,19 +1,24 @@
 //! The symbols of one block.
 
-ghost use Rattle.std.specs.Prelude.{ℕ, ◌≡◌, ◌==◌, ◌<◌, ◌≤◌, ◌-◌, ◌+◌, ◌++◌, ◌*◌, IfOk, length, vec_capacity, false};
+ghost use Rattle.std.specs.Prelude.{ℕ, ◌≡◌, ◌==◌, ◌<◌, ◌≤◌, ◌-◌, ◌+◌, ◌++◌, ◌*◌, IfOk, length, vec_capacity, true, false, is_some, IsTrue};
 ghost use Rattle.std.specs.List.{list_any};
+ghost use Rattle.fec_plan.specs.Partition.{coded_octets};
 ghost use Rattle.norm_receive_rules.specs.ReceiverState.{Held};
 ghost use Rattle.rx_hold.specs.BlockState.{empty_block, with_held};
 ghost use Rattle.rx_hold.specs.Padding.{padded};
+ghost use Rattle.rx_hold.specs.Offering.{is_payload, offered, HasWord, GoesOn};
 ghost use Rattle.rx_hold.specs.Solving.{sources_row};
 
+use fec_plan::Plan;
 use norm_base::Memory;
+use norm_receive_rules::Put;
 use rs_block::Solver;
 use std::alloc::Global;
 use std::marker::Model;
 
-/// The symbols that are held of one block. It is made with room for as many as the block has source symbols, so that
-/// putting takes no memory. Ask `holds` and `lacking` before `put`; where nothing is lacking, `solve`.
+/// The symbols that are held of one block. It is made with room for as many as the block has source symbols, so that no
+/// later call takes memory. Symbols of data and files come by `offer`; for others ask `holds` and `lacking`, and then
+/// `put`. Where nothing is lacking, `solve`.
 #[derive(Debug, Drop)]
 pub struct Block {
     index: u32,
@@ -47,6 +52,16 @@ fn push_padded(row: &mut Vec<u8>, size: usize, payload: &[u8])
     let whole = row.len() + size;
     row.extend_from_slice(payload).unwrap();
     row.resize(whole, 0).unwrap();
+}
+
+/// Whether a payload is that of an encoded symbol of an object.
+fn is_payload(plan: &Plan, block: u32, symbol: u8, payload: &[u8]) -> bool
+    ensures exact { result ≡ is_payload plan.now block symbol payload.now }
+    ensures id { IsTrue result → symbol < 255 }
+{
+    block < plan.blocks()
+        && symbol < plan.encoded_len(block)
+        && payload.len() == usize::from(plan.symbol_octets(block, symbol))
 }
 
 impl Block {
@@ -116,5 +131,37 @@ impl Block {
         ensures same { solver.new ≡ solver.old }
     {
         solver.solve(&self.ids, &self.symbols, out);
+    }
+
+    /// The block's number in its object.
+    pub fn number(&self) -> u32
+        ensures { result ≡ self.now.block }
+    {
+        self.block
+    }
+
+    /// A symbol of the block comes, of an object with this plan that is neither handed up nor lost: it is kept where it is
+    /// news. It takes no memory.
+    ///
+    /// `Had` where it is held or nothing is lacking, `Unfit` where it is no encoded symbol of the object or the payload has
+    /// not its length, and else `Kept`: the first that applies.
+    pub fn offer(&mut self, plan: &Plan, symbol: u8, payload: &[u8]) -> Put
+        requires object { is_some plan.now.l ≡ true }
+        requires size { self.old.size ≡ coded_octets plan.now }
+        ensures word { HasWord self.old plan.now symbol payload.now result }
+        ensures state { self.new ≡ offered result symbol payload.now self.old }
+        ensures stands { GoesOn self.old symbol payload.now result self.new }
+    {
+        if self.holds(symbol) {
+            return Put::Had;
+        }
+        if self.lacking() == 0 {
+            return Put::Had;
+        }
+        if !is_payload(plan, self.number(), symbol, payload) {
+            return Put::Unfit;
+        }
+        self.put(symbol, payload);
+        Put::Kept
     }
 }

@@ -1,8 +1,11 @@
 //! Blocks whose symbols are known from outside, in every order in which they can come.
 
-ghost use Rattle.std.specs.Prelude.{◌≡◌};
+ghost use Rattle.std.specs.Prelude.{◌≡◌, is_some, true};
+ghost use Rattle.fec_plan.specs.Partition.{coded_octets};
 
 use super::*;
+use fec_plan::Plan;
+use norm_receive_rules::Put;
 use rs_block::Solver;
 use std::alloc::Global;
 use std::process::Abort;
@@ -54,6 +57,47 @@ fn any_three_of_five_symbols_give_the_sources_in_any_order(rt: HostRuntime) -> R
                 "{first} {second} {third}"
             );
         }
+    }
+    Ok(())
+}
+
+/// What becomes of each payload of so many octets that comes as the symbol, one after the other, to the last block of an
+/// object of 130 octets: it has one source symbol of 2 octets, and one of parity of 64.
+const OFFERS: [(u8, usize, Put); 7] = [
+    (2, 64, Put::Unfit),
+    (0, 64, Put::Unfit),
+    (1, 2, Put::Unfit),
+    (255, 64, Put::Unfit),
+    (0, 2, Put::Kept),
+    (0, 2, Put::Had),
+    (1, 64, Put::Had),
+];
+
+/// Offers a payload of so many octets, and sees which word it gets.
+fn expect_word(
+    rt: &impl Abort,
+    block: &mut Block,
+    plan: &Plan,
+    symbol: u8,
+    octets: usize,
+    word: Put,
+)
+    requires object { is_some plan.now.l ≡ true }
+    requires size { block.old.size ≡ coded_octets plan.now }
+    ensures { block.new.size ≡ block.old.size }
+{
+    assert!(rt; octets <= 64);
+    let payload = [7; 64];
+    let given = block.offer(plan, symbol, &payload[..octets]);
+    assert_eq!(rt; given, word, "{octets} octets as symbol {symbol}");
+}
+
+#[test]
+fn offers_get_their_words(rt: HostRuntime) -> Result<(), Fail> {
+    let plan = Plan::of(130, 64, 2, 4)?;
+    let mut block = Block::new(rt.alloc(), 0, 1, 1, 64)?;
+    for (symbol, octets, word) in OFFERS {
+        expect_word(&rt, &mut block, &plan, symbol, octets, word);
     }
     Ok(())
 }
