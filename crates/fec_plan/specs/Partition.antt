@@ -1,5 +1,5 @@
 -- How an object is cut into blocks of symbols (RFC 5052 section 9.1), and the blocks of a stream.
-use Rattle.std.specs.Prelude.{ℕ, ◌+◌, ◌-◌, ◌*◌, ◌/◌, ◌<◌, ◌≤◌, ◌==◌, Bool, ◌||◌, nat_lt, min, true, false, Option, None, Some, if◌then◌else◌}
+use Rattle.std.specs.Prelude.{ℕ, ◌+◌, ◌-◌, ◌*◌, ◌/◌, ◌<◌, ◌≤◌, ◌==◌, Bool, ◌||◌, nat_lt, min, false, Option, None, Some, if◌then◌else◌}
 use Rattle.std.specs.Int.{div_ceil}
 use Rattle.fec_plan.specs.declared.plan.PlanFault.{PlanFault}
 use Rattle.fec_plan.specs.declared.plan.PlanFault.TheVariants.{ZeroLength, BadSymbol, BadBlock, BadMaxN, TooManyBlocks}

@@ -1,4 +1,3 @@
-use Rattle.std.proofs.Common.{arith}
 use Rattle.fec_plan.proofs.CutLemmas.{large_most}
 use Rattle.fec_plan.proofs.plan.large_size.Goals as goal
 

@@ -1,9 +1,9 @@
-use Rattle.std.proofs.Common.{◌≡◌, ◌+◌, ◌-◌, ◌<◌, ◌≤◌, ap, sym, subst, ◌∙◌, arith, ℕ, length}
+use Rattle.std.proofs.Common.{◌≡◌, ◌-◌, ap, sym, subst, ◌∙◌, arith}
 use Rattle.std.specs.Prelude.{Some, slice_get, nat_lt, slice_set}
 use Rattle.std.proofs.lemmas.List.{length-map, length-set}
 use Rattle.norm_order.specs.Sets.{with_member}
 use Rattle.tx_window.specs.Held.{HeldObject}
-use Rattle.tx_window.specs.Windowed.{Windowed, Stands, IsInWindow, window_object, window_view, IsPlaced}
+use Rattle.tx_window.specs.Windowed.{Windowed, Stands, IsInWindow, window_object}
 use Rattle.tx_window.proofs.NotingLemmas.{get_there, stands_noted, placed_noted}
 use Rattle.tx_window.proofs.window.Window.note_info.Goals as goal
 
