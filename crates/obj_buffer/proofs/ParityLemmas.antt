@@ -1,13 +1,12 @@
 -- The symbols of an object whose octets are padded with zeros.
-use Rattle.std.proofs.Common.{◌≡◌, ℕ, zero, suc, ◌+◌, ◌-◌, ◌*◌, ◌/◌, ◌%◌, ◌<◌, ◌≤◌, ◌⊎◌, inl, inr, Bool, true, false, refl, sym, ap, ◌∙◌, subst, arith, Option, List, [], ◌∷◌, ◌++◌, length, length-append, take, drop, map, replicate, get_or}
+use Rattle.std.proofs.Common.{◌≡◌, ℕ, zero, suc, ◌+◌, ◌-◌, ◌*◌, ◌%◌, ◌<◌, ◌≤◌, ◌⊎◌, inl, inr, Bool, true, false, refl, sym, ap, ◌∙◌, subst, arith, Option, List, [], ◌∷◌, ◌++◌, length, length-append, take, drop, map, replicate, get_or}
 use Rattle.std.specs.Prelude.{nat_lt, min, if◌then◌else◌, bit_xor}
 use Rattle.std.specs.Int.Bits.{xor_zero_l, xor_zero_r}
 use Rattle.std.specs.List.{AllByRecursion, concat, range_with_len}
 use Rattle.std.proofs.Math.Seq.{take-add}
 use Rattle.std.proofs.Math.Nat.{zero-mul, suc-mul, mul-le-mul_right}
-use Rattle.std.proofs.lemmas.Nat.{div-add-mod'}
 use Rattle.std.proofs.lemmas.Bool.{cases_lt, lt-ltb, le-ltb}
-use Rattle.std.proofs.lemmas.List.{drop-append-le, take-append-le, take_all, length-drop, length-take, length-take-le, length-map, length-replicate, get_or-take, get_or-drop, drop-drop, ext_get_or}
+use Rattle.std.proofs.lemmas.List.{drop-append-le, take-append-le, take_all, length-drop, length-take, length-map, length-replicate, get_or-take, get_or-drop, drop-drop, ext_get_or}
 use Rattle.std.proofs.lemmas.List.FromFn.{length-map-range_with_len}
 use Rattle.std.proofs.lemmas.Grind.{div_ceil_times}
 use Rattle.norm_base.specs.Settings.{Settings}
@@ -17,13 +16,13 @@ use Rattle.gf_field.specs.Octet.{AreOctets}
 use Rattle.gf_field.specs.Product.{sum_at_bits, shifts}
 use Rattle.gf_field.specs.Power.{power, powers}
 use Rattle.gf_field.specs.Interpolation.{coefficient}
-use Rattle.gf_field.specs.Symbol.{AreSymbols, scaled_onto, weighted_symbols, symbol_at, encoded_symbol}
+use Rattle.gf_field.specs.Symbol.{scaled_onto, weighted_symbols, symbol_at, encoded_symbol}
 use Rattle.rs_block.specs.Codeword.{IsSymbol}
 use Rattle.rs_block.proofs.Functions.{function_laws}
 use Rattle.norm_order.specs.Entries.{Whole}
-use Rattle.norm_order.specs.Symbols.{source_octets, block_sources, symbol_octets}
+use Rattle.norm_order.specs.Symbols.{symbol_octets}
 use Rattle.obj_buffer.specs.Pieces.{padded, HoldsObject}
-use Rattle.obj_buffer.proofs.PartitionLemmas.{sources_fit, sources_within, number_from_first, octets_within}
+use Rattle.obj_buffer.proofs.PartitionLemmas.{sources_fit, sources_within, octets_within}
 
 -- ---- zeros behind a list
 
@@ -57,8 +56,12 @@ filled_piece e o m octets room =
     ∙ sym (get_or-take e (drop o (octets ++ replicate m 0)) i 0 within ∙ get_or-drop o (octets ++ replicate m 0) i 0 ∙ get_or-padded octets m (o + i)))
   where
     long : length (filled e (take e (drop o octets))) ≡ e
-    long = omega (arith, length-append (take e (drop o octets)) (replicate (e - length (take e (drop o octets))) 0),
-        length-replicate {A = ℕ} (e - length (take e (drop o octets))) 0, length-take e (drop o octets))
+    long = omega (
+      arith,
+      length-append (take e (drop o octets)) (replicate (e - length (take e (drop o octets))) 0),
+      length-replicate {A = ℕ} (e - length (take e (drop o octets))) 0,
+      length-take e (drop o octets),
+    )
 
     same : length (take e (drop o (octets ++ replicate m 0))) ≡ e
     same = omega (arith, length-take e (drop o (octets ++ replicate m 0)), length-drop o (octets ++ replicate m 0))
@@ -194,8 +197,12 @@ refused false x y e = refl
 -- how many octets the padded ones are
 pub length-padded : (e : ℕ) (octets : List ℕ) → 0 < e → length (padded e octets) ≡ symbols_in (length octets) e * e
 length-padded e octets some =
-    omega (arith, length-append octets (replicate (symbols_in (length octets) e * e - length octets) 0),
-        length-replicate {A = ℕ} (symbols_in (length octets) e * e - length octets) 0, (div_ceil_times (length octets) e some).0)
+    omega (
+      arith,
+      length-append octets (replicate (symbols_in (length octets) e * e - length octets) 0),
+      length-replicate {A = ℕ} (symbols_in (length octets) e * e - length octets) 0,
+      (div_ceil_times (length octets) e some).0,
+    )
 
 short_piece : (e s m : ℕ) (octets : List ℕ) → s ≤ length octets
     → take (min e (length octets - s)) (drop s (octets ++ replicate m 0)) ≡ take e (drop s octets)

@@ -63,10 +63,10 @@ impl ObjectBuf {
         requires some { 1 ≤ length bytes.items }
         requires most { length bytes.items ≤ 16777216 }
         ensures { IfOk result (λ buffer. buffer ≡ record {
-            cut = cut_of (length bytes.items) profile.now.e profile.now.b profile.now.max_n;
-            kind = kind;
-            info = option_map (λ v. v.items) info;
-            octets = bytes.items;
+          cut = cut_of (length bytes.items) profile.now.e profile.now.b profile.now.max_n;
+          kind = kind;
+          info = option_map (λ v. v.items) info;
+          octets = bytes.items;
         }) }
     {
         let len = bytes.len() as u64;

@@ -5,17 +5,13 @@
 //! pieces, as in a ring; [`ObjectBuf`] keeps one object with its codes, and calls it for each symbol.
 #![tactic(auto)]
 
-
 mod buffer;
 mod codes;
 mod symbol;
 
-
-
 pub use crate::buffer::ObjectBuf;
 pub use crate::codes::Codes;
 pub use crate::symbol::symbol_of;
-
 
 #[cfg(test)]
 mod tests;

@@ -18,12 +18,7 @@ use rs_block::Code;
 const MOST_SYMBOL: usize = 1400;
 
 /// `len` octets from octet `start` on of two pieces in a row: those of the front, and those of the back.
-fn range_of<'a>(
-    front: &'a [u8],
-    back: &'a [u8],
-    start: usize,
-    len: usize,
-) -> (&'a [u8], &'a [u8])
+fn range_of<'a>(front: &'a [u8], back: &'a [u8], start: usize, len: usize) -> (&'a [u8], &'a [u8])
     requires { start + len ≤ length front.now + length back.now }
     ensures octets { result.0.now ++ result.1.now ≡ take len (drop start (front.now ++ back.now)) }
     ensures front_len { length result.0.now ≡ min len (length front.now - start) }
@@ -39,23 +34,14 @@ fn range_of<'a>(
 }
 
 /// Adds a source symbol at its own length.
-fn push_source(
-    plan: &Plan,
-    front: &[u8],
-    back: &[u8],
-    block: u32,
-    symbol: u8,
-    out: &mut Datagram,
-)
+fn push_source(plan: &Plan, front: &[u8], back: &[u8], block: u32, symbol: u8, out: &mut Datagram)
     requires object { IsSome plan.now.l }
     requires block { block < blocks plan.now }
     requires symbol { symbol < source_symbols plan.now block }
     requires pieces { length front.now + length back.now ≡ all_symbols plan.now * plan.now.e }
     requires room { length out.old + plan.now.e ≤ 1500 }
-    ensures {
-        let start = symbol_number plan.now block symbol * plan.now.e in
-        out.new ≡ out.old ++ take (sent_octets plan.now block symbol) (drop start (front.now ++ back.now))
-    }
+    ensures { let start = symbol_number plan.now block symbol * plan.now.e in
+        out.new ≡ out.old ++ take (sent_octets plan.now block symbol) (drop start (front.now ++ back.now)) }
 {
     let start = plan.symbol_number(block, symbol) as usize * usize::from(plan.e());
     let len = usize::from(plan.symbol_octets(block, symbol));
@@ -82,11 +68,9 @@ fn push_parity(
     requires pieces { length front.now + length back.now ≡ all_symbols plan.now * plan.now.e }
     requires whole { length front.now % plan.now.e ≡ 0 }
     requires room { length out.old + plan.now.e ≤ 1500 }
-    ensures {
-        let e = plan.now.e in
+    ensures { let e = plan.now.e in
         let sources = take (code.now.k * e) (drop (symbol_number plan.now block 0 * e) (front.now ++ back.now)) in
-        AppendsSymbol code.now e sources symbol out.old out.new
-    }
+        AppendsSymbol code.now e sources symbol out.old out.new }
 {
     let e = usize::from(plan.e());
     let start = plan.symbol_number(block, 0) as usize * e;

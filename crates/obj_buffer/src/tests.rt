@@ -106,12 +106,7 @@ fn parity_goes_on_with_the_powers(rt: HostRuntime) -> Result<(), Fail> {
 }
 
 /// A symbol of the powers, which lie in two pieces: so many symbols in the front, and the others.
-fn symbol_cut_at(
-    rt: &impl Abort,
-    alloc: Global,
-    cut: usize,
-    symbol: u8,
-) -> Result<Datagram, Fail> {
+fn symbol_cut_at(rt: &impl Abort, alloc: Global, cut: usize, symbol: u8) -> Result<Datagram, Fail> {
     let plan = Plan::of(256, 64, 4, 6)?;
     let codes = Codes::of(alloc, &plan)?;
     let octets = powers(alloc)?;
@@ -134,7 +129,11 @@ fn two_pieces_give_the_symbols_of_one(rt: HostRuntime) -> Result<(), Fail> {
         (4, 4, 16),
     ] {
         let out = symbol_cut_at(&rt, rt.alloc(), cut, symbol)?;
-        assert_eq!(rt; out.bytes(), [octet; 64].as_slice(), "symbol {symbol} cut at {cut}");
+        assert_eq!(rt;
+            out.bytes(),
+            [octet; 64].as_slice(),
+            "symbol {symbol} cut at {cut}"
+        );
     }
     Ok(())
 }

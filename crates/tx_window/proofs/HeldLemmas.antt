@@ -1,6 +1,6 @@
 -- The symbols of an object that lies in a ring.
 use Rattle.std.proofs.Common.{◌≡◌, ℕ, ◌+◌, ◌-◌, ◌*◌, ◌/◌, ◌%◌, ◌<◌, ◌≤◌, ◌++◌, ◌==◌, Bool, true, false, refl, sym, ap, ◌∙◌, subst, arith, Option, Some, None, List, length, length-append, take, drop, eq-eqb, ◌⊎◌, inl, inr}
-use Rattle.std.specs.Prelude.{nat_lt, min, if◌then◌else◌, IsSome}
+use Rattle.std.specs.Prelude.{nat_lt, min, if◌then◌else◌}
 use Rattle.std.specs.Int.{div_ceil}
 use Rattle.std.proofs.Math.Nat.{mul-le-mul_right}
 use Rattle.std.proofs.lemmas.Nat.{div-add-mod'}
@@ -8,14 +8,14 @@ use Rattle.std.proofs.lemmas.Bool.{cases_lt, lt-ltb, le-ltb, ne_eqb}
 use Rattle.std.proofs.lemmas.List.{length-take, length-drop}
 use Rattle.norm_base.specs.Settings.{Settings}
 use Rattle.norm_base.specs.declared.kinds.Kind.{Kind}
-use Rattle.fec_plan.specs.Partition.{Cut, cut_of, IsSound, symbols_in, blocks_in, larger_blocks, symbols_before, blocks, source_symbols, encoding_symbols, all_symbols, symbol_number, sent_octets}
+use Rattle.fec_plan.specs.Partition.{Cut, cut_of, IsSound, symbols_in, blocks_in, symbols_before, blocks, source_symbols, encoding_symbols, all_symbols, symbol_number, sent_octets}
 use Rattle.fec_plan.proofs.CutLemmas.{some_blocks}
 use Rattle.gf_field.proofs.Symbols.{length-encoded_symbol}
 use Rattle.norm_order.specs.Entries.{Whole}
 use Rattle.norm_order.specs.Shapes.{shape_of, encoded_in, closed_in}
 use Rattle.norm_order.specs.Symbols.{symbol_octets, block_sources}
 use Rattle.obj_buffer.specs.Pieces.{HoldsObject}
-use Rattle.obj_buffer.proofs.PartitionLemmas.{some_sources, sources_within, number_from_first}
+use Rattle.obj_buffer.proofs.PartitionLemmas.{some_sources, sources_within}
 use Rattle.obj_buffer.proofs.PieceLemmas.{whole_part}
 use Rattle.tx_window.specs.Held.{AnswersSymbol}
 use Rattle.tx_window.specs.Round.{round}
@@ -74,8 +74,11 @@ pub encoded_none : (p : Settings) (kind : Kind) (info : Option (List ℕ)) (octe
 encoded_none p kind info octets block sound past =
     let c : Cut = cut_of (length octets) p.e p.b p.max_n in
     let before : symbols_in (length octets) p.e ≤ symbol_number c block 0 =
-    omega (arith, all_before (symbols_in (length octets) p.e) (blocks_in (symbols_in (length octets) p.e) p.b) block
-        (some_blocks (symbols_in (length octets) p.e) p.b sound.some sound.least_b) past) in
+    omega (
+      arith,
+      all_before (symbols_in (length octets) p.e) (blocks_in (symbols_in (length octets) p.e) p.b) block
+          (some_blocks (symbols_in (length octets) p.e) p.b sound.some sound.least_b) past,
+    ) in
     let closed : closed_in (shape_of p (Whole kind info octets)) block ≡ 0 = none (source_symbols c block) (all_symbols c) (symbol_number c block 0) before in
     let some = some_sources c block sound in
     refused (closed_in (shape_of p (Whole kind info octets)) block == source_symbols c block) _ _
@@ -123,8 +126,7 @@ pub answer_some : (c : Cut) (pieces : List ℕ) (p : Settings) (kind : Kind) (in
     → new ≡ old ++ symbol_octets p (Whole kind info octets) block symbol → n ≡ sent_octets c block symbol
     → AnswersSymbol p (Whole kind info octets) block symbol old new (Some n)
 answer_some c pieces p kind info octets old new block symbol n holds sound there encoded is n-is =
-    let all = encoded_is p kind info octets block (subst IsSound holds.cut sound) (subst (λ (k : Cut). block < blocks k) holds.cut there) in
-    (
+    let all = encoded_is p kind info octets block (subst IsSound holds.cut sound) (subst (λ (k : Cut). block < blocks k) holds.cut there) in (
       ap (nat_lt symbol) all ∙ lt-ltb symbol (encoding_symbols (cut_of (length octets) p.e p.b p.max_n) block) (subst (λ (k : Cut). symbol < encoding_symbols k block) holds.cut encoded),
       is,
       n-is ∙ ap (λ (k : Cut). sent_octets k block symbol) holds.cut ∙ sym (length_of_symbol p kind info octets block symbol),

@@ -1,3 +1,4 @@
 pub mod RoundLemmas
 pub mod HeldLemmas
 pub mod WindowLemmas
+pub mod NotingLemmas

@@ -95,8 +95,13 @@ over old start piece = take start old ++ piece ++ drop (start + length piece) ol
 
 length-over : (old piece : List ℕ) (start : ℕ) → start + length piece ≤ length old → length (over old start piece) ≡ length old
 length-over old piece start le =
-    omega (arith, length-append (take start old ++ piece) (drop (start + length piece) old), length-append (take start old) piece,
-        length-take start old, length-drop (start + length piece) old)
+    omega (
+      arith,
+      length-append (take start old ++ piece) (drop (start + length piece) old),
+      length-append (take start old) piece,
+      length-take start old,
+      length-drop (start + length piece) old,
+    )
 
 front_long : (old piece : List ℕ) (start : ℕ) → start ≤ length old → length (take start old ++ piece) ≡ start + length piece
 front_long old piece start le = omega (arith, length-append (take start old) piece, length-take start old)

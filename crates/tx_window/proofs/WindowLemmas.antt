@@ -1,5 +1,5 @@
 -- What a window knows of the states that it stands for.
-use Rattle.std.proofs.Common.{◌≡◌, ℕ, zero, suc, ◌+◌, ◌-◌, ◌<◌, ◌≤◌, ◌⊎◌, inl, inr, Bool, true, false, refl, sym, ap, ◌∙◌, subst, arith, Option, Some, None, List, [], ◌∷◌, take, drop, map, length, length-append}
+use Rattle.std.proofs.Common.{◌≡◌, ℕ, zero, suc, ◌+◌, ◌-◌, ◌<◌, ◌≤◌, ◌⊎◌, inl, inr, Bool, true, false, refl, sym, ap, ◌∙◌, subst, arith, Option, Some, None, List, [], ◌∷◌, drop, map, length, length-append}
 use Rattle.std.specs.Prelude.{nat_lt, not, slice_get, option_map, MatchOption}
 use Rattle.std.proofs.lemmas.Bool.{cases_lt, lt-ltb, le-ltb}
 use Rattle.std.proofs.lemmas.Option.{slice_get-map}
@@ -7,7 +7,7 @@ use Rattle.fec_plan.specs.Points.{Point}
 use Rattle.fec_plan.specs.declared.position.Position.{Position}
 use Rattle.norm_base.specs.Settings.{Settings}
 use Rattle.norm_order.specs.Shapes.{last_from}
-use Rattle.norm_order.specs.Entries.{Object, Whole, Entry}
+use Rattle.norm_order.specs.Entries.{Object, Entry}
 use Rattle.norm_send_rules.specs.SenderState.{SenderState, sender_opening}
 use Rattle.std.specs.List.{list_all}
 use Rattle.norm_base.specs.Members.{receivers_of}

@@ -1,8 +1,8 @@
 -- What a window is asked, in the words of the sender's rules.
-use Rattle.std.specs.Prelude.{ℕ, ◌≡◌, List, Bool, true, false, Option, None, Some, MatchOption, slice_get, nat_lt, ◌-◌}
+use Rattle.std.specs.Prelude.{ℕ, ◌≡◌, List, true, false, Option, None, Some, MatchOption, slice_get, nat_lt, ◌-◌}
 use Rattle.norm_base.specs.Settings.{Settings}
 use Rattle.fec_plan.specs.declared.position.Position.{Position}
-use Rattle.norm_order.specs.Entries.{Object, Whole, Stream, Entry}
+use Rattle.norm_order.specs.Entries.{Object, Whole, Stream}
 use Rattle.norm_send_rules.specs.SenderState.{SenderState}
 use Rattle.norm_send_rules.specs.InWindow.{stands_behind}
 use Rattle.norm_send_rules.specs.declared.want.Want.TheVariants.{Info}

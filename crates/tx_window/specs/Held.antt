@@ -3,10 +3,9 @@ use Rattle.std.specs.Prelude.{ℕ, ◌≡◌, ◌*◌, ◌<◌, ◌≤◌, ◌%�
 use Rattle.norm_base.specs.Settings.{Settings}
 use Rattle.norm_base.specs.declared.kinds.Kind.{Kind}
 use Rattle.fec_plan.specs.Partition.{Cut, all_symbols, source_symbols, symbol_number}
-use Rattle.norm_order.specs.Entries.{Object, Whole}
+use Rattle.norm_order.specs.Entries.{Object}
 use Rattle.norm_order.specs.Shapes.{shape_of, encoded_in}
 use Rattle.norm_order.specs.Symbols.{symbol_octets}
-use Rattle.obj_buffer.specs.Pieces.{HoldsObject}
 use Rattle.tx_window.specs.Round.{round}
 
 -- how an object is cut, its kind and info, its first octet's place in the ring, which source symbols were sent, and

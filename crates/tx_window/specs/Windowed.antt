@@ -34,6 +34,11 @@ pub record Windowed : Type 0 where
 abbrev pub empty_window : Settings → Windowed
 empty_window p = record { p = p; dropped = 0; objects = []; last = None; past = None }
 
+-- an object with this index was enqueued and not dropped
+pub record IsInWindow (w : Windowed) (index : ℕ) : Type 0 where
+  pub behind : w.dropped ≤ index
+  pub before : index < w.dropped + length w.objects
+
 -- there is such a position, and it is at this one or behind it
 abbrev pub reached_by : Option Position → Position → Bool
 reached_by None at = Rattle.std.specs.Prelude.false

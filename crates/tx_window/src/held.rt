@@ -38,12 +38,12 @@ impl Model for Held {
     ghost Value = { HeldObject };
 
     ghost view = { λ h. record {
-        cut = h.plan;
-        kind = h.kind;
-        info = h.info;
-        start = h.start;
-        sent = h.sent.items;
-        info_sent = h.info_sent;
+      cut = h.plan;
+      kind = h.kind;
+      info = h.info;
+      start = h.start;
+      sent = h.sent.items;
+      info_sent = h.info_sent;
     } };
 
     ghost invariant = { λ h. (h.codes ≡ h.plan) × (vec_len h.sent ≡ all_symbols h.plan) };

@@ -1,10 +1,11 @@
 //! The objects that a sender may still repair, in the order of their indexes.
 
-ghost use Rattle.std.specs.Prelude.{ℕ, ◌≡◌, ◌+◌, ◌-◌, ◌<◌, ◌≤◌, [], IfOk, MatchOption, None, Some, length, option_copied, slice_get};
+ghost use Rattle.std.specs.Prelude.{ℕ, ◌≡◌, ◌+◌, ◌-◌, ◌<◌, ◌≤◌, [], IfOk, MatchOption, None, Some, length, option_copied, slice_get, nat_lt};
+ghost use Rattle.norm_order.specs.Sets.{with_member};
 ghost use Rattle.norm_send_rules.specs.SenderState.{SenderState, sender_opening};
 ghost use Rattle.norm_send_rules.specs.InWindow.{current_shapes, next_index as next_index_of};
 ghost use Rattle.norm_order.specs.Shapes.{last_source};
-ghost use Rattle.tx_window.specs.Windowed.{Stands, empty_window};
+ghost use Rattle.tx_window.specs.Windowed.{Stands, empty_window, IsInWindow};
 ghost use Rattle.tx_window.specs.Asked.{from_first, info_at, AnswersAt};
 
 use crate::held::Held;
@@ -114,6 +115,15 @@ impl Window {
             return None;
         };
         held.info()
+    }
+
+    /// Marks the info of an object of the window as sent.
+    pub fn note_info(&mut self, index: u32)
+        requires { IsInWindow self.old index }
+        ensures { (s : SenderState) → Stands self.old s → Stands self.new (record s { sent_infos = with_member nat_lt index s.sent_infos }) }
+    {
+        let place = (index - self.dropped) as usize;
+        self.held[place].note_info();
     }
 
     /// The least position that all receivers are listed past, as it is now.

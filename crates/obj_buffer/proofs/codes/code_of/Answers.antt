@@ -1,4 +1,4 @@
-use Rattle.std.proofs.Common.{◌∙◌, ap, sym, subst, ◌≤◌, ◌≡◌, ℕ}
+use Rattle.std.proofs.Common.{sym, subst, ◌≤◌}
 use Rattle.obj_buffer.proofs.PartitionLemmas.{some_sources, sources_fit}
 use Rattle.obj_buffer.proofs.codes.code_of.Goals as goal
 

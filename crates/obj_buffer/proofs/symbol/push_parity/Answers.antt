@@ -1,5 +1,4 @@
-use Rattle.std.proofs.Common.{◌≡◌, ◌+◌, ◌-◌, ◌*◌, ◌%◌, ◌≤◌, ◌<◌, ap, sym, subst, ◌∙◌, arith, length, ℕ, List, take, drop, ◌++◌, rules}
-use Rattle.std.specs.Prelude.{min}
+use Rattle.std.proofs.Common.{◌≡◌, ◌*◌, ◌%◌, ◌≤◌, ◌<◌, ap, sym, subst, ◌∙◌, arith, length, ℕ, List, take, drop, ◌++◌, rules}
 use Rattle.fec_plan.specs.Partition.{symbol_number, source_symbols}
 use Rattle.rs_block.specs.Code.{CodeShape}
 use Rattle.rs_block.specs.Codeword.{IsSymbol}

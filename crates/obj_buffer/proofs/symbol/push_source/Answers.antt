@@ -1,4 +1,4 @@
-use Rattle.std.proofs.Common.{◌≡◌, ◌+◌, ◌*◌, ◌≤◌, ap, ◌∙◌, arith}
+use Rattle.std.proofs.Common.{◌*◌, ap, ◌∙◌, arith}
 use Rattle.obj_buffer.proofs.PartitionLemmas.{octets_within, sent_most}
 use Rattle.obj_buffer.proofs.symbol.push_source.Goals as goal
 

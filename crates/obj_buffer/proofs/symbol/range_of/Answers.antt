@@ -1,4 +1,4 @@
-use Rattle.std.proofs.Common.{◌≡◌, ◌+◌, ◌-◌, ◌++◌, ap, ◌∙◌, arith, List, length, take, drop}
+use Rattle.std.proofs.Common.{◌+◌, ◌-◌, ◌++◌, ap, ◌∙◌, arith, take, drop}
 use Rattle.obj_buffer.proofs.PieceLemmas.{range_is}
 use Rattle.obj_buffer.proofs.symbol.range_of.Goals as goal
 

@@ -1,9 +1,9 @@
-use Rattle.std.proofs.Common.{◌≡◌, ◌+◌, ◌*◌, ◌≤◌, ◌<◌, ap, sym, subst, ◌∙◌, arith, ℕ, List, take, drop, ◌++◌}
-use Rattle.fec_plan.specs.Partition.{Cut, IsSound, blocks, source_symbols, encoding_symbols, symbol_number}
+use Rattle.std.proofs.Common.{◌≡◌, ◌*◌, ◌≤◌, ap, subst, ◌∙◌, arith, take, drop, ◌++◌}
+use Rattle.fec_plan.specs.Partition.{Cut, symbol_number}
 use Rattle.rs_block.specs.Code.{CodeShape}
 use Rattle.rs_block.specs.Codeword.{IsSymbol}
 use Rattle.rs_block.proofs.Rows.{pieces_octets}
-use Rattle.obj_buffer.specs.Codes.{IsCodeOf, code_shape}
+use Rattle.obj_buffer.specs.Codes.{code_shape}
 use Rattle.obj_buffer.proofs.ParityLemmas.{source_appended, parity_appended}
 use Rattle.obj_buffer.proofs.symbol.symbol_of.Goals as goal
 

@@ -1,4 +1,4 @@
-use Rattle.std.proofs.Common.{◌≡◌, ◌+◌, ◌%◌, ap, ◌∙◌, arith, length}
+use Rattle.std.proofs.Common.{◌%◌, ap, ◌∙◌, arith, length}
 use Rattle.obj_buffer.proofs.PieceLemmas.{buffer_long, buffer_whole}
 use Rattle.obj_buffer.proofs.buffer.ObjectBuf.symbol.Goals as goal
 

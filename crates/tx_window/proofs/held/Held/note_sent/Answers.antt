@@ -1,6 +1,6 @@
-use Rattle.std.proofs.Common.{◌≡◌, ◌+◌, ◌<◌, ◌≤◌, ap, sym, subst, ◌∙◌, arith}
+use Rattle.std.proofs.Common.{◌<◌, ap, sym, subst, arith}
 use Rattle.std.specs.Prelude.{IsSome}
-use Rattle.fec_plan.specs.Partition.{Cut, blocks, all_symbols}
+use Rattle.fec_plan.specs.Partition.{Cut, blocks}
 use Rattle.obj_buffer.proofs.PartitionLemmas.{sources_within, number_from_first}
 use Rattle.tx_window.specs.Held.{HeldObject}
 use Rattle.tx_window.proofs.held.Held.note_sent.Goals as goal

@@ -1,16 +1,10 @@
-use Rattle.std.proofs.Common.{◌≡◌, ◌+◌, ◌-◌, ◌*◌, ◌/◌, ◌%◌, ◌<◌, ◌≤◌, ◌++◌, refl, ap, sym, subst, ◌∙◌, arith, List, ℕ, length, length-append}
-use Rattle.std.specs.Prelude.{Option, IsSome, None, Some}
-use Rattle.std.proofs.lemmas.Nat.{div-add-mod'}
-use Rattle.norm_base.specs.Settings.{Settings}
-use Rattle.norm_base.specs.declared.kinds.Kind.{Kind}
+use Rattle.std.proofs.Common.{◌*◌, ◌<◌, ◌≤◌, ◌++◌, refl, ap, sym, subst, ◌∙◌, arith, List, ℕ, length}
+use Rattle.std.specs.Prelude.{Some}
 use Rattle.fec_plan.specs.Partition.{Cut, IsSound, blocks, all_symbols, encoding_symbols}
 use Rattle.norm_order.specs.Entries.{Whole}
-use Rattle.norm_order.specs.Symbols.{symbol_octets}
 use Rattle.obj_buffer.specs.Pieces.{HoldsObject}
-use Rattle.obj_buffer.proofs.PieceLemmas.{whole_part}
 use Rattle.tx_window.specs.Held.{HeldObject, octets_in, LiesIn, AnswersSymbol}
 use Rattle.tx_window.specs.Round.{round}
-use Rattle.tx_window.proofs.RoundLemmas.{length-round}
 use Rattle.tx_window.proofs.HeldLemmas.{answer_past, answer_none, answer_some, pieces_long, front_whole}
 use Rattle.tx_window.proofs.held.Held.symbol.Goals as goal
 

@@ -1,4 +1,4 @@
-use Rattle.std.proofs.Common.{◌≡◌, ◌+◌, ◌-◌, ◌++◌, ap, ◌∙◌, arith, List, ℕ, length, take, drop}
+use Rattle.std.proofs.Common.{◌-◌, ◌++◌, ap, ◌∙◌, arith, List, ℕ, length, take, drop}
 use Rattle.obj_buffer.proofs.PieceLemmas.{range_is}
 use Rattle.tx_window.specs.Round.{round}
 use Rattle.tx_window.proofs.ring.Ring.pieces.Goals as goal

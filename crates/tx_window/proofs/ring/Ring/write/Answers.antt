@@ -1,4 +1,4 @@
-use Rattle.std.proofs.Common.{◌≡◌, ◌+◌, ◌-◌, ◌++◌, ap, sym, subst, ◌∙◌, arith, List, ℕ, length, take, drop}
+use Rattle.std.proofs.Common.{◌≡◌, ◌+◌, ◌++◌, ap, sym, subst, ◌∙◌, arith, List, ℕ, length, take, drop}
 use Rattle.tx_window.specs.Round.{round, IsClear}
 use Rattle.tx_window.proofs.RoundLemmas.{IsWritten, put_round, written_round, others_round, kept_back}
 use Rattle.tx_window.proofs.ring.Ring.write.Goals as goal

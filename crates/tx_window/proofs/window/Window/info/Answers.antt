@@ -1,4 +1,4 @@
-use Rattle.std.proofs.Common.{◌≡◌, ap, sym, subst, ◌∙◌, refl}
+use Rattle.std.proofs.Common.{sym, subst, ◌∙◌, refl}
 use Rattle.tx_window.specs.Windowed.{Windowed, Stands}
 use Rattle.tx_window.proofs.WindowLemmas.{kept_held, info_kept}
 use Rattle.tx_window.proofs.window.Window.info.Goals as goal

@@ -1,9 +1,9 @@
-use Rattle.std.proofs.Common.{◌≡◌, ◌≤◌, ap, sym, subst, ◌∙◌, List, map}
+use Rattle.std.proofs.Common.{◌≤◌, ap, sym, subst, ◌∙◌, List, map}
 use Rattle.std.specs.Prelude.{None}
 use Rattle.norm_base.specs.Settings.{Settings}
 use Rattle.norm_send_rules.specs.SenderState.{sender_opening}
 use Rattle.tx_window.specs.Held.{HeldObject}
-use Rattle.tx_window.specs.Windowed.{Windowed, WindowObject, Stands, window_object, empty_window}
+use Rattle.tx_window.specs.Windowed.{Windowed, WindowObject, Stands, window_object}
 use Rattle.tx_window.proofs.WindowLemmas.{begins}
 use Rattle.tx_window.proofs.window.Window.new.Goals as goal
 

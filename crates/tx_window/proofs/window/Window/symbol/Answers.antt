@@ -1,4 +1,4 @@
-use Rattle.std.proofs.Common.{◌≡◌, ◌+◌, ◌≤◌, ap, sym, subst, ◌∙◌, arith, refl, List, ℕ, take}
+use Rattle.std.proofs.Common.{◌≤◌, sym, subst, arith, refl, take}
 use Rattle.tx_window.specs.Held.{octets_in}
 use Rattle.tx_window.specs.Windowed.{Windowed, Stands, octets_of, object_in}
 use Rattle.tx_window.specs.Asked.{AnswersAt}
