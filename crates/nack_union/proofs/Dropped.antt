@@ -25,14 +25,6 @@ is_false : (t : Bool) → (t ≡ true → ⊥) → t ≡ false
 is_false true h = absurd (h refl)
 is_false false h = refl
 
-flip : (t : Bool) → not t ≡ true → t ≡ false
-flip true e = absurd (cc)
-flip false e = refl
-
-unflip : (t : Bool) → not t ≡ false → t ≡ true
-unflip true e = refl
-unflip false e = absurd (cc)
-
 point_decides : (a b : Point) → Decides (point_before a b) ((a.index < b.index) ⊎ ((a.index ≡ b.index) × (a.block < b.block)))
 point_decides a b = Decides-or _ _ (Decides-ltb a.index b.index) (Decides-and _ _ (Decides-eqb a.index b.index) (Decides-ltb a.block b.block))
 
