@@ -1,5 +1,5 @@
 -- What a window is seen as, which states of the sender it stands for, and what holds of each window.
-use Rattle.std.specs.Prelude.{ℕ, ◌≡◌, ◌+◌, ◌*◌, ◌/◌, ◌≤◌, ◌<◌, List, [], length, take, drop, map, Bool, Option, Some, None, slice_get}
+use Rattle.std.specs.Prelude.{ℕ, ◌≡◌, ◌+◌, ◌<◌, ◌≤◌, List, [], length, take, drop, map, Bool, Option, Some, None, slice_get, nat_lt, false, unwrap_or}
 use Rattle.norm_base.specs.Settings.{Settings}
 use Rattle.fec_plan.specs.Partition.{Cut}
 use Rattle.fec_plan.specs.Points.{point, position_before, reaches}
@@ -10,7 +10,6 @@ use Rattle.norm_order.specs.Shapes.{shape_of, sources_in, last_source}
 use Rattle.norm_send_rules.specs.SenderState.{SenderState}
 use Rattle.norm_send_rules.specs.InWindow.{next_index, current_shapes}
 use Rattle.norm_send_rules.specs.Requests.{all_past}
-use Rattle.std.specs.Prelude.{nat_lt}
 use Rattle.obj_buffer.specs.Pieces.{HoldsObject}
 use Rattle.tx_window.specs.Held.{HeldObject, octets_in, LiesIn}
 use Rattle.tx_window.specs.declared.window.Window.TheInside.{Inside}
@@ -41,7 +40,7 @@ pub record IsInWindow (w : Windowed) (index : ℕ) : Type 0 where
 
 -- there is such a position, and it is at this one or behind it
 abbrev pub reached_by : Option Position → Position → Bool
-reached_by None at = Rattle.std.specs.Prelude.false
+reached_by None at = false
 reached_by (Some past) at = reaches past at
 
 -- what a window knows of the n-th object that was not dropped is what the state says
@@ -63,7 +62,7 @@ pub record Stands (w : Windowed) (s : SenderState) : Type 0 where
 
 -- how many octets an object has
 abbrev pub octets_of : Cut → ℕ
-octets_of c = Rattle.std.specs.Prelude.unwrap_or c.l 0
+octets_of c = unwrap_or c.l 0
 
 -- the object that lies in a ring
 abbrev pub object_in : List ℕ → HeldObject → Object
