@@ -1,6 +1,6 @@
 -- The symbols of an object that lies in a ring.
 use Rattle.std.proofs.Common.{◌≡◌, ℕ, ◌+◌, ◌-◌, ◌*◌, ◌/◌, ◌%◌, ◌<◌, ◌≤◌, ◌++◌, ◌==◌, Bool, true, false, refl, sym, ap, ◌∙◌, subst, arith, Option, Some, None, List, length, length-append, take, drop, eq-eqb, ◌⊎◌, inl, inr}
-use Rattle.std.specs.Prelude.{nat_lt, min, if◌then◌else◌}
+use Rattle.std.specs.Prelude.{nat_lt, IsSome, min, if◌then◌else◌}
 use Rattle.std.specs.Int.{div_ceil}
 use Rattle.std.proofs.Math.Nat.{mul-le-mul_right}
 use Rattle.std.proofs.lemmas.Nat.{div-add-mod'}
@@ -12,10 +12,11 @@ use Rattle.fec_plan.specs.Partition.{Cut, cut_of, IsSound, symbols_in, blocks_in
 use Rattle.fec_plan.proofs.CutLemmas.{some_blocks}
 use Rattle.gf_field.proofs.Symbols.{length-encoded_symbol}
 use Rattle.norm_order.specs.Entries.{Whole}
-use Rattle.norm_order.specs.Shapes.{shape_of, encoded_in, closed_in}
+use Rattle.norm_order.specs.Shapes.{Shape, shape_of, encoded_in, closed_in, closed_blocks, last_in}
+use Rattle.fec_plan.specs.Points.{position}
 use Rattle.norm_order.specs.Symbols.{symbol_octets, block_sources}
 use Rattle.obj_buffer.specs.Pieces.{HoldsObject}
-use Rattle.obj_buffer.proofs.PartitionLemmas.{some_sources, sources_within}
+use Rattle.obj_buffer.proofs.PartitionLemmas.{some_sources, some_blocks_of, sources_within}
 use Rattle.obj_buffer.proofs.PieceLemmas.{whole_part}
 use Rattle.tx_window.specs.Held.{AnswersSymbol}
 use Rattle.tx_window.specs.Round.{round}
@@ -32,7 +33,7 @@ refused false x y e = refl
 -- ---- which symbols an object has
 
 -- all source symbols are before a block that the object does not have
-all_before : (t n block : ℕ) → 0 < n → n ≤ block → t ≤ symbols_before t n block
+pub all_before : (t n block : ℕ) → 0 < n → n ≤ block → t ≤ symbols_before t n block
 all_before t n block some past =
     by (t / n) (t - t / n * n) (div_ceil t n) (block - (t - t / n * n)) (omega (arith, div-add-mod' t n)) (omega (arith, div-add-mod' t n))
     (large (cases_lt 0 (t - t / n * n))) (omega (arith, div-add-mod' t n)) (omega (arith, div-add-mod' t n))
@@ -87,6 +88,27 @@ encoded_none p kind info octets block sound past =
   where
     none : (size all first : ℕ) → all ≤ first → min size (all - first) ≡ 0
     none size all first le = omega arith
+
+-- ---- the last source symbol
+
+some_taken : {X : Type 0} (o : Option ℕ) (x y : X) → IsSome o → (elim o as (λ v. X) [ Some l ↦ x | None ↦ y ]) ≡ x
+some_taken (Some l) x y some = refl
+some_taken None x y some = absurd (cc)
+
+pub last_is : (c : Cut) (info : Bool) (index : ℕ) → IsSound c → IsSome c.l
+    → last_in index (record { cut = c; closed = all_symbols c; info = info }) ≡ Some (position index (blocks c - 1) (source_symbols c (blocks c - 1) - 1))
+last_is c info index sound object =
+    let some = some_blocks_of c sound in
+    let s : Shape = record { cut = c; closed = all_symbols c; info = info } in
+    let closed : closed_in s (blocks c - 1) ≡ source_symbols c (blocks c - 1) =
+    full (source_symbols c (blocks c - 1)) (all_symbols c) (symbol_number c (blocks c - 1) 0) (sources_within c (blocks c - 1) sound object (omega arith)) in
+    refused (all_symbols c == 0) None (Some (position index (closed_blocks s - 1) (closed_in s (closed_blocks s - 1) - 1)))
+    (ne_eqb (all_symbols c) 0 (λ e. omega (arith, sound.some)))
+    ∙ ap (λ b. Some (position index (b - 1) (closed_in s (b - 1) - 1))) (some_taken c.l (blocks c) _ object)
+    ∙ ap (λ n. Some (position index (blocks c - 1) (n - 1))) closed
+  where
+    full : (size all first : ℕ) → first + size ≤ all → min size (all - first) ≡ size
+    full size all first le = omega arith
 
 -- ---- how long a symbol is
 

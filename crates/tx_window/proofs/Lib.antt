@@ -1,4 +1,15 @@
 pub mod RoundLemmas
+pub mod RowLemmas
+pub mod RoomLemmas
+pub mod GoingLemmas
+pub mod FaultLemmas
+pub mod SourcesLemmas
+pub mod SourceLemmas
+pub mod JoiningLemmas
+pub mod BeginningLemmas
+pub mod FillingLemmas
 pub mod HeldLemmas
 pub mod WindowLemmas
+pub mod MemberLemmas
 pub mod NotingLemmas
+pub mod SentLemmas

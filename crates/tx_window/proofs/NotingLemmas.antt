@@ -1,115 +1,22 @@
--- A window whose object is marked as sent.
-use Rattle.std.proofs.Common.{◌≡◌, ℕ, zero, suc, ◌+◌, ◌<◌, ◌⊎◌, inl, inr, Bool, true, false, refl, sym, ap, ◌∙◌, subst, arith, Option, Some, None, List, [], ◌∷◌, length, map, get_or}
-use Rattle.std.specs.Prelude.{nat_lt, not, slice_get, option_map}
+-- A window one of whose objects is marked as sent.
+use Rattle.std.proofs.Common.{◌≡◌, ℕ, zero, suc, ◌+◌, ◌*◌, ◌<◌, ◌⊎◌, inl, inr, true, refl, sym, ap, ◌∙◌, subst, arith, Some, List, [], ◌∷◌, ◌++◌, length, length-append, map, get_or}
+use Rattle.std.specs.Prelude.{nat_lt, slice_get, sum}
 use Rattle.std.proofs.Math.ListN.{set}
-use Rattle.std.proofs.lemmas.List.{length-map, length-set}
+use Rattle.std.proofs.lemmas.List.{length-set}
 use Rattle.fec_plan.specs.declared.position.Position.{Position}
-use Rattle.std.proofs.lemmas.Bool.{cases_lt, lt-ltb, le-ltb, ltb-true}
-use Rattle.std.proofs.lemmas.Option.{slice_get-map}
+use Rattle.std.proofs.lemmas.Bool.{cases_lt}
+use Rattle.fec_plan.specs.Points.{position_before}
 use Rattle.norm_order.specs.Sets.{with_member, is_member}
+use Rattle.norm_send_rules.specs.InWindow.{next_index}
 use Rattle.norm_base.specs.Settings.{Settings}
 use Rattle.norm_send_rules.specs.SenderState.{SenderState}
-use Rattle.tx_window.specs.Held.{HeldObject}
-use Rattle.tx_window.specs.Windowed.{WindowObject, Windowed, Stands, KnowsSent, IsPlaced, window_object}
-
--- ---- a set of numbers with one more
-
--- where two numbers stand to each other, by the tests that sets make
-data Sides : ℕ → ℕ → Type 0 where
-  Below : {x y : ℕ} → nat_lt x y ≡ true → Sides x y
-  Same : {x y : ℕ} → nat_lt x y ≡ false → nat_lt y x ≡ false → x ≡ y → Sides x y
-  Above : {x y : ℕ} → nat_lt x y ≡ false → nat_lt y x ≡ true → Sides x y
-
-sides : (x y : ℕ) → Sides x y
-sides x y =
-    elim (cases_lt x y) [
-      | inl below ↦ Below (lt-ltb x y below)
-      | inr le ↦ elim (cases_lt y x) [
-        | inl above ↦ Above (le-ltb x y le) (lt-ltb y x above)
-        | inr ge ↦ Same (le-ltb x y le) (le-ltb y x ge) (omega arith)
-      ]
-    ]
-
--- one step of a set, by the two tests
-abbrev put_by : Bool → Bool → ℕ → ℕ → List ℕ → List ℕ
-put_by before behind x y ys = elim before as (λ v. List ℕ) [
-  | true ↦ x ∷ y ∷ ys
-  | false ↦ elim behind as (λ v. List ℕ) [ true ↦ y ∷ with_member nat_lt x ys | false ↦ y ∷ ys ]
-]
-
-abbrev there_by : Bool → Bool → ℕ → List ℕ → Bool
-there_by behind before x ys = elim behind as (λ v. Bool) [ true ↦ is_member nat_lt x ys | false ↦ not before ]
-
-put_step : (x y : ℕ) (ys : List ℕ) → with_member nat_lt x (y ∷ ys) ≡ put_by (nat_lt x y) (nat_lt y x) x y ys
-unfolding with_member
-put_step x y ys = refl
-
-there_step : (x y : ℕ) (ys : List ℕ) → is_member nat_lt x (y ∷ ys) ≡ there_by (nat_lt y x) (nat_lt x y) x ys
-unfolding is_member
-there_step x y ys = refl
-
-first_there : (x : ℕ) (ys : List ℕ) → is_member nat_lt x (x ∷ ys) ≡ true
-first_there x ys =
-    there_step x x ys
-    ∙ ap (λ b. there_by b (nat_lt x x) x ys) (le-ltb x x (omega arith))
-    ∙ ap not (le-ltb x x (omega arith))
-
-pub member_self : (x : ℕ) (ys : List ℕ) → is_member nat_lt x (with_member nat_lt x ys) ≡ true
-unfolding with_member
-member_self x [] = first_there x []
-member_self x (y ∷ ys) = go (sides x y) (member_self x ys)
-  where
-    go : Sides x y → is_member nat_lt x (with_member nat_lt x ys) ≡ true → is_member nat_lt x (with_member nat_lt x (y ∷ ys)) ≡ true
-    go (Below lt) more =
-        ap (is_member nat_lt x) (put_step x y ys ∙ ap (λ b. put_by b (nat_lt y x) x y ys) lt) ∙ first_there x (y ∷ ys)
-    go (Same lt gt same) more =
-        ap (is_member nat_lt x) (put_step x y ys ∙ ap (λ b. put_by b (nat_lt y x) x y ys) lt ∙ ap (λ b. put_by false b x y ys) gt)
-        ∙ ap (λ z. is_member nat_lt x (z ∷ ys)) (sym same) ∙ first_there x ys
-    go (Above lt gt) more =
-        ap (is_member nat_lt x) (put_step x y ys ∙ ap (λ b. put_by b (nat_lt y x) x y ys) lt ∙ ap (λ b. put_by false b x y ys) gt)
-        ∙ there_step x y (with_member nat_lt x ys)
-        ∙ ap (λ b. there_by b (nat_lt x y) x (with_member nat_lt x ys)) gt
-        ∙ more
-
--- another number in front changes nothing for one that is before or behind it
-pub member_other : (q x : ℕ) (ys : List ℕ) → (q ≡ x → ⊥) → is_member nat_lt q (with_member nat_lt x ys) ≡ is_member nat_lt q ys
-unfolding with_member is_member
-member_other q x [] apart = go (sides q x)
-  where
-    go : Sides q x → is_member nat_lt q (x ∷ []) ≡ false
-    go (Below lt) =
-        there_step q x []
-        ∙ ap (λ b. there_by b (nat_lt q x) q []) (le-ltb x q (let less = ltb-true q x lt in omega arith))
-        ∙ ap not lt
-    go (Same lt gt same) = absurd (apart same)
-    go (Above lt gt) = there_step q x [] ∙ ap (λ b. there_by b (nat_lt q x) q []) gt
-member_other q x (y ∷ ys) apart = go (sides x y) (sides q x) (member_other q x ys apart)
-  where
-    go : Sides x y → Sides q x → is_member nat_lt q (with_member nat_lt x ys) ≡ is_member nat_lt q ys
-        → is_member nat_lt q (with_member nat_lt x (y ∷ ys)) ≡ is_member nat_lt q (y ∷ ys)
-    go (Same lt gt same) side more = ap (is_member nat_lt q) (put_step x y ys ∙ ap (λ b. put_by b (nat_lt y x) x y ys) lt ∙ ap (λ b. put_by false b x y ys) gt)
-    go (Above lt gt) side more =
-        ap (is_member nat_lt q) (put_step x y ys ∙ ap (λ b. put_by b (nat_lt y x) x y ys) lt ∙ ap (λ b. put_by false b x y ys) gt)
-        ∙ there_step q y (with_member nat_lt x ys)
-        ∙ inner (nat_lt y q)
-        ∙ sym (there_step q y ys)
-      where
-        inner : (b : Bool) → there_by b (nat_lt q y) q (with_member nat_lt x ys) ≡ there_by b (nat_lt q y) q ys
-        inner true = more
-        inner false = refl
-    go (Below lt) (Same l g same) more = absurd (apart same)
-    go (Below lt) (Above l g) more =
-        ap (is_member nat_lt q) (put_step x y ys ∙ ap (λ b. put_by b (nat_lt y x) x y ys) lt)
-        ∙ there_step q x (y ∷ ys)
-        ∙ ap (λ b. there_by b (nat_lt q x) q (y ∷ ys)) g
-    go (Below lt) (Below l) more =
-        ap (is_member nat_lt q) (put_step x y ys ∙ ap (λ b. put_by b (nat_lt y x) x y ys) lt)
-        ∙ there_step q x (y ∷ ys)
-        ∙ ap (λ b. there_by b (nat_lt q x) q (y ∷ ys)) (le-ltb x q (let less = ltb-true q x l in omega arith))
-        ∙ ap not l
-        ∙ sym (there_step q y ys
-        ∙ ap (λ b. there_by b (nat_lt q y) q ys) (le-ltb y q (let less = ltb-true q x l in let more_less = ltb-true x y lt in omega arith))
-        ∙ ap not (lt-ltb q y (let less = ltb-true q x l in let more_less = ltb-true x y lt in omega arith)))
+use Rattle.tx_window.specs.Held.{HeldObject, octets_of, begun_at}
+use Rattle.tx_window.specs.Windowed.{WindowObject, Windowed, Stands, KnowsSent}
+use Rattle.tx_window.specs.Sound.{IsPlaced, all_octets, IsRow, LieInRow, taken_by}
+use Rattle.tx_window.proofs.RowLemmas.{octets_append}
+use Rattle.tx_window.proofs.MemberLemmas.{self_in, others_in, numbers}
+use Rattle.tx_window.specs.Round.{IsAround}
+use Rattle.fec_plan.specs.Partition.{Cut, all_symbols}
 
 -- ---- one object in place of another
 
@@ -125,73 +32,137 @@ set_get (x ∷ xs) (suc i) (suc n) v o e = go (set_get xs i n v o e)
     go (inl h) = inl (ap suc h.0, h.1)
     go (inr h) = inr (λ same. h.0 (omega arith), h.1)
 
-pub maps_set_same : {X Y Z : Type 0} (g : Y → Z) (f : X → Y) (xs : List X) (i : ℕ) (h v : X) → slice_get xs i ≡ Some h → g (f v) ≡ g (f h)
-    → map g (map f (set xs i v)) ≡ map g (map f xs)
-maps_set_same g f [] i h v e same = absurd (cc)
-maps_set_same g f (x ∷ xs) zero h v e same = ap (λ y. y ∷ map g (map f xs)) (same ∙ ap (λ z. g (f z)) (let z : h ≡ x = cc in z))
-maps_set_same g f (x ∷ xs) (suc i) h v e same = ap (λ ys. g (f x) ∷ ys) (maps_set_same g f xs i h v e same)
+pub map_set_same : {X Z : Type 0} (g : X → Z) (xs : List X) (i : ℕ) (h v : X) → slice_get xs i ≡ Some h → g v ≡ g h → map g (set xs i v) ≡ map g xs
+map_set_same g [] i h v e same = absurd (cc)
+map_set_same g (x ∷ xs) zero h v e same = ap (λ z. z ∷ map g xs) (same ∙ ap g (let z : h ≡ x = cc in z))
+map_set_same g (x ∷ xs) (suc i) h v e same = ap (λ zs. g x ∷ zs) (map_set_same g xs i h v e same)
 
 pub get_there : {X : Type 0} (xs : List X) (i : ℕ) (x : X) → i < length xs → x ≡ get_or xs i x → slice_get xs i ≡ Some x
 get_there [] i x lt e = absurd (omega arith)
 get_there (y ∷ ys) zero x lt e = ap Some (sym e)
 get_there (y ∷ ys) (suc i) x lt e = get_there ys i x (omega arith) e
 
--- ---- a window whose object's info was sent
+pub maps_set : {X Y : Type 0} (f : X → Y) (xs : List X) (i : ℕ) (v : X) → map f (set xs i v) ≡ set (map f xs) i (f v)
+maps_set f [] i v = refl
+maps_set f (x ∷ xs) zero v = refl
+maps_set f (x ∷ xs) (suc i) v = ap (λ ys. f x ∷ ys) (maps_set f xs i v)
 
-abbrev window_of : Settings → ℕ → List ℕ → List HeldObject → Option Position → Option Position → Windowed
-window_of p d ring items last past = record { p = p; dropped = d; objects = map (window_object ring) items; last = last; past = past }
+-- ---- a window one of whose objects is marked
 
-abbrev with_info_sent : HeldObject → HeldObject
-with_info_sent h = record h { info_sent = true }
+-- the state with these symbols and infos as sent
+abbrev pub with_marks : List Position → List ℕ → SenderState → SenderState
+with_marks symbols infos s = record s { sent = symbols; sent_infos = infos }
 
-abbrev info_noted : ℕ → SenderState → SenderState
-info_noted index s = record s { sent_infos = with_member nat_lt index s.sent_infos }
-
-pub stands_noted : (p : Settings) (d : ℕ) (ring : List ℕ) (items : List HeldObject) (last past : Option Position) (h : HeldObject) (i index : ℕ) (s : SenderState)
-    → slice_get items i ≡ Some h → index ≡ d + i → Stands (window_of p d ring items last past) s
-    → Stands (window_of p d ring (set items i (with_info_sent h)) last past) (info_noted index s)
-stands_noted p d ring items last past h i index s found index-is stands = record {
+pub stands_marked : (w : Windowed) (s : SenderState) (symbols : List Position) (infos : List ℕ) (i : ℕ) (o v : WindowObject)
+    → slice_get w.objects i ≡ Some o → v.object ≡ o.object
+    → KnowsSent (with_marks symbols infos s) (w.dropped + i) w.p v
+    → ((n : ℕ) (x : WindowObject) → (n ≡ i → ⊥) → KnowsSent s (w.dropped + n) w.p x → KnowsSent (with_marks symbols infos s) (w.dropped + n) w.p x)
+    → ((at : Position) → is_member position_before at symbols ≡ true → at.index < next_index s)
+    → ((index : ℕ) → is_member nat_lt index infos ≡ true → index < next_index s)
+    → Stands w s → Stands (record w { objects = set w.objects i v }) (with_marks symbols infos s)
+stands_marked w s symbols infos i o v found same here others sent_before infos_before stands = record {
   dropped = stands.dropped;
-  objects = stands.objects ∙ sym (maps_set_same (λ (o : WindowObject). o.object) (window_object ring) items i h (with_info_sent h) found refl);
-  next = stands.next ∙ ap (λ n. d + n) (length-map items (window_object ring) ∙ sym (length-map (set items i (with_info_sent h)) (window_object ring) ∙ length-set items i (with_info_sent h)));
+  objects = stands.objects ∙ sym (map_set_same (λ (x : WindowObject). x.object) w.objects i o v found same);
+  next = stands.next ∙ ap (λ n. w.dropped + n) (sym (length-set w.objects i v));
+  shapes = stands.shapes;
   last = stands.last;
-  sent = λ n o e. known n o (slice_get (set items i (with_info_sent h)) n) refl (sym (slice_get-map (window_object ring) (set items i (with_info_sent h)) n) ∙ e);
+  sent = λ n x e. known n x (set_get w.objects i n v x e);
   past = stands.past;
+  sent_before = sent_before;
+  infos_before = infos_before;
 }
   where
-    here : KnowsSent (info_noted index s) (d + i) p (window_object ring (with_info_sent h))
-    here =
-        let old : KnowsSent s (d + i) p (window_object ring h) = stands.sent i (window_object ring h) (slice_get-map (window_object ring) items i ∙ ap (option_map (window_object ring)) found) in
-        record { symbols = old.symbols; info = sym (ap (λ q. is_member nat_lt q (with_member nat_lt index s.sent_infos)) (sym index-is) ∙ member_self index s.sent_infos) }
+    known : (n : ℕ) (x : WindowObject) → ((n ≡ i) × (x ≡ v)) ⊎ ((n ≡ i → ⊥) × (slice_get w.objects n ≡ Some x)) → KnowsSent (with_marks symbols infos s) (w.dropped + n) w.p x
+    known n x (inl is) =
+        subst (λ (m : ℕ). KnowsSent (with_marks symbols infos s) (w.dropped + m) w.p x) (sym is.0)
+        (subst (KnowsSent (with_marks symbols infos s) (w.dropped + i) w.p) (sym is.1) here)
+    known n x (inr other) = others n x other.0 (stands.sent n x other.1)
 
-    known : (n : ℕ) (o : WindowObject) (r : Option HeldObject) → slice_get (set items i (with_info_sent h)) n ≡ r → option_map (window_object ring) r ≡ Some o
-        → KnowsSent (info_noted index s) (d + n) p o
-    known n o None e f = absurd (cc)
-    known n o (Some k) e f = by (set_get items i n (with_info_sent h) k e)
-      where
-        is : window_object ring k ≡ o
-        is = cc
+-- ---- an object's info was sent
 
-        by : ((n ≡ i) × (k ≡ with_info_sent h)) ⊎ ((n ≡ i → ⊥) × (slice_get items n ≡ Some k)) → KnowsSent (info_noted index s) (d + n) p o
-        by (inl same) =
-            subst (λ (m : ℕ). KnowsSent (info_noted index s) (d + m) p o) (sym same.0)
-            (subst (KnowsSent (info_noted index s) (d + i) p) (ap (window_object ring) (sym same.1) ∙ is) here)
-        by (inr other) =
-            let old : KnowsSent s (d + n) p o = stands.sent n o (slice_get-map (window_object ring) items n ∙ ap (option_map (window_object ring)) other.1 ∙ f) in
-            record { symbols = old.symbols; info = old.info ∙ sym (member_other (d + n) index s.sent_infos (λ same. other.0 (omega arith))) }
+abbrev pub with_info_sent : WindowObject → WindowObject
+with_info_sent o = record o { info_sent = true }
 
-pub placed_noted : (p : Settings) (ring : List ℕ) (items : List HeldObject) (h : HeldObject) (i : ℕ) → slice_get items i ≡ Some h
-    → ((n : ℕ) (k : HeldObject) → slice_get items n ≡ Some k → IsPlaced ring p k)
-    → (n : ℕ) (k : HeldObject) → slice_get (set items i (with_info_sent h)) n ≡ Some k → IsPlaced ring p k
-placed_noted p ring items h i found placed n k e = by (set_get items i n (with_info_sent h) k e)
+pub stands_noted : (w : Windowed) (s : SenderState) (o : WindowObject) (i index : ℕ) → slice_get w.objects i ≡ Some o → index ≡ w.dropped + i → index < next_index s
+    → Stands w s → Stands (record w { objects = set w.objects i (with_info_sent o) }) (record s { sent_infos = with_member nat_lt index s.sent_infos })
+stands_noted w s o i index found index-is before stands =
+    stands_marked w s s.sent (with_member nat_lt index s.sent_infos) i o (with_info_sent o) found refl
+    (record {
+      symbols = (stands.sent i o found).symbols;
+      info = sym (ap (λ q. is_member nat_lt q (with_member nat_lt index s.sent_infos)) (sym index-is) ∙ self_in nat_lt index s.sent_infos numbers);
+    })
+    (λ n x apart known. record {
+      symbols = known.symbols;
+      info = known.info ∙ sym (others_in nat_lt (w.dropped + n) index s.sent_infos numbers (λ same. apart (omega arith)));
+    })
+    stands.sent_before
+    (λ q there. go q there (cases_eq q index))
+    stands
   where
-    by : ((n ≡ i) × (k ≡ with_info_sent h)) ⊎ ((n ≡ i → ⊥) × (slice_get items n ≡ Some k)) → IsPlaced ring p k
-    by (inl same) =
-        let old : IsPlaced ring p h = placed i h found in
-        subst (IsPlaced ring p) (sym same.1)
-        (record {
-          lies = record { object = old.lies.object; start = old.lies.start; room = old.lies.room; ring_whole = old.lies.ring_whole; start_whole = old.lies.start_whole };
-          most = old.most;
-          holds = old.holds;
-        })
-    by (inr other) = placed n k other.1
+    cases_eq : (a b : ℕ) → (a ≡ b) ⊎ (a ≡ b → ⊥)
+    cases_eq a b = elim (cases_lt a b) [
+      | inl lt ↦ inr (λ e. omega arith)
+      | inr le ↦ elim (cases_lt b a) [ inl gt ↦ inr (λ e. omega arith) | inr ge ↦ inl (omega arith) ]
+    ]
+
+    go : (q : ℕ) → is_member nat_lt q (with_member nat_lt index s.sent_infos) ≡ true → (q ≡ index) ⊎ (q ≡ index → ⊥) → q < next_index s
+    go q there (inl same) = omega (arith, same)
+    go q there (inr other) = stands.infos_before q (sym (others_in nat_lt q index s.sent_infos numbers other) ∙ there)
+
+-- ---- what the ring's objects keep
+
+pub placed_as : (ring : List ℕ) (p : Settings) (h k : HeldObject) → k.cut ≡ h.cut → k.start ≡ h.start → IsPlaced ring p h → IsPlaced ring p k
+placed_as ring p h k cut start placed =
+    again (subst (λ at. IsPlaced ring p (begun_at k.cut h.kind h.info at)) (sym start)
+    (subst (λ c. IsPlaced ring p (begun_at c h.kind h.info h.start)) (sym cut) (record {
+      lies = record { object = placed.lies.object; start = placed.lies.start; room = placed.lies.room; ring_whole = placed.lies.ring_whole; start_whole = placed.lies.start_whole };
+      sound = placed.sound;
+      holds = placed.holds;
+    })))
+  where
+    again : IsPlaced ring p (begun_at k.cut h.kind h.info k.start) → IsPlaced ring p k
+    again is = record {
+      lies = record { object = is.lies.object; start = is.lies.start; room = is.lies.room; ring_whole = is.lies.ring_whole; start_whole = is.lies.start_whole };
+      sound = is.sound;
+      holds = is.holds;
+    }
+
+pub placed_noted : (p : Settings) (ring : List ℕ) (items : List HeldObject) (h k : HeldObject) (i : ℕ) → slice_get items i ≡ Some h → k.cut ≡ h.cut → k.start ≡ h.start
+    → ((n : ℕ) (x : HeldObject) → slice_get items n ≡ Some x → IsPlaced ring p x)
+    → (n : ℕ) (x : HeldObject) → slice_get (set items i k) n ≡ Some x → IsPlaced ring p x
+placed_noted p ring items h k i found cut start placed n x e = by (set_get items i n k x e)
+  where
+    by : ((n ≡ i) × (x ≡ k)) ⊎ ((n ≡ i → ⊥) × (slice_get items n ≡ Some x)) → IsPlaced ring p x
+    by (inl is) = subst (IsPlaced ring p) (sym is.1) (placed_as ring p h k cut start (placed i h found))
+    by (inr other) = placed n x other.1
+
+-- the row is the same
+row_set : (size counted : ℕ) (items rest : List HeldObject) (next i : ℕ) (h k : HeldObject) → slice_get items i ≡ Some h → k.cut ≡ h.cut → k.start ≡ h.start
+    → LieInRow size counted (items ++ rest) next → LieInRow size counted (set items i k ++ rest) next
+unfolding LieInRow
+row_set size counted [] rest next i h k found cut start row = row
+row_set size counted (x ∷ xs) rest next zero h k found cut start row =
+    let same : x ≡ h = cc in
+    let at : x.start ≡ k.start = ap (λ (o : HeldObject). o.start) same ∙ sym start in
+    let long : taken_by x ≡ taken_by k = ap taken_by same ∙ ap (λ (c : Cut). all_symbols c * c.e) (sym cut) in
+    (subst (IsAround size counted) at row.0, subst (λ n. LieInRow size (counted + n) (xs ++ rest) next) long row.1)
+row_set size counted (x ∷ xs) rest next (suc i) h k found cut start row = (row.0, row_set size (counted + taken_by x) xs rest next i h k found cut start row.1)
+
+octets_set : (items : List HeldObject) (i : ℕ) (h k : HeldObject) → slice_get items i ≡ Some h → k.cut ≡ h.cut → all_octets (set items i k) ≡ all_octets items
+octets_set items i h k found cut = ap sum (map_set_same (λ (o : HeldObject). octets_of o.cut) items i h k found (ap octets_of cut))
+
+-- a window whose n-th object was marked is sound
+pub row_marked : (ring : List ℕ) (p : Settings) (items rest : List HeldObject) (next i : ℕ) (h k : HeldObject) → slice_get items i ≡ Some h → k.cut ≡ h.cut
+    → k.start ≡ h.start → IsRow ring p (items ++ rest) next → IsRow ring p (set items i k ++ rest) next
+row_marked ring p items rest next i h k found cut start row = record {
+  head = row.head;
+  head_within = row.head_within;
+  in_row = row_set (length ring) row.head items rest next i h k found cut start row.in_row;
+  next_whole = row.next_whole;
+  few = omega (arith, row.few, length-append items rest, length-append (set items i k) rest, length-set items i k);
+  fit = omega (arith, row.fit, octets_append items rest, octets_append (set items i k) rest, octets_set items i h k found cut);
+}
+
+pub octets_marked : (items rest : List HeldObject) (i : ℕ) (h k : HeldObject) → slice_get items i ≡ Some h → k.cut ≡ h.cut
+    → all_octets (set items i k ++ rest) ≡ all_octets (items ++ rest)
+octets_marked items rest i h k found cut = omega (arith, octets_append items rest, octets_append (set items i k) rest, octets_set items i h k found cut)

@@ -7,13 +7,15 @@ use Rattle.fec_plan.specs.Points.{Point}
 use Rattle.fec_plan.specs.declared.position.Position.{Position}
 use Rattle.norm_base.specs.Settings.{Settings}
 use Rattle.norm_order.specs.Shapes.{last_from}
+use Rattle.norm_order.specs.Sets.{is_member}
 use Rattle.norm_order.specs.Entries.{Object, Entry}
 use Rattle.norm_send_rules.specs.SenderState.{SenderState, sender_opening}
 use Rattle.std.specs.List.{list_all}
 use Rattle.norm_base.specs.Members.{receivers_of}
 use Rattle.norm_send_rules.specs.Requests.{is_past}
 use Rattle.tx_window.specs.Held.{HeldObject, AnswersSymbol}
-use Rattle.tx_window.specs.Windowed.{WindowObject, Windowed, Stands, empty_window, window_object, object_in}
+use Rattle.tx_window.specs.Windowed.{WindowObject, Windowed, Stands, empty_window}
+use Rattle.tx_window.specs.Sound.{window_object, object_in}
 use Rattle.tx_window.specs.Asked.{from_first, kept_at, info_of, info_at, AnswersAt}
 use Rattle.tx_window.proofs.HeldLemmas.{taken, refused}
 
@@ -96,12 +98,15 @@ some_receivers p zero some = absurd (omega arith)
 some_receivers p (suc i) some = omega (arith, length-append (receivers_of p i) ((p.sender + 1 + i) ∷ []))
 
 pub begins : (p : Settings) → 1 ≤ p.receivers → Stands (empty_window p) (sender_opening p)
-unfolding last_from
+unfolding last_from is_member
 begins p some = record {
   dropped = refl;
   objects = refl;
   next = refl;
+  shapes = refl;
   last = refl;
   sent = λ n o is. absurd (cc);
   past = λ at. none_past at (receivers_of p p.receivers) (some_receivers p p.receivers some);
+  sent_before = λ at there. absurd (cc);
+  infos_before = λ index there. absurd (cc);
 }

@@ -1,5 +1,5 @@
 -- An object of the window: what it is, where it lies in the ring, and what of it was sent.
-use Rattle.std.specs.Prelude.{ℕ, ◌≡◌, ◌*◌, ◌<◌, ◌≤◌, ◌%◌, ◌++◌, List, length, Option, MatchOption, IsSome, Bool, true, false, nat_lt, replicate, slice_set}
+use Rattle.std.specs.Prelude.{ℕ, ◌≡◌, ◌*◌, ◌<◌, ◌≤◌, ◌%◌, ◌++◌, List, length, Option, MatchOption, IsSome, Bool, true, false, nat_lt, replicate, slice_set, unwrap_or}
 use Rattle.norm_base.specs.Settings.{Settings}
 use Rattle.norm_base.specs.declared.kinds.Kind.{Kind}
 use Rattle.fec_plan.specs.Partition.{Cut, all_symbols, source_symbols, symbol_number}
@@ -17,6 +17,10 @@ pub record HeldObject : Type 0 where
   pub start : ℕ
   pub sent : List Bool
   pub info_sent : Bool
+
+-- how many octets an object has
+abbrev pub octets_of : Cut → ℕ
+octets_of c = unwrap_or c.l 0
 
 -- an object of which nothing was sent
 abbrev pub begun_at : Cut → Kind → Option (List ℕ) → ℕ → HeldObject

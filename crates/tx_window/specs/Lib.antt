@@ -1,4 +1,6 @@
 pub mod Round
 pub mod Held
 pub mod Windowed
+pub mod Sound
 pub mod Asked
+pub mod Taking

@@ -1,5 +1,5 @@
 -- Octets that lie in a ring, which goes on from its end to its beginning.
-use Rattle.std.specs.Prelude.{ℕ, ◌+◌, ◌<◌, ◌≤◌, ◌⊎◌, List, ◌++◌, take, drop}
+use Rattle.std.specs.Prelude.{ℕ, ◌≡◌, ◌+◌, ◌<◌, ◌≤◌, ◌⊎◌, List, ◌++◌, take, drop}
 
 -- `len` octets of a ring from octet `start` on
 abbrev pub round : List ℕ → ℕ → ℕ → List ℕ
@@ -9,3 +9,7 @@ round ring start len = take len (drop start (ring ++ ring))
 pub record IsClear (size start n other len : ℕ) : Type 0 where
   pub within : other < size
   pub apart : ((start + n ≤ other) × (other + len ≤ start + size)) ⊎ ((other + len ≤ start) × (start + n ≤ other + size))
+
+-- in a ring of `size` octets, an octet that is counted on from the ring's first, once round at most, is this one
+abbrev pub IsAround : ℕ → ℕ → ℕ → Type 0
+IsAround size counted at = (at < size) × ((at ≡ counted) ⊎ (at + size ≡ counted))

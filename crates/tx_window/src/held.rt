@@ -1,17 +1,19 @@
 //! An object of the window: what it is, where it lies in the ring, and what of it was sent.
 
-ghost use Rattle.std.specs.Prelude.{ℕ, ◌≡◌, ◌+◌, ◌<◌, ◌≤◌, List, Option, Bool, true, ◌||◌, ◌&&◌, is_none, option_copied, IfOk, IsSome, length};
+ghost use Rattle.std.specs.Prelude.{ℕ, ◌≡◌, ◌+◌, ◌<◌, ◌≤◌, List, Option, Bool, true, ◌||◌, ◌&&◌, is_none, option_copied, IfOk, IsSome, Some, ◌*◌, length};
 ghost use Rattle.std.specs.List.{list_all};
 ghost use Rattle.norm_base.specs.Settings.{Settings};
 ghost use Rattle.norm_base.specs.declared.kinds.Kind.{Kind as AnyKind};
-ghost use Rattle.fec_plan.specs.Partition.{all_symbols, blocks};
+ghost use Rattle.fec_plan.specs.Partition.{IsSound, all_symbols, blocks, cut_of};
+ghost use Rattle.tx_window.specs.Held.{octets_of};
 ghost use Rattle.norm_order.specs.Entries.{Whole};
+ghost use Rattle.norm_order.specs.Shapes.{last_in};
 ghost use Rattle.obj_buffer.specs.Pieces.{HoldsObject};
 ghost use Rattle.tx_window.specs.Held.{HeldObject, begun_at, with_sent, octets_in, LiesIn, AnswersSymbol};
 
 use crate::ring::Ring;
-use fec_plan::Plan;
-use norm_base::{Datagram, Kind, Memory, Octets};
+use fec_plan::{Plan, Position};
+use norm_base::{Datagram, Kind, Memory, Octets, Profile};
 use obj_buffer::{Codes, symbol_of};
 use std::alloc::Global;
 use std::marker::Model;
@@ -23,6 +25,8 @@ pub struct Held {
     codes: Codes,
     kind: Kind,
     info: Option<Octets>,
+    /// How many octets it has.
+    len: u32,
     /// The place of its first octet in the ring.
     start: usize,
     /// For each source symbol, whether it was sent.
@@ -31,7 +35,7 @@ pub struct Held {
 }
 
 impl Model for Held {
-    ghost use Rattle.std.specs.Prelude.{◌≡◌, vec_len};
+    ghost use Rattle.std.specs.Prelude.{◌≡◌, vec_len, Some};
     ghost use Rattle.fec_plan.specs.Partition.{all_symbols};
     ghost use Rattle.tx_window.specs.Held.{HeldObject};
 
@@ -46,33 +50,83 @@ impl Model for Held {
       info_sent = h.info_sent;
     } };
 
-    ghost invariant = { λ h. (h.codes ≡ h.plan) × (vec_len h.sent ≡ all_symbols h.plan) };
+    ghost invariant = { λ h. (h.codes ≡ h.plan) × (vec_len h.sent ≡ all_symbols h.plan) × (h.plan.l ≡ Some h.len) };
+}
+
+/// The plan of an object of so many octets.
+pub(crate) fn plan_of(profile: &Profile, len: u32) -> Plan
+    requires some { 1 ≤ len }
+    requires most { len ≤ 16777216 }
+    ensures { result ≡ cut_of len profile.now.e profile.now.b profile.now.max_n }
+{
+    Plan::of(u64::from(len), profile.e, profile.b, profile.max_n).unwrap()
 }
 
 impl Held {
-    /// The object that lies in the ring from octet `start` on, in so many source symbols. Nothing of it was sent.
+    /// An object of so many octets, 1 to 16,777,216 of them, that lies in the ring from octet `start` on. Nothing of it
+    /// was sent.
     pub fn new(
         alloc: Global,
+        profile: &Profile,
         kind: Kind,
         info: Option<Octets>,
-        plan: Plan,
-        symbols: usize,
+        len: u32,
         start: usize,
     ) -> Result<Held, Memory>
-        requires { symbols ≡ all_symbols plan }
-        ensures { IfOk result (λ held. held ≡ begun_at plan kind info start) }
+        requires some { 1 ≤ len }
+        requires most { len ≤ 16777216 }
+        ensures { IfOk result (λ held. held ≡ begun_at (cut_of len profile.now.e profile.now.b profile.now.max_n) kind info start) }
     {
+        let plan = plan_of(profile, len);
         let codes = Codes::of(alloc, &plan)?;
-        let sent = vec![in alloc; false; symbols]?;
+        let symbols = len.div_ceil(u32::from(profile.e));
+        let sent = vec![in alloc; false; symbols as usize]?;
         Ok(Held {
             plan,
             codes,
             kind,
             info,
+            len,
             start,
             sent,
             info_sent: false,
         })
+    }
+
+    /// How many octets it has.
+    pub fn len(&self) -> u32
+        ensures exact { result ≡ octets_of self.now.cut }
+        ensures object { self.now.cut.l ≡ Some result }
+    {
+        self.len
+    }
+
+    /// The place of its first octet in the ring.
+    pub fn start(&self) -> usize
+        ensures { result ≡ self.now.start }
+    {
+        self.start
+    }
+
+    /// The last source symbol, where the object has this index.
+    pub fn last(&self, index: u32) -> Position
+        requires { IsSome self.now.cut.l }
+        ensures { (info : Bool) → last_in index (record { cut = self.now.cut; closed = all_symbols self.now.cut; info = info }) ≡ Some result }
+    {
+        let block = self.plan.blocks() - 1;
+        Position {
+            index,
+            block,
+            symbol: self.plan.source_len(block) - 1,
+        }
+    }
+
+    /// How many octets of the ring it takes: those of whole symbols.
+    pub fn taken(&self) -> usize
+        ensures exact { result ≡ all_symbols self.now.cut * self.now.cut.e }
+        ensures sound { IsSound self.now.cut }
+    {
+        self.sent.len() * usize::from(self.plan.e())
     }
 
     /// Adds a symbol, and answers how many octets it has. `None` exactly where the object has no such encoded symbol;
@@ -89,8 +143,7 @@ impl Held {
         if symbol >= self.plan.encoded_len(block) {
             return None;
         }
-        let len = self.sent.len() * usize::from(self.plan.e());
-        let (front, back) = ring.pieces(self.start, len);
+        let (front, back) = ring.pieces(self.start, self.taken());
         symbol_of(&self.plan, &self.codes, front, back, block, symbol, out);
         Some(self.plan.symbol_octets(block, symbol))
     }

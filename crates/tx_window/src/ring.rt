@@ -1,11 +1,14 @@
 //! A ring of octets, in which an object lies in one piece or, round the end, in two.
 
 ghost use Rattle.std.specs.Prelude.{ℕ, List, ◌≡◌, ◌<◌, ◌≤◌, ◌+◌, ◌-◌, ◌++◌, IfOk, length, min, replicate, take, drop};
-ghost use Rattle.tx_window.specs.Round.{round, IsClear};
+ghost use Rattle.tx_window.specs.Round.{round, IsClear, IsAround};
 
 use norm_base::Memory;
 use std::alloc::Global;
 use std::marker::Model;
+
+/// The most octets of a symbol.
+const MOST_SYMBOL: usize = 1400;
 
 /// Octets that go on from their end to their beginning.
 #[derive(Debug, Drop)]
@@ -38,6 +41,27 @@ impl Ring {
         Ok(Ring { octets })
     }
 
+    /// How many octets it has.
+    pub fn len(&self) -> usize
+        ensures { result ≡ length self.now }
+    {
+        self.octets.len()
+    }
+
+    /// The octet that is `count` behind another one.
+    pub fn behind(&self, at: usize, count: usize) -> usize
+        requires at { at < length self.now }
+        requires count { count ≤ length self.now }
+        ensures { IsAround (length self.now) (at + count) result }
+    {
+        let to_end = self.octets.len() - at;
+        if count < to_end {
+            at + count
+        } else {
+            count - to_end
+        }
+    }
+
     /// `len` octets from octet `start` on: those up to the ring's end, and those behind.
     pub fn pieces(&self, start: usize, len: usize) -> (&[u8], &[u8])
         requires start { start < length self.now }
@@ -66,5 +90,20 @@ impl Ring {
         let (first, rest) = piece.split_at(in_front);
         put(&mut self.octets, start, first);
         put(&mut self.octets, 0, rest);
+    }
+
+    /// Puts zeros into the ring from octet `start` on, at most 1,400 of them.
+    pub fn clear(&mut self, start: usize, len: usize)
+        requires start { start < length self.old }
+        requires len { len ≤ length self.old }
+        requires most { len ≤ 1400 }
+        ensures size { length self.new ≡ length self.old }
+        ensures cleared { round self.new start len ≡ replicate len 0 }
+        ensures others { (other count : ℕ) → IsClear (length self.old) start len other count
+            → round self.new other count ≡ round self.old other count }
+    {
+        let zeros = [0; MOST_SYMBOL];
+        let (piece, _) = zeros.as_slice().split_at(len);
+        self.write(start, piece);
     }
 }

@@ -1,27 +1,59 @@
 //! The objects that a sender may still repair, in the order of their indexes.
 
-ghost use Rattle.std.specs.Prelude.{ℕ, ◌≡◌, ◌+◌, ◌-◌, ◌<◌, ◌≤◌, [], IfOk, MatchOption, None, Some, length, option_copied, slice_get, nat_lt};
+ghost use Rattle.std.specs.Prelude.{ℕ, ⊤, true, ◌≡◌, ◌+◌, ◌-◌, ◌<◌, ◌≤◌, ◌++◌, List, [], Option, IfOk, IsErr, MatchOption, MatchResult, None, Some, length, map, take, drop, option_copied, slice_get, nat_lt, vec_capacity};
+ghost use Rattle.std.specs.VecDeque.{deque_capacity};
+ghost use Rattle.norm_base.specs.declared.node.Origin.{Origin};
+ghost use Rattle.norm_base.specs.declared.kinds.Mode.TheVariants.{Hold, Drop as Dropping};
+ghost use Rattle.fec_plan.specs.Partition.{cut_of};
+ghost use Rattle.norm_order.specs.Entries.{Entry};
 ghost use Rattle.norm_order.specs.Sets.{with_member};
+ghost use Rattle.norm_order.specs.Shapes.{shape_of, last_source, encoded_in, is_source};
+ghost use Rattle.norm_send_rules.specs.Sending.{noted};
+ghost use Rattle.norm_send_rules.specs.declared.want.Want.TheVariants.{Symbol};
 ghost use Rattle.norm_send_rules.specs.SenderState.{SenderState, sender_opening};
 ghost use Rattle.norm_send_rules.specs.InWindow.{current_shapes, next_index as next_index_of};
-ghost use Rattle.norm_order.specs.Shapes.{last_source};
-ghost use Rattle.tx_window.specs.Windowed.{Stands, empty_window, IsInWindow};
+ghost use Rattle.norm_send_rules.specs.Room.{window, size_of, has_to_go, may_go, may_all_go, can_make_room};
+ghost use Rattle.norm_send_rules.specs.Enqueuing.{object_fault, info_length, with_entry};
+ghost use Rattle.norm_send_rules.specs.declared.fault.EnqueueFault.TheVariants.{Memory as EnqueueMemory};
+ghost use Rattle.tx_window.specs.Held.{HeldObject, octets_of};
+ghost use Rattle.tx_window.specs.Windowed.{Windowed, WindowObject, Filling, Stands, empty_window, reached_by, IsInWindow};
+ghost use Rattle.tx_window.specs.Sound.{all_octets};
 ghost use Rattle.tx_window.specs.Asked.{from_first, info_at, AnswersAt};
+ghost use Rattle.tx_window.specs.Taking.{room_made, filled_entry, with_piece, size_fault, GivesBack, IsRefusal, IsEnqueued};
 
-use crate::held::Held;
+use crate::held::{Held, plan_of};
 use crate::ring::Ring;
 use fec_plan::Position;
-use norm_base::{Datagram, Memory, Profile};
+use norm_base::{Datagram, Kind, Memory, Mode, Octets, Profile};
+use norm_send_rules::EnqueueFault;
 use std::alloc::Global;
 use std::collections::VecDeque;
 use std::marker::Model;
 
+/// How many objects an instance has transport ids for.
+const MOST_OBJECTS: u32 = 65_536;
+
 /// The window of a sender. All its octets lie in one ring, made once.
+///
+/// An object is taken in by [`enqueue`](Window::enqueue), or piece by piece: [`begin`](Window::begin), then
+/// [`fill`](Window::fill) until all its octets are there, then [`finish`](Window::finish), or at any time
+/// [`leave`](Window::leave). Objects are dropped only by `begin` and `enqueue`, for room.
 #[derive(Debug, Drop)]
 pub struct Window {
+    alloc: Global,
     profile: Profile,
     ring: Ring,
     held: VecDeque<Held>,
+    /// How many octets each object has, dropped or not.
+    lengths: Vec<u32>,
+    /// How many octets all objects of the window have, with the one that is being filled.
+    octets: u32,
+    /// The octet of the ring behind them.
+    free: usize,
+    /// The object that is being filled.
+    begun: Option<Held>,
+    /// How many octets of it are there.
+    filled: usize,
     /// How many objects were dropped.
     dropped: u32,
     /// The last source symbol of the last object.
@@ -31,7 +63,8 @@ pub struct Window {
 }
 
 impl Model for Window {
-    ghost use Rattle.tx_window.specs.Windowed.{Windowed, window_view, IsSoundWindow};
+    ghost use Rattle.tx_window.specs.Windowed.{Windowed};
+    ghost use Rattle.tx_window.specs.Sound.{window_view, IsSoundWindow};
 
     ghost Value = { Windowed };
 
@@ -50,6 +83,89 @@ fn held_at(held: &VecDeque<Held>, dropped: u32, index: u32) -> Option<&Held>
     held.get((index - dropped) as usize)
 }
 
+/// How many objects have to go for one of so many octets, and how many octets the others have.
+fn room_for(profile: &Profile, held: &VecDeque<Held>, octets: u32, len: u32) -> (usize, u32)
+    requires octets { octets ≡ all_octets held.now.items }
+    requires most { octets ≤ profile.now.octets }
+    requires len { len ≤ profile.now.octets }
+    ensures count { result.0 ≤ length held.now.items }
+    ensures left { result.1 ≡ all_octets (drop result.0 held.now.items) }
+    ensures few { length held.now.items - result.0 < profile.now.window }
+    ensures fit { result.1 + len ≤ profile.now.octets }
+    ensures exact { (entries : List Entry)
+        → map (λ (x : Entry). size_of profile.now x.object) entries ≡ map (λ (h : HeldObject). octets_of h.cut) held.now.items
+        → result.0 ≡ has_to_go profile.now len entries }
+{
+    let mut left = octets;
+    for place in 0..held.len() {
+        let few = held.len() - place < usize::from(profile.window);
+        if few && left + len <= profile.octets {
+            return (place, left);
+        }
+        left -= held[place].len();
+    }
+    (held.len(), left)
+}
+
+/// Makes room for one more, and says whether there was memory for it.
+fn reserve(held: &mut VecDeque<Held>, lengths: &mut Vec<u32>) -> bool
+    ensures held { held.new.items ≡ held.old.items }
+    ensures lengths { lengths.new.items ≡ lengths.old.items }
+    ensures held_room { result ≡ true → length held.new.items < deque_capacity held.new }
+    ensures lengths_room { result ≡ true → length lengths.new.items < vec_capacity lengths.new }
+{
+    held.reserve(1).is_ok() && lengths.reserve(1).is_ok()
+}
+
+/// Drops so many objects from the front.
+fn drop_front(held: &mut VecDeque<Held>, count: usize)
+    requires { count ≤ length held.old.items }
+    ensures items { held.new.items ≡ drop count held.old.items }
+    ensures capacity { deque_capacity held.new ≡ deque_capacity held.old }
+{
+    held.drain(..count);
+}
+
+/// Whether every receiver is listed past an object's last symbol, where the mode asks for that.
+fn is_released(profile: &Profile, past: &Option<Position>, last: Position) -> bool
+    ensures { result ≡ (elim profile.now.mode [ Hold ↦ reached_by past.now last | Dropping ↦ true ]) }
+{
+    match (profile.mode, past) {
+        (Mode::Drop, _) => true,
+        (Mode::Hold, Some(past)) => last <= *past,
+        (Mode::Hold, None) => false,
+    }
+}
+
+/// What is wrong with the sizes of an object: the first fault that applies.
+#[tactic(auto, unfolding(norm_order::specs::First::first_where))]
+fn size_fault(profile: &Profile, info: usize, len: u64) -> Option<EnqueueFault>
+    ensures exact { result ≡ size_fault profile.now info len }
+    ensures memory { result ≡ Some EnqueueMemory → ⊥ }
+    ensures free { result ≡ None → (1 ≤ len) × (len ≤ profile.now.octets) × (len ≤ 16777216) }
+{
+    if len == 0 {
+        return Some(EnqueueFault::Empty);
+    }
+    if len > u64::from(profile.octets) {
+        return Some(EnqueueFault::TooBig { len });
+    }
+    if info > usize::from(profile.e) {
+        return Some(EnqueueFault::InfoTooBig { len: info as u64 });
+    }
+    None
+}
+
+/// How many octets an info has; without one there are none.
+fn info_len(info: &Option<Octets>) -> usize
+    ensures { result ≡ info_length info.now }
+{
+    match info {
+        Some(info) => info.bytes().len(),
+        None => 0,
+    }
+}
+
 impl Window {
     /// An empty window.
     ///
@@ -65,9 +181,15 @@ impl Window {
         let ring = Ring::new(alloc, (slots * e) as usize)?;
         let held = VecDeque::with_capacity(alloc, usize::from(profile.window))?;
         Ok(Window {
+            alloc,
             profile: *profile,
             ring,
             held,
+            lengths: Vec::new(alloc),
+            octets: 0,
+            free: 0,
+            begun: None,
+            filled: 0,
             dropped: 0,
             last: None,
             past: None,
@@ -90,7 +212,8 @@ impl Window {
 
     /// The index of the next object.
     pub fn next_index(&self) -> u32
-        ensures { (s : SenderState) → Stands self.now s → result ≡ next_index_of s }
+        ensures exact { (s : SenderState) → Stands self.now s → result ≡ next_index_of s }
+        ensures number { result ≡ self.now.dropped + length self.now.objects }
     {
         self.dropped + self.held.len() as u32
     }
@@ -115,6 +238,207 @@ impl Window {
             return None;
         };
         held.info()
+    }
+
+    /// Whether an object may go.
+    fn may_go(&self, place: usize) -> bool
+        requires { place < length self.now.objects }
+        ensures { (s : SenderState) (entry : Entry) → Stands self.now s → slice_get (window s) place ≡ Some entry
+            → result ≡ may_go self.now.p s (self.now.dropped + place) (shape_of self.now.p entry.object) }
+    {
+        let held = &self.held[place];
+        let last = held.last(self.dropped + place as u32);
+        held.is_sent() && is_released(&self.profile, &self.past, last)
+    }
+
+    /// Whether the first objects may all go.
+    fn may_all_go(&self, count: usize) -> bool
+        requires { count ≤ length self.now.objects }
+        ensures { (s : SenderState) → Stands self.now s
+            → result ≡ may_all_go self.now.p s self.now.dropped (take count (window s)) }
+    {
+        for place in 0..count {
+            if !self.may_go(place) {
+                return false;
+            }
+        }
+        true
+    }
+
+    /// Whether there is room for one of so many octets, or what has to go for it may go.
+    fn can_make_room(&self, len: u32) -> bool
+        requires begun { self.now.filling ≡ None }
+        requires len { len ≤ self.now.p.octets }
+        ensures { (s : SenderState) → Stands self.now s → result ≡ can_make_room self.now.p s len }
+    {
+        let (count, _) = room_for(&self.profile, &self.held, self.octets, len);
+        self.may_all_go(count)
+    }
+
+    /// Why an object with so many octets, and an info of so many, is refused: the first fault that applies.
+    fn fault(&self, info: usize, len: u64) -> Option<EnqueueFault>
+        requires begun { self.now.filling ≡ None }
+        ensures exact { (s : SenderState) (name : Option (List ℕ)) (octets : List ℕ) → Stands self.now s → info_length name ≡ info
+            → length octets ≡ len → result ≡ object_fault self.now.p s name octets }
+        ensures memory { result ≡ Some EnqueueMemory → ⊥ }
+        ensures free { result ≡ None → (1 ≤ len) × (len ≤ self.now.p.octets) × (len ≤ 16777216) × (self.now.dropped + length self.now.objects < 65536) }
+    {
+        if let Some(fault) = size_fault(&self.profile, info, len) {
+            return Some(fault);
+        }
+        if self.next_index() >= MOST_OBJECTS {
+            return Some(EnqueueFault::IdsSpent);
+        }
+        if !self.can_make_room(len as u32) {
+            return Some(EnqueueFault::WindowFull {
+                first: self.first().0,
+            });
+        }
+        None
+    }
+
+    /// Begins an object of `len` octets, and drops what has to go for it. It takes all the memory that it needs, before
+    /// anything is dropped.
+    ///
+    /// # Errors
+    ///
+    /// The first of `Empty`, `TooBig`, `InfoTooBig`, `IdsSpent` and `WindowFull` that applies, or `Memory`. Then the
+    /// window is as it was, and the info comes back but for `Memory`.
+    pub fn begin(
+        &mut self,
+        kind: Kind,
+        info: Option<Octets>,
+        len: u64,
+    ) -> Result<(), (Option<Option<Octets>>, EnqueueFault)>
+        requires { self.old.filling ≡ None }
+        ensures begun { IfOk result (λ _. self.new.filling ≡ Some (record { kind = kind; info = info; len = len; octets = [] })) }
+        ensures stands { IfOk result (λ _. (s : SenderState) → Stands self.old s → Stands self.new (room_made self.old.p len s)) }
+        ensures free { IfOk result (λ _. (s : SenderState) (octets : List ℕ) → Stands self.old s → length octets ≡ len
+            → object_fault self.old.p s info octets ≡ None) }
+        ensures profile { self.new.p ≡ self.old.p }
+        ensures refused { MatchResult result (λ _. ⊤) (λ refusal. (s : SenderState) (octets : List ℕ) → Stands self.old s → length octets ≡ len
+            → IsRefusal self.old.p s info octets refusal.1) }
+        ensures back { MatchResult result (λ _. ⊤) (λ refusal. GivesBack info refusal) }
+        ensures same { IsErr result → self.new ≡ self.old }
+    {
+        if let Some(fault) = self.fault(info_len(&info), len) {
+            return Err((Some(info), fault));
+        }
+        let len = len as u32;
+        let Ok(begun) = Held::new(self.alloc, &self.profile, kind, info, len, self.free) else {
+            return Err((None, EnqueueFault::Memory));
+        };
+        if !reserve(&mut self.held, &mut self.lengths) {
+            return Err((None, EnqueueFault::Memory));
+        }
+        let (count, left) = room_for(&self.profile, &self.held, self.octets, len);
+        drop_front(&mut self.held, count);
+        self.octets = left + len;
+        self.dropped += count as u32;
+        self.free = self.ring.behind(self.free, begun.taken());
+        self.begun = Some(begun);
+        self.filled = 0;
+        Ok(())
+    }
+
+    /// Puts the next octets of the object that was begun into the window.
+    pub fn fill(&mut self, piece: &[u8])
+        requires { MatchOption self.old.filling ⊥ (λ f. length f.octets + length piece.now ≤ f.len) }
+        ensures { (f : Filling) → self.old.filling ≡ Some f → self.new ≡ record self.old { filling = Some (with_piece piece.now f) } }
+    {
+        let Some(begun) = &self.begun else {
+            return;
+        };
+        let at = self.ring.behind(begun.start(), self.filled);
+        self.ring.write(at, piece);
+        self.filled += piece.len();
+    }
+
+    /// The object that was begun joins the order, and its index is answered. All its octets have to be there.
+    pub fn finish(&mut self) -> u32
+        requires { MatchOption self.old.filling ⊥ (λ f. length f.octets ≡ f.len) }
+        ensures index { (s : SenderState) → Stands self.old s → result ≡ next_index_of s }
+        ensures stands { (s : SenderState) (by : Origin) (f : Filling) → Stands self.old s → self.old.filling ≡ Some f
+            → Stands self.new (with_entry (filled_entry by f) s) }
+        ensures finished { self.new.filling ≡ None }
+        ensures profile { self.new.p ≡ self.old.p }
+    {
+        let index = self.next_index();
+        let Some(begun) = self.begun.take() else {
+            return index;
+        };
+        let at = self.ring.behind(begun.start(), self.filled);
+        self.ring.clear(at, begun.taken() - self.filled);
+        self.lengths.push(begun.len()).unwrap();
+        self.last = Some(begun.last(index));
+        self.held.push_back(begun).unwrap();
+        index
+    }
+
+    /// Gives up the object that was begun. What was dropped for it stays dropped.
+    pub fn leave(&mut self)
+        ensures { self.new ≡ record self.old { filling = None } }
+    {
+        if let Some(begun) = self.begun.take() {
+            self.free = begun.start();
+            self.octets -= begun.len();
+        }
+    }
+
+    /// Takes an object in at the end of the order, after what has to go for it was dropped, and answers its index.
+    ///
+    /// # Errors
+    ///
+    /// The first of `Empty`, `TooBig`, `InfoTooBig`, `IdsSpent` and `WindowFull` that applies, or `Memory`. Then the
+    /// window is as it was, and the info and the octets come back but for `Memory`.
+    pub fn enqueue(
+        &mut self,
+        kind: Kind,
+        info: Option<Octets>,
+        bytes: Octets,
+    ) -> Result<u32, (Option<(Option<Octets>, Octets)>, EnqueueFault)>
+        requires { self.old.filling ≡ None }
+        ensures enqueued { IfOk result (λ index. (s : SenderState) (by : Origin) → Stands self.old s
+            → IsEnqueued self.old.p s by kind info bytes index self.new) }
+        ensures refused { MatchResult result (λ _. ⊤) (λ refusal. (s : SenderState) → Stands self.old s
+            → IsRefusal self.old.p s info bytes refusal.1) }
+        ensures back { MatchResult result (λ _. ⊤) (λ refusal. GivesBack (info, bytes) refusal) }
+        ensures same { IsErr result → self.new ≡ self.old }
+        ensures finished { self.new.filling ≡ None }
+        ensures profile { self.new.p ≡ self.old.p }
+    {
+        match self.begin(kind, info, bytes.bytes().len() as u64) {
+            Ok(()) => {
+                self.fill(bytes.bytes());
+                Ok(self.finish())
+            }
+            Err((back, fault)) => match back {
+                Some(info) => Err((Some((info, bytes)), fault)),
+                None => Err((None, fault)),
+            },
+        }
+    }
+
+    /// Whether a position is a closed source symbol of the order, also where its object was dropped.
+    pub fn is_source(&self, at: Position) -> bool
+        ensures { (s : SenderState) → Stands self.now s → result ≡ is_source (current_shapes self.now.p s) at }
+    {
+        if at.index as usize >= self.lengths.len() {
+            return false;
+        }
+        let plan = plan_of(&self.profile, self.lengths[at.index as usize]);
+        at.block < plan.blocks() && at.symbol < plan.source_len(at.block)
+    }
+
+    /// Marks an encoded symbol of the window as sent.
+    pub fn note_sent(&mut self, at: Position)
+        requires window { IsInWindow self.old at.index }
+        requires block { (o : WindowObject) → slice_get self.old.objects (at.index - self.old.dropped) ≡ Some o
+            → at.symbol < encoded_in (shape_of self.old.p o.object) at.block }
+        ensures { (s : SenderState) → Stands self.old s → Stands self.new (noted (Symbol at) s) }
+    {
+        let place = (at.index - self.dropped) as usize;
+        self.held[place].note_sent(at.block, at.symbol);
     }
 
     /// Marks the info of an object of the window as sent.

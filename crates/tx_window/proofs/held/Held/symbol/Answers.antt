@@ -26,24 +26,24 @@ returns-then-symbol-encoded_len c = λ p octets holds.
 pub symbol_of-requires-clause-pieces : goal.symbol_of-requires-clause-pieces
 symbol_of-requires-clause-pieces c =
     let plan = c.self.inside.plan in
-    let looked = ap (λ n. n * c.from.result) (c.len.ensures ∙ c.self.invariant.1) ∙ ap (λ n. all_symbols plan * n) (c.from.ensures ∙ c.e.ensures.exact) in
+    let looked = c.taken.ensures.exact ∙ ap (λ (h : HeldObject). all_symbols h.cut * h.cut.e) (sym c.self.view_is) in
     let lies = subst (λ (h : HeldObject). LiesIn c.args.ring.now h) (sym c.self.view_is) c.requires.lies in
-    pieces_long c.args.ring.now c.pieces.result.0.now c.pieces.result.1.now c.self.inside.start (c.len.result * c.from.result) c.pieces.ensures.octets
+    pieces_long c.args.ring.now c.pieces.result.0.now c.pieces.result.1.now c.self.inside.start c.taken.result c.pieces.ensures.octets
     lies.start (omega (arith, looked, lies.room)) ∙ looked
 
 pub symbol_of-requires-clause-whole : goal.symbol_of-requires-clause-whole
 symbol_of-requires-clause-whole c =
     let plan = c.self.inside.plan in
-    let looked = ap (λ n. n * c.from.result) (c.len.ensures ∙ c.self.invariant.1) ∙ ap (λ n. all_symbols plan * n) (c.from.ensures ∙ c.e.ensures.exact) in
+    let looked = c.taken.ensures.exact ∙ ap (λ (h : HeldObject). all_symbols h.cut * h.cut.e) (sym c.self.view_is) in
     let lies = subst (λ (h : HeldObject). LiesIn c.args.ring.now h) (sym c.self.view_is) c.requires.lies in
-    let least : 64 ≤ plan.e = c.e.ensures.sound.least_e in
-    front_whole plan.e (all_symbols plan) c.self.inside.start (length c.args.ring.now) (c.len.result * c.from.result) (length c.pieces.result.0.now)
+    let least : 64 ≤ plan.e = c.blocks-2.ensures.sound.least_e in
+    front_whole plan.e (all_symbols plan) c.self.inside.start (length c.args.ring.now) c.taken.result (length c.pieces.result.0.now)
     (omega (arith, least)) c.pieces.ensures.front_len looked lies.ring_whole lies.start_whole
 
 pub returns : goal.returns
 returns c = λ p octets holds.
     let plan = c.self.inside.plan in
-    let looked = ap (λ n. n * c.from.result) (c.len.ensures ∙ c.self.invariant.1) ∙ ap (λ n. all_symbols plan * n) (c.from.ensures ∙ c.e.ensures.exact) in
+    let looked = c.taken.ensures.exact ∙ ap (λ (h : HeldObject). all_symbols h.cut * h.cut.e) (sym c.self.view_is) in
     let held = subst (λ (h : HeldObject). HoldsObject h.cut (octets_in c.args.ring.now h) p octets) (sym c.self.view_is) holds in
     let in_pieces = subst (λ (xs : List ℕ). HoldsObject plan xs p octets)
     (sym (c.pieces.ensures.octets ∙ ap (round c.args.ring.now c.self.inside.start) looked)) held in

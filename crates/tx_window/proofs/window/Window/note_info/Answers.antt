@@ -1,39 +1,50 @@
-use Rattle.std.proofs.Common.{◌≡◌, ◌-◌, ap, sym, subst, ◌∙◌, arith}
-use Rattle.std.specs.Prelude.{Some, slice_get, nat_lt, slice_set}
+use Rattle.std.proofs.Common.{◌≡◌, ◌-◌, ◌<◌, ap, sym, subst, ◌∙◌, arith, List, length-append}
+use Rattle.std.specs.Prelude.{Some, true, slice_get, nat_lt, slice_set, option_map, option_to_list}
 use Rattle.std.proofs.lemmas.List.{length-map, length-set}
+use Rattle.std.proofs.lemmas.Option.{slice_get-map}
 use Rattle.norm_order.specs.Sets.{with_member}
+use Rattle.norm_send_rules.specs.InWindow.{next_index}
 use Rattle.tx_window.specs.Held.{HeldObject}
-use Rattle.tx_window.specs.Windowed.{Windowed, Stands, IsInWindow, window_object}
-use Rattle.tx_window.proofs.NotingLemmas.{get_there, stands_noted, placed_noted}
+use Rattle.tx_window.specs.Windowed.{Windowed, WindowObject, Stands, IsInWindow}
+use Rattle.tx_window.specs.Sound.{window_object, window_view}
+use Rattle.tx_window.proofs.NotingLemmas.{get_there, stands_noted, maps_set, octets_marked, row_marked, placed_noted}
 use Rattle.tx_window.proofs.window.Window.note_info.Goals as goal
 
 pub invariant_of-self : goal.invariant_of-self
 invariant_of-self c =
     let w = c.self.inside in
     let i = c.args.index - w.dropped in
+    let old = c.index_mut.result.now in
+    let new = c.note_info.new.self in
+    let cut : new.cut ≡ old.cut = ap (λ (h : HeldObject). h.cut) c.note_info.ensures in
+    let start : new.start ≡ old.start = ap (λ (h : HeldObject). h.start) c.note_info.ensures in
     let here = subst (λ (v : Windowed). IsInWindow v c.args.index) (sym c.self.view_is) c.requires in
-    let found : slice_get w.held.items i ≡ Some c.index_mut.result.now =
-    get_there w.held.items i c.index_mut.result.now (omega (arith, here.behind, here.before, length-map w.held.items (window_object w.ring))) c.index_mut.ensures.value in
+    let found : slice_get w.held.items i ≡ Some old =
+    get_there w.held.items i old (omega (arith, here.behind, here.before, length-map w.held.items (window_object w.ring))) c.index_mut.ensures.value in
     record {
-      placed = λ n k e.
-          placed_noted w.profile w.ring w.held.items c.index_mut.result.now i found c.self.invariant.placed n k
-          (ap (λ (h : HeldObject). slice_get (slice_set w.held.items i h) n) (sym c.note_info.ensures) ∙ e);
-      counted = omega (arith, length-set w.held.items i c.note_info.new.self, c.self.invariant.counted);
+      ring_long = c.self.invariant.ring_long;
+      octets = c.self.invariant.octets ∙ sym (octets_marked w.held.items (option_to_list w.begun) i old new found cut);
+      row = row_marked w.ring w.profile w.held.items (option_to_list w.begun) w.free i old new found cut start c.self.invariant.row;
+      placed = placed_noted w.profile w.ring w.held.items old new i found cut start c.self.invariant.placed;
+      filling = c.self.invariant.filling;
+      room = λ h e. omega (arith, length-set w.held.items i new, c.self.invariant.room h e);
+      counted = omega (arith, length-set w.held.items i new, c.self.invariant.counted, length-append w.held.items (option_to_list w.begun), length-append (slice_set w.held.items i new) (option_to_list w.begun));
+      sized = c.self.invariant.sized;
+      numbered = omega (arith, length-set w.held.items i new, c.self.invariant.numbered);
     }
 
 pub returns : goal.returns
 returns c = λ s stands.
     let w = c.self.inside in
     let i = c.args.index - w.dropped in
+    let old = c.index_mut.result.now in
     let here = subst (λ (v : Windowed). IsInWindow v c.args.index) (sym c.self.view_is) c.requires in
-    let found : slice_get w.held.items i ≡ Some c.index_mut.result.now =
-    get_there w.held.items i c.index_mut.result.now (omega (arith, here.behind, here.before, length-map w.held.items (window_object w.ring))) c.index_mut.ensures.value in
-    subst (λ (h : HeldObject). Stands (record {
-      p = w.profile;
-      dropped = w.dropped;
-      objects = Rattle.std.specs.Prelude.map (window_object w.ring) (slice_set w.held.items i h);
-      last = w.last;
-      past = w.past;
-    }) (record s { sent_infos = with_member nat_lt c.args.index s.sent_infos })) (sym c.note_info.ensures)
-    (stands_noted w.profile w.dropped w.ring w.held.items w.last w.past c.index_mut.result.now i c.args.index s found (omega (arith, here.behind))
-    (subst (λ (v : Windowed). Stands v s) (sym c.self.view_is) stands))
+    let found : slice_get w.held.items i ≡ Some old =
+    get_there w.held.items i old (omega (arith, here.behind, here.before, length-map w.held.items (window_object w.ring))) c.index_mut.ensures.value in
+    let stood = subst (λ (v : Windowed). Stands v s) (sym c.self.view_is) stands in
+    let before : c.args.index < next_index s = omega (arith, stood.next, here.before) in
+    subst (λ (os : List WindowObject). Stands (record (window_view w) { objects = os }) (record s { sent_infos = with_member nat_lt c.args.index s.sent_infos }))
+    (sym (ap (λ (h : HeldObject). Rattle.std.specs.Prelude.map (window_object w.ring) (slice_set w.held.items i h)) c.note_info.ensures ∙ maps_set (window_object w.ring) w.held.items i (record old { info_sent = true })))
+    (stands_noted (window_view w) s (window_object w.ring old) i c.args.index
+    (slice_get-map (window_object w.ring) w.held.items i ∙ ap (option_map (window_object w.ring)) found)
+    (omega (arith, here.behind)) before stood)

@@ -1,6 +1,8 @@
 use Rattle.std.proofs.Common.{◌≤◌, sym, subst, arith, refl, take}
 use Rattle.tx_window.specs.Held.{octets_in}
-use Rattle.tx_window.specs.Windowed.{Windowed, Stands, octets_of, object_in}
+use Rattle.tx_window.specs.Windowed.{Windowed, Stands}
+use Rattle.tx_window.specs.Held.{octets_of}
+use Rattle.tx_window.specs.Sound.{object_in}
 use Rattle.tx_window.specs.Asked.{AnswersAt}
 use Rattle.tx_window.proofs.WindowLemmas.{found_at, kept_held, answers_kept}
 use Rattle.tx_window.proofs.window.Window.symbol.Goals as goal
@@ -12,7 +14,7 @@ symbol-requires-clause-lies c =
 pub symbol-requires-clause-room : goal.symbol-requires-clause-room
 symbol-requires-clause-room c =
     let most : c.in-Some.held.now.cut.e ≤ 1400 =
-    (c.self.invariant.placed _ c.in-Some.held.now (found_at c.self.inside.dropped c.args.at.index c.self.inside.held.items c.in-Some.held.now c.in-Some.ensures)).most in
+    (c.self.invariant.placed _ c.in-Some.held.now (found_at c.self.inside.dropped c.args.at.index c.self.inside.held.items c.in-Some.held.now c.in-Some.ensures)).sound.most_e in
     omega (arith, most, c.requires)
 
 pub returns : goal.returns

@@ -1,0 +1,149 @@
+-- A window one of whose symbols was sent.
+use Rattle.std.proofs.Common.{◌≡◌, ℕ, zero, suc, ◌+◌, ◌<◌, ◌≤◌, ◌⊎◌, inl, inr, Bool, true, false, refl, sym, ap, ◌∙◌, subst, arith, Some, List, [], ◌∷◌, length, map, take}
+use Rattle.std.specs.Prelude.{slice_get, nat_lt, is_some, slice_set}
+use Rattle.std.proofs.Math.ListN.{set}
+use Rattle.std.proofs.lemmas.Bool.{cases_lt, lt-ltb, le-ltb}
+use Rattle.norm_base.specs.Settings.{Settings}
+use Rattle.fec_plan.specs.declared.position.Position.{Position}
+use Rattle.fec_plan.specs.Points.{position, position_before}
+use Rattle.fec_plan.specs.Partition.{Cut, IsSound, cut_of, blocks, source_symbols, symbol_number}
+use Rattle.norm_order.specs.Sets.{with_member, is_member}
+use Rattle.norm_order.specs.Shapes.{shape_of, sources_in, encoded_in}
+use Rattle.norm_send_rules.specs.SenderState.{SenderState}
+use Rattle.norm_send_rules.specs.InWindow.{next_index}
+use Rattle.norm_send_rules.specs.Sending.{noted}
+use Rattle.norm_send_rules.specs.declared.want.Want.TheVariants.{Symbol}
+use Rattle.tx_window.specs.Held.{HeldObject, octets_of, octets_in, with_sent}
+use Rattle.tx_window.specs.Windowed.{Windowed, WindowObject, Stands, KnowsSent}
+use Rattle.tx_window.specs.Sound.{IsPlaced, window_object, object_in}
+use Rattle.tx_window.proofs.HeldLemmas.{taken, refused, encoded_none}
+use Rattle.tx_window.proofs.MemberLemmas.{self_in, others_in, positions}
+use Rattle.tx_window.proofs.NotingLemmas.{with_marks, stands_marked}
+use Rattle.tx_window.proofs.SourcesLemmas.{source_at, source_found, source_index}
+
+map_same : (f g : Position → Bool) (xs : List Position) → ((k : ℕ) (q : Position) → slice_get xs k ≡ Some q → g q ≡ f q) → map g xs ≡ map f xs
+map_same f g [] same = refl
+map_same f g (x ∷ xs) same = ap (λ b. b ∷ map g xs) (same 0 x refl) ∙ ap (λ bs. f x ∷ bs) (map_same f g xs (λ k q e. same (suc k) q e))
+
+map_one : (f g : Position → Bool) (xs : List Position) (m : ℕ) (x : Position) → slice_get xs m ≡ Some x → g x ≡ true
+    → ((k : ℕ) (q : Position) → slice_get xs k ≡ Some q → (k ≡ m → ⊥) → g q ≡ f q) → map g xs ≡ set (map f xs) m true
+map_one f g [] m x found is same = absurd (cc)
+map_one f g (y ∷ ys) zero x found is same =
+    ap (λ b. b ∷ map g ys) (ap g (let z : y ≡ x = cc in z) ∙ is) ∙ ap (λ bs. true ∷ bs) (map_same f g ys (λ k q e. same (suc k) q e (λ z. omega arith)))
+map_one f g (y ∷ ys) (suc m) x found is same =
+    ap (λ b. b ∷ map g ys) (same 0 y refl (λ z. omega arith)) ∙ ap (λ bs. f y ∷ bs) (map_one f g ys m x found is (λ k q e apart. same (suc k) q e (λ z. apart (omega arith))))
+
+-- whether a position was sent, before and after
+abbrev sent_in : SenderState → Position → Bool
+sent_in s q = is_member position_before q s.sent
+
+abbrev sent_with : SenderState → Position → Position → Bool
+sent_with s at q = is_member position_before q (with_member position_before at s.sent)
+
+other_same : (s : SenderState) (at q : Position) → (q ≡ at → ⊥) → sent_with s at q ≡ sent_in s q
+other_same s at q apart = others_in position_before q at s.sent positions apart
+
+abbrev after : SenderState → Position → SenderState
+after s at = with_marks (with_member position_before at s.sent) s.sent_infos s
+
+-- what was sent of the other objects is as it was
+others_known : (p : Settings) (s : SenderState) (at : Position) (index : ℕ) (x : WindowObject) → (at.index ≡ index → ⊥) → KnowsSent s index p x → KnowsSent (after s at) index p x
+others_known p s at index x apart known = record {
+  symbols = known.symbols ∙ sym (map_same (sent_in s) (sent_with s at) (sources_in index (shape_of p x.object))
+      (λ k q e. other_same s at q (λ same. apart (sym (ap (λ (y : Position). y.index) same) ∙ source_index index (shape_of p x.object) k q e))));
+  info = known.info;
+}
+
+sent_next : (s : SenderState) (at q : Position) → at.index < next_index s → ((y : Position) → sent_in s y ≡ true → y.index < next_index s) → sent_with s at q ≡ true → q.index < next_index s
+sent_next s at q lt before there = elim (cases_lt q.index (next_index s)) [
+  | inl less ↦ less
+  | inr past ↦ before q (sym (other_same s at q (λ same. absurd (far (ap (λ (y : Position). y.index) same) past))) ∙ there)
+]
+  where
+    far : q.index ≡ at.index → next_index s ≤ q.index → ⊥
+    far e le = omega arith
+
+pub stands_sent : (w : Windowed) (s : SenderState) (ring : List ℕ) (h : HeldObject) (i : ℕ) (at : Position) → slice_get w.objects i ≡ Some (window_object ring h)
+    → IsPlaced ring w.p h → at.index ≡ w.dropped + i → at.index < next_index s → at.block < blocks h.cut → Stands w s
+    → Stands (record w { objects = set w.objects i (window_object ring (with_sent h at.block at.symbol)) }) (noted (Symbol at) s)
+stands_sent w s ring h i at found placed index-is before block stands = go (cases_lt at.symbol (source_symbols h.cut at.block))
+  where
+    l : ℕ
+    l = length (take (octets_of h.cut) (octets_in ring h))
+
+    cut : h.cut ≡ cut_of l w.p.e w.p.b w.p.max_n
+    cut = placed.holds.cut
+
+    sound : IsSound (cut_of l w.p.e w.p.b w.p.max_n)
+    sound = subst IsSound cut placed.sound
+
+    known : KnowsSent s (w.dropped + i) w.p (window_object ring h)
+    known = stands.sent i (window_object ring h) found
+
+    with_object : (v : WindowObject) → v.object ≡ object_in ring h → KnowsSent (after s at) (w.dropped + i) w.p v
+        → Stands (record w { objects = set w.objects i v }) (noted (Symbol at) s)
+    with_object v same here =
+        stands_marked w s (with_member position_before at s.sent) s.sent_infos i (window_object ring h) v found same here
+        (λ n x apart old. others_known w.p s at (w.dropped + n) x (λ e. apart (omega (arith, e, index-is))) old)
+        (λ q there. sent_next s at q before stands.sent_before there) stands.infos_before stands
+
+    source : at.symbol < source_symbols h.cut at.block
+        → slice_set h.sent (symbol_number h.cut at.block at.symbol) true ≡ map (sent_with s at) (sources_in (w.dropped + i) (shape_of w.p (object_in ring h)))
+    source lt =
+        ap (λ (k : Cut). slice_set h.sent (symbol_number k at.block at.symbol) true) cut
+        ∙ ap (λ bs. slice_set bs (symbol_number (cut_of l w.p.e w.p.b w.p.max_n) at.block at.symbol) true) known.symbols
+        ∙ sym (map_one (sent_in s) (sent_with s at) (sources_in (w.dropped + i) (shape_of w.p (object_in ring h))) (symbol_number (cut_of l w.p.e w.p.b w.p.max_n) at.block at.symbol) at
+        (source_found (w.dropped + i) l w.p.e w.p.b w.p.max_n (is_some h.info) at.block at.symbol sound
+        (subst (λ (k : Cut). at.block < blocks k) cut block) (subst (λ (k : Cut). at.symbol < source_symbols k at.block) cut lt)
+        ∙ ap (λ n. Some (position n at.block at.symbol)) (sym index-is))
+        (self_in position_before at s.sent positions)
+        (λ k q e apart. other_same s at q (λ same. apart (sym (source_at (w.dropped + i) l w.p.e w.p.b w.p.max_n (is_some h.info) k q sound e).0.1
+        ∙ ap (λ (y : Position). symbol_number (cut_of l w.p.e w.p.b w.p.max_n) y.block y.symbol) same))))
+
+    parity : source_symbols h.cut at.block ≤ at.symbol
+        → h.sent ≡ map (sent_with s at) (sources_in (w.dropped + i) (shape_of w.p (object_in ring h)))
+    parity le = known.symbols ∙ sym (map_same (sent_in s) (sent_with s at) (sources_in (w.dropped + i) (shape_of w.p (object_in ring h)))
+        (λ k q e. other_same s at q (λ same. far q same (source_at (w.dropped + i) l w.p.e w.p.b w.p.max_n (is_some h.info) k q sound e).1 (ap (λ (c : Cut). source_symbols c at.block) cut) le)))
+      where
+        far : (q : Position) → q ≡ at → q.symbol < source_symbols (cut_of l w.p.e w.p.b w.p.max_n) q.block
+            → source_symbols h.cut at.block ≡ source_symbols (cut_of l w.p.e w.p.b w.p.max_n) at.block → source_symbols h.cut at.block ≤ at.symbol → ⊥
+        far q same less is ge =
+            let here : at.symbol < source_symbols (cut_of l w.p.e w.p.b w.p.max_n) at.block = subst (λ (y : Position). y.symbol < source_symbols (cut_of l w.p.e w.p.b w.p.max_n) y.block) same less in
+            omega (arith, here, is, ge)
+
+    go : (at.symbol < source_symbols h.cut at.block) ⊎ (source_symbols h.cut at.block ≤ at.symbol)
+        → Stands (record w { objects = set w.objects i (window_object ring (with_sent h at.block at.symbol)) }) (noted (Symbol at) s)
+    go (inl lt) =
+        subst (λ (k : HeldObject). Stands (record w { objects = set w.objects i (window_object ring k) }) (noted (Symbol at) s))
+        (sym (taken (nat_lt at.symbol (source_symbols h.cut at.block)) (record h { sent = slice_set h.sent (symbol_number h.cut at.block at.symbol) true }) h (lt-ltb at.symbol (source_symbols h.cut at.block) lt)))
+        (with_object (window_object ring (record h { sent = slice_set h.sent (symbol_number h.cut at.block at.symbol) true })) refl (record { symbols = source lt; info = known.info }))
+    go (inr le) =
+        subst (λ (k : HeldObject). Stands (record w { objects = set w.objects i (window_object ring k) }) (noted (Symbol at) s))
+        (sym (refused (nat_lt at.symbol (source_symbols h.cut at.block)) (record h { sent = slice_set h.sent (symbol_number h.cut at.block at.symbol) true }) h (le-ltb at.symbol (source_symbols h.cut at.block) le)))
+        (with_object (window_object ring h) refl (record { symbols = parity le; info = known.info }))
+
+-- an encoded symbol is in a block of the object
+pub block_there : (p : Settings) (ring : List ℕ) (h : HeldObject) (block symbol : ℕ) → IsPlaced ring p h → symbol < encoded_in (shape_of p (object_in ring h)) block → block < blocks h.cut
+block_there p ring h block symbol placed lt = elim (cases_lt block (blocks h.cut)) [
+  | inl less ↦ less
+  | inr past ↦ absurd (never (encoded_none p h.kind h.info (take (octets_of h.cut) (octets_in ring h)) block (subst IsSound placed.holds.cut placed.sound)
+      (subst (λ (k : Cut). blocks k ≤ block) placed.holds.cut past)))
+]
+  where
+    never : encoded_in (shape_of p (object_in ring h)) block ≡ 0 → ⊥
+    never e = omega (arith, e, lt)
+
+-- marks of sent symbols change neither how an object is cut nor where it lies
+pub same_cut : (h : HeldObject) (block symbol : ℕ) → (with_sent h block symbol).cut ≡ h.cut
+same_cut h block symbol = go (nat_lt symbol (source_symbols h.cut block))
+  where
+    go : (b : Bool) → (elim b as (λ v. HeldObject) [ true ↦ record h { sent = slice_set h.sent (symbol_number h.cut block symbol) true } | false ↦ h ]).cut ≡ h.cut
+    go true = refl
+    go false = refl
+
+pub same_start : (h : HeldObject) (block symbol : ℕ) → (with_sent h block symbol).start ≡ h.start
+same_start h block symbol = go (nat_lt symbol (source_symbols h.cut block))
+  where
+    go : (b : Bool) → (elim b as (λ v. HeldObject) [ true ↦ record h { sent = slice_set h.sent (symbol_number h.cut block symbol) true } | false ↦ h ]).start ≡ h.start
+    go true = refl
+    go false = refl

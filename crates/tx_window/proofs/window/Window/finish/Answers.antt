@@ -1,0 +1,179 @@
+use Rattle.std.proofs.Common.{◌≡◌, ◌+◌, ◌-◌, ◌≤◌, ◌++◌, ap, sym, subst, ◌∙◌, arith, None, Some, ℕ, Option, List, [], ◌∷◌, length, length-append, map, take}
+use Rattle.std.specs.Prelude.{slice_get, option_to_list, option_map, MatchOption, replicate, is_some, if◌then◌else◌}
+use Rattle.std.proofs.lemmas.List.{append-nil, map-append, length-replicate}
+use Rattle.norm_base.specs.Settings.{Settings}
+use Rattle.fec_plan.specs.Partition.{Cut, IsSound, cut_of, all_symbols}
+use Rattle.norm_order.specs.Entries.{Whole}
+use Rattle.norm_order.specs.Shapes.{last_in}
+use Rattle.norm_send_rules.specs.Enqueuing.{with_entry}
+use Rattle.tx_window.specs.Held.{HeldObject, octets_of, octets_in}
+use Rattle.tx_window.specs.Round.{round, IsAround}
+use Rattle.tx_window.specs.Windowed.{Windowed, WindowObject, Filling, Stands}
+use Rattle.tx_window.specs.Taking.{filled_entry}
+use Rattle.tx_window.specs.Sound.{window_view, window_object, filling_in, IsRow, IsPlaced, IsFilling, all_kept, taken_by, all_octets}
+use Rattle.tx_window.proofs.RoundLemmas.{length-round}
+use Rattle.tx_window.proofs.RowLemmas.{symbols_taken}
+use Rattle.tx_window.proofs.BeginningLemmas.{placed_cut, cut_more, placed_more, sized_more}
+use Rattle.tx_window.proofs.JoiningLemmas.{stands_joined}
+use Rattle.tx_window.proofs.FillingLemmas.{IsPut, put_zeros, filled_more, kept_octets, kept_objects, placed_kept, row_kept, filling_kept, octets_taken, whole_placed}
+use Rattle.tx_window.proofs.window.Window.finish.Goals as goal
+
+was : (c : goal.After-unwrap-2) → c.self.inside.begun ≡ Some c.in-Some.begun
+was c = sym c.take.ensures.value ∙ c.in-Some.is
+
+begun : (c : goal.After-unwrap-2) → IsFilling c.self.inside.ring c.self.inside.profile c.self.inside.filled c.in-Some.begun
+begun c = c.self.invariant.filling c.in-Some.begun (was c)
+
+seen : (c : goal.After-unwrap-2) → c.args.self.now.filling ≡ Some (filling_in c.self.inside.ring c.self.inside.filled c.in-Some.begun)
+seen c = ap (λ (v : Windowed). v.filling) (sym c.self.view_is) ∙ ap (option_map (filling_in c.self.inside.ring c.self.inside.filled)) (was c)
+
+-- all octets are there, and zeros are behind them
+pub record Facts (c : goal.After-unwrap-2) : Type 0 where
+  pub some : 64 ≤ c.self.inside.profile.e
+  pub within : c.self.inside.filled ≤ taken_by c.in-Some.begun
+  pub long : length (round c.self.inside.ring c.in-Some.begun.start c.self.inside.filled) ≡ c.self.inside.filled
+  pub all : c.self.inside.filled ≡ octets_of c.in-Some.begun.cut
+  pub pad : c.taken.result - c.self.inside.filled ≡ taken_by c.in-Some.begun - c.self.inside.filled
+
+facts : (c : goal.After-unwrap-2) → Facts c
+facts c =
+    let w = c.self.inside in
+    let h = c.in-Some.begun in
+    let p : Settings = w.profile in
+    let e-is : h.cut.e ≡ p.e = ap (λ (k : Cut). k.e) (begun c).cut in
+    let taken = symbols_taken p h (omega (arith, e-is, (begun c).sound.least_e)) (begun c).cut in
+    let within : w.filled ≤ taken_by h = omega (arith, (begun c).within, taken.1.0) in
+    let long = length-round w.ring h.start w.filled (begun c).lies.start (omega (arith, within, (begun c).lies.room)) in
+    let whole = subst (λ (r : Option Filling). MatchOption r ⊥ (λ f. length f.octets ≡ f.len)) (seen c) c.requires in
+    record {
+      some = omega (arith, e-is, (begun c).sound.least_e);
+      within = within;
+      long = long;
+      all = sym long ∙ whole;
+      pad = ap (λ n. n - w.filled) c.taken.ensures.exact;
+    }
+
+put : (c : goal.After-unwrap-2) → IsPut c.self.inside.ring c.clear.new.self (replicate (c.taken.result - c.self.inside.filled) 0) c.in-Some.begun.start c.self.inside.filled c.behind-at.result
+put c =
+    put_zeros c.self.inside.ring c.clear.new.self c.in-Some.begun.start c.self.inside.filled c.behind-at.result (c.taken.result - c.self.inside.filled) c.clear.ensures.size
+    (subst (λ n. IsAround (length c.self.inside.ring) (n + c.self.inside.filled) c.behind-at.result) c.start.ensures c.behind-at.ensures) c.clear.ensures.cleared c.clear.ensures.others
+
+kept : (c : goal.After-unwrap-2) (i : ℕ) (o : HeldObject) → slice_get c.self.inside.held.items i ≡ Some o → octets_in c.clear.new.self o ≡ octets_in c.self.inside.ring o
+kept c =
+    let w = c.self.inside in
+    let h = c.in-Some.begun in
+    let p : Settings = w.profile in
+    let all : all_kept w ≡ w.held.items ++ h ∷ [] = ap (λ b. w.held.items ++ option_to_list b) (was c) in
+    kept_octets w.ring c.clear.new.self (replicate (c.taken.result - w.filled) 0) p w.held.items h w.free w.filled c.behind-at.result (put c) (omega (arith, (facts c).some)) c.self.invariant.ring_long
+    (subst (λ ks. IsRow w.ring p ks w.free) all c.self.invariant.row)
+    (cut_more p w.held.items h (λ i k e. placed_cut w.ring p k (c.self.invariant.placed i k e)) (begun c).cut)
+    (omega (arith, length-replicate {A = ℕ} (c.taken.result - w.filled) 0, (facts c).pad, (facts c).within))
+
+-- the object's octets, as they lie in the ring
+whole : (c : goal.After-unwrap-2) → octets_in c.clear.new.self c.in-Some.begun
+    ≡ round c.self.inside.ring c.in-Some.begun.start c.self.inside.filled ++ replicate (c.taken.result - c.self.inside.filled) 0
+whole c =
+    let w = c.self.inside in
+    let h = c.in-Some.begun in
+    let pad = length-replicate {A = ℕ} (c.taken.result - w.filled) 0 in
+    ap (round c.clear.new.self h.start) (let e : taken_by h ≡ w.filled + length (replicate {A = ℕ} (c.taken.result - w.filled) 0) = omega (arith, pad, (facts c).pad, (facts c).within) in e)
+    ∙ filled_more w.ring c.clear.new.self (replicate (c.taken.result - w.filled) 0) h.start w.filled c.behind-at.result (put c) (begun c).lies.start
+    (omega (arith, pad, (facts c).pad, (facts c).within, (begun c).lies.room))
+
+placed : (c : goal.After-unwrap-2) → IsPlaced c.clear.new.self c.self.inside.profile c.in-Some.begun
+placed c =
+    let w = c.self.inside in
+    let h = c.in-Some.begun in
+    whole_placed c.clear.new.self (round w.ring h.start w.filled) w.profile w.filled (c.taken.result - w.filled) h
+    (filling_kept w.ring c.clear.new.self w.profile w.filled w.filled h c.clear.ensures.size (begun c).within (begun c))
+    ((facts c).long ∙ (facts c).all) (omega (arith, (facts c).pad, (facts c).within, (facts c).all)) (whole c)
+
+-- the lists after one more was put behind them
+held_is : (c : goal.After-unwrap-2) → c.push_back.new.self.items ≡ c.self.inside.held.items ++ c.in-Some.begun ∷ []
+held_is c =
+    c.push_back.ensures.items
+    ∙ ap (λ b. if b then c.self.inside.held.items ++ c.in-Some.begun ∷ [] else c.self.inside.held.items) (c.push_back.ensures.succeeds (let room = (c.self.invariant.room c.in-Some.begun (was c)).0 in omega (arith, room)))
+
+lengths_is : (c : goal.After-unwrap-2) → c.push.new.self.items ≡ c.self.inside.lengths.items ++ c.len.result ∷ []
+lengths_is c =
+    c.push.ensures.items
+    ∙ ap (λ b. if b then c.self.inside.lengths.items ++ c.len.result ∷ [] else c.self.inside.lengths.items) (c.push.ensures.succeeds (let room = (c.self.invariant.room c.in-Some.begun (was c)).1 in omega (arith, room, c.self.inside.lengths.ok.0)))
+
+all_is : (c : goal.After-unwrap-2) → c.push_back.new.self.items ++ option_to_list c.take.new.self ≡ all_kept c.self.inside
+all_is c =
+    ap (λ b. c.push_back.new.self.items ++ option_to_list b) c.take.ensures.after ∙ append-nil c.push_back.new.self.items ∙ held_is c
+    ∙ ap (λ b. c.self.inside.held.items ++ option_to_list b) (sym (was c))
+
+pub invariant_of-self-2 : goal.invariant_of-self-2
+invariant_of-self-2 c =
+    let w = c.self.inside in
+    let old = c.self.invariant in
+    let new = c.clear.new.self in
+    record {
+      ring_long = c.clear.ensures.size ∙ old.ring_long;
+      octets = old.octets ∙ ap all_octets (sym (all_is c));
+      row = subst (λ ks. IsRow new w.profile ks w.free) (sym (all_is c)) (row_kept w.ring new w.profile (all_kept w) w.free c.clear.ensures.size old.row);
+      placed = subst (λ (ks : List HeldObject). (i : ℕ) (k : HeldObject) → slice_get ks i ≡ Some k → IsPlaced new w.profile k) (sym (held_is c))
+          (placed_more new w.profile w.held.items c.in-Some.begun
+          (λ i o e. placed_kept w.ring new w.profile o c.clear.ensures.size (kept c i o e) (old.placed i o e)) (placed c));
+      filling = λ k e. absurd (never k (sym c.take.ensures.after ∙ e));
+      room = λ k e. absurd (never k (sym c.take.ensures.after ∙ e));
+      counted = omega (arith, old.counted, ap length (all_is c));
+      sized = subst (λ (ls : List ℕ). (i l : ℕ) → slice_get ls i ≡ Some l → (1 ≤ l) × (l ≤ 16777216)) (sym (lengths_is c))
+          (sized_more w.lengths.items c.len.result old.sized (omega (arith, c.len.ensures.exact, (begun c).some), omega (arith, c.len.ensures.exact, (begun c).most)));
+      numbered = omega (arith, old.numbered, ap length (held_is c), ap length (lengths_is c), length-append w.held.items (c.in-Some.begun ∷ []), length-append w.lengths.items (c.len.result ∷ []));
+    }
+  where
+    never : (k : HeldObject) → ◌≡◌ {A = Option HeldObject} None (Some k) → ⊥
+    never k e = cc
+
+pub returns-clause-stands : goal.returns-clause-stands
+returns-clause-stands c = λ s by f stands f-is.
+    let w = c.self.inside in
+    let h = c.in-Some.begun in
+    let p : Settings = w.profile in
+    let new = c.clear.new.self in
+    let octets = round w.ring h.start w.filled in
+    let here = subst (λ (v : Windowed). Stands v s) (sym c.self.view_is) stands in
+    let long : length octets ≡ octets_of h.cut = (facts c).long ∙ (facts c).all in
+    let cut : h.cut ≡ cut_of (length octets) p.e p.b p.max_n = (begun c).cut ∙ ap (λ n. cut_of n p.e p.b p.max_n) (sym long) in
+    let same : filling_in w.ring w.filled h ≡ f = is f (sym (seen c) ∙ f-is) in
+    let object = ap (Whole h.kind h.info) (ap (take (octets_of h.cut)) (whole c) ∙ octets_taken octets (replicate (c.taken.result - w.filled) 0) (octets_of h.cut) long) in
+    let joined = stands_joined (window_view w) s by h.kind h.info octets (window_object new h) c.last.result object (subst IsSound cut (begun c).sound)
+    (ap (λ (k : HeldObject). k.sent) (begun c).fresh ∙ ap (λ (k : Cut). replicate (all_symbols k) Rattle.std.specs.Prelude.false) cut)
+    (ap (λ (k : HeldObject). k.info_sent) (begun c).fresh)
+    (ap (λ i. last_in i (record { cut = cut_of (length octets) p.e p.b p.max_n; closed = all_symbols (cut_of (length octets) p.e p.b p.max_n); info = is_some h.info })) (sym (c.next_index-index.ensures.exact s stands))
+    ∙ ap (λ (k : Cut). last_in c.next_index-index.result (record { cut = k; closed = all_symbols k; info = is_some h.info })) (sym cut) ∙ c.last.ensures (is_some h.info))
+    here in
+    let objects : map (window_object w.ring) w.held.items ++ window_object new h ∷ [] ≡ map (window_object new) c.push_back.new.self.items =
+    ap (λ os. os ++ window_object new h ∷ []) (sym (kept_objects w.ring new w.held.items (kept c)))
+    ∙ sym (map-append (window_object new) w.held.items (h ∷ [])) ∙ ap (map (window_object new)) (sym (held_is c)) in
+    let lengths : w.lengths.items ++ length octets ∷ [] ≡ c.push.new.self.items = ap (λ n. w.lengths.items ++ n ∷ []) (long ∙ sym c.len.ensures.exact) ∙ sym (lengths_is c) in
+    let t = with_entry (record { by = by; object = Whole h.kind h.info octets }) s in
+    subst (λ (g : Filling). Stands (record (window_view w) {
+      objects = map (window_object new) c.push_back.new.self.items;
+      lengths = c.push.new.self.items;
+      filling = option_map (filling_in new w.filled) c.take.new.self;
+      last = Some c.last.result;
+    }) (with_entry (filled_entry by g) s)) same
+    (subst (λ (b : Option HeldObject). Stands (record (window_view w) {
+      objects = map (window_object new) c.push_back.new.self.items;
+      lengths = c.push.new.self.items;
+      filling = option_map (filling_in new w.filled) b;
+      last = Some c.last.result;
+    }) t) (sym c.take.ensures.after)
+    (subst (λ (ls : List ℕ). Stands (record (window_view w) {
+      objects = map (window_object new) c.push_back.new.self.items;
+      lengths = ls;
+      filling = None;
+      last = Some c.last.result;
+    }) t) lengths
+    (subst (λ (os : List WindowObject). Stands (record (window_view w) {
+      objects = os;
+      lengths = w.lengths.items ++ length octets ∷ [];
+      filling = None;
+      last = Some c.last.result;
+    }) t) objects joined)))
+  where
+    is : (f : Filling) → Some (filling_in c.self.inside.ring c.self.inside.filled c.in-Some.begun) ≡ Some f → filling_in c.self.inside.ring c.self.inside.filled c.in-Some.begun ≡ f
+    is f e = cc
