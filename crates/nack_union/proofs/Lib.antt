@@ -5,3 +5,14 @@ pub mod Orders
 pub mod Dropped
 pub mod Standing
 pub mod Unions
+pub mod Freshness
+pub mod Closings
+pub mod Members
+pub mod Counted
+pub mod Rounding
+pub mod Idle
+pub mod Lists
+pub mod Collecting
+pub mod ByRules
+pub mod Collections
+pub mod Windows

@@ -21,7 +21,7 @@ use Rattle.norm_send_rules.specs.Laws.{Rise}
 use Rattle.norm_send_rules.specs.declared.want.Want.{Want}
 use Rattle.norm_send_rules.specs.declared.want.Want.TheVariants.{Symbol}
 use Rattle.norm_send_rules.proofs.ClosingLemmas.{rise_more}
-use Rattle.nack_union.specs.Slots.{want_at, symbol_slot, slot_of_want}
+use Rattle.nack_union.specs.Slots.{want_at, symbol_slot}
 use Rattle.nack_union.specs.Kept.{Marked, Kept, Stands, with_object, listed, shape_of_marked}
 use Rattle.nack_union.proofs.Orders.{put_at, same_at, lowest_at, none_at, joined_at, symbol_at}
 use Rattle.nack_union.proofs.Dropped.{filter_with_want, symbols_with, behind_start, filter_twice, listed_dropped, not_behind_start}
@@ -53,24 +53,6 @@ stands_noted p s u k at new d lt index few is st = record {
   where
     here : s.current.drop.index ≤ at.index
     here = let f = st.first in omega (arith, f, index)
-
--- something is wanted
-pub stands_wanted : (p : Settings) (s : SenderState) (u : Kept) (k : ℕ) (w : Want) (new d : Marked)
-    → k < length u.objects → want_at (u.first + k) (slot_of_want w) ≡ w
-    → new ≡ record (get_or u.objects k d) { wants = with_member nat_lt (slot_of_want w) (get_or u.objects k d).wants }
-    → Stands p u s → Stands p (record u { objects = set u.objects k new }) (record s { wants = with_member want_before w s.wants })
-stands_wanted p s u k w new d lt at is st = record {
-  first = st.first;
-  whole = st.whole;
-  next = ap (λ n. u.first + n) (length-set u.objects k new) ∙ st.next;
-  shapes = same_shapes u.objects k new d (ap shape_of_marked is) ∙ st.shapes;
-  wants =
-      put_at (λ m. m.wants) u.first k (slot_of_want w) u.objects new d lt (ap (λ (m : Marked). m.wants) is)
-      ∙ ap (λ v. with_member want_before v (listed (λ m. m.wants) u.first u.objects)) at
-      ∙ ap (with_member want_before w) st.wants;
-  rise = st.rise;
-  sent = same_at (λ m. m.sent) u.first k u.objects new d lt (ap (λ (m : Marked). m.sent) is) ∙ st.sent;
-}
 
 -- the lowest want is taken out
 pub stands_next : (p : Settings) (s : SenderState) (u : Kept) (k slot : ℕ) (new d : Marked)
@@ -144,3 +126,17 @@ stands_retired p s u n le st = record {
         go : (want_index w < s.current.drop.index) ⊎ (s.current.drop.index ≤ want_index w) → stands_behind s.current.drop w ≡ true
         go (inl lt) = let f = st.first in let gone = not_behind_start (point (u.first + n) 0) w refl (omega (arith, f, lt)) in absurd (cc)
         go (inr le) = behind_start s.current.drop w st.whole le
+
+-- what a round asks for changes nothing else
+pub stands_asked : (p : Settings) (s : SenderState) (u : Kept) (k : ℕ) (new d : Marked) → k < length u.objects
+    → shape_of_marked new ≡ shape_of_marked (get_or u.objects k d) → new.wants ≡ (get_or u.objects k d).wants → new.sent ≡ (get_or u.objects k d).sent
+    → Stands p u s → Stands p (record u { objects = set u.objects k new }) s
+stands_asked p s u k new d lt shape wants sent st = record {
+  first = st.first;
+  whole = st.whole;
+  next = ap (λ n. u.first + n) (length-set u.objects k new) ∙ st.next;
+  shapes = same_shapes u.objects k new d shape ∙ st.shapes;
+  wants = same_at (λ m. m.wants) u.first k u.objects new d lt wants ∙ st.wants;
+  rise = st.rise;
+  sent = same_at (λ m. m.sent) u.first k u.objects new d lt sent ∙ st.sent;
+}

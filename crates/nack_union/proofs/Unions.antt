@@ -74,7 +74,7 @@ trans : (u v w : Want) → want_before u v ≡ true → want_before v w ≡ true
 trans u v w e f = (first_of u v (w ∷ []) e ((f, tt), (tt, tt))).1.0
 
 -- where a want goes
-in_front : (x w : Want) (ws : List Want) → want_before x w ≡ true → with_member want_before x (w ∷ ws) ≡ x ∷ w ∷ ws
+pub in_front : (x w : Want) (ws : List Want) → want_before x w ≡ true → with_member want_before x (w ∷ ws) ≡ x ∷ w ∷ ws
 unfolding with_member
 in_front x w ws e = go (want_before x w) e
   where
@@ -82,7 +82,7 @@ in_front x w ws e = go (want_before x w) e
     go true e = refl
     go false e = absurd (cc)
 
-further : (x w : Want) (ws : List Want) → want_before x w ≡ false → want_before w x ≡ true → with_member want_before x (w ∷ ws) ≡ w ∷ with_member want_before x ws
+pub further : (x w : Want) (ws : List Want) → want_before x w ≡ false → want_before w x ≡ true → with_member want_before x (w ∷ ws) ≡ w ∷ with_member want_before x ws
 unfolding with_member
 further x w ws e f = go (want_before x w) (want_before w x) e f
   where
@@ -91,7 +91,7 @@ further x w ws e f = go (want_before x w) (want_before w x) e f
     go false true e f = refl
     go false false e f = absurd (cc)
 
-there : (w : Want) (ws : List Want) → with_member want_before w (w ∷ ws) ≡ w ∷ ws
+pub there : (w : Want) (ws : List Want) → with_member want_before w (w ∷ ws) ≡ w ∷ ws
 unfolding with_member
 there w ws = go (want_before w w) (not_itself w)
   where
@@ -99,7 +99,7 @@ there w ws = go (want_before w w) (not_itself w)
     go true e = absurd (cc)
     go false e = refl
 
-alone : (w : Want) → with_member want_before w [] ≡ w ∷ []
+pub alone : (w : Want) → with_member want_before w [] ≡ w ∷ []
 unfolding with_member
 alone w = refl
 
@@ -163,6 +163,11 @@ pub put_last : (more : List Want) (x : Want) (ws : List Want)
     → with_members want_before more (with_member want_before x ws) ≡ with_member want_before x (with_members want_before more ws)
 put_last [] x ws = refl
 put_last (y ∷ more) x ws = ap (with_members want_before more) (put_either y x ws) ∙ put_last more x (with_member want_before y ws)
+
+-- those that are put in first may be put in last
+pub put_swap : (xs ys ws : List Want) → with_members want_before xs (with_members want_before ys ws) ≡ with_members want_before ys (with_members want_before xs ws)
+put_swap [] ys ws = refl
+put_swap (x ∷ xs) ys ws = ap (with_members want_before xs) (sym (put_last ys x ws)) ∙ put_swap xs ys (with_member want_before x ws)
 
 -- the members of a set with one more
 pub put_set : (set : List Want) (x : Want) (ws : List Want)

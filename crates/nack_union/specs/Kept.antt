@@ -1,21 +1,26 @@
 -- What a union keeps of a sender's state, and which states it stands for: objects of data and files.
-use Rattle.std.specs.Prelude.{◌≡◌, ℕ, suc, ◌+◌, List, [], ◌∷◌, ◌++◌, length, map, filter, drop, Bool}
+use Rattle.std.specs.Prelude.{◌≡◌, ◌<◌, ◌≤◌, ℕ, suc, ◌+◌, ◌-◌, List, [], ◌∷◌, ◌++◌, length, map, filter, drop, replicate, Bool, nat_lt, slice_index, set}
 use Rattle.norm_base.specs.Settings.{Settings}
-use Rattle.fec_plan.specs.Partition.{Cut, all_symbols}
+use Rattle.fec_plan.specs.Partition.{Cut, IsSound, blocks, all_symbols, encoding_symbols}
 use Rattle.norm_order.specs.Shapes.{Shape}
 use Rattle.norm_send_rules.specs.SenderState.{SenderState}
 use Rattle.norm_send_rules.specs.Laws.{Rise}
 use Rattle.norm_send_rules.specs.InWindow.{stands_behind, next_index, current_shapes}
 use Rattle.norm_send_rules.specs.declared.want.Want.{Want}
 use Rattle.norm_send_rules.specs.declared.want.Want.TheVariants.{Symbol}
+use Rattle.norm_order.specs.Sets.{with_members}
 use Rattle.nack_union.specs.Slots.{want_at}
+use Rattle.nack_union.specs.Repairs.{counted_slots}
 
--- an object of the window: how it is cut, whether it has info, and the slots that are wanted and that were sent
+-- An object of the window: how it is cut, whether it has info, and the slots that are wanted and that were sent. What the
+-- open round asks for: slots, and of each block the greatest count.
 pub record Marked : Type 0 where
   pub cut : Cut
   pub info : Bool
   pub wants : List ℕ
   pub sent : List ℕ
+  pub asked : List ℕ
+  pub counts : List ℕ
 
 -- a union: the index of the window's first object, and its objects in order
 pub record Kept : Type 0 where
@@ -24,11 +29,37 @@ pub record Kept : Type 0 where
 
 -- an object as it is admitted
 abbrev pub admitted : Cut → Bool → Marked
-admitted cut info = record { cut = cut; info = info; wants = []; sent = [] }
+admitted cut info = record { cut = cut; info = info; wants = []; sent = []; asked = []; counts = replicate (blocks cut) 0 }
+
+-- what holds of a block that is counted: nothing is wrong with its object's cut, which has it, and its symbols' ids have 8 bits
+pub record IsRepairable (c : Cut) (block : ℕ) : Type 0 where
+  pub sound : IsSound c
+  pub within : block < blocks c
+  pub named : encoding_symbols c block ≤ 255
+
+-- what holds of each object: its counted blocks can be repaired
+abbrev pub IsCounted : Marked → Type 0
+IsCounted m = (block : ℕ) → 0 < slice_index m.counts block → IsRepairable m.cut block
+
+-- an object of which the round is closed: what it asked for is wanted, and nothing is asked for
+abbrev pub closed_marks : Marked → Marked
+closed_marks m = record m {
+  wants = with_members nat_lt (with_members nat_lt (counted_slots m.cut m.sent 0 m.counts) m.asked) m.wants;
+  asked = [];
+  counts = replicate (length m.counts) 0;
+}
+
+-- a union of which the round is closed
+abbrev pub closed_union : Kept → Kept
+closed_union u = record u { objects = map closed_marks u.objects }
 
 -- the union with one more object
 abbrev pub with_object : Marked → Kept → Kept
 with_object m u = record u { objects = u.objects ++ m ∷ [] }
+
+-- the union with other marks of the object with an index
+abbrev pub with_marks : ℕ → Marked → Kept → Kept
+with_marks index m u = record u { objects = set u.objects (index - u.first) m }
 
 -- a union as an instance begins
 abbrev pub begun_union : Kept

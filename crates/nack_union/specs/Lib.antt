@@ -1,7 +1,10 @@
 pub mod Places
 pub mod Words
 pub mod Slots
+pub mod Repairs
 pub mod Kept
+pub mod Rounds
+pub mod Collected
 pub mod Sound
 pub mod SoundUnion
 pub mod Laws

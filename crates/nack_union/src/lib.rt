@@ -5,6 +5,7 @@
 pub mod laws;
 mod marks;
 mod mask;
+mod repairs;
 mod union;
 
 pub use crate::mask::Mask;

@@ -1,15 +1,16 @@
 //! What a union keeps of one object.
 
-ghost use Rattle.std.specs.Prelude.{◌≡◌, ◌^◌, ◌<◌, ◌≤◌, ◌∷◌, [], not, nat_lt, IfOk, MatchOption, true, ℕ, length};
+ghost use Rattle.std.specs.Prelude.{◌≡◌, ◌+◌, ◌^◌, ◌<◌, ◌≤◌, ◌∷◌, [], not, nat_lt, IfOk, MatchOption, true, ℕ, length, max, set, slice_index};
 ghost use Rattle.fec_plan.specs.Partition.{blocks};
 ghost use Rattle.norm_order.specs.Sets.{with_member, is_member};
 ghost use Rattle.nack_union.specs.Slots.{slots, symbol_slot, slot_of_want, want_at, IsNamed};
 ghost use Rattle.norm_send_rules.specs.Wants.{want_index};
-ghost use Rattle.nack_union.specs.Kept.{admitted};
+ghost use Rattle.nack_union.specs.Kept.{admitted, closed_marks, IsCounted};
 ghost use Rattle.norm_send_rules.specs.declared.want.Want.TheVariants.{Symbol};
 ghost use Rattle.fec_plan.specs.Points.{position};
 
 use crate::mask::Mask;
+use crate::repairs::ask_counted;
 use fec_plan::{Plan, Position};
 use norm_base::Memory;
 use norm_send_rules::Want;
@@ -19,7 +20,8 @@ use std::marker::Model;
 /// The slots of a block: one for each id that a symbol can have.
 const BLOCK: usize = 256;
 
-/// An object of the window: which of its slots are wanted, and how many, and which were sent.
+/// An object of the window: which of its slots are wanted, and how many, and which were sent. Of the open round the slots
+/// that it asks for, of each block the greatest count, and whether it asks for anything.
 #[derive(Debug, Drop)]
 pub struct Marks {
     plan: Plan,
@@ -27,6 +29,9 @@ pub struct Marks {
     wants: Mask,
     wanted: usize,
     sent: Mask,
+    asked: Mask,
+    counts: Vec<u8>,
+    is_asked: bool,
 }
 
 impl Model for Marks {
@@ -95,12 +100,17 @@ impl Marks {
         let places = BLOCK * plan.blocks() as usize + 1;
         let wants = Mask::with_room(alloc, places)?;
         let sent = Mask::with_room(alloc, places)?;
+        let asked = Mask::with_room(alloc, places)?;
+        let counts = vec![in alloc; 0; plan.blocks() as usize]?;
         Ok(Marks {
             plan: *plan,
             info,
             wants,
             wanted: 0,
             sent,
+            asked,
+            counts,
+            is_asked: false,
         })
     }
 
@@ -109,19 +119,6 @@ impl Marks {
         ensures { result ≡ nat_lt 0 (length self.now.wants) }
     {
         self.wanted > 0
-    }
-
-    /// Puts a slot into the wants, and says whether it is new there.
-    pub fn want(&mut self, slot: usize) -> bool
-        requires { slot < slots (blocks self.old.cut) }
-        ensures new { result ≡ not (is_member nat_lt slot self.old.wants) }
-        ensures marks { self.new ≡ record self.old { wants = with_member nat_lt slot self.old.wants } }
-    {
-        let is_new = self.wants.insert(slot);
-        if is_new {
-            self.wanted += 1;
-        }
-        is_new
     }
 
     /// Notes that what stands at a slot was sent.
@@ -140,5 +137,40 @@ impl Marks {
         let slot = self.wants.take_lowest()?;
         self.wanted -= 1;
         Some(slot)
+    }
+    /// Puts a slot into what the round asks for.
+    pub fn ask(&mut self, slot: usize)
+        requires { slot < slots (blocks self.old.cut) }
+        ensures { self.new ≡ record self.old { asked = with_member nat_lt slot self.old.asked } }
+    {
+        self.asked.insert(slot);
+        self.is_asked = true;
+    }
+
+    /// The round asks for so many symbols of a block. The greatest count stands.
+    pub fn count(&mut self, block: u32, lacking: u8)
+        requires { block < blocks self.old.cut }
+        ensures { self.new ≡ record self.old { counts = set self.old.counts block (max (slice_index self.old.counts block) lacking) } }
+    {
+        let most = self.counts[block as usize].max(lacking);
+        self.counts[block as usize] = most;
+        self.is_asked = true;
+    }
+
+    /// Closes the round: what it asked for is wanted. Says how many wants are new.
+    pub fn close(&mut self) -> usize
+        ensures marks { self.new ≡ closed_marks self.old }
+        ensures new { length self.new.wants ≡ length self.old.wants + result }
+        ensures counted { IsCounted self.old }
+    {
+        if !self.is_asked {
+            return 0;
+        }
+        self.is_asked = false;
+        ask_counted(&mut self.asked, &self.sent, &self.plan, &self.counts);
+        self.counts.fill(0);
+        let new = self.wants.take_all(&mut self.asked);
+        self.wanted += new;
+        new
     }
 }

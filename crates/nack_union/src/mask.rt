@@ -1,7 +1,8 @@
 //! A set of places as words of 64 bits.
 
-ghost use Rattle.std.specs.Prelude.{◌≡◌, ◌+◌, ◌<◌, ◌≤◌, ◌∷◌, [], not, nat_lt, length, IfOk, MatchOption, slice_index, ◌≢◌, ℕ, IfSome};
-ghost use Rattle.norm_order.specs.Sets.{with_member, is_member};
+ghost use Rattle.std.specs.Prelude.{◌≡◌, ◌+◌, ◌*◌, ◌^◌, ◌<◌, ◌≤◌, ◌∷◌, [], not, nat_lt, length, IfOk, MatchOption, slice_index, ◌≢◌, ℕ, IfSome};
+ghost use Rattle.std.specs.Int.{div_ceil};
+ghost use Rattle.norm_order.specs.Sets.{with_member, with_members, is_member};
 
 use norm_base::Memory;
 use std::alloc::Global;
@@ -43,11 +44,10 @@ fn first_filled(words: &[u64], from: usize) -> Option<usize>
 }
 
 impl Mask {
-    /// The empty set, with room for so many places.
+    /// The empty set, with room for so many places: as many words as they need.
     pub fn with_room(alloc: Global, places: usize) -> Result<Mask, Memory>
         ensures empty { IfOk result (λ mask. mask.members ≡ []) }
-        ensures room { IfOk result (λ mask. places ≤ mask.size) }
-        ensures most { IfOk result (λ mask. mask.size < places + 64) }
+        ensures size { IfOk result (λ mask. mask.size ≡ 64 * div_ceil places 64) }
     {
         let words = vec![in alloc; 0; places.div_ceil(WORD)]?;
         Ok(Mask { words, lowest: 0 })
@@ -100,5 +100,25 @@ impl Mask {
         let bit = bits.trailing_zeros() as usize;
         self.words[word] = bits & !(1 << bit);
         Some(WORD * word + bit)
+    }
+    /// Takes all members out of another set of the same size and puts them into this one, and says how many are new here.
+    pub fn take_all(&mut self, other: &mut Mask) -> usize
+        requires same { other.old.size ≡ self.old.size }
+        requires few { self.old.size < 2 ^ 64 }
+        ensures members { self.new.members ≡ with_members nat_lt other.old.members self.old.members }
+        ensures emptied { other.new.members ≡ [] }
+        ensures new { length self.new.members ≡ length self.old.members + result }
+        ensures few { length self.new.members ≤ self.old.size }
+        ensures size { self.new.size ≡ self.old.size }
+        ensures other_size { other.new.size ≡ other.old.size }
+    {
+        let _ = &self.words;
+        let mut new = 0;
+        'places: while let Some(place) = other.take_lowest() {
+            if self.insert(place) {
+                new += 1;
+            }
+        }
+        new
     }
 }

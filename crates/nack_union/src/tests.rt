@@ -1,6 +1,7 @@
 //! A set of a few places across words, one as large as an object's symbols can be, and the calls of a union.
 
-ghost use Rattle.std.specs.Prelude.{◌≡◌, ◌≤◌, ◌∷◌, [], true};
+ghost use Rattle.std.specs.Prelude.{◌≡◌, ◌*◌, ◌∷◌, [], true, false};
+ghost use Rattle.std.specs.Int.{div_ceil};
 ghost use Rattle.fec_plan.specs.Partition.{cut_of};
 ghost use Rattle.nack_union.specs.Kept.{admitted};
 
@@ -13,7 +14,7 @@ use std::process::Abort;
 
 /// A set with room for so many places.
 fn mask_of(rt: &impl Abort, alloc: Global, places: usize) -> Mask
-    ensures { places ≤ result.size }
+    ensures { result.size ≡ 64 * div_ceil places 64 }
 {
     match Mask::with_room(alloc, places) {
         Ok(mask) => mask,
@@ -79,10 +80,12 @@ fn slots_are_sent_in_the_order_of_wants(rt: HostRuntime) {
         Err(Memory) => panic!(&rt; "no memory for an object"),
     };
     assert_eq!(rt; marks.is_wanted(), false);
-    assert_eq!(rt; marks.want(258), true);
-    assert_eq!(rt; marks.want(8), true);
-    assert_eq!(rt; marks.want(258), false);
-    assert_eq!(rt; marks.want(0), true);
+    marks.ask(258);
+    marks.ask(8);
+    marks.ask(258);
+    marks.ask(0);
+    assert_eq!(rt; marks.is_wanted(), false);
+    assert_eq!(rt; marks.close(), 3);
     assert_eq!(rt; marks.is_wanted(), true);
     assert_eq!(rt; marks.take_lowest(), Some(0));
     assert_eq!(rt; marks.take_lowest(), Some(8));
@@ -113,9 +116,93 @@ fn a_want_is_sent_once(rt: HostRuntime) {
         block: 2,
         symbol: 5,
     };
-    union.want(Want::Symbol { at });
+    union.ask(Want::Symbol { at });
+    assert_eq!(rt; union.close_round(), 1);
     assert_eq!(rt; union.next(), Some(Want::Symbol { at }));
     assert_eq!(rt; union.next(), None);
+}
+
+/// A union with an object of one block, of 4 source and 2 parity symbols, without info.
+fn union_of_block(rt: &impl Abort, alloc: Global) -> Union
+    ensures first { result.first ≡ 0 }
+    ensures objects { result.objects ≡ admitted (cut_of 256 64 4 6) false ∷ [] }
+{
+    let mut union = Union::new(alloc);
+    let plan = Plan::of(256, 64, 4, 6).expect(rt, "a plan");
+    match union.admit(0, &plan, false) {
+        Ok(()) => union,
+        Err(Memory) => panic!(rt; "no memory for an object"),
+    }
+}
+
+#[test]
+fn a_count_asks_for_the_lowest_parity(rt: HostRuntime) {
+    let mut union = union_of_block(&rt, rt.alloc());
+    union.count(0, 0, 2);
+    assert_eq!(rt; union.close_round(), 2);
+    for symbol in [4, 5] {
+        let at = Position {
+            index: 0,
+            block: 0,
+            symbol,
+        };
+        assert_eq!(rt; union.next(), Some(Want::Symbol { at }), "symbol {symbol}");
+    }
+    assert_eq!(rt; union.next(), None);
+}
+
+/// The marks of such an object.
+fn marks_of_block(rt: &impl Abort, alloc: Global) -> Marks
+    ensures { result ≡ admitted (cut_of 256 64 4 6) false }
+{
+    let plan = Plan::of(256, 64, 4, 6).expect(rt, "a plan");
+    match Marks::new(alloc, &plan, false) {
+        Ok(marks) => marks,
+        Err(Memory) => panic!(rt; "no memory for an object"),
+    }
+}
+
+#[test]
+fn the_greatest_count_stands(rt: HostRuntime) {
+    let mut marks = marks_of_block(&rt, rt.alloc());
+    marks.count(0, 1);
+    marks.count(0, 2);
+    marks.count(0, 1);
+    assert_eq!(rt; marks.close(), 2);
+    assert_eq!(rt; marks.take_lowest(), Some(5));
+    assert_eq!(rt; marks.take_lowest(), Some(6));
+    assert_eq!(rt; marks.take_lowest(), None);
+}
+
+#[test]
+fn where_no_parity_is_fresh_all_sources_are_asked_for(rt: HostRuntime) {
+    let mut marks = marks_of_block(&rt, rt.alloc());
+    marks.note_sent(5);
+    marks.note_sent(6);
+    marks.count(0, 1);
+    assert_eq!(rt; marks.close(), 4);
+    for slot in [1, 2, 3, 4] {
+        assert_eq!(rt; marks.take_lowest(), Some(slot), "slot {slot}");
+    }
+    assert_eq!(rt; marks.take_lowest(), None);
+}
+
+#[test]
+fn a_want_that_was_not_sent_is_fresh(rt: HostRuntime) {
+    let mut marks = marks_of_block(&rt, rt.alloc());
+    marks.ask(5);
+    assert_eq!(rt; marks.close(), 1);
+    marks.count(0, 1);
+    assert_eq!(rt; marks.close(), 0);
+}
+
+#[test]
+fn counts_of_0_and_255(rt: HostRuntime) {
+    let mut marks = marks_of_block(&rt, rt.alloc());
+    marks.count(0, 0);
+    assert_eq!(rt; marks.close(), 0);
+    marks.count(0, 255);
+    assert_eq!(rt; marks.close(), 4);
 }
 
 #[test]

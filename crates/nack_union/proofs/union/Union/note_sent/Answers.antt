@@ -3,11 +3,13 @@ use Rattle.std.specs.Prelude.{nat_lt}
 use Rattle.norm_order.specs.Sets.{with_member}
 use Rattle.nack_union.specs.Slots.{symbol_slot}
 use Rattle.nack_union.specs.Kept.{Kept, Marked, Stands}
+use Rattle.nack_union.specs.Collected.{Collects}
+use Rattle.nack_union.proofs.Collections.{collects_kept}
 use Rattle.nack_union.proofs.Standing.{stands_noted}
 use Rattle.nack_union.proofs.union.Union.note_sent.Goals as goal
 
-pub returns : goal.returns
-returns c = λ p s st.
+pub returns-clause-stands : goal.returns-clause-stands
+returns-clause-stands c = λ p s st.
     let view = c.self.view_is in
     let first = ap (λ (u : Kept). u.first) view in
     let many = ap (λ (u : Kept). length u.objects) view in
@@ -19,3 +21,17 @@ returns c = λ p s st.
     ∙ ap (λ (n : ℕ). record (c.index_mut-object.result.now) { sent = with_member nat_lt n c.index_mut-object.result.now.sent }) c.slot_of.ensures
     ∙ ap (λ (m : Marked). record m { sent = with_member nat_lt (symbol_slot c.args.at.block c.args.at.symbol) m.sent }) c.index_mut-object.ensures.value)
     (subst (λ (u : Kept). Stands p u s) (sym view) st)
+
+pub returns-clause-collects : goal.returns-clause-collects
+returns-clause-collects c = λ p s asked col.
+    let view = c.self.view_is in
+    let first = ap (λ (u : Kept). u.first) view in
+    let many = ap (λ (u : Kept). length u.objects) view in
+    let from = c.requires.first in
+    let to = c.requires.object in
+    let there = c.index_mut-object.ensures.value in
+    let kept = collects_kept p s (record { first = c.self.inside.first; objects = c.self.inside.objects.items }) asked (c.args.at.index - c.self.inside.first) c.note_sent.new.self c.index_mut-object.result.now
+    (omega (arith, first, many, from, to))
+    (ap (λ (m : Marked). m.asked) c.note_sent.ensures ∙ ap (λ (m : Marked). m.asked) there) (ap (λ (m : Marked). m.counts) c.note_sent.ensures ∙ ap (λ (m : Marked). m.counts) there)
+    (subst (λ (u : Kept). Collects p u s asked) (sym view) col) in
+    record { known = kept.known; named = kept.named; counts = kept.counts }

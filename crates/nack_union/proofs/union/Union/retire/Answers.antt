@@ -6,11 +6,13 @@ use Rattle.norm_send_rules.specs.Dropping.{dropped_to}
 use Rattle.norm_send_rules.specs.InWindow.{stands_behind}
 use Rattle.nack_union.specs.Kept.{Kept, Marked, Stands}
 use Rattle.nack_union.proofs.Dropped.{any_dropped}
+use Rattle.nack_union.specs.Collected.{Collects}
+use Rattle.nack_union.proofs.Windows.{collects_retired}
 use Rattle.nack_union.proofs.Standing.{stands_retired}
 use Rattle.nack_union.proofs.union.Union.retire.Goals as goal
 
-pub returns : goal.returns
-returns c = λ p s st.
+pub returns-clause-stands : goal.returns-clause-stands
+returns-clause-stands c = λ p s st.
     let view = c.self.view_is in
     let first = ap (λ (u : Kept). u.first) view in
     let many = ap (λ (u : Kept). length u.objects) view in
@@ -28,3 +30,17 @@ returns c = λ p s st.
           ∙ sym (any_dropped (λ m. m.wants) (point c.args.index 0) c.self.inside.first (c.args.index - c.self.inside.first) c.self.inside.objects.items refl (sym at))
           ∙ ap (list_any (λ w. not (stands_behind (point c.args.index 0) w))) stands.wants,
     )
+
+pub returns-clause-collects : goal.returns-clause-collects
+returns-clause-collects c = λ p s asked st col.
+    let view = c.self.view_is in
+    let first = ap (λ (u : Kept). u.first) view in
+    let many = ap (λ (u : Kept). length u.objects) view in
+    let from = c.requires.not_back in
+    let to = c.requires.within in
+    let u : Kept = record { first = c.self.inside.first; objects = c.self.inside.objects.items } in
+    let at : c.self.inside.first + (c.args.index - c.self.inside.first) ≡ c.args.index = omega (arith, first, from) in
+    let after = collects_retired p s u asked (c.args.index - c.self.inside.first) (omega (arith, first, many, from, to))
+    (subst (λ (k : Kept). Stands p k s) (sym view) st) (subst (λ (k : Kept). Collects p k s asked) (sym view) col) in
+    subst (λ (ms : List Marked). Collects p (record { first = c.args.index; objects = ms }) (dropped_to (point c.args.index 0) s) asked) (sym c.drop_front.ensures)
+    (subst (λ (i : ℕ). Collects p (record { first = i; objects = drop (c.args.index - c.self.inside.first) c.self.inside.objects.items }) (dropped_to (point i 0) s) asked) at after)

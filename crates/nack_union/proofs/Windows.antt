@@ -1,0 +1,188 @@
+-- What a union collected stays as objects enter and leave the window.
+use Rattle.std.proofs.Common.{◌≡◌, ℕ, zero, suc, ◌+◌, ◌<◌, ◌≤◌, ◌⊎◌, inl, inr, List, [], ◌∷◌, ◌++◌, length, get_or, take, drop, replicate, Bool, true, false, Option, Some, None, refl, sym, ap, ◌∙◌, cond, arith, flat_map}
+use Rattle.std.specs.Prelude.{not, ◌&&◌, nat_lt, filter, slice_get}
+use Rattle.std.specs.List.{AllByRecursion}
+use Rattle.std.proofs.lemmas.Bool.{cases_lt}
+use Rattle.std.proofs.lemmas.List.{length-drop, length-take, take-append-le, length-append, length-map, map-append}
+use Rattle.norm_base.specs.Settings.{Settings}
+use Rattle.fec_plan.specs.Points.{Point, point, point_before}
+use Rattle.fec_plan.specs.declared.position.Position.{Position}
+use Rattle.norm_ext.specs.Asking.{Count, asked_counts}
+use Rattle.norm_order.specs.Entries.{Entry}
+use Rattle.norm_order.specs.Sets.{with_member, with_members}
+use Rattle.norm_order.specs.Shapes.{Shape, shape_of, at_index, closed_in}
+use Rattle.norm_send_rules.specs.SenderState.{SenderState, Asked}
+use Rattle.norm_send_rules.specs.InWindow.{stands_behind, current_shapes, next_index}
+use Rattle.norm_send_rules.specs.Asking.{wants_of, counts_of, as_it_came, shapes_at, asks_for, is_kept}
+use Rattle.norm_send_rules.specs.Closing.{greatest}
+use Rattle.norm_send_rules.specs.Dropping.{dropped_to}
+use Rattle.norm_send_rules.specs.Enqueuing.{with_entry}
+use Rattle.norm_send_rules.specs.Laws.{Rise}
+use Rattle.norm_send_rules.specs.Wants.{want_before, want_index}
+use Rattle.norm_send_rules.specs.declared.want.Want.{Want}
+use Rattle.norm_send_rules.proofs.ClosingLemmas.{rise_more}
+use Rattle.nack_union.specs.Kept.{Marked, Kept, Stands, with_object}
+use Rattle.nack_union.specs.Collected.{Collects}
+use Rattle.nack_union.proofs.Collecting.{some_greatest, past_end}
+use Rattle.nack_union.proofs.Dropped.{behind_start, not_behind_start, filter_with_want, filter_twice, listed_dropped}
+use Rattle.nack_union.proofs.Idle.{at_front, at_end, zeros}
+use Rattle.nack_union.proofs.Lists.{In, in_flat, in_filter}
+use Rattle.nack_union.proofs.Orders.{joined_at}
+use Rattle.nack_union.proofs.Unions.{Side, side, in_front, further, there}
+
+-- one that does not pass adds nothing to what passes
+passes_not : (test : Want → Bool) (x : Want) (ws : List Want) → test x ≡ false → filter test (with_member want_before x ws) ≡ filter test ws
+unfolding with_member
+passes_not test x [] e = ap (λ b. cond b (x ∷ []) []) e
+passes_not test x (w ∷ ws) e = go (side x w) (passes_not test x ws e)
+  where
+    go : Side x w → filter test (with_member want_before x ws) ≡ filter test ws → filter test (with_member want_before x (w ∷ ws)) ≡ filter test (w ∷ ws)
+    go (inl h) rest = ap (filter test) (in_front x w ws h.0) ∙ ap (λ b. cond b (x ∷ filter test (w ∷ ws)) (filter test (w ∷ ws))) e
+    go (inr (inl same)) rest = ap (λ v. filter test (with_member want_before v (w ∷ ws))) same ∙ ap (filter test) (there w ws)
+    go (inr (inr h)) rest = ap (filter test) (further x w ws h.0 h.1) ∙ ap (λ zs. cond (test w) (w ∷ zs) zs) rest
+
+-- what stands behind a drop point of a set
+filter_set : (d : Point) (xs ws : List Want) → d.block ≡ 0 → Rise ws
+    → filter (stands_behind d) (with_members want_before xs ws) ≡ with_members want_before (filter (stands_behind d) xs) (filter (stands_behind d) ws)
+filter_set d [] ws whole rise = refl
+filter_set d (x ∷ xs) ws whole rise = filter_set d xs (with_member want_before x ws) whole (rise_more (x ∷ []) ws rise) ∙ go (stands_behind d x) refl
+  where
+    after : stands_behind d x ≡ true → (want_index x < d.index) ⊎ (d.index ≤ want_index x) → d.index ≤ want_index x
+    after e (inl lt) = absurd (clash (sym (not_behind_start d x whole lt) ∙ e))
+      where
+        clash : false ≡ true → ⊥
+        clash h = cc
+    after e (inr le) = le
+
+    go : (b : Bool) → stands_behind d x ≡ b
+        → with_members want_before (filter (stands_behind d) xs) (filter (stands_behind d) (with_member want_before x ws))
+        ≡ with_members want_before (cond b (x ∷ filter (stands_behind d) xs) (filter (stands_behind d) xs)) (filter (stands_behind d) ws)
+    go true e = ap (with_members want_before (filter (stands_behind d) xs)) (filter_with_want d x ws whole e (after e (cases_lt (want_index x) d.index)) rise)
+    go false e = ap (with_members want_before (filter (stands_behind d) xs)) (passes_not (stands_behind d) x ws e)
+
+behind_both : (d e : Point) → d.block ≡ 0 → e.block ≡ 0 → d.index ≤ e.index → (w : Want) → stands_behind e w ≡ true → stands_behind d w ≡ true
+behind_both d e whole start le w h = go (cases_lt (want_index w) e.index)
+  where
+    clash : false ≡ true → ⊥
+    clash h = cc
+
+    go : (want_index w < e.index) ⊎ (e.index ≤ want_index w) → stands_behind d w ≡ true
+    go (inl lt) = absurd (clash (sym (not_behind_start e w start lt) ∙ h))
+    go (inr more) = behind_start d w whole (omega (arith, le, more))
+
+get_drop : (n : ℕ) (ms : List Marked) (k : ℕ) (d : Marked) → n + k < length ms → get_or (drop n ms) k d ≡ get_or ms (n + k) d
+get_drop zero ms k d lt = ap (λ i. get_or ms i d) (let e : k ≡ 0 + k = omega arith in e)
+get_drop (suc n) [] k d lt = absurd (omega arith)
+get_drop (suc n) (m ∷ ms) k d lt = get_drop n ms k d (omega arith) ∙ ap (λ i. get_or (m ∷ ms) i d) (let e : suc (n + k) ≡ suc n + k = omega arith in e)
+
+-- the first n objects are dropped
+pub collects_retired : (p : Settings) (s : SenderState) (u : Kept) (asked : List Asked) (n : ℕ) → n ≤ length u.objects → Stands p u s → Collects p u s asked
+    → Collects p (record { first = u.first + n; objects = drop n u.objects }) (dropped_to (point (u.first + n) 0) s) asked
+collects_retired p s u asked n le st col = record {
+  known = col.known;
+  named =
+      sym (listed_dropped (λ m. m.asked) (point (u.first + n) 0) u.first n u.objects refl refl)
+      ∙ ap (filter (stands_behind (point (u.first + n) 0))) col.named
+      ∙ filter_set (point (u.first + n) 0) (filter (stands_behind s.current.drop) all) [] refl tt
+      ∙ ap (λ ws. with_members want_before ws []) (filter_twice s.current.drop (point (u.first + n) 0) all
+      (behind_both s.current.drop (point (u.first + n) 0) st.whole refl (let f = st.first in omega (arith, f))));
+  counts = λ k d lt block.
+      ap (λ (m : Marked). get_or m.counts block 0) (get_drop n u.objects k d (omega (arith, lt, length-drop n u.objects)))
+      ∙ col.counts (n + k) d (omega (arith, lt, length-drop n u.objects)) block
+      ∙ ap (λ i. greatest (flat_map (counts_of p (current_shapes p s)) asked) (point i block)) (let e : u.first + (n + k) ≡ u.first + n + k = omega arith in e);
+}
+  where
+    all : List Want
+    all = flat_map (wants_of p (current_shapes p s)) asked
+
+-- what requests ask for stays as the order grows
+flat_same : {X : Type 0} (f g : Asked → List X) (n : ℕ) (asked : List Asked) → ((a : Asked) → a.next ≤ n → f a ≡ g a) → AllByRecursion (λ (a : Asked). a.next ≤ n) asked
+    → flat_map f asked ≡ flat_map g asked
+flat_same f g n [] same known = refl
+flat_same f g n (a ∷ asked) same known = ap (λ xs. xs ++ flat_map f asked) (same a known.0) ∙ ap (λ xs. g a ++ xs) (flat_same f g n asked same known.1)
+
+came_same : (a : Asked) (shapes : List Shape) (x : Shape) → a.next ≤ length shapes → as_it_came a (shapes ++ x ∷ []) ≡ as_it_came a shapes
+came_same a shapes x le = ap (shapes_at a.last 0) (take-append-le a.next shapes (x ∷ []) le)
+
+length-shapes_at : (last : Option Position) (index : ℕ) (shapes : List Shape) → length (shapes_at last index shapes) ≡ length shapes
+unfolding shapes_at
+length-shapes_at last index [] = refl
+length-shapes_at last index (x ∷ shapes) = ap suc (length-shapes_at last (index + 1) shapes)
+
+-- a count that is kept is of an object of the order
+within_order : (shapes : List Shape) (i : ℕ) (test : Shape → Bool) → at_index shapes i false test ≡ true → i < length shapes
+within_order shapes i test e = go (slice_get shapes i) refl e
+  where
+    clash : false ≡ true → ⊥
+    clash h = cc
+
+    go : (o : Option Shape) → slice_get shapes i ≡ o → elim o as (λ _. Bool) [ Some x ↦ test x | None ↦ false ] ≡ true → i < length shapes
+    go None is h = absurd (clash h)
+    go (Some x) is h = past_end shapes i x is
+
+second_of : (b c : Bool) → (b && c) ≡ true → c ≡ true
+second_of true c e = e
+second_of false c e = absurd (clash e)
+  where
+    clash : false ≡ true → ⊥
+    clash h = cc
+
+kept_within : (p : Settings) (shapes : List Shape) (asked : List Asked) (c : Count) → In c (flat_map (counts_of p shapes) asked) → c.of.index < length shapes
+kept_within p shapes asked c here =
+    let found = in_flat (counts_of p shapes) c asked here in
+    let kept = (in_filter (λ (c : Count). is_kept (as_it_came found.0 shapes) found.0.first c.of) c (asked_counts p found.0.request) found.2).1 in
+    let lt = within_order (as_it_came found.0 shapes) c.of.index (λ s. nat_lt 0 (closed_in s c.of.block)) (second_of (not (point_before c.of found.0.first)) _ kept) in
+    omega (arith, lt, length-shapes_at found.0.last 0 (take found.0.next shapes), length-take found.0.next shapes)
+
+none_kept : (p : Settings) (shapes : List Shape) (asked : List Asked) (at : Point) → length shapes ≤ at.index → greatest (flat_map (counts_of p shapes) asked) at ≡ 0
+none_kept p shapes asked at past = go (cases_lt 0 (greatest (flat_map (counts_of p shapes) asked) at))
+  where
+    go : (0 < greatest (flat_map (counts_of p shapes) asked) at) ⊎ (greatest (flat_map (counts_of p shapes) asked) at ≤ 0) → greatest (flat_map (counts_of p shapes) asked) at ≡ 0
+    go (inl some) =
+        let c = some_greatest (flat_map (counts_of p shapes) asked) at some in
+        let lt = kept_within p shapes asked c.0 c.1 in
+        let same = ap (λ (q : Point). q.index) c.2 in
+        absurd (omega (arith, lt, same, past))
+    go (inr none) = omega (arith, none)
+
+-- one more object, of which nothing is asked
+pub collects_admitted : (p : Settings) (s : SenderState) (u : Kept) (asked : List Asked) (entry : Entry) (m : Marked) (n : ℕ) → m.asked ≡ [] → m.counts ≡ replicate n 0
+    → Stands p u s → Collects p u s asked → Collects p (with_object m u) (with_entry entry s) asked
+collects_admitted p s u asked entry m n unasked uncounted st col = record {
+  known = more asked col.known;
+  named = joined_at (λ m. m.asked) u.first u.objects m unasked ∙ col.named ∙ ap (λ ws. with_members want_before (filter (stands_behind s.current.drop) ws) []) (sym wants_same);
+  counts = λ k d lt block. at k d lt block (cases_lt k (length u.objects)) ∙ ap (λ cs. greatest cs (point (u.first + k) block)) (sym counts_same);
+}
+  where
+    x : Shape
+    x = shape_of p entry.object
+
+    grown : current_shapes p (with_entry entry s) ≡ current_shapes p s ++ x ∷ []
+    grown = map-append (λ (e : Entry). shape_of p e.object) s.current.order (entry ∷ [])
+
+    many : length (current_shapes p s) ≡ next_index s
+    many = length-map s.current.order (λ (e : Entry). shape_of p e.object)
+
+    more : (asked : List Asked) → AllByRecursion (λ (a : Asked). a.next ≤ next_index s) asked → AllByRecursion (λ (a : Asked). a.next ≤ next_index (with_entry entry s)) asked
+    more [] known = tt
+    more (a ∷ asked) known = (let le = known.0 in omega (arith, le, length-append s.current.order (entry ∷ [])), more asked known.1)
+
+    wants_same : flat_map (wants_of p (current_shapes p (with_entry entry s))) asked ≡ flat_map (wants_of p (current_shapes p s)) asked
+    wants_same =
+        flat_same (wants_of p (current_shapes p (with_entry entry s))) (wants_of p (current_shapes p s)) (next_index s) asked
+        (λ a le. ap (λ shapes. wants_of p shapes a) grown ∙ ap (λ shapes. asks_for p shapes a.request) (came_same a (current_shapes p s) x (omega (arith, le, many)))) col.known
+
+    counts_same : flat_map (counts_of p (current_shapes p (with_entry entry s))) asked ≡ flat_map (counts_of p (current_shapes p s)) asked
+    counts_same =
+        flat_same (counts_of p (current_shapes p (with_entry entry s))) (counts_of p (current_shapes p s)) (next_index s) asked
+        (λ a le. ap (λ shapes. counts_of p shapes a) grown
+        ∙ ap (λ shapes. filter (λ (c : Count). is_kept shapes a.first c.of) (asked_counts p a.request)) (came_same a (current_shapes p s) x (omega (arith, le, many)))) col.known
+
+    at : (k : ℕ) (d : Marked) → k < length (u.objects ++ m ∷ []) → (block : ℕ) → (k < length u.objects) ⊎ (length u.objects ≤ k)
+        → get_or (get_or (u.objects ++ m ∷ []) k d).counts block 0 ≡ greatest (flat_map (counts_of p (current_shapes p s)) asked) (point (u.first + k) block)
+    at k d lt block (inl less) = ap (λ (z : Marked). get_or z.counts block 0) (at_front u.objects m k d less) ∙ col.counts k d less block
+    at k d lt block (inr past) =
+        ap (λ i. get_or (get_or (u.objects ++ m ∷ []) i d).counts block 0) (let e : k ≡ length u.objects = omega (arith, lt, past, length-append u.objects (m ∷ [])) in e)
+        ∙ ap (λ (z : Marked). get_or z.counts block 0) (at_end u.objects m d)
+        ∙ ap (λ (cs : List ℕ). get_or cs block 0) uncounted ∙ zeros n block
+        ∙ sym (none_kept p (current_shapes p s) asked (point (u.first + k) block) (let next = st.next in omega (arith, next, many, past)))

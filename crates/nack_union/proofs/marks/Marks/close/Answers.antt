@@ -1,0 +1,19 @@
+use Rattle.std.proofs.Common.{◌∙◌, ap, sym, arith}
+use Rattle.nack_union.specs.Kept.{closed_marks}
+use Rattle.nack_union.specs.Sound.{marks_view}
+use Rattle.nack_union.proofs.Closings.{idle_stays}
+use Rattle.fec_plan.specs.Partition.{blocks}
+use Rattle.nack_union.proofs.marks.Marks.close.Goals as goal
+
+pub overflow_add-self : goal.overflow_add-self
+overflow_add-self c =
+    let few = c.take_all-new.ensures.few in
+    let new = c.take_all-new.ensures.new in
+    let most = c.self.invariant.most in
+    let wanted = c.self.invariant.wanted in
+    omega (arith, few, new, most, wanted)
+
+pub returns-then-not-self-clause-marks : goal.returns-then-not-self-clause-marks
+returns-then-not-self-clause-marks c =
+    let idle = c.self.invariant.idle c.if-not-self.true in
+    sym c.self.view_is ∙ idle_stays (marks_view c.self.inside) (blocks c.self.inside.plan) idle.0 idle.1 ∙ ap closed_marks c.self.view_is

@@ -1,0 +1,94 @@
+//! What a count of lacking symbols of a block asks for.
+
+ghost use Rattle.std.specs.Prelude.{◌≡◌, ◌+◌, ◌-◌, ◌<◌, ◌≤◌, ◌^◌, min, nat_lt, length, map, take, List, ℕ, slice_index};
+ghost use Rattle.std.specs.List.{range_with_len};
+ghost use Rattle.fec_plan.specs.Partition.{blocks, source_symbols};
+ghost use Rattle.norm_order.specs.Sets.{with_members};
+ghost use Rattle.nack_union.specs.Slots.{symbol_slot, slots};
+ghost use Rattle.nack_union.specs.Kept.{IsRepairable};
+ghost use Rattle.nack_union.specs.Repairs.{fresh_symbols, repair_slots, counted_slots};
+
+use crate::marks::slot_of;
+use crate::mask::Mask;
+use fec_plan::Plan;
+
+/// How many of a block's symbols from one up to another were never sent.
+fn count_fresh(sent: &Mask, block: u32, from: u8, to: u8) -> u8
+    requires { symbol_slot block to ≤ sent.now.size }
+    ensures { result ≡ length (fresh_symbols sent.now.members block from (to - from)) }
+{
+    let mut fresh = 0;
+    'symbols: for symbol in from..to {
+        if !sent.contains(slot_of(block, symbol)) {
+            fresh += 1;
+        }
+    }
+    fresh
+}
+
+/// Asks for so many of a block's symbols from one up to another that were never sent, the lowest first.
+fn ask_fresh(asked: &mut Mask, sent: &Mask, block: u32, from: u8, to: u8, count: u8)
+    requires asked { symbol_slot block to ≤ asked.old.size }
+    requires sent { symbol_slot block to ≤ sent.now.size }
+    ensures members { asked.new.members ≡ with_members nat_lt (map (symbol_slot block) (take count (fresh_symbols sent.now.members block from (to - from)))) asked.old.members }
+    ensures size { asked.new.size ≡ asked.old.size }
+{
+    let mut left = count;
+    'symbols: for symbol in from..to {
+        let slot = slot_of(block, symbol);
+        if left == 0 {
+            return;
+        }
+        if !sent.contains(slot) {
+            asked.insert(slot);
+            left -= 1;
+        }
+    }
+}
+
+/// Asks for all of a block's symbols below an id.
+fn ask_below(asked: &mut Mask, block: u32, to: u8)
+    requires { symbol_slot block to ≤ asked.old.size }
+    ensures members { asked.new.members ≡ with_members nat_lt (map (symbol_slot block) (range_with_len 0 to)) asked.old.members }
+    ensures size { asked.new.size ≡ asked.old.size }
+{
+    'symbols: for symbol in 0..to {
+        asked.insert(slot_of(block, symbol));
+    }
+}
+
+/// Asks for so many symbols of a block, and at most for as many as it has source symbols.
+fn ask_repairs(asked: &mut Mask, sent: &Mask, plan: &Plan, block: u32, lacking: u8)
+    requires block { block < blocks plan.now }
+    requires asked { slots (blocks plan.now) ≤ asked.old.size }
+    requires sent { slots (blocks plan.now) ≤ sent.now.size }
+    ensures members { asked.new.members ≡ with_members nat_lt (repair_slots plan.now sent.now.members block (min lacking (source_symbols plan.now block))) asked.old.members }
+    ensures size { asked.new.size ≡ asked.old.size }
+    ensures repairable { IsRepairable plan.now block }
+{
+    let sources = plan.source_len(block);
+    let encoded = plan.encoded_len(block);
+    let count = lacking.min(sources);
+    if count <= count_fresh(sent, block, sources, encoded) {
+        ask_fresh(asked, sent, block, sources, encoded, count);
+    } else {
+        ask_below(asked, block, sources);
+    }
+}
+
+/// Asks for what the counts of all blocks ask for.
+pub fn ask_counted(asked: &mut Mask, sent: &Mask, plan: &Plan, counts: &[u8])
+    requires counts { length counts.now ≡ blocks plan.now }
+    requires asked { slots (blocks plan.now) ≤ asked.old.size }
+    requires sent { slots (blocks plan.now) ≤ sent.now.size }
+    ensures members { asked.new.members ≡ with_members nat_lt (counted_slots plan.now sent.now.members 0 counts.now) asked.old.members }
+    ensures size { asked.new.size ≡ asked.old.size }
+    ensures repairable { (block : ℕ) → 0 < slice_index counts.now block → IsRepairable plan.now block }
+{
+    'counted: for block in 0..plan.blocks() {
+        let lacking = counts[block as usize];
+        if lacking > 0 {
+            ask_repairs(asked, sent, plan, block, lacking);
+        }
+    }
+}
