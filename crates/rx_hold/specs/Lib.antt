@@ -1,6 +1,11 @@
 pub mod Padding
 pub mod BlockState
-pub mod Sound
-pub mod Solving
+pub mod Places
 pub mod Offering
-pub mod Laws
+pub mod Rows
+pub mod RowsSound
+pub mod ObjectState
+pub mod ObjectSound
+pub mod HoldState
+pub mod HoldSound
+pub mod HoldMoves

@@ -1,12 +1,22 @@
-//! What a NORM receiver holds of an object until it hands it up (RFC 5740 section 5.3). The one type is [`Block`]: the
-//! symbols of one block, of which any k give its source symbols back (RFC 5510 section 8.3). A receiver makes a block as
-//! its first symbol comes, offers it each symbol that comes, and solves it as soon as nothing is lacking.
+//! What a NORM receiver holds of data and files until it hands them up (RFC 5740 section 5.3). [`Hold`] is what a receiver
+//! drives: it takes up objects with their transmission information, takes each symbol and info that comes, hands up in
+//! order what became whole, and says what is lacking.
+//!
+//! It stands on `Front`, the ring of 256 objects from the hand-up point on with the hand-ups of those before it. An
+//! `Object` keeps the symbols of its blocks, of which any k give the block's source symbols back (RFC 5510 section 8.3),
+//! and gives its octets away as it is whole. It stands on `Rows`, its blocks one behind the other, which put each symbol
+//! into its block by the functions of `block`.
 #![tactic(auto)]
 
 mod block;
-pub mod laws;
+mod front;
+mod hold;
+mod object;
+mod rows;
 
-pub use crate::block::Block;
+pub use crate::hold::Hold;
 
+#[cfg(test)]
+mod hold_tests;
 #[cfg(test)]
 mod tests;

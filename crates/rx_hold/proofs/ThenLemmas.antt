@@ -1,0 +1,164 @@
+-- An object after a symbol was kept: what is kept of it, and what it is seen as.
+use Rattle.std.proofs.Common.{◌≡◌, ℕ, ◌+◌, ◌-◌, ◌<◌, ◌≤◌, ◌⊎◌, inl, inr, List, length, set, get_or, Bool, true, false, refl, sym, ap, ◌∙◌, subst, arith, Vec, Global}
+use Rattle.std.specs.Prelude.{◌==◌, ◌&&◌, ◌≢◌, nat_lt, slice_index}
+use Rattle.std.proofs.lemmas.Bool.{cases_eq, cases_lt, eq-eqb, eqb-true, ltb-true}
+use Rattle.std.proofs.lemmas.List.{length-set, get_or-set_same, get_or-set_other}
+use Rattle.fec_plan.specs.Partition.{Cut, blocks, source_symbols, encoding_symbols, sent_octets}
+use Rattle.fec_plan.specs.Points.{position}
+use Rattle.gf_field.specs.Octet.{AreOctets}
+use Rattle.norm_order.specs.Sets.{with_member}
+use Rattle.norm_receive_rules.specs.ReceiverState.{Held}
+use Rattle.norm_receive_rules.specs.Plans.{cut_of_plan, holds, is_done}
+use Rattle.norm_receive_rules.specs.Putting.{held_before}
+use Rattle.rx_hold.specs.BlockState.{held_at}
+use Rattle.rx_hold.specs.ObjectState.{ObjectState, alone}
+use Rattle.rx_hold.specs.ObjectSound.{IsObject, IsBlock, object_view, plan_inside, symbols_inside}
+use Rattle.rx_hold.specs.Offering.{is_payload}
+use Rattle.rx_hold.specs.Padding.{padded}
+use Rattle.rx_hold.specs.Places.{AreApart, free_places, has_id}
+use Rattle.rx_hold.specs.Rows.{block_ids, coded_symbol, with_coded, all_held}
+use Rattle.rx_hold.specs.RowsSound.{AreRows}
+use Rattle.rx_hold.specs.declared.object.Object.TheInside.{Inside}
+use Rattle.rx_hold.specs.declared.rows.Rows.{Rows}
+use Rattle.rx_hold.proofs.Cuts.{sent_most}
+use Rattle.rx_hold.proofs.Listed.{object_with}
+use Rattle.rx_hold.proofs.ObjectLemmas.{object_holds, object_done}
+use Rattle.rx_hold.proofs.OneMore.{Comes, each_then, none_there, sent_of}
+
+-- ---- a symbol that is news
+
+pub record IsNews (x : Inside) (block q : ℕ) (payload : List ℕ) : Type 0 where
+  pub within : block < blocks x.rows.plan
+  pub small : q < 255
+  pub long : length payload ≡ sent_octets x.rows.plan block q
+  pub new : has_id q (block_ids x.rows.plan x.rows.ids.items block) ≡ false
+  pub less : slice_index x.counts.items block < source_symbols x.rows.plan block
+  pub free : 0 < free_places (block_ids x.rows.plan x.rows.ids.items block)
+
+first_set : (a b : Bool) → (a && b) ≡ true → a ≡ true
+first_set true b e = refl
+first_set false b e = absurd (cc e)
+
+second_set : (a b : Bool) → (a && b) ≡ true → b ≡ true
+second_set true b e = e
+second_set false b e = absurd (cc e)
+
+pub news : (x : Inside) (o : ObjectState) (block q : ℕ) (payload : List ℕ) → IsObject x → object_view x ≡ o → q < 255
+    → holds (alone o) (position o.plan.index block q) ≡ false → is_done (alone o) o.plan block ≡ false → is_payload (cut_of_plan o.plan) block q payload ≡ true
+    → IsNews x block q payload
+news x o block q payload sound is small new lacks fits =
+    let c : Cut = x.rows.plan in
+    let payload_is : is_payload x.rows.plan block q payload ≡ true =
+    ap (λ (d : Cut). is_payload d block q payload) sound.plan ∙ subst (λ (v : ObjectState). is_payload (cut_of_plan v.plan) block q payload ≡ true) (sym is) fits in
+    let both = first_set (nat_lt block (blocks x.rows.plan) && nat_lt q (encoding_symbols x.rows.plan block)) (length payload == sent_octets x.rows.plan block q) payload_is in
+    let there : block < blocks x.rows.plan = ltb-true block (blocks x.rows.plan) (first_set (nat_lt block (blocks x.rows.plan)) (nat_lt q (encoding_symbols x.rows.plan block)) both) in
+    let b : IsBlock x.index x.rows.plan x.rows.ids.items x.rows.octets.items x.counts.items block = sound.each block there in
+    let count = b.count in
+    let open_still : (source_symbols x.rows.plan block - slice_index x.counts.items block == 0) ≡ false =
+    sym (object_done x block sound there) ∙ subst (λ (v : ObjectState). is_done (alone v) v.plan block ≡ false) (sym is) lacks in
+    let under : slice_index x.counts.items block < source_symbols x.rows.plan block = less_of (cases_lt (slice_index x.counts.items block) (source_symbols x.rows.plan block)) open_still in
+    record {
+      within = there;
+      small = small;
+      long = eqb-true (length payload) (sent_octets x.rows.plan block q)
+          (second_set (nat_lt block (blocks x.rows.plan) && nat_lt q (encoding_symbols x.rows.plan block)) (length payload == sent_octets x.rows.plan block q) payload_is);
+      new = sym (object_holds x block q there small) ∙ subst (λ (v : ObjectState). holds (alone v) (position v.plan.index block q) ≡ false) (sym is) new;
+      less = under;
+      free = omega (arith, count, under);
+    }
+  where
+    less_of : {n m : ℕ} → (n < m) ⊎ (m ≤ n) → (m - n == 0) ≡ false → n < m
+    less_of (inl lt) e = lt
+    less_of {n = n} {m = m} (inr le) e = absurd (cc (e, eq-eqb (m - n) 0 (let none : m - n ≡ 0 = omega (arith, le) in none)))
+
+-- ---- the counts
+
+pub counts_done : (x : Inside) (block q : ℕ) (payload counts : List ℕ) (c : Cut) → IsObject x → IsNews x block q payload → c ≡ x.rows.plan
+    → counts ≡ set x.counts.items block (get_or x.counts.items block 0 + 1)
+    → (b : ℕ) → b < x.short → slice_index counts b ≡ source_symbols c b
+counts_done x block q payload counts c sound is same after b lt =
+    ap (λ xs. get_or xs b 0) after
+    ∙ get_or-set_other x.counts.items block b (get_or x.counts.items block 0 + 1) 0
+    (λ e. let less = is.less in let whole = sound.done b lt in let there = ap (λ n. get_or x.counts.items n 0) e in let sources = ap (source_symbols x.rows.plan) e in omega (arith, less, whole, there, sources))
+    ∙ sound.done b lt
+    ∙ ap (λ (d : Cut). source_symbols d b) (sym same)
+
+pub counts_most : (x : Inside) (block q : ℕ) (payload counts : List ℕ) (c : Cut) → IsObject x → IsNews x block q payload → c ≡ x.rows.plan
+    → counts ≡ set x.counts.items block (get_or x.counts.items block 0 + 1)
+    → (b : ℕ) → b < blocks c → slice_index counts b ≤ source_symbols c b
+counts_most x block q payload counts c sound is same after b lt = go (cases_eq b block)
+  where
+    sources : source_symbols c b ≡ source_symbols x.rows.plan b
+    sources = ap (λ (d : Cut). source_symbols d b) same
+
+    go : (b ≡ block) ⊎ (b ≢ block) → slice_index counts b ≤ source_symbols c b
+    go (inl e) =
+        let less = is.less in
+        let within = is.within in
+        let counted = sound.counted in
+        let here = ap (λ xs. get_or xs b 0) after ∙ ap (λ n. get_or (set x.counts.items block (get_or x.counts.items block 0 + 1)) n 0) e
+        ∙ get_or-set_same x.counts.items block (get_or x.counts.items block 0 + 1) 0 (omega (arith, within, counted)) in
+        let own = ap (source_symbols x.rows.plan) e in
+        omega (arith, less, here, sources, own)
+    go (inr other) =
+        let old : IsBlock x.index x.rows.plan x.rows.ids.items x.rows.octets.items x.counts.items b = sound.each b (subst (λ (d : Cut). b < blocks d) same lt) in
+        let count = old.count in
+        let still = ap (λ xs. get_or xs b 0) after ∙ get_or-set_other x.counts.items block b (get_or x.counts.items block 0 + 1) 0 other in
+        omega (arith, count, still, sources)
+
+-- ---- the object
+
+pub object_then : (x : Inside) (rows : Rows) (counts : Vec ℕ Global) (short block q : ℕ) (payload : List ℕ) → IsObject x → IsNews x block q payload → AreOctets payload
+    → rows.plan ≡ x.rows.plan → AreRows rows
+    → ((b id : ℕ) → b < blocks x.rows.plan → id < 255 → coded_symbol x.rows.plan rows.ids.items rows.octets.items b id
+    ≡ with_coded block q (padded x.rows.plan.e payload) (coded_symbol x.rows.plan x.rows.ids.items x.rows.octets.items) b id)
+    → ((b : ℕ) → b ≢ block → block_ids x.rows.plan rows.ids.items b ≡ block_ids x.rows.plan x.rows.ids.items b)
+    → free_places (block_ids x.rows.plan x.rows.ids.items block) ≡ free_places (block_ids x.rows.plan rows.ids.items block) + 1
+    → AreApart (block_ids x.rows.plan rows.ids.items block)
+    → counts.items ≡ set x.counts.items block (get_or x.counts.items block 0 + 1)
+    → short ≤ blocks rows.plan → ((b : ℕ) → b < short → slice_index counts.items b ≡ source_symbols rows.plan b)
+    → (short < blocks rows.plan → slice_index counts.items short < source_symbols rows.plan short)
+    → IsObject (record x { rows = rows; counts = counts; short = short })
+object_then x rows counts short block q payload sound is bytes same are symbols others lacks apart after few done there = record {
+  plan = same ∙ sound.plan;
+  kind = sound.kind;
+  rows = are;
+  counted = ap length after ∙ length-set x.counts.items block (get_or x.counts.items block 0 + 1) ∙ sound.counted ∙ ap blocks (sym same);
+  each =
+      subst (λ (d : Cut). (b : ℕ) → b < blocks d → IsBlock x.index d rows.ids.items rows.octets.items counts.items b) (sym same)
+      (subst (λ xs. (b : ℕ) → b < blocks x.rows.plan → IsBlock x.index x.rows.plan rows.ids.items rows.octets.items xs b) (sym after)
+      (each_then x.index x.rows.plan block q payload x.rows.ids.items x.rows.octets.items x.counts.items rows.ids.items rows.octets.items sound.counted comes sound.each));
+  few = few;
+  done = done;
+  short = there;
+}
+  where
+    comes : Comes x.rows.plan block q payload x.rows.ids.items x.rows.octets.items rows.ids.items rows.octets.items
+    comes = record {
+      within = is.within;
+      small = is.small;
+      long = is.long;
+      fits = (let most = sent_most x.rows.plan block q sound.rows.object in let long = is.long in omega (arith, most, long));
+      bytes = bytes;
+      new = is.new;
+      symbols = symbols;
+      others = others;
+      lacks = lacks;
+      apart = apart;
+    }
+
+pub view_then : (x : Inside) (o : ObjectState) (rows : Rows) (counts : Vec ℕ Global) (short block q : ℕ) (payload : List ℕ) → IsObject x → object_view x ≡ o → IsNews x block q payload
+    → rows.plan ≡ x.rows.plan
+    → ((b id : ℕ) → b < blocks x.rows.plan → id < 255 → coded_symbol x.rows.plan rows.ids.items rows.octets.items b id
+    ≡ with_coded block q (padded x.rows.plan.e payload) (coded_symbol x.rows.plan x.rows.ids.items x.rows.octets.items) b id)
+    → object_view (record x { rows = rows; counts = counts; short = short })
+    ≡ record { plan = o.plan; info = o.info; held = with_member held_before (held_at o.plan.index block q payload) o.held }
+view_then x o rows counts short block q payload sound seen is same symbols =
+    ap (λ (d : Cut). seen_as (all_held x.index d (coded_symbol d rows.ids.items rows.octets.items))) same
+    ∙ ap seen_as (object_with x.index x.rows.plan block q (padded x.rows.plan.e payload) (symbols_inside x) (coded_symbol x.rows.plan rows.ids.items rows.octets.items)
+    is.within is.small (none_there x.rows.plan x.rows.ids.items x.rows.octets.items block q is.new) symbols
+    ∙ ap (λ xs. with_member held_before (held_at x.index block q xs) (all_held x.index x.rows.plan (symbols_inside x))) (sent_of x.rows.plan block q payload is.long))
+    ∙ ap (λ (v : ObjectState). record { plan = v.plan; info = v.info; held = with_member held_before (held_at v.plan.index block q payload) v.held }) seen
+  where
+    seen_as : List Held → ObjectState
+    seen_as held = record { plan = plan_inside x; info = x.info; held = held }

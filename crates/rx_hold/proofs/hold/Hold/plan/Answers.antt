@@ -1,0 +1,27 @@
+use Rattle.std.proofs.Common.{ap, sym, ◌∙◌, Option, Some}
+use Rattle.std.specs.Prelude.{option_map}
+use Rattle.fec_plan.specs.Partition.{Cut}
+use Rattle.norm_receive_rules.specs.ReceiverState.{Plan}
+use Rattle.norm_receive_rules.specs.Plans.{cut_of_plan}
+use Rattle.rx_hold.specs.ObjectState.{ObjectState}
+use Rattle.rx_hold.proofs.ReadLemmas.{read_some, read_none, object_at_place}
+use Rattle.rx_hold.proofs.hold.Hold.plan.Goals as goal
+
+pub returns-in-Some-clause-state : goal.returns-in-Some-clause-state
+returns-in-Some-clause-state c = λ s stands.
+    ap (λ (cut : Cut). Some cut) c.plan.ensures ∙ sym (ap (λ (found : Option Plan). option_map cut_of_plan found) (read_some c.self.inside.front c.args.self.now s c.args.index c.self.invariant.front c.self.view_is c.requires stands c.in-Some.object.now c.in-Some.ensures))
+
+pub returns-in-None-clause-state : goal.returns-in-None-clause-state
+returns-in-None-clause-state c = λ s stands.
+    sym (ap (λ (found : Option Plan). option_map cut_of_plan found) (read_none c.self.inside.front c.args.self.now s c.args.index c.self.invariant.front c.self.view_is c.requires stands c.in-None.ensures))
+
+pub returns-in-Some-clause-exact : goal.returns-in-Some-clause-exact
+returns-in-Some-clause-exact c =
+    ap (λ (cut : Cut). Some cut) c.plan.ensures
+    ∙ sym (ap (λ (found : Option ObjectState). option_map (λ (o : ObjectState). cut_of_plan o.plan) found)
+    (object_at_place c.self.inside.front c.args.self.now c.args.index c.self.invariant.front c.self.view_is c.requires ∙ sym c.in-Some.ensures))
+
+pub returns-in-None-clause-exact : goal.returns-in-None-clause-exact
+returns-in-None-clause-exact c =
+    sym (ap (λ (found : Option ObjectState). option_map (λ (o : ObjectState). cut_of_plan o.plan) found)
+    (object_at_place c.self.inside.front c.args.self.now c.args.index c.self.invariant.front c.self.view_is c.requires ∙ sym c.in-None.ensures))

@@ -1,0 +1,71 @@
+use Rattle.std.proofs.Common.{◌≡◌, ◌+◌, ◌<◌, ℕ, subst, ap, ◌∙◌, arith, set}
+use Rattle.std.specs.Prelude.{slice_index}
+use Rattle.std.specs.Vec.{with_item}
+use Rattle.fec_plan.specs.Partition.{blocks, source_symbols}
+use Rattle.rs_block.proofs.Formula.{octets_from_each}
+use Rattle.rx_hold.proofs.Cuts.{few_sources}
+use Rattle.rx_hold.proofs.ObjectLemmas.{read_at}
+use Rattle.rx_hold.proofs.ThenLemmas.{news, counts_done, counts_most, object_then, view_then}
+use Rattle.rx_hold.proofs.object.Object.put.Goals as goal
+
+pub put-requires-clause-new : goal.put-requires-clause-new
+put-requires-clause-new c =
+    let n = news c.self.inside c.args.self.now c.args.block c.args.symbol c.args.payload.now c.self.invariant c.self.view_is c.requires.id c.requires.new c.requires.lacks c.requires.fits in n.new
+
+pub put-requires-clause-lacks : goal.put-requires-clause-lacks
+put-requires-clause-lacks c =
+    let n = news c.self.inside c.args.self.now c.args.block c.args.symbol c.args.payload.now c.self.invariant c.self.view_is c.requires.id c.requires.new c.requires.lacks c.requires.fits in n.free
+
+pub put-requires-clause-apart : goal.put-requires-clause-apart
+put-requires-clause-apart c =
+    let n = news c.self.inside c.args.self.now c.args.block c.args.symbol c.args.payload.now c.self.invariant c.self.view_is c.requires.id c.requires.new c.requires.lacks c.requires.fits in
+    let b = c.self.invariant.each c.args.block n.within in b.apart
+
+pub overflow_add-index_mut : goal.overflow_add-index_mut
+overflow_add-index_mut c =
+    let n = news c.self.inside c.args.self.now c.args.block c.args.symbol c.args.payload.now c.self.invariant c.self.view_is c.requires.id c.requires.new c.requires.lacks c.requires.fits in
+    let within = n.within in
+    let less = n.less in
+    let counted = c.self.invariant.counted in
+    let read = read_at c.self.inside.counts.items c.args.block c.index_mut.result.now (omega (arith, within, counted)) c.index_mut.ensures.value in
+    let few = few_sources c.self.inside.rows.plan c.args.block c.self.invariant.rows.sound c.self.invariant.rows.object in
+    let most = c.self.invariant.rows.sound.most_b in
+    record { fits = omega (arith, read, less, few, most) }
+
+pub next_short-self-inside-requires-clause-done : goal.next_short-self-inside-requires-clause-done
+next_short-self-inside-requires-clause-done c =
+    let n = news c.self.inside c.args.self.now c.args.block c.args.symbol c.args.payload.now c.self.invariant c.self.view_is c.requires.id c.requires.new c.requires.lacks c.requires.fits in
+    let within = n.within in
+    let counted = c.self.invariant.counted in
+    let read = read_at c.self.inside.counts.items c.args.block c.index_mut.result.now (omega (arith, within, counted)) c.index_mut.ensures.value in
+    counts_done c.self.inside c.args.block c.args.symbol c.args.payload.now c.deref.result.now c.put.new.self.plan c.self.invariant n c.put.ensures.plan
+    (c.deref.ensures.value ∙ ap (λ m. set c.self.inside.counts.items c.args.block (m + 1)) read)
+
+pub next_short-self-inside-requires-clause-most : goal.next_short-self-inside-requires-clause-most
+next_short-self-inside-requires-clause-most c =
+    let n = news c.self.inside c.args.self.now c.args.block c.args.symbol c.args.payload.now c.self.invariant c.self.view_is c.requires.id c.requires.new c.requires.lacks c.requires.fits in
+    let within = n.within in
+    let counted = c.self.invariant.counted in
+    let read = read_at c.self.inside.counts.items c.args.block c.index_mut.result.now (omega (arith, within, counted)) c.index_mut.ensures.value in
+    counts_most c.self.inside c.args.block c.args.symbol c.args.payload.now c.deref.result.now c.put.new.self.plan c.self.invariant n c.put.ensures.plan
+    (c.deref.ensures.value ∙ ap (λ m. set c.self.inside.counts.items c.args.block (m + 1)) read)
+
+pub invariant_of-self : goal.invariant_of-self
+invariant_of-self c =
+    let n = news c.self.inside c.args.self.now c.args.block c.args.symbol c.args.payload.now c.self.invariant c.self.view_is c.requires.id c.requires.new c.requires.lacks c.requires.fits in
+    let within = n.within in
+    let counted = c.self.invariant.counted in
+    let read = read_at c.self.inside.counts.items c.args.block c.index_mut.result.now (omega (arith, within, counted)) c.index_mut.ensures.value in
+    object_then c.self.inside c.put.new.self _ c.next_short-self-inside.result c.args.block c.args.symbol c.args.payload.now c.self.invariant n
+    (octets_from_each c.args.payload.now (λ i. let byte = c.type_inv.payload i in byte.fits))
+    c.put.ensures.plan c.put.ensures.rows c.put.ensures.symbols c.put.ensures.others c.put.ensures.lacks c.put.ensures.apart
+    (ap (λ m. set c.self.inside.counts.items c.args.block (m + 1)) read)
+    c.next_short-self-inside.ensures.few
+    (subst (λ xs. (b : ℕ) → b < c.next_short-self-inside.result → slice_index xs b ≡ source_symbols c.put.new.self.plan b) c.deref.ensures.value c.next_short-self-inside.ensures.done)
+    (subst (λ xs. c.next_short-self-inside.result < blocks c.put.new.self.plan → slice_index xs c.next_short-self-inside.result < source_symbols c.put.new.self.plan c.next_short-self-inside.result) c.deref.ensures.value c.next_short-self-inside.ensures.short)
+
+pub returns : goal.returns
+returns c =
+    let n = news c.self.inside c.args.self.now c.args.block c.args.symbol c.args.payload.now c.self.invariant c.self.view_is c.requires.id c.requires.new c.requires.lacks c.requires.fits in
+    view_then c.self.inside c.args.self.now c.put.new.self (with_item c.self.inside.counts c.args.block (c.index_mut.result.now + 1)) c.next_short-self-inside.result c.args.block c.args.symbol c.args.payload.now c.self.invariant c.self.view_is n
+    c.put.ensures.plan c.put.ensures.symbols

@@ -1,0 +1,307 @@
+//! What is held of one object.
+
+ghost use Rattle.std.specs.Prelude.{ℕ, ◌≡◌, ◌==◌, ◌<◌, ◌≤◌, ◌*◌, ◌+◌, ◌-◌, IfOk, IsTrue, None, Some, is_some, true, false, length, take, slice_get, slice_index};
+ghost use Rattle.norm_base.specs.Settings.{Settings};
+ghost use Rattle.fec_plan.specs.Partition.{blocks, source_symbols, all_symbols};
+ghost use Rattle.fec_plan.specs.Points.{position};
+ghost use Rattle.norm_order.specs.declared.up.Up.TheVariants.{Object as ObjectUp};
+ghost use Rattle.norm_receive_rules.specs.Plans.{says_info, says_stream, cut_of_plan, holds, lacking, is_done, has_its_info};
+ghost use Rattle.norm_receive_rules.specs.Putting.{put_by};
+ghost use Rattle.norm_receive_rules.specs.HandingUp.{is_whole, kind_of, told_info, object_octets};
+ghost use Rattle.std.specs.List.{list_all, range_with_len};
+ghost use Rattle.norm_receive_rules.specs.declared.words.Put.TheVariants as put;
+ghost use Rattle.rx_hold.specs.ObjectState.{empty_object, alone, offered_to, short_blocks};
+ghost use Rattle.rx_hold.specs.Offering.{is_payload};
+ghost use Rattle.rx_hold.specs.Padding.{padded};
+ghost use Rattle.rx_hold.specs.Places.{AreApart, free_places, has_id};
+ghost use Rattle.rx_hold.specs.Rows.{block_ids, coded_symbol, with_coded, start_of};
+
+use crate::block::FREE;
+use crate::rows::Rows;
+use fec_plan::Plan;
+use norm_base::{Kind, Memory, Octets};
+use norm_ext::Fti;
+use norm_order::Up;
+use norm_receive_rules::Put;
+use std::alloc::Global;
+use std::marker::Model;
+
+/// The flag of an object that has an info (RFC 5740 section 4.2.1).
+const HAS_INFO: u8 = 4;
+/// The flag of a file.
+const IS_FILE: u8 = 16;
+
+/// What is held of an object of data or a file. The rows of its blocks are one buffer, which is handed up as it is.
+#[derive(Debug, Drop)]
+pub struct Object {
+    index: u32,
+    fti: Fti,
+    flags: u8,
+    info: Option<Octets>,
+    rows: Rows,
+    /// For each block how many symbols are held.
+    counts: Vec<u8>,
+    /// The first block that is not done.
+    short: u32,
+}
+
+impl Model for Object {
+    ghost use Rattle.std.specs.List.{list_all, range_with_len};
+    ghost use Rattle.norm_receive_rules.specs.declared.words.Put.TheVariants as put;
+    ghost use Rattle.rx_hold.specs.ObjectState.{ObjectState};
+
+    ghost Value = { ObjectState };
+
+    ghost use Rattle.rx_hold.specs.ObjectSound.{IsObject, object_view};
+
+    ghost view = { object_view };
+
+    ghost invariant = { IsObject };
+}
+
+/// Whether a payload is that of an encoded symbol of an object.
+fn is_payload(plan: &Plan, block: u32, symbol: u8, payload: &[u8]) -> bool
+    ensures exact { result ≡ is_payload plan.now block symbol payload.now }
+    ensures id { IsTrue result → symbol < 255 }
+{
+    block < plan.blocks()
+        && symbol < plan.encoded_len(block)
+        && payload.len() == usize::from(plan.symbol_octets(block, symbol))
+}
+
+/// The first block from this one on that lacks symbols.
+fn next_short(plan: &Plan, counts: &[u8], from: u32) -> u32
+    requires counts { length counts.now ≡ blocks plan.now }
+    requires from { from ≤ blocks plan.now }
+    requires done { (block : ℕ) → block < from → slice_index counts.now block ≡ source_symbols plan.now block }
+    requires most { (block : ℕ) → block < blocks plan.now → slice_index counts.now block ≤ source_symbols plan.now block }
+    ensures few { result ≤ blocks plan.now }
+    ensures done { (block : ℕ) → block < result → slice_index counts.now block ≡ source_symbols plan.now block }
+    ensures short { result < blocks plan.now → slice_index counts.now result < source_symbols plan.now result }
+{
+    for block in from..plan.blocks() {
+        if counts[block as usize] < plan.source_len(block) {
+            return block;
+        }
+    }
+    plan.blocks()
+}
+
+/// The kind that flags say.
+fn kind_of(flags: u8) -> Kind
+    ensures { result ≡ kind_of flags }
+{
+    if flags / IS_FILE % 2 == 1 {
+        return Kind::File;
+    }
+    Kind::Data
+}
+
+/// The info of an object that has one.
+fn told_info(flags: u8, info: Option<Octets>) -> Option<Octets>
+    ensures { result ≡ elim (says_info flags) [ true ↦ info | false ↦ None ] }
+{
+    if flags / HAS_INFO % 2 == 1 {
+        return info;
+    }
+    None
+}
+
+/// The first octets of these.
+fn front_of(octets: Vec<u8>, len: usize) -> Octets
+    ensures exact { result ≡ take len octets.items }
+    ensures bytes { (i : ℕ) → slice_index octets.items i < 256 }
+{
+    let mut front = octets;
+    front.truncate(len);
+    Octets::of(front)
+}
+
+impl Object {
+    /// An object of data or a file of which nothing is held. It takes all the memory that its symbols need.
+    ///
+    /// # Errors
+    ///
+    /// `Memory` where memory runs out.
+    pub fn new(
+        alloc: Global,
+        index: u32,
+        fti: &Fti,
+        flags: u8,
+        plan: &Plan,
+    ) -> Result<Object, Memory>
+        requires cut { plan.now ≡ cut_of_plan (record { index = index; fti = fti.now; flags = flags }) }
+        requires kind { says_stream flags ≡ false }
+        requires length { fti.now.l ≤ 16777216 }
+        ensures { IfOk result (λ o. o ≡ empty_object (record { index = index; fti = fti.now; flags = flags })) }
+    {
+        let rows = Rows::new(alloc, plan)?;
+        let counts = vec![in alloc; 0; plan.blocks() as usize]?;
+        Ok(Object {
+            index,
+            fti: *fti,
+            flags,
+            info: None,
+            rows,
+            counts,
+            short: 0,
+        })
+    }
+
+    /// The object's transmission information.
+    pub fn fti(&self) -> Fti
+        ensures { result ≡ self.now.plan.fti }
+    {
+        self.fti
+    }
+
+    /// Its flags.
+    pub fn flags(&self) -> u8
+        ensures { result ≡ self.now.plan.flags }
+    {
+        self.flags
+    }
+
+    /// How it is cut.
+    pub fn plan(&self) -> Plan
+        ensures { result ≡ cut_of_plan self.now.plan }
+    {
+        self.rows.plan
+    }
+
+    /// Whether its info is held.
+    pub fn has_info(&self) -> bool
+        ensures { result ≡ is_some self.now.info }
+    {
+        self.info.is_some()
+    }
+
+    /// Whether a symbol is held.
+    pub fn holds(&self, block: u32, symbol: u8) -> bool
+        ensures { result ≡ holds (alone self.now) (position self.now.plan.index block symbol) }
+    {
+        if block >= self.rows.plan.blocks() || symbol == FREE {
+            return false;
+        }
+        self.rows.holds(block, symbol)
+    }
+
+    /// How many symbols a block lacks to as many as it has source symbols.
+    pub fn lacking(&self, block: u32) -> u8
+        requires { block < blocks (cut_of_plan self.now.plan) }
+        ensures { result ≡ lacking (alone self.now) self.now.plan block }
+    {
+        self.rows.plan.source_len(block) - self.counts[block as usize]
+    }
+
+    /// Whether a block is one of the object's and lacks nothing.
+    fn is_done(&self, block: u32) -> bool
+        ensures { result ≡ is_done (alone self.now) self.now.plan block }
+    {
+        block < self.rows.plan.blocks() && self.lacking(block) == 0
+    }
+
+    /// Whether a payload is that of an encoded symbol of the object.
+    fn fits(&self, block: u32, symbol: u8, payload: &[u8]) -> bool
+        ensures exact { result ≡ is_payload (cut_of_plan self.now.plan) block symbol payload.now }
+        ensures id { IsTrue result → symbol < 255 }
+        ensures kind { says_stream self.now.plan.flags ≡ false }
+    {
+        is_payload(&self.rows.plan, block, symbol, payload)
+    }
+
+    /// The first block that is not done. `None` where all are. It takes constant time.
+    pub fn first_short(&self) -> Option<u32>
+        ensures { result ≡ slice_get (short_blocks self.now) 0 }
+    {
+        if self.short < self.rows.plan.blocks() {
+            return Some(self.short);
+        }
+        None
+    }
+
+    /// Whether each block is done.
+    fn all_done(&self) -> bool
+        ensures { result ≡ list_all (is_done (alone self.now) self.now.plan) (range_with_len 0 (blocks (cut_of_plan self.now.plan))) }
+    {
+        self.short == self.rows.plan.blocks()
+    }
+
+    /// Whether the object's info is held where it has one.
+    fn has_its_info(&self) -> bool
+        ensures { result ≡ has_its_info (alone self.now) self.now.plan }
+    {
+        self.flags / HAS_INFO % 2 == 0 || self.info.is_some()
+    }
+
+    /// Whether the object is whole: its info is held where it has one, and each block is done. It takes constant time.
+    pub fn is_whole(&self) -> bool
+        ensures { result ≡ is_whole (alone self.now) self.now.plan }
+    {
+        self.has_its_info() && self.all_done()
+    }
+
+    /// Keeps the info. It takes no memory.
+    pub fn put_info(&mut self, info: Octets)
+        requires { self.old.info ≡ None }
+        ensures { self.new ≡ record self.old { info = Some info } }
+    {
+        self.info = Some(info);
+    }
+
+    /// Keeps a symbol that is not held, of a block that is not done.
+    fn put(&mut self, block: u32, symbol: u8, payload: &[u8], scratch: &mut [u8])
+        requires id { symbol < 255 }
+        requires new { holds (alone self.old) (position self.old.plan.index block symbol) ≡ false }
+        requires lacks { is_done (alone self.old) self.old.plan block ≡ false }
+        requires fits { is_payload (cut_of_plan self.old.plan) block symbol payload.now ≡ true }
+        requires scratch { self.old.plan.fti.b * self.old.plan.fti.e ≤ length scratch.old }
+        ensures { self.new ≡ offered_to put.Kept block symbol payload.now self.old }
+    {
+        self.rows.put(block, symbol, payload, scratch);
+        self.counts[block as usize] += 1;
+        self.short = next_short(&self.rows.plan, &self.counts, self.short);
+    }
+
+    /// A symbol of the object comes: it is kept where it is news, and a block that is done by it is solved. `scratch` is
+    /// room for the symbols of a block. It takes no memory.
+    pub fn offer(&mut self, block: u32, symbol: u8, payload: &[u8], scratch: &mut [u8]) -> Put
+        requires scratch { self.old.plan.fti.b * self.old.plan.fti.e ≤ length scratch.old }
+        ensures word { (p : Settings) → result ≡ put_by p (alone self.old) self.old.plan (position self.old.plan.index block symbol) payload.now }
+        ensures state { self.new ≡ offered_to result block symbol payload.now self.old }
+        ensures size { length scratch.new ≡ length scratch.old }
+    {
+        if self.holds(block, symbol) {
+            return Put::Had;
+        }
+        if self.is_done(block) {
+            return Put::Had;
+        }
+        if !self.fits(block, symbol, payload) {
+            return Put::Unfit;
+        }
+        self.put(block, symbol, payload, scratch);
+        Put::Kept
+    }
+
+    /// The hand-up of an object that is whole. It takes no memory, and copies no octets.
+    pub fn into_up(self) -> Up
+        requires { is_whole (alone self) self.plan ≡ true }
+        ensures { result ≡ ObjectUp self.plan.index (kind_of self.plan.flags) (told_info (alone self) self.plan) (object_octets (alone self) self.plan) }
+    {
+        let Object {
+            index,
+            fti,
+            flags,
+            info,
+            rows,
+            ..
+        } = self;
+        Up::Object {
+            index,
+            kind: kind_of(flags),
+            info: told_info(flags, info),
+            bytes: front_of(rows.octets, fti.l as usize),
+        }
+    }
+}
