@@ -110,13 +110,12 @@ fn octets_of(alloc: Global, e: usize, len: usize) -> Result<Octets, Memory> {
     Ok(Octets::of(octets))
 }
 
-fn expect_enqueued(
-    rt: &impl Abort,
+/// Enqueues an object with an info of so many octets, of so many octets.
+fn offer(
     alloc: Global,
     window: &mut Standing,
     sizes: (usize, usize),
-    answer: Result<u32, EnqueueFault>,
-) -> Result<(), Memory> {
+) -> Result<Result<u32, EnqueueFault>, Memory> {
     let (info, len) = sizes;
     let name = if info == 0 {
         None
@@ -124,7 +123,23 @@ fn expect_enqueued(
         Some(octets_of(alloc, 1, info)?)
     };
     let bytes = octets_of(alloc, window.e, len)?;
-    let given = window.enqueue(Kind::File, name, bytes);
+    Ok(window.enqueue(Kind::File, name, bytes))
+}
+
+/// Where there was no memory for it, the same is asked again: the window is as it was.
+fn expect_enqueued(
+    rt: &impl Abort,
+    alloc: Global,
+    window: &mut Standing,
+    sizes: (usize, usize),
+    answer: Result<u32, EnqueueFault>,
+) -> Result<(), Memory> {
+    let first = offer(alloc, window, sizes)?;
+    let given = match first {
+        Err(EnqueueFault::Memory) => offer(alloc, window, sizes)?,
+        _ => first,
+    };
+    let (info, len) = sizes;
     assert!(rt; given == answer, "{len} octets with {info} of info");
     Ok(())
 }
@@ -165,13 +180,20 @@ fn take(rt: &impl Abort, alloc: Global, window: &mut Standing, step: Step) -> Re
         }
         Step::Send(at, answer) => expect_sent(rt, alloc, window, at, answer)?,
         Step::SendAll(index) => send_all(alloc, window, index)?,
-        Step::SendInfo(index, answer) => assert!(rt; window.send_info(index) == answer),
+        Step::SendInfo(index, answer) => assert!(rt;
+            window.send_info(index) == answer,
+            "info of {index}"
+        ),
         Step::Past(at) => window.note_past(Some(position(at))),
         Step::IsSource(at, answer) => {
-            assert!(rt; window.window.is_source(position(at)) == answer);
+            let (index, block, symbol) = at;
+            assert!(rt;
+                window.window.is_source(position(at)) == answer,
+                "source ({index}, {block}, {symbol})"
+            );
         }
-        Step::First(index) => assert!(rt; window.window.first() == (index, 0)),
-        Step::End(at) => assert!(rt; window.window.end() == at.map(position)),
+        Step::First(index) => assert!(rt; window.window.first() == (index, 0), "first {index}"),
+        Step::End(at) => assert!(rt; window.window.end() == at.map(position), "the end"),
     }
     Ok(())
 }
