@@ -1,23 +1,18 @@
 -- What a window answered may be noted as sent, and a window goes on standing for some state.
-use Rattle.std.proofs.Common.{◌≡◌, ℕ, ◌-◌, ◌<◌, ◌≤◌, ◌⊎◌, inl, inr, Bool, true, false, refl, sym, ap, ◌∙◌, subst, arith, Option, Some, None, List, [], ◌∷◌, length}
+use Rattle.std.proofs.Common.{◌≡◌, ℕ, ◌-◌, ◌<◌, ◌≤◌, ◌⊎◌, inl, inr, Bool, true, false, refl, sym, ap, ◌∙◌, arith, Option, Some, None, List, [], ◌∷◌}
 use Rattle.std.specs.Prelude.{nat_lt, slice_get, option_map, MatchOption, ◌&&◌, is_some}
 use Rattle.std.specs.List.{list_all}
 use Rattle.std.proofs.lemmas.Bool.{cases_lt, lt-ltb, le-ltb, ltb-true}
 use Rattle.std.proofs.lemmas.List.{length-map}
 use Rattle.std.proofs.lemmas.Option.{slice_get-map, slice_get_within}
 use Rattle.fec_plan.specs.declared.position.Position.{Position}
-use Rattle.norm_base.specs.Settings.{Settings}
-use Rattle.norm_base.specs.declared.kinds.Kind.{Kind}
-use Rattle.norm_base.specs.declared.node.Origin.{Origin}
 use Rattle.norm_order.specs.Entries.{Object}
 use Rattle.norm_order.specs.Shapes.{shape_of, encoded_in}
-use Rattle.norm_send_rules.specs.SenderState.{SenderState, Listing}
+use Rattle.norm_send_rules.specs.SenderState.{SenderState}
 use Rattle.norm_send_rules.specs.Requests.{all_past, is_past}
-use Rattle.norm_send_rules.specs.Enqueuing.{enqueued}
 use Rattle.tx_window.specs.Windowed.{WindowObject, Windowed, Stands, IsInWindow, reached_by}
-use Rattle.tx_window.specs.Asked.{from_first, kept_at, info_of, info_at, AnswersAt}
+use Rattle.tx_window.specs.Asked.{from_first, kept_at, AnswersAt}
 use Rattle.tx_window.specs.Held.{AnswersSymbol}
-use Rattle.tx_window.specs.Taking.{IsEnqueued}
 use Rattle.tx_window.specs.Standing.{IsStanding}
 use Rattle.tx_window.proofs.HeldLemmas.{taken, refused}
 use Rattle.tx_window.proofs.WindowLemmas.{kept_is}
@@ -67,15 +62,6 @@ may_note w s at old new n stands answers = go (kept_at s at.index) refl answers
           λ o at_place. ltb-true at.symbol (encoded_in (shape_of w.p o.object) at.block)
               (ap (λ (x : Object). nat_lt at.symbol (encoded_in (shape_of w.p x) at.block)) (same_object o object _ at_place here.1) ∙ is.0),
         )
-
--- an info that was answered may be noted
-pub may_note_info : (w : Windowed) (s : SenderState) (index : ℕ) (info : List ℕ) → Stands w s → info_at s index ≡ Some info → IsInWindow w index
-may_note_info w s index info stands answers = go (kept_at s index) refl answers
-  where
-    go : (r : Option Object) → kept_at s index ≡ r
-        → (elim r as (λ v. Option (List ℕ)) [ Some object ↦ info_of object | None ↦ None ]) ≡ Some info → IsInWindow w index
-    go None kept is = absurd (cc)
-    go (Some object) kept is = (found w s index object stands kept).0
 
 -- the state after the receivers are listed past another position
 abbrev listed : Option Position → SenderState → SenderState
