@@ -13,3 +13,4 @@ pub mod WindowLemmas
 pub mod MemberLemmas
 pub mod NotingLemmas
 pub mod SentLemmas
+pub mod StandingLemmas

@@ -4,3 +4,4 @@ pub mod Windowed
 pub mod Sound
 pub mod Asked
 pub mod Taking
+pub mod Standing

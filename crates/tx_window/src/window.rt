@@ -435,7 +435,9 @@ impl Window {
         requires window { IsInWindow self.old at.index }
         requires block { (o : WindowObject) → slice_get self.old.objects (at.index - self.old.dropped) ≡ Some o
             → at.symbol < encoded_in (shape_of self.old.p o.object) at.block }
-        ensures { (s : SenderState) → Stands self.old s → Stands self.new (noted (Symbol at) s) }
+        ensures stands { (s : SenderState) → Stands self.old s → Stands self.new (noted (Symbol at) s) }
+        ensures filling { self.new.filling ≡ self.old.filling }
+        ensures profile { self.new.p ≡ self.old.p }
     {
         let place = (at.index - self.dropped) as usize;
         self.held[place].note_sent(at.block, at.symbol);
@@ -444,7 +446,9 @@ impl Window {
     /// Marks the info of an object of the window as sent.
     pub fn note_info(&mut self, index: u32)
         requires { IsInWindow self.old index }
-        ensures { (s : SenderState) → Stands self.old s → Stands self.new (record s { sent_infos = with_member nat_lt index s.sent_infos }) }
+        ensures stands { (s : SenderState) → Stands self.old s → Stands self.new (record s { sent_infos = with_member nat_lt index s.sent_infos }) }
+        ensures filling { self.new.filling ≡ self.old.filling }
+        ensures profile { self.new.p ≡ self.old.p }
     {
         let place = (index - self.dropped) as usize;
         self.held[place].note_info();

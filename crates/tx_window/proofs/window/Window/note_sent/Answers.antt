@@ -49,8 +49,8 @@ invariant_of-self c =
       numbered = omega (arith, length-set w.held.items i new, c.self.invariant.numbered);
     }
 
-pub returns : goal.returns
-returns c = λ s stands.
+pub returns-clause-stands : goal.returns-clause-stands
+returns-clause-stands c = λ s stands.
     let w = c.self.inside in
     let i = c.args.at.index - w.dropped in
     let old = c.index_mut.result.now in
