@@ -10,7 +10,7 @@ use Rattle.norm_order.specs.First.{first_where}
 use Rattle.norm_receive_rules.specs.ReceiverState.{ReceiverState, Plan, Held}
 use Rattle.norm_receive_rules.specs.Plans.{cut_of_plan, says_stream, says_info, held_of, holds, lacking, is_done, info_of, has_its_info, first_block}
 use Rattle.norm_receive_rules.specs.BlockValue.{ids_of, octets_of_held, held_symbol, block_value}
-use Rattle.norm_receive_rules.specs.Putting.{put_by, put_info_by, is_far, is_misfit}
+use Rattle.norm_receive_rules.specs.Putting.{put_by, is_far, is_misfit}
 use Rattle.norm_receive_rules.specs.HandingUp.{is_whole, told_info, block_octets, object_octets}
 use Rattle.norm_receive_rules.specs.declared.words.Put.{Put}
 use Rattle.norm_receive_rules.specs.declared.words.Put.TheVariants as put
@@ -108,10 +108,3 @@ octets_alike s t plan alike =
     (λ symbol. ap (λ (o : Option (List ℕ)). there o) (value_alike s t plan block symbol alike))
     (range_with_len 0 (source_symbols (cut_of_plan plan) block)))
     (range_with_len 0 (blocks (cut_of_plan plan))))
-
-pub info_word_alike : (p : Settings) (s t : ReceiverState) (plan : Plan) (info : List ℕ) → Alike s t plan.index → put_info_by p s plan info ≡ put_info_by p t plan info
-info_word_alike p s t plan info alike =
-    ap (λ (o : Option (List ℕ)). elim (is_some o) as (λ _. Put) [
-      | true ↦ put.Had
-      | false ↦ elim (Rattle.std.specs.Prelude.nat_lt p.e (length info) || not (says_info plan.flags)) as (λ _. Put) [ true ↦ put.Unfit | false ↦ put.Kept ]
-    ]) alike.info

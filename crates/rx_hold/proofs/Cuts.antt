@@ -1,11 +1,9 @@
 -- Where the blocks of an object lie among its places.
-use Rattle.std.proofs.Common.{◌≡◌, ℕ, zero, suc, ◌+◌, ◌-◌, ◌*◌, ◌<◌, ◌≤◌, ◌⊎◌, inl, inr, Bool, true, false, refl, sym, ap, ◌∙◌, arith, Option, Some, None}
-use Rattle.std.specs.Prelude.{◌≢◌, min, is_some, if◌then◌else◌}
+use Rattle.std.proofs.Common.{◌≡◌, ℕ, zero, suc, ◌+◌, ◌-◌, ◌*◌, ◌<◌, ◌≤◌, Bool, true, false, refl, sym, ap, ◌∙◌, arith, Option, Some, None}
+use Rattle.std.specs.Prelude.{min, is_some, if◌then◌else◌}
 use Rattle.std.proofs.Math.Nat.{min-le_left}
-use Rattle.std.proofs.lemmas.Nat.{div-add-mod'}
-use Rattle.std.proofs.lemmas.Bool.{cases_lt, lt-ltb, le-ltb}
 use Rattle.std.proofs.lemmas.Grind.{div_ceil_times}
-use Rattle.fec_plan.specs.Partition.{Cut, IsSound, symbols_in, blocks_in, large_block, small_block, larger_blocks, block_size, blocks, source_symbols, all_symbols, sent_octets}
+use Rattle.fec_plan.specs.Partition.{Cut, IsSound, symbols_in, blocks_in, blocks, source_symbols, all_symbols, sent_octets}
 use Rattle.fec_plan.proofs.CutLemmas.{some_blocks}
 use Rattle.fec_plan.proofs.CoverLemmas.{before_step, all_before, none_before, blocks_are_even_law}
 use Rattle.rx_hold.specs.Rows.{start_of, end_of}
@@ -77,34 +75,6 @@ few_sources c block sound object = go c.l sound object
     go : (l : Option ℕ) → IsSound (record { l = l; e = c.e; b = c.b; max_n = c.max_n }) → is_some l ≡ true → source_symbols (record { l = l; e = c.e; b = c.b; max_n = c.max_n }) block ≤ c.b
     go (Some l) s some = (blocks_are_even_law l c.e c.b c.max_n s block).1
     go None s some = absurd (cc some)
-
-one_of_two : (t n block : ℕ) → 0 < n → block < n → (block_size t n block ≡ block_size t n 0) ⊎ (block_size t n block ≡ block_size t n (n - 1))
-one_of_two t n block some lt =
-    elim (cases_lt block (larger_blocks t n)) [
-      | inl less ↦
-          inl (ap (λ b. if b then large_block t n else small_block t n)
-          (lt-ltb block (larger_blocks t n) less ∙ sym (lt-ltb 0 (larger_blocks t n) (omega arith))))
-      | inr more ↦
-          inr (ap (λ b. if b then large_block t n else small_block t n)
-          (le-ltb block (larger_blocks t n) more ∙ sym (le-ltb (n - 1) (larger_blocks t n) (omega (arith, div-add-mod' t n)))))
-    ]
-
--- a block that has not as many source symbols as the first has as many as the last
-pub like_last : (c : Cut) (block : ℕ) → IsSound c → is_some c.l ≡ true → block < blocks c → source_symbols c block ≢ source_symbols c 0
-    → source_symbols c block ≡ source_symbols c (blocks c - 1)
-like_last c block sound object lt differ = go c.l object sound.some lt differ
-  where
-    go : (l : Option ℕ) → is_some l ≡ true → 0 < all_symbols (record { l = l; e = c.e; b = c.b; max_n = c.max_n })
-        → block < blocks (record { l = l; e = c.e; b = c.b; max_n = c.max_n })
-        → source_symbols (record { l = l; e = c.e; b = c.b; max_n = c.max_n }) block ≢ source_symbols (record { l = l; e = c.e; b = c.b; max_n = c.max_n }) 0
-        → source_symbols (record { l = l; e = c.e; b = c.b; max_n = c.max_n }) block
-        ≡ source_symbols (record { l = l; e = c.e; b = c.b; max_n = c.max_n }) (blocks (record { l = l; e = c.e; b = c.b; max_n = c.max_n }) - 1)
-    go (Some n) o some less other = either (one_of_two (symbols_in n c.e) (blocks_in (symbols_in n c.e) c.b) block (some_blocks (symbols_in n c.e) c.b some sound.least_b) less) other
-      where
-        either : {a b d : ℕ} → (a ≡ b) ⊎ (a ≡ d) → a ≢ b → a ≡ d
-        either (inl e) other = absurd (other e)
-        either (inr e) other = e
-    go None o some less other = absurd (cc o)
 
 -- the octets of all places
 pub few_octets : (c : Cut) → IsSound c → is_some c.l ≡ true → ((l : ℕ) → c.l ≡ Some l → l ≤ 16777216) → all_symbols c * c.e ≤ 16778616

@@ -115,9 +115,6 @@ encoded_some size id ids sources x e = go (has_id id ids) e
 
 -- ---- the length of a source symbol
 
-Reaches : ℕ → ℕ → ℕ → List ℕ → Type 0
-Reaches size far m s = (length s ≡ size) ⊎ (far - m * size ≤ length s)
-
 given_of : (size far k m : ℕ) (hs : List Held) (s : List ℕ) → AllByRecursion (λ (h : Held). h.at.symbol < k → (length h.octets ≡ size) ⊎ (far - h.at.symbol * size ≤ length h.octets)) hs
     → m < k → given (ids_of hs) (octets_of_held hs) m ≡ Some s → (length s ≡ size) ⊎ (far - m * size ≤ length s)
 unfolding given

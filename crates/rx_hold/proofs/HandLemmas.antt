@@ -137,9 +137,6 @@ hands_none_more (suc k) p s e = ap (λ (found : Option ReceiverState). elim foun
 pub record Leads (p : Settings) (s : ReceiverState) (n : ℕ) (after : ReceiverState) : Type 0 where
   pub on : (k : ℕ) → hands_most (n + k) p s ≡ hands_most k p after
 
-pub leads_nowhere : (p : Settings) (s : ReceiverState) → Leads p s 0 s
-leads_nowhere p s = record { on = λ k. ap (λ n. hands_most n p s) (let n : 0 + k ≡ k = omega arith in n) }
-
 one_more : (k : ℕ) (p : Settings) (s after : ReceiverState) → hands_one p s ≡ Some after → hands_most (suc k) p s ≡ hands_most k p after
 unfolding hands_most
 one_more k p s after e = ap (λ (found : Option ReceiverState). elim found as (λ _. ReceiverState) [ Some t ↦ hands_most k p t | None ↦ s ]) e
@@ -169,9 +166,6 @@ pub record HandsOn (first now : HoldState) (s : ReceiverState) : Type 0 where
   pub leads : Leads first.p s count after
   pub few : count + symbols_held now ≤ symbols_held first
   pub stands : Stands now after
-
-pub hands_on_start : (h : HoldState) (s : ReceiverState) → Stands h s → HandsOn h h s
-hands_on_start h s stands = record { after = s; count = 0; leads = leads_nowhere h.p s; few = omega arith; stands = stands }
 
 pub hands_on_more : (first middle now : HoldState) (s : ReceiverState) → middle.p ≡ first.p → HandsOn first middle s
     → ((t : ReceiverState) → Stands middle t → HandsFirst true middle now t) → symbols_held now < symbols_held middle → HandsOn first now s

@@ -1,5 +1,5 @@
 -- Losing what is not whole before the sender's window.
-use Rattle.std.proofs.Common.{◌≡◌, ℕ, zero, suc, ◌+◌, ◌-◌, ◌<◌, ◌≤◌, Bool, true, false, refl, sym, ap, ◌∙◌, subst, arith, Option, Some, None, List}
+use Rattle.std.proofs.Common.{◌≡◌, ℕ, zero, suc, ◌+◌, ◌-◌, ◌<◌, ◌≤◌, Bool, true, false, refl, sym, ap, ◌∙◌, arith, Option, Some, None, List}
 use Rattle.std.specs.Prelude.{nat_lt, ◌==◌, ◌&&◌, is_none, is_some, not, option_map}
 use Rattle.std.proofs.lemmas.Bool.{lt-ltb, le-ltb, eq-eqb}
 use Rattle.norm_base.specs.Settings.{Settings}
@@ -74,15 +74,6 @@ loses_more index first middle lost now s so_far before loses at hands on =
       stands = after;
     }
 
-pub loses_end : (index : ℕ) (first now : HoldState) (s : ReceiverState) → LosesOn index first now s → index ≤ now.point
-    → Stands now (loses_before (index - s.point.index) first.p index s)
-loses_end index first now s so_far reached =
-    let t : ReceiverState = so_far.after in
-    let here = point_of_hold now t so_far.stands in
-    subst (λ (u : ReceiverState). Stands now u)
-    (sym (so_far.leads ∙ ap (λ b. elim b as (λ _. ReceiverState) [ true ↦ loses_before so_far.count first.p index (loses_one t) | false ↦ t ]) (le-ltb t.point.index index (omega arith))))
-    so_far.stands
-
 -- ---- the object at the window's beginning
 
 abbrev cut_by_plan : ReceiverState → ℕ → Option Plan → Bool
@@ -123,12 +114,6 @@ cut_off_is p m ring ups lost t index block placed stands =
 pub cut_off : (p : Settings) (index block : ℕ) (s t : ReceiverState) → t ≡ loses_before (index - s.point.index) p index s
     → (t.point.index == index && is_cut_off t (point index block)) ≡ true → squelched p (point index block) s ≡ handed_up p (loses_one t)
 cut_off p index block s t is e =
-    ap (loses_at p (point index block)) (sym is)
-    ∙ ap (λ b. elim b as (λ _. ReceiverState) [ true ↦ handed_up p (loses_one t) | false ↦ t ]) e
-
-pub not_cut_off : (p : Settings) (index block : ℕ) (s t : ReceiverState) → t ≡ loses_before (index - s.point.index) p index s
-    → (t.point.index == index && is_cut_off t (point index block)) ≡ false → squelched p (point index block) s ≡ t
-not_cut_off p index block s t is e =
     ap (loses_at p (point index block)) (sym is)
     ∙ ap (λ b. elim b as (λ _. ReceiverState) [ true ↦ handed_up p (loses_one t) | false ↦ t ]) e
 

@@ -10,7 +10,7 @@ use Rattle.fec_plan.specs.declared.position.Position.{Position}
 use Rattle.norm_ext.specs.declared.fti.Fti.{Fti}
 use Rattle.norm_order.specs.declared.up.Up.{Up}
 use Rattle.norm_order.specs.Sets.{with_member}
-use Rattle.norm_receive_rules.specs.ReceiverState.{ReceiverState, Plan, Held, HeldInfo, knowing_nothing}
+use Rattle.norm_receive_rules.specs.ReceiverState.{ReceiverState, Plan, Held, HeldInfo}
 use Rattle.norm_receive_rules.specs.Plans.{is_over}
 use Rattle.norm_receive_rules.specs.Acknowledging.{lost_nothing}
 use Rattle.norm_receive_rules.specs.Fitting.{plan_before, with_plan}
@@ -19,7 +19,7 @@ use Rattle.norm_receive_rules.specs.HandingUp.{after_object}
 use Rattle.norm_receive_rules.specs.declared.words.Put.TheVariants as put
 use Rattle.rx_hold.specs.BlockState.{held_at}
 use Rattle.rx_hold.specs.ObjectState.{ObjectState, infos_of, empty_object}
-use Rattle.rx_hold.specs.HoldState.{Stands, empty_hold}
+use Rattle.rx_hold.specs.HoldState.{Stands}
 use Rattle.rx_hold.specs.HoldSound.{Placed, at_place, those_there}
 use Rattle.rx_hold.proofs.RingLemmas.{filter_twice, filter_joins, alone_in, part_of, same_parts, with_part, without_first}
 use Rattle.rx_hold.proofs.PlaceLemmas.{placed_at, there_longer}
@@ -200,8 +200,3 @@ stands_moved p m next first rest ups lost later s up indexes placed stands on no
 
     kept : (s : ReceiverState) (n : ℕ) → s.point.index + 1 ≤ n → not (nat_lt n (s.point.index + 1)) ≡ true
     kept s n le = ap not (le-ltb n (s.point.index + 1) le)
-
--- ---- nothing
-
-pub stands_empty : (p : Settings) (node : ℕ) (instance : Option ℕ) (gone : List ℕ) (sequence : ℕ) → Stands (empty_hold p) (knowing_nothing node instance gone sequence)
-stands_empty p node instance gone sequence = record { point = refl; plans = refl; held = refl; infos = refl; ups = refl; lost = refl }

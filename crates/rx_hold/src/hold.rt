@@ -1,6 +1,6 @@
 //! What a receiver holds of objects that it did not hand up yet.
 
-ghost use Rattle.std.specs.Prelude.{ℕ, List, ◌≡◌, ◌==◌, ◌&&◌, ◌||◌, nat_le, nat_lt, if◌then◌else◌, ◌+◌, ◌<◌, ◌≤◌, ◌^◌, not, length, IfOk, IfErr, OnErr, MatchOption, MatchResult, Option, None, Some, is_some, false, ⊤};
+ghost use Rattle.std.specs.Prelude.{ℕ, List, ◌≡◌, ◌==◌, ◌&&◌, ◌||◌, nat_le, nat_lt, if◌then◌else◌, ◌+◌, ◌<◌, ◌≤◌, ◌^◌, not, length, IfOk, IfErr, OnErr, MatchOption, MatchResult, Option, None, Some, is_ok, is_some, false, true, ⊤};
 ghost use Rattle.fec_plan.specs.Partition.{blocks};
 ghost use Rattle.fec_plan.specs.Points.{point as point_at, position};
 ghost use Rattle.norm_receive_rules.specs.ReceiverState.{ReceiverState, knowing_nothing};
@@ -323,12 +323,13 @@ impl Hold {
     ///
     /// # Errors
     ///
-    /// `Memory` where memory runs out; then nothing changes. Symbols of data and files take none.
+    /// `Memory` where memory runs out; then nothing changes. Symbols of data and files take none, so it never does yet.
     pub fn put(&mut self, index: u32, id: PayloadId, payload: &[u8]) -> Result<Put, Memory>
         ensures profile { self.new.p ≡ self.old.p }
         ensures state { IfOk result (λ word. (s : ReceiverState) → Stands self.old s
             → (word ≡ put_of self.old.p s (position index id.block id.symbol) payload.now)
             × Stands self.new (with_symbol word (position index id.block id.symbol) payload.now s)) }
+        ensures none { is_ok result ≡ true }
         ensures refused { OnErr result (self.new ≡ self.old) }
     {
         if index < self.front.point {
