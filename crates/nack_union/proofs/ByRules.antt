@@ -168,8 +168,9 @@ stands_by_rules p s r u new st col after = record {
 }
 
 -- where nothing is asked for, no request was collected
-pub nothing_collected : (p : Settings) (s : SenderState) (u : Kept) → ((k : ℕ) (d : Marked) → k < length u.objects → IsIdle (get_or u.objects k d)) → Collects p u s []
-nothing_collected p s u idle = record {
+pub nothing_collected : (p : Settings) (s : SenderState) (u : Kept) → ((k : ℕ) (d : Marked) → k < length u.objects → IsIdle (get_or u.objects k d)) → u.earliest ≡ None → Collects p u s []
+nothing_collected p s u idle none = record {
+  earliest = none;
   known = tt;
   named = none_at (λ m. m.asked) u.first u.objects (admitted (stream_cut 0 0 0) false) (λ j lt. (idle j (admitted (stream_cut 0 0 0) false) lt).0);
   counts = λ k d lt block. ap (λ (cs : List ℕ). get_or cs block 0) (idle k d lt).1 ∙ zeros (length (get_or u.objects k d).counts) block;

@@ -18,6 +18,7 @@ pub collects_kept : (p : Settings) (s : SenderState) (u : Kept) (asked : List As
     → new.asked ≡ (get_or u.objects k d).asked → new.counts ≡ (get_or u.objects k d).counts → Collects p u s asked
     → Collects p (record u { objects = set u.objects k new }) s asked
 collects_kept p s u asked k new d lt same_asked same_counts col = record {
+  earliest = col.earliest;
   known = col.known;
   named = same_at (λ m. m.asked) u.first k u.objects new d lt same_asked ∙ col.named;
   counts = λ j e less block. at j e (let many = length-set u.objects k new in omega (arith, less, many)) block (cases_eq j k) ∙ col.counts j e (let many = length-set u.objects k new in omega (arith, less, many)) block;

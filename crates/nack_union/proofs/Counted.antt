@@ -35,13 +35,13 @@ block_fits c block sound lt = go c.l lt refl
     go (Some n) less e = sources_within (record c { l = Some n }) block (subst (λ (l : Option ℕ). IsSound (record c { l = l })) e sound) refl less
     go None less e = let one : (block + 1) * c.b ≤ 16777216 * c.b = mul-le-mul_right c.b (omega arith) in omega (arith, one)
 
-closed_is : (m : Marked) (block : ℕ) → IsSound m.cut → block < blocks m.cut → closed_in (shape_of_marked m) block ≡ source_symbols m.cut block
+pub closed_is : (m : Marked) (block : ℕ) → IsSound m.cut → block < blocks m.cut → closed_in (shape_of_marked m) block ≡ source_symbols m.cut block
 closed_is m block sound lt = full (source_symbols m.cut block) (all_symbols m.cut) (symbol_number m.cut block 0) (block_fits m.cut block sound lt)
   where
     full : (size all first : ℕ) → first + size ≤ all → min size (all - first) ≡ size
     full size all first le = omega arith
 
-encoded_is : (m : Marked) (block : ℕ) → IsSound m.cut → block < blocks m.cut → encoded_in (shape_of_marked m) block ≡ encoding_symbols m.cut block
+pub encoded_is : (m : Marked) (block : ℕ) → IsSound m.cut → block < blocks m.cut → encoded_in (shape_of_marked m) block ≡ encoding_symbols m.cut block
 encoded_is m block sound lt =
     taken (closed_in (shape_of_marked m) block == source_symbols m.cut block) _ _ (eq-eqb (closed_in (shape_of_marked m) block) (source_symbols m.cut block) (closed_is m block sound lt))
   where

@@ -68,7 +68,7 @@ symbols_with at (x ∷ xs) = go (position_before at x) (position_before x at) (s
     go false true rest = ap (λ ys. Symbol x ∷ ys) rest
     go false false rest = refl
 
-front : (w : Want) (zs : List Want) → Each (want_before w) zs → with_member want_before w zs ≡ w ∷ zs
+pub front : (w : Want) (zs : List Want) → Each (want_before w) zs → with_member want_before w zs ≡ w ∷ zs
 unfolding with_member
 front w [] all = refl
 front w (z ∷ zs) all = go (want_before w z) all.0
@@ -145,7 +145,7 @@ filter_twice d e (w ∷ xs) later = go (stands_behind d w) (stands_behind e w) r
     go false true f g rest = let h = later w g in absurd (cc)
     go false false f g rest = rest
 
-index_at : (i a : ℕ) → want_index (want_at i a) ≡ i
+pub index_at : (i a : ℕ) → want_index (want_at i a) ≡ i
 index_at i zero = refl
 index_at i (suc n) = refl
 

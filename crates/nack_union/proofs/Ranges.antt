@@ -12,7 +12,7 @@ put b c x y ys = elim b [
   | false ↦ elim c [ true ↦ y ∷ with_member nat_lt x ys | false ↦ y ∷ ys ]
 ]
 
-in_front : (m x : ℕ) (xs : List ℕ) → m < x → with_member nat_lt m (x ∷ xs) ≡ m ∷ x ∷ xs
+pub in_front : (m x : ℕ) (xs : List ℕ) → m < x → with_member nat_lt m (x ∷ xs) ≡ m ∷ x ∷ xs
 unfolding with_member
 in_front m x xs lt = go (nat_lt m x) (nat_lt x m) (lt-ltb m x lt)
   where
@@ -20,7 +20,7 @@ in_front m x xs lt = go (nat_lt m x) (nat_lt x m) (lt-ltb m x lt)
     go true c e = refl
     go false c e = absurd (cc)
 
-again : (m : ℕ) (xs : List ℕ) → with_member nat_lt m (m ∷ xs) ≡ m ∷ xs
+pub again : (m : ℕ) (xs : List ℕ) → with_member nat_lt m (m ∷ xs) ≡ m ∷ xs
 unfolding with_member
 again m xs = go (nat_lt m m) (le-ltb m m (omega arith))
   where
@@ -28,7 +28,7 @@ again m xs = go (nat_lt m m) (le-ltb m m (omega arith))
     go true e = absurd (cc)
     go false e = refl
 
-behind : (m x : ℕ) (xs : List ℕ) → m < x → with_member nat_lt x (m ∷ xs) ≡ m ∷ with_member nat_lt x xs
+pub behind : (m x : ℕ) (xs : List ℕ) → m < x → with_member nat_lt x (m ∷ xs) ≡ m ∷ with_member nat_lt x xs
 unfolding with_member
 behind m x xs lt = go (nat_lt x m) (nat_lt m x) (le-ltb x m (omega arith)) (lt-ltb m x lt)
   where
@@ -37,7 +37,7 @@ behind m x xs lt = go (nat_lt x m) (nat_lt m x) (le-ltb x m (omega arith)) (lt-l
     go false false e f = absurd (cc)
     go false true e f = refl
 
-alone : (m : ℕ) → with_member nat_lt m [] ≡ m ∷ []
+pub alone : (m : ℕ) → with_member nat_lt m [] ≡ m ∷ []
 unfolding with_member
 alone m = refl
 
@@ -124,7 +124,7 @@ member_first x y ys b c e f =
     ap (λ (d : Bool). elim d as (λ _. Bool) [ true ↦ is_member nat_lt x ys | false ↦ not (nat_lt x y) ]) e
     ∙ ap (λ (d : Bool). elim b as (λ _. Bool) [ true ↦ is_member nat_lt x ys | false ↦ not d ]) f
 
-no_member : (x : ℕ) → is_member nat_lt x [] ≡ false
+pub no_member : (x : ℕ) → is_member nat_lt x [] ≡ false
 unfolding is_member
 no_member x = refl
 

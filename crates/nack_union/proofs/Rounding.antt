@@ -10,7 +10,7 @@ use Rattle.norm_send_rules.specs.SenderState.{SenderState}
 use Rattle.norm_send_rules.specs.Wants.{want_before}
 use Rattle.nack_union.specs.Slots.{want_at}
 use Rattle.nack_union.specs.Repairs.{counted_slots}
-use Rattle.nack_union.specs.Kept.{Marked, Kept, Stands, listed, closed_marks, admitted, shape_of_marked, IsCounted}
+use Rattle.nack_union.specs.Kept.{Marked, Kept, Stands, listed, closed_marks, closed_union, admitted, shape_of_marked, IsCounted}
 use Rattle.nack_union.specs.Rounds.{asked_of, wants_closed, new_wants}
 use Rattle.nack_union.proofs.Closings.{all_closed}
 use Rattle.nack_union.proofs.Counted.{asked_are}
@@ -35,7 +35,7 @@ closed_wants p s u counted st =
     ∙ ap (with_members want_before (asked_of s u)) st.wants
 
 pub stands_closed : (p : Settings) (s : SenderState) (u : Kept) → AllByRecursion IsCounted u.objects → Stands p u s
-    → Stands p (record u { objects = map closed_marks u.objects }) (record s { wants = wants_closed u s })
+    → Stands p (closed_union u) (record s { wants = wants_closed u s })
 stands_closed p s u counted st = record {
   first = st.first;
   whole = st.whole;

@@ -103,7 +103,7 @@ stands_admitted p s u entry m unwanted unsent st shape = record {
 
 -- the first n objects are dropped
 pub stands_retired : (p : Settings) (s : SenderState) (u : Kept) (n : ℕ) → n ≤ length u.objects → Stands p u s
-    → Stands p (record { first = u.first + n; objects = drop n u.objects }) (dropped_to (point (u.first + n) 0) s)
+    → Stands p (record u { first = u.first + n; objects = drop n u.objects }) (dropped_to (point (u.first + n) 0) s)
 stands_retired p s u n le st = record {
   first = refl;
   whole = refl;

@@ -77,8 +77,9 @@ get_drop (suc n) (m ∷ ms) k d lt = get_drop n ms k d (omega arith) ∙ ap (λ 
 
 -- the first n objects are dropped
 pub collects_retired : (p : Settings) (s : SenderState) (u : Kept) (asked : List Asked) (n : ℕ) → n ≤ length u.objects → Stands p u s → Collects p u s asked
-    → Collects p (record { first = u.first + n; objects = drop n u.objects }) (dropped_to (point (u.first + n) 0) s) asked
+    → Collects p (record u { first = u.first + n; objects = drop n u.objects }) (dropped_to (point (u.first + n) 0) s) asked
 collects_retired p s u asked n le st col = record {
+  earliest = col.earliest;
   known = col.known;
   named =
       sym (listed_dropped (λ m. m.asked) (point (u.first + n) 0) u.first n u.objects refl refl)
@@ -104,13 +105,13 @@ flat_same f g n (a ∷ asked) same known = ap (λ xs. xs ++ flat_map f asked) (s
 came_same : (a : Asked) (shapes : List Shape) (x : Shape) → a.next ≤ length shapes → as_it_came a (shapes ++ x ∷ []) ≡ as_it_came a shapes
 came_same a shapes x le = ap (shapes_at a.last 0) (take-append-le a.next shapes (x ∷ []) le)
 
-length-shapes_at : (last : Option Position) (index : ℕ) (shapes : List Shape) → length (shapes_at last index shapes) ≡ length shapes
+pub length-shapes_at : (last : Option Position) (index : ℕ) (shapes : List Shape) → length (shapes_at last index shapes) ≡ length shapes
 unfolding shapes_at
 length-shapes_at last index [] = refl
 length-shapes_at last index (x ∷ shapes) = ap suc (length-shapes_at last (index + 1) shapes)
 
 -- a count that is kept is of an object of the order
-within_order : (shapes : List Shape) (i : ℕ) (test : Shape → Bool) → at_index shapes i false test ≡ true → i < length shapes
+pub within_order : (shapes : List Shape) (i : ℕ) (test : Shape → Bool) → at_index shapes i false test ≡ true → i < length shapes
 within_order shapes i test e = go (slice_get shapes i) refl e
   where
     clash : false ≡ true → ⊥
@@ -149,6 +150,7 @@ none_kept p shapes asked at past = go (cases_lt 0 (greatest (flat_map (counts_of
 pub collects_admitted : (p : Settings) (s : SenderState) (u : Kept) (asked : List Asked) (entry : Entry) (m : Marked) (n : ℕ) → m.asked ≡ [] → m.counts ≡ replicate n 0
     → Stands p u s → Collects p u s asked → Collects p (with_object m u) (with_entry entry s) asked
 collects_admitted p s u asked entry m n unasked uncounted st col = record {
+  earliest = col.earliest;
   known = more asked col.known;
   named = joined_at (λ m. m.asked) u.first u.objects m unasked ∙ col.named ∙ ap (λ ws. with_members want_before (filter (stands_behind s.current.drop) ws) []) (sym wants_same);
   counts = λ k d lt block. at k d lt block (cases_lt k (length u.objects)) ∙ ap (λ cs. greatest cs (point (u.first + k) block)) (sym counts_same);

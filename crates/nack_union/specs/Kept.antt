@@ -1,5 +1,5 @@
 -- What a union keeps of a sender's state, and which states it stands for: objects of data and files.
-use Rattle.std.specs.Prelude.{◌≡◌, ◌<◌, ◌≤◌, ℕ, suc, ◌+◌, ◌-◌, List, [], ◌∷◌, ◌++◌, length, map, filter, drop, replicate, Bool, nat_lt, slice_index, set}
+use Rattle.std.specs.Prelude.{◌≡◌, ◌<◌, ◌≤◌, ℕ, suc, ◌+◌, ◌-◌, List, [], ◌∷◌, ◌++◌, length, map, filter, drop, replicate, Bool, nat_lt, slice_index, set, Option, None}
 use Rattle.norm_base.specs.Settings.{Settings}
 use Rattle.fec_plan.specs.Partition.{Cut, IsSound, blocks, all_symbols, encoding_symbols}
 use Rattle.norm_order.specs.Shapes.{Shape}
@@ -22,10 +22,12 @@ pub record Marked : Type 0 where
   pub asked : List ℕ
   pub counts : List ℕ
 
--- a union: the index of the window's first object, and its objects in order
+-- A union: the index of the window's first object, its objects in order, and the least index from which the open round
+-- counts.
 pub record Kept : Type 0 where
   pub first : ℕ
   pub objects : List Marked
+  pub earliest : Option ℕ
 
 -- an object as it is admitted
 abbrev pub admitted : Cut → Bool → Marked
@@ -51,7 +53,7 @@ closed_marks m = record m {
 
 -- a union of which the round is closed
 abbrev pub closed_union : Kept → Kept
-closed_union u = record u { objects = map closed_marks u.objects }
+closed_union u = record u { objects = map closed_marks u.objects; earliest = None }
 
 -- the union with one more object
 abbrev pub with_object : Marked → Kept → Kept
@@ -63,7 +65,7 @@ with_marks index m u = record u { objects = set u.objects (index - u.first) m }
 
 -- a union as an instance begins
 abbrev pub begun_union : Kept
-begun_union = record { first = 0; objects = [] }
+begun_union = record { first = 0; objects = []; earliest = None }
 
 -- the infos and symbols at these slots of the objects from an index on
 abbrev pub listed : (Marked → List ℕ) → ℕ → List Marked → List Want

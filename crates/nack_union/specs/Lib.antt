@@ -4,7 +4,10 @@ pub mod Slots
 pub mod Repairs
 pub mod Kept
 pub mod Rounds
+pub mod Earliest
 pub mod Collected
+pub mod More
+pub mod Adding
 pub mod Sound
 pub mod SoundUnion
 pub mod Laws

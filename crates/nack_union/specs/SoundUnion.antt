@@ -17,4 +17,4 @@ pub record IsSoundUnion (u : Inside) : Type 0 where
   pub idle : AreIdle u.low u.high u.objects.items
 
 abbrev pub union_view : Inside → Kept
-union_view u = record { first = u.first; objects = u.objects.items }
+union_view u = record { first = u.first; objects = u.objects.items; earliest = u.earliest }

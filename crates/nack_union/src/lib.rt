@@ -2,6 +2,8 @@
 //! and leave the window and which symbols it sent, and takes the lowest want out of it. A [`Mask`] is the set that it keeps them in.
 #![tactic(auto)]
 
+mod asking;
+mod earliest;
 pub mod laws;
 mod marks;
 mod mask;
@@ -9,7 +11,7 @@ mod repairs;
 mod union;
 
 pub use crate::mask::Mask;
-pub use crate::union::Union;
+pub use crate::union::{Closed, Union};
 pub use norm_send_rules::Want;
 
 #[cfg(test)]

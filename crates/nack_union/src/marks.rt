@@ -1,10 +1,13 @@
 //! What a union keeps of one object.
 
-ghost use Rattle.std.specs.Prelude.{◌≡◌, ◌+◌, ◌^◌, ◌<◌, ◌≤◌, ◌∷◌, [], not, nat_lt, IfOk, MatchOption, true, ℕ, length, max, set, slice_index};
+ghost use Rattle.std.specs.Prelude.{◌≡◌, ◌+◌, ◌^◌, ◌<◌, ◌≤◌, ◌∷◌, [], not, nat_lt, IfOk, MatchOption, true, false, ◌==◌, ℕ, length, max, set, slice_index, ◌&&◌, ◌||◌};
 ghost use Rattle.fec_plan.specs.Partition.{blocks};
 ghost use Rattle.norm_order.specs.Sets.{with_member, is_member};
 ghost use Rattle.nack_union.specs.Slots.{slots, symbol_slot, slot_of_want, want_at, IsNamed};
 ghost use Rattle.norm_send_rules.specs.Wants.{want_index};
+ghost use Rattle.nack_union.specs.More.{HasMore, is_source_slot, is_encoded_slot, in_run, slot_in, slot_from, slot_behind, is_slot_of, count_at, MoreOf, named_part, Rises};
+ghost use Rattle.nack_union.specs.Adding.{IsPlanned};
+ghost use Rattle.norm_ext.specs.Asking.{span, has_flag};
 ghost use Rattle.nack_union.specs.Kept.{admitted, closed_marks, IsCounted};
 ghost use Rattle.norm_send_rules.specs.declared.want.Want.TheVariants.{Symbol};
 ghost use Rattle.fec_plan.specs.Points.{position};
@@ -13,12 +16,15 @@ use crate::mask::Mask;
 use crate::repairs::ask_counted;
 use fec_plan::{Plan, Position};
 use norm_base::Memory;
+use norm_ext::flags::{WANT_BLOCK, WANT_INFO, WANT_OBJECT, WANT_SEGMENT};
 use norm_send_rules::Want;
 use std::alloc::Global;
 use std::marker::Model;
 
 /// The slots of a block: one for each id that a symbol can have.
 const BLOCK: usize = 256;
+/// The greatest number of a block.
+const LAST_BLOCK: u32 = 16_777_215;
 
 /// An object of the window: which of its slots are wanted, and how many, and which were sent. Of the open round the slots
 /// that it asks for, of each block the greatest count, and whether it asks for anything.
@@ -48,7 +54,8 @@ impl Model for Marks {
 
 /// The slot of a symbol.
 pub fn slot_of(block: u32, symbol: u8) -> usize
-    ensures { result ≡ symbol_slot block symbol }
+    ensures slot { result ≡ symbol_slot block symbol }
+    ensures named { symbol < 256 }
 {
     BLOCK * block as usize + usize::from(symbol) + 1
 }
@@ -92,6 +99,59 @@ pub fn want_of(index: u32, slot: usize) -> Want
     }
 }
 
+/// The slot of the object with this index at which what begins at a position begins.
+fn slot_from(index: u32, first: Position) -> usize
+    ensures slot { result ≡ slot_from index first }
+    ensures named { first.symbol < 256 }
+{
+    let slot = slot_of(first.block, first.symbol);
+    if index == first.index { slot } else { 0 }
+}
+
+/// The slot of the object with this index, at most this one, behind what ends with a position.
+fn slot_behind(index: u32, last: Position, most: usize) -> usize
+    ensures slot { result ≡ slot_behind index last most }
+    ensures named { last.symbol < 256 }
+{
+    let slot = slot_of(last.block, last.symbol);
+    if index == last.index { slot + 1 } else { most }
+}
+
+/// Puts the slots of an object's source symbols, from one slot up to another, into a set.
+fn insert_sources(set: &mut Mask, plan: &Plan, from: usize, to: usize)
+    requires { slots (blocks plan.now) ≤ set.old.size }
+    ensures members { (slot : ℕ) → is_member nat_lt slot set.new.members
+        ≡ (is_member nat_lt slot set.old.members || (is_source_slot plan.now slot && in_run from to slot)) }
+    ensures size { set.new.size ≡ set.old.size }
+{
+    let first = from.saturating_sub(1) / BLOCK;
+    let behind = to
+        .saturating_sub(1)
+        .div_ceil(BLOCK)
+        .min(plan.blocks() as usize);
+    'runs: for block in first..behind {
+        let start = slot_of(block as u32, 0);
+        let end = start + usize::from(plan.source_len(block as u32));
+        set.insert_run(start.max(from), end.min(to));
+    }
+}
+
+/// What a request names: from one position to another, both included, and its flags.
+#[derive(Clone, Copy, Debug)]
+pub struct Named {
+    pub first: Position,
+    pub last: Position,
+    pub flags: u8,
+}
+
+/// Whether a request's flags have this one.
+pub fn has_flag(flags: u8, flag: u8) -> bool
+    requires { 0 < flag }
+    ensures { result ≡ has_flag flags flag }
+{
+    flags / flag % 2 == 1
+}
+
 impl Marks {
     /// An object of which nothing is wanted and nothing was sent, with room for all that ever can be.
     pub fn new(alloc: Global, plan: &Plan, info: bool) -> Result<Marks, Memory>
@@ -112,6 +172,16 @@ impl Marks {
             counts,
             is_asked: false,
         })
+    }
+
+    /// What holds of each object. Nothing is done.
+    pub fn hold(&self)
+        ensures planned { IsPlanned self.now }
+        ensures rises { Rises self.now.asked }
+    {
+        self.plan.blocks();
+        self.plan.encoded_len(0);
+        self.asked.rises();
     }
 
     /// Whether something of the object is wanted.
@@ -145,6 +215,95 @@ impl Marks {
     {
         self.asked.insert(slot);
         self.is_asked = true;
+    }
+
+    /// The round asks for the source symbols whose slots lie from one up to another.
+    fn ask_sources(&mut self, from: usize, to: usize)
+        ensures { HasMore (λ slot. is_source_slot self.old.cut slot && in_run from to slot) (λ block. 0) self.old self.new }
+    {
+        insert_sources(&mut self.asked, &self.plan, from, to);
+        self.is_asked = true;
+    }
+
+    /// The round asks for the source symbols of the object, which has this index, from one position to another, both
+    /// included.
+    pub fn ask_between(&mut self, index: u32, first: Position, last: Position)
+        requires from { first.index ≤ index }
+        requires to { index ≤ last.index }
+        ensures { HasMore (λ slot. is_source_slot self.old.cut slot && slot_in index (span first last) slot) (λ block. 0) self.old self.new }
+    {
+        let behind = BLOCK * self.plan.blocks() as usize + 1;
+        self.ask_sources(slot_from(index, first), slot_behind(index, last, behind));
+    }
+
+    /// The round asks for the info of the object, where it has one.
+    pub fn ask_info(&mut self)
+        ensures { HasMore (λ slot. self.old.info && slot == 0) (λ block. 0) self.old self.new }
+    {
+        if self.info {
+            self.ask(0);
+        }
+    }
+
+    /// Asks for what lies between two positions, where that is wanted.
+    fn ask_where(&mut self, wanted: bool, index: u32, first: Position, last: Position)
+        requires from { first.index ≤ index }
+        requires to { index ≤ last.index }
+        ensures { HasMore (λ slot. wanted && (is_source_slot self.old.cut slot && slot_in index (span first last) slot)) (λ block. 0) self.old self.new }
+    {
+        if wanted {
+            self.ask_between(index, first, last);
+        }
+    }
+
+    /// Asks for the info, where that is wanted.
+    fn ask_info_where(&mut self, wanted: bool)
+        ensures { HasMore (λ slot. wanted && (self.old.info && slot == 0)) (λ block. 0) self.old self.new }
+    {
+        if wanted {
+            self.ask_info();
+        }
+    }
+
+    /// The round asks for what is named of the object, which has this index.
+    pub fn ask_named(&mut self, index: u32, named: Named)
+        requires from { named.first.index ≤ index }
+        requires to { index ≤ named.last.index }
+        ensures { MoreOf (named_part named.flags (span named.first named.last)) index self.old self.new }
+    {
+        let Named { first, last, flags } = named;
+        let start = Position { symbol: 0, ..first };
+        let end = Position {
+            symbol: u8::MAX,
+            ..last
+        };
+        let lowest = Position { block: 0, ..start };
+        let highest = Position {
+            block: LAST_BLOCK,
+            ..end
+        };
+        self.ask_where(has_flag(flags, WANT_SEGMENT), index, first, last);
+        self.ask_where(has_flag(flags, WANT_BLOCK), index, start, end);
+        self.ask_where(has_flag(flags, WANT_OBJECT), index, lowest, highest);
+        self.ask_info_where(has_flag(flags, WANT_INFO));
+    }
+
+    /// The round asks for an encoded symbol of the object.
+    pub fn ask_symbol(&mut self, block: u32, symbol: u8)
+        ensures { HasMore (λ slot. is_encoded_slot self.old.cut slot && is_slot_of block symbol slot) (λ block. 0) self.old self.new }
+    {
+        if block < self.plan.blocks() && symbol < self.plan.encoded_len(block) {
+            self.ask(slot_of(block, symbol));
+        }
+    }
+
+    /// The round counts a block of the object, where it has it.
+    pub fn count_block(&mut self, block: u32, lacking: u8)
+        ensures { HasMore (λ slot. false) (λ other. count_at block lacking other) self.old self.new }
+    {
+        if block < self.plan.blocks() {
+            self.count(block, lacking);
+        }
     }
 
     /// The round asks for so many symbols of a block. The greatest count stands.

@@ -1,8 +1,9 @@
 //! A set of places as words of 64 bits.
 
-ghost use Rattle.std.specs.Prelude.{◌≡◌, ◌+◌, ◌*◌, ◌^◌, ◌<◌, ◌≤◌, ◌∷◌, [], not, nat_lt, length, IfOk, MatchOption, slice_index, ◌≢◌, ℕ, IfSome};
+ghost use Rattle.std.specs.Prelude.{◌≡◌, ◌+◌, ◌*◌, ◌^◌, ◌<◌, ◌≤◌, ◌∷◌, [], not, nat_lt, length, IfOk, MatchOption, slice_index, ◌≢◌, ℕ, IfSome, ◌||◌};
 ghost use Rattle.std.specs.Int.{div_ceil};
 ghost use Rattle.norm_order.specs.Sets.{with_member, with_members, is_member};
+ghost use Rattle.nack_union.specs.More.{in_run, Rises};
 
 use norm_base::Memory;
 use std::alloc::Global;
@@ -61,6 +62,13 @@ impl Mask {
         self.words[place / WORD] >> (place % WORD) & 1 == 1
     }
 
+    /// The members rise. Nothing is done.
+    pub fn rises(&self)
+        ensures { Rises self.now.members }
+    {
+        let _ = &self.words;
+    }
+
     /// Puts a place into the set, and says whether it is new there.
     pub fn insert(&mut self, place: usize) -> bool
         requires { place < self.old.size }
@@ -76,6 +84,18 @@ impl Mask {
             self.lowest = word;
         }
         is_new
+    }
+
+    /// Puts the places from one up to another into the set.
+    pub fn insert_run(&mut self, from: usize, to: usize)
+        requires { to ≤ self.old.size }
+        ensures members { (place : ℕ) → is_member nat_lt place self.new.members ≡ (is_member nat_lt place self.old.members || in_run from to place) }
+        ensures size { self.new.size ≡ self.old.size }
+    {
+        let _ = &self.words;
+        'places: for place in from..to {
+            self.insert(place);
+        }
     }
 
     /// Leaves the set without members.

@@ -117,7 +117,7 @@ fn a_want_is_sent_once(rt: HostRuntime) {
         symbol: 5,
     };
     union.ask(Want::Symbol { at });
-    assert_eq!(rt; union.close_round(), 1);
+    assert_eq!(rt; union.close_round().queued, 1);
     assert_eq!(rt; union.next(), Some(Want::Symbol { at }));
     assert_eq!(rt; union.next(), None);
 }
@@ -139,7 +139,7 @@ fn union_of_block(rt: &impl Abort, alloc: Global) -> Union
 fn a_count_asks_for_the_lowest_parity(rt: HostRuntime) {
     let mut union = union_of_block(&rt, rt.alloc());
     union.count(0, 0, 2);
-    assert_eq!(rt; union.close_round(), 2);
+    assert_eq!(rt; union.close_round().queued, 2);
     for symbol in [4, 5] {
         let at = Position {
             index: 0,

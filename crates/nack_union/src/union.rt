@@ -1,6 +1,6 @@
 //! What is wanted of a sender's window, and what was sent of it.
 
-ghost use Rattle.std.specs.Prelude.{◌≡◌, ◌<◌, ◌≤◌, ◌+◌, ◌-◌, ◌∷◌, [], length, IfOk, IsErr, MatchOption, Some, ℕ, List, nat_lt, position, slice_get, drop, Bool, not, map, min, max, set, slice_index};
+ghost use Rattle.std.specs.Prelude.{◌≡◌, ◌<◌, ◌≤◌, ◌+◌, ◌-◌, ◌∷◌, ◌++◌, [], length, IfOk, IsErr, MatchOption, Some, ℕ, List, nat_lt, position, slice_get, drop, Bool, not, map, min, max, set, slice_index};
 ghost use Rattle.norm_base.specs.Settings.{Settings};
 ghost use Rattle.fec_plan.specs.Partition.{blocks};
 ghost use Rattle.norm_order.specs.Entries.{Entry};
@@ -8,9 +8,10 @@ ghost use Rattle.norm_order.specs.Shapes.{shape_of};
 ghost use Rattle.norm_send_rules.specs.SenderState.{SenderState, Asked, Round, sender_opening};
 ghost use Rattle.norm_send_rules.specs.Enqueuing.{with_entry};
 ghost use Rattle.norm_send_rules.specs.Restarting.{begun_anew};
+ghost use Rattle.norm_send_rules.specs.Hearing.{asked_now};
 ghost use Rattle.norm_send_rules.specs.Sending.{noted};
 ghost use Rattle.norm_send_rules.specs.Dropping.{dropped_to};
-ghost use Rattle.norm_send_rules.specs.Closing.{round_closed};
+ghost use Rattle.norm_send_rules.specs.Closing.{round_closed, asks_early};
 ghost use Rattle.norm_send_rules.specs.InWindow.{stands_behind};
 ghost use Rattle.fec_plan.specs.Points.{point};
 ghost use Rattle.std.specs.List.{list_any, AllByRecursion};
@@ -20,18 +21,30 @@ ghost use Rattle.norm_order.specs.Sets.{with_member};
 ghost use Rattle.norm_send_rules.specs.Wants.{want_index};
 ghost use Rattle.nack_union.specs.Slots.{slots, slot_of_want, symbol_slot};
 ghost use Rattle.nack_union.specs.Kept.{Kept, Marked, Stands, begun_union, admitted, with_object, shape_of_marked, closed_marks, closed_union, IsCounted, with_marks};
+ghost use Rattle.nack_union.specs.More.{HasPart, named_part, symbol_part, count_part, part_where, item_part, items_part, ranges_part, counts_part, request_part, requests_part};
+ghost use Rattle.nack_union.specs.Adding.{HasAdded, IsPlanned};
+ghost use Rattle.norm_ext.specs.Requests.{items_named};
+ghost use Rattle.norm_ext.specs.RequestView.{request_of};
+ghost use Rattle.norm_ext.specs.Asking.{span, is_proper};
+ghost use Rattle.std.specs.Bool.{MatchBool};
 ghost use Rattle.nack_union.specs.Rounds.{new_wants, wants_closed};
+ghost use Rattle.nack_union.specs.Earliest.{is_below_first, earliest_with};
 ghost use Rattle.nack_union.specs.Collected.{Collects};
 
-use crate::marks::{Marks, index_of_want, slot_of, slot_of_want, want_of};
+use crate::asking::{ask_range, hold_all, is_before, position_of, split_item, split_pair};
+use crate::earliest::{earliest_of, is_below, lesser};
+use crate::marks::{Marks, Named, has_flag, index_of_want, slot_of, slot_of_want, want_of};
 use fec_plan::{Plan, Position};
-use norm_base::Memory;
+use norm_base::{Memory, Profile};
+use norm_ext::flags::{WANT_BLOCK, WANT_SEGMENT};
+use norm_ext::{Form, Request, Requests};
 use norm_send_rules::Want;
 use std::alloc::Global;
 use std::marker::Model;
 
 /// The wants and the sent symbols of the objects of a window, and what the open round asks for. Objects are admitted at its
-/// end and retired from its front. Outside of the places from `low` up to `high` the round asks for nothing.
+/// end and retired from its front. Outside of the places from `low` up to `high` the round asks for nothing. `earliest` is
+/// the least index from which its requests count.
 #[derive(Debug, Drop)]
 pub struct Union {
     alloc: Global,
@@ -39,6 +52,16 @@ pub struct Union {
     objects: Vec<Marks>,
     low: usize,
     high: usize,
+    earliest: Option<u32>,
+}
+
+/// What the closing of a round says.
+#[derive(Clone, Copy, Debug, PartialEq, Eq)]
+pub struct Closed {
+    /// How many wants are new, or the greatest number where there are more.
+    pub queued: u32,
+    /// Whether the round asked for what lies before the window, so that a squelch is due.
+    pub early: bool,
 }
 
 impl Model for Union {
@@ -101,6 +124,7 @@ impl Union {
             objects: Vec::new(alloc),
             low: 0,
             high: 0,
+            earliest: None,
         }
     }
 
@@ -138,6 +162,7 @@ impl Union {
         self.objects.clear();
         self.low = 0;
         self.high = 0;
+        self.earliest = None;
     }
 
     /// Drops all objects before an index, and says whether that took away a want.
@@ -205,6 +230,168 @@ impl Union {
         object.count(block, lacking);
     }
 
+    /// The open round asks for what is named, as far as the window has it.
+    fn ask_named(&mut self, named: Named)
+        ensures { HasPart (named_part named.flags (span named.first named.last)) self.old self.new }
+    {
+        let from = named.first.index.saturating_sub(self.first) as usize;
+        let behind = named.last.index as usize + 1;
+        let to = behind
+            .saturating_sub(self.first as usize)
+            .min(self.objects.len());
+        self.low = self.low.min(from);
+        self.high = self.high.max(to);
+        ask_range(&mut self.objects, self.first, from, to, named);
+    }
+
+    /// The open round asks for an encoded symbol, where the window has it.
+    fn ask_symbol(&mut self, at: Position)
+        ensures { HasPart (symbol_part at) self.old self.new }
+    {
+        if self.has(at.index) {
+            let place = (at.index - self.first) as usize;
+            self.low = self.low.min(place);
+            self.high = self.high.max(place + 1);
+            self.objects[place].ask_symbol(at.block, at.symbol);
+        }
+    }
+
+    /// The open round counts a block for as many symbols as a position says, where the window has it.
+    fn count_block(&mut self, at: Position)
+        ensures { HasPart (count_part at) self.old self.new }
+    {
+        if self.has(at.index) {
+            let place = (at.index - self.first) as usize;
+            self.low = self.low.min(place);
+            self.high = self.high.max(place + 1);
+            self.objects[place].count_block(at.block, at.symbol);
+        }
+    }
+
+    /// Asks for an encoded symbol, where that is wanted.
+    fn ask_symbol_where(&mut self, wanted: bool, at: Position)
+        ensures { HasPart (part_where wanted (symbol_part at)) self.old self.new }
+    {
+        if wanted {
+            self.ask_symbol(at);
+        }
+    }
+
+    /// The open round asks for what an item names.
+    fn ask_item(&mut self, flags: u8, at: Position)
+        ensures { HasPart (item_part flags at) self.old self.new }
+    {
+        let (first, last) = (at, at);
+        self.ask_named(Named { first, last, flags });
+        self.ask_symbol_where(has_flag(flags, WANT_SEGMENT), at);
+    }
+
+    /// The open round asks for what a range names, where it is not empty.
+    fn ask_pair(&mut self, flags: u8, first: Position, last: Position)
+        ensures { HasPart (part_where (is_proper (span first last)) (named_part flags (span first last))) self.old self.new }
+    {
+        if !is_before(&last, &first) {
+            self.ask_named(Named { first, last, flags });
+        }
+    }
+
+    /// The open round asks for what items name.
+    fn ask_items(&mut self, profile: &Profile, flags: u8, items: &[u8])
+        ensures { HasPart (items_part profile.now flags (items_named items.now)) self.old self.new }
+    {
+        let _ = &self.objects;
+        let mut rest = items;
+        'items: while let Some((item, behind)) = split_item(rest) {
+            self.ask_item(flags, position_of(profile, item));
+            rest = behind;
+        }
+    }
+
+    /// The open round asks for what pairs of items name.
+    fn ask_ranges(&mut self, profile: &Profile, flags: u8, items: &[u8])
+        ensures { HasPart (ranges_part profile.now flags (items_named items.now)) self.old self.new }
+    {
+        let _ = &self.objects;
+        let mut rest = items;
+        'pairs: while let Some((first, last, behind)) = split_pair(rest) {
+            self.ask_pair(
+                flags,
+                position_of(profile, first),
+                position_of(profile, last),
+            );
+            rest = behind;
+        }
+    }
+
+    /// The open round counts blocks for as many symbols as items say.
+    fn ask_counts(&mut self, profile: &Profile, items: &[u8])
+        ensures { HasPart (counts_part profile.now (items_named items.now)) self.old self.new }
+    {
+        let _ = &self.objects;
+        let mut rest = items;
+        'items: while let Some((item, behind)) = split_item(rest) {
+            self.count_block(position_of(profile, item));
+            rest = behind;
+        }
+    }
+
+    /// The open round asks for what a request asks for.
+    fn ask_request(&mut self, profile: &Profile, request: &Request<'_>)
+        ensures { HasPart (request_part profile.now (request_of request.now)) self.old self.new }
+    {
+        let flags = request.flags;
+        match request.form {
+            Form::Items => self.ask_items(profile, flags, request.items),
+            Form::Ranges => self.ask_ranges(profile, flags, request.items),
+            Form::Erasures => {
+                if has_flag(flags, WANT_SEGMENT) || has_flag(flags, WANT_BLOCK) {
+                    self.ask_counts(profile, request.items);
+                }
+            }
+        }
+    }
+
+    /// The open round asks for what requests ask for.
+    fn ask_requests(&mut self, profile: &Profile, requests: Requests<'_>)
+        ensures asked { HasPart (requests_part profile.now requests.entry) self.old self.new }
+        ensures earliest { self.new.earliest ≡ earliest_with profile.now self.old.earliest requests.entry }
+    {
+        let mut earliest = self.earliest;
+        'requests: for request in requests {
+            self.ask_request(profile, &request);
+            earliest = lesser(earliest, earliest_of(profile, &request));
+        }
+        self.count_from(earliest);
+    }
+
+    /// The requests of the open round count from this index.
+    fn count_from(&mut self, earliest: Option<u32>)
+        ensures { self.new ≡ record self.old { earliest = earliest } }
+    {
+        self.earliest = earliest;
+    }
+
+    /// Whether the window has the object with an index.
+    fn has(&self, index: u32) -> bool
+        ensures { MatchBool result ((self.now.first ≤ index) × (index < self.now.first + length self.now.objects))
+            ((self.now.first ≤ index → self.now.first + length self.now.objects ≤ index)) }
+    {
+        self.first <= index && ((index - self.first) as usize) < self.objects.len()
+    }
+
+    /// Takes the requests of a NACK, as far as the window has what they ask for, into what the open round asks for.
+    pub fn add(&mut self, profile: &Profile, requests: Requests<'_>)
+        ensures added { HasAdded profile.now requests.entry self.old self.new }
+        ensures planned { AllByRecursion IsPlanned self.old.objects }
+        ensures stands { (s : SenderState) → Stands profile.now self.old s → Stands profile.now self.new s }
+        ensures collects { (s : SenderState) (asked : List Asked) → Stands profile.now self.old s → Collects profile.now self.old s asked
+            → Collects profile.now self.new s (asked ++ map (asked_now profile.now s) requests.entry) }
+    {
+        hold_all(&self.objects);
+        self.ask_requests(profile, requests);
+        hold_all(&self.objects);
+    }
+
     /// Takes out the lowest want. `None` exactly where there is none.
     pub fn next(&mut self) -> Option<Want>
         ensures collects { (p : Settings) (s : SenderState) (asked : List Asked) (rest : List Wanted) → Collects p self.old s asked
@@ -219,15 +406,17 @@ impl Union {
         Some(want_of(self.first + place as u32, slot))
     }
     /// Closes the open round: what it asked for is wanted, of a counted block the lowest parity symbols that were never
-    /// sent, or all its source symbols where fewer are left. Says how many wants are new, or the greatest number of 32
-    /// bits where there are more. The next round begins empty.
-    pub fn close_round(&mut self) -> u32
+    /// sent, or all its source symbols where fewer are left. Says how many wants are new, and whether the round asked for what
+    /// lies before the window (RFC 5740 section 5.4). The next round begins empty.
+    pub fn close_round(&mut self) -> Closed
         ensures exact { self.new ≡ closed_union self.old }
         ensures closed { (p : Settings) (s : SenderState) → Stands p self.old s → Stands p self.new (record s { wants = wants_closed self.old s }) }
         ensures queued { (p : Settings) (s : SenderState) → Stands p self.old s
-            → result ≡ min (length (wants_closed self.old s) - length s.wants) 4294967295 }
+            → result.queued ≡ min (length (wants_closed self.old s) - length s.wants) 4294967295 }
+        ensures early { result.early ≡ is_below_first self.old.earliest self.old.first }
         ensures rules { (p : Settings) (s : SenderState) (r : Round) → Stands p self.old s → Collects p self.old s r.asked
-            → Stands p self.new (round_closed p r s) × (result ≡ min (length (round_closed p r s).wants - length s.wants) 4294967295) }
+            → Stands p self.new (round_closed p r s) × (result.queued ≡ min (length (round_closed p r s).wants - length s.wants) 4294967295)
+            × (result.early ≡ list_any (λ (a : Asked). asks_early p s.current.drop a.request) r.asked) }
         ensures begun { (p : Settings) (s : SenderState) → Collects p self.new s [] }
     {
         let high = self.high.min(self.objects.len());
@@ -235,6 +424,8 @@ impl Union {
         let queued = close_all(&mut self.objects[low..high]);
         self.low = high;
         self.high = high;
-        queued
+        let early = is_below(self.earliest, self.first);
+        self.earliest = None;
+        Closed { queued, early }
     }
 }

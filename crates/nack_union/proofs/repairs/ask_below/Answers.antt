@@ -9,7 +9,7 @@ pub symbols-preserved : goal.symbols-preserved
 symbols-preserved c = record {
   members =
       ap (with_members nat_lt (map (symbol_slot c.args.block) (range_with_len (c.symbols.symbol + 1) (c.args.to - (c.symbols.symbol + 1)))))
-      (c.insert.ensures.members ∙ ap (λ n. with_member nat_lt n c.symbols.asked.members) c.slot_of.ensures)
+      (c.insert.ensures.members ∙ ap (λ n. with_member nat_lt n c.symbols.asked.members) c.slot_of.ensures.slot)
       ∙ ap (λ xs. with_members nat_lt (map (symbol_slot c.args.block) xs) c.symbols.asked.members) (sym (range_first c.symbols.symbol c.args.to c.symbols-test.true))
       ∙ c.symbols.invariant.members;
   size = c.insert.ensures.size ∙ c.symbols.invariant.size;

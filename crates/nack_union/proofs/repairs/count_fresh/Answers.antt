@@ -11,7 +11,7 @@ symbols-preserved c = elim c.if-not-contains.branch [
       let more : length (fresh_symbols c.args.sent.now.members c.args.block c.symbols.symbol (c.args.to - c.symbols.symbol))
       ≡ suc (length (fresh_symbols c.args.sent.now.members c.args.block (c.symbols.symbol + 1) (c.args.to - (c.symbols.symbol + 1)))) =
       ap length (fresh_new c.args.sent.now.members c.args.block c.symbols.symbol c.args.to c.symbols-test.true
-      (ap (λ slot. is_member nat_lt slot c.args.sent.now.members) (sym c.slot_of.ensures) ∙ sym c.contains.ensures ∙ w.if-not-contains.true)) in
+      (ap (λ slot. is_member nat_lt slot c.args.sent.now.members) (sym c.slot_of.ensures.slot) ∙ sym c.contains.ensures ∙ w.if-not-contains.true)) in
       let is = w.fresh-is in
       let few = c.symbols.invariant.few in
       let all = c.symbols.invariant.all in
@@ -20,7 +20,7 @@ symbols-preserved c = elim c.if-not-contains.branch [
       let same : length (fresh_symbols c.args.sent.now.members c.args.block c.symbols.symbol (c.args.to - c.symbols.symbol))
       ≡ length (fresh_symbols c.args.sent.now.members c.args.block (c.symbols.symbol + 1) (c.args.to - (c.symbols.symbol + 1))) =
       ap length (fresh_old c.args.sent.now.members c.args.block c.symbols.symbol c.args.to c.symbols-test.true
-      (ap (λ slot. is_member nat_lt slot c.args.sent.now.members) (sym c.slot_of.ensures) ∙ sym c.contains.ensures ∙ w.if-not-contains.false)) in
+      (ap (λ slot. is_member nat_lt slot c.args.sent.now.members) (sym c.slot_of.ensures.slot) ∙ sym c.contains.ensures ∙ w.if-not-contains.false)) in
       let is = w.fresh-is in
       let few = c.symbols.invariant.few in
       let all = c.symbols.invariant.all in

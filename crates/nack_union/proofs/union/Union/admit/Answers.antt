@@ -13,7 +13,7 @@ use Rattle.nack_union.proofs.union.Union.admit.Goals as goal
 pub returns-clause-stands : goal.returns-clause-stands
 returns-clause-stands c = λ p s entry st shape.
     let marks = c.in_ok-marks.ensures in
-    subst (λ (ms : List Marked). Stands p (record { first = c.self.inside.first; objects = ms }) (with_entry entry s)) (sym c.in_ok-push.ensures.items)
+    subst (λ (ms : List Marked). Stands p (record { first = c.self.inside.first; objects = ms; earliest = c.self.inside.earliest }) (with_entry entry s)) (sym c.in_ok-push.ensures.items)
     (stands_admitted p s _ entry c.in_ok-marks.marks (ap (λ (m : Marked). m.wants) marks) (ap (λ (m : Marked). m.sent) marks)
     (subst (λ (u : Kept). Stands p u s) (sym c.self.view_is) st) (shape ∙ ap shape_of_marked (sym marks)))
 
@@ -30,6 +30,6 @@ invariant_of-self-2 c =
 pub returns-clause-collects : goal.returns-clause-collects
 returns-clause-collects c = λ p s asked entry st col.
     let marks = c.in_ok-marks.ensures in
-    subst (λ (ms : List Marked). Collects p (record { first = c.self.inside.first; objects = ms }) (with_entry entry s) asked) (sym c.in_ok-push.ensures.items)
+    subst (λ (ms : List Marked). Collects p (record { first = c.self.inside.first; objects = ms; earliest = c.self.inside.earliest }) (with_entry entry s) asked) (sym c.in_ok-push.ensures.items)
     (collects_admitted p s _ asked entry c.in_ok-marks.marks (blocks c.args.plan.now) (ap (λ (m : Marked). m.asked) marks) (ap (λ (m : Marked). m.counts) marks)
     (subst (λ (u : Kept). Stands p u s) (sym c.self.view_is) st) (subst (λ (u : Kept). Collects p u s asked) (sym c.self.view_is) col))

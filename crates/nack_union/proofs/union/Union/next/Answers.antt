@@ -44,6 +44,6 @@ returns-clause-collects c = λ p s asked rest col.
     let at = ap (position wanted) (sym c.deref.ensures.value) ∙ sym c.first_wanted.ensures ∙ c.in_ok-place.was in
     let there = position-Some wanted c.self.inside.objects.items c.in_ok-place.place c.index_mut-object.result.now at in
     let same = sym c.index_mut-object.ensures.value ∙ c.in_ok-slot.ensures.0 in
-    let kept = collects_kept p s (record { first = c.self.inside.first; objects = c.self.inside.objects.items }) asked c.in_ok-place.place c.take_lowest.new.self c.index_mut-object.result.now
+    let kept = collects_kept p s (record { first = c.self.inside.first; objects = c.self.inside.objects.items; earliest = c.self.inside.earliest }) asked c.in_ok-place.place c.take_lowest.new.self c.index_mut-object.result.now
     there.0 (sym (ap (λ (m : Marked). m.asked) same)) (sym (ap (λ (m : Marked). m.counts) same)) (subst (λ (u : Kept). Collects p u s asked) (sym c.self.view_is) col) in
-    record { known = kept.known; named = kept.named; counts = kept.counts }
+    record { known = kept.known; named = kept.named; counts = kept.counts; earliest = kept.earliest }

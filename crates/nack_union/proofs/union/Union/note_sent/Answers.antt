@@ -18,7 +18,7 @@ returns-clause-stands c = λ p s st.
     stands_noted p s _ (c.args.at.index - c.self.inside.first) c.args.at c.note_sent.new.self c.index_mut-object.result.now
     (omega (arith, first, many, from, to)) (omega (arith, first, from)) (omega arith)
     (c.note_sent.ensures
-    ∙ ap (λ (n : ℕ). record (c.index_mut-object.result.now) { sent = with_member nat_lt n c.index_mut-object.result.now.sent }) c.slot_of.ensures
+    ∙ ap (λ (n : ℕ). record (c.index_mut-object.result.now) { sent = with_member nat_lt n c.index_mut-object.result.now.sent }) c.slot_of.ensures.slot
     ∙ ap (λ (m : Marked). record m { sent = with_member nat_lt (symbol_slot c.args.at.block c.args.at.symbol) m.sent }) c.index_mut-object.ensures.value)
     (subst (λ (u : Kept). Stands p u s) (sym view) st)
 
@@ -30,8 +30,8 @@ returns-clause-collects c = λ p s asked col.
     let from = c.requires.first in
     let to = c.requires.object in
     let there = c.index_mut-object.ensures.value in
-    let kept = collects_kept p s (record { first = c.self.inside.first; objects = c.self.inside.objects.items }) asked (c.args.at.index - c.self.inside.first) c.note_sent.new.self c.index_mut-object.result.now
+    let kept = collects_kept p s (record { first = c.self.inside.first; objects = c.self.inside.objects.items; earliest = c.self.inside.earliest }) asked (c.args.at.index - c.self.inside.first) c.note_sent.new.self c.index_mut-object.result.now
     (omega (arith, first, many, from, to))
     (ap (λ (m : Marked). m.asked) c.note_sent.ensures ∙ ap (λ (m : Marked). m.asked) there) (ap (λ (m : Marked). m.counts) c.note_sent.ensures ∙ ap (λ (m : Marked). m.counts) there)
     (subst (λ (u : Kept). Collects p u s asked) (sym view) col) in
-    record { known = kept.known; named = kept.named; counts = kept.counts }
+    record { known = kept.known; named = kept.named; counts = kept.counts; earliest = kept.earliest }

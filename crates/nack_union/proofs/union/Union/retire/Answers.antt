@@ -18,13 +18,13 @@ returns-clause-stands c = λ p s st.
     let many = ap (λ (u : Kept). length u.objects) view in
     let from = c.requires.not_back in
     let to = c.requires.within in
-    let u : Kept = record { first = c.self.inside.first; objects = c.self.inside.objects.items } in
+    let u : Kept = record { first = c.self.inside.first; objects = c.self.inside.objects.items; earliest = c.self.inside.earliest } in
     let stands : Stands p u s = subst (λ (k : Kept). Stands p k s) (sym view) st in
     let at : c.self.inside.first + (c.args.index - c.self.inside.first) ≡ c.args.index = omega (arith, first, from) in
     let after = stands_retired p s u (c.args.index - c.self.inside.first) (omega (arith, first, many, from, to)) stands in
-    let moved : Stands p (record { first = c.args.index; objects = drop (c.args.index - c.self.inside.first) c.self.inside.objects.items }) (dropped_to (point c.args.index 0) s) =
-    subst (λ (i : ℕ). Stands p (record { first = i; objects = drop (c.args.index - c.self.inside.first) c.self.inside.objects.items }) (dropped_to (point i 0) s)) at after in (
-      subst (λ (ms : List Marked). Stands p (record { first = c.args.index; objects = ms }) (dropped_to (point c.args.index 0) s)) (sym c.drop_front.ensures) moved,
+    let moved : Stands p (record { first = c.args.index; objects = drop (c.args.index - c.self.inside.first) c.self.inside.objects.items; earliest = c.self.inside.earliest }) (dropped_to (point c.args.index 0) s) =
+    subst (λ (i : ℕ). Stands p (record { first = i; objects = drop (c.args.index - c.self.inside.first) c.self.inside.objects.items; earliest = c.self.inside.earliest }) (dropped_to (point i 0) s)) at after in (
+      subst (λ (ms : List Marked). Stands p (record { first = c.args.index; objects = ms; earliest = c.self.inside.earliest }) (dropped_to (point c.args.index 0) s)) (sym c.drop_front.ensures) moved,
       c.is_some_wanted-dropped.ensures
           ∙ ap (λ (ms : List Marked). list_any (λ (m : Marked). nat_lt 0 (length m.wants)) (take (c.args.index - c.self.inside.first) ms)) c.deref.ensures.value
           ∙ sym (any_dropped (λ m. m.wants) (point c.args.index 0) c.self.inside.first (c.args.index - c.self.inside.first) c.self.inside.objects.items refl (sym at))
@@ -38,9 +38,9 @@ returns-clause-collects c = λ p s asked st col.
     let many = ap (λ (u : Kept). length u.objects) view in
     let from = c.requires.not_back in
     let to = c.requires.within in
-    let u : Kept = record { first = c.self.inside.first; objects = c.self.inside.objects.items } in
+    let u : Kept = record { first = c.self.inside.first; objects = c.self.inside.objects.items; earliest = c.self.inside.earliest } in
     let at : c.self.inside.first + (c.args.index - c.self.inside.first) ≡ c.args.index = omega (arith, first, from) in
     let after = collects_retired p s u asked (c.args.index - c.self.inside.first) (omega (arith, first, many, from, to))
     (subst (λ (k : Kept). Stands p k s) (sym view) st) (subst (λ (k : Kept). Collects p k s asked) (sym view) col) in
-    subst (λ (ms : List Marked). Collects p (record { first = c.args.index; objects = ms }) (dropped_to (point c.args.index 0) s) asked) (sym c.drop_front.ensures)
-    (subst (λ (i : ℕ). Collects p (record { first = i; objects = drop (c.args.index - c.self.inside.first) c.self.inside.objects.items }) (dropped_to (point i 0) s) asked) at after)
+    subst (λ (ms : List Marked). Collects p (record { first = c.args.index; objects = ms; earliest = c.self.inside.earliest }) (dropped_to (point c.args.index 0) s) asked) (sym c.drop_front.ensures)
+    (subst (λ (i : ℕ). Collects p (record { first = i; objects = drop (c.args.index - c.self.inside.first) c.self.inside.objects.items; earliest = c.self.inside.earliest }) (dropped_to (point i 0) s) asked) at after)

@@ -1,0 +1,34 @@
+-- One part after another.
+use Rattle.std.proofs.Common.{◌≡◌, ℕ, ◌+◌, ◌<◌, length, get_or, false, refl, sym, ap, ◌∙◌, subst, arith, List, [], ◌∷◌}
+use Rattle.norm_base.specs.Settings.{Settings}
+use Rattle.norm_ext.specs.declared.head.Item.{Item}
+use Rattle.nack_union.specs.Kept.{Kept, Marked}
+use Rattle.nack_union.specs.More.{HasMore, HasPart, MoreOf, Part, no_part, and_part, ranges_part}
+use Rattle.nack_union.proofs.Mores.{none_more, more_twice}
+
+pub part_none : (u : Kept) → HasPart no_part u u
+part_none u = record {
+  first = refl;
+  objects = refl;
+  each = λ k d lt. none_more (λ slot. false) (λ block. 0) (get_or u.objects k d) (λ slot. refl) (λ block. refl);
+}
+
+pub part_then : (a b : Part) (old mid new : Kept) → HasPart a old mid → HasPart b mid new → HasPart (and_part a b) old new
+part_then a b old mid new one two = record {
+  first = two.first ∙ one.first;
+  objects = two.objects ∙ one.objects;
+  each = λ k d lt. go k (get_or old.objects k d) (get_or mid.objects k d) (get_or new.objects k d) (one.each k d lt)
+      (subst (λ first. MoreOf b (first + k) (get_or mid.objects k d) (get_or new.objects k d)) one.first (two.each k d (subst (λ n. k < n) (sym one.objects) lt)));
+}
+  where
+    go : (k : ℕ) (x y z : Marked) → MoreOf a (old.first + k) x y → MoreOf b (old.first + k) y z → MoreOf (and_part a b) (old.first + k) x z
+    go k x y z f g =
+        more_twice (a.slots (old.first + k) x.cut x.info) (b.slots (old.first + k) x.cut x.info) (a.counts (old.first + k)) (b.counts (old.first + k)) x y z f
+        (subst (λ c. HasMore (b.slots (old.first + k) c x.info) (b.counts (old.first + k)) y z) (ap (λ (m : Marked). m.cut) f.rest)
+        (subst (λ i. HasMore (b.slots (old.first + k) y.cut i) (b.counts (old.first + k)) y z) (ap (λ (m : Marked). m.info) f.rest) g))
+
+-- less than a pair
+pub no_pair : (p : Settings) (flags : ℕ) (xs : List Item) → length xs < 2 → ranges_part p flags xs ≡ no_part
+no_pair p flags [] lt = refl
+no_pair p flags (x ∷ []) lt = refl
+no_pair p flags (x ∷ y ∷ xs) lt = absurd (omega (arith, lt))

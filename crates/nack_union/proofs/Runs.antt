@@ -1,0 +1,64 @@
+-- Slots of a run, and of the source symbols of an object.
+use Rattle.std.proofs.Common.{◌≡◌, ℕ, zero, suc, ◌+◌, ◌-◌, ◌*◌, ◌/◌, ◌%◌, ◌<◌, ◌≤◌, ◌⊎◌, inl, inr, false, refl, sym, ap, ◌∙◌, arith}
+use Rattle.std.specs.Prelude.{◌==◌, ◌&&◌, ◌||◌, nat_lt, min, max}
+use Rattle.std.proofs.lemmas.Bool.Decides.{nat_tests}
+use Rattle.std.proofs.lemmas.Bool.{cases_eq}
+use Rattle.std.proofs.Math.Nat.{div-add-mod}
+use Rattle.fec_plan.specs.Partition.{Cut, blocks, source_symbols}
+use Rattle.nack_union.specs.More.{in_run, is_source_slot, is_below}
+
+-- one slot more
+pub run_more : (from i n : ℕ) → from ≤ i → (in_run from i n || n == i) ≡ in_run from (i + 1) n
+run_more from i n le = grind (arith, nat_tests)
+
+pub run_none : (from to n : ℕ) → to ≤ from → in_run from to n ≡ false
+run_none from to n le = grind (arith, nat_tests)
+
+pub run_end : (from i to n : ℕ) → from ≤ i → i ≤ max from to → to ≤ i → in_run from i n ≡ in_run from to n
+run_end from i to n le most least = grind (arith, nat_tests)
+
+-- a symbol of the block that comes next, or of another
+plain_more : (n m k j b from to low high : ℕ) → j ≤ 256 → b < m → (n / 256 ≡ b → k ≡ j) → low ≡ max (256 * b + 0 + 1) from → high ≡ min (256 * b + 0 + 1 + j) to
+    → ((nat_lt (n / 256) m && nat_lt (n % 256) k && in_run from to (suc n) && nat_lt (n / 256) b) || in_run low high (suc n))
+    ≡ (nat_lt (n / 256) m && nat_lt (n % 256) k && in_run from to (suc n) && nat_lt (n / 256) (b + 1))
+plain_more n m k j b from to low high few lt same first last = go (cases_eq (n / 256) b)
+  where
+    here : n / 256 ≡ b → k ≡ j
+        → ((nat_lt (n / 256) m && nat_lt (n % 256) k && in_run from to (suc n) && nat_lt (n / 256) b) || in_run low high (suc n))
+        ≡ (nat_lt (n / 256) m && nat_lt (n % 256) k && in_run from to (suc n) && nat_lt (n / 256) (b + 1))
+    here e f = grind (arith, nat_tests, div-add-mod n 256)
+
+    go : (n / 256 ≡ b) ⊎ (n / 256 ≡ b → ⊥)
+        → ((nat_lt (n / 256) m && nat_lt (n % 256) k && in_run from to (suc n) && nat_lt (n / 256) b) || in_run low high (suc n))
+        ≡ (nat_lt (n / 256) m && nat_lt (n % 256) k && in_run from to (suc n) && nat_lt (n / 256) (b + 1))
+    go (inl e) = here e (same e)
+    go (inr ne) = grind (arith, nat_tests, div-add-mod n 256)
+
+-- the source symbols of one block more, by their slots
+pub slot_more : (c : Cut) (slot b from to low high j : ℕ) → j ≡ source_symbols c b → j ≤ 256 → b < blocks c
+    → low ≡ max (256 * b + 0 + 1) from → high ≡ min (256 * b + 0 + 1 + j) to
+    → ((is_source_slot c slot && in_run from to slot && is_below b slot) || in_run low high slot)
+    ≡ (is_source_slot c slot && in_run from to slot && is_below (b + 1) slot)
+slot_more c zero b from to low high j is few lt first last = grind (arith, nat_tests)
+slot_more c (suc n) b from to low high j is few lt first last =
+    plain_more n (blocks c) (source_symbols c (n / 256)) j b from to low high few lt (λ e. ap (source_symbols c) e ∙ sym is) first last
+
+plain_none : (n m k from to start : ℕ) → start ≡ from - 1 → (nat_lt (n / 256) m && nat_lt (n % 256) k && in_run from to (suc n) && nat_lt (n / 256) (start / 256)) ≡ false
+plain_none n m k from to start is = grind (arith, nat_tests, div-add-mod n 256, div-add-mod start 256)
+
+-- none before the first block that has one
+pub blocks_none : (c : Cut) (slot from to start : ℕ) → start ≡ from - 1 → (is_source_slot c slot && in_run from to slot && is_below (start / 256) slot) ≡ false
+blocks_none c zero from to start is = refl
+blocks_none c (suc n) from to start is = plain_none n (blocks c) (source_symbols c (n / 256)) from to start is
+
+plain_end : (n m k from to start i top behind : ℕ) → start ≡ from - 1 → behind ≡ min top m → to - 1 ≤ 256 * top → i ≤ max (start / 256) behind → behind ≤ i
+    → (nat_lt (n / 256) m && nat_lt (n % 256) k && in_run from to (suc n) && nat_lt (n / 256) i) ≡ (nat_lt (n / 256) m && nat_lt (n % 256) k && in_run from to (suc n))
+plain_end n m k from to start i top behind is last cover most least = grind (arith, nat_tests, div-add-mod n 256, div-add-mod start 256)
+
+-- and none behind the last
+pub blocks_end : (c : Cut) (slot from to start i top behind : ℕ) → start ≡ from - 1 → behind ≡ min top (blocks c) → to - 1 ≤ 256 * top
+    → i ≤ max (start / 256) behind → behind ≤ i
+    → (is_source_slot c slot && in_run from to slot && is_below i slot) ≡ (is_source_slot c slot && in_run from to slot)
+blocks_end c zero from to start i top behind is last cover most least = refl
+blocks_end c (suc n) from to start i top behind is last cover most least =
+    plain_end n (blocks c) (source_symbols c (n / 256)) from to start i top behind is last cover most least

@@ -1,0 +1,11 @@
+use Rattle.std.proofs.Common.{◌≡◌}
+use Rattle.nack_union.specs.Kept.{Kept}
+use Rattle.nack_union.specs.Earliest.{earliest_with}
+use Rattle.nack_union.specs.More.{HasPart, requests_part}
+use Rattle.nack_union.proofs.union.Union.ask_requests.Given as goal
+
+abbrev pub invariant-requests : goal.invariant-requests
+invariant-requests l = record {
+  asked : (u : Kept) → HasPart (requests_part l.profile l.request-iterator) l.self u → HasPart (requests_part l.profile l.initial.request-iterator) l.initial.self u;
+  least : earliest_with l.profile l.earliest l.request-iterator ≡ earliest_with l.profile l.initial.earliest l.initial.request-iterator;
+}
