@@ -53,9 +53,10 @@ later_all i j x (m ∷ ms) lt = both_all (want_at i x) (map (want_at j) m.asked)
 
 slots_rise : (index : ℕ) (xs : List ℕ) (ms : List Marked) → Rises xs → Rise (listed (λ m. m.asked) (suc index) ms) → Rise (map (want_at index) xs ++ listed (λ m. m.asked) (suc index) ms)
 slots_rise index [] ms rises rest = rest
-slots_rise index (x ∷ xs) ms rises rest =
-    (both_all (want_at index x) (map (want_at index) xs) (listed (λ m. m.asked) (suc index) ms) (here_all index x xs rises.0) (later_all index (suc index) x ms (omega arith)),
-      slots_rise index xs ms rises.1 rest)
+slots_rise index (x ∷ xs) ms rises rest = (
+  both_all (want_at index x) (map (want_at index) xs) (listed (λ m. m.asked) (suc index) ms) (here_all index x xs rises.0) (later_all index (suc index) x ms (omega arith)),
+  slots_rise index xs ms rises.1 rest,
+)
 
 -- what is listed of rising sets rises
 pub listed_rise : (index : ℕ) (ms : List Marked) → AllByRecursion (λ m. Rises m.asked) ms → Rise (listed (λ m. m.asked) index ms)

@@ -60,26 +60,26 @@ by_form p form.Items flags items index m (suc n) =
     items_slot p flags index n m.cut m.info items
     ∙ guard (nat_lt (n / 256) (blocks m.cut)) (nat_lt (n % 256) (source_symbols m.cut (n / 256))) _ (nat_lt (n % 256) (encoding_symbols m.cut (n / 256))) _
     ∙ ap (λ v. nat_lt (n / 256) (blocks m.cut) && ((nat_lt (n % 256) (source_symbols m.cut (n / 256)) && v)
-        || (nat_lt (n % 256) (encoding_symbols m.cut (n / 256)) && (has_flag flags segment_flag && list_any (same_symbol (position index (n / 256) (n % 256))) (map (named_by p) items)))))
-      (sym (any_spans (position index (n / 256) (n % 256)) flags (map (λ x. span (named_by p x) (named_by p x)) items)))
+    || (nat_lt (n % 256) (encoding_symbols m.cut (n / 256)) && (has_flag flags segment_flag && list_any (same_symbol (position index (n / 256) (n % 256))) (map (named_by p) items)))))
+    (sym (any_spans (position index (n / 256) (n % 256)) flags (map (λ x. span (named_by p x) (named_by p x)) items)))
     ∙ ap (λ v. nat_lt (n / 256) (blocks m.cut) && ((nat_lt (n % 256) (source_symbols m.cut (n / 256))
-        && list_any (lies_in (position index (n / 256) (n % 256))) (asked_spans p (record { form = form.Items; flags = flags; items = items })))
-        || (nat_lt (n % 256) (encoding_symbols m.cut (n / 256)) && v)))
-      (sym (any_where (same_symbol (position index (n / 256) (n % 256))) flags segment_flag (map (named_by p) items)))
+    && list_any (lies_in (position index (n / 256) (n % 256))) (asked_spans p (record { form = form.Items; flags = flags; items = items })))
+    || (nat_lt (n % 256) (encoding_symbols m.cut (n / 256)) && v)))
+    (sym (any_where (same_symbol (position index (n / 256) (n % 256))) flags segment_flag (map (named_by p) items)))
 by_form p form.Ranges flags items index m zero = ranges_info p flags index m.cut m.info items
 by_form p form.Ranges flags items index m (suc n) =
     ranges_slot p flags index n m.cut m.info items
     ∙ guard_one (nat_lt (n / 256) (blocks m.cut)) (nat_lt (n % 256) (source_symbols m.cut (n / 256))) _ (nat_lt (n % 256) (encoding_symbols m.cut (n / 256)))
     ∙ ap (λ v. nat_lt (n / 256) (blocks m.cut) && ((nat_lt (n % 256) (source_symbols m.cut (n / 256)) && v) || (nat_lt (n % 256) (encoding_symbols m.cut (n / 256)) && false)))
-      (sym (any_spans (position index (n / 256) (n % 256)) flags (filter is_proper (pairs (map (named_by p) items)))))
+    (sym (any_spans (position index (n / 256) (n % 256)) flags (filter is_proper (pairs (map (named_by p) items)))))
 by_form p form.Erasures flags items index m zero =
     counts_slot p index m.cut m.info zero items (has_flag flags segment_flag || has_flag flags block_flag) ∙ no_infos m.info (has_flag flags info_flag)
 by_form p form.Erasures flags items index m (suc n) =
     counts_slot p index m.cut m.info (suc n) items (has_flag flags segment_flag || has_flag flags block_flag)
     ∙ guard_none (nat_lt (n / 256) (blocks m.cut)) (nat_lt (n % 256) (source_symbols m.cut (n / 256))) (has_flag flags segment_flag) (has_flag flags block_flag) (has_flag flags object_flag)
-      (nat_lt (n % 256) (encoding_symbols m.cut (n / 256)))
+    (nat_lt (n % 256) (encoding_symbols m.cut (n / 256)))
     ∙ ap (λ v. nat_lt (n / 256) (blocks m.cut) && ((nat_lt (n % 256) (source_symbols m.cut (n / 256)) && v) || (nat_lt (n % 256) (encoding_symbols m.cut (n / 256)) && false)))
-      (sym (any_spans (position index (n / 256) (n % 256)) flags []))
+    (sym (any_spans (position index (n / 256) (n % 256)) flags []))
 
 all_slots : (p : Settings) (rs : List Request) (index : ℕ) (m : Marked) (slot : ℕ)
     → (requests_part p rs).slots index m.cut m.info slot ≡ is_asked_slot p rs index m slot

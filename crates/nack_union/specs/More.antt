@@ -76,9 +76,9 @@ slot_behind index last most = elim (index == last.index) [ true ↦ symbol_slot 
 abbrev pub asks_by : ℕ → Span → ℕ → Cut → Bool → ℕ → Bool
 asks_by flags s index c info slot =
     (is_source_slot c slot && (
-        ((has_flag flags segment_flag && slot_in index s slot)
-        || (has_flag flags block_flag && slot_in index (block_span s) slot))
-        || (has_flag flags object_flag && slot_in index (object_span s) slot)))
+    ((has_flag flags segment_flag && slot_in index s slot)
+    || (has_flag flags block_flag && slot_in index (block_span s) slot))
+    || (has_flag flags object_flag && slot_in index (object_span s) slot)))
     || ((has_flag flags info_flag && (info && slot == 0)) && lies_in (position index 0 0) (object_span s))
 
 -- a named span, as a part

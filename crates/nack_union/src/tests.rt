@@ -8,7 +8,8 @@ ghost use Rattle.nack_union.specs.Kept.{admitted};
 use super::*;
 use crate::marks::{Marks, want_of};
 use fec_plan::{Plan, Position};
-use norm_base::Memory;
+use norm_base::{Memory, Profile};
+use norm_ext::{check_requests, requests_of};
 use std::alloc::Global;
 use std::process::Abort;
 
@@ -135,11 +136,27 @@ fn union_of_block(rt: &impl Abort, alloc: Global) -> Union
     }
 }
 
+/// Adds the requests that octets spell.
+fn add(rt: &impl Abort, union: &mut Union, list: &[u8; 24]) {
+    match check_requests(list, 0) {
+        Ok(()) => union.add(&Profile::default(), requests_of(list)),
+        Err(_) => panic!(rt; "octets that spell no requests"),
+    }
+}
+
 #[test]
-fn a_count_asks_for_the_lowest_parity(rt: HostRuntime) {
+fn counts_ask_for_the_lowest_parity(rt: HostRuntime) {
     let mut union = union_of_block(&rt, rt.alloc());
-    union.count(0, 0, 2);
-    assert_eq!(rt; union.close_round().queued, 2);
+    // erasures with SEGMENT: of block 0 one symbol, and then two
+    let list = [
+        3, 1, 0, 8, 5, 0, 0, 0, 0, 0, 0, 1, 3, 1, 0, 8, 5, 0, 0, 0, 0, 0, 0, 2,
+    ];
+    add(&rt, &mut union, &list);
+    let closed = Closed {
+        queued: 2,
+        early: false,
+    };
+    assert_eq!(rt; union.close_round(), closed);
     for symbol in [4, 5] {
         let at = Position {
             index: 0,
@@ -149,6 +166,24 @@ fn a_count_asks_for_the_lowest_parity(rt: HostRuntime) {
         assert_eq!(rt; union.next(), Some(Want::Symbol { at }), "symbol {symbol}");
     }
     assert_eq!(rt; union.next(), None);
+}
+
+#[test]
+fn what_lies_before_the_window_is_early_once(rt: HostRuntime) {
+    let mut union = union_of(&rt, rt.alloc());
+    union.retire(1);
+    // items with SEGMENT: the first symbol of object 0, and then of object 1
+    let list = [
+        1, 1, 0, 8, 5, 0, 0, 0, 0, 0, 0, 0, 1, 1, 0, 8, 5, 0, 0, 1, 0, 0, 0, 0,
+    ];
+    add(&rt, &mut union, &list);
+    for early in [true, false] {
+        assert_eq!(rt;
+            union.close_round(),
+            Closed { queued: 0, early },
+            "early {early}"
+        );
+    }
 }
 
 /// The marks of such an object.

@@ -12,8 +12,8 @@ pub returns-clause-added : goal.returns-clause-added
 returns-clause-added c =
     added_parts c.args.profile.now c.args.requests c.args.self.now c.ask_requests.new.self c.ask_requests.ensures.asked
     (listed_rise c.ask_requests.new.self.first c.ask_requests.new.self.objects
-      (subst (λ (ms : List Marked). AllByRecursion (λ (m : Marked). Rises m.asked) ms)
-        (c.deref-2.ensures.value ∙ ap (λ (u : Kept). u.objects) c.self-2.view_is) c.hold_all-2.ensures.rise))
+    (subst (λ (ms : List Marked). AllByRecursion (λ (m : Marked). Rises m.asked) ms)
+    (c.deref-2.ensures.value ∙ ap (λ (u : Kept). u.objects) c.self-2.view_is) c.hold_all-2.ensures.rise))
     c.ask_requests.ensures.earliest
 
 planned : (c : goal.After-hold_all-2) → AllByRecursion IsPlanned c.args.self.now.objects
