@@ -208,6 +208,7 @@ impl Marks {
         self.wanted -= 1;
         Some(slot)
     }
+
     /// Puts a slot into what the round asks for.
     pub fn ask(&mut self, slot: usize)
         requires { slot < slots (blocks self.old.cut) }

@@ -137,7 +137,7 @@ fn union_of_block(rt: &impl Abort, alloc: Global) -> Union
 }
 
 /// Adds the requests that octets spell.
-fn add(rt: &impl Abort, union: &mut Union, list: &[u8; 24]) {
+fn add(rt: &impl Abort, union: &mut Union, list: &[u8]) {
     match check_requests(list, 0) {
         Ok(()) => union.add(&Profile::default(), requests_of(list)),
         Err(_) => panic!(rt; "octets that spell no requests"),
@@ -166,6 +166,73 @@ fn counts_ask_for_the_lowest_parity(rt: HostRuntime) {
         assert_eq!(rt; union.next(), Some(Want::Symbol { at }), "symbol {symbol}");
     }
     assert_eq!(rt; union.next(), None);
+}
+
+/// Erasures with SEGMENT: of block 0 so many symbols.
+fn count_of(lacking: u8) -> [u8; 12] {
+    [3, 1, 0, 8, 5, 0, 0, 0, 0, 0, 0, lacking]
+}
+
+#[test]
+fn parity_is_fresh_until_it_is_sent(rt: HostRuntime) {
+    let mut union = union_of_block(&rt, rt.alloc());
+    for (lacking, queued) in [(2, 2), (1, 0), (3, 4)] {
+        add(&rt, &mut union, &count_of(lacking));
+        let closed = Closed {
+            queued,
+            early: false,
+        };
+        assert_eq!(rt; union.close_round(), closed, "a count of {lacking}");
+    }
+}
+
+/// How many wants a range becomes, in a window of one object of 16 source symbols in blocks of 6, 5 and 5, with info.
+fn queued_by(rt: &impl Abort, alloc: Global, range: &[u8; 20]) -> u32 {
+    let mut union = union_of(rt, alloc);
+    add(rt, &mut union, range);
+    union.close_round().queued
+}
+
+#[test]
+fn ranges_are_cut_to_the_window(rt: HostRuntime) {
+    for (name, range, queued) in [
+        (
+            "symbols of all that positions name",
+            [
+                2, 1, 0, 16, 5, 0, 0, 0, 0, 0, 0, 0, 5, 0, 255, 255, 255, 255, 255, 255,
+            ],
+            16,
+        ),
+        (
+            "infos of all that positions name",
+            [
+                2, 4, 0, 16, 5, 0, 0, 0, 0, 0, 0, 0, 5, 0, 255, 255, 255, 255, 255, 255,
+            ],
+            1,
+        ),
+        (
+            "one that ends before it begins",
+            [2, 1, 0, 16, 5, 0, 0, 0, 0, 0, 2, 0, 5, 0, 0, 0, 0, 0, 0, 0],
+            0,
+        ),
+        (
+            "from symbol 5 of block 0 to symbol 0 of block 1",
+            [2, 1, 0, 16, 5, 0, 0, 0, 0, 0, 0, 5, 5, 0, 0, 0, 0, 0, 1, 0],
+            2,
+        ),
+        (
+            "the blocks of these two symbols",
+            [2, 2, 0, 16, 5, 0, 0, 0, 0, 0, 0, 5, 5, 0, 0, 0, 0, 0, 1, 0],
+            11,
+        ),
+        (
+            "objects behind the window",
+            [2, 9, 0, 16, 5, 0, 0, 1, 0, 0, 0, 0, 5, 0, 0, 9, 0, 0, 0, 0],
+            0,
+        ),
+    ] {
+        assert_eq!(rt; queued_by(&rt, rt.alloc(), &range), queued, "{name}");
+    }
 }
 
 #[test]

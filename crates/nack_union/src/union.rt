@@ -405,6 +405,7 @@ impl Union {
         let slot = object.take_lowest()?;
         Some(want_of(self.first + place as u32, slot))
     }
+
     /// Closes the open round: what it asked for is wanted, of a counted block the lowest parity symbols that were never
     /// sent, or all its source symbols where fewer are left. Says how many wants are new, and whether the round asked for what
     /// lies before the window (RFC 5740 section 5.4). The next round begins empty.
