@@ -1,10 +1,9 @@
 //! What a union keeps of one object.
 
-ghost use Rattle.std.specs.Prelude.{◌≡◌, ◌+◌, ◌^◌, ◌<◌, ◌≤◌, ◌∷◌, [], not, nat_lt, IfOk, MatchOption, true, false, ◌==◌, ℕ, length, max, set, slice_index, ◌&&◌, ◌||◌};
+ghost use Rattle.std.specs.Prelude.{◌≡◌, ◌+◌, ◌^◌, ◌<◌, ◌≤◌, ◌∷◌, [], nat_lt, IfOk, MatchOption, true, false, ◌==◌, ℕ, length, max, set, slice_index, ◌&&◌, ◌||◌};
 ghost use Rattle.fec_plan.specs.Partition.{blocks};
 ghost use Rattle.norm_order.specs.Sets.{with_member, is_member};
-ghost use Rattle.nack_union.specs.Slots.{slots, symbol_slot, slot_of_want, want_at, IsNamed};
-ghost use Rattle.norm_send_rules.specs.Wants.{want_index};
+ghost use Rattle.nack_union.specs.Slots.{slots, symbol_slot, want_at};
 ghost use Rattle.nack_union.specs.More.{HasMore, is_source_slot, is_encoded_slot, in_run, slot_in, slot_from, slot_behind, is_slot_of, count_at, MoreOf, named_part, Rises};
 ghost use Rattle.nack_union.specs.Adding.{IsPlanned};
 ghost use Rattle.norm_ext.specs.Asking.{span, has_flag};
@@ -58,27 +57,6 @@ pub fn slot_of(block: u32, symbol: u8) -> usize
     ensures named { symbol < 256 }
 {
     BLOCK * block as usize + usize::from(symbol) + 1
-}
-
-/// The slot of an info or symbol.
-pub fn slot_of_want(want: &Want) -> usize
-    ensures slot { result ≡ slot_of_want want.now }
-    ensures named { IsNamed want.now }
-{
-    match want {
-        Want::Info { .. } => 0,
-        Want::Symbol { at } => slot_of(at.block, at.symbol),
-    }
-}
-
-/// The index of the object that an info or symbol is of.
-pub fn index_of_want(want: &Want) -> u32
-    ensures { result ≡ want_index want.now }
-{
-    match want {
-        Want::Info { index } => *index,
-        Want::Symbol { at } => at.index,
-    }
 }
 
 /// What stands at a slot of the object with this index.

@@ -117,7 +117,8 @@ fn a_want_is_sent_once(rt: HostRuntime) {
         block: 2,
         symbol: 5,
     };
-    union.ask(Want::Symbol { at });
+    // items with SEGMENT: parity symbol 5 of block 2
+    add(&rt, &mut union, &[1, 1, 0, 8, 5, 0, 0, 0, 0, 0, 2, 5]);
     assert_eq!(rt; union.close_round().queued, 1);
     assert_eq!(rt; union.next(), Some(Want::Symbol { at }));
     assert_eq!(rt; union.next(), None);

@@ -1,6 +1,6 @@
 //! What is wanted of a sender's window, and what was sent of it.
 
-ghost use Rattle.std.specs.Prelude.{◌≡◌, ◌<◌, ◌≤◌, ◌+◌, ◌-◌, ◌∷◌, ◌++◌, [], length, IfOk, IsErr, MatchOption, Some, ℕ, List, nat_lt, position, slice_get, drop, Bool, not, map, min, max, set, slice_index};
+ghost use Rattle.std.specs.Prelude.{◌≡◌, ◌<◌, ◌≤◌, ◌+◌, ◌-◌, ◌∷◌, ◌++◌, [], length, IfOk, IsErr, MatchOption, Some, ℕ, List, nat_lt, position, slice_get, drop, not, map, min, max};
 ghost use Rattle.norm_base.specs.Settings.{Settings};
 ghost use Rattle.fec_plan.specs.Partition.{blocks};
 ghost use Rattle.norm_order.specs.Entries.{Entry};
@@ -18,8 +18,7 @@ ghost use Rattle.std.specs.List.{list_any, AllByRecursion};
 ghost use Rattle.norm_send_rules.specs.declared.want.Want.{Want as Wanted};
 ghost use Rattle.norm_send_rules.specs.declared.want.Want.TheVariants.{Symbol};
 ghost use Rattle.norm_order.specs.Sets.{with_member};
-ghost use Rattle.norm_send_rules.specs.Wants.{want_index};
-ghost use Rattle.nack_union.specs.Slots.{slots, slot_of_want, symbol_slot};
+ghost use Rattle.nack_union.specs.Slots.{symbol_slot};
 ghost use Rattle.nack_union.specs.Kept.{Kept, Marked, Stands, begun_union, admitted, with_object, shape_of_marked, closed_marks, closed_union, IsCounted, with_marks};
 ghost use Rattle.nack_union.specs.More.{HasPart, named_part, symbol_part, count_part, part_where, item_part, items_part, ranges_part, counts_part, request_part, requests_part};
 ghost use Rattle.nack_union.specs.Adding.{HasAdded, IsPlanned};
@@ -33,7 +32,7 @@ ghost use Rattle.nack_union.specs.Collected.{Collects};
 
 use crate::asking::{ask_range, hold_all, is_before, position_of, split_item, split_pair};
 use crate::earliest::{earliest_of, is_below, lesser};
-use crate::marks::{Marks, Named, has_flag, index_of_want, slot_of, slot_of_want, want_of};
+use crate::marks::{Marks, Named, has_flag, slot_of, want_of};
 use fec_plan::{Plan, Position};
 use norm_base::{Memory, Profile};
 use norm_ext::flags::{WANT_BLOCK, WANT_SEGMENT};
@@ -196,38 +195,6 @@ impl Union {
     {
         let object = &mut self.objects[(at.index - self.first) as usize];
         object.note_sent(slot_of(at.block, at.symbol));
-    }
-
-    /// The open round asks for an info or symbol of an object of the window.
-    pub(crate) fn ask(&mut self, want: Want)
-        requires first { self.old.first ≤ want_index want }
-        requires object { want_index want < self.old.first + length self.old.objects }
-        requires slot { (m : Marked) → slice_get self.old.objects (want_index want - self.old.first) ≡ Some m → slot_of_want want < slots (blocks m.cut) }
-        ensures exact { (m : Marked) → slice_get self.old.objects (want_index want - self.old.first) ≡ Some m
-            → self.new ≡ with_marks (want_index want) (record m { asked = with_member nat_lt (slot_of_want want) m.asked }) self.old }
-        ensures stands { (p : Settings) (s : SenderState) → Stands p self.old s → Stands p self.new s }
-    {
-        let place = (index_of_want(&want) - self.first) as usize;
-        self.low = self.low.min(place);
-        self.high = self.high.max(place + 1);
-        let object = &mut self.objects[place];
-        object.ask(slot_of_want(&want));
-    }
-
-    /// The open round asks for so many symbols of a block of an object of the window. The greatest count stands.
-    pub(crate) fn count(&mut self, index: u32, block: u32, lacking: u8)
-        requires first { self.old.first ≤ index }
-        requires object { index < self.old.first + length self.old.objects }
-        requires block { (m : Marked) → slice_get self.old.objects (index - self.old.first) ≡ Some m → block < blocks m.cut }
-        ensures exact { (m : Marked) → slice_get self.old.objects (index - self.old.first) ≡ Some m
-            → self.new ≡ with_marks index (record m { counts = set m.counts block (max (slice_index m.counts block) lacking) }) self.old }
-        ensures stands { (p : Settings) (s : SenderState) → Stands p self.old s → Stands p self.new s }
-    {
-        let place = (index - self.first) as usize;
-        self.low = self.low.min(place);
-        self.high = self.high.max(place + 1);
-        let object = &mut self.objects[place];
-        object.count(block, lacking);
     }
 
     /// The open round asks for what is named, as far as the window has it.
