@@ -8,8 +8,10 @@ mod plan;
 mod position;
 
 pub use crate::payload_id::PayloadId;
-pub use crate::plan::{Plan, PlanFault};
-pub use crate::position::Position;
+pub use crate::plan::{
+    LEAST_SYMBOL, MOST_BLOCKS, MOST_SOURCES, MOST_SYMBOL, PLACE_OCTETS, Plan, PlanFault,
+};
+pub use crate::position::{Point, Position, reached_by};
 
 #[cfg(test)]
 mod tests;

@@ -20,8 +20,3 @@ number_of _ = 0
 abbrev pub numbered : Result Receipt MarkFault → Result ℕ MarkFault
 numbered (Ok receipt) = Ok (number_of receipt)
 numbered (Err fault) = Err fault
-
--- there is such a position, and it is at this one or behind it
-abbrev pub reached_by : Option Position → Position → Bool
-reached_by None at = false
-reached_by (Some past) at = reaches past at

@@ -16,7 +16,7 @@ use Rattle.norm_send_rules.specs.Asking.{as_it_came, counts_of, is_kept}
 use Rattle.norm_send_rules.specs.Closing.{greatest, same_point}
 use Rattle.norm_send_rules.specs.Hearing.{asked_now}
 use Rattle.norm_send_rules.specs.declared.want.Want.TheVariants.{Symbol}
-use Rattle.obj_buffer.proofs.PartitionLemmas.{some_sources}
+use Rattle.fec_plan.proofs.PartitionLemmas.{some_sources}
 use Rattle.nack_union.specs.Kept.{Marked, Kept, Stands, shape_of_marked}
 use Rattle.nack_union.specs.Adding.{IsPlanned}
 use Rattle.nack_union.proofs.AskedSlots.{test_at}

@@ -4,7 +4,7 @@ ghost use Rattle.std.specs.Prelude.{◌≡◌, ◌+◌, ◌^◌, ◌<◌, ◌≤
 ghost use Rattle.norm_ext.specs.ObjectIds.{index_of};
 ghost use Rattle.norm_ext.specs.Requests.{items_named};
 ghost use Rattle.norm_ext.specs.Asking.{span};
-ghost use Rattle.fec_plan.specs.Points.{position, position_before};
+ghost use Rattle.fec_plan.specs.Points.{position};
 ghost use Rattle.nack_union.specs.Kept.{Marked};
 ghost use Rattle.nack_union.specs.More.{MoreOf, named_part, Rises};
 ghost use Rattle.nack_union.specs.Adding.{IsPlanned};
@@ -59,15 +59,6 @@ pub fn position_of(profile: &Profile, item: Item) -> Position
         block: item.id.block,
         symbol: item.id.symbol,
     }
-}
-
-/// Whether one position is before another.
-pub fn is_before(a: &Position, b: &Position) -> bool
-    ensures { result ≡ position_before a.now b.now }
-{
-    a.index < b.index
-        || (a.index == b.index
-            && (a.block < b.block || (a.block == b.block && a.symbol < b.symbol)))
 }
 
 /// Asks for what is named of the objects at these places of a window that begins with this index.

@@ -7,7 +7,7 @@ ghost use Rattle.norm_ext.specs.Asking.{pairs, is_proper};
 ghost use Rattle.norm_send_rules.specs.Closing.{gives_something};
 ghost use Rattle.nack_union.specs.Earliest.{lesser, least_with, earliest, is_below_first, index_named, place_named, begins_of};
 
-use crate::asking::{is_before, position_of, split_item};
+use crate::asking::{position_of, split_item};
 use crate::marks::has_flag;
 use norm_base::Profile;
 use norm_ext::flags::{WANT_BLOCK, WANT_INFO, WANT_OBJECT, WANT_SEGMENT};
@@ -74,7 +74,7 @@ fn least_of_ranges(profile: &Profile, items: &[u8]) -> Option<u32>
         };
         let first = position_of(profile, item);
         let last = position_of(profile, other);
-        if !is_before(&last, &first) {
+        if !last.is_before(&first) {
             least = lesser(least, Some(first.index));
         }
         rest = behind;

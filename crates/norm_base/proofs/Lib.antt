@@ -1,3 +1,4 @@
 pub mod RangeLemmas
 pub mod ToldLemmas
 pub mod CountLemmas
+pub mod MemberLemmas

@@ -1,5 +1,4 @@
 pub mod SegmentLemmas
-pub mod PositionLemmas
 pub mod StreamLemmas
 pub mod UptoLemmas
 pub mod GoingOnLemmas

@@ -22,7 +22,7 @@ use Rattle.rs_block.proofs.Functions.{function_laws}
 use Rattle.norm_order.specs.Entries.{Whole}
 use Rattle.norm_order.specs.Symbols.{symbol_octets}
 use Rattle.obj_buffer.specs.Pieces.{padded, HoldsObject}
-use Rattle.obj_buffer.proofs.PartitionLemmas.{sources_fit, sources_within, octets_within}
+use Rattle.fec_plan.proofs.PartitionLemmas.{sources_fit, sources_within, octets_within}
 
 -- ---- zeros behind a list
 

@@ -5,7 +5,7 @@ use Rattle.std.proofs.lemmas.Bool.{cases_lt, lt-ltb, le-ltb, ltb-true}
 use Rattle.fec_plan.specs.declared.position.Position.{Position}
 use Rattle.fec_plan.specs.Points.{position, position_before}
 use Rattle.norm_order.specs.Sets.{with_member, is_member}
-use Rattle.norm_order.proofs.PositionLemmas.{Before, before_decides, before_both, not_both}
+use Rattle.fec_plan.proofs.PositionLemmas.{Before, before_decides, before_both, not_both}
 
 -- where two stand to each other, by the tests that sets make
 pub data Sides {X : Type 0} (before : X → X → Bool) (x y : X) : Type 0 where

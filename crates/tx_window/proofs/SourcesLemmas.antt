@@ -11,7 +11,7 @@ use Rattle.fec_plan.specs.Partition.{cut_of, IsSound, symbols_in, blocks_in, sym
 use Rattle.fec_plan.proofs.CoverLemmas.{before_step, none_before, all_before}
 use Rattle.fec_plan.proofs.CutLemmas.{some_blocks}
 use Rattle.norm_order.specs.Shapes.{Shape, symbols_of, sources_in, closed_in, closed_blocks}
-use Rattle.obj_buffer.proofs.PartitionLemmas.{block_within}
+use Rattle.fec_plan.proofs.PartitionLemmas.{block_within}
 
 pub get_front : {X : Type 0} (xs ys : List X) (k : ℕ) → k < length xs → slice_get (xs ++ ys) k ≡ slice_get xs k
 get_front [] ys k lt = absurd (omega arith)

@@ -5,12 +5,13 @@ use Rattle.std.specs.List.{list_all}
 use Rattle.std.proofs.lemmas.Bool.{cases_lt, lt-ltb, le-ltb, ltb-true}
 use Rattle.std.proofs.lemmas.List.{length-map}
 use Rattle.std.proofs.lemmas.Option.{slice_get-map, slice_get_within}
+use Rattle.fec_plan.specs.Points.{reached_by}
 use Rattle.fec_plan.specs.declared.position.Position.{Position}
 use Rattle.norm_order.specs.Entries.{Object}
 use Rattle.norm_order.specs.Shapes.{shape_of, encoded_in}
 use Rattle.norm_send_rules.specs.SenderState.{SenderState}
 use Rattle.norm_send_rules.specs.Requests.{all_past, is_past}
-use Rattle.tx_window.specs.Windowed.{WindowObject, Windowed, Stands, IsInWindow, reached_by}
+use Rattle.tx_window.specs.Windowed.{WindowObject, Windowed, Stands, IsInWindow}
 use Rattle.tx_window.specs.Asked.{from_first, kept_at, AnswersAt}
 use Rattle.tx_window.specs.Held.{AnswersSymbol}
 use Rattle.tx_window.specs.Standing.{IsStanding}

@@ -2,7 +2,7 @@ use Rattle.std.proofs.Common.{◌≡◌, ◌*◌, ◌%◌, ◌≤◌, ◌<◌, a
 use Rattle.fec_plan.specs.Partition.{symbol_number, source_symbols}
 use Rattle.rs_block.specs.Code.{CodeShape}
 use Rattle.rs_block.specs.Codeword.{IsSymbol}
-use Rattle.obj_buffer.proofs.PartitionLemmas.{block_octets_within}
+use Rattle.fec_plan.proofs.PartitionLemmas.{block_octets_within}
 use Rattle.obj_buffer.proofs.PieceLemmas.{whole_part}
 use Rattle.obj_buffer.proofs.symbol.push_parity.Goals as goal
 

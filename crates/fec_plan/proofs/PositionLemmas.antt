@@ -1,10 +1,11 @@
 -- The order of positions, as propositions.
-use Rattle.std.proofs.Common.{◌≡◌, ◌<◌, ◌≤◌, ◌⊎◌, inl, inr, true, sym, subst, arith}
+use Rattle.std.proofs.Common.{◌≡◌, ◌<◌, ◌≤◌, ◌⊎◌, inl, inr, Bool, true, false, refl, sym, ap, ◌∙◌, subst, arith}
+use Rattle.std.specs.Prelude.{◌==◌, ◌&&◌}
 use Rattle.std.specs.Bool.{Decides}
 use Rattle.std.proofs.lemmas.Bool.{cases_lt}
 use Rattle.std.proofs.lemmas.Bool.Decides.{Decides-ltb, Decides-eqb, Decides-and, Decides-or, Decides-not}
-use Rattle.fec_plan.specs.declared.position.Position.{Position}
-use Rattle.fec_plan.specs.Points.{position_before, reaches}
+use Rattle.fec_plan.specs.OrderLaws.{PositionsAreOrdered}
+use Rattle.fec_plan.specs.Points.{Position, position, position_before, same_position, reaches}
 
 -- a is before b
 abbrev pub Before : Position → Position → Type 0
@@ -95,3 +96,46 @@ not_itself a (inr (e, k)) = omega arith
 pub not_both : (a b : Position) → (a ≡ b) ⊎ Before a b → Before b a → ⊥
 not_both a b (inl same) k = not_itself b (subst (λ (c : Position). Before b c) same k)
 not_both a b (inr h) k = no_way_back a b h k
+
+same_decides : (a b : Position) → Decides (same_position a b) (((a.index ≡ b.index) × (a.block ≡ b.block)) × (a.symbol ≡ b.symbol))
+same_decides a b = Decides-and _ _ (Decides-and _ _ (Decides-eqb a.index b.index) (Decides-eqb a.block b.block)) (Decides-eqb a.symbol b.symbol)
+
+-- positions that are the same by the test are equal
+pub positions_same : (a b : Position) → same_position a b ≡ true → a ≡ b
+positions_same a b e =
+    let same = (same_decides a b).0 e in
+    ap (λ x. position x a.block a.symbol) same.0.0
+    ∙ ap (λ x. position b.index x a.symbol) same.0.1
+    ∙ ap (λ x. position b.index b.block x) same.1
+
+pub position_itself : (a : Position) → same_position a a ≡ true
+position_itself a = (same_decides a a).1 ((refl, refl), refl)
+
+false_where : (b : Bool) → (b ≡ true → ⊥) → b ≡ false
+false_where true never = absurd (never refl)
+false_where false never = refl
+
+total : (a b : Position) → (a ≡ b) ⊎ ((position_before a b ≡ true) ⊎ (position_before b a ≡ true))
+total a b = go (cases_lt a.index b.index) (cases_lt b.index a.index) (cases_lt a.block b.block) (cases_lt b.block a.block) (cases_lt a.symbol b.symbol) (cases_lt b.symbol a.symbol)
+  where
+    go : (a.index < b.index) ⊎ (b.index ≤ a.index) → (b.index < a.index) ⊎ (a.index ≤ b.index) → (a.block < b.block) ⊎ (b.block ≤ a.block)
+        → (b.block < a.block) ⊎ (a.block ≤ b.block) → (a.symbol < b.symbol) ⊎ (b.symbol ≤ a.symbol) → (b.symbol < a.symbol) ⊎ (a.symbol ≤ b.symbol)
+        → (a ≡ b) ⊎ ((position_before a b ≡ true) ⊎ (position_before b a ≡ true))
+    go (inl lt) q r s t u = inr (inl ((before_decides a b).1 (inl (inl lt))))
+    go (inr ge) (inl gt) r s t u = inr (inr ((before_decides b a).1 (inl (inl gt))))
+    go (inr ge) (inr le) (inl lt) s t u = inr (inl ((before_decides a b).1 (inl (inr (omega arith, lt)))))
+    go (inr ge) (inr le) (inr bge) (inl gt) t u = inr (inr ((before_decides b a).1 (inl (inr (omega arith, gt)))))
+    go (inr ge) (inr le) (inr bge) (inr ble) (inl lt) u = inr (inl ((before_decides a b).1 (inr ((omega arith, omega arith), lt))))
+    go (inr ge) (inr le) (inr bge) (inr ble) (inr sge) (inl gt) = inr (inr ((before_decides b a).1 (inr ((omega arith, omega arith), gt))))
+    go (inr ge) (inr le) (inr bge) (inr ble) (inr sge) (inr sle) =
+        inl (positions_same a b ((same_decides a b).1 ((omega arith, omega arith), omega arith)))
+
+-- positions are in one order
+pub positions_are_ordered : PositionsAreOrdered
+positions_are_ordered = record {
+  same = positions_same;
+  never_itself = λ a. false_where (position_before a a) (λ e. not_itself a ((before_decides a a).0 e));
+  transitive = λ a b c h k. (before_decides a c).1 (before_both a b c ((before_decides a b).0 h) ((before_decides b c).0 k));
+  one_way = λ a b h. false_where (position_before b a) (λ e. no_way_back a b ((before_decides a b).0 h) ((before_decides b a).0 e));
+  total = total;
+}
