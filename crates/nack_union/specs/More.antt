@@ -157,8 +157,3 @@ request_part p r = elim r.form [
 abbrev pub requests_part : Settings → List Request → Part
 requests_part p [] = no_part
 requests_part p (r ∷ rs) = and_part (request_part p r) (requests_part p rs)
-
--- each number is below those that follow it
-abbrev pub Rises : List ℕ → Type 0
-Rises [] = ⊤
-Rises (x ∷ xs) = AllByRecursion (λ y. x < y) xs × Rises xs

@@ -6,9 +6,10 @@ ghost use Rattle.norm_ext.specs.Requests.{items_named};
 ghost use Rattle.norm_ext.specs.Asking.{span};
 ghost use Rattle.fec_plan.specs.Points.{position};
 ghost use Rattle.nack_union.specs.Kept.{Marked};
-ghost use Rattle.nack_union.specs.More.{MoreOf, named_part, Rises};
+ghost use Rattle.nack_union.specs.More.{MoreOf, named_part};
 ghost use Rattle.nack_union.specs.Adding.{IsPlanned};
 ghost use Rattle.std.specs.List.{AllByRecursion};
+ghost use Rattle.norm_order.specs.Sets.{Rises};
 
 use crate::marks::{Marks, Named};
 use fec_plan::Position;

@@ -2,3 +2,4 @@ pub mod SegmentLemmas
 pub mod StreamLemmas
 pub mod UptoLemmas
 pub mod GoingOnLemmas
+pub mod SetLemmas

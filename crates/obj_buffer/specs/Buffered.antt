@@ -4,7 +4,7 @@ use Rattle.norm_base.specs.declared.kinds.Kind.{Kind}
 use Rattle.fec_plan.specs.Partition.{Cut, cut_of, symbols_in}
 use Rattle.norm_ext.specs.declared.fti.Fti.{Fti}
 use Rattle.norm_order.specs.Entries.{Object, Whole}
-use Rattle.obj_buffer.specs.Pieces.{padded}
+use Rattle.obj_buffer.specs.Pieces.{whole_symbols}
 use Rattle.obj_buffer.specs.declared.buffer.ObjectBuf.TheInside.{Inside}
 
 -- an object's kind, info and octets, and how it is cut
@@ -29,6 +29,6 @@ buffered b = record { cut = b.plan; kind = b.kind; info = b.info; octets = take 
 pub record IsBuffer (b : Inside) : Type 0 where
   pub enough : b.fti.l ≤ length b.symbols.items
   pub whole : length b.symbols.items ≡ symbols_in b.fti.l b.fti.e * b.fti.e
-  pub padded : b.symbols.items ≡ padded b.fti.e (take b.fti.l b.symbols.items)
+  pub padded : b.symbols.items ≡ whole_symbols b.fti.e (take b.fti.l b.symbols.items)
   pub plan : b.plan ≡ cut_of b.fti.l b.fti.e b.fti.b b.fti.max_n
   pub codes : b.codes ≡ b.plan
