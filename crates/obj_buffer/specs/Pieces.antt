@@ -2,7 +2,7 @@
 use Rattle.std.specs.Prelude.{ℕ, ◌≡◌, ◌-◌, ◌*◌, ◌++◌, List, length, replicate}
 use Rattle.norm_base.specs.Settings.{Settings}
 use Rattle.fec_plan.specs.Partition.{Cut, cut_of, symbols_in}
-use Rattle.rs_block.specs.Code.{CodeShape}
+use Rattle.rs_block.specs.Code.{CodeState}
 use Rattle.rs_block.specs.Codeword.{IsSymbol}
 use Rattle.norm_order.specs.Symbols.{padded}
 
@@ -16,7 +16,7 @@ pub record HoldsObject (c : Cut) (pieces : List ℕ) (p : Settings) (octets : Li
   pub padded : pieces ≡ whole_symbols p.e octets
 
 -- what was appended is one symbol of e octets: symbol j of the codeword of the source symbols
-pub record AppendsSymbol (code : CodeShape) (e : ℕ) (sources : List ℕ) (j : ℕ) (old new : List ℕ) : Type 0 where
+pub record AppendsSymbol (code : CodeState) (e : ℕ) (sources : List ℕ) (j : ℕ) (old new : List ℕ) : Type 0 where
   pub symbol : List ℕ
   pub appended : new ≡ old ++ symbol
   pub size : length symbol ≡ e

@@ -5,7 +5,7 @@ ghost use Rattle.norm_base.specs.Settings.{Settings};
 ghost use Rattle.fec_plan.specs.Partition.{cut_of, blocks, encoding_symbols};
 ghost use Rattle.norm_order.specs.Shapes.{shape_of};
 ghost use Rattle.norm_order.specs.Symbols.{symbol_octets};
-ghost use Rattle.obj_buffer.specs.Buffered.{Buffered, object_of, fti_of};
+ghost use Rattle.obj_buffer.specs.BufferState.{BufferState, object_of, fti_of};
 
 use crate::codes::Codes;
 use crate::symbol::symbol_of;
@@ -28,13 +28,13 @@ pub struct ObjectBuf {
 }
 
 impl Model for ObjectBuf {
-    ghost use Rattle.obj_buffer.specs.Buffered.{Buffered, buffered, IsBuffer};
+    ghost use Rattle.obj_buffer.specs.BufferState.{BufferState, buffer_view, BufferSound};
 
-    ghost Value = { Buffered };
+    ghost Value = { BufferState };
 
-    ghost view = { buffered };
+    ghost view = { buffer_view };
 
-    ghost invariant = { IsBuffer };
+    ghost invariant = { BufferSound };
 }
 
 /// The plan of an object of so many octets.

@@ -24,17 +24,17 @@ pub struct Solver {
 }
 
 impl Model for Solver {
-    ghost use Rattle.rs_block.specs.Solver.{SolverShape, IsSolver};
+    ghost use Rattle.rs_block.specs.Solver.{SolverState, SolverSound};
 
-    ghost Value = { SolverShape };
+    ghost Value = { SolverState };
 
     ghost view = { λ s. record { k = s.k; size = s.size } };
 
-    ghost invariant = { λ s. IsSolver s.k s.places.items s.weights.items s.row.items };
+    ghost invariant = { λ s. SolverSound s.k s.places.items s.weights.items s.row.items };
 }
 
 impl Solver {
-    ghost use Rattle.rs_block.specs.Solver.{SolverShape};
+    ghost use Rattle.rs_block.specs.Solver.{SolverState};
 
     /// Room to solve blocks of `k` source symbols of `size` octets, at most 1,408.
     ///
