@@ -17,10 +17,6 @@ judged script files journal = judged_from (judged_opening script files) journal
 abbrev pub Begun : Commands → Told → List Event → Type 0
 Begun script files journal = IsSome (judged script files journal)
 
--- an event may come next
-abbrev pub MayComeNext : Judged → Event → Type 0
-MayComeNext j e = IsSome (accepts j e)
-
 -- how a run ended: whole; with its turns spent; or at a file that is not there
 pub data Ending : Type 0 where
   Whole : Ending
