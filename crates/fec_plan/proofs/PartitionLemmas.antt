@@ -70,18 +70,6 @@ pub block_some : (t n block : ℕ) → 0 < n → n ≤ t → 1 ≤ block_size t 
 block_some t n block some le =
     either_some (nat_lt block (larger_blocks t n)) (small_block t n) (large_block t n) (le-div 1 t n some (omega arith)) (large_no_less t n)
 
--- a block has as many source symbols as the first or the last
-pub one_of_two : (t n block : ℕ) → 0 < n → block < n → (block_size t n block ≡ block_size t n 0) ⊎ (block_size t n block ≡ block_size t n (n - 1))
-one_of_two t n block some lt =
-    elim (cases_lt block (larger_blocks t n)) [
-      | inl less ↦
-          inl (ap (λ b. if b then large_block t n else small_block t n)
-          (lt-ltb block (larger_blocks t n) less ∙ sym (lt-ltb 0 (larger_blocks t n) (omega arith))))
-      | inr more ↦
-          inr (ap (λ b. if b then large_block t n else small_block t n)
-          (le-ltb block (larger_blocks t n) more ∙ sym (le-ltb (n - 1) (larger_blocks t n) (omega (arith, larger_is t n)))))
-    ]
-
 -- no more blocks than symbols
 few_blocks : (t b : ℕ) → 1 ≤ b → blocks_in t b ≤ t
 few_blocks t b some =
@@ -109,20 +97,6 @@ some_sources c block sound = go c.l sound.some
 pub sources_fit : (c : Cut) (block : ℕ) → IsSound c → source_symbols c block ≤ encoding_symbols c block
 sources_fit c block sound =
     le-div (source_symbols c block) (source_symbols c block * c.max_n) c.b sound.least_b (mul-le-mul_left (source_symbols c block) sound.max_n)
-
--- the block has as many source symbols as the first or the last
-pub first_or_last : (c : Cut) (block : ℕ) → IsSound c → block < blocks c
-    → (source_symbols c block ≡ source_symbols c 0) ⊎ (source_symbols c block ≡ source_symbols c (blocks c - 1))
-first_or_last c block sound lt = go c.l sound.some lt
-  where
-    go : (l : Option ℕ) → 0 < elim l [ Some n ↦ symbols_in n c.e | None ↦ Rattle.fec_plan.specs.Partition.most_blocks * c.b ]
-        → block < blocks (record { l = l; e = c.e; b = c.b; max_n = c.max_n })
-        → (source_symbols (record { l = l; e = c.e; b = c.b; max_n = c.max_n }) block ≡ source_symbols (record { l = l; e = c.e; b = c.b; max_n = c.max_n }) 0)
-        ⊎ (source_symbols (record { l = l; e = c.e; b = c.b; max_n = c.max_n }) block
-        ≡ source_symbols (record { l = l; e = c.e; b = c.b; max_n = c.max_n }) (blocks (record { l = l; e = c.e; b = c.b; max_n = c.max_n }) - 1))
-    go (Some n) some less =
-        one_of_two (symbols_in n c.e) (blocks_in (symbols_in n c.e) c.b) block (some_blocks (symbols_in n c.e) c.b some sound.least_b) less
-    go None some less = inl refl
 
 pub some_blocks_of : (c : Cut) → IsSound c → 0 < blocks c
 some_blocks_of c sound = go c.l sound.some

@@ -57,4 +57,3 @@ not_before_both a b c h g = not_before c a (go (behind_point b a h) (behind_poin
     go (inl x) (inr (same, y)) = inl (omega arith)
     go (inr (same, x)) (inl y) = inl (omega arith)
     go (inr (same, x)) (inr (too, y)) = inr (same ∙ too, omega arith)
-

@@ -11,6 +11,7 @@ pub const MOST_BLOCKS: u32 = 16_777_216;
 
 /// The least and the most octets of a symbol.
 pub const LEAST_SYMBOL: u16 = 64;
+
 pub const MOST_SYMBOL: u16 = 1400;
 
 /// The most source symbols of a block.

@@ -95,10 +95,6 @@ joined_pieces e s octets a (suc n) =
     ∙ sym (take-add e (n * e) (drop ((s + a) * e) octets))
     ∙ ap (λ k. take k (drop ((s + a) * e) octets)) (let z : e + n * e ≡ suc n * e = omega (arith, suc-mul n e) in z)
 
-octets_from : (xs : List ℕ) → ((i : ℕ) → get_or xs i 0 < 256) → AreOctets xs
-octets_from [] each = tt
-octets_from (x ∷ xs) each = (each 0, octets_from xs (λ i. each (suc i)))
-
 octets_of_take : (n : ℕ) (xs : List ℕ) → ((i : ℕ) → get_or xs i 0 < 256) → AreOctets (take n xs)
 octets_of_take zero xs each = tt
 octets_of_take (suc n) [] each = tt

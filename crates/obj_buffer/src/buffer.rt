@@ -1,6 +1,7 @@
 //! One object with its codes.
 
 ghost use Rattle.std.specs.Prelude.{ℕ, ◌≡◌, ◌+◌, ◌<◌, ◌≤◌, ◌++◌, List, Option, IfOk, length, option_map, option_copied};
+ghost use Rattle.norm_base.specs.Sizes.{datagram_room};
 ghost use Rattle.norm_base.specs.Settings.{Settings};
 ghost use Rattle.fec_plan.specs.Partition.{cut_of, blocks, encoding_symbols};
 ghost use Rattle.norm_order.specs.Shapes.{shape_of};
@@ -94,7 +95,7 @@ impl ObjectBuf {
     pub fn symbol(&self, block: u32, symbol: u8, out: &mut Datagram)
         requires block { block < blocks self.now.cut }
         requires symbol { symbol < encoding_symbols self.now.cut block }
-        requires room { length out.old + self.now.cut.e ≤ 1500 }
+        requires room { length out.old + self.now.cut.e ≤ datagram_room }
         ensures { (p : Settings) → self.now.cut ≡ (shape_of p (object_of self.now)).cut
             → out.new ≡ out.old ++ symbol_octets p (object_of self.now) block symbol }
     {
