@@ -9,9 +9,10 @@ use thiserror::Error;
 /// The most blocks that 24 bits name.
 pub const MOST_BLOCKS: u32 = 16_777_216;
 
-/// The least and the most octets of a symbol.
+/// The least octets of a symbol.
 pub const LEAST_SYMBOL: u16 = 64;
 
+/// The most octets of a symbol.
 pub const MOST_SYMBOL: u16 = 1400;
 
 /// The most source symbols of a block.
