@@ -11,11 +11,16 @@ use Rattle.std.proofs.lemmas.Map.Made.{length-le_from_is_member}
 use Rattle.std.proofs.lemmas.List.{length-map, length-append, length-take-le, length-drop, drop_more, take_more, append_assoc, take-append-drop, take_all, drop_all}
 use Rattle.fec_plan.specs.declared.position.Position.{Position}
 use Rattle.norm_order.specs.Sets.{with_member, Rises}
+use Rattle.norm_order.proofs.SetLemmas.{in_front, again, behind, alone}
 use Rattle.norm_send_rules.specs.SenderState.{Listing}
 use Rattle.norm_send_rules.specs.Requests.{is_past}
 use Rattle.norm_send_rules.specs.Hearing.{listed_past}
 use Rattle.mark_book.specs.Booked.{unlisted_node}
 use Rattle.mark_book.specs.Sound.{nodes_of}
+
+later : (u v : ℕ) (ns : List ℕ) → u < v → AllByRecursion (λ m. v < m) ns → AllByRecursion (λ m. u < m) ns
+later u v [] lt all = tt
+later u v (n ∷ ns) lt all = (let here : v < n = all.0 in omega arith, later u v ns lt all.1)
 
 -- with one more, by what the two comparisons say
 abbrev pub put : Bool → Bool → ℕ → ℕ → List ℕ → List ℕ
