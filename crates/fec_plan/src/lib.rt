@@ -1,5 +1,8 @@
-//! How an object is cut into blocks of symbols (RFC 5052 section 9.1), and how a symbol is named
-//! (RFC 5510 section 5.1).
+//! How an object is cut into blocks of symbols (RFC 5052 section 9.1), how a symbol is named (RFC 5510 section 5.1), and
+//! where blocks and symbols stand in a transport order.
+//!
+//! A [`Plan`] is an object's or a stream's cut, a [`PayloadId`] a symbol's name in a message, a [`Point`] a block of an
+//! object and a [`Position`] a symbol of it; every comparison of points and positions is a call here.
 #![tactic(auto)]
 
 pub mod laws;
