@@ -5,7 +5,7 @@ ghost use Rattle.fec_plan.specs.Points.{Position as Place, point_of, point_befor
 
 use std::marker::Model;
 
-/// A block's place: the object's index from 0, and the block, below 16,777,216. Ordered by these, in this order.
+/// A block's place: the object's index from 0, and the block. Ordered by these, in this order.
 #[derive(Clone, Copy, Debug, PartialEq, Eq, PartialOrd, Ord)]
 pub struct Point {
     pub index: u32,
@@ -13,19 +13,16 @@ pub struct Point {
 }
 
 impl Model for Point {
-    ghost use Rattle.fec_plan.specs.Points.{Point as Place, IsBlock};
+    ghost use Rattle.fec_plan.specs.Points.{Point as Place};
 
     ghost Value = { Place };
 
     ghost view = { λ at. record { index = at.index; block = at.block } };
 
-    ghost invariant = { λ at. IsBlock at.block };
-
     ghost inverse = { λ at. record { index = at.index; block = at.block } };
 }
 
-/// A symbol's place: the object's index from 0, the block, below 16,777,216, and the symbol. Ordered by these, in this
-/// order.
+/// A symbol's place: the object's index from 0, the block and the symbol. Ordered by these, in this order.
 #[derive(Clone, Copy, Debug, PartialEq, Eq, PartialOrd, Ord)]
 pub struct Position {
     pub index: u32,
@@ -34,13 +31,11 @@ pub struct Position {
 }
 
 impl Model for Position {
-    ghost use Rattle.fec_plan.specs.Points.{Position as Place, IsBlock};
+    ghost use Rattle.fec_plan.specs.Points.{Position as Place};
 
     ghost Value = { Place };
 
     ghost view = { λ at. record { index = at.index; block = at.block; symbol = at.symbol } };
-
-    ghost invariant = { λ at. IsBlock at.block };
 
     ghost inverse = { λ at. record { index = at.index; block = at.block; symbol = at.symbol } };
 }
