@@ -247,11 +247,26 @@ def decode(octets: bytes) -> Message:
     return Message(kind, fields, fti_of(found), octets[end:], requests, mark)
 
 
-def stream_head(message: Message) -> tuple[int, int] | None:
+def source_symbols(fti: Fti, block: int) -> int:
+    """The source symbols of an object's block (RFC 5052 section 9.1), 0 where it has no such block."""
+    symbols = -(-fti.length // fti.e) if fti.e else 0
+    blocks = -(-symbols // fti.b) if fti.b else 0
+    if block >= blocks:
+        return 0
+    small, large = divmod(symbols, blocks)
+    return small + (block < large)
+
+
+def is_parity(m: Message) -> bool:
+    """Whether a DATA that says how its object is cut has a parity symbol. Every block of a stream has B source symbols."""
+    return m.fti is not None and m.symbol >= (m.fti.b if m.has('STREAM') else source_symbols(m.fti, m.block))
+
+
+def stream_head(m: Message) -> tuple[int, int] | None:
     """Of a DATA of a stream's source symbol its segment's length and offset, where eight octets and so many more are there."""
-    length, offset = int.from_bytes(message.content[:2], 'big'), int.from_bytes(message.content[4:8], 'big')
-    whole = len(message.content) >= STREAM_HEAD + length
-    return (length, offset) if message.kind == 'data' and message.has('STREAM') and whole else None
+    length, offset = int.from_bytes(m.content[:2], 'big'), int.from_bytes(m.content[4:8], 'big')
+    is_segment = m.kind == 'data' and m.has('STREAM') and not is_parity(m)
+    return (length, offset) if is_segment and len(m.content) >= STREAM_HEAD + length else None
 
 
 def joined(words: list[Any]) -> str:
