@@ -1,6 +1,7 @@
 """The keys of a profile, read from the one table that the program is proved by (crates/norm_base/specs/Keys.antt)."""
 from __future__ import annotations
 
+import functools
 import os
 import re
 from dataclasses import dataclass
@@ -29,6 +30,7 @@ class Key:
     words: tuple[str, ...] = ()
 
 
+@functools.cache
 def keys() -> list[Key]:
     """All keys in their order."""
     text = wire.text_of(TABLE, wire.read_file(TABLE))
@@ -42,6 +44,7 @@ def keys() -> list[Key]:
     return [rows[at] for at in sorted(rows)]
 
 
+@functools.cache
 def unbuilt() -> list[str]:
     """The keys that a script of today cannot set (crates/norm_script/specs/Built.antt says which it can)."""
     if not os.path.exists(BUILT):
