@@ -1,6 +1,6 @@
 -- What holds of each book.
 use Rattle.std.specs.Prelude.{◌≡◌, ◌<◌, ◌≤◌, ◌^◌, ◌+◌, ℕ, List, [], ◌∷◌, length, map, take, true, nat_eq, vec_capacity}
-use Rattle.std.specs.List.{list_all, AllByRecursion}
+use Rattle.std.specs.List.{list_all}
 use Rattle.std.specs.Set.{is_member}
 use Rattle.norm_order.specs.Sets.{Rises}
 use Rattle.norm_send_rules.specs.SenderState.{Listing}

@@ -1,6 +1,5 @@
 -- What calls add to what the open round asks for, slot by slot and block by block.
-use Rattle.std.specs.Prelude.{ℕ, zero, suc, ◌≡◌, ◌+◌, ◌<◌, ◌/◌, ◌%◌, ◌==◌, ◌&&◌, ◌||◌, length, max, Bool, true, false, nat_lt, not, get_or, slice_index, List, [], ◌∷◌, map, ⊤}
-use Rattle.std.specs.List.{AllByRecursion}
+use Rattle.std.specs.Prelude.{ℕ, zero, suc, ◌≡◌, ◌+◌, ◌<◌, ◌/◌, ◌%◌, ◌==◌, ◌&&◌, ◌||◌, length, max, Bool, true, false, nat_lt, not, get_or, slice_index, List, [], ◌∷◌, map}
 use Rattle.fec_plan.specs.Partition.{Cut, blocks, source_symbols, encoding_symbols}
 use Rattle.fec_plan.specs.Points.{position}
 use Rattle.fec_plan.specs.declared.position.Position.{Position}

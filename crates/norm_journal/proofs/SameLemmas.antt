@@ -3,7 +3,7 @@ use Rattle.std.proofs.Common.{◌≡◌, ℕ, Bool, true, false, Option, None, S
 use Rattle.std.specs.Prelude.{◌==◌, ◌&&◌, ⊤}
 use Rattle.std.specs.Option.{option_eq}
 use Rattle.std.proofs.lemmas.Bool.{eqb-true, eq-eqb}
-use Rattle.fec_plan.specs.Points.{Position, position, same_position}
+use Rattle.fec_plan.specs.Points.{same_position}
 use Rattle.fec_plan.proofs.PositionLemmas.{positions_same, position_itself}
 use Rattle.norm_send_rules.specs.declared.job.Receipt.{Receipt}
 use Rattle.norm_send_rules.specs.declared.job.Receipt.TheVariants as receipt

@@ -1,7 +1,6 @@
 -- How far the sender was seen to be (RFC 5740 section 5.3): the farthest point, and of each stream its greatest block.
-use Rattle.std.specs.Prelude.{ℕ, ◌==◌, List, [], ◌∷◌, max, find, Bool, true, false, nat_lt, Option, None, Some, if◌then◌else◌}
-use Rattle.fec_plan.specs.Points.{Point, point, point_before, position_before, further_point}
-use Rattle.fec_plan.specs.declared.position.Position.{Position}
+use Rattle.std.specs.Prelude.{ℕ, ◌==◌, List, [], ◌∷◌, max, find, Bool, true, false, nat_lt, None, Some}
+use Rattle.fec_plan.specs.Points.{Point, point, further_point}
 use Rattle.norm_receive_rules.specs.ReceiverState.{ReceiverState}
 use Rattle.norm_receive_rules.specs.Plans.{says_stream, plan_of}
 

@@ -11,7 +11,6 @@ use Rattle.fec_plan.specs.declared.position.Position.{Position}
 use Rattle.norm_order.specs.Entries.{Object, Whole, Entry}
 use Rattle.norm_order.specs.Shapes.{shapes_of, is_source, last_source}
 use Rattle.norm_send_rules.specs.SenderState.{SenderState, Instance, Watermark, begun, sender_opening}
-use Rattle.norm_send_rules.specs.SenderStep.{sender_step}
 use Rattle.norm_send_rules.specs.SenderStep as events
 use Rattle.norm_send_rules.specs.InWindow.{next_index, current_shapes}
 use Rattle.norm_send_rules.specs.Restarting.{instances, begun_anew}

@@ -1,5 +1,5 @@
 -- The closing of a repair round (RFC 5401 section 3.2.2, RFC 5740 section 5.4): what becomes a want.
-use Rattle.std.specs.Prelude.{ℕ, ◌==◌, ◌&&◌, ◌||◌, not, List, [], ◌++◌, length, map, filter, min, max, take, fold, slice_get, Bool, true, false, nat_lt, nat_le, None, Some, flat_map}
+use Rattle.std.specs.Prelude.{ℕ, ◌&&◌, ◌||◌, not, List, [], ◌++◌, length, map, filter, min, max, take, fold, slice_get, Bool, true, false, nat_lt, nat_le, None, Some, flat_map}
 use Rattle.std.specs.List.{list_any}
 use Rattle.norm_base.specs.Settings.{Settings}
 use Rattle.fec_plan.specs.Partition.{source_symbols}

@@ -1,5 +1,5 @@
 -- An object's octets as they lie in memory: whole symbols in a row, the last one padded with zeros.
-use Rattle.std.specs.Prelude.{ℕ, ◌≡◌, ◌-◌, ◌*◌, ◌++◌, List, length, replicate}
+use Rattle.std.specs.Prelude.{ℕ, ◌≡◌, ◌*◌, ◌++◌, List, length}
 use Rattle.norm_base.specs.Settings.{Settings}
 use Rattle.fec_plan.specs.Partition.{Cut, cut_of, symbols_in}
 use Rattle.rs_block.specs.Code.{CodeState}

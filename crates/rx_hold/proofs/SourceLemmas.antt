@@ -5,7 +5,7 @@ use Rattle.std.specs.List.{AllByRecursion, concat, range_with_len}
 use Rattle.std.specs.Int.Bits.{xor_zero_l}
 use Rattle.std.proofs.Math.Nat.{suc-mul}
 use Rattle.std.proofs.Math.ListN.{get_or-append}
-use Rattle.std.proofs.lemmas.List.{get_or-append_right, length-map, length-replicate, append-nil}
+use Rattle.std.proofs.lemmas.List.{get_or-append_right, length-map, append-nil}
 use Rattle.gf_field.specs.Octet.{AreOctets}
 use Rattle.gf_field.specs.Product.{product, shifts, sum_at_bits}
 use Rattle.gf_field.specs.Power.{power}

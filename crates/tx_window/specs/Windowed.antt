@@ -2,7 +2,7 @@
 use Rattle.std.specs.Prelude.{ℕ, ◌≡◌, ◌+◌, ◌<◌, ◌≤◌, List, [], length, drop, map, Bool, Option, Some, None, slice_get, nat_lt, false, true}
 use Rattle.norm_base.specs.Settings.{Settings}
 use Rattle.fec_plan.specs.Partition.{cut_of, all_symbols}
-use Rattle.fec_plan.specs.Points.{point, position_before, reaches, reached_by}
+use Rattle.fec_plan.specs.Points.{point, position_before, reached_by}
 use Rattle.fec_plan.specs.declared.position.Position.{Position}
 use Rattle.norm_order.specs.Entries.{Object, Entry}
 use Rattle.norm_order.specs.Sets.{is_member}
