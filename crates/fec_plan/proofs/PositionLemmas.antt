@@ -1,11 +1,11 @@
 -- The order of positions, as propositions.
 use Rattle.std.proofs.Common.{◌≡◌, ◌<◌, ◌≤◌, ◌⊎◌, inl, inr, Bool, true, false, refl, sym, ap, ◌∙◌, subst, arith}
-use Rattle.std.specs.Prelude.{◌==◌, ◌&&◌}
 use Rattle.std.specs.Bool.{Decides}
 use Rattle.std.proofs.lemmas.Bool.{cases_lt}
 use Rattle.std.proofs.lemmas.Bool.Decides.{Decides-ltb, Decides-eqb, Decides-and, Decides-or, Decides-not}
 use Rattle.fec_plan.specs.OrderLaws.{PositionsAreOrdered}
-use Rattle.fec_plan.specs.Points.{Position, position, position_before, same_position, reaches}
+use Rattle.fec_plan.specs.Points.{position, position_before, same_position, reaches}
+use Rattle.fec_plan.specs.declared.position.Position.{Position}
 
 -- a is before b
 abbrev pub Before : Position → Position → Type 0

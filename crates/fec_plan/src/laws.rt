@@ -1,7 +1,8 @@
 //! Laws of what this crate defines.
 
 ghost use Rattle.std.specs.Prelude.{◌≡◌};
-ghost use Rattle.fec_plan.specs.Points.{Point as Block, Position as Place, point_cmp, position_cmp};
+ghost use Rattle.fec_plan.specs.declared.position.Position.{Position as Place};
+ghost use Rattle.fec_plan.specs.Points.{Point as Block, point_cmp, position_cmp};
 ghost use Rattle.fec_plan.specs.OrderLaws.{PositionsAreOrdered};
 ghost use Rattle.fec_plan.specs.Covering.{BlocksCover, SymbolsCover, AllButLastAreFull, BlocksAreEven};
 

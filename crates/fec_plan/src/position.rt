@@ -1,7 +1,8 @@
 //! Where a block and a symbol stand in a transport order, and which of two such places is before the other.
 
 ghost use Rattle.std.specs.Prelude.{◌≡◌, ◌&&◌, ℕ};
-ghost use Rattle.fec_plan.specs.Points.{Position as Place, point_of, point_before, position_before, same_point, same_position, reaches, reached_by, nearer, further, further_point};
+ghost use Rattle.fec_plan.specs.declared.position.Position.{Position as Place};
+ghost use Rattle.fec_plan.specs.Points.{point_of, point_before, position_before, same_point, same_position, reaches, reached_by, nearer, further, further_point};
 
 use std::marker::Model;
 
@@ -28,16 +29,6 @@ pub struct Position {
     pub index: u32,
     pub block: u32,
     pub symbol: u8,
-}
-
-impl Model for Position {
-    ghost use Rattle.fec_plan.specs.Points.{Position as Place};
-
-    ghost Value = { Place };
-
-    ghost view = { λ at. record { index = at.index; block = at.block; symbol = at.symbol } };
-
-    ghost inverse = { λ at. record { index = at.index; block = at.block; symbol = at.symbol } };
 }
 
 impl Point {

@@ -63,13 +63,13 @@ pub fn position_of(profile: &Profile, item: Item) -> Position
 }
 
 /// Asks for what is named of the objects at these places of a window that begins with this index.
-pub fn ask_range(objects: &mut [Marks], first: u32, from: usize, to: usize, named: &Named)
+pub fn ask_range(objects: &mut [Marks], first: u32, from: usize, to: usize, named: Named)
     requires within { to ≤ length objects.old }
     requires few { first + length objects.old ≤ 2 ^ 32 }
-    requires low { named.now.first.index ≤ first + from }
-    requires high { from < to → first + to ≤ named.now.last.index + 1 }
+    requires low { named.first.index ≤ first + from }
+    requires high { from < to → first + to ≤ named.last.index + 1 }
     ensures each { (k : ℕ) (d : Marked) → k < length objects.old → from ≤ k → k < to
-        → MoreOf (named_part named.now.flags (span named.now.first named.now.last)) (first + k) (get_or objects.old k d) (get_or objects.new k d) }
+        → MoreOf (named_part named.flags (span named.first named.last)) (first + k) (get_or objects.old k d) (get_or objects.new k d) }
     ensures rest { (k : ℕ) (d : Marked) → (k < from) ⊎ (to ≤ k) → get_or objects.new k d ≡ get_or objects.old k d }
 {
     'places: for place in from..to {

@@ -245,31 +245,21 @@ impl Marks {
     }
 
     /// The round asks for what is named of the object, which has this index.
-    pub fn ask_named(&mut self, index: u32, named: &Named)
-        requires from { named.now.first.index ≤ index }
-        requires to { index ≤ named.now.last.index }
-        ensures { MoreOf (named_part named.now.flags (span named.now.first named.now.last)) index self.old self.new }
+    pub fn ask_named(&mut self, index: u32, named: Named)
+        requires from { named.first.index ≤ index }
+        requires to { index ≤ named.last.index }
+        ensures { MoreOf (named_part named.flags (span named.first named.last)) index self.old self.new }
     {
-        let (first, last, flags) = (named.first, named.last, named.flags);
-        let start = Position {
-            index: first.index,
-            block: first.block,
-            symbol: 0,
-        };
+        let Named { first, last, flags } = named;
+        let start = Position { symbol: 0, ..first };
         let end = Position {
-            index: last.index,
-            block: last.block,
             symbol: u8::MAX,
+            ..last
         };
-        let lowest = Position {
-            index: first.index,
-            block: 0,
-            symbol: 0,
-        };
+        let lowest = Position { block: 0, ..start };
         let highest = Position {
-            index: last.index,
             block: LAST_BLOCK,
-            symbol: u8::MAX,
+            ..end
         };
         self.ask_where(has_flag(flags, WANT_SEGMENT), index, first, last);
         self.ask_where(has_flag(flags, WANT_BLOCK), index, start, end);

@@ -208,7 +208,7 @@ impl Union {
             .min(self.objects.len());
         self.low = self.low.min(from);
         self.high = self.high.max(to);
-        ask_range(&mut self.objects, self.first, from, to, &named);
+        ask_range(&mut self.objects, self.first, from, to, named);
     }
 
     /// The open round asks for an encoded symbol, where the window has it.

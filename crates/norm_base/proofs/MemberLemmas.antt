@@ -1,15 +1,15 @@
 -- The receivers of a profile, one by one.
 use Rattle.std.proofs.Common.{◌≡◌, ℕ, zero, suc, ◌+◌, ◌<◌, ◌≤◌, ◌⊎◌, inl, inr, List, [], ◌∷◌, ◌++◌, length, get_or, Bool, true, false, refl, sym, ap, ◌∙◌, arith, length-append}
-use Rattle.std.specs.Prelude.{◌==◌, ◌&&◌, ◌||◌, nat_eq, nat_lt, nat_le}
+use Rattle.std.specs.Prelude.{◌==◌, ◌||◌, nat_eq, nat_le}
 use Rattle.std.specs.List.{list_any, AllByRecursion, IsDistinct}
 use Rattle.std.specs.Bool.{Decides}
-use Rattle.std.proofs.lemmas.Bool.{cases_lt, le-ltb, lt-ltb, ltb-true, ltb-false}
+use Rattle.std.proofs.lemmas.Bool.{cases_lt}
 use Rattle.std.proofs.lemmas.Bool.Decides.{Decides-ltb, Decides-eqb, Decides-and, Decides-or}
 use Rattle.std.proofs.lemmas.List.{get_or_append_left, get_or-append-add}
 use Rattle.std.proofs.lemmas.List.Folds.{list_any-append}
 use Rattle.norm_base.specs.Settings.{Settings, InRange}
 use Rattle.norm_base.specs.Member.{IsMember}
-use Rattle.norm_base.specs.Members.{receivers_of, members_of, is_receiver, is_node}
+use Rattle.norm_base.specs.Members.{receivers_of, is_receiver}
 use Rattle.norm_base.specs.MemberLaws.{MemberLaws}
 
 count : (p : Settings) (n : ℕ) → length (receivers_of p n) ≡ n

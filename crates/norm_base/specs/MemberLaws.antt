@@ -1,5 +1,5 @@
 -- What is promised of the members of a session.
-use Rattle.std.specs.Prelude.{◌≡◌, ◌<◌, ◌≤◌, ℕ, ◌+◌, ◌==◌, nat_eq, length, get_or, true}
+use Rattle.std.specs.Prelude.{◌≡◌, ◌<◌, ℕ, ◌+◌, ◌==◌, nat_eq, length, get_or, true}
 use Rattle.std.specs.List.{list_any, IsDistinct}
 use Rattle.norm_base.specs.Settings.{Settings, InRange}
 use Rattle.norm_base.specs.Member.{IsMember}

@@ -6,7 +6,7 @@ use Rattle.nack_union.proofs.asking.ask_range.Goals as goal
 
 pub places-preserved : goal.places-preserved
 places-preserved c = record {
-  each = place_done (λ k m n. MoreOf (named_part c.args.named.now.flags (span c.args.named.now.first c.args.named.now.last)) (c.args.first + k) m n)
+  each = place_done (λ k m n. MoreOf (named_part c.args.named.flags (span c.args.named.first c.args.named.last)) (c.args.first + k) m n)
       c.args.objects.now c.places.objects c.args.from c.places.place c.index-objects-place.result c.ask_named.new.self c.places.auto.objects
       (let lt = c.places-test.true in let within = c.requires.within in let same = c.places.auto.objects in omega (arith, lt, within, same))
       c.places.invariant.each c.places.invariant.rest c.index-objects-place.is c.ask_named.ensures;
