@@ -8,8 +8,6 @@ mod event;
 pub mod laws;
 mod line;
 mod lines;
-#[cfg(test)]
-mod tests;
 mod totals;
 mod words;
 
