@@ -253,7 +253,7 @@ def check_ladder() -> str:
         wants(f'hand-ups of {name} are marked', bool(ups), bool(signs))
         count, broken = count + 1, broken + lost
     part = run('journal', 'ladder', REPAIR, '--from', '16000', '--to', '16000')
-    wants('a part of a run', (0, True, False), (part[0], b'parity' in part[1], b'NACK 1' in part[1]))
+    wants('a part of a run', (0, True, False), (part[0], b'parity' in part[1], b'NACK wants' in part[1]))
     picture = os.path.join(ROOT, 'docs', 'pictures', 'repair.svg')
     wants('the picture in docs/pictures is that of examples/repair.json', wire.read_file(picture), run('journal', 'ladder', REPAIR)[1])
     refused('a run that is cut', 3, 'journal', 'ladder', '-', given=text(REPAIR).encode()[:5000])
