@@ -34,6 +34,7 @@ import norm_ladder  # noqa: E402
 import norm_wire as wire  # noqa: E402
 
 PROGRAM = os.path.join(ROOT, 'crates', 'normd', 'out', 'normd')
+WITH_PROFILE = b'{"profile": {"sender": 1, "receivers": 1, "port": 40000, "first": 0, "step": 1, "gap": 1}, "events": [%s]}'
 failures: list[str] = []
 
 
@@ -148,7 +149,9 @@ def check_pcap() -> str:
     refused('no capture', 3, 'pcap', '--lines', '-', given=b'%PDF-1.4 and more than twenty-four octets')
     refused('a run that is cut', 3, 'pcap', '-', given=text(REPAIR).encode()[:3000])
     refused('another JSON', 3, 'pcap', '-', given=b'{"events": []}')
-    refused('an event that is none', 3, 'pcap', '-', given=b'{"profile": {"sender": 1, "receivers": 1, "port": 40000}, "events": [{"offers": 1}]}')
+    refused('an event that is none', 3, 'pcap', '-', given=WITH_PROFILE % b'{"offers": 1}')
+    refused('a node that is none', 3, 'pcap', '-', given=WITH_PROFILE % b'{"offer": "1", "bytes": ""}')
+    refused('a moment that is none', 3, 'pcap', '-', given=WITH_PROFILE % b'{"turn": 1, "now": -1}')
     refused('no hexadecimal', 3, 'pcap', '-', given=b'12080\n')
     refused('no datagram', 3, 'pcap', '-', given=b'\n\n')
     refused('no text', 3, 'pcap', '-', given=b'\xff\xfe')
@@ -222,7 +225,7 @@ def check_journal() -> str:
     refused('a line behind the end', 3, 'journal', 'table', '-', given=(STRUCK + 'restart 1 1 8\n').encode())
     refused('a text that is no journal', 3, 'journal', 'table', os.path.join(ROOT, 'README.md'))
     refused('a refused session', 3, 'journal', 'table', '-', given=b'refused line 3\n')
-    refused('a run without a journal', 3, 'journal', 'table', '-', given=b'{"profile": {"sender": 1, "receivers": 1, "port": 40000}, "events": []}')
+    refused('a run without a journal', 3, 'journal', 'table', '-', given=WITH_PROFILE % b'')
     return f'{len(journals)} recorded journals with {marks} watermarks, bad input'
 
 
@@ -258,6 +261,7 @@ def check_ladder() -> str:
     wants('the picture in docs/pictures is that of examples/repair.json', wire.read_file(picture), run('journal', 'ladder', REPAIR)[1])
     refused('a run that is cut', 3, 'journal', 'ladder', '-', given=text(REPAIR).encode()[:5000])
     refused('a journal in place of a run', 3, 'journal', 'ladder', '-', given=STRUCK.encode())
+    refused('a hand-up of nothing', 3, 'journal', 'ladder', '-', given=WITH_PROFILE % b'{"up": {"object": 1}, "node": 2}')
     refused('nothing in that part', 3, 'journal', 'ladder', REPAIR, '--from', '900000')
     return f'{count} recorded runs, {broken} broken arrows, bad input'
 
@@ -295,7 +299,8 @@ def check_profile() -> str:
     document = run('profile', '--size', '1M', '--rate', '10M', '--loss', '2', '--receivers', '3', '--toml')
     lines = [line for line in script[1].decode().splitlines() if not line.startswith('#')]
     wants('a profile is made of set lines', True, bool(lines) and all(re.fullmatch(r'set \w+ \d+', line) for line in lines))
-    wants('both forms say the same', lines, [f'set {line.replace(" = ", " ")}' for line in document[1].decode().splitlines() if not line.startswith('#')])
+    keys = [line.replace(' = ', ' ') for line in document[1].decode().splitlines() if not line.startswith('#')]
+    wants('both forms say the same', lines, [f'set {key}' for key in keys])
     refused('more turns than a run has', 3, 'profile', '--size', '1G', '--rate', '1G', '--loss', '90', '--receivers', '16')
     refused('a rate that no gap meets', 3, 'profile', '--size', '1M', '--rate', '900')
     refused('more objects than a script has', 3, 'profile', '--size', '1M', '--rate', '1M', '--objects', '5k')

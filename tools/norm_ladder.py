@@ -80,8 +80,8 @@ class Row:
             by_nodes: dict[tuple[int, ...], list[str]] = {}
             for what, at in whats.items():
                 by_nodes.setdefault(tuple(at), []).append(what)
-            for at, named in by_nodes.items():
-                where = nodes([n for n in at if n != silent])
+            for same, named in by_nodes.items():
+                where = nodes([n for n in same if n != silent])
                 of = ', '.join(filter(None, named))
                 made.append(f'{of} {says} at {where}' if of else f'{where} {says}'.strip())
         return made
@@ -177,11 +177,15 @@ class Chart:
     """The rows of a run, made event by event."""
 
     def __init__(self, run: Run):
-        self.run, self.rows = run, []
+        self.run = run
+        self.rows: list[Row] = []
         self.under_way: dict[bytes, Offer] = {}
         self.offered_at: dict[int, int] = {}
-        for step in run.steps:
-            getattr(self, 'see_' + step.what, lambda step: None)(step)
+        for place, step in enumerate(run.steps):
+            try:
+                getattr(self, 'see_' + step.what, lambda step: None)(step)
+            except (AttributeError, KeyError, TypeError, ValueError):
+                raise ToolFault(f'event {place} says nothing of what it gave that a recorded run says.') from None
 
     def row(self, moment: int, fresh: bool) -> Row:
         """The row for what happens now: a fresh one, or the last where it is of this moment."""
@@ -207,7 +211,7 @@ class Chart:
             words = kind_and_words(step.octets(), self.run.profile['first'])[1]
             self.marks_row(step.now).add(Mark(node, 'alien', '?'), f'nobody offered {words}')
             return
-        is_late = step.now - self.offered_at[id(offer)] > self.run.profile['step']
+        is_late = step.now - self.offered_at[id(offer)] > (self.run.profile['step'] or self.run.profile['gap'])
         is_repeat = any(arrival.node == node for arrival in offer.arrivals)
         if is_late or is_repeat:
             self.row(step.now, False)
@@ -258,9 +262,11 @@ class Drawing:
         self.lane = max(LEAST_LANE, min(MOST_LANE, LANES // max(receivers, 1)))
         self.x = {node: LEFT + 24 + i * self.lane for i, node in enumerate(self.members)}
         self.edge = max(self.x.values()) + 38
-        self.width, self.y, self.pauses = max(self.edge + TEXT, LEAST_WIDTH), {}, []
+        self.width = max(self.edge + TEXT, LEAST_WIDTH)
+        self.y: dict[int, float] = {}
+        self.pauses: list[float] = []
         self.named: list[float] = []
-        self.step = max(run.profile['step'], 1)
+        self.step = run.profile['step'] or run.profile['gap']
         self.lay_out()
 
     def lay_out(self) -> None:
