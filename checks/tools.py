@@ -278,6 +278,8 @@ def check_profile_row(profile: ModuleType, row: tuple[int, int, int, float, int]
     keys, name = profile.choose(asked).keys, f'the profile of {row}'
     wants(f'{name} is one', None, norm_keys.fault_of(keys))
     wants(f'{name} keeps to the rate', True, keys['gap'] == 1 or (keys['e'] + 60) * 8e6 / keys['gap'] <= rate)
+    short = sum(math.comb(keys['max_n'], n) * (1 - loss) ** n * loss ** (keys['max_n'] - n) for n in range(keys['b']))
+    wants(f'{name} has parity for all receivers', True, (1 - short) ** receivers >= 0.98)
     wants(f'{name} has no more auto than parity', True, keys['auto'] <= keys['max_n'] - keys['b'])
     wants(f'{name} waits a round trip and two turns', True, keys['grtt'] >= rtt + 2 * keys['step'] and keys['step'] == keys['gap'])
     said = unquantised(keys['grtt_code']) * 1e6
@@ -311,9 +313,30 @@ def check_profile() -> str:
     return f'{count} transfers, both forms, bad input'
 
 
+def plain(page: str) -> str:
+    """A manual page's source without its fonts and its spaces that do not break."""
+    return re.sub(r'\\f[A-Z]|(?m:^\.(?:B|I|BR|IB|BI) )|"', '', page.replace('\\~', ' ').replace('\\-', '-'))
+
+
+def check_commands(docs: str, page: str) -> None:
+    """norm-script(5) has each command of docs/session.md, and says of the same ones that they are not built."""
+    entries = {' '.join(head.split()): says for head, says in re.findall(r'(?m)^\.TP\n(.+)\n((?:[^.\n].*\n)+)', page)}
+    for command, runs_today in re.findall(r'(?m)^\| `(P [a-z][^`]*)` \| [^|]*\|(?: ([^|]*) \|)?$', docs):
+        says = entries.get(command)
+        wants(f'norm-script(5) has `{command}`', True, says is not None)
+        wants(f'norm-script(5) says that `{command}` is not built', runs_today == 'no', 'Not built yet' in (says or ''))
+
+
 def check_manual() -> str:
-    """The keys of the manual are those of the table, and each tool tells how it is called."""
+    """The manual says what the table of keys and docs/session.md say, and each tool tells how it is called."""
     wants('the keys of norm-script(5)', (0, b'', ''), run('keys', '--check', tool=os.path.join(ROOT, 'man')))
+    docs, program, script = (plain(text(os.path.join(ROOT, *path))) for path in
+                             (('docs', 'session.md'), ('man', 'normd.1'), ('man', 'norm-script.5')))
+    check_commands(docs, script)
+    for status in sorted(set(re.findall(r'(?m)^\| (\d+) \| ', docs))):
+        wants(f'normd(1) has status {status}', True, f'\n.TP\n{status}\n' in program)
+    for line in re.findall(r'`((?:info|data|flush|eot|adv|ackreq|opaque|nack|ack|report) SRC [^`]*)`', docs):
+        wants(f'normd(1) has the line {line}', True, f'\n{line}\n' in program)
     for tool in ('pcap', 'journal', 'profile'):
         wants(f'{tool} --help', 0, run(tool, '--help')[0])
         wants(f'tools/README.md shows {tool}', True, f'$ tools/{tool} ' in text(os.path.join(TOOLS, 'README.md')))
