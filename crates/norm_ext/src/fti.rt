@@ -1,15 +1,17 @@
 //! The FEC Object Transmission Information of FEC Encoding ID 5, as a header extension (RFC 5510 section 5.2.4.1).
 
-ghost use Rattle.std.specs.Prelude.{◌≡◌, ◌+◌, ◌≤◌, ◌<◌, ◌^◌, ◌++◌, length};
-ghost use Rattle.norm_ext.specs.Extensions.{fti_in, fti_of, fti_extension, extension_octets};
+ghost use Rattle.std.specs.Prelude.{◌≡◌, ◌+◌, ◌≤◌, ◌++◌, [], ◌∷◌, length};
+ghost use Rattle.norm_ext.specs.Extensions.{fti_in, fti_of, fti_extension, extension_octets, extensions_of, IsChecked};
 
 use crate::extensions::Extensions;
 use crate::numbers::{read_16, read_48};
-use byteorder::{BigEndian, ByteOrder};
 use norm_base::Datagram;
+use std::marker::Model;
 
 /// The extension's type.
 pub const FTI_TYPE: u8 = 64;
+/// Its length in words.
+const FTI_WORDS: u8 = 3;
 /// The octets of its content.
 const CONTENT: usize = 10;
 
@@ -23,11 +25,23 @@ pub struct Fti {
     pub max_n: u8,
 }
 
+impl Model for Fti {
+    ghost use Rattle.std.specs.Prelude.{◌<◌, ◌^◌};
+    ghost use Rattle.norm_ext.specs.Transmission.{Transmission};
+
+    ghost Value = { Transmission };
+
+    ghost view = { λ f. record { l = f.l; e = f.e; b = f.b; max_n = f.max_n } };
+
+    ghost invariant = { λ f. f.l < 2 ^ 48 };
+
+    ghost inverse = { λ f. record { l = f.l; e = f.e; b = f.b; max_n = f.max_n } };
+}
+
 /// What the content of an extension of ten octets says.
 fn fti_from(content: &[u8]) -> Fti
     requires { length content.now ≡ 10 }
-    ensures exact { result ≡ fti_in content.now }
-    ensures fits { result.l < 2 ^ 48 }
+    ensures { result ≡ fti_in content.now }
 {
     Fti {
         l: read_48(content, 0),
@@ -49,18 +63,24 @@ pub fn read_fti(exts: Extensions<'_>) -> Option<Fti>
     None
 }
 
+/// The extension's twelve octets, for a message to lend as its one extension.
+pub fn fti_words(fti: &Fti) -> [u8; 12]
+    ensures octets { result ≡ extension_octets (fti_extension fti.now) }
+    ensures list { extensions_of result ≡ fti_extension fti.now ∷ [] }
+    ensures whole { IsChecked result }
+{
+    let Fti { l, e, b, max_n } = *fti;
+    let [_, _, l0, l1, l2, l3, l4, l5] = l.to_be_bytes();
+    let [e0, e1] = e.to_be_bytes();
+    [
+        FTI_TYPE, FTI_WORDS, l0, l1, l2, l3, l4, l5, e0, e1, b, max_n,
+    ]
+}
+
 /// Adds the extension's twelve octets.
 pub fn write_fti(fti: &Fti, out: &mut Datagram)
-    requires room { length out.old + 12 ≤ 1500 }
-    requires fits { fti.now.l < 2 ^ 48 }
+    requires { length out.old + 12 ≤ 1500 }
     ensures { out.new ≡ out.old ++ extension_octets (fti_extension fti.now) }
 {
-    let mut length = [0u8; 6];
-    BigEndian::write_u48(&mut length, fti.l);
-    let mut symbol = [0u8; 2];
-    BigEndian::write_u16(&mut symbol, fti.e);
-    out.push(&[FTI_TYPE, 3]);
-    out.push(&length);
-    out.push(&symbol);
-    out.push(&[fti.b, fti.max_n]);
+    out.push(&fti_words(fti));
 }
