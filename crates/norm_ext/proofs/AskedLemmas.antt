@@ -42,7 +42,7 @@ alike_is f m g n e =
     let t = both (eqb (form_number f) (form_number g)) (eqb m n) e in
     (same_form f g t.0, eqb-true m n t.1)
 
-alike_so : (f : Form) (m : ℕ) (g : Form) (n : ℕ) → f ≡ g → m ≡ n → alike f m g n ≡ true
+pub alike_so : (f : Form) (m : ℕ) (g : Form) (n : ℕ) → f ≡ g → m ≡ n → alike f m g n ≡ true
 alike_so f m g n e h =
     let a : eqb (form_number f) (form_number g) ≡ true = eq-eqb (form_number f) (form_number g) (ap form_number e) in
     let b : eqb m n ≡ true = eq-eqb m n h in
@@ -161,7 +161,7 @@ last_is (r ∷ rs) w b is joins =
       test = alike_so s.back.form s.back.flags b.form b.flags (some_same s.back.form b.form form) flags;
     }
 
-not_alike : (f : Form) (m : ℕ) (g : Form) (n : ℕ) (t : Bool) → alike f m g n ≡ t → ((f ≡ g) × (m ≡ n) → ⊥) → t ≡ false
+pub not_alike : (f : Form) (m : ℕ) (g : Form) (n : ℕ) (t : Bool) → alike f m g n ≡ t → ((f ≡ g) × (m ≡ n) → ⊥) → t ≡ false
 not_alike f m g n true e apart = absurd (apart (alike_is f m g n e))
 not_alike f m g n false e apart = refl
 

@@ -4,10 +4,9 @@ use Rattle.std.specs.List.{list_any}
 use Rattle.norm_base.specs.Settings.{Settings}
 use Rattle.fec_plan.specs.Points.{Point, position, point_of, position_before}
 use Rattle.fec_plan.specs.declared.position.Position.{Position}
-use Rattle.norm_ext.specs.ObjectIds.{index_of, object_id}
+use Rattle.norm_ext.specs.ObjectIds.{index_of}
 use Rattle.norm_ext.specs.Requests.{Request, RequestItem}
 use Rattle.norm_ext.specs.declared.kinds.Form.TheVariants as form
-use Rattle.norm_ext.specs.declared.head.Item.{Item}
 
 -- the flags of a request: what of each item it asks for
 abbrev pub segment_flag : ℕ
@@ -29,17 +28,9 @@ object_flag = 8
 abbrev pub has_flag : ℕ → ℕ → Bool
 has_flag flags flag = flags / flag % 2 == 1
 
--- the symbol that an item names
-abbrev pub position_named : Settings → Item → Position
-position_named p x = position (index_of p x.object) x.id.block x.id.symbol
-
--- the item that names a symbol
-abbrev pub item_of : Settings → Position → Item
-item_of p at = record { object = object_id p at.index; id = record { block = at.block; symbol = at.symbol } }
-
--- what an item of a request names
+-- what an item names
 abbrev pub named_by : Settings → RequestItem → Position
-named_by p x = position_named p x.item
+named_by p x = position (index_of p x.item.object) x.item.id.block x.item.id.symbol
 
 -- from one position to another, both included
 pub record Span : Type 0 where

@@ -3,11 +3,12 @@
 
 ghost use Rattle.std.specs.Prelude.{◌≡◌, ◌<◌, ◌∷◌, [], MatchOption, length};
 ghost use Rattle.norm_ext.specs.Requests.{items_named};
-ghost use Rattle.norm_ext.specs.Asking.{position_named, item_of as item_at, has_flag as has_this};
+ghost use Rattle.norm_ext.specs.Asking.{has_flag as has_this};
+ghost use Rattle.norm_ext.specs.Items.{position_named, item_of as item_at};
 
 use crate::head::Item;
 use crate::numbers::{read_16, read_name};
-use crate::object_ids::{object_id};
+use crate::object_ids::object_id;
 use fec_plan::{PayloadId, Position};
 use norm_base::Profile;
 
