@@ -1,7 +1,6 @@
 pub mod Numbers
 pub mod Steps
 pub mod Pieces
-pub mod Transmission
 pub mod Extensions
 pub mod Requests
 pub mod RequestView

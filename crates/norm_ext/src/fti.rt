@@ -1,12 +1,11 @@
 //! The FEC Object Transmission Information of FEC Encoding ID 5, as a header extension (RFC 5510 section 5.2.4.1).
 
-ghost use Rattle.std.specs.Prelude.{◌≡◌, ◌+◌, ◌≤◌, ◌++◌, [], ◌∷◌, length};
+ghost use Rattle.std.specs.Prelude.{◌≡◌, ◌+◌, ◌≤◌, ◌<◌, ◌^◌, ◌++◌, [], ◌∷◌, IfSome, length};
 ghost use Rattle.norm_ext.specs.Extensions.{fti_in, fti_of, fti_extension, extension_octets, extensions_of, IsChecked};
 
 use crate::extensions::Extensions;
 use crate::numbers::{read_16, read_48};
 use norm_base::Datagram;
-use std::marker::Model;
 
 /// The extension's type.
 pub const FTI_TYPE: u8 = 64;
@@ -25,23 +24,11 @@ pub struct Fti {
     pub max_n: u8,
 }
 
-impl Model for Fti {
-    ghost use Rattle.std.specs.Prelude.{◌<◌, ◌^◌};
-    ghost use Rattle.norm_ext.specs.Transmission.{Transmission};
-
-    ghost Value = { Transmission };
-
-    ghost view = { λ f. record { l = f.l; e = f.e; b = f.b; max_n = f.max_n } };
-
-    ghost invariant = { λ f. f.l < 2 ^ 48 };
-
-    ghost inverse = { λ f. record { l = f.l; e = f.e; b = f.b; max_n = f.max_n } };
-}
-
 /// What the content of an extension of ten octets says.
 fn fti_from(content: &[u8]) -> Fti
     requires { length content.now ≡ 10 }
-    ensures { result ≡ fti_in content.now }
+    ensures exact { result ≡ fti_in content.now }
+    ensures fits { result.l < 2 ^ 48 }
 {
     Fti {
         l: read_48(content, 0),
@@ -53,7 +40,8 @@ fn fti_from(content: &[u8]) -> Fti
 
 /// What the first extension with type 64 and three words says. `None` exactly where there is none.
 pub fn read_fti(exts: Extensions<'_>) -> Option<Fti>
-    ensures { result ≡ fti_of exts.entry }
+    ensures exact { result ≡ fti_of exts.entry }
+    ensures fits { IfSome result (λ fti. fti.l < 2 ^ 48) }
 {
     for (kind, content) in exts {
         if kind == FTI_TYPE && content.len() == CONTENT {
@@ -65,6 +53,7 @@ pub fn read_fti(exts: Extensions<'_>) -> Option<Fti>
 
 /// The extension's twelve octets, for a message to lend as its one extension.
 pub fn fti_words(fti: &Fti) -> [u8; 12]
+    requires { fti.now.l < 2 ^ 48 }
     ensures octets { result ≡ extension_octets (fti_extension fti.now) }
     ensures list { extensions_of result ≡ fti_extension fti.now ∷ [] }
     ensures whole { IsChecked result }
@@ -79,7 +68,8 @@ pub fn fti_words(fti: &Fti) -> [u8; 12]
 
 /// Adds the extension's twelve octets.
 pub fn write_fti(fti: &Fti, out: &mut Datagram)
-    requires { length out.old + 12 ≤ 1500 }
+    requires room { length out.old + 12 ≤ 1500 }
+    requires fits { fti.now.l < 2 ^ 48 }
     ensures { out.new ≡ out.old ++ extension_octets (fti_extension fti.now) }
 {
     out.push(&fti_words(fti));
