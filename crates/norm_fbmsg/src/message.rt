@@ -5,8 +5,8 @@ ghost use Rattle.norm_ext.specs.Requests.{requests_of, IsRequests};
 ghost use Rattle.norm_fbmsg.specs.CanWrite.{CanWriteNack, CanWriteAck, CanWriteParts, HasBody, body_length};
 
 use norm_base::{InstanceId, NodeId};
-use norm_ext::{Item, Requests, requests_of as requests_in};
 use norm_ext::fitting::{are_requests, has_room};
+use norm_ext::{Item, Requests, requests_of as requests_in};
 
 /// The octets of an item.
 pub(crate) const ITEM: usize = 8;

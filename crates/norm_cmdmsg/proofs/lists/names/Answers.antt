@@ -9,9 +9,9 @@ returns-then-number-wanted c =
 
 pub loop-number-preserved : goal.loop-number-preserved
 loop-number-preserved c = (
-    tt,
-    tt,
-    found_later c.args.node c.in-Some.number c.loop-number.number-iterator c.next.new.self (sym c.in-Some.is ∙ c.next.ensures.steps.0) c.next.ensures.steps.1
-    (λ same. c.if-number-wanted.false (same ∙ sym c.number-wanted.ensures.value))
-    ∙ c.loop-number.invariant.2,
+  tt,
+  tt,
+  found_later c.args.node c.in-Some.number c.loop-number.number-iterator c.next.new.self (sym c.in-Some.is ∙ c.next.ensures.steps.0) c.next.ensures.steps.1
+      (λ same. c.if-number-wanted.false (same ∙ sym c.number-wanted.ensures.value))
+      ∙ c.loop-number.invariant.2,
 )
