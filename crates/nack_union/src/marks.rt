@@ -16,6 +16,7 @@ use crate::repairs::ask_counted;
 use fec_plan::{Plan, Position};
 use norm_base::Memory;
 use norm_ext::flags::{WANT_BLOCK, WANT_INFO, WANT_OBJECT, WANT_SEGMENT};
+use norm_ext::items::has_flag;
 use norm_send_rules::Want;
 use std::alloc::Global;
 use std::marker::Model;
@@ -120,14 +121,6 @@ pub struct Named {
     pub first: Position,
     pub last: Position,
     pub flags: u8,
-}
-
-/// Whether a request's flags have this one.
-pub fn has_flag(flags: u8, flag: u8) -> bool
-    requires { 0 < flag }
-    ensures { result ≡ has_flag flags flag }
-{
-    flags / flag % 2 == 1
 }
 
 impl Marks {
