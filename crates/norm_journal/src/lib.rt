@@ -6,10 +6,7 @@
 
 mod event;
 pub mod laws;
-mod line;
 mod lines;
-#[cfg(test)]
-mod tests;
 mod totals;
 mod words;
 

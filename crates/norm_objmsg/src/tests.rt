@@ -5,7 +5,7 @@ ghost use Rattle.std.specs.Prelude.{◌<◌};
 use super::*;
 use fec_plan::PayloadId;
 use norm_base::{Datagram, InstanceId, NodeId};
-use norm_ext::{Extensions, Fti, read_fti};
+use norm_ext::{Extensions, Fti, fti_words, read_fti};
 use std::process::Abort;
 use std::test::Fail;
 
