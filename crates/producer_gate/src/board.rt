@@ -103,7 +103,8 @@ impl Board {
     /// Publishes an entry behind the others, and answers the front that has it. It takes no memory: the want of it is told where
     /// the board is full, with 4,096 entries.
     pub fn publish(&mut self, mark: u32, outcome: Outcome) -> Result<Front, Memory>
-        ensures { PublishEnds self.old mark outcome result self.new }
+        ensures same { self.new.id ≡ self.old.id }
+        ensures ends { PublishEnds self.old mark outcome result self.new }
     {
         if self.count >= MOST {
             return Err(Memory);

@@ -84,6 +84,7 @@ impl Gate {
         ensures gate { IfOk result (λ made. (made.0.producers ≡ producers) × (made.0.capacity ≡ capacity)) }
         ensures seats { IfOk result (λ made. made.1.items ≡ new_seats made.0.id producers) }
         ensures pull { IfOk result (λ made. made.2 ≡ new_pull made.0.id producers) }
+        ensures own { IfOk result (λ made. All (λ s. s.gate ≡ made.0.id) made.1.items × (vec_len made.1 ≡ producers)) }
     {
         let (ring, mut pass) = Ring::ruled(alloc, capacity as usize)?;
         let names = Vec::with_capacity(alloc, producers as usize * MOST as usize)?;
@@ -100,7 +101,8 @@ impl Gate {
         item: u32,
     ) -> Result<u64, (u32, GateFault)>
         requires { seat.old.gate ≡ self.now.id }
-        ensures { SubmitEnds self.now seat.old item result seat.new }
+        ensures same { (seat.new.gate ≡ seat.old.gate) × (seat.new.producer ≡ seat.old.producer) }
+        ensures ends { SubmitEnds self.now seat.old item result seat.new }
     {
         if seat.count >= MOST {
             return Err((item, GateFault::TooMany));
@@ -123,7 +125,8 @@ impl Gate {
     /// Pulls the oldest command. There was none where the ring was empty at some moment of this call.
     pub fn pull<R: Wait>(&self, rt: &R, seat: &mut PullSeat) -> Option<Submitted>
         requires { seat.old.gate ≡ self.now.id }
-        ensures { PullEnds seat.old result seat.new }
+        ensures same { (seat.new.gate ≡ seat.old.gate) × (seat.new.producers ≡ seat.old.producers) }
+        ensures ends { PullEnds seat.old result seat.new }
     {
         match self.ring.pop_as::<Takes, R>(rt, &mut seat.pass) {
             Some(command) => {

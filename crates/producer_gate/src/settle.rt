@@ -33,6 +33,7 @@ pub(crate) fn seats_of(
     requires { IsPassOf ring.now pull.old × (view pull.old ≡ Pulls 0 [] 0 []) }
     ensures pull { IfOk result (λ seats. IsPassOf ring.now pull.new × (view pull.new ≡ Pulls producers [] 0 [])) }
     ensures seats { IfOk result (λ seats. seats.items ≡ new_seats pull.new.table_id producers) }
+    ensures own { IfOk result (λ seats. All (λ s. s.gate ≡ pull.new.table_id) seats.items × (vec_len seats ≡ producers)) }
 {
     let mut seats = Vec::with_capacity(alloc, producers as usize)?;
     for made in 0..producers {
