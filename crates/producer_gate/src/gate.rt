@@ -4,8 +4,8 @@ ghost use Rattle.producer_gate.specs.Commands.{named};
 ghost use Rattle.producer_gate.specs.Seats.{SubmitEnds, PullEnds, HasNumbers, IsFront, left_of, new_seats, new_pull};
 
 use crate::command::{GateFault, Order, Submitted};
-use crate::knows::{Adds, Own, Ring, Takes};
-use crate::settle::{rest_of, seats_of};
+use crate::knows::{Own, Ring, Takes};
+use crate::settle::{push, rest_of, seats_of};
 use norm_base::Memory;
 use std::alloc::Global;
 use std::marker::Model;
@@ -113,13 +113,11 @@ impl Gate {
             number,
             item,
         };
-        match self.ring.push_as::<Adds, R>(rt, &mut seat.pass, command) {
-            Ok(()) => {
-                seat.count = number;
-                Ok(number)
-            }
-            Err(_) => Err((item, GateFault::Full)),
+        if !push(&self.ring, rt, &mut seat.pass, command) {
+            return Err((item, GateFault::Full));
         }
+        seat.count = number;
+        Ok(number)
     }
 
     /// Pulls the oldest command. There was none where the ring was empty at some moment of this call.
