@@ -10,6 +10,3 @@ mod position;
 pub use crate::payload_id::PayloadId;
 pub use crate::plan::{Plan, PlanFault};
 pub use crate::position::Position;
-
-#[cfg(test)]
-mod tests;

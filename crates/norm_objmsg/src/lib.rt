@@ -11,6 +11,3 @@ pub use crate::grammar::{
 };
 pub use crate::transmission::fti_words;
 pub use norm_ext::ObjHead;
-
-#[cfg(test)]
-mod tests;
