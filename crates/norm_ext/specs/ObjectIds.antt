@@ -1,6 +1,11 @@
--- Object transport ids (RFC 5740 section 4.2.1): an object's index in its order names its id, and the id its index.
-use Rattle.std.specs.Prelude.{ℕ, ◌+◌, ◌-◌, ◌%◌}
+-- Object transport ids (RFC 5740 section 4.2.1): 16 bits that go round. An object's index in its order has one id, and an
+-- id names the index near what is known already.
+use Rattle.std.specs.Prelude.{ℕ, ◌+◌, ◌-◌, ◌%◌, nat_lt, ◌||◌, Option, Some, None, if◌then◌else◌}
 use Rattle.norm_base.specs.Settings.{Settings}
+
+-- the greatest index of an object
+abbrev pub last_index : ℕ
+last_index = 4294967294
 
 -- the object transport id of an index
 abbrev pub object_id : Settings → ℕ → ℕ
@@ -9,3 +14,17 @@ object_id p index = (p.first + index) % 65536
 -- the index of an object transport id
 abbrev pub index_of : Settings → ℕ → ℕ
 index_of p object = (65536 + object - p.first) % 65536
+
+-- how many ids lie between one and a later one, going round
+abbrev pub ids_from : ℕ → ℕ → ℕ
+ids_from from object = (65536 + object - from) % 65536
+
+-- the index that is a round less than this, where an object can have that
+abbrev pub index_round_below : ℕ → Option ℕ
+index_round_below n = if nat_lt n 65536 || nat_lt (last_index + 65536) n then None else Some (n - 65536)
+
+-- The index that an id names to a node that knows indices up to this one: of the 65,536 from 32,768 below it on, the one
+-- that has the id; nothing where no object can have that index. (The sum is a round above, since an index 32,768 below
+-- may be below 0.)
+abbrev pub index_named : Settings → ℕ → ℕ → Option ℕ
+index_named p known object = index_round_below (known + 32768 + ids_from (object_id p (known + 32768)) object)
