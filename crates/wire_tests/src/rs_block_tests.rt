@@ -3,8 +3,9 @@
 ghost use Rattle.std.specs.Prelude.{ℕ, ◌≡◌, ◌<◌, IsTrue, length};
 ghost use Rattle.rs_block.specs.Codeword.{AreIds};
 
-use super::*;
 use gf_field::{alpha_pow, inv, mul};
+use norm_base::Memory;
+use rs_block::{Code, Solver};
 use std::alloc::{AllocError, Global};
 use std::process::Abort;
 use std::test::Fail;
@@ -85,47 +86,67 @@ fn newton(rt: &impl Abort, alloc: Global, values: &[u8], x: u8) -> Result<u8, Al
     Ok(value)
 }
 
+/// Whether these are the encoded symbols of source symbols.
+fn are_encoded(
+    rt: &impl Abort,
+    alloc: Global,
+    sizes: (u8, u8, usize),
+    source: &[u8],
+    symbols: &[u8],
+) -> Result<bool, Fail> {
+    let (k, n, size) = sizes;
+    let found = encoded(rt, alloc, k, n, size, source)?;
+    Ok(found.as_slice() == symbols)
+}
+
 #[test]
 fn symbols_of_short_codes_are_those_of_the_rows(rt: HostRuntime) -> Result<(), Fail> {
     let alloc = rt.alloc();
-    assert_eq!(rt;
-        encoded(&rt, alloc, 2, 3, 1, &[0x80, 0xff])?.as_slice(),
-        [0x80, 0xff, 0x01].as_slice()
-    );
-    assert_eq!(rt;
-        encoded(&rt, alloc, 2, 3, 1, &[0x01, 0x02])?.as_slice(),
-        [0x01, 0x02, 0x04].as_slice()
-    );
-    assert_eq!(rt;
-        encoded(&rt, alloc, 2, 3, 1, &[0x00, 0x80])?.as_slice(),
-        [0x00, 0x80, 0x9d].as_slice()
-    );
-    assert_eq!(rt;
-        encoded(&rt, alloc, 3, 5, 1, &[0x01, 0x04, 0x10])?.as_slice(),
-        [0x01, 0x04, 0x10, 0x40, 0x1d].as_slice()
-    );
-    assert_eq!(rt;
-        encoded(&rt, alloc, 1, 4, 2, &[7, 9])?.as_slice(),
-        [7, 9, 7, 9, 7, 9, 7, 9].as_slice()
-    );
-    assert_eq!(rt;
-        solved(&rt, alloc, 1, &[2, 3], &[0x04, 0x08])?.as_slice(),
-        [0x01, 0x02].as_slice()
-    );
+    for (a, b, parity) in [(0x80, 0xff, 0x01), (0x01, 0x02, 0x04), (0x00, 0x80, 0x9d)] {
+        let are_so = are_encoded(&rt, alloc, (2, 3, 1), &[a, b], &[a, b, parity])?;
+        assert!(rt; are_so, "{a} and {b}");
+    }
+    let powers = [0x01, 0x04, 0x10, 0x40, 0x1d];
+    let are_so = are_encoded(&rt, alloc, (3, 5, 1), powers.split_at(3).0, &powers)?;
+    assert!(rt; are_so, "powers");
+    let are_so = are_encoded(&rt, alloc, (1, 4, 2), &[7, 9], &[7, 9, 7, 9, 7, 9, 7, 9])?;
+    assert!(rt; are_so, "copies");
     Ok(())
 }
 
 #[test]
-fn parity_of_two_pieces_is_that_of_the_rows(rt: HostRuntime) -> Result<(), Fail> {
-    let code = Code::new(rt.alloc(), 3, 5)?;
+fn a_short_block_is_solved(rt: HostRuntime) -> Result<(), Fail> {
+    let sources = solved(&rt, rt.alloc(), 1, &[2, 3], &[0x04, 0x08])?;
+    assert!(rt; sources.as_slice() == [0x01, 0x02].as_slice());
+    Ok(())
+}
+
+/// Parity symbol 3 or 4 of source symbols that are cut in two.
+fn parity_cut_at(alloc: Global, cut: usize, j: u8) -> Result<u8, Memory> {
+    if cut > 3 {
+        return Ok(0);
+    }
+    if j < 3 {
+        return Ok(0);
+    }
+    if j > 4 {
+        return Ok(0);
+    }
+    let code = Code::new(alloc, 3, 5)?;
     let source = [0x01, 0x04, 0x10];
+    let (front, back) = source.split_at(cut);
+    let mut symbol = [0];
+    code.parity_in_two(front, back, 1, j, &mut symbol);
+    Ok(symbol[0])
+}
+
+#[test]
+fn parity_of_two_pieces_is_that_of_the_rows(rt: HostRuntime) -> Result<(), Fail> {
     for cut in 0..=3usize {
-        let (front, back) = source.split_at(cut);
-        let mut symbol = [0];
-        code.parity_in_two(front, back, 1, 3, &mut symbol);
-        assert_eq!(rt; symbol, [0x40], "cut at {cut}");
-        code.parity_in_two(front, back, 1, 4, &mut symbol);
-        assert_eq!(rt; symbol, [0x1d], "cut at {cut}");
+        for (j, symbol) in [(3, 0x40), (4, 0x1d)] {
+            let found = parity_cut_at(rt.alloc(), cut, j)?;
+            assert!(rt; found == symbol, "{j} cut at {cut}");
+        }
     }
     Ok(())
 }
@@ -148,11 +169,8 @@ fn parity_is_the_value_by_divided_differences(rt: HostRuntime) -> Result<(), Fai
         let source = octets(alloc, k)?;
         for (j, symbol) in encoded(&rt, alloc, k, 20, 1, &source)?.iter().enumerate() {
             assert!(rt; j < 255);
-            assert_eq!(rt;
-                newton(&rt, alloc, &source, alpha_pow(j as u32))?,
-                *symbol,
-                "symbol {j} of {k}"
-            );
+            let value = newton(&rt, alloc, &source, alpha_pow(j as u32))?;
+            assert!(rt; value == *symbol, "symbol {j} of {k}");
         }
     }
     Ok(())
@@ -181,9 +199,8 @@ fn every_choice_of_k_symbols_gives_the_sources(rt: HostRuntime) -> Result<(), Fa
         for mask in 0..(1u32 << (k + 2)) {
             if mask.count_ones() == u32::from(k) {
                 let sources = solved_from(&rt, alloc, mask, &symbols)?;
-                assert_eq!(rt;
-                    sources.as_slice(),
-                    source.as_slice(),
+                assert!(rt;
+                    sources.as_slice() == source.as_slice(),
                     "choice {mask} of {k}"
                 );
             }
@@ -204,10 +221,8 @@ fn the_largest_code_is_solved_from_its_last_symbols(rt: HostRuntime) -> Result<(
     for id in 55..255u8 {
         ids.push(id)?;
     }
-    assert_eq!(rt; symbols.len(), 16_320);
-    assert_eq!(rt;
-        solved(&rt, alloc, 64, &ids, &symbols[3520..])?.as_slice(),
-        source.as_slice()
-    );
+    assert!(rt; symbols.len() == 16_320);
+    let sources = solved(&rt, alloc, 64, &ids, &symbols[3520..])?;
+    assert!(rt; sources.as_slice() == source.as_slice());
     Ok(())
 }

@@ -1,5 +1,5 @@
 use Rattle.std.proofs.Common.{ℕ, ◌<◌, get_or}
-use Rattle.rs_block.proofs.tests.are_ids.Given as goal
+use Rattle.wire_tests.proofs.rs_block_tests.are_ids.Given as goal
 
 abbrev pub invariant-loop-i : goal.invariant-loop-i
 invariant-loop-i l =
