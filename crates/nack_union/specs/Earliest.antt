@@ -2,7 +2,6 @@
 -- due.
 use Rattle.std.specs.Prelude.{ℕ, List, fold, map, filter, min, Bool, true, false, nat_lt, Option, None, Some}
 use Rattle.norm_base.specs.Settings.{Settings}
-use Rattle.fec_plan.specs.Points.{position}
 use Rattle.fec_plan.specs.declared.position.Position.{Position}
 use Rattle.norm_ext.specs.ObjectIds.{index_of}
 use Rattle.norm_ext.specs.Asking.{Span, pairs, is_proper}
@@ -33,12 +32,9 @@ abbrev pub is_below_first : Option ℕ → ℕ → Bool
 is_below_first None first = false
 is_below_first (Some index) first = nat_lt index first
 
--- the index that an item names, and the place
-abbrev pub index_named : Settings → Item → ℕ
-index_named p x = index_of p x.object
-
-abbrev pub place_named : Settings → Item → Position
-place_named p x = position (index_of p x.object) x.id.block x.id.symbol
+-- the index that an item names
+abbrev pub item_index : Settings → Item → ℕ
+item_index p x = index_of p x.object
 
 -- where the ranges begin that are not empty
 abbrev pub begins_of : List Position → List ℕ

@@ -1,6 +1,5 @@
 -- What calls add to what the open round asks for, slot by slot and block by block.
-use Rattle.std.specs.Prelude.{ℕ, zero, suc, ◌≡◌, ◌+◌, ◌<◌, ◌/◌, ◌%◌, ◌==◌, ◌&&◌, ◌||◌, length, max, Bool, true, false, nat_lt, not, get_or, slice_index, List, [], ◌∷◌, map, ⊤}
-use Rattle.std.specs.List.{AllByRecursion}
+use Rattle.std.specs.Prelude.{ℕ, zero, suc, ◌≡◌, ◌+◌, ◌<◌, ◌/◌, ◌%◌, ◌==◌, ◌&&◌, ◌||◌, length, max, Bool, true, false, nat_lt, not, get_or, slice_index, List, [], ◌∷◌, map}
 use Rattle.fec_plan.specs.Partition.{Cut, blocks, source_symbols, encoding_symbols}
 use Rattle.fec_plan.specs.Points.{position}
 use Rattle.fec_plan.specs.declared.position.Position.{Position}
@@ -11,6 +10,7 @@ use Rattle.norm_ext.specs.Requests.{Request}
 use Rattle.norm_ext.specs.declared.head.Item.{Item}
 use Rattle.norm_ext.specs.declared.kinds.Form.TheVariants as form
 use Rattle.norm_ext.specs.Asking.{Span, span, is_proper, lies_in, block_span, object_span, has_flag, segment_flag, block_flag, object_flag, info_flag}
+use Rattle.norm_ext.specs.Items.{position_named}
 use Rattle.norm_order.specs.Sets.{is_member}
 use Rattle.nack_union.specs.Kept.{Marked, Kept}
 
@@ -115,10 +115,6 @@ and_part a b = record {
   counts = λ index block. max (a.counts index block) (b.counts index block);
 }
 
--- what an item of these names
-abbrev pub item_position : Settings → Item → Position
-item_position p x = position (index_of p x.object) x.id.block x.id.symbol
-
 -- a part where the flags have this one
 abbrev pub part_where : Bool → Part → Part
 part_where wanted part = elim wanted [ true ↦ part | false ↦ no_part ]
@@ -130,20 +126,20 @@ item_part flags at = and_part (named_part flags (span at at)) (part_where (has_f
 -- items, one after another
 abbrev pub items_part : Settings → ℕ → List Item → Part
 items_part p flags [] = no_part
-items_part p flags (x ∷ xs) = and_part (item_part flags (item_position p x)) (items_part p flags xs)
+items_part p flags (x ∷ xs) = and_part (item_part flags (position_named p x)) (items_part p flags xs)
 
 -- pairs of items, those that are not empty
 abbrev pub ranges_part : Settings → ℕ → List Item → Part
 ranges_part p flags [] = no_part
 ranges_part p flags (x ∷ []) = no_part
 ranges_part p flags (x ∷ y ∷ xs) =
-    and_part (part_where (is_proper (span (item_position p x) (item_position p y))) (named_part flags (span (item_position p x) (item_position p y))))
+    and_part (part_where (is_proper (span (position_named p x) (position_named p y))) (named_part flags (span (position_named p x) (position_named p y))))
     (ranges_part p flags xs)
 
 -- counts
 abbrev pub counts_part : Settings → List Item → Part
 counts_part p [] = no_part
-counts_part p (x ∷ xs) = and_part (count_part (item_position p x)) (counts_part p xs)
+counts_part p (x ∷ xs) = and_part (count_part (position_named p x)) (counts_part p xs)
 
 -- what a request asks for
 abbrev pub request_part : Settings → Request → Part
@@ -157,8 +153,3 @@ request_part p r = elim r.form [
 abbrev pub requests_part : Settings → List Request → Part
 requests_part p [] = no_part
 requests_part p (r ∷ rs) = and_part (request_part p r) (requests_part p rs)
-
--- each number is below those that follow it
-abbrev pub Rises : List ℕ → Type 0
-Rises [] = ⊤
-Rises (x ∷ xs) = AllByRecursion (λ y. x < y) xs × Rises xs

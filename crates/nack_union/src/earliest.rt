@@ -4,13 +4,13 @@ ghost use Rattle.std.specs.Prelude.{◌≡◌, ◌<◌, map, filter, None};
 ghost use Rattle.norm_ext.specs.Requests.{items_named};
 ghost use Rattle.norm_ext.specs.RequestView.{request_of};
 ghost use Rattle.norm_ext.specs.Asking.{pairs, is_proper};
+ghost use Rattle.norm_ext.specs.Items.{position_named};
 ghost use Rattle.norm_send_rules.specs.Closing.{gives_something};
-ghost use Rattle.nack_union.specs.Earliest.{lesser, least_with, earliest, is_below_first, index_named, place_named, begins_of};
+ghost use Rattle.nack_union.specs.Earliest.{lesser, least_with, earliest, is_below_first, item_index, begins_of};
 
-use crate::asking::{is_before, position_of, split_item};
-use crate::marks::has_flag;
 use norm_base::Profile;
 use norm_ext::flags::{WANT_BLOCK, WANT_INFO, WANT_OBJECT, WANT_SEGMENT};
+use norm_ext::items::{has_flag, position_of, split_item};
 use norm_ext::{Form, Request};
 
 /// The lesser of two indexes, where there are any.
@@ -51,7 +51,7 @@ fn gives_something(request: &Request<'_>) -> bool
 
 /// The least index that some items name.
 fn least_of_items(profile: &Profile, items: &[u8]) -> Option<u32>
-    ensures { result ≡ least_with None (map (index_named profile.now) (items_named items.now)) }
+    ensures { result ≡ least_with None (map (item_index profile.now) (items_named items.now)) }
 {
     let mut least = None;
     let mut rest = items;
@@ -64,7 +64,7 @@ fn least_of_items(profile: &Profile, items: &[u8]) -> Option<u32>
 
 /// The least index that a range begins with, of some pairs of items. Empty ranges do not count.
 fn least_of_ranges(profile: &Profile, items: &[u8]) -> Option<u32>
-    ensures { result ≡ least_with None (begins_of (map (place_named profile.now) (items_named items.now))) }
+    ensures { result ≡ least_with None (begins_of (map (position_named profile.now) (items_named items.now))) }
 {
     let mut least = None;
     let mut rest = items;
@@ -74,7 +74,7 @@ fn least_of_ranges(profile: &Profile, items: &[u8]) -> Option<u32>
         };
         let first = position_of(profile, item);
         let last = position_of(profile, other);
-        if !is_before(&last, &first) {
+        if !last.is_before(&first) {
             least = lesser(least, Some(first.index));
         }
         rest = behind;

@@ -15,6 +15,7 @@ pub mod ObjectIds
 pub mod Fitting
 pub mod Asked
 pub mod Asking
+pub mod Items
 pub mod Spells
 pub mod Layouts
 pub mod Applies

@@ -1,7 +1,7 @@
 use Rattle.std.proofs.Common.{◌∙◌, ap, subst, List}
 use Rattle.std.specs.List.{AllByRecursion}
+use Rattle.norm_order.specs.Sets.{Rises}
 use Rattle.nack_union.specs.Kept.{Kept, Marked}
-use Rattle.nack_union.specs.More.{Rises}
 use Rattle.nack_union.specs.Adding.{IsPlanned}
 use Rattle.nack_union.proofs.Added.{stands_added, collects_more}
 use Rattle.nack_union.proofs.Summed.{added_parts}
