@@ -15,6 +15,3 @@ pub use crate::plan::{
     LEAST_SYMBOL, MOST_BLOCKS, MOST_SOURCES, MOST_SYMBOL, PLACE_OCTETS, Plan, PlanFault,
 };
 pub use crate::position::{Point, Position, reached_by};
-
-#[cfg(test)]
-mod tests;

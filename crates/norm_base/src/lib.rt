@@ -29,6 +29,3 @@ pub use crate::octets::{Octets, Text};
 pub use crate::profile::Profile;
 pub use crate::sink::Sink;
 pub use crate::source::Source;
-
-#[cfg(test)]
-mod tests;

@@ -9,6 +9,3 @@ pub use crate::grammar::{
     DataMsg, InfoMsg, StreamPart, read_data, read_info, read_part, write_data, write_info,
 };
 pub use norm_ext::ObjHead;
-
-#[cfg(test)]
-mod tests;

@@ -7,10 +7,10 @@ ghost use Rattle.norm_program.specs.Commands.{is_show, EndsBy, EndsWith, EndsUnr
 ghost use Rattle.norm_script.specs.Reading.{script_of};
 ghost use Rattle.norm_session.specs.SessionRun.{IsScript};
 
-use crate::words::WordsFault;
 use crate::input::{InputFault, read_all};
 use crate::show::show;
 use crate::status::{Ending, Status};
+use crate::words::WordsFault;
 use norm_base::{Clock, Fabric, Failed, Files, Memory, Sink, Source};
 use norm_script::{Extent, read};
 use norm_session::{Ended, Script, SessionFault, run_session};
@@ -250,14 +250,7 @@ fn explain(rt: &impl Eprint, ending: &Ending) {
 
 /// The program as a process: the words after its name, or why there are none, and the objects that it
 /// has. Its exit code is the status of `norm_main` for these words. Why a line was refused goes to standard error.
-pub fn run<
-    R: Threads + Wait + Sync + Eprint,
-    S: Source,
-    K: Sink,
-    F: Fabric,
-    D: Files,
-    C: Clock,
->(
+pub fn run<R: Threads + Wait + Sync + Eprint, S: Source, K: Sink, F: Fabric, D: Files, C: Clock>(
     rt: &R,
     alloc: Global,
     words: Result<Vec<String>, WordsFault>,

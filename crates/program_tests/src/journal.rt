@@ -21,30 +21,15 @@ fn gives(alloc: Global, kind: Kind, gave: &Result<Receipt, SendFault>, text: &[u
     }
 }
 
-/// What a command was given, and its line.
-const GIVEN: [(Kind, Result<Receipt, SendFault>, &[u8]); 3] = [
-    (
-        Kind::File,
-        Ok(Receipt::Object { index: 2, len: 5 }),
-        b"enq 3 12 7 2 file 5\n",
-    ),
-    (
-        Kind::Data,
-        Err(SendFault::Enqueue(EnqueueFault::TooBig { len: 600 })),
-        b"no 3 12 too-big 600\n",
-    ),
-    (
-        Kind::Data,
-        Err(SendFault::Enqueue(EnqueueFault::WindowFull { first: 0 })),
-        b"",
-    ),
-];
-
 #[test]
 fn what_is_given_has_its_line(rt: HostRuntime) {
-    for (row, (kind, gave, text)) in GIVEN.into_iter().enumerate() {
-        assert!(rt; gives(rt.alloc(), kind, &gave, text), "row {row}");
-    }
+    let alloc = rt.alloc();
+    let object = Ok(Receipt::Object { index: 2, len: 5 });
+    assert!(rt; gives(alloc, Kind::File, &object, b"enq 3 12 7 2 file 5\n"));
+    let big = Err(SendFault::Enqueue(EnqueueFault::TooBig { len: 600 }));
+    assert!(rt; gives(alloc, Kind::Data, &big, b"no 3 12 too-big 600\n"));
+    let full = Err(SendFault::Enqueue(EnqueueFault::WindowFull { first: 0 }));
+    assert!(rt; gives(alloc, Kind::Data, &full, b""));
 }
 
 /// Whether the line of these news is this one.

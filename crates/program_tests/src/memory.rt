@@ -3,7 +3,8 @@
 use crate::calls::{Call, answers, moments, offers, reads, writes};
 use norm_base::{Fabric, FabricFault, FileFault, Files, Local, Moment, NodeId, Profile};
 use norm_memory::{
-    ChanceFabric, DirectFabric, FeedFabric, ListFabric, MemClock, MemFiles, MemSink, MemSource, Rule,
+    ChanceFabric, DirectFabric, FeedFabric, ListFabric, MemClock, MemFiles, MemSink, MemSource,
+    Rule,
 };
 use std::alloc::{AllocError, Global};
 use std::test::Fail;

@@ -36,10 +36,7 @@ fn source(alloc: Global, input: &[u8], fails: Fails) -> Result<MemSource, AllocE
         Fails::Read(number) => Some(number),
         _ => None,
     };
-    Ok(MemSource::of(
-        Vec::from_slice(alloc, input)?,
-        list(alloc, read)?,
-    ))
+    Ok(MemSource::of(Vec::from_slice(alloc, input)?, list(alloc, read)?))
 }
 
 /// A sink, whose listed write fails.
@@ -241,14 +238,7 @@ fn a_session_offers_the_one_datagram_of_its_object(rt: HostRuntime) -> Result<()
     let mut input = source(alloc, GREETING, Fails::Nothing)?;
     let mut output = sink(alloc, Fails::Nothing)?;
     let mut fabric = network(alloc, Fails::Nothing)?;
-    let status = ran(
-        &rt,
-        alloc,
-        "session",
-        &mut input,
-        &mut output,
-        &mut fabric,
-    )?;
+    let status = ran(&rt, alloc, "session", &mut input, &mut output, &mut fabric)?;
     assert!(rt; status == 0);
     let want =
         b"\x01\x12\x08\0\0\0\0\0\x01\0\x07\x40\x41\0\x05\0\0\0\0\0\0\x40\x03\0\0\0\0\0\x05\0\x40\x04\x06hello";
@@ -267,14 +257,7 @@ fn disturbed<R: Threads + Wait + Sync + Abort>(
     let mut input = source(alloc, input, Fails::Nothing)?;
     let mut output = sink(alloc, Fails::Nothing)?;
     let mut fabric = DisturbedFabric::of(alloc, Vec::from_slice(alloc, order)?, turned);
-    let status = ran(
-        rt,
-        alloc,
-        "session",
-        &mut input,
-        &mut output,
-        &mut fabric,
-    )?;
+    let status = ran(rt, alloc, "session", &mut input, &mut output, &mut fabric)?;
     assert!(rt; status == 0);
     Ok(output)
 }

@@ -169,7 +169,10 @@ const REASONS: [(&[u8], Extent, &str); 6] = [
 #[test]
 fn a_reason_is_one_sentence(rt: HostRuntime) -> Result<(), Fail> {
     for (text, extent, reason) in REASONS {
-        assert!(rt; said(rt.alloc(), text, extent)?.as_str() == reason, "{reason}");
+        assert!(rt;
+            said(rt.alloc(), text, extent)?.as_str() == reason,
+            "{reason}"
+        );
     }
     Ok(())
 }
@@ -219,10 +222,14 @@ fn refused_command(alloc: Global, text: &[u8]) -> bool {
 fn without_verb(alloc: Global, text: &[u8]) -> u32 {
     match why_refused(alloc, text) {
         Ok(None) => 0,
-        Ok(Some(Refusal {
-            line,
-            why: Why::NoVerb,
-        })) => line,
+        Ok(
+            Some(
+                Refusal {
+                    line,
+                    why: Why::NoVerb,
+                },
+            ),
+        ) => line,
         _ => u32::MAX,
     }
 }
