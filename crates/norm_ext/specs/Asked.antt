@@ -1,5 +1,5 @@
 -- Repair requests written item by item (RFC 5740 section 4.3.1): neighbours of one form and the same flags share a request.
-use Rattle.std.specs.Prelude.{ℕ, ◌*◌, ◌==◌, ◌&&◌, ◌≡◌, ◌≢◌, ◌<◌, ◌≤◌, Bool, List, [], ◌∷◌, ◌++◌, length, Option, Some, None, if◌then◌else◌}
+use Rattle.std.specs.Prelude.{ℕ, ◌+◌, ◌*◌, ◌==◌, ◌&&◌, ◌≡◌, ◌≢◌, ◌<◌, ◌≤◌, Bool, false, List, [], ◌∷◌, ◌++◌, length, Option, Some, None, if◌then◌else◌}
 use Rattle.std.specs.Option.{option_map}
 use Rattle.std.specs.List.{last_or}
 use Rattle.norm_ext.specs.Numbers.{form_number}
@@ -44,6 +44,15 @@ abbrev pub asked_before : Asked → List Request → List Request
 asked_before a [] = request_alone a ∷ []
 asked_before a (r ∷ requests) =
     if is_like a r then record r { items = asked_items a ++ r.items } ∷ requests else request_alone a ∷ r ∷ requests
+
+-- it shares the request of what was asked before it
+abbrev pub joins : Option Asked → Asked → Bool
+joins None a = false
+joins (Some before) a = is_like a (request_alone before)
+
+-- the octets that it takes behind what was asked before it: eight for each item, and four of a request that it begins
+abbrev pub octets_behind : Option Asked → Asked → ℕ
+octets_behind before a = 8 * length (asked_items a) + (if joins before a then 0 else 4)
 
 -- what is asked for, one after the other, as requests
 abbrev pub requests_asked : List Asked → List Request

@@ -7,10 +7,10 @@ use Rattle.norm_journal.specs.Judged.{Judged}
 
 -- a take gives what another member offered
 abbrev pub IsHonest : Judged → Event → Type 0
-IsHonest j (event.Took to octets) = LawfulDelivery j.world to octets
+IsHonest j (event.Took to octets) = LawfulDelivery j.profile j.world to octets
 IsHonest j _ = ⊤
 
 -- The same as a test.
 abbrev pub is_honest : Judged → Event → Bool
-is_honest j (event.Took to octets) = is_lawful_delivery j.world to octets
+is_honest j (event.Took to octets) = is_lawful_delivery j.profile j.world to octets
 is_honest j _ = true
