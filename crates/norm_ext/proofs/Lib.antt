@@ -17,3 +17,4 @@ pub mod FirstRefusal
 pub mod AskedLemmas
 pub mod AskedAgain
 pub mod LawsHold
+pub mod IdLemmas

@@ -3,32 +3,28 @@
 use Rattle.std.specs.Prelude.{ℕ, ◌+◌, ◌-◌, ◌%◌, nat_lt, ◌||◌, Option, Some, None, if◌then◌else◌}
 use Rattle.norm_base.specs.Settings.{Settings}
 
--- so many ids there are
-abbrev pub all_ids : ℕ
-all_ids = 65536
-
 -- the greatest index of an object
 abbrev pub last_index : ℕ
 last_index = 4294967294
 
 -- the object transport id of an index
 abbrev pub object_id : Settings → ℕ → ℕ
-object_id p index = (p.first + index) % all_ids
-
--- how many ids lie between one and a later one, going round
-abbrev pub ids_from : ℕ → ℕ → ℕ
-ids_from from object = (all_ids + object - from) % all_ids
+object_id p index = (p.first + index) % 65536
 
 -- the index of an object transport id
 abbrev pub index_of : Settings → ℕ → ℕ
-index_of p object = ids_from p.first object
+index_of p object = (65536 + object - p.first) % 65536
 
--- the index that is so much less than this, where there is such an index
+-- how many ids lie between one and a later one, going round
+abbrev pub ids_from : ℕ → ℕ → ℕ
+ids_from from object = (65536 + object - from) % 65536
+
+-- the index that is a round less than this, where an object can have that
 abbrev pub index_round_below : ℕ → Option ℕ
-index_round_below n = if nat_lt n all_ids || nat_lt (last_index + all_ids) n then None else Some (n - all_ids)
+index_round_below n = if nat_lt n 65536 || nat_lt (last_index + 65536) n then None else Some (n - 65536)
 
--- The index that an id names to a node that knows indices up to one: of the 65,536 from 32,768 below that on, the one
--- that has the id, and nothing where no object can have it. (The sum is of the round above, since an index 32,768 below
+-- The index that an id names to a node that knows indices up to this one: of the 65,536 from 32,768 below it on, the one
+-- that has the id; nothing where no object can have that index. (The sum is a round above, since an index 32,768 below
 -- may be below 0.)
 abbrev pub index_named : Settings → ℕ → ℕ → Option ℕ
 index_named p known object = index_round_below (known + 32768 + ids_from (object_id p (known + 32768)) object)

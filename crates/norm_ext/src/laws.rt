@@ -1,6 +1,6 @@
-//! What is promised of the grammar. Each law is the contract of a function that does nothing.
+//! What is promised of the grammar and of object ids. Each law is the contract of a function that does nothing.
 
-ghost use Rattle.norm_ext.specs.Laws.{ReadIsSpelled, SpelledIsRead, SpellsOne, ReadAgain, RefusedIsFirst, FirstIsRefused, SpelledIsNotRefused, AskedIsRead};
+ghost use Rattle.norm_ext.specs.Laws.{ReadIsSpelled, SpelledIsRead, SpellsOne, ReadAgain, RefusedIsFirst, FirstIsRefused, SpelledIsNotRefused, AskedIsRead, NamesNearest, NamedAgain};
 
 /// What is read of octets is spelled by them.
 pub fn read_is_spelled()
@@ -43,4 +43,15 @@ pub fn spelled_is_not_refused()
 /// requests that the items make.
 pub fn asked_is_read()
     ensures { AskedIsRead }
+{}
+
+/// An id names the index that has it within 32,768 below and 32,767 above what is known, where there is such an index,
+/// and no other.
+pub fn names_nearest()
+    ensures { NamesNearest }
+{}
+
+/// The id of an index within 32,767 of what is known names that index.
+pub fn named_again()
+    ensures { NamedAgain }
 {}

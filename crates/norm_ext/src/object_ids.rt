@@ -1,0 +1,44 @@
+//! Object transport ids and the indices that they name (RFC 5740 section 4.2.1).
+
+ghost use Rattle.std.specs.Prelude.{◌≡◌, ◌^◌, ◌<◌};
+ghost use Rattle.norm_ext.specs.ObjectIds.{object_id as id_of_index, index_named as index_of_id};
+
+use norm_base::Profile;
+
+/// So many ids there are.
+const ALL_IDS: u64 = 65_536;
+/// How far below what is known an id still names an index.
+const BELOW: u64 = 32_768;
+/// The greatest index of an object.
+pub const LAST_INDEX: u32 = 4_294_967_294;
+
+/// The id of an index, or of what would be one behind the last.
+fn id_of(profile: &Profile, index: u64) -> u64
+    requires { index < 2 ^ 33 }
+    ensures exact { result ≡ id_of_index profile.now index }
+    ensures small { result < 65536 }
+{
+    (u64::from(profile.first) + index) % ALL_IDS
+}
+
+/// The id of the object with this index.
+pub fn object_id(profile: &Profile, index: u32) -> u16
+    ensures { result ≡ id_of_index profile.now index }
+{
+    id_of(profile, u64::from(index)) as u16
+}
+
+/// The index that an id names to a node that knows indices up to this one: the one that has the id, of those from 32,768
+/// below to 32,767 above. `None` where that is below 0 or above the last index.
+pub fn index_named(profile: &Profile, known: u32, object: u16) -> Option<u32>
+    ensures { result ≡ index_of_id profile.now known object }
+{
+    // A round above, where the index 32,768 below what is known is no negative number.
+    let lowest = u64::from(known) + BELOW;
+    let steps = (ALL_IDS + u64::from(object) - id_of(profile, lowest)) % ALL_IDS;
+    let named = lowest + steps;
+    if named < ALL_IDS || u64::from(LAST_INDEX) + ALL_IDS < named {
+        return None;
+    }
+    Some((named - ALL_IDS) as u32)
+}
