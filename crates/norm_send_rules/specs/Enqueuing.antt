@@ -3,6 +3,7 @@ use Rattle.std.specs.Prelude.{ℕ, ◌-◌, ◌==◌, List, [], ◌∷◌, ◌++
 use Rattle.norm_base.specs.Settings.{Settings}
 use Rattle.norm_base.specs.declared.kinds.Kind.{Kind}
 use Rattle.norm_base.specs.declared.node.Origin.{Origin}
+use Rattle.norm_ext.specs.ObjectIds.{last_index as last_of_all}
 use Rattle.norm_order.specs.First.{first_where}
 use Rattle.norm_order.specs.Entries.{Part, Object, Whole, Stream, Entry}
 use Rattle.norm_order.specs.Segments.{has_end}
@@ -24,9 +25,13 @@ open_parts (Stream parts) = elim (has_end parts) [ true ↦ None | false ↦ Som
 abbrev pub open_stream : SenderState → Option (List Part)
 open_stream s = elim (reverse s.current.order) [ [] ↦ None | entry ∷ entries ↦ open_parts entry.object ]
 
--- an object's index is a number of 32 bits below the last one, and all of them are used
+-- no object can have this index
+abbrev pub is_no_index : ℕ → Bool
+is_no_index index = nat_lt last_of_all index
+
+-- the instance's indices are all used
 abbrev pub ids_spent : SenderState → Bool
-ids_spent s = nat_le 4294967295 (next_index s)
+ids_spent s = is_no_index (next_index s)
 
 -- how many octets an info has; without one there are none
 abbrev pub info_length : Option (List ℕ) → ℕ
