@@ -1,5 +1,5 @@
 -- A step of a world, and a run: a list of events from the opening on.
-use Rattle.std.specs.Prelude.{ℕ, ◌==◌, List, fold, true, false, None, Some}
+use Rattle.std.specs.Prelude.{ℕ, ◌==◌, List, fold, Bool, true, false, Option, None, Some}
 use Rattle.norm_base.specs.Settings.{Settings}
 use Rattle.norm_send_rules.specs.SenderState.{SenderState}
 use Rattle.norm_send_rules.specs.SenderStep.{SenderEvent, SenderAnswer, sender_step}
@@ -18,20 +18,21 @@ pub data Move : Type 0 where
   OfNobody : Move
 
 -- the move of a node's receiver, where it has one
-abbrev pub receiver_move : World → ℕ → ReceiverEvent → Move
-receiver_move w node event = elim (receiver_at w node) [ Some r ↦ OfReceiver r event | None ↦ OfNobody ]
+abbrev pub receiver_move : Option ReceiverState → ReceiverEvent → Move
+receiver_move found event = elim found [ Some r ↦ OfReceiver r event | None ↦ OfNobody ]
 
 -- the move of the sender, or of a node's receiver
-abbrev pub node_move : Settings → World → ℕ → SenderEvent → ReceiverEvent → Move
-node_move p w node own event = elim (node == p.sender) [ true ↦ OfSender own | false ↦ receiver_move w node event ]
+abbrev pub node_move : Bool → Option ReceiverState → SenderEvent → ReceiverEvent → Move
+node_move is_own found own event = elim is_own [ true ↦ OfSender own | false ↦ receiver_move found event ]
 
 -- the move of an event: that of the node which it is for
 abbrev pub move_of : Settings → World → Event → Move
 move_of p w (Commanded by job now) = OfSender (sender.Commanded by job now)
-move_of p w (Delivered node datagram now draw) = node_move p w node (sender.Delivered datagram now) (receiver.Delivered datagram now draw)
-move_of p w (Ticked node now) = node_move p w node (sender.Ticked now) (receiver.Ticked now)
+move_of p w (Delivered node datagram now draw) =
+    node_move (node == p.sender) (receiver_at w node) (sender.Delivered datagram now) (receiver.Delivered datagram now draw)
+move_of p w (Ticked node now) = node_move (node == p.sender) (receiver_at w node) (sender.Ticked now) (receiver.Ticked now)
 move_of p w (Offered node octets) = OfNetwork node octets
-move_of p w (UpTaken node) = receiver_move w node receiver.UpTaken
+move_of p w (UpTaken node) = receiver_move (receiver_at w node) receiver.UpTaken
 move_of p w NewsAsked = OfSender sender.NewsAsked
 
 -- what the sender answers
@@ -57,13 +58,13 @@ abbrev pub after_sender : Settings → World → SenderState × SenderAnswer →
 after_sender p w step = answered p.sender (of_sender step.1) (record w { sender = step.0 })
 
 -- the world after a receiver's step
-abbrev pub after_receiver : World → ReceiverState × ReceiverAnswer → World × Answer
-after_receiver w step = answered step.0.node (of_receiver step.1) (with_receiver step.0 w)
+abbrev pub after_receiver : ℕ → World → ReceiverState × ReceiverAnswer → World × Answer
+after_receiver node w step = answered node (of_receiver step.1) (with_receiver step.0 w)
 
 -- the world after a move, and what is answered
 abbrev pub moved : Settings → World → Move → World × Answer
 moved p w (OfSender event) = after_sender p w (sender_step p w.sender event)
-moved p w (OfReceiver r event) = after_receiver w (receiver_step p r event)
+moved p w (OfReceiver r event) = after_receiver r.node w (receiver_step p r event)
 moved p w (OfNetwork node octets) = (with_offer node octets w, Silent)
 moved p w OfNobody = (w, Silent)
 
