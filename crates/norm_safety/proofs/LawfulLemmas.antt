@@ -119,7 +119,7 @@ may_come_decides p w accepted (Delivered node datagram now draw) = offered_decid
 may_come_decides p w accepted (Ticked node now) = taken_decides (receiver_at w node)
 may_come_decides p w accepted (Offered node datagram) = given_decides w node datagram
 may_come_decides p w accepted (UpTaken node) = (λ e. tt, λ h. refl)
-may_come_decides w accepted NewsAsked = (λ e. tt, λ h. refl)
+may_come_decides p w accepted NewsAsked = (λ e. tt, λ h. refl)
 
 lawful_from : (p : Settings) (w : World) (accepted : List Origin) (events : List Event)
     → Decides (is_lawful_from p w accepted events) (LawfulFrom p w accepted events)
