@@ -6,8 +6,6 @@ pub mod WordsLemmas
 pub mod SaidLemmas
 pub mod CountLemmas
 pub mod PullLemmas
-pub mod DigitLemmas
-pub mod NodeLemmas
 pub mod WorldLemmas
 pub mod NameLemmas
 pub mod LawfulLemmas

@@ -31,7 +31,8 @@ use Rattle.norm_journal.specs.Judged.{Judged}
 use Rattle.norm_journal.specs.Lines.{Reason, reason_of, number_words, gave_line, up_line, news_line, no_line}
 use Rattle.norm_journal.specs.Printed.{instance_now, kind_offered, left_in, line_of}
 use Rattle.norm_journal.specs.Said.{Said, Enqueued, Opened, Wrote, Closed, Marked, Restarted, Refused, HandedUp, Listed, Satisfied, Expired, Cut, Summary, gave_said, news_said, said_of, Is64, OriginInRange, PositionInRange, OctetsInRange, UpInRange, FaultInRange, InRange, LinesReadBack}
-use Rattle.norm_journal.specs.Words.{line, kind_word, info_word, position_words, node_words}
+use Rattle.norm_text.specs.Words.{line, kind_word, info_word}
+use Rattle.norm_journal.specs.Words.{position_words, node_words}
 use Rattle.norm_journal.proofs.WordsLemmas.{AreWords, line-back}
 
 clash : false ≡ true → ⊥

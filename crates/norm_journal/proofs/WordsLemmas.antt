@@ -4,7 +4,7 @@ use Rattle.std.specs.Prelude.{⊤}
 use Rattle.std.proofs.lemmas.Option.{none-some, some_pair_parts}
 use Rattle.norm_script.specs.Text.{split_at_first}
 use Rattle.norm_script.proofs.WordLemmas.{is_inner, is_word, both, split-word}
-use Rattle.norm_journal.specs.Words.{with_words, line}
+use Rattle.norm_text.specs.Words.{with_words, line}
 
 -- each of these is a word: without a space or a line feed
 abbrev pub AreWords : List (List ℕ) → Type 0

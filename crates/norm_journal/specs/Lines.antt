@@ -23,7 +23,8 @@ use Rattle.norm_send_rules.specs.declared.news.News.TheVariants as news
 use Rattle.norm_send_rules.specs.declared.news.Outcome.{Outcome}
 use Rattle.norm_send_rules.specs.declared.news.Outcome.TheVariants as outcome
 use Rattle.norm_journal.specs.declared.totals.Totals.{Totals}
-use Rattle.norm_journal.specs.Words.{line, kind_word, info_word, origin_words, position_words, node_words}
+use Rattle.norm_text.specs.Words.{line, kind_word, info_word}
+use Rattle.norm_journal.specs.Words.{origin_words, position_words, node_words}
 
 -- an accepted command, in the sender's instance
 abbrev pub enq_line : Origin → ℕ → ℕ → List (List ℕ) → List ℕ

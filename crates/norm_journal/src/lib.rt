@@ -6,7 +6,6 @@
 
 mod event;
 pub mod laws;
-mod line;
 mod lines;
 #[cfg(test)]
 mod tests;

@@ -2,17 +2,17 @@
 
 ghost use Rattle.std.specs.Prelude.{◌≡◌, ◌∷◌, [], ◌++◌, codes, decimal, length, IfOk, OnOk};
 ghost use Rattle.std.specs.Option.{option_map};
-ghost use Rattle.norm_journal.specs.Words.{with_word, with_words, line};
+ghost use Rattle.norm_text.specs.Words.{with_word, with_words, line, kind_word, info_word};
 ghost use Rattle.norm_journal.specs.Lines.{enq_line, receipt_line, no_line, gave_line, part_line, up_line, done_line, news_line, reason_of, enqueue_reason, number_words};
-ghost use Rattle.norm_journal.specs.Words.{kind_word, info_word, origin_words, position_words, node_words};
+ghost use Rattle.norm_journal.specs.Words.{origin_words, position_words, node_words};
 ghost use Rattle.hex.specs.Hex.{encode_lower};
 
-use crate::line::Line;
-use crate::words::{kind_word, put_info, put_origin, put_position};
+use crate::words::{put_origin, put_position};
 use fec_plan::Position;
 use norm_base::{InstanceId, Kind, NodeId, Octets, Origin};
 use norm_order::Up;
 use norm_send_rules::{EnqueueFault, MarkFault, News, Outcome, Receipt, SendFault, StreamFault};
+use norm_text::{Line, kind_word};
 use std::alloc::{AllocError, Global};
 
 /// The beginning of an accepted command's line: its name, the sender's instance, and the object's index.
@@ -237,7 +237,7 @@ fn object_up_line(
     let mut line = begin_up(alloc, node, instance, index, contents_of(info, octets))?;
     line.word(kind_word(kind).as_bytes())?;
     line.number(octets.len() as u64)?;
-    put_info(&mut line, info)?;
+    line.info(info)?;
     line.contents(octets)?;
     line.end()
 }

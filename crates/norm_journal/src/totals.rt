@@ -1,13 +1,13 @@
 //! The counts of a run's summary.
 
 ghost use Rattle.std.specs.Prelude.{◌≡◌, ◌∷◌, [], decimal, IfOk, OnOk};
-ghost use Rattle.norm_journal.specs.Words.{with_words};
+ghost use Rattle.norm_text.specs.Words.{with_words};
 ghost use Rattle.norm_journal.specs.Lines.{end_line};
 ghost use Rattle.norm_journal.specs.Totals.{nothing_counted, with_gave, with_up, with_news, CountsFit};
 
-use crate::line::Line;
 use norm_order::Up;
 use norm_send_rules::{News, Outcome, Receipt, SendFault};
+use norm_text::Line;
 use std::alloc::{AllocError, Global};
 
 /// What a run counts.

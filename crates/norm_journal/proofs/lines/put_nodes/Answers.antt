@@ -1,9 +1,9 @@
 use Rattle.std.proofs.Common.{arith}
 use Rattle.std.proofs.lemmas.Grind.{common_steps}
-use Rattle.norm_journal.proofs.NodeLemmas.{one_more_node}
+use Rattle.norm_text.proofs.WordLemmas.{one_more_number}
 use Rattle.norm_journal.proofs.lines.put_nodes.Goals as goal
 
 pub loop-node-preserved : goal.loop-node-preserved
 loop-node-preserved c =
-    one_more_node c.args.line.now c.loop-node.line c.put_node.new.line c.args.nodes.now c.loop-node.node-index
+    one_more_number 32 c.args.line.now c.loop-node.line c.put_node.new.line c.args.nodes.now c.loop-node.node-index
     (grind (arith, common_steps)) c.loop-node.invariant (grind (arith, common_steps))

@@ -1,5 +1,6 @@
 use Rattle.std.proofs.Common.{◌≡◌, take}
-use Rattle.norm_journal.specs.Words.{with_words, node_words}
+use Rattle.norm_text.specs.Words.{with_words}
+use Rattle.norm_journal.specs.Words.{node_words}
 use Rattle.norm_journal.proofs.lines.put_nodes.Given as goal
 
 -- the words of the nodes so far

@@ -1,7 +1,0 @@
-use Rattle.std.proofs.Common.{◌≡◌, ◌++◌, take}
-use Rattle.hex.specs.Hex.{encode_lower}
-use Rattle.norm_journal.proofs.line.put_digits.Given as goal
-
--- the digits of the octets so far
-abbrev pub invariant-loop-octet : goal.invariant-loop-octet
-invariant-loop-octet l = l.text.items ≡ l.fn.text.items ++ encode_lower (take l.octet-index l.octets)

@@ -1,0 +1,116 @@
+//! Octets as lower-case hexadecimal digits, 64 of them at a time: both halves of each are looked up in a table of sixteen
+//! digits.
+
+ghost use Rattle.std.specs.Prelude.{◌≡◌, ◌+◌, ◌*◌, ◌/◌, ◌%◌, ◌<◌, ◌≤◌, ◌++◌, length, map, replicate, slice_index, OnOk, OnErr, ◌-◌};
+ghost use Rattle.std.specs.Vec.{vec_len, vec_capacity};
+ghost use Rattle.hex.specs.Hex.{encode_lower, lower_digits};
+
+use std::alloc::AllocError;
+use std::simd::prelude::*;
+
+/// How many octets are turned at a time.
+const LANES: usize = 64;
+
+/// The sixteen digits, four times over.
+const DIGITS: [u8; 64] = *b"0123456789abcdef0123456789abcdef0123456789abcdef0123456789abcdef";
+
+/// The digit of the high half of each lane.
+#[inline(always)]
+fn high_digits(lanes: u8x64) -> u8x64
+    ensures { result ≡ map (λ x. slice_index lower_digits (x / 16)) lanes }
+{
+    u8x64::from_array(DIGITS).swizzle_dyn_within::<16>(lanes >> u8x64::splat(4))
+}
+
+/// The digit of the low half of each lane.
+#[inline(always)]
+fn low_digits(lanes: u8x64) -> u8x64
+    ensures { result ≡ map (λ x. slice_index lower_digits (x % 16)) lanes }
+{
+    u8x64::from_array(DIGITS).swizzle_dyn_within::<16>(lanes & u8x64::splat(15))
+}
+
+/// The digits of each lane, in two halves.
+#[inline(always)]
+fn halves_of(lanes: u8x64) -> (u8x64, u8x64)
+    ensures digits { result.0 ++ result.1 ≡ encode_lower lanes }
+    ensures front { length result.0 ≡ 64 }
+    ensures behind { length result.1 ≡ 64 }
+{
+    high_digits(lanes).interleave(low_digits(lanes))
+}
+
+/// The digits of each lane.
+#[inline(always)]
+fn digits_of(lanes: u8x64) -> [u8; 128]
+    ensures { result ≡ encode_lower lanes }
+{
+    let (front, behind) = halves_of(lanes);
+    let mut digits = [0; 128];
+    digits[..64].copy_from_slice(&front.to_array());
+    digits[64..].copy_from_slice(&behind.to_array());
+    digits
+}
+
+/// Fewer than 64 octets, and zeros behind them.
+fn padded(octets: &[u8]) -> u8x64
+    requires { length octets.now < 64 }
+    ensures { result ≡ octets.now ++ replicate (64 - length octets.now) 0 }
+{
+    let mut lanes = [0; LANES];
+    lanes[..octets.len()].copy_from_slice(octets);
+    u8x64::from_array(lanes)
+}
+
+/// Puts the digits of fewer than 64 octets behind a text that has room for them.
+fn put_few(text: &mut Vec<u8>, octets: &[u8])
+    requires few { length octets.now < 64 }
+    requires room { vec_len text.old + 2 * length octets.now ≤ vec_capacity text.old }
+    ensures { text.new.items ≡ text.old.items ++ encode_lower octets.now }
+{
+    if octets.is_empty() {
+        return;
+    }
+    let digits = digits_of(padded(octets));
+    text.extend_from_slice(&digits[..2 * octets.len()]).unwrap();
+}
+
+/// Puts the digits of 64 octets behind a text that has room for them.
+#[inline(always)]
+fn put_lanes(text: &mut Vec<u8>, octets: &[u8])
+    requires whole { length octets.now ≡ 64 }
+    requires room { vec_len text.old + 128 ≤ vec_capacity text.old }
+    ensures digits { text.new.items ≡ text.old.items ++ encode_lower octets.now }
+    ensures len { vec_len text.new ≡ vec_len text.old + 128 }
+    ensures capacity { vec_capacity text.old ≤ vec_capacity text.new }
+{
+    text.extend_from_slice(&digits_of(u8x64::from_slice(octets)))
+        .unwrap();
+}
+
+/// Puts octets behind a text that has room for them, each as two lower-case hexadecimal digits.
+pub fn put_digits(text: &mut Vec<u8>, octets: &[u8])
+    requires { vec_len text.old + 2 * length octets.now ≤ vec_capacity text.old }
+    ensures { text.new.items ≡ text.old.items ++ encode_lower octets.now }
+{
+    let mut rest = octets;
+    'lanes: while rest.len() >= LANES {
+        let (front, behind) = rest.split_at(LANES);
+        put_lanes(text, front);
+        rest = behind;
+    }
+    put_few(text, rest);
+}
+
+/// Puts octets behind a text, each as two lower-case hexadecimal digits. Where there is no memory the text stays.
+pub fn push_digits(text: &mut Vec<u8>, octets: &[u8]) -> Result<(), AllocError>
+    ensures digits { OnOk result (text.new.items ≡ text.old.items ++ encode_lower octets.now) }
+    ensures refused { OnErr result (text.new.items ≡ text.old.items) }
+{
+    let Some(room) = octets.len().checked_mul(2) else {
+        return Err(AllocError);
+    };
+    text.reserve(room)?;
+    put_digits(text, octets);
+    Ok(())
+}

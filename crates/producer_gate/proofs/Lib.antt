@@ -1,0 +1,5 @@
+pub mod Calls
+pub mod Names
+pub mod Numbered
+pub mod Settles
+pub mod Steps

@@ -1,0 +1,5 @@
+pub mod Commands
+pub mod Inside
+pub mod Ring
+pub mod Seats
+pub mod Views

@@ -1,0 +1,155 @@
+//! The ring between producers and the one who pulls.
+ghost use Rattle.std.specs.Prelude.{◌≡◌, ◌≤◌, All, IfOk, map, sum_by, vec_len};
+ghost use Rattle.producer_gate.specs.Commands.{named};
+ghost use Rattle.producer_gate.specs.Seats.{SubmitEnds, PullEnds, HasNumbers, IsFront, left_of, new_seats, new_pull};
+
+use crate::command::{GateFault, Order, Submitted};
+use crate::knows::{Adds, Own, Ring, Takes};
+use crate::settle::{rest_of, seats_of};
+use norm_base::Memory;
+use std::alloc::Global;
+use std::marker::Model;
+use std::sync::Wait;
+
+/// The most commands that one producer submits.
+const MOST: u64 = 4096;
+
+/// The ring. Threads share it by reference.
+#[derive(Drop)]
+pub struct Gate {
+    ring: Ring,
+    producers: u32,
+}
+
+impl Model for Gate {
+    ghost use Rattle.producer_gate.specs.Seats.{GateState};
+
+    ghost Value = { GateState };
+
+    ghost use Rattle.producer_gate.specs.Inside.{gate_state, IsGate};
+
+    ghost view = { gate_state };
+
+    ghost invariant = { IsGate };
+}
+
+/// What one producer submits with. A thread owns it, and it knows what it submitted.
+#[derive(Drop)]
+pub struct Seat {
+    pub(crate) pass: Own,
+    pub(crate) producer: u32,
+    pub(crate) count: u64,
+}
+
+impl Model for Seat {
+    ghost use Rattle.producer_gate.specs.Seats.{SeatState};
+
+    ghost Value = { SeatState };
+
+    ghost use Rattle.producer_gate.specs.Inside.{seat_state, IsSeat};
+
+    ghost view = { seat_state };
+
+    ghost invariant = { IsSeat };
+}
+
+/// What commands are pulled with. One thread owns it, and it knows what it pulled.
+#[derive(Drop)]
+pub struct PullSeat {
+    pass: Own,
+    names: Vec<(u32, u64)>,
+}
+
+impl Model for PullSeat {
+    ghost use Rattle.producer_gate.specs.Seats.{PullState};
+
+    ghost Value = { PullState };
+
+    ghost use Rattle.producer_gate.specs.Inside.{pull_state, IsPullSeat};
+
+    ghost view = { pull_state };
+
+    ghost invariant = { IsPullSeat };
+}
+
+impl Gate {
+    /// A gate for 1 to 4 producers, over a ring of 1 to 16,384 commands, with the seat of each producer in their order.
+    pub fn new(
+        alloc: Global,
+        producers: u32,
+        capacity: u32,
+    ) -> Result<(Gate, Vec<Seat>, PullSeat), Memory>
+        requires producers { (1 ≤ producers) × (producers ≤ 4) }
+        requires capacity { (1 ≤ capacity) × (capacity ≤ 16384) }
+        ensures gate { IfOk result (λ made. (made.0.producers ≡ producers) × (made.0.capacity ≡ capacity)) }
+        ensures seats { IfOk result (λ made. made.1.items ≡ new_seats made.0.id producers) }
+        ensures pull { IfOk result (λ made. made.2 ≡ new_pull made.0.id producers) }
+    {
+        let (ring, mut pass) = Ring::ruled(alloc, capacity as usize)?;
+        let names = Vec::with_capacity(alloc, producers as usize * MOST as usize)?;
+        let seats = seats_of(alloc, &ring, &mut pass, producers)?;
+        Ok((Gate { ring, producers }, seats, PullSeat { pass, names }))
+    }
+
+    /// Submits an item, and answers its number among those of this seat. What is refused comes back: where the ring was full,
+    /// it may be tried again.
+    pub fn submit<R: Wait>(
+        &self,
+        rt: &R,
+        seat: &mut Seat,
+        item: u32,
+    ) -> Result<u64, (u32, GateFault)>
+        requires { seat.old.gate ≡ self.now.id }
+        ensures { SubmitEnds self.now seat.old item result seat.new }
+    {
+        if seat.count >= MOST {
+            return Err((item, GateFault::TooMany));
+        }
+        let number = seat.count + 1;
+        let command = Submitted {
+            producer: seat.producer,
+            number,
+            item,
+        };
+        match self.ring.push_as::<Adds, R>(rt, &mut seat.pass, command) {
+            Ok(()) => {
+                seat.count = number;
+                Ok(number)
+            }
+            Err(_) => Err((item, GateFault::Full)),
+        }
+    }
+
+    /// Pulls the oldest command. There was none where the ring was empty at some moment of this call.
+    pub fn pull<R: Wait>(&self, rt: &R, seat: &mut PullSeat) -> Option<Submitted>
+        requires { seat.old.gate ≡ self.now.id }
+        ensures { PullEnds seat.old result seat.new }
+    {
+        match self.ring.pop_as::<Takes, R>(rt, &mut seat.pass) {
+            Some(command) => {
+                seat.names.push_reserved((command.producer, command.number));
+                Some(command)
+            }
+            None => None,
+        }
+    }
+
+    /// Ends a gate whose seats have all come back: what was pulled, in order, and how much was not.
+    pub fn close(self, seats: Vec<Seat>, pull: PullSeat) -> Order
+        requires seats { All (λ s. s.gate ≡ self.id) seats.items }
+        requires every { vec_len seats ≡ self.producers }
+        requires pull { pull.gate ≡ self.id }
+        ensures pulled { result.pulled.items ≡ map named pull.pulled }
+        ensures numbers { All (HasNumbers result.pulled.items) seats.items }
+        ensures front { All (IsFront pull.pulled) seats.items }
+        ensures rest { result.rest ≡ sum_by (left_of pull.pulled) seats.items }
+    {
+        let Gate { ring, producers: _ } = self;
+        let PullSeat { mut pass, names } = pull;
+        let rest = rest_of(&ring, &mut pass, &names, seats);
+        Order {
+            pulled: names,
+            rest,
+        }
+    }
+}

@@ -1,0 +1,80 @@
+"""The keys of a profile, read from the one table that the program is proved by (crates/norm_base/specs/Keys.antt)."""
+from __future__ import annotations
+
+import functools
+import os
+import re
+from dataclasses import dataclass
+
+import norm_wire as wire
+from norm_wire import ToolFault
+
+ROOT = os.path.join(os.path.dirname(os.path.abspath(__file__)), '..')
+TABLE = os.path.join(ROOT, 'crates', 'norm_base', 'specs', 'Keys.antt')
+BUILT = os.path.join(ROOT, 'crates', 'norm_script', 'specs', 'Built.antt')
+NUMBERS = re.compile(r'^row_of key\.(\w+) = number_row (\d+) \(codes "(\w+)"\) (\d+) (\d+) (\d+)$', re.M)
+WORDS = re.compile(r'^row_of key\.(\w+) = word_row (\d+) \(codes "(\w+)"\) \((.*)\)$', re.M)
+ROWS = re.compile(r'^row_of key\.', re.M)
+MOST_BUFFERED = 16_777_216
+
+
+@dataclass(frozen=True)
+class Key:
+    """A key: its name in the definitions and in scripts, its least and greatest value and its default; of a key of words, its
+    words, from 0."""
+    variant: str
+    name: str
+    least: int
+    greatest: int
+    default: int
+    words: tuple[str, ...] = ()
+
+
+@functools.cache
+def keys() -> list[Key]:
+    """All keys in their order."""
+    text = wire.text_of(TABLE, wire.read_file(TABLE))
+    rows = {int(at): Key(variant, name, int(least), int(greatest), int(default))
+            for variant, at, name, least, greatest, default in NUMBERS.findall(text)}
+    for variant, at, name, listed in WORDS.findall(text):
+        words = tuple(re.findall(r'codes "(\w+)"', listed))
+        rows[int(at)] = Key(variant, name, 0, len(words) - 1, 0, words)
+    if not rows or sorted(rows) != list(range(len(ROWS.findall(text)))):
+        raise ToolFault(f'{TABLE} is no table of keys as this tool reads it.')
+    return [rows[at] for at in sorted(rows)]
+
+
+@functools.cache
+def unbuilt() -> list[str]:
+    """The keys that a script of today cannot set (crates/norm_script/specs/Built.antt says which it can)."""
+    if not os.path.exists(BUILT):
+        return []
+    text = wire.text_of(BUILT, wire.read_file(BUILT))
+    rows = dict(re.findall(r'^is_built_key (key(?:\.\w+)?) = (true|false)$', text, re.M))
+    others = rows.get('key', 'true')
+    return [key.name for key in keys() if rows.get(f'key.{key.variant}', others) == 'false']
+
+
+def defaults() -> dict[str, int]:
+    """Each key's default, with max_n's for the default b."""
+    return {key.name: key.default for key in keys()}
+
+
+def default_max_n(b: int) -> int:
+    """The default of max_n goes by b."""
+    return min(255, b + b // 2)
+
+
+def fault_of(given: dict[str, int]) -> str | None:
+    """Why the keys that are given are no profile with the defaults of all others, or None where they are one."""
+    for key in keys():
+        value = given.get(key.name, key.default)
+        if not key.least <= value <= key.greatest:
+            return f'{key.name} is {value}, and has to be {key.least} to {key.greatest}'
+    whole = {**defaults(), 'max_n': default_max_n(given.get('b', defaults()['b'])), **given}
+    if whole['max_n'] < whole['b']:
+        return f'max_n is {whole["max_n"]}, below b, which is {whole["b"]}'
+    buffered = whole['blocks'] * whole['b'] * whole['e']
+    if buffered > MOST_BUFFERED and 'blocks' in given:
+        return f'blocks * b * e is {buffered}, above {MOST_BUFFERED}'
+    return None
