@@ -1,10 +1,10 @@
 //! The items of repair requests, and what they ask of the objects of a window.
 
 ghost use Rattle.std.specs.Prelude.{◌≡◌, ◌+◌, ◌^◌, ◌<◌, ◌≤◌, ◌∷◌, [], ◌⊎◌, ℕ, MatchOption, get_or, length};
-ghost use Rattle.norm_ext.specs.ObjectIds.{index_of};
 ghost use Rattle.norm_ext.specs.Requests.{items_named};
-ghost use Rattle.norm_ext.specs.Asking.{span};
-ghost use Rattle.fec_plan.specs.Points.{position, position_before};
+ghost use Rattle.norm_ext.specs.Asking.{span, item_named};
+ghost use Rattle.nack_union.specs.Earliest.{both_of};
+ghost use Rattle.fec_plan.specs.Points.{position_before};
 ghost use Rattle.nack_union.specs.Kept.{Marked};
 ghost use Rattle.nack_union.specs.More.{MoreOf, named_part, Rises};
 ghost use Rattle.nack_union.specs.Adding.{IsPlanned};
@@ -13,7 +13,7 @@ ghost use Rattle.std.specs.List.{AllByRecursion};
 use crate::marks::{Marks, Named};
 use fec_plan::Position;
 use norm_base::Profile;
-use norm_ext::{Form, Item, Request};
+use norm_ext::{Form, Item, Request, index_named};
 
 /// The octets of an item.
 const ITEM: usize = 8;
@@ -50,14 +50,36 @@ pub fn split_pair(items: &[u8]) -> Option<(Item, Item, &[u8])>
     Some((request.item(0), request.item(1), items.split_at(2 * ITEM).1))
 }
 
-/// The symbol that an item names.
-pub fn position_of(profile: &Profile, item: Item) -> Position
-    ensures { result ≡ position (index_of profile.now item.object) item.id.block item.id.symbol }
+/// The symbol that an item names to a node that knows indices up to this one. `None` where the item names no index.
+pub fn position_of(profile: &Profile, known: u32, item: Item) -> Option<Position>
+    ensures { result ≡ item_named profile.now known item }
 {
-    Position {
-        index: (65_536 + u32::from(item.object) - u32::from(profile.first)) % 65_536,
-        block: item.id.block,
-        symbol: item.id.symbol,
+    match index_named(profile, known, item.object) {
+        None => None,
+        Some(index) => Some(Position {
+            index,
+            block: item.id.block,
+            symbol: item.id.symbol,
+        }),
+    }
+}
+
+/// The ends of the range that two items name. `None` where one of them names no index.
+pub fn ends_of(
+    profile: &Profile,
+    known: u32,
+    first: Item,
+    last: Item,
+) -> Option<(Position, Position)>
+    ensures { result ≡ both_of (item_named profile.now known first) (item_named profile.now known last) }
+{
+    match (
+        position_of(profile, known, first),
+        position_of(profile, known, last),
+    ) {
+        (Some(first), Some(last)) => Some((first, last)),
+        (Some(_), None) => None,
+        (None, _) => None,
     }
 }
 

@@ -284,7 +284,7 @@ ticked_sound : (accepted : List Origin) (old next : Place) (j : Judged) (node : 
 ticked_sound accepted old next j node None calm once is = calm_sound accepted old next j _ calm refl refl once
 ticked_sound accepted old next j node (Some datagram) calm once is = record {
   once = λ q. fewer (count q accepted) (count q (names_waiting j.waiting)) (count q (map origin_of j.left)) (count q (names_in old)) 0 refl (once q);
-  ready = ((datagram, (tick_gives j node datagram is, refl)), calm);
+  ready = ((datagram, tick_gives j node datagram is, refl), calm);
 }
 
 gave_leads : (accepted : List Origin) (old next : Place) (j : Judged) (node : ℕ) (sent : Sent) (answer : Answer) → IsCalm next → Once accepted old j
@@ -365,7 +365,7 @@ none_leads accepted _ j s = no_event accepted j None
 
 ready_stays : (place : Place) (j x : Judged) → x.world.given ≡ j.world.given → x.waiting ≡ j.waiting → IsReady place j → IsReady place x
 ready_stays (Offering node datagram next) j x given waiting ready =
-    ((ready.0.0, (subst (λ g. Contains g (node, ready.0.0)) (sym given) ready.0.1, ready.0.2)), ready.1)
+    ((ready.0.0, subst (λ g. Contains g (node, ready.0.0)) (sym given) ready.0.1, ready.0.2), ready.1)
 ready_stays (Again command) j x given waiting ready = waiting ∙ ready
 ready_stays Starting j x given waiting ready = tt
 ready_stays Between j x given waiting ready = tt
