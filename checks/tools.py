@@ -34,6 +34,7 @@ import norm_ladder  # noqa: E402
 import norm_wire as wire  # noqa: E402
 
 PROGRAM = os.path.join(ROOT, 'crates', 'normd', 'out', 'normd')
+WITH_PROFILE = b'{"profile": {"sender": 1, "receivers": 1, "port": 40000, "first": 0, "step": 1, "gap": 1}, "events": [%s]}'
 failures: list[str] = []
 
 
@@ -148,7 +149,9 @@ def check_pcap() -> str:
     refused('no capture', 3, 'pcap', '--lines', '-', given=b'%PDF-1.4 and more than twenty-four octets')
     refused('a run that is cut', 3, 'pcap', '-', given=text(REPAIR).encode()[:3000])
     refused('another JSON', 3, 'pcap', '-', given=b'{"events": []}')
-    refused('an event that is none', 3, 'pcap', '-', given=b'{"profile": {"sender": 1, "receivers": 1, "port": 40000}, "events": [{"offers": 1}]}')
+    refused('an event that is none', 3, 'pcap', '-', given=WITH_PROFILE % b'{"offers": 1}')
+    refused('a node that is none', 3, 'pcap', '-', given=WITH_PROFILE % b'{"offer": "1", "bytes": ""}')
+    refused('a moment that is none', 3, 'pcap', '-', given=WITH_PROFILE % b'{"turn": 1, "now": -1}')
     refused('no hexadecimal', 3, 'pcap', '-', given=b'12080\n')
     refused('no datagram', 3, 'pcap', '-', given=b'\n\n')
     refused('no text', 3, 'pcap', '-', given=b'\xff\xfe')
@@ -222,7 +225,7 @@ def check_journal() -> str:
     refused('a line behind the end', 3, 'journal', 'table', '-', given=(STRUCK + 'restart 1 1 8\n').encode())
     refused('a text that is no journal', 3, 'journal', 'table', os.path.join(ROOT, 'README.md'))
     refused('a refused session', 3, 'journal', 'table', '-', given=b'refused line 3\n')
-    refused('a run without a journal', 3, 'journal', 'table', '-', given=b'{"profile": {"sender": 1, "receivers": 1, "port": 40000}, "events": []}')
+    refused('a run without a journal', 3, 'journal', 'table', '-', given=WITH_PROFILE % b'')
     return f'{len(journals)} recorded journals with {marks} watermarks, bad input'
 
 
@@ -253,11 +256,12 @@ def check_ladder() -> str:
         wants(f'hand-ups of {name} are marked', bool(ups), bool(signs))
         count, broken = count + 1, broken + lost
     part = run('journal', 'ladder', REPAIR, '--from', '16000', '--to', '16000')
-    wants('a part of a run', (0, True, False), (part[0], b'parity' in part[1], b'NACK 1' in part[1]))
+    wants('a part of a run', (0, True, False), (part[0], b'parity' in part[1], b'NACK wants' in part[1]))
     picture = os.path.join(ROOT, 'docs', 'pictures', 'repair.svg')
     wants('the picture in docs/pictures is that of examples/repair.json', wire.read_file(picture), run('journal', 'ladder', REPAIR)[1])
     refused('a run that is cut', 3, 'journal', 'ladder', '-', given=text(REPAIR).encode()[:5000])
     refused('a journal in place of a run', 3, 'journal', 'ladder', '-', given=STRUCK.encode())
+    refused('a hand-up of nothing', 3, 'journal', 'ladder', '-', given=WITH_PROFILE % b'{"up": {"object": 1}, "node": 2}')
     refused('nothing in that part', 3, 'journal', 'ladder', REPAIR, '--from', '900000')
     return f'{count} recorded runs, {broken} broken arrows, bad input'
 
@@ -274,6 +278,8 @@ def check_profile_row(profile: ModuleType, row: tuple[int, int, int, float, int]
     keys, name = profile.choose(asked).keys, f'the profile of {row}'
     wants(f'{name} is one', None, norm_keys.fault_of(keys))
     wants(f'{name} keeps to the rate', True, keys['gap'] == 1 or (keys['e'] + 60) * 8e6 / keys['gap'] <= rate)
+    short = sum(math.comb(keys['max_n'], n) * (1 - loss) ** n * loss ** (keys['max_n'] - n) for n in range(keys['b']))
+    wants(f'{name} has parity for all receivers', True, (1 - short) ** receivers >= 0.98)
     wants(f'{name} has no more auto than parity', True, keys['auto'] <= keys['max_n'] - keys['b'])
     wants(f'{name} waits a round trip and two turns', True, keys['grtt'] >= rtt + 2 * keys['step'] and keys['step'] == keys['gap'])
     said = unquantised(keys['grtt_code']) * 1e6
@@ -295,7 +301,8 @@ def check_profile() -> str:
     document = run('profile', '--size', '1M', '--rate', '10M', '--loss', '2', '--receivers', '3', '--toml')
     lines = [line for line in script[1].decode().splitlines() if not line.startswith('#')]
     wants('a profile is made of set lines', True, bool(lines) and all(re.fullmatch(r'set \w+ \d+', line) for line in lines))
-    wants('both forms say the same', lines, [f'set {line.replace(" = ", " ")}' for line in document[1].decode().splitlines() if not line.startswith('#')])
+    keys = [line.replace(' = ', ' ') for line in document[1].decode().splitlines() if not line.startswith('#')]
+    wants('both forms say the same', lines, [f'set {key}' for key in keys])
     refused('more turns than a run has', 3, 'profile', '--size', '1G', '--rate', '1G', '--loss', '90', '--receivers', '16')
     refused('a rate that no gap meets', 3, 'profile', '--size', '1M', '--rate', '900')
     refused('more objects than a script has', 3, 'profile', '--size', '1M', '--rate', '1M', '--objects', '5k')
@@ -306,9 +313,30 @@ def check_profile() -> str:
     return f'{count} transfers, both forms, bad input'
 
 
+def plain(page: str) -> str:
+    """A manual page's source without its fonts and its spaces that do not break."""
+    return re.sub(r'\\f[A-Z]|(?m:^\.(?:B|I|BR|IB|BI) )|"', '', page.replace('\\~', ' ').replace('\\-', '-'))
+
+
+def check_commands(docs: str, page: str) -> None:
+    """norm-script(5) has each command of docs/session.md, and says of the same ones that they are not built."""
+    entries = {' '.join(head.split()): says for head, says in re.findall(r'(?m)^\.TP\n(.+)\n((?:[^.\n].*\n)+)', page)}
+    for command, runs_today in re.findall(r'(?m)^\| `(P [a-z][^`]*)` \| [^|]*\|(?: ([^|]*) \|)?$', docs):
+        says = entries.get(command)
+        wants(f'norm-script(5) has `{command}`', True, says is not None)
+        wants(f'norm-script(5) says that `{command}` is not built', runs_today == 'no', 'Not built yet' in (says or ''))
+
+
 def check_manual() -> str:
-    """The keys of the manual are those of the table, and each tool tells how it is called."""
+    """The manual says what the table of keys and docs/session.md say, and each tool tells how it is called."""
     wants('the keys of norm-script(5)', (0, b'', ''), run('keys', '--check', tool=os.path.join(ROOT, 'man')))
+    docs, program, script = (plain(text(os.path.join(ROOT, *path))) for path in
+                             (('docs', 'session.md'), ('man', 'normd.1'), ('man', 'norm-script.5')))
+    check_commands(docs, script)
+    for status in sorted(set(re.findall(r'(?m)^\| (\d+) \| ', docs))):
+        wants(f'normd(1) has status {status}', True, f'\n.TP\n{status}\n' in program)
+    for line in re.findall(r'`((?:info|data|flush|eot|adv|ackreq|opaque|nack|ack|report) SRC [^`]*)`', docs):
+        wants(f'normd(1) has the line {line}', True, f'\n{line}\n' in program)
     for tool in ('pcap', 'journal', 'profile'):
         wants(f'{tool} --help', 0, run(tool, '--help')[0])
         wants(f'tools/README.md shows {tool}', True, f'$ tools/{tool} ' in text(os.path.join(TOOLS, 'README.md')))

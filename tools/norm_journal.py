@@ -10,7 +10,7 @@ from dataclasses import dataclass, field
 
 from norm_wire import ToolFault
 
-NUMBER, HEX = r'\d+', r'(?:[0-9a-f]{2})*'
+NUMBER, HEX = '[0-9]+', '(?:[0-9a-f]{2})*'
 PLACE = rf'{NUMBER} {NUMBER} {NUMBER}'
 ORIGIN = rf'{NUMBER} {NUMBER} {NUMBER}'
 REASONS = ('empty|no-stream|ids-spent|nothing-enqueued|'
@@ -30,7 +30,7 @@ LINES = {
 COUNTS = ('objects', 'octets', 'handed', 'lost', 'satisfied', 'expired', 'cut')
 # What may stand behind the summary, or in its place where a fault came.
 LAST = re.compile(r'turns spent|fault (?:read|fabric|files)|absent \S+')
-REFUSED = re.compile(r'refused (?:line \d+|profile)|usage: .*')
+REFUSED = re.compile('refused (?:line [0-9]+|profile)|usage: .*')
 
 Position = tuple[int, int, int]
 

@@ -80,8 +80,8 @@ class Row:
             by_nodes: dict[tuple[int, ...], list[str]] = {}
             for what, at in whats.items():
                 by_nodes.setdefault(tuple(at), []).append(what)
-            for at, named in by_nodes.items():
-                where = nodes([n for n in at if n != silent])
+            for same, named in by_nodes.items():
+                where = nodes([n for n in same if n != silent])
                 of = ', '.join(filter(None, named))
                 made.append(f'{of} {says} at {where}' if of else f'{where} {says}'.strip())
         return made
@@ -99,6 +99,12 @@ def nodes(ids: list[int]) -> str:
         else:
             parts.append([node])
     return ', '.join(str(p[0]) if len(p) == 1 else f'{p[0]}, {p[1]}' if len(p) == 2 else f'{p[0]}–{p[-1]}' for p in parts)
+
+
+def between(labels: list[str]) -> str:
+    """The letters beside a sign that stands for several: the last of one object's, or the first and the last object."""
+    first, last = (label.rstrip('+.') for label in (labels[0], labels[-1]))
+    return labels[-1] if first == last else f'{first}–{last}'
 
 
 def ask(request: wire.Request, index: Any) -> str:
@@ -132,7 +138,7 @@ def kind_and_words(octets: bytes, first: int) -> tuple[str, str]:
         'DATA': lambda: [f'{index(m)}.{m.block}.{m.symbol}'] + (['parity'] if wire.is_parity(m) else []),
         'FLUSH': lambda: [f'{index(m)}.{m.block}.{m.symbol}', 'for ' + nodes(m.numbers(4)) if m.content else 'for nobody'],
         'SQUELCH': lambda: [f'from {index(m)}.{m.block} on'],
-        'NACK': lambda: ['; '.join(ask(request, index) for request in m.requests)],
+        'NACK': lambda: ['wants', '; '.join(ask(request, index) for request in m.requests) or 'nothing'],
         'ACK': lambda: [f'{index(m.mark)}.{m.mark.block}.{m.mark.symbol}' if m.mark else ''],
     }.get(name, lambda: [])()
     again = ['again'] if kind == 'repair' and 'parity' not in says else []
@@ -160,9 +166,9 @@ def up_words(up: dict[str, Any]) -> tuple[str, str, str]:
     index = given['index']
     return {
         'object': lambda: ('up', f'{index}', f'{index}'),
-        'open': lambda: ('up', f'{index}[', f'beginning of {index}'),
+        'open': lambda: ('up', f'{index}+', f'beginning of {index}'),
         'bytes': lambda: ('up', f'{index}+', f'{index} from {given.get("offset")} on'),
-        'end': lambda: ('up', f'{index}]', f'end of {index}'),
+        'end': lambda: ('up', f'{index}.', f'end of {index}'),
         'lost': lambda: ('drop', f'{index}', f'{index}'),
     }[what]()
 
@@ -171,11 +177,15 @@ class Chart:
     """The rows of a run, made event by event."""
 
     def __init__(self, run: Run):
-        self.run, self.rows = run, []
+        self.run = run
+        self.rows: list[Row] = []
         self.under_way: dict[bytes, Offer] = {}
         self.offered_at: dict[int, int] = {}
-        for step in run.steps:
-            getattr(self, 'see_' + step.what, lambda step: None)(step)
+        for place, step in enumerate(run.steps):
+            try:
+                getattr(self, 'see_' + step.what, lambda step: None)(step)
+            except (AttributeError, KeyError, TypeError, ValueError):
+                raise ToolFault(f'event {place} says nothing of what it gave that a recorded run says.') from None
 
     def row(self, moment: int, fresh: bool) -> Row:
         """The row for what happens now: a fresh one, or the last where it is of this moment."""
@@ -201,7 +211,7 @@ class Chart:
             words = kind_and_words(step.octets(), self.run.profile['first'])[1]
             self.marks_row(step.now).add(Mark(node, 'alien', '?'), f'nobody offered {words}')
             return
-        is_late = step.now - self.offered_at[id(offer)] > self.run.profile['step']
+        is_late = step.now - self.offered_at[id(offer)] > (self.run.profile['step'] or self.run.profile['gap'])
         is_repeat = any(arrival.node == node for arrival in offer.arrivals)
         if is_late or is_repeat:
             self.row(step.now, False)
@@ -251,10 +261,12 @@ class Drawing:
         receivers = len(self.members) - 1
         self.lane = max(LEAST_LANE, min(MOST_LANE, LANES // max(receivers, 1)))
         self.x = {node: LEFT + 24 + i * self.lane for i, node in enumerate(self.members)}
-        self.edge = max(self.x.values()) + 34
-        self.width, self.y, self.pauses = max(self.edge + TEXT, LEAST_WIDTH), {}, []
+        self.edge = max(self.x.values()) + 38
+        self.width = max(self.edge + TEXT, LEAST_WIDTH)
+        self.y: dict[int, float] = {}
+        self.pauses: list[float] = []
         self.named: list[float] = []
-        self.step = max(run.profile['step'], 1)
+        self.step = run.profile['step'] or run.profile['gap']
         self.lay_out()
 
     def lay_out(self) -> None:
@@ -369,7 +381,7 @@ class Drawing:
             x = self.x[node]
             for sign in dict.fromkeys(mark.sign for mark in row.marks if mark.node == node):
                 labels = list(dict.fromkeys(m.label for m in row.marks if (m.node, m.sign) == (node, sign)))
-                label = labels[0] if len(labels) == 1 else f'{labels[0]}–{labels[-1]}'
+                label = between(labels)
                 self.sign(x, y, sign)
                 self.text(x + 7, y + 3.5, label, 'index')
                 x += 12 + 5 * len(label)

@@ -4,11 +4,12 @@ Beside it stand the files that the tools read: recorded runs, and texts in lines
 docs/protocol.md says what each part means."""
 from __future__ import annotations
 
+import argparse
 import json
 import os
 import sys
 from dataclasses import dataclass
-from typing import Any, Iterator
+from typing import Any, Callable, Iterator
 
 # What the tools answer with beside 0.
 FAILED, REFUSED_WORDS, REFUSED_INPUT = 1, 2, 3
@@ -274,9 +275,14 @@ def joined(words: list[Any]) -> str:
     return ','.join(map(str, words)) or '-'
 
 
+def acknowledged(m: Message) -> list[Any]:
+    """What an ACK says of the order, or how long its content is."""
+    return [m.mark.object, m.mark.block, m.mark.symbol] if m.mark else ['opaque', len(m.content)]
+
+
 def own_words(m: Message) -> list[Any]:
     """The words of a line of `show` behind source, sequence and, where there is one, the head of what a sender sends."""
-    return {
+    words: dict[str, Callable[[], list[Any]]] = {
         'info': lambda: [m.flags, m.object, m.fti or '-', m.content.hex() or '-'],
         'data': lambda: [m.flags, m.object, m.block, m.symbol, m.fti or '-', m.content.hex() or '-'],
         'flush': lambda: [m.object, m.block, m.symbol, joined(m.numbers(4))],
@@ -286,10 +292,10 @@ def own_words(m: Message) -> list[Any]:
         'ackreq': lambda: [m.ack_type, m.ack_id, joined(m.numbers(4))],
         'opaque': lambda: [m.sub_type],
         'nack': lambda: [m.sender, m.instance, joined(list(m.requests))],
-        'ack': lambda: [m.sender, m.instance, m.ack_type, m.ack_id]
-        + ([m.mark.object, m.mark.block, m.mark.symbol] if m.mark else ['opaque', len(m.content)]),
+        'ack': lambda: [m.sender, m.instance, m.ack_type, m.ack_id, *acknowledged(m)],
         'report': lambda: [],
-    }[m.kind]()
+    }
+    return words[m.kind]()
 
 
 def show(octets: bytes) -> str:
@@ -298,8 +304,17 @@ def show(octets: bytes) -> str:
         m = decode(octets)
     except Refused as refusal:
         return f'refused {refusal}'
-    head = [m.instance, f'{m.grtt}.{m.backoff}.{m.gsize}'] if 'grtt' in m.fields else []
+    head: list[Any] = [m.instance, f'{m.grtt}.{m.backoff}.{m.gsize}'] if 'grtt' in m.fields else []
     return ' '.join(map(str, [m.kind, m.source, m.sequence] + head + own_words(m)))
+
+
+def number(least: int, greatest: int) -> Callable[[str], int]:
+    """What argparse reads a number of this range with."""
+    def read(text: str) -> int:
+        if not (text.isascii() and text.isdigit() and least <= int(text) <= greatest):
+            raise argparse.ArgumentTypeError(f'{text} is no number of {least} to {greatest}')
+        return int(text)
+    return read
 
 
 def fail(tool: str, fault: ToolFault) -> int:
@@ -390,9 +405,12 @@ class Run:
         return list(range(sender, sender + self.profile['receivers'] + 1))
 
 
-# Of each event what it has to have for the tools, beside the word that it is named by.
+# Of the profile what the tools need, with its least and greatest value.
+PROFILE = {'sender': (1, 4294967278), 'receivers': (1, 16), 'port': (1024, 65000), 'first': (0, 65535), 'step': (0, 10**6), 'gap': (1, 10**6)}
+# Of each event what it has to have for the tools, beside the word that it is named by; and the words whose values are nodes.
 EVENTS = {'start': (), 'turn': ('now',), 'pull': (), 'job': ('gave',), 'tick': (), 'offer': ('bytes',), 'deliver': ('bytes', 'now'),
           'took': ('bytes',), 'empty': (), 'take': ('up',), 'up': ('node',), 'news': ()}
+NODES = ('offer', 'deliver', 'took', 'take', 'node')
 
 
 def step_of(path: str, place: int, event: Any, now: int) -> Step:
@@ -401,11 +419,15 @@ def step_of(path: str, place: int, event: Any, now: int) -> Step:
     what = next((word for word in EVENTS if isinstance(event, dict) and word in event), None)
     if what is None or any(name not in event for name in EVENTS[what]):
         raise ToolFault(f'{path}: event {place} is none of a recorded run.')
+    moment = event.get('now', now)
+    numbers = [moment] + [event[name] for name in NODES if name in event]
     try:
         bytes.fromhex(event.get('bytes', '')) if what != 'job' else b''
-        return Step(what, int(event.get('now', now)), event)
     except (TypeError, ValueError):
-        raise ToolFault(f'{path}: event {place} has no octets in hexadecimal, or no moment.') from None
+        raise ToolFault(f'{path}: event {place} has no octets in hexadecimal.') from None
+    if any(type(number) is not int or not 0 <= number < 2**64 for number in numbers):
+        raise ToolFault(f'{path}: event {place} has a node or a moment that is none.')
+    return Step(what, moment, event)
 
 
 def run_of(path: str, octets: bytes) -> Run:
@@ -413,11 +435,12 @@ def run_of(path: str, octets: bytes) -> Run:
     try:
         made = json.loads(text_of(path, octets))
         profile, events, now, steps = made['profile'], made['events'], 0, []
-        {key: int(profile[key]) for key in ('sender', 'receivers', 'port')}
+        if not all(type(profile[key]) is int and least <= profile[key] <= greatest for key, (least, greatest) in PROFILE.items()):
+            raise ValueError
     except json.JSONDecodeError as error:
         raise ToolFault(f'{path} is no recorded run, or is cut: line {error.lineno}, column {error.colno}: {error.msg}.') from None
-    except (KeyError, TypeError, ValueError):
-        raise ToolFault(f'{path} is no recorded run: it lacks a profile with its members, or events.') from None
+    except (KeyError, TypeError, ValueError, RecursionError):
+        raise ToolFault(f'{path} is no recorded run: it lacks events, or a profile with {", ".join(PROFILE)}.') from None
     for place, event in enumerate(events if isinstance(events, list) else [events]):
         steps.append(step_of(path, place, event, now))
         now = steps[-1].now

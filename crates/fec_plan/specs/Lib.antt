@@ -1,5 +1,5 @@
 pub mod Partition
 pub mod Covering
 pub mod Payload
-pub mod Places
 pub mod Points
+pub mod OrderLaws

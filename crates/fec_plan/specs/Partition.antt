@@ -24,6 +24,21 @@ stream_cut e b max_n = record { l = None; e = e; b = b; max_n = max_n }
 abbrev pub most_blocks : ℕ
 most_blocks = 16777216
 
+-- the least and the most octets of a symbol
+abbrev pub least_symbol : ℕ
+least_symbol = 64
+
+abbrev pub most_symbol : ℕ
+most_symbol = 1400
+
+-- the most source symbols of a block
+abbrev pub most_sources : ℕ
+most_sources = 200
+
+-- the octets of a segment's place, which stand before its own
+abbrev pub place_octets : ℕ
+place_octets = 8
+
 -- T: the source symbols of an object
 abbrev pub symbols_in : ℕ → ℕ → ℕ
 symbols_in l e = div_ceil l e
@@ -80,7 +95,7 @@ symbol_number c block symbol =
 
 -- the octets of a symbol as it is coded: e, and for a stream the eight octets of a segment's place before them
 abbrev pub coded_octets : Cut → ℕ
-coded_octets c = elim c.l [ Some l ↦ c.e | None ↦ c.e + 8 ]
+coded_octets c = elim c.l [ Some l ↦ c.e | None ↦ c.e + place_octets ]
 
 -- The octets of a symbol as it is sent. An object's last source symbol is sent at its own length. Of a stream
 -- this is the most: a segment is sent with the octets that it has.
@@ -88,7 +103,7 @@ abbrev pub sent_octets : Cut → ℕ → ℕ → ℕ
 sent_octets c block symbol =
     elim c.l [
       | Some l ↦ if nat_lt symbol (source_symbols c block) then min c.e (l - symbol_number c block symbol * c.e) else c.e
-      | None ↦ c.e + 8
+      | None ↦ c.e + place_octets
     ]
 
 abbrev pub outside : ℕ → ℕ → ℕ → Bool
@@ -97,8 +112,8 @@ outside low high n = nat_lt n low || nat_lt high n
 -- the first thing that is wrong with symbols of e octets, blocks of b and max_n
 abbrev pub first_shape_fault : ℕ → ℕ → ℕ → Option PlanFault
 first_shape_fault e b max_n =
-    if outside 64 1400 e then Some (BadSymbol e) else
-    (if outside 1 200 b then Some (BadBlock b) else
+    if outside least_symbol most_symbol e then Some (BadSymbol e) else
+    (if outside 1 most_sources b then Some (BadBlock b) else
     (if nat_lt max_n b then Some (BadMaxN b max_n) else None))
 
 -- the first thing that is wrong with a cut
@@ -113,9 +128,9 @@ first_fault c =
 -- a cut of which nothing is wrong
 pub record IsSound (c : Cut) : Type 0 where
   pub some : 0 < all_symbols c
-  pub least_e : 64 ≤ c.e
-  pub most_e : c.e ≤ 1400
+  pub least_e : least_symbol ≤ c.e
+  pub most_e : c.e ≤ most_symbol
   pub least_b : 1 ≤ c.b
-  pub most_b : c.b ≤ 200
+  pub most_b : c.b ≤ most_sources
   pub max_n : c.b ≤ c.max_n
   pub few : blocks c ≤ most_blocks

@@ -2,14 +2,26 @@
 
 ghost use Rattle.std.specs.Prelude.{◌≡◌};
 ghost use Rattle.fec_plan.specs.declared.position.Position.{Position as Place};
-ghost use Rattle.fec_plan.specs.Places.{position_cmp};
+ghost use Rattle.fec_plan.specs.Points.{Point as Block, point_cmp, position_cmp};
+ghost use Rattle.fec_plan.specs.OrderLaws.{PositionsAreOrdered};
 ghost use Rattle.fec_plan.specs.Covering.{BlocksCover, SymbolsCover, AllButLastAreFull, BlocksAreEven};
 
-use crate::position::Position;
+use crate::position::{Point, Position};
+
+/// `cmp` of points goes by index, then by block.
+pub fn point_order()
+    ensures { (p q : Block) → ⟦<Point as Ord>⟧.cmp p q ≡ point_cmp p q }
+{}
 
 /// `cmp` of positions goes by index, then by block, then by symbol.
 pub fn position_order()
     ensures { (p q : Place) → ⟦<Position as Ord>⟧.cmp p q ≡ position_cmp p q }
+{}
+
+/// Positions are in one order.
+#[tactic(auto, using(crate::proofs::PositionLemmas::positions_are_ordered))]
+pub fn positions_are_ordered()
+    ensures { PositionsAreOrdered }
 {}
 
 /// The source symbols of an object's blocks are those of the object.

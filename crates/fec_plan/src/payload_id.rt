@@ -14,14 +14,14 @@ pub struct PayloadId {
 }
 
 impl Model for PayloadId {
-    ghost use Rattle.std.specs.Prelude.{◌<◌};
     ghost use Rattle.fec_plan.specs.Payload.{Name};
+    ghost use Rattle.fec_plan.specs.Points.{IsBlock};
 
     ghost Value = { Name };
 
     ghost view = { λ id. record { block = id.block; symbol = id.symbol } };
 
-    ghost invariant = { λ id. id.block < 16777216 };
+    ghost invariant = { λ id. IsBlock id.block };
 
     ghost inverse = { λ name. record { block = name.block; symbol = name.symbol } };
 }

@@ -1,13 +1,25 @@
 //! How an object is cut (RFC 5052 section 9.1).
 
 ghost use Rattle.std.specs.Prelude.{◌≡◌, ◌^◌, ◌<◌, None, Some, MatchResult, ◌≤◌};
-ghost use Rattle.fec_plan.specs.Partition.{IsSound, cut_of, stream_cut, first_fault, first_shape_fault, symbols_in, blocks_in, large_block, small_block, larger_blocks, block_size, symbols_before, blocks, source_symbols, encoding_symbols, symbol_number, sent_octets};
+ghost use Rattle.fec_plan.specs.Partition.{IsSound, most_blocks, cut_of, stream_cut, first_fault, first_shape_fault, symbols_in, blocks_in, large_block, small_block, larger_blocks, block_size, symbols_before, blocks, source_symbols, encoding_symbols, symbol_number, sent_octets};
 
 use std::marker::Model;
 use thiserror::Error;
 
 /// The most blocks that 24 bits name.
-const MOST_BLOCKS: u32 = 16_777_216;
+pub const MOST_BLOCKS: u32 = 16_777_216;
+
+/// The least octets of a symbol.
+pub const LEAST_SYMBOL: u16 = 64;
+
+/// The most octets of a symbol.
+pub const MOST_SYMBOL: u16 = 1400;
+
+/// The most source symbols of a block.
+pub const MOST_SOURCES: u8 = 200;
+
+/// The octets of a segment's place, which stand before its own.
+pub const PLACE_OCTETS: u16 = 8;
 
 /// Why an object can't be cut so.
 #[derive(Clone, Copy, Debug, PartialEq, Eq, Error)]
@@ -50,10 +62,10 @@ impl Model for Plan {
 fn check_shape(e: u16, b: u8, max_n: u8) -> Result<(), PlanFault>
     ensures { MatchResult result (λ _. first_shape_fault e b max_n ≡ None) (λ fault. first_shape_fault e b max_n ≡ Some fault) }
 {
-    if e < 64 || e > 1400 {
+    if e < LEAST_SYMBOL || e > MOST_SYMBOL {
         return Err(PlanFault::BadSymbol { e });
     }
-    if b < 1 || b > 200 {
+    if b < 1 || b > MOST_SOURCES {
         return Err(PlanFault::BadBlock { b });
     }
     if max_n < b {
@@ -144,7 +156,7 @@ impl Plan {
         check_shape(e, b, max_n)?;
         let symbols = l.div_ceil(u64::from(e));
         let blocks = symbols.div_ceil(u64::from(b));
-        if blocks > 16_777_216 {
+        if blocks > u64::from(MOST_BLOCKS) {
             return Err(PlanFault::TooManyBlocks { blocks });
         }
         Ok(Plan {
@@ -180,7 +192,7 @@ impl Plan {
     /// The number of blocks, at most 16,777,216; a stream has them all.
     pub fn blocks(&self) -> u32
         ensures exact { result ≡ blocks self.now }
-        ensures most { result ≤ 16777216 }
+        ensures most { result ≤ most_blocks }
         ensures sound { IsSound self.now }
     {
         match self.l {
@@ -232,7 +244,7 @@ impl Plan {
         ensures { result ≡ sent_octets self.now block symbol }
     {
         let Some(l) = self.l else {
-            return self.e + 8;
+            return self.e + PLACE_OCTETS;
         };
         if symbol >= self.source_len(block) {
             return self.e;

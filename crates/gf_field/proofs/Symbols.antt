@@ -42,7 +42,7 @@ scaled_onto-at c [] (y ∷ ys) t h = sym (ap (λ n. bit_xor n (get_or (y ∷ ys)
 scaled_onto-at c (x ∷ xs) (y ∷ ys) zero h = refl
 scaled_onto-at c (x ∷ xs) (y ∷ ys) (suc t) h = scaled_onto-at c xs ys t (omega arith)
 
-length-scaled_onto : (vs xs ys : List ℕ) → length (scaled_onto vs xs ys) ≡ length ys
+pub length-scaled_onto : (vs xs ys : List ℕ) → length (scaled_onto vs xs ys) ≡ length ys
 unfolding scaled_onto
 length-scaled_onto vs xs [] = refl
 length-scaled_onto vs [] (y ∷ ys) = refl
@@ -54,7 +54,7 @@ scaled_onto-octets c xs [] h = tt
 scaled_onto-octets c [] (y ∷ ys) h = h
 scaled_onto-octets c (x ∷ xs) (y ∷ ys) h = (xor_lt 8 (product c x) y (product-lt c x) h.0, scaled_onto-octets c xs ys h.1)
 
-length-weighted_symbols : (size : ℕ) (places ms : List ℕ) (symbols : List (List ℕ)) (x : ℕ) → length (weighted_symbols size places ms symbols x) ≡ size
+pub length-weighted_symbols : (size : ℕ) (places ms : List ℕ) (symbols : List (List ℕ)) (x : ℕ) → length (weighted_symbols size places ms symbols x) ≡ size
 unfolding weighted_symbols
 length-weighted_symbols size places [] symbols x = length-replicate size 0
 length-weighted_symbols size places (m ∷ ms) [] x = length-replicate size 0

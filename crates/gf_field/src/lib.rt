@@ -69,6 +69,3 @@ pub fn add_scaled(dst: &mut [u8], src: &[u8], c: u8)
 {
     multiples_of(c).add_all(dst, src);
 }
-
-#[cfg(test)]
-mod tests;

@@ -9,10 +9,11 @@ use Rattle.std.proofs.lemmas.Bool.{and_from, and_parts, not-true}
 use Rattle.std.proofs.lemmas.List.{length-map, take-map, drop_all, take_rest, take-append-le, append-nil, with_items_is}
 use Rattle.std.proofs.lemmas.List.Folds.{list_all-append}
 use Rattle.std.proofs.Math.Seq.{take-add}
+use Rattle.norm_order.specs.Sets.{Rises}
 use Rattle.norm_send_rules.specs.SenderState.{Listing}
 use Rattle.mark_book.specs.Booked.{Kept}
 use Rattle.mark_book.specs.Ending.{ended_where, is_finished, told_first}
-use Rattle.mark_book.specs.Sound.{IsSound, Rise, nodes_of, AreNumbered}
+use Rattle.mark_book.specs.Sound.{IsSound, nodes_of, AreNumbered}
 use Rattle.mark_book.specs.declared.book.Book.TheInside.{Inside}
 use Rattle.mark_book.proofs.Lists.{finished_stays, front_stays}
 use Rattle.mark_book.proofs.Marks.{numbered_after}
@@ -32,7 +33,7 @@ same_count ls ms same = sym (length-map ms (λ (l : Listing). l.node)) ∙ ap le
 -- a book whose requests end, and whose receivers stay, is sound
 pub sound_ended : (b c : Inside) (test : Kept → Bool) (outcome : Kept → Outcome) → IsSound b
     → c.requests.items ≡ map (ended_where test outcome) b.requests.items → c.done ≡ b.done → nodes_of c.listings.items ≡ nodes_of b.listings.items
-    → Rise c.untold.items → ((q : ℕ) → is_member nat_eq c.untold.items q ≡ true → is_member nat_eq (nodes_of b.listings.items) q ≡ true)
+    → Rises c.untold.items → ((q : ℕ) → is_member nat_eq c.untold.items q ≡ true → is_member nat_eq (nodes_of b.listings.items) q ≡ true)
     → length b.listings.items ≤ vec_capacity c.untold → IsSound c
 sound_ended b c test outcome sound requests done nodes rise listed room =
     let count : length c.listings.items ≡ length b.listings.items = same_count b.listings.items c.listings.items nodes in
@@ -137,7 +138,7 @@ sound_requests b c sound listings untold numbered counted within finished = reco
   counted = counted;
   within = within;
   finished = finished;
-  rise = subst (λ v. Rise v.items) (sym untold) sound.rise;
+  rise = subst (λ v. Rises v.items) (sym untold) sound.rise;
   listed = λ q member. ap (λ v. is_member nat_eq (nodes_of v.items) q) listings ∙ sound.listed q (ap (λ v. is_member nat_eq v.items q) (sym untold) ∙ member);
   room = subst (λ v. length v.items ≤ vec_capacity c.untold) (sym listings) (subst (λ v. length b.listings.items ≤ vec_capacity v) (sym untold) sound.room);
 }

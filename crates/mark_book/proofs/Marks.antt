@@ -2,11 +2,11 @@
 use Rattle.std.proofs.Common.{◌≡◌, ℕ, ◌+◌, ◌<◌, List, [], ◌∷◌, ◌++◌, length, map, Bool, true, false, refl, sym, ap, ◌∙◌, cond, arith, fold}
 use Rattle.std.specs.Prelude.{◌&&◌, nat_lt, filter, is_none, Some}
 use Rattle.norm_order.specs.Sets.{with_member}
+use Rattle.norm_order.proofs.SetLemmas.{in_front, again, behind, alone}
 use Rattle.norm_send_rules.specs.declared.news.Outcome.{Outcome}
 use Rattle.mark_book.specs.Booked.{Kept, untold_marks}
 use Rattle.mark_book.specs.Ending.{ended_where}
 use Rattle.mark_book.specs.Sound.{AreNumbered}
-use Rattle.mark_book.proofs.Nodes.{in_front, again, behind, alone}
 
 -- one more number
 abbrev pub more_of : List ℕ → ℕ → List ℕ

@@ -1,21 +1,22 @@
 -- The receivers whose listing is to be told.
 use Rattle.std.proofs.Common.{◌≡◌, ℕ, ◌+◌, ◌<◌, ◌≤◌, ◌⊎◌, inl, inr, List, [], ◌∷◌, ◌++◌, length, map, take, drop, get_or, Bool, true, false, refl, sym, ap, ◌∙◌, arith}
-use Rattle.std.specs.Prelude.{◌&&◌, ◌||◌, ◌==◌, not, nat_lt, nat_eq, Result, Ok, is_ok, if◌then◌else◌}
+use Rattle.std.specs.Prelude.{◌&&◌, ◌==◌, not, nat_lt, nat_eq, Result, Ok, is_ok, if◌then◌else◌}
 use Rattle.std.specs.List.{list_any, AllByRecursion, IsDistinct}
 use Rattle.std.specs.Set.{is_member}
 use Rattle.std.specs.Cmp.{nat_eq_equiv}
 use Rattle.std.specs.Ordering.{is_lt, nat_cmp}
 use Rattle.std.proofs.lemmas.Bool.Decides.{nat_tests}
-use Rattle.std.proofs.lemmas.Bool.{or_cases, or_left, or_right, and_parts, ltb-true, lt-ltb, eqb-true, eq-eqb, ne_eqb, le-ltb}
+use Rattle.std.proofs.lemmas.Bool.{or_cases, or_left, or_right, and_parts, ltb-true, eqb-true, eq-eqb, ne_eqb}
 use Rattle.std.proofs.lemmas.Map.Made.{length-le_from_is_member}
 use Rattle.std.proofs.lemmas.List.{length-map, length-append, length-take-le, length-drop, drop_more, take_more, append_assoc, take-append-drop, take_all, drop_all}
 use Rattle.fec_plan.specs.declared.position.Position.{Position}
-use Rattle.norm_order.specs.Sets.{with_member}
+use Rattle.norm_order.specs.Sets.{with_member, Rises}
+use Rattle.norm_order.proofs.SetLemmas.{in_front, again, behind, alone}
 use Rattle.norm_send_rules.specs.SenderState.{Listing}
 use Rattle.norm_send_rules.specs.Requests.{is_past}
 use Rattle.norm_send_rules.specs.Hearing.{listed_past}
 use Rattle.mark_book.specs.Booked.{unlisted_node}
-use Rattle.mark_book.specs.Sound.{Rise, nodes_of}
+use Rattle.mark_book.specs.Sound.{nodes_of}
 
 later : (u v : ℕ) (ns : List ℕ) → u < v → AllByRecursion (λ m. v < m) ns → AllByRecursion (λ m. u < m) ns
 later u v [] lt all = tt
@@ -28,35 +29,6 @@ put b c x y ys = elim b [
   | false ↦ elim c [ true ↦ y ∷ with_member nat_lt x ys | false ↦ y ∷ ys ]
 ]
 
-pub in_front : (m x : ℕ) (xs : List ℕ) → m < x → with_member nat_lt m (x ∷ xs) ≡ m ∷ x ∷ xs
-unfolding with_member
-in_front m x xs lt = go (nat_lt m x) (nat_lt x m) (lt-ltb m x lt)
-  where
-    go : (b c : Bool) → b ≡ true → put b c m x xs ≡ m ∷ x ∷ xs
-    go true c e = refl
-    go false c e = absurd (cc)
-
-pub again : (m : ℕ) (xs : List ℕ) → with_member nat_lt m (m ∷ xs) ≡ m ∷ xs
-unfolding with_member
-again m xs = go (nat_lt m m) (le-ltb m m (omega arith))
-  where
-    go : (b : Bool) → b ≡ false → put b b m m xs ≡ m ∷ xs
-    go true e = absurd (cc)
-    go false e = refl
-
-pub behind : (m x : ℕ) (xs : List ℕ) → m < x → with_member nat_lt x (m ∷ xs) ≡ m ∷ with_member nat_lt x xs
-unfolding with_member
-behind m x xs lt = go (nat_lt x m) (nat_lt m x) (le-ltb x m (omega arith)) (lt-ltb m x lt)
-  where
-    go : (b c : Bool) → b ≡ false → c ≡ true → put b c x m xs ≡ m ∷ with_member nat_lt x xs
-    go true c e f = absurd (cc)
-    go false false e f = absurd (cc)
-    go false true e f = refl
-
-pub alone : (m : ℕ) → with_member nat_lt m [] ≡ m ∷ []
-unfolding with_member
-alone m = refl
-
 each_with : (low x : ℕ) (ys : List ℕ) → low < x → AllByRecursion (λ m. low < m) ys → AllByRecursion (λ m. low < m) (with_member nat_lt x ys)
 unfolding with_member
 each_with low x [] lt all = (lt, tt)
@@ -68,12 +40,12 @@ each_with low x (y ∷ ys) lt all = go (nat_lt x y) (nat_lt y x) (each_with low 
     go false false more = (all.0, all.1)
 
 -- a rising list rises with one more
-pub rise_with : (x : ℕ) (ys : List ℕ) → Rise ys → Rise (with_member nat_lt x ys)
+pub rise_with : (x : ℕ) (ys : List ℕ) → Rises ys → Rises (with_member nat_lt x ys)
 unfolding with_member
 rise_with x [] rise = (tt, tt)
 rise_with x (y ∷ ys) rise = go (nat_lt x y) (nat_lt y x) refl refl (rise_with x ys rise.1)
   where
-    go : (b c : Bool) → nat_lt x y ≡ b → nat_lt y x ≡ c → Rise (with_member nat_lt x ys) → Rise (put b c x y ys)
+    go : (b c : Bool) → nat_lt x y ≡ b → nat_lt y x ≡ c → Rises (with_member nat_lt x ys) → Rises (put b c x y ys)
     go true c e f more = let lt = ltb-true x y e in ((lt, later x y ys lt rise.0), (rise.0, rise.1))
     go false true e f more = (each_with y x ys (ltb-true y x f) rise.0, more)
     go false false e f more = (rise.0, rise.1)
@@ -102,13 +74,13 @@ all_differ : (n : ℕ) (ns : List ℕ) → AllByRecursion (λ m. n < m) ns → A
 all_differ n [] all = tt
 all_differ n (m ∷ ns) all = (let lt : n < m = all.0 in ne_eqb n m (λ e. omega arith), all_differ n ns all.1)
 
-distinct_from_rise : (ns : List ℕ) → Rise ns → IsDistinct nat_eq ns
+distinct_from_rise : (ns : List ℕ) → Rises ns → IsDistinct nat_eq ns
 unfolding IsDistinct
 distinct_from_rise [] rise = tt
 distinct_from_rise (n ∷ ns) rise = (all_differ n ns rise.0, distinct_from_rise ns rise.1)
 
 -- rising nodes that are all listed are no more than the listings
-pub no_more_than_listed : (ns : List ℕ) (ls : List Listing) → Rise ns
+pub no_more_than_listed : (ns : List ℕ) (ls : List Listing) → Rises ns
     → ((q : ℕ) → is_member nat_eq ns q ≡ true → is_member nat_eq (nodes_of ls) q ≡ true) → length ns ≤ length ls
 no_more_than_listed ns ls rise listed =
     let le = length-le_from_is_member nat_eq_equiv ns (nodes_of ls) (distinct_from_rise ns rise) listed in

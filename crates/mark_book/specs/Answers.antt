@@ -1,7 +1,5 @@
 -- What a book answers, in the words of the sender's rules.
-use Rattle.std.specs.Prelude.{ℕ, ◌==◌, Bool, false, find, Option, None, Some, Result, Ok, Err}
-use Rattle.fec_plan.specs.declared.position.Position.{Position}
-use Rattle.fec_plan.specs.Points.{reaches}
+use Rattle.std.specs.Prelude.{ℕ, ◌==◌, find, Option, Result, Ok, Err}
 use Rattle.norm_send_rules.specs.SenderState.{SenderState, Watermark}
 use Rattle.norm_send_rules.specs.declared.fault.MarkFault.{MarkFault}
 use Rattle.norm_send_rules.specs.declared.job.Receipt.{Receipt}
@@ -20,8 +18,3 @@ number_of _ = 0
 abbrev pub numbered : Result Receipt MarkFault → Result ℕ MarkFault
 numbered (Ok receipt) = Ok (number_of receipt)
 numbered (Err fault) = Err fault
-
--- there is such a position, and it is at this one or behind it
-abbrev pub reached_by : Option Position → Position → Bool
-reached_by None at = false
-reached_by (Some past) at = reaches past at

@@ -1,16 +1,12 @@
 -- What holds of each book.
 use Rattle.std.specs.Prelude.{◌≡◌, ◌<◌, ◌≤◌, ◌^◌, ◌+◌, ℕ, List, [], ◌∷◌, length, map, take, true, nat_eq, vec_capacity}
-use Rattle.std.specs.List.{list_all, AllByRecursion}
+use Rattle.std.specs.List.{list_all}
 use Rattle.std.specs.Set.{is_member}
+use Rattle.norm_order.specs.Sets.{Rises}
 use Rattle.norm_send_rules.specs.SenderState.{Listing}
 use Rattle.mark_book.specs.Booked.{Booked, Kept}
 use Rattle.mark_book.specs.Ending.{is_finished}
 use Rattle.mark_book.specs.declared.book.Book.TheInside.{Inside}
-
--- each number is below all that follow it
-abbrev pub Rise : List ℕ → Type 0
-Rise [] = Unit {0}
-Rise (n ∷ ns) = AllByRecursion (λ m. n < m) ns × Rise ns
 
 -- the nodes of listings
 abbrev pub nodes_of : List Listing → List ℕ
@@ -30,7 +26,7 @@ pub record IsSound (b : Inside) : Type 0 where
   pub counted : length b.requests.items < 2 ^ 32
   pub within : b.done ≤ length b.requests.items
   pub finished : list_all is_finished (take b.done b.requests.items) ≡ true
-  pub rise : Rise b.untold.items
+  pub rise : Rises b.untold.items
   pub listed : (q : ℕ) → is_member nat_eq b.untold.items q ≡ true → is_member nat_eq (nodes_of b.listings.items) q ≡ true
   pub room : length b.listings.items ≤ vec_capacity b.untold
 

@@ -3,6 +3,7 @@
 ghost use Rattle.std.specs.Prelude.{◌≡◌, ◌≢◌, ◌<◌, ◌≤◌, ◌+◌, ◌==◌, length, map, find, slice_get, option_map, option_and_then, IfOk, IfErr, Ok, Err, ℕ, []};
 ghost use Rattle.norm_base.specs.Settings.{Settings};
 ghost use Rattle.norm_base.specs.declared.node.Origin.{Origin};
+ghost use Rattle.fec_plan.specs.Points.{reached_by};
 ghost use Rattle.fec_plan.specs.declared.position.Position.{Position};
 ghost use Rattle.norm_base.specs.Members.{receivers_of};
 ghost use Rattle.norm_send_rules.specs.SenderState.{SenderState, Watermark, Listing, sender_opening};
@@ -14,7 +15,7 @@ ghost use Rattle.norm_send_rules.specs.Restarting.{begun_anew};
 ghost use Rattle.norm_send_rules.specs.Telling.{listing_of, told};
 ghost use Rattle.norm_send_rules.specs.declared.fault.MarkFault.TheVariants as fault;
 ghost use Rattle.mark_book.specs.Booked.{Stands, begun_book};
-ghost use Rattle.mark_book.specs.Answers.{request_of, numbered, reached_by};
+ghost use Rattle.mark_book.specs.Answers.{request_of, numbered};
 
 use crate::listed::{Listed, begun, forget, least_of, nth_left, past_of, raise, rises};
 use crate::request::{

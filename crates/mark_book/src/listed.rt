@@ -4,10 +4,9 @@ ghost use Rattle.std.specs.Prelude.{◌≡◌, ◌==◌, ◌&&◌, ◌<◌, ◌^
 ghost use Rattle.std.specs.List.{list_any, list_all};
 ghost use Rattle.fec_plan.specs.declared.position.Position.{Position};
 ghost use Rattle.norm_send_rules.specs.SenderState.{Listing};
-ghost use Rattle.mark_book.specs.Answers.{reached_by};
 ghost use Rattle.mark_book.specs.Booked.{unlisted_node};
 ghost use Rattle.mark_book.specs.Ending.{left_of, left_count};
-ghost use Rattle.fec_plan.specs.Points.{reaches};
+ghost use Rattle.fec_plan.specs.Points.{reaches, reached_by};
 ghost use Rattle.norm_send_rules.specs.Requests.{is_past};
 ghost use Rattle.norm_send_rules.specs.Hearing.{listed_past};
 
@@ -60,7 +59,7 @@ impl Listed {
         ensures { result ≡ is_past at self.now }
     {
         match self.past {
-            Some(past) => past >= at,
+            Some(past) => past.reaches(&at),
             None => false,
         }
     }
@@ -157,13 +156,6 @@ pub fn past_of(listings: &[Listed], node: NodeId) -> Option<Position>
     listed.past
 }
 
-/// The position that is reached exactly where both are.
-fn lower(past: Position, other: Position) -> Position
-    ensures { (at : Position) → reaches result at ≡ (reaches past at && reaches other at) }
-{
-    if past >= other { other } else { past }
-}
-
 /// The least position that a receiver is listed past, or none where one is listed past nothing.
 pub fn least_of(listings: &[Listed]) -> Option<Position>
     requires { 0 < length listings.now }
@@ -172,7 +164,7 @@ pub fn least_of(listings: &[Listed]) -> Option<Position>
     let first = &listings[0];
     let mut least = first.past?;
     for listed in listings {
-        least = lower(listed.past?, least);
+        least = listed.past?.nearer(least);
     }
     Some(least)
 }

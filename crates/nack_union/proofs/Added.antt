@@ -8,15 +8,15 @@ use Rattle.std.proofs.lemmas.List.Concat.{flat_map-append}
 use Rattle.norm_base.specs.Settings.{Settings}
 use Rattle.fec_plan.specs.Partition.{stream_cut}
 use Rattle.fec_plan.specs.Points.{point}
-use Rattle.norm_ext.specs.Asking.{asked_counts}
-use Rattle.norm_ext.specs.Asking.{Named}
+use Rattle.norm_ext.specs.Asking.{Named, named, asked_counts}
+use Rattle.norm_ext.specs.Requests.{Request}
 use Rattle.norm_order.specs.Sets.{is_member}
 use Rattle.norm_order.specs.Shapes.{Shape}
 use Rattle.norm_send_rules.specs.SenderState.{SenderState, Asked}
-use Rattle.norm_send_rules.specs.InWindow.{stands_behind, current_shapes, next_index}
+use Rattle.norm_send_rules.specs.InWindow.{stands_behind, current_shapes, next_index, last_index}
 use Rattle.norm_send_rules.specs.Asking.{wants_of, counts_of}
 use Rattle.norm_send_rules.specs.Closing.{greatest}
-use Rattle.nack_union.specs.Collected.{asked_of}
+use Rattle.norm_send_rules.specs.Hearing.{asked_now}
 use Rattle.norm_send_rules.specs.Laws.{Rise}
 use Rattle.norm_send_rules.specs.Wants.{want_before}
 use Rattle.norm_send_rules.specs.declared.want.Want.{Want}
@@ -24,7 +24,7 @@ use Rattle.norm_send_rules.proofs.ClosingLemmas.{rise_more}
 use Rattle.nack_union.specs.Slots.{want_at, slot_of_want}
 use Rattle.nack_union.specs.Kept.{Marked, Kept, Stands, listed, shape_of_marked, admitted}
 use Rattle.nack_union.specs.Earliest.{lesser, earliest, earliest_with}
-use Rattle.nack_union.specs.Collected.{Collects}
+use Rattle.nack_union.specs.Collected.{Collects, asked_of}
 use Rattle.nack_union.specs.Adding.{IsPlanned, HasAsked, HasAdded, asks_slot, is_asked_slot}
 use Rattle.nack_union.proofs.Orders.{want_there}
 use Rattle.nack_union.proofs.Dropped.{behind_start, index_at}
@@ -238,3 +238,11 @@ module _ (p : Settings) (s : SenderState) (old new : Kept) (asked : List Asked) 
         count_is k d (let many = h.objects in omega (arith, lt, many)) block
         ∙ ap (λ i. greatest (flat_map (counts_of (current_shapes p s)) (asked ++ more)) (point (i + k) block)) (sym h.first);
   }
+
+-- what requests name, as the order stands
+pub named_then_asked : (p : Settings) (s : SenderState) (known : ℕ) (requests : List Request) → known ≡ last_index s
+    → map (asked_of p s) (map (named p known) requests) ≡ map (asked_now p s) requests
+named_then_asked p s known [] is = refl
+named_then_asked p s known (r ∷ requests) is =
+    ap (λ (n : ℕ). asked_of p s (named p n r) ∷ map (asked_of p s) (map (named p known) requests)) is
+    ∙ ap (λ (asked : List Asked). asked_now p s r ∷ asked) (named_then_asked p s known requests is)

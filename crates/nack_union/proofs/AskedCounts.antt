@@ -6,16 +6,16 @@ use Rattle.std.proofs.lemmas.Bool.{cases_lt, lt-ltb, ltb-true}
 use Rattle.std.proofs.lemmas.Bool.Decides.{Decides-eqb, Decides-and}
 use Rattle.norm_base.specs.Settings.{Settings}
 use Rattle.fec_plan.specs.Partition.{IsSound, blocks}
-use Rattle.fec_plan.specs.Points.{Point, point, point_before, position}
+use Rattle.fec_plan.specs.Points.{Point, point, point_before, position, same_point}
 use Rattle.norm_ext.specs.Asking.{Named, Count, asked_counts}
 use Rattle.norm_order.specs.Shapes.{closed_in}
 use Rattle.norm_send_rules.specs.SenderState.{SenderState, Asked}
 use Rattle.norm_send_rules.specs.InWindow.{current_shapes}
 use Rattle.norm_send_rules.specs.Asking.{as_it_came, counts_of, is_kept}
-use Rattle.norm_send_rules.specs.Closing.{greatest, same_point}
+use Rattle.norm_send_rules.specs.Closing.{greatest}
 use Rattle.nack_union.specs.Collected.{asked_of}
 use Rattle.norm_send_rules.specs.declared.want.Want.TheVariants.{Symbol}
-use Rattle.obj_buffer.proofs.PartitionLemmas.{some_sources}
+use Rattle.fec_plan.proofs.PartitionLemmas.{some_sources}
 use Rattle.nack_union.specs.Kept.{Marked, Kept, Stands, shape_of_marked}
 use Rattle.nack_union.specs.Adding.{IsPlanned}
 use Rattle.nack_union.proofs.AskedSlots.{test_at}
@@ -27,10 +27,10 @@ use Rattle.nack_union.proofs.Lists.{In, in_flat, in_filter}
 use Rattle.nack_union.proofs.Sources.{in_map}
 use Rattle.nack_union.proofs.Wholes.{closed_past}
 
-abbrev most : List Count → ℕ
+abbrev pub most : List Count → ℕ
 most counts = fold (λ n (c : Count). max n c.lacking) 0 counts
 
-most_from : (n : ℕ) (counts : List Count) → fold (λ n (c : Count). max n c.lacking) n counts ≡ max n (most counts)
+pub most_from : (n : ℕ) (counts : List Count) → fold (λ n (c : Count). max n c.lacking) n counts ≡ max n (most counts)
 most_from n [] = omega arith
 most_from n (c ∷ counts) =
     let one = most_from (max n c.lacking) counts in

@@ -16,7 +16,7 @@ use Rattle.nack_union.specs.Collected.{asked_of}
 use Rattle.norm_send_rules.specs.Wants.{want_index}
 use Rattle.norm_send_rules.specs.declared.want.Want.{Want}
 use Rattle.norm_send_rules.specs.declared.want.Want.TheVariants.{Info, Symbol}
-use Rattle.obj_buffer.proofs.PartitionLemmas.{sources_fit}
+use Rattle.fec_plan.proofs.PartitionLemmas.{sources_fit}
 use Rattle.nack_union.specs.Slots.{want_at, slot_of_want, IsNamed}
 use Rattle.nack_union.specs.Kept.{Marked, Kept, Stands, shape_of_marked}
 use Rattle.nack_union.specs.Adding.{IsPlanned, names_symbol, asks_symbol, asks_slot}

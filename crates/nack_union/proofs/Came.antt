@@ -16,7 +16,7 @@ use Rattle.norm_send_rules.specs.SenderState.{SenderState}
 use Rattle.norm_send_rules.specs.InWindow.{current_shapes, next_index}
 use Rattle.norm_send_rules.specs.Asking.{closed_at, shapes_at, as_it_came}
 use Rattle.nack_union.specs.Collected.{asked_of}
-use Rattle.obj_buffer.proofs.PartitionLemmas.{some_sources, number_from_first, some_blocks_of}
+use Rattle.fec_plan.proofs.PartitionLemmas.{some_sources, number_from_first, some_blocks_of}
 use Rattle.nack_union.specs.Kept.{Marked, Kept, Stands, shape_of_marked}
 use Rattle.nack_union.specs.Adding.{IsPlanned}
 use Rattle.nack_union.proofs.Counted.{closed_is}

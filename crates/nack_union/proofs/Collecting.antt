@@ -5,14 +5,14 @@ use Rattle.std.specs.List.{range_with_len}
 use Rattle.std.proofs.lemmas.Bool.Decides.{Decides-eqb, Decides-and}
 use Rattle.norm_base.specs.Settings.{Settings}
 use Rattle.fec_plan.specs.Partition.{source_symbols}
-use Rattle.fec_plan.specs.Points.{Point, point, position, position_before}
+use Rattle.fec_plan.specs.Points.{Point, point, position, position_before, same_point}
 use Rattle.fec_plan.specs.declared.position.Position.{Position}
 use Rattle.norm_ext.specs.Asking.{Count}
 use Rattle.norm_order.specs.Sets.{is_member, with_members}
 use Rattle.norm_order.specs.Shapes.{Shape, symbols_of, closed_in, encoded_in}
 use Rattle.norm_send_rules.specs.SenderState.{SenderState}
 use Rattle.norm_send_rules.specs.InWindow.{current_shapes}
-use Rattle.norm_send_rules.specs.Closing.{greatest, same_point, repairs, fresh_parity, block_wants}
+use Rattle.norm_send_rules.specs.Closing.{greatest, repairs, fresh_parity, block_wants}
 use Rattle.norm_send_rules.specs.Wants.{want_before, want_index}
 use Rattle.norm_send_rules.specs.declared.want.Want.{Want}
 use Rattle.norm_send_rules.specs.declared.want.Want.TheVariants.{Symbol}

@@ -14,7 +14,7 @@ use Rattle.norm_send_rules.specs.SenderState.{SenderState}
 use Rattle.norm_send_rules.specs.Closing.{repairs, fresh_parity, block_wants}
 use Rattle.norm_send_rules.specs.declared.want.Want.{Want}
 use Rattle.norm_send_rules.specs.declared.want.Want.TheVariants.{Symbol}
-use Rattle.obj_buffer.proofs.PartitionLemmas.{sources_within, sources_fit}
+use Rattle.fec_plan.proofs.PartitionLemmas.{sources_within, sources_fit}
 use Rattle.nack_union.specs.Slots.{want_at, symbol_slot}
 use Rattle.nack_union.specs.Repairs.{fresh_parities, repair_slots, counted_slots}
 use Rattle.nack_union.specs.Kept.{Marked, shape_of_marked, listed, IsCounted, IsRepairable}

@@ -10,7 +10,7 @@ use Rattle.std.proofs.lemmas.List.Elements.{filter-append}
 use Rattle.fec_plan.specs.Points.{Point, point_of, point_before, position_before}
 use Rattle.fec_plan.specs.declared.position.Position.{Position}
 use Rattle.norm_order.specs.Sets.{with_member}
-use Rattle.norm_order.proofs.PositionLemmas.{before_decides}
+use Rattle.fec_plan.proofs.PositionLemmas.{before_decides}
 use Rattle.norm_send_rules.specs.Laws.{Rise}
 use Rattle.norm_send_rules.specs.Wants.{want_before, want_index}
 use Rattle.norm_send_rules.specs.InWindow.{stands_behind}

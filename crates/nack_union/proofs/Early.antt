@@ -3,16 +3,13 @@ use Rattle.std.proofs.Common.{◌≡◌, ℕ, ◌<◌, ◌≤◌, ◌⊎◌, inl
 use Rattle.std.specs.Prelude.{nat_lt, min, ◌&&◌, ◌||◌, ◌==◌}
 use Rattle.std.specs.List.{list_any}
 use Rattle.std.proofs.lemmas.Bool.{cases_lt, lt-ltb, le-ltb}
+use Rattle.std.proofs.Math.Bool.{or_assoc}
 use Rattle.fec_plan.specs.Points.{Point, point, point_of, point_before}
 use Rattle.fec_plan.specs.declared.position.Position.{Position}
 use Rattle.norm_ext.specs.Asking.{Named, has_flag, object_flag, info_flag}
 use Rattle.norm_send_rules.specs.SenderState.{Asked}
 use Rattle.norm_send_rules.specs.Closing.{asks_early, gives_something, begins_at, counts_from}
 use Rattle.nack_union.specs.Earliest.{lesser, least_with, earliest, earliest_with, is_below_first}
-
-or_assoc : (a b c : Bool) → ((a || b) || c) ≡ (a || (b || c))
-or_assoc true b c = refl
-or_assoc false b c = refl
 
 or_false : (a : Bool) → (a || false) ≡ a
 or_false true = refl

@@ -1,10 +1,11 @@
 -- What is added to what is asked of an object: one slot, nothing, and one part after another.
 use Rattle.std.proofs.Common.{◌≡◌, ℕ, ◌<◌, List, length, Bool, false, refl, sym, ap, ◌∙◌, arith, subst}
 use Rattle.std.specs.Prelude.{◌==◌, ◌||◌, nat_lt, max, slice_index}
+use Rattle.std.proofs.Math.Bool.{or_assoc}
 use Rattle.norm_order.specs.Sets.{with_member, is_member}
 use Rattle.nack_union.specs.Kept.{Marked}
 use Rattle.nack_union.specs.More.{HasMore}
-use Rattle.nack_union.proofs.Puts.{with_puts, or_false, or_assoc}
+use Rattle.nack_union.proofs.Puts.{with_puts, or_false}
 
 pub one_slot : (f : ℕ → Bool) (x : ℕ) (old new : Marked) → new ≡ record old { asked = with_member nat_lt x old.asked }
     → ((slot : ℕ) → f slot ≡ (slot == x)) → HasMore f (λ block. 0) old new

@@ -5,7 +5,7 @@ use Rattle.std.proofs.Math.Nat.{div-add-mod}
 use Rattle.std.proofs.lemmas.Bool.{cases_order, lt-ltb, le-ltb, le-leb, lt-leb, ltb-true}
 use Rattle.std.proofs.lemmas.Bool.Decides.{same_from_decides}
 use Rattle.fec_plan.specs.Points.{position}
-use Rattle.norm_order.proofs.PositionLemmas.{Before, before_decides}
+use Rattle.fec_plan.proofs.PositionLemmas.{Before, before_decides}
 use Rattle.nack_union.specs.Kept.{Marked, listed}
 use Rattle.norm_order.specs.Sets.{with_member}
 use Rattle.norm_send_rules.specs.Wants.{want_before, want_index}

@@ -4,12 +4,13 @@ use Rattle.std.specs.Prelude.{◌×◌, ◌||◌, flat_map}
 use Rattle.norm_base.specs.Settings.{Settings}
 use Rattle.fec_plan.specs.declared.position.Position.{Position}
 use Rattle.norm_ext.specs.Asking.{Span, span, pairs, pair_span, item_span, item_named, named_by, named, is_proper, has_flag, segment_flag, block_flag}
+use Rattle.norm_ext.specs.Items.{both_of}
 use Rattle.norm_ext.specs.Requests.{Request, RequestItem}
 use Rattle.norm_ext.specs.declared.head.Item.{Item}
 use Rattle.norm_ext.specs.declared.kinds.Form.{Form}
 use Rattle.norm_ext.specs.declared.kinds.Form.TheVariants as form
 use Rattle.nack_union.specs.Kept.{Kept}
-use Rattle.nack_union.specs.Earliest.{items_spans, pairs_spans, both_of}
+use Rattle.nack_union.specs.Earliest.{items_spans, pairs_spans}
 use Rattle.nack_union.specs.More.{HasPart, Part, no_part, part_where, named_part, item_part, items_part, ranges_part, count_part, counts_part, request_part}
 use Rattle.nack_union.proofs.Parts.{part_then}
 

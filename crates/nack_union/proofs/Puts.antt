@@ -4,7 +4,8 @@ use Rattle.std.specs.Prelude.{◌==◌, ◌||◌, not, nat_lt}
 use Rattle.std.proofs.lemmas.Bool.{cases_order, lt-ltb, le-ltb}
 use Rattle.std.proofs.lemmas.Bool.Decides.{nat_tests}
 use Rattle.norm_order.specs.Sets.{with_member, is_member}
-use Rattle.nack_union.proofs.Ranges.{alone, in_front, again, behind, no_member}
+use Rattle.norm_order.proofs.SetLemmas.{in_front, again, behind, alone}
+use Rattle.nack_union.proofs.Ranges.{no_member}
 
 pub same_is : (x y : ℕ) → x ≡ y → (x == y) ≡ true
 same_is x y e = grind (arith, nat_tests)
@@ -75,7 +76,3 @@ with_puts x y (v ∷ ys) = go (cases_order y v) (with_puts x y ys)
         ap (λ u. is_member nat_lt x (with_member nat_lt u (v ∷ ys))) e ∙ ap (is_member nat_lt x) (again v ys) ∙ there_is x y v ys e (cases_order x y)
     go (inr (inl lt)) rest = ap (is_member nat_lt x) (in_front y v ys lt) ∙ front_is x y v ys lt (cases_order x y)
     go (inr (inr lt)) rest = ap (is_member nat_lt x) (behind v y ys lt) ∙ behind_is x y v ys lt (cases_order x v) rest
-
-pub or_assoc : (a b c : Bool) → ((a || b) || c) ≡ (a || (b || c))
-or_assoc true b c = refl
-or_assoc false b c = refl

@@ -4,42 +4,7 @@ use Rattle.std.specs.Prelude.{not, filter, nat_lt}
 use Rattle.std.specs.List.{range_with_len}
 use Rattle.std.proofs.lemmas.Bool.{cases_order, lt-ltb, le-ltb}
 use Rattle.norm_order.specs.Sets.{with_member, is_member}
-
--- with one more, by what the two comparisons say
-abbrev put : Bool → Bool → ℕ → ℕ → List ℕ → List ℕ
-put b c x y ys = elim b [
-  | true ↦ x ∷ y ∷ ys
-  | false ↦ elim c [ true ↦ y ∷ with_member nat_lt x ys | false ↦ y ∷ ys ]
-]
-
-pub in_front : (m x : ℕ) (xs : List ℕ) → m < x → with_member nat_lt m (x ∷ xs) ≡ m ∷ x ∷ xs
-unfolding with_member
-in_front m x xs lt = go (nat_lt m x) (nat_lt x m) (lt-ltb m x lt)
-  where
-    go : (b c : Bool) → b ≡ true → put b c m x xs ≡ m ∷ x ∷ xs
-    go true c e = refl
-    go false c e = absurd (cc)
-
-pub again : (m : ℕ) (xs : List ℕ) → with_member nat_lt m (m ∷ xs) ≡ m ∷ xs
-unfolding with_member
-again m xs = go (nat_lt m m) (le-ltb m m (omega arith))
-  where
-    go : (b : Bool) → b ≡ false → put b b m m xs ≡ m ∷ xs
-    go true e = absurd (cc)
-    go false e = refl
-
-pub behind : (m x : ℕ) (xs : List ℕ) → m < x → with_member nat_lt x (m ∷ xs) ≡ m ∷ with_member nat_lt x xs
-unfolding with_member
-behind m x xs lt = go (nat_lt x m) (nat_lt m x) (le-ltb x m (omega arith)) (lt-ltb m x lt)
-  where
-    go : (b c : Bool) → b ≡ false → c ≡ true → put b c x m xs ≡ m ∷ with_member nat_lt x xs
-    go true c e f = absurd (cc)
-    go false false e f = absurd (cc)
-    go false true e f = refl
-
-pub alone : (m : ℕ) → with_member nat_lt m [] ≡ m ∷ []
-unfolding with_member
-alone m = refl
+use Rattle.norm_order.proofs.SetLemmas.{in_front, again, behind, alone}
 
 first_below : (p : ℕ → Bool) (m a n : ℕ) → m < a → with_member nat_lt m (filter p (range_with_len a n)) ≡ m ∷ filter p (range_with_len a n)
 first_below p m a zero lt = alone m

@@ -4,13 +4,13 @@ use Rattle.std.specs.Prelude.{filter}
 use Rattle.std.specs.List.{range_with_len, AllByRecursion}
 use Rattle.std.proofs.lemmas.Bool.{lt-ltb, cases_eq}
 use Rattle.std.proofs.lemmas.List.{get_or_read}
+use Rattle.norm_order.specs.Sets.{Rises}
 use Rattle.norm_send_rules.specs.Laws.{Rise}
 use Rattle.norm_send_rules.specs.Wants.{want_before}
 use Rattle.norm_send_rules.specs.declared.want.Want.{Want}
 use Rattle.nack_union.specs.Slots.{want_at}
 use Rattle.nack_union.specs.Kept.{Marked, listed}
 use Rattle.nack_union.specs.Words.{has_bit, places_of}
-use Rattle.nack_union.specs.More.{Rises}
 use Rattle.nack_union.proofs.Orders.{same_order, earlier}
 
 above : (p : ℕ → Bool) (x a n : ℕ) → x < a → AllByRecursion (λ y. x < y) (filter p (range_with_len a n))

@@ -1,20 +1,21 @@
 -- What requests ask for, as parts and by the rules: slots and counts of a union.
-use Rattle.std.proofs.Common.{◌≡◌, ℕ, zero, suc, ◌+◌, ◌/◌, ◌%◌, List, [], ◌∷◌, ◌++◌, map, get_or, Bool, true, false, refl, sym, ap, ◌∙◌, arith, cond}
-use Rattle.std.specs.Prelude.{◌==◌, ◌&&◌, ◌||◌, nat_lt, max, filter, flat_map, fold, slice_index}
+use Rattle.std.proofs.Common.{◌≡◌, ℕ, zero, suc, ◌+◌, ◌/◌, ◌%◌, List, [], ◌∷◌, map, get_or, Bool, true, false, refl, sym, ap, ◌∙◌, arith, cond}
+use Rattle.std.specs.Prelude.{◌==◌, ◌&&◌, ◌||◌, nat_lt, max, filter, flat_map, slice_index}
 use Rattle.std.specs.List.{list_any}
 use Rattle.fec_plan.specs.Partition.{Cut, blocks, source_symbols, encoding_symbols}
-use Rattle.fec_plan.specs.Points.{Point, point, point_of, position}
+use Rattle.fec_plan.specs.Points.{Point, point, point_of, position, same_point}
 use Rattle.fec_plan.specs.declared.position.Position.{Position}
 use Rattle.norm_ext.specs.Asking.{Span, Named, lies_in, has_flag, segment_flag, block_flag, object_flag, info_flag, asked_spans, asked_counts, Count, is_proper}
 use Rattle.norm_ext.specs.declared.kinds.Form.{Form}
 use Rattle.norm_ext.specs.declared.kinds.Form.TheVariants as form
 use Rattle.norm_order.specs.Sets.{is_member}
-use Rattle.norm_send_rules.specs.Closing.{greatest, same_point}
+use Rattle.norm_send_rules.specs.Closing.{greatest}
 use Rattle.norm_send_rules.specs.Laws.{Rise}
 use Rattle.nack_union.specs.Kept.{Marked, Kept, listed}
 use Rattle.nack_union.specs.Adding.{asks_slot, is_asked_slot, HasAsked, HasAdded}
 use Rattle.nack_union.specs.Earliest.{earliest_with}
 use Rattle.nack_union.specs.More.{HasPart, MoreOf, part_where, counts_part, items_part, ranges_part, request_part, requests_part, named_part, symbol_part}
+use Rattle.nack_union.proofs.AskedCounts.{most, most_from, greatest_both}
 use Rattle.nack_union.proofs.Puts.{or_false}
 use Rattle.nack_union.proofs.Requested.{begins, any_spans, any_where, same_symbol, items_slot, items_info, ranges_slot, ranges_info, no_infos, none_asked}
 
@@ -86,16 +87,6 @@ all_slots (r ∷ rs) index m slot =
     ap (λ v. v || (requests_part rs).slots index m.cut m.info slot) (by_form r.form r.flags r.spans index m slot)
     ∙ ap (λ v. asks_slot r index m slot || v) (all_slots rs index m slot)
 
-abbrev most : List Count → ℕ
-most counts = fold (λ n (c : Count). max n c.lacking) 0 counts
-
-most_from : (n : ℕ) (counts : List Count) → fold (λ n (c : Count). max n c.lacking) n counts ≡ max n (most counts)
-most_from n [] = omega arith
-most_from n (c ∷ counts) =
-    let one = most_from (max n c.lacking) counts in
-    let two = most_from (max 0 c.lacking) counts in
-    omega (arith, one, two)
-
 -- the greatest of one more
 greatest_more : (c : Count) (ys : List Count) (at : Point) → greatest (c ∷ ys) at ≡ max (elim (same_point c.of at) as (λ _. ℕ) [ true ↦ c.lacking | false ↦ 0 ]) (greatest ys at)
 greatest_more c ys at = go (same_point c.of at)
@@ -103,11 +94,6 @@ greatest_more c ys at = go (same_point c.of at)
     go : (b : Bool) → most (cond b (c ∷ filter (λ c. same_point c.of at) ys) (filter (λ c. same_point c.of at) ys)) ≡ max (elim b as (λ _. ℕ) [ true ↦ c.lacking | false ↦ 0 ]) (greatest ys at)
     go true = most_from (max 0 c.lacking) (filter (λ c. same_point c.of at) ys) ∙ ap (λ n. max n (greatest ys at)) (let e : max 0 c.lacking ≡ c.lacking = omega arith in e)
     go false = let e : greatest ys at ≡ max 0 (greatest ys at) = omega arith in e
-
-greatest_all : (xs ys : List Count) (at : Point) → greatest (xs ++ ys) at ≡ max (greatest xs at) (greatest ys at)
-greatest_all [] ys at = omega arith
-greatest_all (c ∷ xs) ys at =
-    let one = greatest_more c (xs ++ ys) at in let two = greatest_more c xs at in let rest = greatest_all xs ys at in omega (arith, one, two, rest)
 
 zero_where : (b : Bool) (x : Position) (index block : ℕ) → (part_where b (symbol_part x)).counts index block ≡ 0
 zero_where true x index block = refl
@@ -159,7 +145,7 @@ all_counts [] index block = refl
 all_counts (r ∷ rs) index block =
     ap (λ v. max v ((requests_part rs).counts index block)) (counts_form r.form r.flags r.spans index block)
     ∙ ap (max (greatest (asked_counts r) (point index block))) (all_counts rs index block)
-    ∙ sym (greatest_all (asked_counts r) (flat_map asked_counts rs) (point index block))
+    ∙ sym (greatest_both (asked_counts r) (flat_map asked_counts rs) (point index block))
 
 -- what was asked as parts was added
 pub added_parts : (rs : List Named) (old new : Kept) → HasPart (requests_part rs) old new

@@ -4,7 +4,7 @@ use Rattle.std.proofs.lemmas.Bool.{cases_order, cases_lt, lt-ltb, le-ltb, le-leb
 use Rattle.fec_plan.specs.Points.{position_before}
 use Rattle.fec_plan.specs.declared.position.Position.{Position}
 use Rattle.norm_order.specs.Sets.{with_member, with_members}
-use Rattle.norm_order.proofs.PositionLemmas.{Before, before_decides, not_both}
+use Rattle.fec_plan.proofs.PositionLemmas.{Before, before_decides, not_both}
 use Rattle.norm_send_rules.specs.Wants.{want_before}
 use Rattle.norm_send_rules.specs.declared.want.Want.{Want}
 use Rattle.norm_send_rules.specs.declared.want.Want.TheVariants.{Info, Symbol}

@@ -10,7 +10,7 @@ use Rattle.std.proofs.lemmas.Grind.{div_ceil_times}
 use Rattle.fec_plan.specs.Partition.{Cut, IsSound, symbols_in, blocks_in, large_block, small_block, larger_blocks, block_size, symbols_before, blocks, source_symbols, encoding_symbols, all_symbols, symbol_number}
 use Rattle.fec_plan.proofs.CutLemmas.{some_blocks, large_most}
 use Rattle.norm_order.specs.Shapes.{closed_in, encoded_in, closed_blocks}
-use Rattle.obj_buffer.proofs.PartitionLemmas.{some_sources}
+use Rattle.fec_plan.proofs.PartitionLemmas.{some_sources}
 use Rattle.nack_union.specs.Kept.{Marked, shape_of_marked}
 
 -- all blocks together have all symbols

@@ -1,6 +1,6 @@
 -- The least index from which repair requests count (RFC 5740 section 5.4): what was asked for before the window makes a squelch
 -- due.
-use Rattle.std.specs.Prelude.{ℕ, ◌×◌, List, fold, map, filter, flat_map, min, Bool, true, false, nat_lt, Option, None, Some}
+use Rattle.std.specs.Prelude.{ℕ, List, fold, map, filter, flat_map, min, Bool, true, false, nat_lt, Option, None, Some}
 use Rattle.norm_base.specs.Settings.{Settings}
 use Rattle.fec_plan.specs.Points.{position_before}
 use Rattle.fec_plan.specs.declared.position.Position.{Position}
@@ -41,11 +41,6 @@ items_spans p known items = flat_map item_span (map (item_named p known) items)
 
 abbrev pub pairs_spans : Settings → ℕ → List Item → List Span
 pairs_spans p known items = pairs (map (item_named p known) items)
-
--- both, where there are both
-abbrev pub both_of : Option Position → Option Position → Option (Position × Position)
-both_of (Some first) (Some last) = Some (first, last)
-both_of _ _ = None
 
 -- where a range begins that is not empty
 abbrev pub range_begin : Option Position → Option Position → Option Position

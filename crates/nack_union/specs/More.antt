@@ -1,6 +1,5 @@
 -- What calls add to what the open round asks for, slot by slot and block by block.
-use Rattle.std.specs.Prelude.{ℕ, zero, suc, ◌≡◌, ◌+◌, ◌<◌, ◌/◌, ◌%◌, ◌==◌, ◌&&◌, ◌||◌, length, max, Bool, true, false, nat_lt, not, get_or, slice_index, List, [], ◌∷◌, ⊤}
-use Rattle.std.specs.List.{AllByRecursion}
+use Rattle.std.specs.Prelude.{ℕ, zero, suc, ◌≡◌, ◌+◌, ◌<◌, ◌/◌, ◌%◌, ◌==◌, ◌&&◌, ◌||◌, length, max, Bool, true, false, nat_lt, not, get_or, slice_index, List, [], ◌∷◌}
 use Rattle.fec_plan.specs.Partition.{Cut, blocks, source_symbols, encoding_symbols}
 use Rattle.fec_plan.specs.Points.{position}
 use Rattle.fec_plan.specs.declared.position.Position.{Position}
@@ -146,8 +145,3 @@ request_part r = elim r.form [
 abbrev pub requests_part : List Named → Part
 requests_part [] = no_part
 requests_part (r ∷ rs) = and_part (request_part r) (requests_part rs)
-
--- each number is below those that follow it
-abbrev pub Rises : List ℕ → Type 0
-Rises [] = ⊤
-Rises (x ∷ xs) = AllByRecursion (λ y. x < y) xs × Rises xs

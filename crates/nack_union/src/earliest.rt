@@ -7,11 +7,10 @@ ghost use Rattle.norm_ext.specs.Asking.{is_proper, item_named, named};
 ghost use Rattle.norm_send_rules.specs.Closing.{gives_something};
 ghost use Rattle.nack_union.specs.Earliest.{lesser, least_with, earliest, is_below_first, firsts, items_spans, pairs_spans, range_begin, lesser_at};
 
-use crate::asking::{ends_of, is_before, position_of, split_item, split_pair};
-use crate::marks::has_flag;
 use fec_plan::Position;
 use norm_base::Profile;
 use norm_ext::flags::{WANT_BLOCK, WANT_INFO, WANT_OBJECT, WANT_SEGMENT};
+use norm_ext::items::{ends_of, has_flag, position_of, split_item, split_pair};
 use norm_ext::{Form, Item, Request};
 
 /// The lesser of two indexes, where there are any.
@@ -80,7 +79,7 @@ fn begin_of(profile: &Profile, known: u32, first: Item, last: Item) -> Option<Po
     match ends_of(profile, known, first, last) {
         None => None,
         Some((first, last)) => {
-            if is_before(&last, &first) {
+            if last.is_before(&first) {
                 None
             } else {
                 Some(first)

@@ -2,9 +2,9 @@
 
 ghost use Rattle.std.specs.Prelude.{◌≡◌, ◌+◌, ◌^◌, ◌<◌, ◌≤◌, ◌∷◌, [], nat_lt, IfOk, MatchOption, true, false, ◌==◌, ℕ, length, max, set, slice_index, ◌&&◌, ◌||◌};
 ghost use Rattle.fec_plan.specs.Partition.{blocks};
-ghost use Rattle.norm_order.specs.Sets.{with_member, is_member};
+ghost use Rattle.norm_order.specs.Sets.{with_member, is_member, Rises};
 ghost use Rattle.nack_union.specs.Slots.{slots, symbol_slot, want_at};
-ghost use Rattle.nack_union.specs.More.{HasMore, is_source_slot, is_encoded_slot, in_run, slot_in, slot_from, slot_behind, is_slot_of, count_at, MoreOf, named_part, Rises};
+ghost use Rattle.nack_union.specs.More.{HasMore, is_source_slot, is_encoded_slot, in_run, slot_in, slot_from, slot_behind, is_slot_of, count_at, MoreOf, named_part};
 ghost use Rattle.nack_union.specs.Adding.{IsPlanned};
 ghost use Rattle.norm_ext.specs.Asking.{span, has_flag};
 ghost use Rattle.nack_union.specs.Kept.{admitted, closed_marks, IsCounted};
@@ -16,6 +16,7 @@ use crate::repairs::ask_counted;
 use fec_plan::{Plan, Position};
 use norm_base::Memory;
 use norm_ext::flags::{WANT_BLOCK, WANT_INFO, WANT_OBJECT, WANT_SEGMENT};
+use norm_ext::items::has_flag;
 use norm_send_rules::Want;
 use std::alloc::Global;
 use std::marker::Model;
@@ -120,14 +121,6 @@ pub struct Named {
     pub first: Position,
     pub last: Position,
     pub flags: u8,
-}
-
-/// Whether a request's flags have this one.
-pub fn has_flag(flags: u8, flag: u8) -> bool
-    requires { 0 < flag }
-    ensures { result ≡ has_flag flags flag }
-{
-    flags / flag % 2 == 1
 }
 
 impl Marks {

@@ -2,8 +2,8 @@
 
 ghost use Rattle.std.specs.Prelude.{◌≡◌, ◌+◌, ◌*◌, ◌^◌, ◌<◌, ◌≤◌, ◌∷◌, [], not, nat_lt, length, IfOk, MatchOption, slice_index, ◌≢◌, ℕ, IfSome, ◌||◌};
 ghost use Rattle.std.specs.Int.{div_ceil};
-ghost use Rattle.norm_order.specs.Sets.{with_member, with_members, is_member};
-ghost use Rattle.nack_union.specs.More.{in_run, Rises};
+ghost use Rattle.norm_order.specs.Sets.{with_member, with_members, is_member, Rises};
+ghost use Rattle.nack_union.specs.More.{in_run};
 
 use norm_base::Memory;
 use std::alloc::Global;

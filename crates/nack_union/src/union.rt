@@ -30,14 +30,13 @@ ghost use Rattle.nack_union.specs.Rounds.{new_wants, wants_closed};
 ghost use Rattle.nack_union.specs.Earliest.{is_below_first, earliest_with, items_spans, pairs_spans};
 ghost use Rattle.nack_union.specs.Collected.{Collects};
 
-use crate::asking::{
-    ask_range, ends_of, hold_all, is_before, position_of, split_item, split_pair,
-};
+use crate::asking::{ask_range, hold_all};
 use crate::earliest::{earliest_of, is_below, lesser};
-use crate::marks::{Marks, Named, has_flag, slot_of, want_of};
+use crate::marks::{Marks, Named, slot_of, want_of};
 use fec_plan::{Plan, Position};
 use norm_base::{Memory, Profile};
 use norm_ext::flags::{WANT_BLOCK, WANT_SEGMENT};
+use norm_ext::items::{ends_of, has_flag, position_of, split_item, split_pair};
 use norm_ext::{Form, Request, Requests};
 use norm_send_rules::Want;
 use std::alloc::Global;
@@ -259,7 +258,7 @@ impl Union {
     fn ask_pair(&mut self, flags: u8, first: Position, last: Position)
         ensures { HasPart (part_where (is_proper (span first last)) (named_part flags (span first last))) self.old self.new }
     {
-        if !is_before(&last, &first) {
+        if !last.is_before(&first) {
             self.ask_named(Named { first, last, flags });
         }
     }

@@ -1,3 +1,3 @@
 pub mod RangeLemmas
-pub mod ToldLemmas
 pub mod CountLemmas
+pub mod MemberLemmas

@@ -2,6 +2,9 @@ pub mod Member
 pub mod Keys
 pub mod Settings
 pub mod Members
+pub mod MemberLaws
+pub mod Sizes
+pub mod Datagrams
 pub mod ProfileView
 pub mod Given
 pub mod Faults

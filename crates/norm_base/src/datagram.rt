@@ -1,13 +1,17 @@
 //! One datagram as it is written, of at most 1,500 octets.
 
 ghost use Rattle.std.specs.Prelude.{◌≡◌, ◌+◌, ◌-◌, ◌≤◌, ℕ, List, [], ◌++◌, length, take, drop, IfOk, vec_len, vec_capacity};
+ghost use Rattle.norm_base.specs.Sizes.{datagram_room};
 
 use crate::fault::Memory;
 use std::alloc::Global;
 use std::marker::Model;
 
 /// The most octets of a datagram.
-pub const MOST_OCTETS: usize = 1500;
+pub const DATAGRAM_ROOM: usize = 1500;
+
+/// The most octets of a symbol as it is coded: a symbol of 1,400, and the eight octets of a segment's place before it.
+pub const SYMBOL_ROOM: usize = 1408;
 
 /// A datagram with room for 1,500 octets, all of it reserved at the start.
 #[derive(Debug, Drop)]
@@ -20,7 +24,7 @@ impl Model for Datagram {
 
     ghost view = { λ d. d.bytes.items };
 
-    ghost invariant = { λ d. (vec_len d.bytes ≤ 1500) × (1500 ≤ vec_capacity d.bytes) };
+    ghost invariant = { λ d. (vec_len d.bytes ≤ datagram_room) × (datagram_room ≤ vec_capacity d.bytes) };
 }
 
 impl Datagram {
@@ -28,7 +32,7 @@ impl Datagram {
     pub fn new(alloc: Global) -> Result<Datagram, Memory>
         ensures { IfOk result (λ d. d ≡ []) }
     {
-        let bytes = Vec::with_capacity(alloc, MOST_OCTETS)?;
+        let bytes = Vec::with_capacity(alloc, DATAGRAM_ROOM)?;
         Ok(Datagram { bytes })
     }
 
@@ -42,22 +46,22 @@ impl Datagram {
     /// The octets, lent.
     pub fn bytes(&self) -> &[u8]
         ensures octets { result.now ≡ self.now }
-        ensures most { length result.now ≤ 1500 }
+        ensures most { length result.now ≤ datagram_room }
     {
         self.bytes.as_slice()
     }
 
     /// How many octets may still be pushed: 1,500 less the length.
     pub fn room(&self) -> usize
-        ensures room { result ≡ 1500 - length self.now }
-        ensures most { length self.now ≤ 1500 }
+        ensures room { result ≡ datagram_room - length self.now }
+        ensures most { length self.now ≤ datagram_room }
     {
-        MOST_OCTETS - self.bytes.len()
+        DATAGRAM_ROOM - self.bytes.len()
     }
 
     /// Adds the octets at the end.
     pub fn push(&mut self, part: &[u8])
-        requires { length part.now ≤ 1500 - length self.old }
+        requires { length part.now ≤ datagram_room - length self.old }
         ensures { self.new ≡ self.old ++ part.now }
     {
         self.bytes.extend_from_slice(part).unwrap();

@@ -2,6 +2,7 @@
 
 ghost use Rattle.std.specs.Prelude.{◌≡◌, ◌≤◌, ℕ, [], length, IfOk, IfNone, OnOk, OnErr};
 ghost use Rattle.norm_base.specs.Faults.{Counts, network_failed};
+ghost use Rattle.norm_base.specs.Sizes.{datagram_room};
 ghost use Rattle.norm_base.specs.Network.{Network, Starts, with_offer, with_answer, answer_of, IsHonestAnswer};
 
 use crate::datagram::Datagram;
@@ -28,7 +29,7 @@ pub trait Fabric {
 
     /// Offers a member's datagram of at most 1,500 octets to the others.
     fn offer(&mut self, from: NodeId, bytes: &[u8]) -> Result<(), FabricFault>
-        requires { length bytes.now ≤ 1500 }
+        requires { length bytes.now ≤ datagram_room }
         ensures ok { OnOk result (told self.new ≡ with_offer (told self.old) from bytes.now) }
         ensures err { OnErr result (told self.new ≡ told self.old) }
         ensures cause { Counts (fault_count self.old) (fault_count self.new) (network_failed result) };

@@ -9,6 +9,7 @@ mod files;
 mod given;
 mod key;
 mod kinds;
+pub mod laws;
 mod node;
 mod octets;
 mod profile;
@@ -16,18 +17,15 @@ mod sink;
 mod source;
 
 pub use crate::clock::Clock;
-pub use crate::datagram::Datagram;
+pub use crate::datagram::{DATAGRAM_ROOM, Datagram, SYMBOL_ROOM};
 pub use crate::fabric::Fabric;
 pub use crate::fault::{FabricFault, Failed, FileFault, Memory};
 pub use crate::files::Files;
 pub use crate::given::Given;
 pub use crate::key::{KEYS, Key, KeyRow};
 pub use crate::kinds::{FabricKind, Kind, Local, Mode, Sent};
-pub use crate::node::{InstanceId, Moment, NodeId, Origin};
+pub use crate::node::{ID_COUNT, InstanceId, Moment, NodeId, Origin};
 pub use crate::octets::{Octets, Text};
 pub use crate::profile::Profile;
 pub use crate::sink::Sink;
 pub use crate::source::Source;
-
-#[cfg(test)]
-mod tests;

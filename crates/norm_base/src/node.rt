@@ -40,6 +40,9 @@ impl NodeId {
     }
 }
 
+/// How many numbers have 16 bits: object transport ids, instances and sequence numbers count in these.
+pub const ID_COUNT: u32 = 65_536;
+
 /// Which life of a sender a message belongs to.
 #[derive(Clone, Copy, Debug, PartialEq, Eq, PartialOrd, Ord, Hash)]
 pub struct InstanceId(pub u16);

@@ -3,6 +3,7 @@
 ghost use Rattle.std.specs.Prelude.{◌≡◌, ◌+◌, ◌<◌};
 ghost use Rattle.norm_base.specs.Settings.{mode_at, fabric_at};
 ghost use Rattle.norm_base.specs.Given.{profile_given};
+ghost use Rattle.norm_base.specs.Members.{is_receiver};
 
 use crate::given::Given;
 use crate::key::Key;
@@ -144,6 +145,14 @@ impl Profile {
         ensures { result ≡ self.now.sender + 1 + i }
     {
         NodeId::of(self.sender + 1 + i).unwrap()
+    }
+
+    /// Whether a node is a receiver of the session.
+    pub fn is_receiver(&self, node: NodeId) -> bool
+        ensures { result ≡ is_receiver self.now node }
+    {
+        let number = node.number();
+        self.sender < number && number <= self.sender + u32::from(self.receivers)
     }
 }
 

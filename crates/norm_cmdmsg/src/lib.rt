@@ -3,12 +3,13 @@
 #![tactic(auto)]
 
 mod command;
+pub mod laws;
 mod lists;
 mod read;
 mod write;
 
 pub use crate::command::CommandMsg;
-pub use crate::lists::{Nodes, Objects, nodes_of, objects_of};
+pub use crate::lists::{Nodes, Objects, names, nodes_of, objects_of};
 pub use crate::read::read_command;
 pub use crate::write::write_command;
 pub use norm_ext::CmdHead;

@@ -1,8 +1,10 @@
 //! Lists of numbers: node ids of 32 bits, object transport ids of 16.
 
-ghost use Rattle.std.specs.Prelude.{◌≡◌, ◌%◌, [], ◌∷◌, MatchOption, length};
+ghost use Rattle.std.specs.Prelude.{◌≡◌, ◌==◌, ◌%◌, [], ◌∷◌, MatchOption, length};
+ghost use Rattle.std.specs.List.{list_any};
 ghost use Rattle.norm_ext.specs.Lists.{nodes_of as all_nodes, objects_of as all_objects};
 
+use norm_base::NodeId;
 use norm_ext::{read_16, read_32};
 use std::marker::Model;
 
@@ -29,6 +31,20 @@ pub fn nodes_of(list: &[u8]) -> Nodes<'_>
     ensures { result ≡ all_nodes list.now }
 {
     Nodes { list }
+}
+
+/// Whether a list of node ids, whose length is a multiple of 4, has this one.
+pub fn names(list: &[u8], node: NodeId) -> bool
+    requires { length list.now % 4 ≡ 0 }
+    ensures { result ≡ list_any (λ n. n == node) (all_nodes list.now) }
+{
+    let wanted = node.number();
+    for number in nodes_of(list) {
+        if number == wanted {
+            return true;
+        }
+    }
+    false
 }
 
 /// The first node id of a list, and the list behind it.

@@ -4,6 +4,7 @@ ghost use Rattle.std.specs.Prelude.{◌≡◌, ◌+◌, ◌*◌, ◌≤◌, ◌<
 ghost use Rattle.norm_ext.specs.Numbers.{octet, sub_type_number};
 ghost use Rattle.norm_ext.specs.Reading.{words_of, least_words, command_read, command_by, sub_type_in, flush_read, eot_read, squelch_read, repair_adv_read, ack_req_read, opaque_read};
 ghost use Rattle.norm_cmdmsg.specs.View.{command_of};
+ghost use Rattle.norm_cmdmsg.specs.Whole.{IsWhole};
 
 use crate::command::CommandMsg;
 use norm_ext::header::{
@@ -17,7 +18,8 @@ fn read_flush(bytes: &[u8], end: usize) -> Result<CommandMsg<'_>, Refusal>
     requires end { end ≡ 4 * words_of bytes.now }
     requires least { 20 ≤ end }
     requires long { end ≤ length bytes.now }
-    ensures { MatchResult result (λ m. flush_read bytes.now ≡ Ok (command_of m)) (λ refusal. flush_read bytes.now ≡ Err refusal) }
+    ensures exact { MatchResult result (λ m. flush_read bytes.now ≡ Ok (command_of m)) (λ refusal. flush_read bytes.now ≡ Err refusal) }
+    ensures whole { IfOk result IsWhole }
 {
     check_encoding(bytes[13])?;
     let exts = check_extensions(bytes, 20, end)?;
@@ -39,7 +41,8 @@ fn read_eot(bytes: &[u8], end: usize) -> Result<CommandMsg<'_>, Refusal>
     requires end { end ≡ 4 * words_of bytes.now }
     requires least { 16 ≤ end }
     requires long { end ≤ length bytes.now }
-    ensures { MatchResult result (λ m. eot_read bytes.now ≡ Ok (command_of m)) (λ refusal. eot_read bytes.now ≡ Err refusal) }
+    ensures exact { MatchResult result (λ m. eot_read bytes.now ≡ Ok (command_of m)) (λ refusal. eot_read bytes.now ≡ Err refusal) }
+    ensures whole { IfOk result IsWhole }
 {
     let exts = check_extensions(bytes, 16, end)?;
     let source = check_source(bytes)?;
@@ -59,7 +62,8 @@ fn read_squelch(bytes: &[u8], end: usize) -> Result<CommandMsg<'_>, Refusal>
     requires end { end ≡ 4 * words_of bytes.now }
     requires least { 20 ≤ end }
     requires long { end ≤ length bytes.now }
-    ensures { MatchResult result (λ m. squelch_read bytes.now ≡ Ok (command_of m)) (λ refusal. squelch_read bytes.now ≡ Err refusal) }
+    ensures exact { MatchResult result (λ m. squelch_read bytes.now ≡ Ok (command_of m)) (λ refusal. squelch_read bytes.now ≡ Err refusal) }
+    ensures whole { IfOk result IsWhole }
 {
     check_encoding(bytes[13])?;
     let exts = check_extensions(bytes, 20, end)?;
@@ -81,7 +85,8 @@ fn read_repair_adv(bytes: &[u8], end: usize) -> Result<CommandMsg<'_>, Refusal>
     requires end { end ≡ 4 * words_of bytes.now }
     requires least { 16 ≤ end }
     requires long { end ≤ length bytes.now }
-    ensures { MatchResult result (λ m. repair_adv_read bytes.now ≡ Ok (command_of m)) (λ refusal. repair_adv_read bytes.now ≡ Err refusal) }
+    ensures exact { MatchResult result (λ m. repair_adv_read bytes.now ≡ Ok (command_of m)) (λ refusal. repair_adv_read bytes.now ≡ Err refusal) }
+    ensures whole { IfOk result IsWhole }
 {
     let exts = check_extensions(bytes, 16, end)?;
     let requests = bytes.split_at(end).1;
@@ -101,7 +106,8 @@ fn read_ack_req(bytes: &[u8], end: usize) -> Result<CommandMsg<'_>, Refusal>
     requires end { end ≡ 4 * words_of bytes.now }
     requires least { 16 ≤ end }
     requires long { end ≤ length bytes.now }
-    ensures { MatchResult result (λ m. ack_req_read bytes.now ≡ Ok (command_of m)) (λ refusal. ack_req_read bytes.now ≡ Err refusal) }
+    ensures exact { MatchResult result (λ m. ack_req_read bytes.now ≡ Ok (command_of m)) (λ refusal. ack_req_read bytes.now ≡ Err refusal) }
+    ensures whole { IfOk result IsWhole }
 {
     let exts = check_extensions(bytes, 16, end)?;
     let source = check_source(bytes)?;
@@ -120,7 +126,8 @@ fn read_ack_req(bytes: &[u8], end: usize) -> Result<CommandMsg<'_>, Refusal>
 #[tactic(auto, unfolding(norm_ext::specs::Reading::opaque_read))]
 fn read_opaque(bytes: &[u8]) -> Result<CommandMsg<'_>, Refusal>
     requires { 16 ≤ length bytes.now }
-    ensures { MatchResult result (λ m. opaque_read bytes.now ≡ Ok (command_of m)) (λ refusal. opaque_read bytes.now ≡ Err refusal) }
+    ensures exact { MatchResult result (λ m. opaque_read bytes.now ≡ Ok (command_of m)) (λ refusal. opaque_read bytes.now ≡ Err refusal) }
+    ensures whole { IfOk result IsWhole }
 {
     let source = check_source(bytes)?;
     Ok(CommandMsg::Opaque {
@@ -150,7 +157,8 @@ fn read_by(sub_type: SubType, bytes: &[u8], end: usize) -> Result<CommandMsg<'_>
     requires least { 4 * least_words MessageType.Command bytes.now ≤ end }
     requires named { sub_type_number sub_type ≡ octet 12 bytes.now }
     requires long { end ≤ length bytes.now }
-    ensures { MatchResult result (λ m. command_by sub_type bytes.now ≡ Ok (command_of m)) (λ refusal. command_by sub_type bytes.now ≡ Err refusal) }
+    ensures exact { MatchResult result (λ m. command_by sub_type bytes.now ≡ Ok (command_of m)) (λ refusal. command_by sub_type bytes.now ≡ Err refusal) }
+    ensures whole { IfOk result IsWhole }
 {
     match sub_type {
         SubType::Flush => read_flush(bytes, end),
@@ -165,7 +173,8 @@ fn read_by(sub_type: SubType, bytes: &[u8], end: usize) -> Result<CommandMsg<'_>
 /// The command that the octets spell, or the first refusal.
 #[tactic(auto, unfolding(norm_ext::specs::Reading::command_read))]
 pub fn read_command(bytes: &[u8]) -> Result<CommandMsg<'_>, Refusal>
-    ensures { MatchResult result (λ m. command_read bytes.now ≡ Ok (command_of m)) (λ refusal. command_read bytes.now ≡ Err refusal) }
+    ensures exact { MatchResult result (λ m. command_read bytes.now ≡ Ok (command_of m)) (λ refusal. command_read bytes.now ≡ Err refusal) }
+    ensures whole { IfOk result IsWhole }
 {
     let end = check_header(MessageType::Command, bytes)?;
     let sub_type = known_sub_type(bytes)?;

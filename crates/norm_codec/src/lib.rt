@@ -4,8 +4,6 @@
 
 mod message;
 mod reading;
-#[cfg(test)]
-mod tests;
 mod writing;
 
 pub use crate::message::Message;

@@ -5,6 +5,7 @@ ghost use Rattle.norm_ext.specs.Message.{Message as Meaning};
 ghost use Rattle.norm_ext.specs.Spells.{Spells};
 ghost use Rattle.norm_ext.specs.Reading.{decoded, report_read, read_as, known_type};
 ghost use Rattle.norm_codec.specs.View.{message_of};
+ghost use Rattle.norm_codec.specs.Whole.{IsWhole};
 
 use crate::message::Message;
 use norm_cmdmsg::read_command;
@@ -16,7 +17,8 @@ use norm_objmsg::grammar::{read_data, read_info};
 /// The report that the octets spell, or the first refusal.
 #[tactic(auto, unfolding(norm_ext::specs::Reading::report_read))]
 fn read_report(bytes: &[u8]) -> Result<Message<'_>, Refusal>
-    ensures { MatchResult result (λ m. report_read bytes.now ≡ Ok (message_of m)) (λ refusal. report_read bytes.now ≡ Err refusal) }
+    ensures exact { MatchResult result (λ m. report_read bytes.now ≡ Ok (message_of m)) (λ refusal. report_read bytes.now ≡ Err refusal) }
+    ensures whole { IfOk result IsWhole }
 {
     check_header(MessageType::Report, bytes)?;
     let source = check_source(bytes)?;
@@ -42,7 +44,8 @@ fn read_type(bytes: &[u8]) -> Result<MessageType, Refusal>
 
 /// The message of this type that the octets spell, or the first refusal.
 fn read_message(kind: MessageType, bytes: &[u8]) -> Result<Message<'_>, Refusal>
-    ensures { MatchResult result (λ m. read_as kind bytes.now ≡ Ok (message_of m)) (λ refusal. read_as kind bytes.now ≡ Err refusal) }
+    ensures exact { MatchResult result (λ m. read_as kind bytes.now ≡ Ok (message_of m)) (λ refusal. read_as kind bytes.now ≡ Err refusal) }
+    ensures whole { IfOk result IsWhole }
 {
     match kind {
         MessageType::Info => match read_info(bytes) {
@@ -72,7 +75,8 @@ fn read_message(kind: MessageType, bytes: &[u8]) -> Result<Message<'_>, Refusal>
 /// Reads by the type.
 #[tactic(auto, unfolding(norm_ext::specs::Reading::decoded))]
 fn read_any(bytes: &[u8]) -> Result<Message<'_>, Refusal>
-    ensures { MatchResult result (λ m. decoded bytes.now ≡ Ok (message_of m)) (λ refusal. decoded bytes.now ≡ Err refusal) }
+    ensures exact { MatchResult result (λ m. decoded bytes.now ≡ Ok (message_of m)) (λ refusal. decoded bytes.now ≡ Err refusal) }
+    ensures whole { IfOk result IsWhole }
 {
     check_version(bytes)?;
     let kind = read_type(bytes)?;
@@ -83,6 +87,8 @@ fn read_any(bytes: &[u8]) -> Result<Message<'_>, Refusal>
 pub fn decode(bytes: &[u8]) -> Result<Message<'_>, Refusal>
     // It is what the grammar's reading gives.
     ensures exact { MatchResult result (λ m. decoded bytes.now ≡ Ok (message_of m)) (λ refusal. decoded bytes.now ≡ Err refusal) }
+    // What it lends is whole.
+    ensures whole { IfOk result IsWhole }
     // A message that is given is spelled by the octets.
     ensures found { IfOk result (λ m. Spells (message_of m) bytes.now) }
     // Octets that are refused spell no message.

@@ -15,7 +15,7 @@ use Rattle.norm_ext.proofs.RequestLemmas.{items_size}
 use Rattle.norm_ext.specs.declared.head.Item.{Item}
 use Rattle.norm_ext.specs.Asked.{ends_of, written_item, Asked, asked_items, request_alone, asked_before, requests_asked, asked_octets, Writing, last_flags, last_len, writing, HasWritten}
 
-abbrev request : Form → ℕ → List RequestItem → Request
+abbrev pub request : Form → ℕ → List RequestItem → Request
 request form flags items = record { form = form; flags = flags; items = items }
 
 same_form : (f g : Form) → eqb (form_number f) (form_number g) ≡ true → f ≡ g
@@ -42,7 +42,7 @@ alike_is f m g n e =
     let t = both (eqb (form_number f) (form_number g)) (eqb m n) e in
     (same_form f g t.0, eqb-true m n t.1)
 
-alike_so : (f : Form) (m : ℕ) (g : Form) (n : ℕ) → f ≡ g → m ≡ n → alike f m g n ≡ true
+pub alike_so : (f : Form) (m : ℕ) (g : Form) (n : ℕ) → f ≡ g → m ≡ n → alike f m g n ≡ true
 alike_so f m g n e h =
     let a : eqb (form_number f) (form_number g) ≡ true = eq-eqb (form_number f) (form_number g) (ap form_number e) in
     let b : eqb m n ≡ true = eq-eqb m n h in
@@ -91,28 +91,28 @@ asked_joined [] b = refl
 asked_joined (a ∷ asked) b = ap (asked_before a) (asked_joined asked b) ∙ before_joined a (requests_asked asked) b
 
 -- a list has a last element, or none
-record Snoc (rs : List Request) : Type 0 where
+pub record Snoc (rs : List Request) : Type 0 where
   pub front : List Request
   pub back : Request
   pub is : rs ≡ front ++ back ∷ []
 
-snoc_of : (r : Request) (rs : List Request) → Snoc (r ∷ rs)
+pub snoc_of : (r : Request) (rs : List Request) → Snoc (r ∷ rs)
 snoc_of r [] = record { front = []; back = r; is = refl }
 snoc_of r (s ∷ rs) =
     let t = snoc_of s rs in
     record { front = r ∷ t.front; back = t.back; is = ap (λ (x : List Request). r ∷ x) t.is }
 
-last_snoc : (o : Option Request) (rs : List Request) (r : Request) → last_or o (rs ++ r ∷ []) ≡ Some r
+pub last_snoc : (o : Option Request) (rs : List Request) (r : Request) → last_or o (rs ++ r ∷ []) ≡ Some r
 last_snoc o [] r = refl
 last_snoc o (x ∷ rs) r = last_snoc (Some x) rs r
 
-joined_alike : (rs : List Request) (r : Request) (b : Asked) → alike r.form r.flags b.form b.flags ≡ true
+pub joined_alike : (rs : List Request) (r : Request) (b : Asked) → alike r.form r.flags b.form b.flags ≡ true
     → joined (rs ++ r ∷ []) b ≡ rs ++ request r.form r.flags (r.items ++ asked_items b) ∷ []
 joined_alike [] r b e = rw e refl
 joined_alike (x ∷ []) r b e = ap (λ (t : List Request). x ∷ t) (joined_alike [] r b e)
 joined_alike (x ∷ y ∷ rs) r b e = ap (λ (t : List Request). x ∷ t) (joined_alike (y ∷ rs) r b e)
 
-joined_apart : (rs : List Request) (r : Request) (b : Asked) → alike r.form r.flags b.form b.flags ≡ false
+pub joined_apart : (rs : List Request) (r : Request) (b : Asked) → alike r.form r.flags b.form b.flags ≡ false
     → joined (rs ++ r ∷ []) b ≡ (rs ++ r ∷ []) ++ request_alone b ∷ []
 joined_apart [] r b e = rw e refl
 joined_apart (x ∷ []) r b e = ap (λ (t : List Request). x ∷ t) (joined_apart [] r b e)
@@ -161,7 +161,7 @@ last_is (r ∷ rs) w b is joins =
       test = alike_so s.back.form s.back.flags b.form b.flags (some_same s.back.form b.form form) flags;
     }
 
-not_alike : (f : Form) (m : ℕ) (g : Form) (n : ℕ) (t : Bool) → alike f m g n ≡ t → ((f ≡ g) × (m ≡ n) → ⊥) → t ≡ false
+pub not_alike : (f : Form) (m : ℕ) (g : Form) (n : ℕ) (t : Bool) → alike f m g n ≡ t → ((f ≡ g) × (m ≡ n) → ⊥) → t ≡ false
 not_alike f m g n true e apart = absurd (apart (alike_is f m g n e))
 not_alike f m g n false e apart = refl
 
@@ -222,7 +222,7 @@ cut_out p q rest n at is size =
 size_of_request : (r : Request) → length (request_octets r) ≡ 4 + 8 * length r.items
 size_of_request r = let e = items_size r.items in omega (arith, e)
 
-size_split : (front : List Request) (r : Request) → length (requests_octets (front ++ r ∷ [])) ≡ length (requests_octets front) + (4 + 8 * length r.items)
+pub size_split : (front : List Request) (r : Request) → length (requests_octets (front ++ r ∷ [])) ≡ length (requests_octets front) + (4 + 8 * length r.items)
 size_split front r =
     let e = size_of_request r in
     let s = ap length (octets_split front r) in

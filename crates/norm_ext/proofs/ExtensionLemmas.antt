@@ -6,7 +6,7 @@ use Rattle.std.proofs.lemmas.List.{take_at, drop-take, length-take}
 use Rattle.norm_ext.specs.Extensions.{Extension, extension_octets, extension_length, first_extension, extension_checked, extensions_of, extensions_checked, IsExtension, IsChecked, most_words, extension_of, content_at}
 use Rattle.norm_ext.specs.declared.refusal.ExtFault.TheVariants.{ZeroLength, Overrun}
 use Rattle.norm_ext.specs.Pieces.{checked_behind}
-use Rattle.norm_ext.proofs.PieceLemmas.{IsOctets, IsKind, unroll, ok_first, ok_rest, unroll_checked, first_checked, together}
+use Rattle.norm_ext.proofs.PieceLemmas.{IsOctets, IsKind, unroll, ok_first, ok_rest, unroll_checked, first_checked, ok_anywhere, together}
 
 -- a test that refuses nothing
 passes : {A : Type 0} (b : Bool) (x : A) (r : Result (Unit {0}) A) → cond b (Err x) r ≡ Ok tt → (b ≡ false) × (r ≡ Ok tt)
@@ -245,3 +245,10 @@ extension_size (x ∷ list) all =
 -- the extensions of a list put together again are the list
 pub exts_together : (exts : List ℕ) → IsOctets exts → IsChecked exts → flat_map extension_octets (extensions_of exts) ≡ exts
 exts_together exts fits is = together extension_octets first_extension extension_length extension_checked extension_kind 0 0 exts fits (omega arith) is.checked
+
+-- a list that is walked to its end and refused nowhere is whole
+pub list_ends : (from at : ℕ) (list rest : List ℕ) → length rest ≡ 0 → checked_behind extension_checked extension_length at 0 rest ≡ extensions_checked from list
+    → IsChecked list
+list_ends from at list [] none so_far =
+    record { checked = ok_anywhere extension_length extension_checked extension_kind from 0 0 list (sym so_far) }
+list_ends from at list (x ∷ rest) none so_far = absurd (omega arith)

@@ -2,6 +2,7 @@ pub mod PieceLemmas
 pub mod ExtensionLemmas
 pub mod NumberLemmas
 pub mod RequestLemmas
+pub mod ItemLemmas
 pub mod MessageLemmas
 pub mod Takes
 pub mod ReadIsSpelled
@@ -16,5 +17,6 @@ pub mod PartLemmas
 pub mod FirstRefusal
 pub mod AskedLemmas
 pub mod AskedAgain
+pub mod AskedSize
 pub mod LawsHold
 pub mod IdLemmas

@@ -1,14 +1,14 @@
 -- What is promised of the grammar, and of the indices that ids name.
-use Rattle.std.specs.Prelude.{◌≡◌, ◌<◌, ◌≤◌, ◌+◌, ◌↔◌, ℕ, List, length, slice_index, Some, Ok, Err}
+use Rattle.std.specs.Prelude.{◌≡◌, ◌<◌, ◌≤◌, ◌+◌, ◌↔◌, ℕ, List, [], ◌∷◌, ◌++◌, length, slice_index, None, Some, Ok, Err}
 use Rattle.norm_base.specs.Settings.{Settings}
 use Rattle.norm_ext.specs.ObjectIds.{last_index, object_id, index_named}
 use Rattle.norm_ext.specs.Message.{Message}
 use Rattle.norm_ext.specs.Octets.{octets_of}
 use Rattle.norm_ext.specs.Reading.{decoded}
 use Rattle.norm_ext.specs.Spells.{Spells, IsMessage}
-use Rattle.std.specs.List.{AllByRecursion}
+use Rattle.std.specs.List.{AllByRecursion, last_or}
 use Rattle.norm_ext.specs.Requests.{IsRequests, requests_of}
-use Rattle.norm_ext.specs.Asked.{Asked, IsAsked, requests_asked, asked_octets}
+use Rattle.norm_ext.specs.Asked.{Asked, IsAsked, requests_asked, asked_octets, octets_behind}
 use Rattle.norm_ext.specs.Applies.{Applies, IsFirst}
 use Rattle.norm_ext.specs.declared.refusal.Refusal.{Refusal}
 
@@ -49,6 +49,12 @@ abbrev pub AskedIsRead : Type 0
 AskedIsRead =
     (asked : List Asked) → AllByRecursion IsAsked asked → length (asked_octets asked) < 65536
     → IsRequests (asked_octets asked) × (requests_of (asked_octets asked) ≡ requests_asked asked)
+
+-- one more that is asked for takes so many octets behind the others
+abbrev pub OneMoreTakes : Type 0
+OneMoreTakes =
+    (asked : List Asked) (a : Asked)
+    → length (asked_octets (asked ++ a ∷ [])) ≡ length (asked_octets asked) + octets_behind (last_or None asked) a
 
 -- an index lies within 32,768 below and 32,767 above what is known, and an object can have it
 abbrev pub IsNear : ℕ → ℕ → Type 0

@@ -17,6 +17,7 @@ pub mod InstanceIds
 pub mod Fitting
 pub mod Asked
 pub mod Asking
+pub mod Items
 pub mod Spells
 pub mod Layouts
 pub mod Applies

@@ -67,7 +67,8 @@ fn check_first(words: &[u8], at: usize) -> Result<usize, ExtFault>
 /// The first that is wrong with a list of extensions, which begins at a place.
 pub(crate) fn check_list(words: &[u8], from: usize) -> Result<(), ExtFault>
     requires { from + length words.now < 2 ^ 64 }
-    ensures { result ≡ extensions_checked from words.now }
+    ensures exact { result ≡ extensions_checked from words.now }
+    ensures whole { OnOk result (IsChecked words.now) }
 {
     let mut rest = words;
     let mut at = from;

@@ -1,15 +1,16 @@
 //! The FEC Object Transmission Information of FEC Encoding ID 5, as a header extension (RFC 5510 section 5.2.4.1).
 
-ghost use Rattle.std.specs.Prelude.{◌≡◌, ◌+◌, ◌≤◌, ◌<◌, ◌^◌, ◌++◌, length};
-ghost use Rattle.norm_ext.specs.Extensions.{fti_in, fti_of, fti_extension, extension_octets};
+ghost use Rattle.std.specs.Prelude.{◌≡◌, ◌+◌, ◌≤◌, ◌<◌, ◌^◌, ◌++◌, [], ◌∷◌, IfSome, length};
+ghost use Rattle.norm_ext.specs.Extensions.{fti_in, fti_of, fti_extension, extension_octets, extensions_of, IsChecked};
 
 use crate::extensions::Extensions;
 use crate::numbers::{read_16, read_48};
-use byteorder::{BigEndian, ByteOrder};
 use norm_base::Datagram;
 
 /// The extension's type.
 pub const FTI_TYPE: u8 = 64;
+/// Its length in words.
+const FTI_WORDS: u8 = 3;
 /// The octets of its content.
 const CONTENT: usize = 10;
 
@@ -39,7 +40,8 @@ fn fti_from(content: &[u8]) -> Fti
 
 /// What the first extension with type 64 and three words says. `None` exactly where there is none.
 pub fn read_fti(exts: Extensions<'_>) -> Option<Fti>
-    ensures { result ≡ fti_of exts.entry }
+    ensures exact { result ≡ fti_of exts.entry }
+    ensures fits { IfSome result (λ fti. fti.l < 2 ^ 48) }
 {
     for (kind, content) in exts {
         if kind == FTI_TYPE && content.len() == CONTENT {
@@ -49,18 +51,26 @@ pub fn read_fti(exts: Extensions<'_>) -> Option<Fti>
     None
 }
 
+/// The extension's twelve octets, for a message to lend as its one extension.
+pub fn fti_words(fti: &Fti) -> [u8; 12]
+    requires { fti.now.l < 2 ^ 48 }
+    ensures octets { result ≡ extension_octets (fti_extension fti.now) }
+    ensures list { extensions_of result ≡ fti_extension fti.now ∷ [] }
+    ensures whole { IsChecked result }
+{
+    let Fti { l, e, b, max_n } = *fti;
+    let [_, _, l0, l1, l2, l3, l4, l5] = l.to_be_bytes();
+    let [e0, e1] = e.to_be_bytes();
+    [
+        FTI_TYPE, FTI_WORDS, l0, l1, l2, l3, l4, l5, e0, e1, b, max_n,
+    ]
+}
+
 /// Adds the extension's twelve octets.
 pub fn write_fti(fti: &Fti, out: &mut Datagram)
     requires room { length out.old + 12 ≤ 1500 }
     requires fits { fti.now.l < 2 ^ 48 }
     ensures { out.new ≡ out.old ++ extension_octets (fti_extension fti.now) }
 {
-    let mut length = [0u8; 6];
-    BigEndian::write_u48(&mut length, fti.l);
-    let mut symbol = [0u8; 2];
-    BigEndian::write_u16(&mut symbol, fti.e);
-    out.push(&[FTI_TYPE, 3]);
-    out.push(&length);
-    out.push(&symbol);
-    out.push(&[fti.b, fti.max_n]);
+    out.push(&fti_words(fti));
 }

@@ -1,7 +1,7 @@
 //! What is looked at in every message: its header, its FEC Encoding ID, its extensions, its nodes and its lists.
 //! The reads of the crates above call these in the order in which refusals come.
 
-ghost use Rattle.std.specs.Prelude.{◌≡◌, ◌+◌, ◌*◌, ◌≤◌, ◌<◌, Ok, Err, MatchResult, OnOk, length};
+ghost use Rattle.std.specs.Prelude.{◌≡◌, ◌+◌, ◌*◌, ◌%◌, ◌≤◌, ◌<◌, Ok, Err, MatchResult, IfOk, OnOk, length};
 ghost use Rattle.norm_base.specs.Member.{IsMember};
 ghost use Rattle.norm_ext.specs.Numbers.{number, octet};
 ghost use Rattle.norm_ext.specs.Extensions.{IsChecked};
@@ -118,9 +118,11 @@ pub fn check_extensions(bytes: &[u8], from: usize, end: usize) -> Result<&[u8], 
     requires end { end ≡ 4 * words_of bytes.now }
     requires from { from ≤ end }
     requires long { end ≤ length bytes.now }
-    ensures { MatchResult result
+    ensures exact { MatchResult result
         (λ exts. (header_extensions_checked from bytes.now ≡ Ok tt) × (exts.now ≡ header_from from bytes.now))
         (λ refusal. header_extensions_checked from bytes.now ≡ Err refusal) }
+    // They are a list of whole extensions.
+    ensures whole { IfOk result (λ exts. IsChecked exts.now) }
 {
     let exts = bytes.split_at(from).1.split_at(end - from).0;
     match check_list(exts, from) {
@@ -155,7 +157,8 @@ pub fn check_source(bytes: &[u8]) -> Result<NodeId, Refusal>
 /// A list of numbers of so many octets.
 pub fn check_numbers(width: usize, list: &[u8]) -> Result<(), Refusal>
     requires { 0 < width }
-    ensures { result ≡ list_checked width list.now }
+    ensures exact { result ≡ list_checked width list.now }
+    ensures whole { OnOk result (length list.now % width ≡ 0) }
 {
     let rest = list.len() % width;
     if rest != 0 {

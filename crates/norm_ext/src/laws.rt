@@ -1,6 +1,6 @@
 //! What is promised of the grammar and of object ids. Each law is the contract of a function that does nothing.
 
-ghost use Rattle.norm_ext.specs.Laws.{ReadIsSpelled, SpelledIsRead, SpellsOne, ReadAgain, RefusedIsFirst, FirstIsRefused, SpelledIsNotRefused, AskedIsRead, NamesNearest, NamedAgain};
+ghost use Rattle.norm_ext.specs.Laws.{ReadIsSpelled, SpelledIsRead, SpellsOne, ReadAgain, RefusedIsFirst, FirstIsRefused, SpelledIsNotRefused, AskedIsRead, OneMoreTakes, NamesNearest, NamedAgain};
 
 /// What is read of octets is spelled by them.
 pub fn read_is_spelled()
@@ -43,6 +43,11 @@ pub fn spelled_is_not_refused()
 /// requests that the items make.
 pub fn asked_is_read()
     ensures { AskedIsRead }
+{}
+
+/// What one more takes behind others that are asked for: `octets_behind` the last of them.
+pub fn one_more_takes()
+    ensures { OneMoreTakes }
 {}
 
 /// An id names the index that has it within 32,768 below and 32,767 above what is known, where there is such an index,

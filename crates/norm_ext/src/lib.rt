@@ -9,6 +9,7 @@ pub mod fitting;
 mod fti;
 mod head;
 pub mod header;
+pub mod items;
 mod kinds;
 pub mod laws;
 mod numbers;
@@ -19,7 +20,7 @@ mod requests;
 mod writer;
 
 pub use crate::extensions::Extensions;
-pub use crate::fti::{Fti, read_fti, write_fti};
+pub use crate::fti::{Fti, fti_words, read_fti, write_fti};
 pub use crate::head::{CmdHead, Item, ObjHead};
 pub use crate::kinds::{Form, MessageType, SubType, flags};
 pub use crate::numbers::{read_16, read_32, read_name};

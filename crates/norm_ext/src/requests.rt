@@ -6,6 +6,7 @@ ghost use Rattle.norm_ext.specs.RequestView.{request_of};
 
 use crate::head::Item;
 use crate::header::ENCODING_ID;
+use crate::items::ITEM;
 use crate::kinds::Form;
 use crate::numbers::{read_16, read_name};
 use crate::refusal::Refusal;
@@ -13,8 +14,6 @@ use std::marker::Model;
 
 /// The octets before a request's items.
 const FRONT: usize = 4;
-/// The octets of an item.
-const ITEM: usize = 8;
 
 /// A request: its form, its flags, and the octets of its items.
 #[derive(Clone, Copy, Debug)]

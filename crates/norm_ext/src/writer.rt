@@ -153,6 +153,9 @@ impl RequestWriter {
             (self.old.limit < length (asked_octets (asked ++ asked_for form flags first last ∷ []))) }
         ensures kept { result ≡ false → (self.new ≡ self.old) × (out.new ≡ out.old) }
         ensures limit { self.new.limit ≡ self.old.limit }
+        // So the next call may follow.
+        ensures used { self.new.used ≤ length out.new }
+        ensures room { length out.new + self.new.limit ≤ 1500 + self.new.used }
     {
         let items = ends_len(&last);
         let joins = self.joins(form, flags);

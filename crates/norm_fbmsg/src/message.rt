@@ -1,11 +1,12 @@
 //! What a receiver's feedback says.
 
 ghost use Rattle.std.specs.Prelude.{◌≡◌, ◌↔◌, IsTrue, length};
+ghost use Rattle.norm_ext.specs.Requests.{requests_of, IsRequests};
 ghost use Rattle.norm_fbmsg.specs.CanWrite.{CanWriteNack, CanWriteAck, CanWriteParts, HasBody, body_length};
 
 use norm_base::{InstanceId, NodeId};
-use norm_ext::Item;
 use norm_ext::fitting::{are_requests, has_room};
+use norm_ext::{Item, Requests, requests_of as requests_in};
 
 /// The octets of an item.
 pub(crate) const ITEM: usize = 8;
@@ -64,6 +65,14 @@ impl<'a> NackMsg<'a> {
         ensures { IsTrue result ↔ CanWriteNack self.now }
     {
         parts_fit(self.exts, self.requests.len()) && are_requests(self.requests)
+    }
+
+    /// Its requests, in their order.
+    pub fn requests(&self) -> Requests<'a>
+        requires { IsRequests self.now.requests.now }
+        ensures { result ≡ requests_of self.now.requests.now }
+    {
+        requests_in(self.requests)
     }
 }
 

@@ -1,8 +1,9 @@
 //! Reading of feedback (RFC 5740 section 4.3).
 
-ghost use Rattle.std.specs.Prelude.{◌≡◌, ◌+◌, ◌*◌, ◌≤◌, ◌<◌, ◌^◌, Ok, Err, MatchResult, OnOk, length};
+ghost use Rattle.std.specs.Prelude.{◌≡◌, ◌+◌, ◌*◌, ◌≤◌, ◌<◌, ◌^◌, Ok, Err, MatchResult, IfOk, OnOk, length};
 ghost use Rattle.norm_ext.specs.Reading.{nack_read, ack_read, ack_encoding_checked, ack_length_checked, ack_content_of};
 ghost use Rattle.norm_fbmsg.specs.View.{nack_of, ack_of, content_of};
+ghost use Rattle.norm_fbmsg.specs.Whole.{IsWholeNack, IsWholeAck};
 
 use crate::message::{AckBody, AckMsg, FLUSH_ACK, ITEM, NackMsg};
 use norm_base::InstanceId;
@@ -12,7 +13,8 @@ use norm_ext::{Item, MessageType, Refusal, check_requests, read_16, read_32, rea
 /// The negative acknowledgement that the octets spell, or the first refusal.
 #[tactic(auto, unfolding(norm_ext::specs::Reading::nack_read))]
 pub fn read_nack(bytes: &[u8]) -> Result<NackMsg<'_>, Refusal>
-    ensures { MatchResult result (λ m. nack_read bytes.now ≡ Ok (nack_of m)) (λ refusal. nack_read bytes.now ≡ Err refusal) }
+    ensures exact { MatchResult result (λ m. nack_read bytes.now ≡ Ok (nack_of m)) (λ refusal. nack_read bytes.now ≡ Err refusal) }
+    ensures whole { IfOk result IsWholeNack }
 {
     let end = check_header(MessageType::Nack, bytes)?;
     let exts = check_extensions(bytes, 24, end)?;
@@ -73,7 +75,8 @@ fn body_of(ack_type: u8, content: &[u8]) -> AckBody<'_>
 /// The positive acknowledgement that the octets spell, or the first refusal.
 #[tactic(auto, unfolding(norm_ext::specs::Reading::ack_read))]
 pub fn read_ack(bytes: &[u8]) -> Result<AckMsg<'_>, Refusal>
-    ensures { MatchResult result (λ m. ack_read bytes.now ≡ Ok (ack_of m)) (λ refusal. ack_read bytes.now ≡ Err refusal) }
+    ensures exact { MatchResult result (λ m. ack_read bytes.now ≡ Ok (ack_of m)) (λ refusal. ack_read bytes.now ≡ Err refusal) }
+    ensures whole { IfOk result IsWholeAck }
 {
     let end = check_header(MessageType::Ack, bytes)?;
     let exts = check_extensions(bytes, 24, end)?;

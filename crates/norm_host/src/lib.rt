@@ -12,6 +12,3 @@ pub use crate::host_clock::HostClock;
 pub use crate::host_fabric::HostFabric;
 pub use crate::std_sink::StdSink;
 pub use crate::std_source::StdSource;
-
-#[cfg(test)]
-mod tests;

@@ -3,7 +3,8 @@ use Rattle.std.proofs.Common.{◌≡◌, ℕ, Bool, true, false, Option, None, S
 use Rattle.std.specs.Prelude.{◌==◌, ◌&&◌, ⊤}
 use Rattle.std.specs.Option.{option_eq}
 use Rattle.std.proofs.lemmas.Bool.{eqb-true, eq-eqb}
-use Rattle.fec_plan.specs.declared.position.Position.{Position}
+use Rattle.fec_plan.specs.Points.{same_position}
+use Rattle.fec_plan.proofs.PositionLemmas.{positions_same, position_itself}
 use Rattle.norm_send_rules.specs.declared.job.Receipt.{Receipt}
 use Rattle.norm_send_rules.specs.declared.job.Receipt.TheVariants as receipt
 use Rattle.norm_send_rules.specs.declared.fault.EnqueueFault.{EnqueueFault}
@@ -21,7 +22,7 @@ use Rattle.norm_send_rules.specs.declared.news.Outcome.TheVariants as outcome
 use Rattle.norm_safety.specs.Events.{Answer, Gave, Sent, Took, Told, Silent}
 use Rattle.norm_safety.specs.Fronts.{same_up}
 use Rattle.norm_safety.proofs.FrontLemmas.{ups_same, up_itself}
-use Rattle.norm_journal.specs.Same.{same_position, same_receipt, same_stream, same_enqueue, same_mark, same_fault, same_gave, same_outcome, same_news, same_answer}
+use Rattle.norm_journal.specs.Same.{same_receipt, same_stream, same_enqueue, same_mark, same_fault, same_gave, same_outcome, same_news, same_answer}
 use Rattle.norm_journal.proofs.NameLemmas.{both, both_true}
 
 clash : false ≡ true → ⊥
@@ -32,22 +33,6 @@ one a b e = eqb-true a b e
 
 itself : (a : ℕ) → (a == a) ≡ true
 itself a = eq-eqb a a refl
-
-abbrev position : ℕ → ℕ → ℕ → Position
-position index block symbol = record { index = index; block = block; symbol = symbol }
-
-positions_same : (a b : Position) → same_position a b ≡ true → a ≡ b
-positions_same a b e =
-    let two = both (a.index == b.index && a.block == b.block) (a.symbol == b.symbol) e in
-    let first = both (a.index == b.index) (a.block == b.block) two.0 in
-    ap (λ x. position x a.block a.symbol) (one a.index b.index first.0)
-    ∙ ap (λ x. position b.index x a.symbol) (one a.block b.block first.1)
-    ∙ ap (λ x. position b.index b.block x) (one a.symbol b.symbol two.1)
-
-position_itself : (a : Position) → same_position a a ≡ true
-position_itself a =
-    both_true (a.index == a.index && a.block == a.block) (a.symbol == a.symbol)
-    (both_true (a.index == a.index) (a.block == a.block) (itself a.index) (itself a.block)) (itself a.symbol)
 
 receipts_same : (a b : Receipt) → same_receipt a b ≡ true → a ≡ b
 receipts_same (receipt.Object i len) (receipt.Object j octets) e =

@@ -3,7 +3,7 @@ use Rattle.std.specs.Prelude.{ℕ, ◌==◌, ◌&&◌, List, Bool, true, false, 
 use Rattle.std.specs.Option.{option_eq}
 use Rattle.norm_base.specs.declared.kinds.Sent.{Sent}
 use Rattle.norm_base.specs.declared.kinds.Sent.TheVariants as sent
-use Rattle.fec_plan.specs.declared.position.Position.{Position}
+use Rattle.fec_plan.specs.Points.{same_position}
 use Rattle.norm_ext.specs.Written.{Written}
 use Rattle.norm_send_rules.specs.declared.job.Receipt.{Receipt}
 use Rattle.norm_send_rules.specs.declared.job.Receipt.TheVariants as receipt
@@ -21,10 +21,6 @@ use Rattle.norm_send_rules.specs.declared.news.Outcome.{Outcome}
 use Rattle.norm_send_rules.specs.declared.news.Outcome.TheVariants as outcome
 use Rattle.norm_safety.specs.Events.{Answer, Gave, Took, Told, Silent}
 use Rattle.norm_safety.specs.Fronts.{same_up}
-
--- two positions
-abbrev pub same_position : Position → Position → Bool
-same_position a b = a.index == b.index && a.block == b.block && a.symbol == b.symbol
 
 -- two receipts
 abbrev pub same_receipt : Receipt → Receipt → Bool

@@ -4,7 +4,7 @@ use Rattle.norm_script.specs.Commands.{Commands}
 use Rattle.norm_script.specs.declared.script.Verb.{Verb}
 use Rattle.norm_script.specs.declared.script.Verb.TheVariants as verb
 use Rattle.norm_journal.specs.declared.event.Event.{Event}
-use Rattle.norm_journal.specs.Accepting.{accepts, judged_from}
+use Rattle.norm_journal.specs.Accepting.{judged_from}
 use Rattle.norm_journal.specs.Jobs.{Told, may_be_absent}
 use Rattle.norm_journal.specs.Judged.{Judged, judged_opening, is_whole}
 use Rattle.norm_journal.specs.Places.{Place, Giving, Over}
@@ -16,10 +16,6 @@ judged script files journal = judged_from (judged_opening script files) journal
 -- a journal is the beginning of a run
 abbrev pub Begun : Commands → Told → List Event → Type 0
 Begun script files journal = IsSome (judged script files journal)
-
--- an event may come next
-abbrev pub MayComeNext : Judged → Event → Type 0
-MayComeNext j e = IsSome (accepts j e)
 
 -- how a run ended: whole; with its turns spent; or at a file that is not there
 pub data Ending : Type 0 where

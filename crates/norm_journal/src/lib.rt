@@ -7,8 +7,6 @@
 mod event;
 pub mod laws;
 mod lines;
-#[cfg(test)]
-mod tests;
 mod totals;
 mod words;
 

@@ -28,6 +28,3 @@ pub use crate::mem_files::MemFiles;
 pub use crate::mem_sink::MemSink;
 pub use crate::mem_source::MemSource;
 pub use crate::rule::Rule;
-
-#[cfg(test)]
-mod tests;

@@ -1,8 +1,8 @@
 //! INFO and DATA with any header extensions (RFC 5740 section 4.2.1 and 4.2.2), read by the grammar of `norm_ext`.
 //! Their parts are lent from the datagram.
 
-ghost use Rattle.std.specs.Prelude.{◌≡◌, ◌↔◌, ◌+◌, ◌*◌, ◌≤◌, ◌<◌, IsTrue, Ok, Err, MatchResult, IfOk, [], length};
-ghost use Rattle.norm_ext.specs.Reading.{info_read, data_read, words_of, header_extensions_checked, header_from};
+ghost use Rattle.std.specs.Prelude.{◌≡◌, ◌↔◌, ◌+◌, ◌≤◌, ◌<◌, IsTrue, Ok, Err, MatchResult, IfOk, [], length};
+ghost use Rattle.norm_ext.specs.Reading.{info_read, data_read};
 ghost use Rattle.norm_ext.specs.Segment.{segment_in};
 ghost use Rattle.norm_objmsg.specs.MessageView.{info_of, data_of, part_of};
 ghost use Rattle.std.specs.Option.{option_map};
@@ -70,22 +70,6 @@ pub struct StreamPart<'a> {
     pub octets: &'a [u8],
 }
 
-/// The header's extensions, from a place on up to the header's end: a list of whole ones.
-fn extensions_in(bytes: &[u8], from: usize, end: usize) -> Result<&[u8], Refusal>
-    requires end { end ≡ 4 * words_of bytes.now }
-    requires from { from ≤ end }
-    requires long { end ≤ length bytes.now }
-    ensures exact { MatchResult result
-        (λ exts. (header_extensions_checked from bytes.now ≡ Ok tt) × (exts.now ≡ header_from from bytes.now))
-        (λ refusal. header_extensions_checked from bytes.now ≡ Err refusal) }
-    ensures whole { IfOk result (λ exts. IsChecked exts.now) }
-{
-    match check_extensions(bytes, from, end) {
-        Ok(exts) => Ok(exts),
-        Err(refusal) => Err(refusal),
-    }
-}
-
 /// The NORM_INFO message that the octets spell, or the first refusal.
 #[tactic(auto, unfolding(norm_ext::specs::Reading::info_read))]
 pub fn read_info(bytes: &[u8]) -> Result<InfoMsg<'_>, Refusal>
@@ -95,7 +79,7 @@ pub fn read_info(bytes: &[u8]) -> Result<InfoMsg<'_>, Refusal>
 {
     let end = check_header(MessageType::Info, bytes)?;
     check_encoding(bytes[13])?;
-    let exts = extensions_in(bytes, 16, end)?;
+    let exts = check_extensions(bytes, 16, end)?;
     let source = check_source(bytes)?;
     Ok(InfoMsg {
         head: read_object_head(bytes, source),
@@ -113,7 +97,7 @@ pub fn read_data(bytes: &[u8]) -> Result<DataMsg<'_>, Refusal>
 {
     let end = check_header(MessageType::Data, bytes)?;
     check_encoding(bytes[13])?;
-    let exts = extensions_in(bytes, 20, end)?;
+    let exts = check_extensions(bytes, 20, end)?;
     let source = check_source(bytes)?;
     Ok(DataMsg {
         head: read_object_head(bytes, source),

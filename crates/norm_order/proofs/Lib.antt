@@ -1,5 +1,5 @@
 pub mod SegmentLemmas
-pub mod PositionLemmas
 pub mod StreamLemmas
 pub mod UptoLemmas
 pub mod GoingOnLemmas
+pub mod SetLemmas

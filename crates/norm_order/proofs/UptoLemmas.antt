@@ -13,7 +13,7 @@ use Rattle.norm_order.specs.declared.up.Up.{Up}
 use Rattle.norm_order.specs.Entries.{Object, Whole, Stream, Entry}
 use Rattle.norm_order.specs.Shapes.{Shape, shape_of, shapes_of, at_index, closed_in, last_in}
 use Rattle.norm_order.specs.Upto.{parts_of, all_parts, parts_through, upto}
-use Rattle.norm_order.proofs.PositionLemmas.{Behind, behind, reached, behind_both}
+use Rattle.fec_plan.proofs.PositionLemmas.{Behind, behind, reached, behind_both}
 use Rattle.norm_order.specs.Laws.{GrowsWithPosition, KeptAsOrderGrows}
 
 still_reaches : (later at goal : Position) → Behind later at → reaches at goal ≡ true → reaches later goal ≡ true

@@ -1,5 +1,5 @@
 -- The octets of the symbols of a block (RFC 5740 section 4.2.1, RFC 5510 section 8).
-use Rattle.std.specs.Prelude.{ℕ, ◌*◌, List, [], ◌++◌, length, map, take, drop, nat_lt, true, false, slice_get, None, Some}
+use Rattle.std.specs.Prelude.{ℕ, ◌-◌, ◌*◌, List, [], ◌++◌, length, replicate, map, take, drop, nat_lt, true, false, slice_get, None, Some}
 use Rattle.std.specs.Int.{to_be_bytes, w16, w32}
 use Rattle.std.specs.List.{range_with_len}
 use Rattle.norm_base.specs.Settings.{Settings}
@@ -8,6 +8,10 @@ use Rattle.gf_field.specs.Symbol.{encoded_symbol}
 use Rattle.norm_order.specs.Entries.{Object, Whole, Stream}
 use Rattle.norm_order.specs.Segments.{Segment, segments}
 use Rattle.norm_order.specs.Shapes.{shape_of}
+
+-- octets, and zeros behind them up to this length
+abbrev pub padded : ℕ → List ℕ → List ℕ
+padded size octets = octets ++ replicate (size - length octets) 0
 
 -- a segment as it is sent: its length, 0 for the start of a message, its offset, and its octets
 abbrev pub segment_octets : Segment → List ℕ

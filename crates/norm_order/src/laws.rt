@@ -1,5 +1,8 @@
 //! What is promised of the order's definitions. Each law is the contract of a function that does nothing.
 
+ghost use Rattle.std.specs.Prelude.{nat_lt};
+ghost use Rattle.fec_plan.specs.Points.{position_before};
+ghost use Rattle.norm_order.specs.Sets.{SetLaws};
 ghost use Rattle.norm_order.specs.Laws.{SegmentLaws, GrowsWithPosition, KeptAsOrderGrows, KeptAsStreamGoesOn};
 
 /// The segments of a stream concatenate to its octets.
@@ -24,4 +27,11 @@ pub fn later_entries()
 #[tactic(auto, using(crate::proofs::GoingOnLemmas::kept_as_stream_goes_on))]
 pub fn longer_streams()
     ensures { KeptAsStreamGoesOn }
+{}
+
+/// Sets of numbers and of positions are lists that rise, and equal where they have the same members.
+#[tactic(auto, using(crate::proofs::SetLemmas::sets_of_numbers, crate::proofs::SetLemmas::sets_of_positions))]
+pub fn sets()
+    ensures numbers { SetLaws nat_lt }
+    ensures positions { SetLaws position_before }
 {}

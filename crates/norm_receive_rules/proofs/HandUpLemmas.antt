@@ -8,7 +8,7 @@ use Rattle.fec_plan.specs.Points.{position, position_before, reaches}
 use Rattle.fec_plan.specs.declared.position.Position.{Position}
 use Rattle.norm_order.specs.declared.up.Up.{Up}
 use Rattle.norm_order.specs.declared.up.Up.TheVariants as up
-use Rattle.norm_order.proofs.PositionLemmas.{Before, before_decides, before_both, not_both}
+use Rattle.fec_plan.proofs.PositionLemmas.{Before, before_decides, before_both, not_both}
 use Rattle.norm_receive_rules.specs.ReceiverState.{ReceiverState, Plan}
 use Rattle.norm_receive_rules.specs.Plans.{cut_of_plan, says_stream, plan_of, has_its_info}
 use Rattle.norm_receive_rules.specs.HandingUp.{after_object, handed, is_whole, kind_of, told_info, object_octets, hands_object, segment_length, segment_up, after_segment, open_before, next_segment, hands_segment, hands_next, hands_one, hands_most, handed_up}

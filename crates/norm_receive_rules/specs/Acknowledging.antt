@@ -1,10 +1,9 @@
 -- Acknowledging a flush (RFC 5740 section 5.5.3).
 use Rattle.std.specs.Prelude.{ℕ, ◌==◌, ◌&&◌, List, [], ◌∷◌, Bool, true, false}
 use Rattle.std.specs.List.{list_any}
-use Rattle.fec_plan.specs.Points.{position_before}
+use Rattle.fec_plan.specs.Points.{position_before, further}
 use Rattle.fec_plan.specs.declared.position.Position.{Position}
 use Rattle.norm_receive_rules.specs.ReceiverState.{ReceiverState}
-use Rattle.norm_receive_rules.specs.Seeing.{further}
 
 -- nothing was lost in this instance
 abbrev pub lost_nothing : ReceiverState → Bool

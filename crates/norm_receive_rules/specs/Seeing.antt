@@ -1,19 +1,8 @@
 -- How far the sender was seen to be (RFC 5740 section 5.3): the farthest point, and of each stream its greatest block.
-use Rattle.std.specs.Prelude.{ℕ, ◌==◌, List, [], ◌∷◌, max, find, Bool, true, false, nat_lt, Option, None, Some, if◌then◌else◌}
-use Rattle.fec_plan.specs.Points.{Point, point, point_before, position_before}
-use Rattle.fec_plan.specs.declared.position.Position.{Position}
+use Rattle.std.specs.Prelude.{ℕ, ◌==◌, List, [], ◌∷◌, max, find, Bool, true, false, nat_lt, None, Some}
+use Rattle.fec_plan.specs.Points.{Point, point, further_point}
 use Rattle.norm_receive_rules.specs.ReceiverState.{ReceiverState}
 use Rattle.norm_receive_rules.specs.Plans.{says_stream, plan_of}
-
--- the further of two points
-abbrev pub further_point : Point → Option Point → Option Point
-further_point at None = Some at
-further_point at (Some other) = if point_before other at then Some at else Some other
-
--- the further of two positions
-abbrev pub further : Position → Option Position → Option Position
-further at None = Some at
-further at (Some other) = if position_before other at then Some at else Some other
 
 -- the greatest block of each stream, with this one
 unfoldable pub with_block : Point → List Point → List Point

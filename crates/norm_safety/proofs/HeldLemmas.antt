@@ -15,7 +15,7 @@ use Rattle.fec_plan.proofs.CoverLemmas.{blocks_are_even_law}
 use Rattle.norm_order.specs.Entries.{Object, Whole}
 use Rattle.norm_order.specs.Shapes.{Shape, shape_of, closed_in, encoded_in}
 use Rattle.norm_order.specs.Symbols.{symbol_octets, source_octets, block_sources}
-use Rattle.norm_order.proofs.PositionLemmas.{before_decides}
+use Rattle.fec_plan.proofs.PositionLemmas.{before_decides}
 use Rattle.norm_receive_rules.specs.ReceiverState.{Held}
 use Rattle.norm_receive_rules.specs.Putting.{held_before}
 use Rattle.norm_receive_rules.specs.BlockValue.{ids_of}

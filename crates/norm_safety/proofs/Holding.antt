@@ -13,7 +13,7 @@ use Rattle.fec_plan.specs.Partition.{blocks}
 use Rattle.norm_ext.specs.Asking.{has_flag}
 use Rattle.norm_order.specs.Entries.{Object, Whole, Stream, Entry}
 use Rattle.norm_order.specs.Sets.{with_member}
-use Rattle.norm_order.proofs.PositionLemmas.{before_decides, before_both}
+use Rattle.fec_plan.proofs.PositionLemmas.{before_decides, before_both}
 use Rattle.norm_order.specs.Shapes.{shape_of, encoded_in}
 use Rattle.norm_order.specs.Symbols.{symbol_octets}
 use Rattle.norm_order.specs.Upto.{parts_of}

@@ -45,7 +45,7 @@ use Rattle.norm_send_rules.specs.SenderState.{SenderState, Instance}
 use Rattle.norm_safety.specs.OnceEach.{order_of}
 use Rattle.norm_safety.specs.InOrder.{drop_of}
 use Rattle.norm_safety.proofs.EntryLemmas.{clash}
-use Rattle.norm_safety.proofs.Onward.{behind_point}
+use Rattle.fec_plan.proofs.PointLemmas.{behind_point}
 use Rattle.norm_safety.proofs.SenderHolds.{OrdersHold, point_in}
 use Rattle.norm_safety.proofs.Spoken.{IsBegun, IsTrueOf, SaysTrue, SquelchesDropped}
 use Rattle.norm_safety.proofs.Feedback.{SaysNothing}

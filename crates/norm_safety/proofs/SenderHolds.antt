@@ -12,7 +12,6 @@ use Rattle.norm_ext.specs.InstanceIds.{rise}
 use Rattle.norm_order.specs.Entries.{Object, Whole, Entry}
 use Rattle.norm_order.specs.Shapes.{shapes_of, is_source, last_source}
 use Rattle.norm_send_rules.specs.SenderState.{SenderState, Instance, Watermark, begun, sender_opening}
-use Rattle.norm_send_rules.specs.SenderStep.{sender_step}
 use Rattle.norm_send_rules.specs.SenderStep as events
 use Rattle.norm_send_rules.specs.InWindow.{next_index, current_shapes}
 use Rattle.norm_send_rules.specs.Restarting.{instances, first_id, is_used, begun_anew}
@@ -33,7 +32,8 @@ use Rattle.norm_safety.proofs.EntryLemmas.{clash}
 use Rattle.norm_safety.proofs.Cuts.{cut_range}
 use Rattle.norm_safety.proofs.LastLemmas.{last_is_source, source_still}
 use Rattle.norm_safety.proofs.WholeOrders.{IsSized, AreSized, Steady, keeps_steady, CommandCase, Stays, Joins, Restarts, command_case}
-use Rattle.norm_safety.proofs.Onward.{GoOn, Onward, LaterThan, instance_in, goes_on_itself, last_goes_on, more_goes_on, not_before, behind_point}
+use Rattle.fec_plan.proofs.PointLemmas.{not_before, behind_point}
+use Rattle.norm_safety.proofs.Onward.{GoOn, Onward, LaterThan, instance_in, goes_on_itself, last_goes_on, more_goes_on}
 
 -- an instance's objects are of their sizes, and its drop point lies within its order
 abbrev pub IsKept : Settings → Instance → Type 0

@@ -41,7 +41,8 @@ use Rattle.norm_safety.proofs.Feedback.{SaysNothing}
 use Rattle.norm_safety.proofs.EntryLemmas.{clash}
 use Rattle.norm_safety.proofs.PlaceLemmas.{current_found}
 use Rattle.norm_safety.proofs.WholeOrders.{IsSized, AreSized}
-use Rattle.norm_safety.proofs.Onward.{instance_in, not_before_itself}
+use Rattle.fec_plan.proofs.PointLemmas.{not_before_itself}
+use Rattle.norm_safety.proofs.Onward.{instance_in}
 use Rattle.norm_safety.proofs.SenderHolds.{SenderHolds, current_sized}
 use Rattle.norm_safety.proofs.Cuts.{cut_range, AreNames, names_fit, source_names_fit}
 

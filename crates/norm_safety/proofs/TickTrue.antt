@@ -33,7 +33,8 @@ use Rattle.norm_send_rules.proofs.ShapeLemmas.{Blocks, HasParity, shape_parity}
 use Rattle.norm_safety.specs.OnceEach.{order_of, instance_ids}
 use Rattle.norm_safety.specs.Said.{first_index, entry_at}
 use Rattle.norm_safety.proofs.CommandSteps.{same_instances, keeps_ids}
-use Rattle.norm_safety.proofs.Onward.{GoOn, Onward, LaterThan, instance_in, not_before_both, goes_on_itself}
+use Rattle.fec_plan.proofs.PointLemmas.{not_before_both}
+use Rattle.norm_safety.proofs.Onward.{GoOn, Onward, LaterThan, instance_in, goes_on_itself}
 use Rattle.norm_safety.proofs.SenderKeeps.{Keeps, keeps_all, keeps_on, expired_keeps, closed_keeps, nodes_in, AllOpen}
 use Rattle.norm_safety.proofs.SenderHolds.{SenderHolds, keeps_steps, order_later}
 use Rattle.norm_safety.proofs.LastLemmas.{found_behind, source_still}

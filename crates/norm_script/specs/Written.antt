@@ -8,6 +8,7 @@ use Rattle.norm_base.specs.declared.kinds.Mode.TheVariants.{Hold, Drop}
 use Rattle.norm_base.specs.declared.kinds.FabricKind.{FabricKind}
 use Rattle.norm_base.specs.declared.kinds.FabricKind.TheVariants.{Direct, Chance, Udp}
 use Rattle.hex.specs.Hex.{encode_lower}
+use Rattle.norm_text.specs.Words.{with_words}
 use Rattle.norm_script.specs.Commands.{Commands}
 use Rattle.norm_script.specs.declared.script.Line.{Line}
 use Rattle.norm_script.specs.declared.script.Verb.{Verb}
@@ -15,32 +16,27 @@ use Rattle.norm_script.specs.declared.script.Verb.TheVariants as verb
 
 -- A script written out.
 
--- words with single spaces between them
-abbrev pub spaced : List ℕ → List (List ℕ) → List ℕ
-spaced word [] = word
-spaced word (next ∷ words) = word ++ 32 ∷ spaced next words
-
 -- a key's value
 abbrev pub value_words : Key → ℕ → List ℕ
 value_words key value =
     if length (row_of key).words == 0 then decimal value else slice_index_or (row_of key).words value []
 
 abbrev pub setting_line : Key → ℕ → List ℕ
-setting_line key value = spaced (codes "set") ((row_of key).name ∷ value_words key value ∷ [])
+setting_line key value = with_words (codes "set") ((row_of key).name ∷ value_words key value ∷ [])
 
 -- a verb and its words
 abbrev pub verb_line : Verb → List ℕ
-verb_line (verb.Data None bytes) = spaced (codes "data") (encode_lower bytes ∷ [])
-verb_line (verb.Data (Some info) bytes) = spaced (codes "data") (encode_lower bytes ∷ encode_lower info ∷ [])
-verb_line (verb.File name) = spaced (codes "file") (name ∷ [])
+verb_line (verb.Data None bytes) = with_words (codes "data") (encode_lower bytes ∷ [])
+verb_line (verb.Data (Some info) bytes) = with_words (codes "data") (encode_lower bytes ∷ encode_lower info ∷ [])
+verb_line (verb.File name) = with_words (codes "file") (name ∷ [])
 verb_line verb.Open = codes "open"
-verb_line (verb.Write bytes) = spaced (codes "write") (encode_lower bytes ∷ [])
+verb_line (verb.Write bytes) = with_words (codes "write") (encode_lower bytes ∷ [])
 verb_line verb.Close = codes "close"
 verb_line verb.Mark = codes "mark"
-verb_line (verb.Restart instance) = spaced (codes "restart") (decimal instance ∷ [])
+verb_line (verb.Restart instance) = with_words (codes "restart") (decimal instance ∷ [])
 
 abbrev pub command_line : ℕ → Verb → List ℕ
-command_line producer verb = spaced (decimal producer) (verb_line verb ∷ [])
+command_line producer verb = with_words (decimal producer) (verb_line verb ∷ [])
 
 -- lines, each with its line feed
 abbrev pub ended : List (List ℕ) → List ℕ

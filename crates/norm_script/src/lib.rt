@@ -17,8 +17,6 @@ mod reader;
 mod refusal;
 mod script;
 mod setting;
-#[cfg(test)]
-mod tests;
 mod words;
 
 pub use crate::generator::generate;

@@ -5,7 +5,7 @@ use Rattle.std.specs.List.{AllByRecursion}
 use Rattle.std.proofs.lemmas.Bool.Decides.{Decides-ltb, leb_tells}
 use Rattle.fec_plan.specs.declared.position.Position.{Position}
 use Rattle.fec_plan.specs.Points.{position_before}
-use Rattle.norm_order.proofs.PositionLemmas.{Before, before_decides, before_both}
+use Rattle.fec_plan.proofs.PositionLemmas.{Before, before_decides, before_both}
 use Rattle.norm_order.specs.Sets.{with_member, with_members}
 use Rattle.norm_send_rules.specs.Wants.{want_before}
 use Rattle.norm_send_rules.specs.InWindow.{stands_behind}

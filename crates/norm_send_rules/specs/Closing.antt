@@ -1,12 +1,12 @@
 -- The closing of a repair round (RFC 5401 section 3.2.2, RFC 5740 section 5.4): what becomes a want.
-use Rattle.std.specs.Prelude.{ℕ, ◌==◌, ◌&&◌, ◌||◌, not, List, [], ◌++◌, length, map, filter, min, max, take, fold, slice_get, Bool, true, false, nat_lt, nat_le, None, Some, flat_map}
+use Rattle.std.specs.Prelude.{ℕ, ◌&&◌, ◌||◌, not, List, [], ◌++◌, length, map, filter, min, max, take, fold, slice_get, Bool, true, false, nat_lt, nat_le, None, Some, flat_map}
 use Rattle.std.specs.List.{list_any}
 use Rattle.norm_base.specs.Settings.{Settings}
 use Rattle.fec_plan.specs.Partition.{source_symbols}
 use Rattle.fec_plan.specs.declared.position.Position.{Position}
 use Rattle.norm_ext.specs.Asking.{segment_flag, block_flag, object_flag, info_flag, has_flag, Span, Named, is_proper, Count}
 use Rattle.norm_ext.specs.declared.kinds.Form.TheVariants as form
-use Rattle.fec_plan.specs.Points.{Point, point, point_of, point_before, position_before}
+use Rattle.fec_plan.specs.Points.{Point, point, point_of, point_before, position_before, same_point}
 use Rattle.norm_order.specs.Sets.{is_member, with_members}
 use Rattle.norm_order.specs.Shapes.{Shape, symbols_of, closed_in, encoded_in}
 use Rattle.norm_send_rules.specs.Wants.{want_before}
@@ -15,10 +15,6 @@ use Rattle.norm_send_rules.specs.InWindow.{stands_behind, current_shapes}
 use Rattle.norm_send_rules.specs.Asking.{wants_of, counts_of}
 use Rattle.norm_send_rules.specs.declared.want.Want.{Want}
 use Rattle.norm_send_rules.specs.declared.want.Want.TheVariants.{Symbol}
-
--- two points are equal
-abbrev pub same_point : Point → Point → Bool
-same_point a b = a.index == b.index && a.block == b.block
 
 -- the greatest count of a block: counts are not added up
 abbrev pub greatest : List Count → Point → ℕ

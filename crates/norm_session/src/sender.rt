@@ -8,8 +8,8 @@ ghost use Rattle.norm_base.specs.Settings.{Settings};
 use crate::job::Receipt;
 use fec_plan::PayloadId;
 use norm_base::{Datagram, InstanceId, Memory, Moment, NodeId, Octets, Origin, Profile, Sent};
-use norm_ext::Fti;
-use norm_objmsg::{DataMsg, ObjHead, fti_words, write_data};
+use norm_ext::{Fti, fti_words};
+use norm_objmsg::{DataMsg, ObjHead, write_data};
 use std::alloc::Global;
 use std::marker::Model;
 

@@ -1,29 +1,14 @@
 -- The words of a list, one after the other.
-use Rattle.std.proofs.Common.{◌≡◌, ℕ, ◌+◌, ◌≤◌, ◌<◌, Option, None, List, [], ◌∷◌, ◌++◌, length, drop, map, Some, refl, sym, ap, ◌∙◌, arith, append_assoc, append-nil}
+use Rattle.std.proofs.Common.{◌≡◌, ℕ, ◌≤◌, ◌<◌, Option, None, List, [], ◌∷◌, length, drop, map, Some, refl, sym, ap, ◌∙◌, arith}
 use Rattle.std.specs.Prelude.{slice_get}
 use Rattle.std.specs.Fmt.{decimal}
-use Rattle.std.specs.List.{flat_map}
 use Rattle.norm_ext.specs.Lists.{nodes_of, objects_of}
 use Rattle.norm_ext.specs.Numbers.{number}
 use Rattle.norm_ext.specs.Requests.{Request, items_named}
 use Rattle.norm_ext.specs.declared.head.Item.{Item}
-use Rattle.norm_show.specs.Phrases.{joined, numbers_word}
+use Rattle.norm_text.specs.Words.{with_piece, with_pieces, with_word, joined, numbers_word}
+use Rattle.norm_text.proofs.WordLemmas.{joined_put, pieces_more}
 use Rattle.norm_show.specs.Words.{item_word, request_word, requests_word}
-
--- the first word, and each other behind its separator
-pub joined_behind : {A : Type 0} (by : ℕ) (f : A → List ℕ) (x : A) (xs : List A) → f x ++ flat_map (λ y. by ∷ f y) xs ≡ joined by (map f (x ∷ xs))
-joined_behind by f x [] = append-nil (f x)
-joined_behind by f x (y ∷ ys) = ap (λ (t : List ℕ). f x ++ by ∷ t) (joined_behind by f y ys)
-
--- one more word of a list is written
-pub goes_on : {A : Type 0} (g : A → List ℕ) (text whole : List ℕ) (all rest : List A) (x : A) → all ≡ x ∷ rest → text ++ flat_map g all ≡ whole
-    → (text ++ g x) ++ flat_map g rest ≡ whole
-goes_on g text whole all rest x is so =
-    append_assoc text (g x) (flat_map g rest) ∙ ap (λ (t : List _). text ++ flat_map g t) (sym is) ∙ so
-
--- no word of a list is left
-pub ends : {A : Type 0} (g : A → List ℕ) (text whole : List ℕ) (all : List A) → all ≡ [] → text ++ flat_map g all ≡ whole → text ≡ whole
-ends g text whole all is so = sym (append-nil text) ∙ ap (λ (t : List _). text ++ flat_map g t) (sym is) ∙ so
 
 pub nodes_step : (xs : List ℕ) → 4 ≤ length xs → nodes_of xs ≡ number 4 0 xs ∷ nodes_of (drop 4 xs)
 nodes_step [] long = absurd (omega (arith, long))
@@ -70,46 +55,60 @@ items_end (a ∷ b ∷ c ∷ d ∷ e ∷ []) short = refl
 items_end (a ∷ b ∷ c ∷ d ∷ e ∷ f ∷ []) short = refl
 items_end (a ∷ b ∷ c ∷ d ∷ e ∷ f ∷ g ∷ []) short = refl
 
--- ---- the first word of a list is written
+-- ---- the first piece of a list is put, and one more
 
-numbers_begin : (text : List ℕ) (first : ℕ) (rest all : List ℕ) → text ≡ decimal first → all ≡ first ∷ rest
-    → text ++ flat_map (λ (n : ℕ). 44 ∷ decimal n) rest ≡ numbers_word all
-numbers_begin text first rest all is every =
-    ap (λ (t : List ℕ). t ++ flat_map (λ (n : ℕ). 44 ∷ decimal n) rest) is ∙ joined_behind 44 decimal first rest ∙ ap numbers_word (sym every)
+-- behind a separator stands the first piece, and the others are put behind it
+begin : {A : Type 0} (f : A → List ℕ) (by within : ℕ) (start text : List ℕ) (x : A) (rest all : List A) → text ≡ with_piece by start (f x) → all ≡ x ∷ rest
+    → with_pieces within text (map f rest) ≡ with_piece by start (joined within (map f all))
+begin f by within start text x rest all is every =
+    joined_put by within start text (with_pieces within text (map f rest)) (f x) (map f rest) is refl
+    ∙ ap (λ (xs : List _). with_piece by start (joined within (map f xs))) (sym every)
 
-pub nodes_begin : (list text rest : List ℕ) (first : ℕ) → 4 ≤ length list → text ≡ decimal first → first ≡ number 4 0 list → rest ≡ drop 4 list
-    → text ++ flat_map (λ (n : ℕ). 44 ∷ decimal n) (nodes_of rest) ≡ numbers_word (nodes_of list)
-nodes_begin list text rest first long is value back =
-    numbers_begin text first (nodes_of rest) (nodes_of list) is
+numbers_begin : (start text : List ℕ) (first : ℕ) (rest all : List ℕ) → text ≡ with_word start (decimal first) → all ≡ first ∷ rest
+    → with_pieces 44 text (map decimal rest) ≡ with_word start (numbers_word all)
+numbers_begin start text first rest all is every =
+    begin decimal 32 44 start text first rest (first ∷ rest) is refl ∙ ap (λ (ns : List ℕ). with_word start (numbers_word ns)) (sym every)
+
+pub nodes_begin : (start list text rest : List ℕ) (first : ℕ) → 4 ≤ length list → text ≡ with_word start (decimal first) → first ≡ number 4 0 list → rest ≡ drop 4 list
+    → with_pieces 44 text (map decimal (nodes_of rest)) ≡ with_word start (numbers_word (nodes_of list))
+nodes_begin start list text rest first long is value back =
+    numbers_begin start text first (nodes_of rest) (nodes_of list) is
     (nodes_step list long ∙ ap (λ (n : ℕ). n ∷ nodes_of (drop 4 list)) (sym value) ∙ ap (λ (r : List ℕ). first ∷ nodes_of r) (sym back))
 
-pub objects_begin : (list text rest : List ℕ) (first : ℕ) → 2 ≤ length list → text ≡ decimal first → first ≡ number 2 0 list → rest ≡ drop 2 list
-    → text ++ flat_map (λ (n : ℕ). 44 ∷ decimal n) (objects_of rest) ≡ numbers_word (objects_of list)
-objects_begin list text rest first long is value back =
-    numbers_begin text first (objects_of rest) (objects_of list) is
+pub nodes_more : (rest behind text after whole : List ℕ) (n : ℕ) → 4 ≤ length rest → n ≡ number 4 0 rest → after ≡ with_piece 44 text (decimal n) → behind ≡ drop 4 rest
+    → with_pieces 44 text (map decimal (nodes_of rest)) ≡ whole → with_pieces 44 after (map decimal (nodes_of behind)) ≡ whole
+nodes_more rest behind text after whole n long value put back so =
+    pieces_more decimal 44 text after whole (nodes_of rest) (nodes_of behind) n
+    (nodes_step rest long ∙ ap (λ (m : ℕ). m ∷ nodes_of (drop 4 rest)) (sym value) ∙ ap (λ (r : List ℕ). n ∷ nodes_of r) (sym back)) put so
+
+pub objects_begin : (start list text rest : List ℕ) (first : ℕ) → 2 ≤ length list → text ≡ with_word start (decimal first) → first ≡ number 2 0 list → rest ≡ drop 2 list
+    → with_pieces 44 text (map decimal (objects_of rest)) ≡ with_word start (numbers_word (objects_of list))
+objects_begin start list text rest first long is value back =
+    numbers_begin start text first (objects_of rest) (objects_of list) is
     (objects_step list long ∙ ap (λ (n : ℕ). n ∷ objects_of (drop 2 list)) (sym value) ∙ ap (λ (r : List ℕ). first ∷ objects_of r) (sym back))
 
-pub items_begin : (items text rest : List ℕ) (x : Item) → 8 ≤ length items → text ≡ item_word x → slice_get (items_named items) 0 ≡ Some x → rest ≡ drop 8 items
-    → text ++ flat_map (λ (y : Item). 43 ∷ item_word y) (items_named rest) ≡ joined 43 (map item_word (items_named items))
-items_begin items text rest x long is value back =
-    ap (λ (t : List ℕ). t ++ flat_map (λ (y : Item). 43 ∷ item_word y) (items_named rest)) is
-    ∙ joined_behind 43 item_word x (items_named rest)
-    ∙ ap (λ (r : List ℕ). joined 43 (map item_word (x ∷ items_named r))) back
-    ∙ ap (λ (all : List Item). joined 43 (map item_word all)) (sym (items_step items x long value))
+pub objects_more : (rest behind text after whole : List ℕ) (n : ℕ) → 2 ≤ length rest → n ≡ number 2 0 rest → after ≡ with_piece 44 text (decimal n) → behind ≡ drop 2 rest
+    → with_pieces 44 text (map decimal (objects_of rest)) ≡ whole → with_pieces 44 after (map decimal (objects_of behind)) ≡ whole
+objects_more rest behind text after whole n long value put back so =
+    pieces_more decimal 44 text after whole (objects_of rest) (objects_of behind) n
+    (objects_step rest long ∙ ap (λ (m : ℕ). m ∷ objects_of (drop 2 rest)) (sym value) ∙ ap (λ (r : List ℕ). n ∷ objects_of r) (sym back)) put so
 
-pub items_more : (rest after text written whole word : List ℕ) (x : Item) → 8 ≤ length rest → slice_get (items_named rest) 0 ≡ Some x → word ≡ item_word x
-    → written ≡ text ++ 43 ∷ word → after ≡ drop 8 rest → text ++ flat_map (λ (y : Item). 43 ∷ item_word y) (items_named rest) ≡ whole
-    → written ++ flat_map (λ (y : Item). 43 ∷ item_word y) (items_named after) ≡ whole
-items_more rest after text written whole word x long value is grown back so =
-    ap (λ (t : List ℕ). t ++ flat_map (λ (y : Item). 43 ∷ item_word y) (items_named after)) (grown ∙ ap (λ (w : List ℕ). text ++ 43 ∷ w) is)
-    ∙ goes_on (λ (y : Item). 43 ∷ item_word y) text whole (items_named rest) (items_named after) x
-    (items_step rest x long value ∙ ap (λ (r : List ℕ). x ∷ items_named r) (sym back)) so
+pub items_begin : (start items text rest : List ℕ) (x : Item) → 8 ≤ length items → text ≡ with_piece 58 start (item_word x) → slice_get (items_named items) 0 ≡ Some x → rest ≡ drop 8 items
+    → with_pieces 43 text (map item_word (items_named rest)) ≡ with_piece 58 start (joined 43 (map item_word (items_named items)))
+items_begin start items text rest x long is value back =
+    begin item_word 58 43 start text x (items_named rest) (items_named items) is
+    (items_step items x long value ∙ ap (λ (r : List ℕ). x ∷ items_named r) (sym back))
 
-pub requests_begin : (text : List ℕ) (x : Request) (all left : List Request) → text ≡ request_word x → Some x ≡ slice_get all 0 → left ≡ drop 1 all
-    → text ++ flat_map (λ (r : Request). 44 ∷ request_word r) left ≡ requests_word all
-requests_begin text x [] left is first rest = absurd cc
-requests_begin text x (y ∷ ys) left is first rest =
+pub items_more : (rest behind text after whole : List ℕ) (x : Item) → 8 ≤ length rest → slice_get (items_named rest) 0 ≡ Some x → after ≡ with_piece 43 text (item_word x) → behind ≡ drop 8 rest
+    → with_pieces 43 text (map item_word (items_named rest)) ≡ whole → with_pieces 43 after (map item_word (items_named behind)) ≡ whole
+items_more rest behind text after whole x long value put back so =
+    pieces_more item_word 43 text after whole (items_named rest) (items_named behind) x
+    (items_step rest x long value ∙ ap (λ (r : List ℕ). x ∷ items_named r) (sym back)) put so
+
+pub requests_begin : (start text : List ℕ) (x : Request) (all left : List Request) → text ≡ with_word start (request_word x) → Some x ≡ slice_get all 0 → left ≡ drop 1 all
+    → with_pieces 44 text (map request_word left) ≡ with_word start (requests_word all)
+requests_begin start text x [] left is first rest = absurd cc
+requests_begin start text x (y ∷ ys) left is first rest =
     let same : x ≡ y = cc in
-    ap (λ (t : List ℕ). t ++ flat_map (λ (r : Request). 44 ∷ request_word r) left) (is ∙ ap request_word same)
-    ∙ ap (λ (l : List Request). request_word y ++ flat_map (λ (r : Request). 44 ∷ request_word r) l) rest
-    ∙ joined_behind 44 request_word y ys
+    ap (λ (l : List Request). with_pieces 44 text (map request_word l)) rest
+    ∙ begin request_word 32 44 start text y ys (y ∷ ys) (is ∙ ap (λ (r : Request). with_word start (request_word r)) same) refl

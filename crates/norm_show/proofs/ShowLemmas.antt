@@ -1,5 +1,5 @@
 -- What is shown of a text that comes in pieces.
-use Rattle.std.proofs.Common.{◌≡◌, ℕ, ◌+◌, ◌≤◌, ◌<◌, ◌||◌, Bool, true, false, cond, List, [], ◌∷◌, ◌++◌, length, Option, Some, None, refl, sym, ap, subst, ◌∙◌, arith, append_assoc, append-nil, length-append}
+use Rattle.std.proofs.Common.{◌≡◌, ℕ, ◌+◌, ◌<◌, ◌||◌, Bool, true, false, cond, List, [], ◌∷◌, ◌++◌, length, Option, Some, None, refl, sym, ap, subst, ◌∙◌, arith, append_assoc, append-nil, length-append}
 use Rattle.std.proofs.lemmas.Bool.{lt-leb}
 use Rattle.std.specs.Prelude.{is_err, IfSome}
 use Rattle.std.specs.Result.{result_ok}
@@ -13,7 +13,7 @@ use Rattle.norm_show.specs.Showing.{Showing, beside, datagram_in, shown_or_stops
 use Rattle.norm_show.specs.Progress.{Progress, progress_opening, shown_from, Shows, ShowsLine, ShowsEnd, Leaves, ShowsAll, ShowsUpTo, ShowsLess}
 use Rattle.norm_show.specs.declared.fault.ShowFault.{ShowFault}
 use Rattle.norm_show.specs.declared.fault.ShowFault.TheVariants as fault
-use Rattle.norm_show.proofs.SplitLemmas.{line_ends, goes_on_with, none-append, Parts}
+use Rattle.norm_show.proofs.SplitLemmas.{line_ends, goes_on_with, none-append}
 
 pub gained-nil : (u : Pieces) → u ≡ gained u []
 gained-nil None = refl

@@ -1,8 +1,7 @@
 -- The lines of a text that comes in pieces.
-use Rattle.std.proofs.Common.{◌≡◌, ℕ, ◌+◌, ◌≤◌, ◌<◌, Bool, true, false, cond, nat_eq, List, [], ◌∷◌, ◌++◌, length, Option, Some, None, refl, sym, ap, ◌∙◌, arith, append-nil, eqb-true}
+use Rattle.std.proofs.Common.{◌≡◌, ℕ, Bool, true, false, cond, nat_eq, List, [], ◌∷◌, ◌++◌, Option, Some, None, refl, ap, eqb-true}
 use Rattle.std.specs.Option.{option_map}
 use Rattle.norm_script.specs.Text.{split_at_first, text_lines, onto_first}
-use Rattle.norm_script.proofs.LineLemmas.{text_whole}
 
 -- a list without a line feed
 pub record NoFeed (x : ℕ) (xs : List ℕ) : Type 0 where

@@ -1,4 +1,3 @@
-pub mod Phrases
 pub mod Words
 pub mod Line
 pub mod Showing

@@ -1,5 +1,5 @@
 -- How far a text was shown, where it comes in pieces.
-use Rattle.std.specs.Prelude.{◌≡◌, ℕ, ◌||◌, Bool, false, List, [], ◌∷◌, ◌++◌, Option, None, Some, IfSome}
+use Rattle.std.specs.Prelude.{◌≡◌, ℕ, Bool, false, List, [], ◌∷◌, ◌++◌, Option, None, Some, IfSome}
 use Rattle.norm_base.specs.Told.{Pieces, gained, GainsFront, before_taking}
 use Rattle.norm_script.specs.Text.{text_lines, split_at_first}
 use Rattle.norm_show.specs.Showing.{Showing, lines_shown, line_shown, shown, beside}

@@ -10,38 +10,32 @@ use Rattle.norm_ext.specs.declared.head.CmdHead.{CmdHead}
 use Rattle.norm_ext.specs.declared.head.Item.{Item}
 use Rattle.norm_ext.specs.declared.refusal.Refusal.{Refusal}
 use Rattle.norm_ext.specs.declared.refusal.Refusal.TheVariants as refusal
-use Rattle.norm_show.specs.Phrases.{joined, phrase, list_word}
+use Rattle.norm_text.specs.Words.{joined, list_word}
 
 -- the round trip time, the back-off factor and the group's size, as the octets say them
-unfoldable pub sizes_word : (grtt backoff gsize : ℕ) → List ℕ
+abbrev pub sizes_word : (grtt backoff gsize : ℕ) → List ℕ
 sizes_word grtt backoff gsize = joined 46 (decimal grtt ∷ decimal backoff ∷ decimal gsize ∷ [])
 
 -- what every message of a sender begins with
-unfoldable pub sender_words : (source sequence instance : ℕ) (sizes : List ℕ) → List ℕ
-sender_words source sequence instance sizes = phrase (decimal source ∷ decimal sequence ∷ decimal instance ∷ sizes ∷ [])
-
-abbrev pub command_words : CmdHead → List ℕ
-command_words h = sender_words h.source h.sequence h.instance (sizes_word h.grtt h.backoff h.gsize)
+abbrev pub command_words : CmdHead → List (List ℕ)
+command_words h = decimal h.source ∷ decimal h.sequence ∷ decimal h.instance ∷ sizes_word h.grtt h.backoff h.gsize ∷ []
 
 -- the same, and the flags and the object of INFO and DATA
-unfoldable pub flagged_words : (sender : List ℕ) (flags object : ℕ) → List ℕ
-flagged_words sender flags object = phrase (sender ∷ decimal flags ∷ decimal object ∷ [])
-
-abbrev pub object_words : ObjHead → List ℕ
+abbrev pub object_words : ObjHead → List (List ℕ)
 object_words h =
-    flagged_words (sender_words h.source h.sequence h.instance (sizes_word h.grtt h.backoff h.gsize)) h.flags h.object
+    decimal h.source ∷ decimal h.sequence ∷ decimal h.instance ∷ sizes_word h.grtt h.backoff h.gsize ∷ decimal h.flags
+    ∷ decimal h.object ∷ []
 
 -- what a message of a receiver begins with
-unfoldable pub receiver_words : (source sequence sender instance : ℕ) → List ℕ
-receiver_words source sequence sender instance =
-    phrase (decimal source ∷ decimal sequence ∷ decimal sender ∷ decimal instance ∷ [])
+abbrev pub receiver_words : (source sequence sender instance : ℕ) → List (List ℕ)
+receiver_words source sequence sender instance = decimal source ∷ decimal sequence ∷ decimal sender ∷ decimal instance ∷ []
 
 -- an object and a symbol of it
-unfoldable pub symbol_words : (object block symbol : ℕ) → List ℕ
-symbol_words object block symbol = phrase (decimal object ∷ decimal block ∷ decimal symbol ∷ [])
+abbrev pub symbol_words : (object block symbol : ℕ) → List (List ℕ)
+symbol_words object block symbol = decimal object ∷ decimal block ∷ decimal symbol ∷ []
 
 -- what the transmission information says; a dash stands for none
-unfoldable pub plan_word : Fti → List ℕ
+abbrev pub plan_word : Fti → List ℕ
 plan_word f = joined 44 (decimal f.l ∷ decimal f.e ∷ decimal f.b ∷ decimal f.max_n ∷ [])
 
 abbrev pub plan_or_dash : Option Fti → List ℕ
@@ -52,15 +46,13 @@ abbrev pub fti_word : List Extension → List ℕ
 fti_word extensions = plan_or_dash (fti_of extensions)
 
 -- an item of a request
-unfoldable pub item_word : Item → List ℕ
+abbrev pub item_word : Item → List ℕ
 item_word x = joined 46 (decimal x.object ∷ decimal x.id.block ∷ decimal x.id.symbol ∷ [])
 
 -- a request: its form, its flags and its items, joined by colons; the items are joined by plus signs
-unfoldable pub asked_word : (form flags : ℕ) (items : List ℕ) → List ℕ
-asked_word form flags items = joined 58 (decimal form ∷ decimal flags ∷ items ∷ [])
-
 abbrev pub request_word : Request → List ℕ
-request_word r = asked_word (form_number r.form) r.flags (joined 43 (map item_word (map (λ x. x.item) r.items)))
+request_word r =
+    joined 58 (decimal (form_number r.form) ∷ decimal r.flags ∷ joined 43 (map item_word (map (λ x. x.item) r.items)) ∷ [])
 
 abbrev pub requests_word : List Request → List ℕ
 requests_word requests = list_word (map request_word requests)

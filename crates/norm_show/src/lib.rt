@@ -8,8 +8,6 @@ mod lines;
 mod lists;
 mod shown;
 mod stream;
-#[cfg(test)]
-mod tests;
 mod words;
 
 pub use crate::fault::ShowFault;

@@ -1,17 +1,16 @@
 //! The words of lists: node ids, objects, repair requests and their items.
 
-ghost use Rattle.std.specs.Prelude.{◌≡◌, ◌≤◌, IfOk, string_bytes, map, length, slice_get, Some};
+ghost use Rattle.std.specs.Prelude.{◌≡◌, ◌≤◌, OnOk, map, length, slice_get, Some};
 ghost use Rattle.norm_ext.specs.Lists.{nodes_of, objects_of};
 ghost use Rattle.norm_ext.specs.Requests.{requests_of as all_requests, items_named, IsRequests};
 ghost use Rattle.norm_ext.specs.RequestView.{request_of};
-ghost use Rattle.norm_show.specs.Phrases.{numbers_word, joined};
-ghost use Rattle.norm_show.specs.Words.{item_word, asked_word, request_word, requests_word};
+ghost use Rattle.norm_text.specs.Words.{with_piece, with_word, joined, numbers_word};
+ghost use Rattle.norm_show.specs.Words.{item_word, request_word, requests_word};
 
-use crate::words::item_word;
 use norm_base::Memory;
 use norm_ext::{Item, Request, check_requests, read_16, read_32, read_name, requests_of};
-use std::alloc::{AllocError, Global};
-use std::fmt::Write;
+use norm_text::Line;
+use std::alloc::AllocError;
 
 /// The octets of a node's id.
 const NODE: usize = 4;
@@ -20,40 +19,36 @@ const OBJECT: usize = 2;
 /// The octets of an item.
 const ITEM: usize = 8;
 
-/// Node ids joined by commas, or a dash.
-pub(crate) fn nodes_word(alloc: Global, list: &[u8]) -> Result<String, AllocError>
-    ensures { IfOk result (λ text. string_bytes text ≡ numbers_word (nodes_of list.now)) }
+/// Puts node ids joined by commas, or a dash.
+pub(crate) fn put_nodes(line: &mut Line, list: &[u8]) -> Result<(), AllocError>
+    ensures { OnOk result (line.new ≡ with_word line.old (numbers_word (nodes_of list.now))) }
 {
     if list.len() < NODE {
-        return String::from_str(alloc, "-");
+        return line.word(b"-");
     }
-    let first = read_32(list, 0);
-    let mut text = format!(in alloc; "{first}")?;
+    line.number(u64::from(read_32(list, 0)))?;
     let mut rest = list.split_at(NODE).1;
     'nodes: while rest.len() >= NODE {
-        let node = read_32(rest, 0);
-        write!(text, ",{node}")?;
+        line.number_piece(b',', u64::from(read_32(rest, 0)))?;
         rest = rest.split_at(NODE).1;
     }
-    Ok(text)
+    Ok(())
 }
 
-/// Object transport ids joined by commas, or a dash.
-pub(crate) fn objects_word(alloc: Global, list: &[u8]) -> Result<String, AllocError>
-    ensures { IfOk result (λ text. string_bytes text ≡ numbers_word (objects_of list.now)) }
+/// Puts object transport ids joined by commas, or a dash.
+pub(crate) fn put_objects(line: &mut Line, list: &[u8]) -> Result<(), AllocError>
+    ensures { OnOk result (line.new ≡ with_word line.old (numbers_word (objects_of list.now))) }
 {
     if list.len() < OBJECT {
-        return String::from_str(alloc, "-");
+        return line.word(b"-");
     }
-    let first = read_16(list, 0);
-    let mut text = format!(in alloc; "{first}")?;
+    line.number(u64::from(read_16(list, 0)))?;
     let mut rest = list.split_at(OBJECT).1;
     'objects: while rest.len() >= OBJECT {
-        let object = read_16(rest, 0);
-        write!(text, ",{object}")?;
+        line.number_piece(b',', u64::from(read_16(rest, 0)))?;
         rest = rest.split_at(OBJECT).1;
     }
-    Ok(text)
+    Ok(())
 }
 
 /// The item at the front of octets.
@@ -67,63 +62,67 @@ fn first_item(octets: &[u8]) -> Item
     }
 }
 
-/// The items of a request joined by plus signs.
-fn items_word(alloc: Global, items: &[u8]) -> Result<String, AllocError>
-    ensures { IfOk result (λ text. string_bytes text ≡ joined 43 (map item_word (items_named items.now))) }
+/// Puts an item of a request behind a separator.
+fn put_item(line: &mut Line, by: u8, item: Item) -> Result<(), AllocError>
+    ensures { OnOk result (line.new ≡ with_piece by line.old (item_word item)) }
+{
+    line.joined_piece(
+        by,
+        b'.',
+        u64::from(item.object),
+        &[u64::from(item.id.block), u64::from(item.id.symbol)],
+    )
+}
+
+/// Puts the items of a request behind a colon, joined by plus signs.
+fn put_items(line: &mut Line, items: &[u8]) -> Result<(), AllocError>
+    ensures { OnOk result (line.new ≡ with_piece 58 line.old (joined 43 (map item_word (items_named items.now)))) }
 {
     if items.len() < ITEM {
-        return Ok(String::new(alloc));
+        return line.piece(b':', b"");
     }
-    let mut text = item_word(alloc, first_item(items))?;
+    put_item(line, b':', first_item(items))?;
     let mut rest = items.split_at(ITEM).1;
     'items: while rest.len() >= ITEM {
-        let item = item_word(alloc, first_item(rest))?;
-        write!(text, "+{item}")?;
+        put_item(line, b'+', first_item(rest))?;
         rest = rest.split_at(ITEM).1;
     }
-    Ok(text)
+    Ok(())
 }
 
-/// A request by its words.
-#[tactic(auto, unfolding(crate::specs::Words::asked_word))]
-fn asked_word(alloc: Global, form: u8, flags: u8, items: &str) -> Result<String, AllocError>
-    ensures { IfOk result (λ text. string_bytes text ≡ asked_word form flags items.now) }
+/// Puts a request behind a separator: its form, its flags and its items.
+fn put_request(line: &mut Line, by: u8, request: &Request<'_>) -> Result<(), AllocError>
+    ensures { OnOk result (line.new ≡ with_piece by line.old (request_word (request_of request.now))) }
 {
-    format!(in alloc; "{form}:{flags}:{items}")
+    line.number_piece(by, u64::from(request.form.number()))?;
+    line.number_piece(b':', u64::from(request.flags))?;
+    put_items(line, request.items)?;
+    Ok(())
 }
 
-/// A request: its form, its flags and its items.
-fn request_word(alloc: Global, request: &Request<'_>) -> Result<String, AllocError>
-    ensures { IfOk result (λ text. string_bytes text ≡ request_word (request_of request.now)) }
-{
-    let items = items_word(alloc, request.items)?;
-    asked_word(alloc, request.form.number(), request.flags, items.as_str())
-}
-
-/// The words of a list of whole requests, joined by commas, or a dash.
-fn whole_requests_word(alloc: Global, list: &[u8]) -> Result<String, AllocError>
+/// Puts the words of a list of whole requests, joined by commas, or a dash.
+fn put_whole_requests(line: &mut Line, list: &[u8]) -> Result<(), AllocError>
     requires { IsRequests list.now }
-    ensures { IfOk result (λ text. string_bytes text ≡ requests_word (all_requests list.now)) }
+    ensures { OnOk result (line.new ≡ with_word line.old (requests_word (all_requests list.now))) }
 {
     let mut requests = requests_of(list);
     let Some(first) = requests.next() else {
-        return String::from_str(alloc, "-");
+        return line.word(b"-");
     };
-    let mut text = request_word(alloc, &first)?;
+    put_request(line, b' ', &first)?;
     for request in requests {
-        let word = request_word(alloc, &request)?;
-        write!(text, ",{word}")?;
+        put_request(line, b',', &request)?;
     }
-    Ok(text)
+    Ok(())
 }
 
-/// The words of a list of requests, joined by commas, or a dash. Requests that a message lends are whole, so none is
+/// Puts the words of a list of requests, joined by commas, or a dash. Requests that a message lends are whole, so none is
 /// refused.
-pub(crate) fn requests_word(alloc: Global, list: &[u8]) -> Result<String, Memory>
-    ensures { IfOk result (λ text. string_bytes text ≡ requests_word (all_requests list.now)) }
+pub(crate) fn put_requests(line: &mut Line, list: &[u8]) -> Result<(), Memory>
+    ensures { OnOk result (line.new ≡ with_word line.old (requests_word (all_requests list.now))) }
 {
     match check_requests(list, 0) {
-        Ok(()) => Ok(whole_requests_word(alloc, list)?),
+        Ok(()) => Ok(put_whole_requests(line, list)?),
         Err(_) => Err(Memory),
     }
 }

@@ -1,11 +1,11 @@
 //! The line that shows a datagram.
 
-ghost use Rattle.std.specs.Prelude.{◌≡◌, IfOk, is_err, string_bytes};
+ghost use Rattle.std.specs.Prelude.{◌≡◌, IfOk, is_err};
 ghost use Rattle.norm_ext.specs.Reading.{decoded};
 ghost use Rattle.norm_show.specs.Line.{line_of};
 
 use crate::lines::{message_text, refused_text};
-use norm_base::{Memory, Text};
+use norm_base::{Memory, Octets};
 use norm_codec::decode;
 use std::alloc::Global;
 
@@ -13,7 +13,7 @@ use std::alloc::Global;
 #[derive(Debug, Drop)]
 pub struct Shown {
     /// The line, with its line feed.
-    pub line: Text,
+    pub line: Octets,
     /// The octets spell no message.
     pub is_refused: bool,
 }
@@ -25,11 +25,11 @@ pub fn show_line(alloc: Global, octets: &[u8]) -> Result<Shown, Memory>
 {
     match decode(octets) {
         Ok(message) => Ok(Shown {
-            line: Text::of(message_text(alloc, &message)?),
+            line: Octets::of(message_text(alloc, &message)?),
             is_refused: false,
         }),
         Err(refusal) => Ok(Shown {
-            line: Text::of(refused_text(alloc, refusal)?),
+            line: Octets::of(refused_text(alloc, refusal)?),
             is_refused: true,
         }),
     }

@@ -1,20 +1,8 @@
-//! normd: a reliable multicast sender and receiver after NORM (RFC 5740).
+//! normd: a reliable multicast sender and receiver after NORM (RFC 5740). All that it does stands in `norm_program`.
 #![tactic(auto)]
 
-mod arguments;
-#[cfg(test)]
-mod disturbed;
-mod input;
-mod program;
-mod show;
-mod status;
-#[cfg(test)]
-mod tests;
-
-use crate::arguments::arguments;
-use crate::program::run;
-use crate::status::Ending;
 use norm_host::{FolderFiles, HostClock, HostFabric, StdSink, StdSource};
+use norm_program::{Ending, arguments, run};
 use std::io;
 use std::process::ExitCode;
 

@@ -1,3 +1,2 @@
-pub mod PartitionLemmas
 pub mod PieceLemmas
 pub mod ParityLemmas

@@ -21,8 +21,8 @@ use Rattle.rs_block.specs.Codeword.{IsSymbol}
 use Rattle.rs_block.proofs.Functions.{function_laws}
 use Rattle.norm_order.specs.Entries.{Whole}
 use Rattle.norm_order.specs.Symbols.{symbol_octets}
-use Rattle.obj_buffer.specs.Pieces.{padded, HoldsObject}
-use Rattle.obj_buffer.proofs.PartitionLemmas.{sources_fit, sources_within, octets_within}
+use Rattle.obj_buffer.specs.Pieces.{whole_symbols, HoldsObject}
+use Rattle.fec_plan.proofs.PartitionLemmas.{sources_fit, sources_within, octets_within}
 
 -- ---- zeros behind a list
 
@@ -94,10 +94,6 @@ joined_pieces e s octets a (suc n) =
     ∙ ap (take (n * e)) (sym (drop-drop e ((s + a) * e) octets)))
     ∙ sym (take-add e (n * e) (drop ((s + a) * e) octets))
     ∙ ap (λ k. take k (drop ((s + a) * e) octets)) (let z : e + n * e ≡ suc n * e = omega (arith, suc-mul n e) in z)
-
-octets_from : (xs : List ℕ) → ((i : ℕ) → get_or xs i 0 < 256) → AreOctets xs
-octets_from [] each = tt
-octets_from (x ∷ xs) each = (each 0, octets_from xs (λ i. each (suc i)))
 
 octets_of_take : (n : ℕ) (xs : List ℕ) → ((i : ℕ) → get_or xs i 0 < 256) → AreOctets (take n xs)
 octets_of_take zero xs each = tt
@@ -195,8 +191,8 @@ refused true x y e = absurd (cc)
 refused false x y e = refl
 
 -- how many octets the padded ones are
-pub length-padded : (e : ℕ) (octets : List ℕ) → 0 < e → length (padded e octets) ≡ symbols_in (length octets) e * e
-length-padded e octets some =
+pub length-whole_symbols : (e : ℕ) (octets : List ℕ) → 0 < e → length (whole_symbols e octets) ≡ symbols_in (length octets) e * e
+length-whole_symbols e octets some =
     omega (
       arith,
       length-append octets (replicate (symbols_in (length octets) e * e - length octets) 0),
@@ -221,7 +217,7 @@ source_is : (p : Settings) (kind : Kind) (info : Option (List ℕ)) (octets : Li
     → IsSound (cut_of (length octets) p.e p.b p.max_n) → block < blocks (cut_of (length octets) p.e p.b p.max_n)
     → symbol < source_symbols (cut_of (length octets) p.e p.b p.max_n) block
     → take (sent_octets (cut_of (length octets) p.e p.b p.max_n) block symbol)
-    (drop (symbol_number (cut_of (length octets) p.e p.b p.max_n) block symbol * p.e) (padded p.e octets))
+    (drop (symbol_number (cut_of (length octets) p.e p.b p.max_n) block symbol * p.e) (whole_symbols p.e octets))
     ≡ symbol_octets p (Whole kind info octets) block symbol
 source_is p kind info octets block symbol sound there source =
     let c : Cut = cut_of (length octets) p.e p.b p.max_n in
@@ -229,7 +225,7 @@ source_is p kind info octets block symbol sound there source =
     let room : symbol_number c block symbol * p.e + p.e ≤ symbols_in (length octets) p.e * p.e = octets_within c block symbol sound refl there source in
     let least : 64 ≤ p.e = sound.least_e in
     let le : symbol_number c block symbol * p.e ≤ length octets = omega (arith, room, (div_ceil_times (length octets) p.e (omega arith)).1) in
-    ap (λ (b : Bool). take (if b then min p.e (length octets - symbol_number c block symbol * p.e) else p.e) (drop (symbol_number c block symbol * p.e) (padded p.e octets))) test
+    ap (λ (b : Bool). take (if b then min p.e (length octets - symbol_number c block symbol * p.e) else p.e) (drop (symbol_number c block symbol * p.e) (whole_symbols p.e octets))) test
     ∙ short_piece p.e (symbol_number c block symbol * p.e) (symbols_in (length octets) p.e * p.e - length octets) octets le
     ∙ sym (taken (nat_lt symbol (source_symbols c block)) _ _ test)
 
@@ -252,10 +248,10 @@ parity_is : (p : Settings) (kind : Kind) (info : Option (List ℕ)) (octets pari
     → source_symbols (cut_of (length octets) p.e p.b p.max_n) block ≤ symbol
     → symbol < encoding_symbols (cut_of (length octets) p.e p.b p.max_n) block
     → encoding_symbols (cut_of (length octets) p.e p.b p.max_n) block ≤ 255
-    → ((i : ℕ) → get_or (padded p.e octets) i 0 < 256) → length parity ≡ p.e
+    → ((i : ℕ) → get_or (whole_symbols p.e octets) i 0 < 256) → length parity ≡ p.e
     → IsSymbol (source_symbols (cut_of (length octets) p.e p.b p.max_n) block) (encoding_symbols (cut_of (length octets) p.e p.b p.max_n) block) p.e
     (take (source_symbols (cut_of (length octets) p.e p.b p.max_n) block * p.e)
-    (drop (symbol_number (cut_of (length octets) p.e p.b p.max_n) block 0 * p.e) (padded p.e octets))) symbol parity
+    (drop (symbol_number (cut_of (length octets) p.e p.b p.max_n) block 0 * p.e) (whole_symbols p.e octets))) symbol parity
     → parity ≡ symbol_octets p (Whole kind info octets) block symbol
 parity_is p kind info octets parity block symbol sound there not_source encoded few each long is =
     let c : Cut = cut_of (length octets) p.e p.b p.max_n in
@@ -264,11 +260,11 @@ parity_is p kind info octets parity block symbol sound there not_source encoded 
     let same : symbol_number c block 0 ≡ first = omega arith in
     let least : 64 ≤ p.e = sound.least_e in
     let le : first + source_symbols c block ≤ symbols_in (length octets) p.e = omega (arith, sources_within c block sound refl there) in
-    let room : (first + source_symbols c block) * p.e ≤ length (padded p.e octets) =
-    omega (arith, mul-le-mul_right p.e le, length-padded p.e octets (omega arith)) in
+    let room : (first + source_symbols c block) * p.e ≤ length (whole_symbols p.e octets) =
+    omega (arith, mul-le-mul_right p.e le, length-whole_symbols p.e octets (omega arith)) in
     block_symbol (source_symbols c block) (encoding_symbols c block) p.e first (symbols_in (length octets) p.e * p.e - length octets)
     symbol octets parity (sources_fit c block sound) few encoded room each long
-    (subst (λ r. IsSymbol (source_symbols c block) (encoding_symbols c block) p.e (take (source_symbols c block * p.e) (drop (r * p.e) (padded p.e octets))) symbol parity) same is)
+    (subst (λ r. IsSymbol (source_symbols c block) (encoding_symbols c block) p.e (take (source_symbols c block * p.e) (drop (r * p.e) (whole_symbols p.e octets))) symbol parity) same is)
     ∙ sym (refused (nat_lt symbol (source_symbols c block)) _ _ test)
 
 -- the parity symbol of the pieces is the block's

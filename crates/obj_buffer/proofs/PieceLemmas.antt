@@ -8,7 +8,7 @@ use Rattle.std.proofs.lemmas.Bool.{cases_lt}
 use Rattle.std.proofs.lemmas.List.{drop-append-le, take-append-le, take_all, length-drop}
 use Rattle.fec_plan.specs.Partition.{Cut, all_symbols}
 use Rattle.obj_buffer.specs.declared.buffer.ObjectBuf.TheInside.{Inside}
-use Rattle.obj_buffer.specs.Buffered.{IsBuffer}
+use Rattle.obj_buffer.specs.BufferState.{BufferSound}
 
 -- a range of two pieces is one of the front and one of the back
 pub range_is : (front back : List ℕ) (start len a n d : ℕ) → a ≡ min start (length front) → n ≡ min len (length front - a) → d ≡ start - length front
@@ -74,8 +74,8 @@ whole_part e count m front some whole = go (cases_lt (count * e) (front - m * e)
     go (inr le) = ap (λ k. k % e) ((let is : min (count * e) (front - m * e) ≡ front - m * e = omega arith in is) ∙ rest_is) ∙ mul-mod_left (front / e - m) e
 
 -- a buffer keeps whole symbols
-pub buffer_long : (b : Inside) → IsBuffer b → length b.symbols.items ≡ all_symbols b.plan * b.plan.e
+pub buffer_long : (b : Inside) → BufferSound b → length b.symbols.items ≡ all_symbols b.plan * b.plan.e
 buffer_long b is = is.whole ∙ sym (ap (λ (c : Cut). all_symbols c * c.e) is.plan)
 
-pub buffer_whole : (b : Inside) → IsBuffer b → length b.symbols.items % b.plan.e ≡ 0
+pub buffer_whole : (b : Inside) → BufferSound b → length b.symbols.items % b.plan.e ≡ 0
 buffer_whole b is = ap (λ n. n % b.plan.e) (buffer_long b is) ∙ mul-mod_left (all_symbols b.plan) b.plan.e

@@ -1,3 +1,3 @@
 pub mod Codes
 pub mod Pieces
-pub mod Buffered
+pub mod BufferState

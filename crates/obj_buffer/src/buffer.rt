@@ -1,11 +1,12 @@
 //! One object with its codes.
 
 ghost use Rattle.std.specs.Prelude.{ℕ, ◌≡◌, ◌+◌, ◌<◌, ◌≤◌, ◌++◌, List, Option, IfOk, length, option_map, option_copied};
+ghost use Rattle.norm_base.specs.Sizes.{datagram_room};
 ghost use Rattle.norm_base.specs.Settings.{Settings};
 ghost use Rattle.fec_plan.specs.Partition.{cut_of, blocks, encoding_symbols};
 ghost use Rattle.norm_order.specs.Shapes.{shape_of};
 ghost use Rattle.norm_order.specs.Symbols.{symbol_octets};
-ghost use Rattle.obj_buffer.specs.Buffered.{Buffered, object_of, fti_of};
+ghost use Rattle.obj_buffer.specs.BufferState.{BufferState, object_of, fti_of};
 
 use crate::codes::Codes;
 use crate::symbol::symbol_of;
@@ -28,13 +29,13 @@ pub struct ObjectBuf {
 }
 
 impl Model for ObjectBuf {
-    ghost use Rattle.obj_buffer.specs.Buffered.{Buffered, buffered, IsBuffer};
+    ghost use Rattle.obj_buffer.specs.BufferState.{BufferState, buffer_view, BufferSound};
 
-    ghost Value = { Buffered };
+    ghost Value = { BufferState };
 
-    ghost view = { buffered };
+    ghost view = { buffer_view };
 
-    ghost invariant = { IsBuffer };
+    ghost invariant = { BufferSound };
 }
 
 /// The plan of an object of so many octets.
@@ -94,7 +95,7 @@ impl ObjectBuf {
     pub fn symbol(&self, block: u32, symbol: u8, out: &mut Datagram)
         requires block { block < blocks self.now.cut }
         requires symbol { symbol < encoding_symbols self.now.cut block }
-        requires room { length out.old + self.now.cut.e ≤ 1500 }
+        requires room { length out.old + self.now.cut.e ≤ datagram_room }
         ensures { (p : Settings) → self.now.cut ≡ (shape_of p (object_of self.now)).cut
             → out.new ≡ out.old ++ symbol_octets p (object_of self.now) block symbol }
     {

@@ -30,7 +30,7 @@ impl Model for Codes {
 }
 
 /// The code of a block.
-#[tactic(auto, using(crate::proofs::PartitionLemmas::some_sources, crate::proofs::PartitionLemmas::sources_fit))]
+#[tactic(auto, using(fec_plan::proofs::PartitionLemmas::some_sources, fec_plan::proofs::PartitionLemmas::sources_fit))]
 fn code_of(alloc: Global, plan: &Plan, block: u32) -> Result<Code, Memory>
     requires { block < blocks plan.now }
     ensures { IfOk result (IsCodeOf plan.now block) }

@@ -1,6 +1,7 @@
 //! One symbol of an object whose octets lie in two pieces.
 
 ghost use Rattle.std.specs.Prelude.{ℕ, ◌≡◌, ◌+◌, ◌-◌, ◌*◌, ◌%◌, ◌<◌, ◌≤◌, ◌++◌, List, Option, IsSome, length, take, drop, min};
+ghost use Rattle.norm_base.specs.Sizes.{datagram_room};
 ghost use Rattle.norm_base.specs.Settings.{Settings};
 ghost use Rattle.norm_base.specs.declared.kinds.Kind.{Kind as AnyKind};
 ghost use Rattle.fec_plan.specs.Partition.{blocks, all_symbols, source_symbols, encoding_symbols, symbol_number, sent_octets};
@@ -39,7 +40,7 @@ fn push_source(plan: &Plan, front: &[u8], back: &[u8], block: u32, symbol: u8, o
     requires block { block < blocks plan.now }
     requires symbol { symbol < source_symbols plan.now block }
     requires pieces { length front.now + length back.now ≡ all_symbols plan.now * plan.now.e }
-    requires room { length out.old + plan.now.e ≤ 1500 }
+    requires room { length out.old + plan.now.e ≤ datagram_room }
     ensures { let start = symbol_number plan.now block symbol * plan.now.e in
         out.new ≡ out.old ++ take (sent_octets plan.now block symbol) (drop start (front.now ++ back.now)) }
 {
@@ -67,7 +68,7 @@ fn push_parity(
     requires encoded { symbol < encoding_symbols plan.now block }
     requires pieces { length front.now + length back.now ≡ all_symbols plan.now * plan.now.e }
     requires whole { length front.now % plan.now.e ≡ 0 }
-    requires room { length out.old + plan.now.e ≤ 1500 }
+    requires room { length out.old + plan.now.e ≤ datagram_room }
     ensures { let e = plan.now.e in
         let sources = take (code.now.k * e) (drop (symbol_number plan.now block 0 * e) (front.now ++ back.now)) in
         AppendsSymbol code.now e sources symbol out.old out.new }
@@ -99,7 +100,7 @@ pub fn symbol_of(
     requires symbol { symbol < encoding_symbols plan.now block }
     requires pieces { length front.now + length back.now ≡ all_symbols plan.now * plan.now.e }
     requires whole { length front.now % plan.now.e ≡ 0 }
-    requires room { length out.old + plan.now.e ≤ 1500 }
+    requires room { length out.old + plan.now.e ≤ datagram_room }
     ensures { (p : Settings) (kind : AnyKind) (info : Option (List ℕ)) (octets : List ℕ)
         → HoldsObject plan.now (front.now ++ back.now) p octets
         → out.new ≡ out.old ++ symbol_octets p (Whole kind info octets) block symbol }

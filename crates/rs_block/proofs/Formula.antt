@@ -143,9 +143,6 @@ row_is ps row x count each =
 
 -- ---- sums by a row
 
-pub combined_begins : (old : ℕ) (row vs : List ℕ) → bit_xor old (combined (drop 0 row) (drop 0 vs)) ≡ bit_xor old (combined row vs)
-combined_begins old row vs = refl
-
 combined_goes_on : (row vs : List ℕ) (i sum : ℕ) → i < length row → i < length vs
     → bit_xor (bit_xor sum (product (get_or row i 0) (get_or vs i 0))) (combined (drop (i + 1) row) (drop (i + 1) vs)) ≡ bit_xor sum (combined (drop i row) (drop i vs))
 unfolding combined

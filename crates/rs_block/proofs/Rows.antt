@@ -11,7 +11,7 @@ use Rattle.std.proofs.lemmas.List.Edits.{get_or-between, length-between}
 use Rattle.gf_field.specs.Power.{power, powers}
 use Rattle.gf_field.specs.Interpolation.{coefficient}
 use Rattle.gf_field.proofs.Places.{length-powers}
-use Rattle.rs_block.specs.Code.{IsCode}
+use Rattle.rs_block.specs.Code.{CodeSound}
 use Rattle.rs_block.specs.Codeword.{HasSymbolAt}
 use Rattle.rs_block.specs.Column.{column}
 use Rattle.rs_block.specs.Row.{coefficients, combined}
@@ -31,7 +31,7 @@ length-coefficients : (k x : ℕ) → length (coefficients (powers k) x) ≡ k
 length-coefficients k x = length-map (powers k) (λ m. coefficient (powers k) m x) ∙ length-powers k
 
 -- the row that is read is the one for j
-pub row_read : (k n j start : ℕ) (rows : List ℕ) → IsCode k n rows → k ≤ j → j < n → start ≡ (j - k) * k → take (start + k - start) (drop start rows) ≡ coefficients (powers k) (power j)
+pub row_read : (k n j start : ℕ) (rows : List ℕ) → CodeSound k n rows → k ≤ j → j < n → start ≡ (j - k) * k → take (start + k - start) (drop start rows) ≡ coefficients (powers k) (power j)
 row_read k n j start rows is low lt at =
     let below : j - k < n - k = omega arith in
     let room : (j - k) * k + k ≤ length rows = omega (arith, mul-le-mul_right k below, suc-mul (j - k) k, is.size) in

@@ -4,12 +4,12 @@ use Rattle.gf_field.specs.Power.{power, powers}
 use Rattle.gf_field.specs.Interpolation.{coefficient}
 
 -- k source symbols and n encoded symbols
-pub record CodeShape : Type 0 where
+pub record CodeState : Type 0 where
   pub k : ℕ
   pub n : ℕ
 
 -- a row for each parity symbol: what each source symbol counts for in it
-pub record IsCode (k n : ℕ) (rows : List ℕ) : Type 0 where
+pub record CodeSound (k n : ℕ) (rows : List ℕ) : Type 0 where
   pub some : 1 ≤ k
   pub fits : k ≤ n
   pub most : n ≤ 255

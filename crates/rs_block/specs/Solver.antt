@@ -2,12 +2,12 @@
 use Rattle.std.specs.Prelude.{ℕ, List, ◌≡◌, ◌≤◌, length}
 
 -- room for blocks of k source symbols of `size` octets
-pub record SolverShape : Type 0 where
+pub record SolverState : Type 0 where
   pub k : ℕ
   pub size : ℕ
 
 -- room for k places, k weights and a row
-pub record IsSolver (k : ℕ) (places weights row : List ℕ) : Type 0 where
+pub record SolverSound (k : ℕ) (places weights row : List ℕ) : Type 0 where
   pub some : 1 ≤ k
   pub most : k ≤ 255
   pub places_room : length places ≡ k

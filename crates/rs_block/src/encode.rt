@@ -4,7 +4,7 @@ ghost use Rattle.std.specs.Prelude.{ℕ, ◌≡◌, ◌<◌, ◌≤◌, ◌+◌,
 ghost use Rattle.gf_field.specs.Power.{power};
 ghost use Rattle.rs_block.specs.Points.{powers, AreWeights};
 ghost use Rattle.rs_block.specs.Row.{coefficients};
-ghost use Rattle.rs_block.specs.Code.{IsCode};
+ghost use Rattle.rs_block.specs.Code.{CodeSound};
 
 use crate::interpolation::{add_combined, place_of, put_coefficients, weigh};
 use norm_base::Memory;
@@ -21,13 +21,13 @@ pub struct Code {
 }
 
 impl Model for Code {
-    ghost use Rattle.rs_block.specs.Code.{CodeShape, IsCode};
+    ghost use Rattle.rs_block.specs.Code.{CodeState, CodeSound};
 
-    ghost Value = { CodeShape };
+    ghost Value = { CodeState };
 
     ghost view = { λ c. record { k = c.k; n = c.n } };
 
-    ghost invariant = { λ c. IsCode c.k c.n c.rows.items };
+    ghost invariant = { λ c. CodeSound c.k c.n c.rows.items };
 }
 
 /// The powers of alpha with exponents below `n`.
@@ -48,7 +48,7 @@ fn put_rows(k: u8, n: u8, places: &[u8], weights: &[u8], rows: &mut [u8])
     requires places { places.now ≡ powers k }
     requires weighted { AreWeights places.now weights.now }
     requires room { length rows.old ≡ (n - k) * k }
-    ensures { IsCode k n rows.new }
+    ensures { CodeSound k n rows.new }
 {
     let width = usize::from(k);
     for m in 0..n - k {
@@ -66,7 +66,7 @@ fn put_rows(k: u8, n: u8, places: &[u8], weights: &[u8], rows: &mut [u8])
 fn rows_of(alloc: Global, k: u8, n: u8) -> Result<Vec<u8>, AllocError>
     requires some { 1 ≤ k }
     requires fits { k ≤ n }
-    ensures { IfOk result (λ rows. IsCode k n rows.items) }
+    ensures { IfOk result (λ rows. CodeSound k n rows.items) }
 {
     let places = powers_below(alloc, k)?;
     let mut weights = vec![in alloc; 0; usize::from(k)]?;
@@ -78,7 +78,7 @@ fn rows_of(alloc: Global, k: u8, n: u8) -> Result<Vec<u8>, AllocError>
 
 impl Code {
     ghost use Rattle.rs_block.specs.Codeword.{IsSymbol};
-    ghost use Rattle.rs_block.specs.Code.{CodeShape};
+    ghost use Rattle.rs_block.specs.Code.{CodeState};
 
     /// The code of `k` source symbols and `n` encoded symbols.
     ///

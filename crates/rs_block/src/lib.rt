@@ -12,6 +12,3 @@ mod solve;
 
 pub use encode::Code;
 pub use solve::Solver;
-
-#[cfg(test)]
-mod tests;

@@ -1,6 +1,7 @@
 //! The source symbols of a block from any k of its symbols, RFC 5510 section 8.3.
 
 ghost use Rattle.std.specs.Prelude.{ℕ, ◌≡◌, ◌≢◌, ◌<◌, ◌≤◌, ◌*◌, ◌+◌, All, AllPairs, EachIndex, IfOk, MatchOption, length, map, slice_index};
+ghost use Rattle.norm_base.specs.Sizes.{symbol_room};
 ghost use Rattle.gf_field.specs.Power.{power};
 ghost use Rattle.gf_field.specs.Interpolation.{interpolated};
 ghost use Rattle.rs_block.specs.Codeword.{AreIds, AreSources};
@@ -23,17 +24,17 @@ pub struct Solver {
 }
 
 impl Model for Solver {
-    ghost use Rattle.rs_block.specs.Solver.{SolverShape, IsSolver};
+    ghost use Rattle.rs_block.specs.Solver.{SolverState, SolverSound};
 
-    ghost Value = { SolverShape };
+    ghost Value = { SolverState };
 
     ghost view = { λ s. record { k = s.k; size = s.size } };
 
-    ghost invariant = { λ s. IsSolver s.k s.places.items s.weights.items s.row.items };
+    ghost invariant = { λ s. SolverSound s.k s.places.items s.weights.items s.row.items };
 }
 
 impl Solver {
-    ghost use Rattle.rs_block.specs.Solver.{SolverShape};
+    ghost use Rattle.rs_block.specs.Solver.{SolverState};
 
     /// Room to solve blocks of `k` source symbols of `size` octets, at most 1,408.
     ///
@@ -43,7 +44,7 @@ impl Solver {
     pub fn new(alloc: Global, k: u8, size: usize) -> Result<Solver, Memory>
         requires some { 1 ≤ k }
         requires octets { 1 ≤ size }
-        requires most { size ≤ 1408 }
+        requires most { size ≤ symbol_room }
         ensures { IfOk result (λ solver. solver ≡ record { k = k; size = size }) }
     {
         let places = room_for(alloc, k).map_err(|_| Memory)?;

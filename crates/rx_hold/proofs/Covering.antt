@@ -5,7 +5,7 @@ use Rattle.std.specs.List.{concat, range_with_len, slice_range}
 use Rattle.std.proofs.Math.Nat.{add-mul, suc-mul}
 use Rattle.std.proofs.lemmas.List.{append-nil, drop-drop, take-append-le}
 use Rattle.std.proofs.lemmas.List.Concat.{flat_map-cons}
-use Rattle.rx_hold.specs.Padding.{padded}
+use Rattle.norm_order.specs.Symbols.{padded}
 
 take_over : (n : ℕ) (xs ys : List ℕ) → take n (xs ++ ys) ≡ take n xs ++ take (n - length xs) ys
 take_over n [] ys = ap (λ m. take m ys) (let e : n ≡ n - 0 = omega arith in e) ∙ take_none n (take (n - 0) ys)

@@ -7,7 +7,7 @@ use Rattle.std.proofs.lemmas.List.{length-append, length-replicate, length-take,
 use Rattle.std.proofs.lemmas.List.Sums.{length-filter}
 use Rattle.std.proofs.Math.Nat.{suc-mul, mul-le-mul_right}
 use Rattle.gf_field.specs.Symbol.{given}
-use Rattle.rx_hold.specs.Padding.{padded}
+use Rattle.norm_order.specs.Symbols.{padded}
 use Rattle.rx_hold.specs.Places.{pieces, free_places, AreApart, has_id, with_one}
 
 -- ---- ids

@@ -6,7 +6,7 @@ use Rattle.std.proofs.lemmas.Bool.{cases_order, eq-eqb, ne_eqb}
 use Rattle.std.proofs.lemmas.List.Concat.{flat_map-cons}
 use Rattle.fec_plan.specs.Partition.{Cut, blocks, sent_octets}
 use Rattle.norm_order.specs.Sets.{with_member}
-use Rattle.norm_order.proofs.PositionLemmas.{Before, before_decides, not_both}
+use Rattle.fec_plan.proofs.PositionLemmas.{Before, before_decides, not_both}
 use Rattle.norm_receive_rules.specs.ReceiverState.{Held}
 use Rattle.norm_receive_rules.specs.Putting.{held_before}
 use Rattle.rx_hold.specs.BlockState.{held_at}

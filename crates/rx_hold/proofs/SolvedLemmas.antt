@@ -7,7 +7,7 @@ use Rattle.std.proofs.lemmas.List.{length-take, length-drop, get_or-take, get_or
 use Rattle.std.proofs.Math.Nat.{suc-mul}
 use Rattle.gf_field.specs.Octet.{AreOctets}
 use Rattle.gf_field.specs.Symbol.{AreSymbols, AreIds, encoded_symbol, given}
-use Rattle.rs_block.specs.Solver.{SolverShape}
+use Rattle.rs_block.specs.Solver.{SolverState}
 use Rattle.rs_block.specs.Column.{column}
 use Rattle.rs_block.specs.Codeword.{Codeword, AreSources, GoesThroughAt, IsSymbol}
 use Rattle.rs_block.proofs.Formula.{octets_from_each, length-column, get_or-column}
@@ -158,7 +158,7 @@ put_done k size q ids after row kept solved x count count' are none lacks long l
     ∙ with_one_same q id x (given ids (pieces size k row)) (symbol_in size ids row)
     (ap (λ n. given ids (pieces size n row) id) (sym count) ∙ sym (open_in size ids row id (omega (arith, lacks))))
 
-pub put_last : (shape : SolverShape) (size q : ℕ) (ids after row kept solved x : List ℕ) (o : Option ℕ) → shape ≡ record { k = length ids; size = size } → length ids ≤ 255
+pub put_last : (shape : SolverState) (size q : ℕ) (ids after row kept solved x : List ℕ) (o : Option ℕ) → shape ≡ record { k = length ids; size = size } → length ids ≤ 255
     → length after ≡ length ids → AreIds shape.k 255 after → free_places ids ≡ free_places after + 1
     → MatchOption o (EachIndex after (λ i. slice_index after i ≢ 255)) (λ i. (i < length after) × (slice_index after i ≡ 255)) → is_some o ≡ false
     → length row ≡ length ids * size → length kept ≡ length row → length solved ≡ length kept → AreBytes solved → AreSources shape.k shape.size after kept solved
@@ -166,6 +166,6 @@ pub put_last : (shape : SolverShape) (size q : ℕ) (ids after row kept solved x
     → (id : ℕ) → id < 255 → symbol_in size after solved id ≡ with_one q x (symbol_in size ids row) id
 put_last shape size q ids after row kept solved x (Some i) is most count are lacks found none long kept_long solved_long octets sources symbols = absurd (cc none)
 put_last shape size q ids after row kept solved x None is most count are lacks found none long kept_long solved_long octets sources symbols =
-    put_done (length ids) size q ids after row kept solved x refl count (subst (λ (s : SolverShape). AreIds s.k 255 after) is are) (none_free after found) lacks
+    put_done (length ids) size q ids after row kept solved x refl count (subst (λ (s : SolverState). AreIds s.k 255 after) is are) (none_free after found) lacks
     (kept_long ∙ long) (solved_long ∙ kept_long ∙ long) most octets
-    (subst (λ (s : SolverShape). AreSources s.k s.size after kept solved) is sources) symbols
+    (subst (λ (s : SolverState). AreSources s.k s.size after kept solved) is sources) symbols

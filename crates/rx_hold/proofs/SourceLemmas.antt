@@ -5,21 +5,22 @@ use Rattle.std.specs.List.{AllByRecursion, concat, range_with_len}
 use Rattle.std.specs.Int.Bits.{xor_zero_l}
 use Rattle.std.proofs.Math.Nat.{suc-mul}
 use Rattle.std.proofs.Math.ListN.{get_or-append}
-use Rattle.std.proofs.lemmas.List.{get_or-append_right, length-map, length-replicate, append-nil}
+use Rattle.std.proofs.lemmas.List.{get_or-append_right, length-map, append-nil}
 use Rattle.gf_field.specs.Octet.{AreOctets}
 use Rattle.gf_field.specs.Product.{product, shifts, sum_at_bits}
 use Rattle.gf_field.specs.Power.{power}
 use Rattle.gf_field.specs.Interpolation.{coefficient}
 use Rattle.gf_field.specs.Symbol.{AreSymbols, AreIds, scaled_onto, weighted_symbols, symbol_at, given, encoded_symbol, solved_symbol, solved_sources}
 use Rattle.gf_field.proofs.Products.{product-zero}
+use Rattle.gf_field.proofs.Symbols.{length-weighted_symbols}
 use Rattle.rs_block.specs.Column.{column}
 use Rattle.rs_block.specs.Codeword.{Codeword, AreSources, HasSymbolAt}
 use Rattle.rs_block.proofs.Formula.{length-column}
 use Rattle.rs_block.proofs.Words.{column-octets, codeword_exists, codeword_laws}
 use Rattle.rs_block.proofs.Functions.{function_laws}
+use Rattle.norm_order.specs.Symbols.{padded}
 use Rattle.norm_receive_rules.specs.ReceiverState.{Held}
 use Rattle.norm_receive_rules.specs.BlockValue.{ids_of, octets_of_held}
-use Rattle.rx_hold.specs.Padding.{padded}
 use Rattle.rx_hold.specs.Places.{pieces}
 use Rattle.rx_hold.proofs.FreePlaces.{length-padded, concat_pieces}
 use Rattle.rx_hold.proofs.SolvedLemmas.{AreBytes, symbols_are}
@@ -47,20 +48,6 @@ padded_weighted size places (m ∷ ms) [] x = refl
 padded_weighted size places (m ∷ ms) (s ∷ ss) x =
     padded_onto (coefficient places m x) (size - length s) s (weighted_symbols size places ms (map (padded size) ss) x)
     ∙ ap (scaled_onto (shifts 8 (coefficient places m x % 256)) s) (padded_weighted size places ms ss x)
-
-length-onto : (vs xs ys : List ℕ) → length (scaled_onto vs xs ys) ≡ length ys
-unfolding scaled_onto
-length-onto vs xs [] = refl
-length-onto vs [] (y ∷ ys) = refl
-length-onto vs (x ∷ xs) (y ∷ ys) = ap suc (length-onto vs xs ys)
-
-length-weighted : (size : ℕ) (places ms : List ℕ) (symbols : List (List ℕ)) (x : ℕ) → length (weighted_symbols size places ms symbols x) ≡ size
-unfolding weighted_symbols
-length-weighted size places [] symbols x = length-replicate {A = ℕ} size 0
-length-weighted size places (m ∷ ms) [] x = length-replicate {A = ℕ} size 0
-length-weighted size places (m ∷ ms) (s ∷ ss) x =
-    length-onto (shifts 8 (coefficient places m x % 256)) s (weighted_symbols size places ms ss x)
-    ∙ length-weighted size places ms ss x
 
 whole_padded : (size : ℕ) (xs : List ℕ) → length xs ≡ size → padded size xs ≡ xs
 whole_padded size xs long = ap (λ n. xs ++ replicate n 0) (let none : size - length xs ≡ 0 = omega (arith, long) in none) ∙ append-nil xs
@@ -92,7 +79,7 @@ padded_symbol size ids symbols j = go (given ids symbols j) (given ids (map (pad
     go (Some s) None e = absurd (cc e)
     go None (Some t) e = absurd (cc e)
     go None None e =
-        whole_padded size _ (length-weighted size (map power ids) (map power ids) symbols (power j))
+        whole_padded size _ (length-weighted_symbols size (map power ids) (map power ids) symbols (power j))
         ∙ sym (padded_weighted size (map power ids) (map power ids) symbols (power j))
 
 mapped_twice : (f : List ℕ → List ℕ) (g h : ℕ → List ℕ) → ((j : ℕ) → f (g j) ≡ h j) → (js : List ℕ) → map f (map g js) ≡ map h js
@@ -198,4 +185,4 @@ row_is k size row hs most long bytes count ids all =
 
 pub length-symbol_at : (size : ℕ) (ids : List ℕ) (symbols : List (List ℕ)) (j : ℕ) → length (symbol_at size ids symbols j) ≡ size
 unfolding symbol_at
-length-symbol_at size ids symbols j = length-weighted size ids ids symbols j
+length-symbol_at size ids symbols j = length-weighted_symbols size ids ids symbols j

@@ -7,6 +7,7 @@ use Rattle.fec_plan.specs.Partition.{Cut, blocks, source_symbols, encoding_symbo
 use Rattle.fec_plan.specs.Points.{position}
 use Rattle.gf_field.specs.Octet.{AreOctets}
 use Rattle.norm_order.specs.Sets.{with_member}
+use Rattle.norm_order.specs.Symbols.{padded}
 use Rattle.norm_receive_rules.specs.ReceiverState.{Held}
 use Rattle.norm_receive_rules.specs.Plans.{cut_of_plan, holds, is_done}
 use Rattle.norm_receive_rules.specs.Putting.{held_before}
@@ -14,7 +15,6 @@ use Rattle.rx_hold.specs.BlockState.{held_at}
 use Rattle.rx_hold.specs.ObjectState.{ObjectState, alone}
 use Rattle.rx_hold.specs.ObjectSound.{IsObject, IsBlock, object_view, plan_inside, symbols_inside}
 use Rattle.rx_hold.specs.Offering.{is_payload}
-use Rattle.rx_hold.specs.Padding.{padded}
 use Rattle.rx_hold.specs.Places.{AreApart, free_places, has_id}
 use Rattle.rx_hold.specs.Rows.{block_ids, coded_symbol, with_coded, all_held}
 use Rattle.rx_hold.specs.RowsSound.{AreRows}

@@ -8,6 +8,7 @@ use Rattle.std.proofs.Math.Nat.{mul-le-mul_right, add-mul}
 use Rattle.fec_plan.specs.Partition.{Cut, cut_of, blocks, source_symbols, all_symbols, symbol_number, sent_octets, coded_octets}
 use Rattle.gf_field.specs.Symbol.{encoded_symbol, solved_symbol, solved_sources}
 use Rattle.gf_field.specs.Octet.{AreOctets}
+use Rattle.norm_order.specs.Symbols.{padded}
 use Rattle.norm_receive_rules.specs.ReceiverState.{Held, HeldInfo}
 use Rattle.norm_receive_rules.specs.Plans.{cut_of_plan, info_of}
 use Rattle.norm_receive_rules.specs.BlockValue.{ids_of, octets_of_held}
@@ -16,7 +17,6 @@ use Rattle.norm_receive_rules.specs.Plans.{has_its_info}
 use Rattle.rx_hold.specs.BlockState.{held_at}
 use Rattle.rx_hold.specs.ObjectState.{ObjectState, alone}
 use Rattle.rx_hold.specs.ObjectSound.{IsObject, IsBlock, object_view, plan_inside, symbols_inside}
-use Rattle.rx_hold.specs.Padding.{padded}
 use Rattle.rx_hold.specs.Places.{pieces, free_places}
 use Rattle.rx_hold.specs.Rows.{start_of, end_of, block_ids, block_row, held_in}
 use Rattle.rx_hold.specs.RowsSound.{IsCoded}

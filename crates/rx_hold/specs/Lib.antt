@@ -1,4 +1,3 @@
-pub mod Padding
 pub mod BlockState
 pub mod Places
 pub mod Offering

@@ -2,7 +2,7 @@
 use Rattle.std.specs.Prelude.{ℕ, ◌≡◌, ◌≤◌, ◌-◌, ◌*◌, List, take, length, true, is_some}
 use Rattle.fec_plan.specs.Partition.{Cut, IsSound, blocks, source_symbols, all_symbols, sent_octets}
 use Rattle.gf_field.specs.Octet.{AreOctets}
-use Rattle.rx_hold.specs.Padding.{padded}
+use Rattle.norm_order.specs.Symbols.{padded}
 use Rattle.rx_hold.specs.declared.rows.Rows.{Rows}
 
 -- a coded symbol has e octets, which are those that are sent of it, and zeros

@@ -4,7 +4,7 @@
 ghost use Rattle.std.specs.Prelude.{ℕ, ◌≡◌, ◌==◌, ◌<◌, ◌≤◌, ◌+◌, ◌*◌, ◌≢◌, length, false, slice_index, IsTrue, EachIndex, MatchOption};
 ghost use Rattle.gf_field.specs.Symbol.{AreIds, given};
 ghost use Rattle.rs_block.specs.Codeword.{AreSources};
-ghost use Rattle.rx_hold.specs.Padding.{padded};
+ghost use Rattle.norm_order.specs.Symbols.{padded};
 ghost use Rattle.rx_hold.specs.Places.{AreApart, free_places, has_id, pieces, symbol_in, with_one};
 
 use rs_block::Solver;

@@ -9,10 +9,10 @@ ghost use Rattle.norm_receive_rules.specs.Plans.{says_info, says_stream, cut_of_
 ghost use Rattle.norm_receive_rules.specs.Putting.{put_by};
 ghost use Rattle.norm_receive_rules.specs.HandingUp.{is_whole, kind_of, told_info, object_octets};
 ghost use Rattle.std.specs.List.{list_all, range_with_len};
+ghost use Rattle.norm_order.specs.Symbols.{padded};
 ghost use Rattle.norm_receive_rules.specs.declared.words.Put.TheVariants as put;
 ghost use Rattle.rx_hold.specs.ObjectState.{empty_object, alone, offered_to, short_blocks};
 ghost use Rattle.rx_hold.specs.Offering.{is_payload};
-ghost use Rattle.rx_hold.specs.Padding.{padded};
 ghost use Rattle.rx_hold.specs.Places.{AreApart, free_places, has_id};
 ghost use Rattle.rx_hold.specs.Rows.{block_ids, coded_symbol, with_coded, start_of};
 

@@ -2,7 +2,7 @@
 
 ghost use Rattle.std.specs.Prelude.{ℕ, ◌≡◌, ◌≢◌, ◌<◌, ◌≤◌, ◌*◌, ◌+◌, ◌^◌, IfOk, Some, is_some, true, false, length, replicate};
 ghost use Rattle.fec_plan.specs.Partition.{blocks, source_symbols, all_symbols};
-ghost use Rattle.rx_hold.specs.Padding.{padded};
+ghost use Rattle.norm_order.specs.Symbols.{padded};
 ghost use Rattle.rx_hold.specs.Places.{AreApart, free_places, has_id};
 ghost use Rattle.rx_hold.specs.Rows.{block_ids, coded_symbol, with_coded, start_of, end_of};
 ghost use Rattle.rx_hold.specs.RowsSound.{AreRows};

@@ -7,7 +7,7 @@ use Rattle.std.proofs.lemmas.Option.{slice_get-map}
 use Rattle.norm_base.specs.Settings.{Settings}
 use Rattle.norm_base.specs.declared.kinds.Mode.TheVariants.{Hold, Drop}
 use Rattle.fec_plan.specs.Partition.{Cut, all_symbols}
-use Rattle.fec_plan.specs.Points.{Point, position_before}
+use Rattle.fec_plan.specs.Points.{Point, position_before, reached_by}
 use Rattle.fec_plan.specs.declared.position.Position.{Position}
 use Rattle.norm_order.specs.Sets.{is_member}
 use Rattle.norm_order.specs.Entries.{Object, Entry}
@@ -16,7 +16,7 @@ use Rattle.norm_send_rules.specs.SenderState.{SenderState}
 use Rattle.norm_send_rules.specs.Room.{window, size_of, may_go, all_sent, is_released}
 use Rattle.tx_window.specs.Held.{HeldObject, octets_of}
 use Rattle.tx_window.proofs.RoomLemmas.{AreSizes}
-use Rattle.tx_window.specs.Windowed.{Windowed, WindowObject, Stands, reached_by}
+use Rattle.tx_window.specs.Windowed.{Windowed, WindowObject, Stands}
 use Rattle.tx_window.specs.Sound.{IsPlaced, window_object, object_in}
 
 -- the entry at a place of the window is the object there

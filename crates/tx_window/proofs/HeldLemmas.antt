@@ -16,7 +16,7 @@ use Rattle.norm_order.specs.Shapes.{Shape, shape_of, encoded_in, closed_in, clos
 use Rattle.fec_plan.specs.Points.{position}
 use Rattle.norm_order.specs.Symbols.{symbol_octets, block_sources}
 use Rattle.obj_buffer.specs.Pieces.{HoldsObject}
-use Rattle.obj_buffer.proofs.PartitionLemmas.{some_sources, some_blocks_of, sources_within}
+use Rattle.fec_plan.proofs.PartitionLemmas.{some_sources, some_blocks_of, sources_within}
 use Rattle.obj_buffer.proofs.PieceLemmas.{whole_part}
 use Rattle.tx_window.specs.Held.{AnswersSymbol}
 use Rattle.tx_window.specs.Round.{round}

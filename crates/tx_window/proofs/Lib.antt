@@ -10,7 +10,6 @@ pub mod BeginningLemmas
 pub mod FillingLemmas
 pub mod HeldLemmas
 pub mod WindowLemmas
-pub mod MemberLemmas
 pub mod NotingLemmas
 pub mod SentLemmas
 pub mod StandingLemmas

@@ -14,7 +14,7 @@ use Rattle.tx_window.specs.Held.{HeldObject, octets_of, begun_at}
 use Rattle.tx_window.specs.Windowed.{WindowObject, Windowed, Stands, KnowsSent}
 use Rattle.tx_window.specs.Sound.{IsPlaced, all_octets, IsRow, LieInRow, taken_by}
 use Rattle.tx_window.proofs.RowLemmas.{octets_append}
-use Rattle.tx_window.proofs.MemberLemmas.{self_in, others_in, numbers}
+use Rattle.norm_order.proofs.SetLemmas.{self_in, others_in, numbers}
 use Rattle.tx_window.specs.Round.{IsAround}
 use Rattle.fec_plan.specs.Partition.{Cut, all_symbols}
 

@@ -17,7 +17,7 @@ use Rattle.tx_window.specs.Held.{HeldObject, octets_of, octets_in, with_sent}
 use Rattle.tx_window.specs.Windowed.{Windowed, WindowObject, Stands, KnowsSent}
 use Rattle.tx_window.specs.Sound.{IsPlaced, window_object, object_in}
 use Rattle.tx_window.proofs.HeldLemmas.{taken, refused, encoded_none}
-use Rattle.tx_window.proofs.MemberLemmas.{self_in, others_in, positions}
+use Rattle.norm_order.proofs.SetLemmas.{self_in, others_in, positions}
 use Rattle.tx_window.proofs.NotingLemmas.{with_marks, stands_marked}
 use Rattle.tx_window.proofs.SourcesLemmas.{source_at, source_found, source_index}
 

@@ -8,7 +8,7 @@ use Rattle.fec_plan.proofs.CutLemmas.{some_blocks}
 use Rattle.norm_order.specs.Shapes.{Shape, is_source, closed_in}
 use Rattle.norm_send_rules.specs.SenderState.{SenderState}
 use Rattle.norm_send_rules.specs.InWindow.{current_shapes}
-use Rattle.obj_buffer.proofs.PartitionLemmas.{sources_within}
+use Rattle.fec_plan.proofs.PartitionLemmas.{sources_within}
 use Rattle.norm_base.specs.Settings.{Settings}
 use Rattle.tx_window.specs.Windowed.{Windowed, Stands, without_info, shape_of_length}
 use Rattle.tx_window.proofs.HeldLemmas.{all_before}

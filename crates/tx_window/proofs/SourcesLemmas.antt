@@ -1,6 +1,6 @@
 -- The source symbols of an object in order: each stands at its number.
 use Rattle.std.proofs.Common.{◌≡◌, ℕ, zero, suc, ◌+◌, ◌-◌, ◌<◌, ◌≤◌, ◌⊎◌, inl, inr, Bool, refl, sym, ap, ◌∙◌, subst, arith, Option, Some, None, List, [], ◌∷◌, ◌++◌, length, length-append}
-use Rattle.std.specs.Prelude.{slice_get, flat_map, replicate, min}
+use Rattle.std.specs.Prelude.{slice_get, flat_map, min}
 use Rattle.std.specs.List.{range_with_len}
 use Rattle.std.proofs.lemmas.Bool.{cases_lt}
 use Rattle.std.proofs.lemmas.Grind.{flat_map-append}
@@ -11,7 +11,7 @@ use Rattle.fec_plan.specs.Partition.{cut_of, IsSound, symbols_in, blocks_in, sym
 use Rattle.fec_plan.proofs.CoverLemmas.{before_step, none_before, all_before}
 use Rattle.fec_plan.proofs.CutLemmas.{some_blocks}
 use Rattle.norm_order.specs.Shapes.{Shape, symbols_of, sources_in, closed_in, closed_blocks}
-use Rattle.obj_buffer.proofs.PartitionLemmas.{block_within}
+use Rattle.fec_plan.proofs.PartitionLemmas.{block_within}
 
 pub get_front : {X : Type 0} (xs ys : List X) (k : ℕ) → k < length xs → slice_get (xs ++ ys) k ≡ slice_get xs k
 get_front [] ys k lt = absurd (omega arith)

@@ -1,16 +1,16 @@
 -- What a window answered may be noted as sent, and a window goes on standing for some state.
 use Rattle.std.proofs.Common.{◌≡◌, ℕ, ◌-◌, ◌<◌, ◌≤◌, ◌⊎◌, inl, inr, Bool, true, false, refl, sym, ap, ◌∙◌, arith, Option, Some, None, List, [], ◌∷◌}
-use Rattle.std.specs.Prelude.{nat_lt, slice_get, option_map, MatchOption, ◌&&◌, is_some}
-use Rattle.std.specs.List.{list_all}
+use Rattle.std.specs.Prelude.{nat_lt, slice_get, option_map, MatchOption, ◌&&◌}
 use Rattle.std.proofs.lemmas.Bool.{cases_lt, lt-ltb, le-ltb, ltb-true}
 use Rattle.std.proofs.lemmas.List.{length-map}
 use Rattle.std.proofs.lemmas.Option.{slice_get-map, slice_get_within}
+use Rattle.fec_plan.specs.Points.{reached_by}
 use Rattle.fec_plan.specs.declared.position.Position.{Position}
 use Rattle.norm_order.specs.Entries.{Object}
 use Rattle.norm_order.specs.Shapes.{shape_of, encoded_in}
 use Rattle.norm_send_rules.specs.SenderState.{SenderState}
 use Rattle.norm_send_rules.specs.Requests.{all_past, is_past}
-use Rattle.tx_window.specs.Windowed.{WindowObject, Windowed, Stands, IsInWindow, reached_by}
+use Rattle.tx_window.specs.Windowed.{WindowObject, Windowed, Stands, IsInWindow}
 use Rattle.tx_window.specs.Asked.{from_first, kept_at, AnswersAt}
 use Rattle.tx_window.specs.Held.{AnswersSymbol}
 use Rattle.tx_window.specs.Standing.{IsStanding}

@@ -2,7 +2,7 @@
 use Rattle.std.specs.Prelude.{ℕ, ◌≡◌, ◌+◌, ◌<◌, ◌≤◌, List, [], length, drop, map, Bool, Option, Some, None, slice_get, nat_lt, false, true}
 use Rattle.norm_base.specs.Settings.{Settings}
 use Rattle.fec_plan.specs.Partition.{cut_of, all_symbols}
-use Rattle.fec_plan.specs.Points.{point, position_before, reaches}
+use Rattle.fec_plan.specs.Points.{point, position_before, reached_by}
 use Rattle.fec_plan.specs.declared.position.Position.{Position}
 use Rattle.norm_order.specs.Entries.{Object, Entry}
 use Rattle.norm_order.specs.Sets.{is_member}
@@ -45,11 +45,6 @@ empty_window p = record { p = p; dropped = 0; objects = []; lengths = []; fillin
 pub record IsInWindow (w : Windowed) (index : ℕ) : Type 0 where
   pub behind : w.dropped ≤ index
   pub before : index < w.dropped + length w.objects
-
--- there is such a position, and it is at this one or behind it
-abbrev pub reached_by : Option Position → Position → Bool
-reached_by None at = false
-reached_by (Some past) at = reaches past at
 
 -- what a window knows of the n-th object that was not dropped is what the state says
 pub record KnowsSent (s : SenderState) (index : ℕ) (p : Settings) (o : WindowObject) : Type 0 where

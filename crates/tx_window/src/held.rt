@@ -2,6 +2,7 @@
 
 ghost use Rattle.std.specs.Prelude.{ℕ, ◌≡◌, ◌+◌, ◌<◌, ◌≤◌, List, Option, Bool, true, ◌||◌, ◌&&◌, is_none, option_copied, IfOk, IsSome, Some, ◌*◌, length};
 ghost use Rattle.std.specs.List.{list_all};
+ghost use Rattle.norm_base.specs.Sizes.{datagram_room};
 ghost use Rattle.norm_base.specs.Settings.{Settings};
 ghost use Rattle.norm_base.specs.declared.kinds.Kind.{Kind as AnyKind};
 ghost use Rattle.fec_plan.specs.Partition.{IsSound, all_symbols, blocks, cut_of};
@@ -133,7 +134,7 @@ impl Held {
     /// then nothing is added.
     pub fn symbol(&self, ring: &Ring, block: u32, symbol: u8, out: &mut Datagram) -> Option<u16>
         requires lies { LiesIn ring.now self.now }
-        requires room { length out.old + self.now.cut.e ≤ 1500 }
+        requires room { length out.old + self.now.cut.e ≤ datagram_room }
         ensures { (p : Settings) (octets : List ℕ) → HoldsObject self.now.cut (octets_in ring.now self.now) p octets
             → AnswersSymbol p (Whole self.now.kind self.now.info octets) block symbol out.old out.new result }
     {

@@ -2,8 +2,10 @@
 
 ghost use Rattle.std.specs.Prelude.{ℕ, ⊤, true, ◌≡◌, ◌+◌, ◌-◌, ◌<◌, ◌≤◌, ◌++◌, List, [], Option, IfOk, IsErr, MatchOption, MatchResult, None, Some, length, map, take, drop, option_copied, slice_get, nat_lt, vec_capacity};
 ghost use Rattle.std.specs.VecDeque.{deque_capacity};
+ghost use Rattle.norm_base.specs.Sizes.{datagram_room, symbol_room};
 ghost use Rattle.norm_base.specs.declared.node.Origin.{Origin};
 ghost use Rattle.norm_base.specs.declared.kinds.Mode.TheVariants.{Hold, Drop as Dropping};
+ghost use Rattle.fec_plan.specs.Points.{reached_by};
 ghost use Rattle.fec_plan.specs.Partition.{cut_of};
 ghost use Rattle.norm_order.specs.Entries.{Entry};
 ghost use Rattle.norm_order.specs.Sets.{with_member};
@@ -16,14 +18,14 @@ ghost use Rattle.norm_send_rules.specs.Room.{window, size_of, has_to_go, may_go,
 ghost use Rattle.norm_send_rules.specs.Enqueuing.{object_fault, info_length, with_entry};
 ghost use Rattle.norm_send_rules.specs.declared.fault.EnqueueFault.TheVariants.{Memory as EnqueueMemory};
 ghost use Rattle.tx_window.specs.Held.{HeldObject, octets_of};
-ghost use Rattle.tx_window.specs.Windowed.{Windowed, WindowObject, Filling, Stands, empty_window, reached_by, IsInWindow};
+ghost use Rattle.tx_window.specs.Windowed.{Windowed, WindowObject, Filling, Stands, empty_window, IsInWindow};
 ghost use Rattle.tx_window.specs.Sound.{all_octets};
 ghost use Rattle.tx_window.specs.Asked.{from_first, info_at, AnswersAt};
 ghost use Rattle.tx_window.specs.Taking.{room_made, filled_entry, with_piece, size_fault, GivesBack, IsRefusal, IsEnqueued};
 
 use crate::held::{Held, plan_of};
 use crate::ring::Ring;
-use fec_plan::Position;
+use fec_plan::{Position, reached_by};
 use norm_base::{Datagram, Kind, Memory, Mode, Octets, Profile};
 use norm_ext::LAST_INDEX;
 use norm_send_rules::EnqueueFault;
@@ -128,10 +130,9 @@ fn drop_front(held: &mut VecDeque<Held>, count: usize)
 fn is_released(profile: &Profile, past: &Option<Position>, last: Position) -> bool
     ensures { result ≡ (elim profile.now.mode [ Hold ↦ reached_by past.now last | Dropping ↦ true ]) }
 {
-    match (profile.mode, past) {
-        (Mode::Drop, _) => true,
-        (Mode::Hold, Some(past)) => last <= *past,
-        (Mode::Hold, None) => false,
+    match profile.mode {
+        Mode::Drop => true,
+        Mode::Hold => reached_by(*past, &last),
     }
 }
 
@@ -219,7 +220,7 @@ impl Window {
     /// Adds a symbol, and answers how many octets it has. `None` exactly where its object was dropped or not enqueued, or
     /// has no such encoded symbol; then nothing is added. It takes no memory.
     pub fn symbol(&self, at: Position, out: &mut Datagram) -> Option<u16>
-        requires { length out.old + 1408 ≤ 1500 }
+        requires { length out.old + symbol_room ≤ datagram_room }
         ensures { (s : SenderState) → Stands self.now s → AnswersAt self.now.p s at out.old out.new result }
     {
         let Some(held) = held_at(&self.held, self.dropped, at.index) else {

@@ -1,6 +1,6 @@
 use Rattle.std.proofs.Common.{arith}
+use Rattle.norm_order.specs.Sets.{Rises}
 use Rattle.nack_union.specs.Adding.{IsPlanned}
-use Rattle.nack_union.specs.More.{Rises}
 use Rattle.nack_union.proofs.Rising.{all_of, one_further}
 use Rattle.nack_union.proofs.asking.hold_all.Goals as goal
 

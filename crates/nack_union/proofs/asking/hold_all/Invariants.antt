@@ -1,7 +1,7 @@
 use Rattle.std.proofs.Common.{ℕ, ◌<◌, get_or}
+use Rattle.norm_order.specs.Sets.{Rises}
 use Rattle.nack_union.specs.Kept.{Marked}
 use Rattle.nack_union.specs.Adding.{IsPlanned}
-use Rattle.nack_union.specs.More.{Rises}
 use Rattle.nack_union.proofs.asking.hold_all.Given as goal
 
 abbrev pub invariant-objects : goal.invariant-objects

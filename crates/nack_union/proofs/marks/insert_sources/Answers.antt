@@ -1,10 +1,11 @@
 use Rattle.std.proofs.Common.{◌≡◌, ◌<◌, ◌≤◌, ◌+◌, refl, ap, sym, ◌∙◌, arith, nat_lt}
 use Rattle.std.specs.Prelude.{◌||◌, max, min}
 use Rattle.std.proofs.Math.Nat.{div-add-mod}
+use Rattle.std.proofs.Math.Bool.{or_assoc}
 use Rattle.norm_order.specs.Sets.{is_member}
 use Rattle.fec_plan.specs.Partition.{blocks, source_symbols}
 use Rattle.nack_union.specs.More.{in_run}
-use Rattle.nack_union.proofs.Puts.{or_assoc, or_false}
+use Rattle.nack_union.proofs.Puts.{or_false}
 use Rattle.nack_union.proofs.Runs.{blocks_none, blocks_end, slot_more}
 use Rattle.nack_union.proofs.marks.insert_sources.Goals as goal
 

@@ -1,6 +1,4 @@
-use Rattle.std.proofs.Common.{◌≡◌, ◌+◌, ◌-◌, ◌^◌, ◌≤◌, ℕ, List, []}
-use Rattle.norm_base.specs.Told.{before_taking}
-use Rattle.norm_show.specs.Progress.{Shows, progress_opening}
+use Rattle.std.proofs.Common.{◌≡◌, ◌+◌, ◌-◌, ◌^◌, ◌≤◌}
 use Rattle.norm_show.proofs.ShowLemmas.{ReadSoFar}
 use Rattle.norm_show.proofs.stream.show.Given as goal
 

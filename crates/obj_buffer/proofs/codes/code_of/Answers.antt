@@ -1,5 +1,5 @@
 use Rattle.std.proofs.Common.{sym, subst, ◌≤◌}
-use Rattle.obj_buffer.proofs.PartitionLemmas.{some_sources, sources_fit}
+use Rattle.fec_plan.proofs.PartitionLemmas.{some_sources, sources_fit}
 use Rattle.obj_buffer.proofs.codes.code_of.Goals as goal
 
 pub new-requires-clause-some : goal.new-requires-clause-some

@@ -1,8 +1,8 @@
 use Rattle.std.proofs.Common.{◌≡◌, ◌*◌, ◌%◌, ◌≤◌, ◌<◌, ap, sym, subst, ◌∙◌, arith, length, ℕ, List, take, drop, ◌++◌, rules}
 use Rattle.fec_plan.specs.Partition.{symbol_number, source_symbols}
-use Rattle.rs_block.specs.Code.{CodeShape}
+use Rattle.rs_block.specs.Code.{CodeState}
 use Rattle.rs_block.specs.Codeword.{IsSymbol}
-use Rattle.obj_buffer.proofs.PartitionLemmas.{block_octets_within}
+use Rattle.fec_plan.proofs.PartitionLemmas.{block_octets_within}
 use Rattle.obj_buffer.proofs.PieceLemmas.{whole_part}
 use Rattle.obj_buffer.proofs.symbol.push_parity.Goals as goal
 
@@ -27,7 +27,7 @@ parity_in_two-requires-clause-whole c =
 pub returns : goal.returns
 returns c =
     let e-is = c.from-e.ensures ∙ c.e.ensures.exact in
-    let k-is = ap (λ (code : CodeShape). code.k) c.requires.code.is in
+    let k-is = ap (λ (code : CodeState). code.k) c.requires.code.is in
     let plan = c.args.plan.now in
     let start = ap (λ n. n * c.from-e.result) c.symbol_number.ensures.exact ∙ ap (λ e. symbol_number plan c.args.block 0 * e) e-is in
     let long = ap (λ n. n * c.from-e.result) (c.from.ensures ∙ c.source_len.ensures.exact ∙ sym k-is) ∙ ap (λ e. c.args.code.now.k * e) e-is in

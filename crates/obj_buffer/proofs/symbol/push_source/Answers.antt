@@ -1,5 +1,5 @@
 use Rattle.std.proofs.Common.{◌*◌, ap, ◌∙◌, arith}
-use Rattle.obj_buffer.proofs.PartitionLemmas.{octets_within, sent_most}
+use Rattle.fec_plan.proofs.PartitionLemmas.{octets_within, sent_most}
 use Rattle.obj_buffer.proofs.symbol.push_source.Goals as goal
 
 pub range_of-requires : goal.range_of-requires

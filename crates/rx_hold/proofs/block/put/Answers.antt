@@ -1,5 +1,5 @@
 use Rattle.std.proofs.Common.{sym, ◌∙◌}
-use Rattle.rx_hold.specs.Padding.{padded}
+use Rattle.norm_order.specs.Symbols.{padded}
 use Rattle.rx_hold.proofs.SolvedLemmas.{put_last}
 use Rattle.rx_hold.proofs.block.put.Goals as goal
 

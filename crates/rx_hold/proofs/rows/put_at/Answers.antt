@@ -1,6 +1,6 @@
 use Rattle.std.proofs.Common.{◌≡◌, ◌*◌, ◌≤◌, ℕ, arith, sym, subst, ap, ◌∙◌, length}
 use Rattle.fec_plan.specs.Partition.{Cut}
-use Rattle.rx_hold.specs.Padding.{padded}
+use Rattle.norm_order.specs.Symbols.{padded}
 use Rattle.rx_hold.specs.Places.{AreApart}
 use Rattle.rx_hold.proofs.Cuts.{few_sources}
 use Rattle.rx_hold.proofs.RowLemmas.{put_symbols, ids_there, ids_elsewhere, ordered, ids_within, octets_within, part_long, row_long, starts_within, sources_are, room_enough}

@@ -1,11 +1,11 @@
 use Rattle.std.proofs.Common.{◌≤◌, map, length, refl, sym, ap, subst, ◌∙◌, arith, List}
 use Rattle.std.specs.Prelude.{nat_lt}
-use Rattle.norm_order.specs.Sets.{with_member}
+use Rattle.norm_order.specs.Sets.{with_member, Rises}
 use Rattle.norm_send_rules.specs.SenderState.{Listing}
 use Rattle.norm_send_rules.specs.Hearing.{listed_past}
 use Rattle.mark_book.specs.Booked.{Booked, Stands}
 use Rattle.mark_book.specs.Ending.{settled_by}
-use Rattle.mark_book.specs.Sound.{Rise, nodes_of}
+use Rattle.mark_book.specs.Sound.{nodes_of}
 use Rattle.mark_book.proofs.Lists.{rest_written, all_written, finished_stays}
 use Rattle.mark_book.proofs.Nodes.{rise_with, listed_with, same_nodes, no_more_than_listed}
 use Rattle.mark_book.proofs.Keeping.{sound_ended}
@@ -28,7 +28,7 @@ invariant_of-self c =
     let e = rest_written c.self.inside.requests _ _ c.self.inside.done (settled_by c.deref-2.result.now) (finished_stays _ _)
     c.deref_mut-2.ensures.value c.deref_mut-2.ensures.len c.self.invariant.within c.self.invariant.finished c.settle.ensures in
     sound_ended c.self.inside _ _ _ c.self.invariant e refl (ap nodes_of raised ∙ same_nodes c.args.node c.args.at c.self.inside.listings.items)
-    (subst Rise (sym c.put_node.ensures.nodes) (rise_with c.args.node c.self.inside.untold.items c.self.invariant.rise))
+    (subst Rises (sym c.put_node.ensures.nodes) (rise_with c.args.node c.self.inside.untold.items c.self.invariant.rise))
     (λ q member. listed_with c.self.inside.untold.items c.self.inside.listings.items c.args.node c.args.at c.self.invariant.listed news q
     (ap (λ ns. Rattle.std.specs.Set.is_member Rattle.std.specs.Prelude.nat_eq ns q) (sym c.put_node.ensures.nodes) ∙ member))
     (let room : length c.self.inside.listings.items ≤ c.self.inside.untold.cap = c.self.invariant.room in

@@ -1,7 +1,8 @@
 use Rattle.std.proofs.Common.{refl, ap, sym, ◌∙◌, arith, nat_lt}
 use Rattle.std.specs.Prelude.{◌||◌, ◌==◌}
+use Rattle.std.proofs.Math.Bool.{or_assoc}
 use Rattle.norm_order.specs.Sets.{is_member}
-use Rattle.nack_union.proofs.Puts.{with_puts, or_assoc, or_false}
+use Rattle.nack_union.proofs.Puts.{with_puts, or_false}
 use Rattle.nack_union.proofs.Runs.{run_more, run_end, run_none}
 use Rattle.nack_union.proofs.mask.Mask.insert_run.Goals as goal
 

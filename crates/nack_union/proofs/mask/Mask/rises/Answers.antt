@@ -1,6 +1,6 @@
 use Rattle.std.proofs.Common.{subst}
+use Rattle.norm_order.specs.Sets.{Rises}
 use Rattle.nack_union.specs.Places.{Places}
-use Rattle.nack_union.specs.More.{Rises}
 use Rattle.nack_union.proofs.Rising.{set_rises}
 use Rattle.nack_union.proofs.mask.Mask.rises.Goals as goal
 

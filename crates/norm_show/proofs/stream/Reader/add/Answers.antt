@@ -1,4 +1,4 @@
-use Rattle.std.proofs.Common.{◌≡◌, ◌+◌, ◌<◌, length, List, arith, ap}
+use Rattle.std.proofs.Common.{◌+◌, ◌<◌, length, arith}
 use Rattle.norm_show.specs.Progress.{Progress}
 use Rattle.norm_show.proofs.SplitLemmas.{none-append}
 use Rattle.norm_show.proofs.ShowLemmas.{leaves-long}

@@ -1,4 +1,4 @@
-use Rattle.std.proofs.Common.{◌≡◌, ◌++◌, ◌∙◌, ◌∷◌, [], List, ℕ, sym, ap, refl, length, arith, length-append, append-nil}
+use Rattle.std.proofs.Common.{◌∙◌, ◌∷◌, [], sym, ap, refl, length, arith, length-append, append-nil}
 use Rattle.std.proofs.lemmas.Result.{err_from_is_err_and, IfErr-weaker, on_ok_weaker}
 use Rattle.norm_show.proofs.SplitLemmas.{split_parts}
 use Rattle.norm_show.proofs.ShowLemmas.{shows-on, leaves-behind, leaves-cut}

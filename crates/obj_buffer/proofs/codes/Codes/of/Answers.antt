@@ -1,5 +1,5 @@
 use Rattle.std.proofs.Common.{◌≤◌, sym, subst}
-use Rattle.obj_buffer.proofs.PartitionLemmas.{some_blocks_of}
+use Rattle.fec_plan.proofs.PartitionLemmas.{some_blocks_of}
 use Rattle.obj_buffer.proofs.codes.Codes.of.Goals as goal
 
 pub overflow_sub-last_block : goal.overflow_sub-last_block

@@ -1,7 +1,7 @@
 use Rattle.std.proofs.Common.{◌≡◌, ◌-◌, ◌*◌, ℕ, arith, ap, ◌∙◌, length, replicate}
 use Rattle.std.specs.Prelude.{is_some, true}
 use Rattle.std.proofs.lemmas.List.{length-replicate}
-use Rattle.rs_block.specs.Solver.{SolverShape}
+use Rattle.rs_block.specs.Solver.{SolverState}
 use Rattle.fec_plan.specs.Partition.{Cut, IsSound, blocks, source_symbols, all_symbols}
 use Rattle.rx_hold.specs.Rows.{end_of}
 use Rattle.rx_hold.proofs.Cuts.{last_ends, some_blocks_of, some_sources, few_octets}
@@ -11,7 +11,7 @@ use Rattle.rx_hold.proofs.rows.Rows.new.Goals as goal
 places_are : (c : Cut) (places n : ℕ) → IsSound c → is_some c.l ≡ true → n ≡ blocks c → places ≡ end_of c (n - 1) → places ≡ all_symbols c
 places_are c places n sound object count is = is ∙ ap (λ m. end_of c (m - 1)) count ∙ last_ends c sound object (some_blocks_of c sound)
 
-shaped : (k size n e : ℕ) → k ≡ n → size ≡ e → ◌≡◌ {A = SolverShape} (record { k = k; size = size }) (record { k = n; size = e })
+shaped : (k size n e : ℕ) → k ≡ n → size ≡ e → ◌≡◌ {A = SolverState} (record { k = k; size = size }) (record { k = n; size = e })
 shaped k size n e p q = ap (λ m. record { k = m; size = size }) p ∙ ap (λ m. record { k = n; size = m }) q
 
 pub overflow_mul-places : goal.overflow_mul-places

@@ -1,7 +1,7 @@
 use Rattle.std.proofs.Common.{sym, subst, ap, ◌∙◌, length}
+use Rattle.norm_order.specs.Symbols.{padded}
 use Rattle.rx_hold.specs.Places.{AreApart}
 use Rattle.rx_hold.specs.Rows.{block_ids}
-use Rattle.rx_hold.specs.Padding.{padded}
 use Rattle.rx_hold.proofs.RowLemmas.{kept_back, symbols_back}
 use Rattle.rx_hold.proofs.rows.Rows.put.Goals as goal
 

@@ -1,7 +1,7 @@
 use Rattle.std.proofs.Common.{◌<◌, ap, sym, subst, arith}
 use Rattle.std.specs.Prelude.{IsSome}
 use Rattle.fec_plan.specs.Partition.{Cut, blocks}
-use Rattle.obj_buffer.proofs.PartitionLemmas.{sources_within, number_from_first}
+use Rattle.fec_plan.proofs.PartitionLemmas.{sources_within, number_from_first}
 use Rattle.tx_window.specs.Held.{HeldObject}
 use Rattle.tx_window.proofs.held.Held.note_sent.Goals as goal
 

@@ -1,0 +1,100 @@
+//! The items of repair requests (RFC 5740 section 4.3.1): split one after the other, and what they name. A sender reads
+//! what it is asked for by these, and a receiver what others ask for.
+
+ghost use Rattle.std.specs.Prelude.{◌≡◌, ◌<◌, ◌∷◌, [], MatchOption, length};
+ghost use Rattle.norm_ext.specs.Requests.{items_named};
+ghost use Rattle.norm_ext.specs.Asking.{has_flag as has_this, item_named};
+ghost use Rattle.norm_ext.specs.Items.{both_of, item_of as item_at};
+
+use crate::head::Item;
+use crate::numbers::{read_16, read_name};
+use crate::object_ids::{index_named, object_id};
+use fec_plan::{PayloadId, Position};
+use norm_base::Profile;
+
+/// The octets of an item.
+pub const ITEM: usize = 8;
+
+/// The first of some items, and the octets of the rest. `None` where there is none.
+pub fn split_item(items: &[u8]) -> Option<(Item, &[u8])>
+    ensures { MatchOption result (items_named items.now ≡ [])
+        (λ x. items_named items.now ≡ x.0 ∷ items_named x.1.now) }
+{
+    if items.len() < ITEM {
+        return None;
+    }
+    let item = Item {
+        object: read_16(items, 2),
+        id: read_name(items, 4),
+    };
+    Some((item, items.split_at(ITEM).1))
+}
+
+/// The first two of some items, and the octets of the rest. `None` where they are less than two.
+pub fn split_pair(items: &[u8]) -> Option<(Item, Item, &[u8])>
+    ensures { MatchOption result (length (items_named items.now) < 2)
+        (λ x. items_named items.now ≡ x.0 ∷ x.1 ∷ items_named x.2.now) }
+{
+    let Some((first, rest)) = split_item(items) else {
+        return None;
+    };
+    let Some((second, rest)) = split_item(rest) else {
+        return None;
+    };
+    Some((first, second, rest))
+}
+
+/// The symbol that an item names to a node that knows indices up to this one. `None` where the item names no index.
+pub fn position_of(profile: &Profile, known: u32, item: Item) -> Option<Position>
+    ensures { result ≡ item_named profile.now known item }
+{
+    match index_named(profile, known, item.object) {
+        None => None,
+        Some(index) => Some(Position {
+            index,
+            block: item.id.block,
+            symbol: item.id.symbol,
+        }),
+    }
+}
+
+/// The ends of the range that two items name. `None` where one of them names no index.
+pub fn ends_of(
+    profile: &Profile,
+    known: u32,
+    first: Item,
+    last: Item,
+) -> Option<(Position, Position)>
+    ensures { result ≡ both_of (item_named profile.now known first) (item_named profile.now known last) }
+{
+    match (
+        position_of(profile, known, first),
+        position_of(profile, known, last),
+    ) {
+        (Some(first), Some(last)) => Some((first, last)),
+        (Some(_), None) => None,
+        (None, _) => None,
+    }
+}
+
+/// The item that names a symbol.
+pub fn item_of(profile: &Profile, at: Position) -> Item
+    requires { at.block < 16777216 }
+    ensures { result ≡ item_at profile.now at }
+{
+    Item {
+        object: object_id(profile, at.index),
+        id: PayloadId {
+            block: at.block,
+            symbol: at.symbol,
+        },
+    }
+}
+
+/// Whether a request's flags have this one.
+pub fn has_flag(flags: u8, flag: u8) -> bool
+    requires { 0 < flag }
+    ensures { result ≡ has_this flags flag }
+{
+    flags / flag % 2 == 1
+}

@@ -1,0 +1,284 @@
+//! The program: its words, its input and its output.
+
+ghost use Rattle.std.specs.Prelude.{◌≡◌, codes, map, string_bytes, Ok, MatchResult, IfOk, IfErr, OnOk};
+ghost use Rattle.std.specs.Process.{exit_status};
+ghost use Rattle.norm_program.specs.Ends.{is_session, usage_line, refused_line, outside, Says, IsInput, Prepared, IsReadEnding, IsTextEnding, IsLastEnding, IsBrokenEnding, EndsEarly, Ends};
+ghost use Rattle.norm_program.specs.Commands.{is_show, EndsBy, EndsWith, EndsUnread};
+ghost use Rattle.norm_script.specs.Reading.{script_of};
+ghost use Rattle.norm_session.specs.SessionRun.{IsScript};
+
+use crate::input::{InputFault, read_all};
+use crate::show::show;
+use crate::status::{Ending, Status};
+use crate::words::WordsFault;
+use norm_base::{Clock, Fabric, Failed, Files, Memory, Sink, Source};
+use norm_script::{Extent, read};
+use norm_session::{Ended, Script, SessionFault, run_session};
+use std::alloc::{AllocError, Global};
+use std::process::ExitCode;
+use std::sync::Wait;
+use std::thread::Threads;
+
+/// What is written where the words are no command.
+const USAGE: &[u8] =
+    b"usage: normd session | show | generate N | send PROFILE | recv PROFILE NODE | hub PROFILE\n";
+
+/// Whether the words are `session` alone.
+fn is_session(words: &[String]) -> bool
+    ensures { result ≡ is_session (map string_bytes words.now) }
+{
+    match words {
+        [word] => word.as_bytes() == b"session".as_slice(),
+        _ => false,
+    }
+}
+
+/// Whether the words are `show` alone.
+fn is_show(words: &[String]) -> bool
+    ensures { result ≡ is_show (map string_bytes words.now) }
+{
+    match words {
+        [word] => word.as_bytes() == b"show".as_slice(),
+        _ => false,
+    }
+}
+
+/// Writes a last line. A failed write leaves a front of it and raises the count, and decides nothing.
+pub(crate) fn say<K: Sink>(output: &mut K, line: &[u8])
+    ensures { Says (K.pieces output.old) (K.pieces output.new) (K.fault_count output.old) (K.fault_count output.new) line.now }
+{
+    let _ = output.write(line);
+}
+
+/// The line that refuses line `n` of the input.
+#[tactic(auto, unfolding(crate::specs::Ends::refused_line))]
+pub(crate) fn refused_line(alloc: Global, n: u64) -> Result<String, AllocError>
+    ensures { IfOk result (λ text. string_bytes text ≡ refused_line n) }
+{
+    format!(in alloc; "refused line {n}\n")
+}
+
+/// Reads the input whole.
+fn read_input<S: Source, K: Sink>(
+    alloc: Global,
+    input: &mut S,
+    output: &mut K,
+) -> Result<Vec<u8>, Ending>
+    ensures text { IfOk result (λ text. IsInput text.items (S.left input.old) (S.left input.new)) }
+    ensures unwritten { OnOk result (K.pieces output.new ≡ K.pieces output.old) }
+    ensures quiet { OnOk result ((S.fault_count input.new ≡ S.fault_count input.old) × (K.fault_count output.new ≡ K.fault_count output.old)) }
+    ensures ending { IfErr result (λ ending. IsReadEnding ending (S.fault_count input.old) (S.fault_count input.new)
+        (K.pieces output.old) (K.pieces output.new) (K.fault_count output.old) (K.fault_count output.new)) }
+{
+    match read_all(alloc, input) {
+        Ok(text) => Ok(text),
+        Err(InputFault::Memory) => Err(Ending::Memory),
+        Err(InputFault::Read) => {
+            say(output, b"fault read\n");
+            Err(Ending::Read)
+        }
+    }
+}
+
+/// Reads the script that the text is.
+fn read_text<K: Sink>(alloc: Global, text: &[u8], output: &mut K) -> Result<Script, Ending>
+    ensures script { IfOk result (λ script. (script_of Extent.Built text.now ≡ Ok script) × IsScript script) }
+    ensures unwritten { OnOk result (K.pieces output.new ≡ K.pieces output.old) }
+    ensures quiet { OnOk result (K.fault_count output.new ≡ K.fault_count output.old) }
+    ensures ending { IfErr result (λ ending. IsTextEnding ending text.now (K.pieces output.old) (K.pieces output.new)
+        (K.fault_count output.old) (K.fault_count output.new)) }
+{
+    match read(alloc, text, Extent::Built) {
+        Ok(Ok(script)) => Ok(script),
+        Ok(Err(refusal)) => {
+            let line = refused_line(alloc, u64::from(refusal.line))?;
+            say(output, line.as_bytes());
+            Err(Ending::Refused { refusal })
+        }
+        Err(Memory) => Err(Ending::Memory),
+    }
+}
+
+/// How a session that ran ended: one that spent its turns says so.
+fn end_session<K: Sink>(ended: &Ended, output: &mut K) -> Ending
+    ensures { IsLastEnding result ended.now.whole (K.pieces output.old) (K.pieces output.new)
+        (K.fault_count output.old) (K.fault_count output.new) }
+{
+    if ended.whole {
+        return Ending::Done;
+    }
+    match output.write(b"turns spent\n") {
+        Ok(()) => Ending::Spent,
+        Err(Failed) => Ending::Write,
+    }
+}
+
+/// How a session that a fault broke off ends the program.
+fn break_off<K: Sink>(fault: SessionFault, output: &mut K) -> Ending
+    ensures { IsBrokenEnding fault result (K.pieces output.old) (K.pieces output.new)
+        (K.fault_count output.old) (K.fault_count output.new) }
+{
+    match fault {
+        SessionFault::Memory => Ending::Memory,
+        SessionFault::Write => Ending::Write,
+        SessionFault::Fabric => {
+            say(output, b"fault fabric\n");
+            Ending::Fabric
+        }
+    }
+}
+
+/// What there is to run: the script, where the words are `session` and the input is one.
+fn prepare<S: Source, K: Sink>(
+    alloc: Global,
+    words: &[String],
+    input: &mut S,
+    output: &mut K,
+) -> Result<Script, Ending>
+    ensures ready { IfOk result (λ script. Prepared script (map string_bytes words.now) (S.left input.old) (S.left input.new)) }
+    ensures runnable { IfOk result IsScript }
+    ensures unwritten { OnOk result (K.pieces output.new ≡ K.pieces output.old) }
+    ensures quiet { OnOk result ((S.fault_count input.new ≡ S.fault_count input.old) × (K.fault_count output.new ≡ K.fault_count output.old)) }
+    ensures ending { IfErr result (λ ending. EndsEarly ending (map string_bytes words.now) (S.left input.old) (S.left input.new)
+        (K.pieces output.old) (K.pieces output.new) (S.fault_count input.old) (S.fault_count input.new)
+        (K.fault_count output.old) (K.fault_count output.new)) }
+{
+    if !is_session(words) {
+        say(output, USAGE);
+        return Err(Ending::Words);
+    }
+    let text = read_input(alloc, input, output)?;
+    read_text(alloc, &text, output)
+}
+
+/// How the program ends with these words, which are not a show's; what each ending says is in `Ends`. It leaves the
+/// files and the clock as they were. Only the session itself is handed the runtime.
+fn run_words<R: Threads + Wait + Sync, S: Source, K: Sink, F: Fabric, D: Files, C: Clock>(
+    rt: &R,
+    alloc: Global,
+    words: &Vec<String>,
+    input: &mut S,
+    output: &mut K,
+    fabric: &mut F,
+    files: &mut D,
+    clock: &mut C,
+) -> Ending
+    ensures ends { Ends result (map string_bytes words.now.items)
+        (outside (S.left input.old) (F.told fabric.old) (K.pieces output.old)
+        (S.fault_count input.old) (F.fault_count fabric.old) (K.fault_count output.old))
+        (outside (S.left input.new) (F.told fabric.new) (K.pieces output.new)
+        (S.fault_count input.new) (F.fault_count fabric.new) (K.fault_count output.new)) }
+    ensures files { D.contents files.new ≡ D.contents files.old }
+    ensures file_faults { D.fault_count files.new ≡ D.fault_count files.old }
+    ensures clock { C.moments clock.new ≡ C.moments clock.old }
+{
+    let script = match prepare(alloc, words, input, output) {
+        Ok(script) => script,
+        Err(ending) => return ending,
+    };
+    match run_session(rt, alloc, &script, output, fabric, files, clock) {
+        Ok(ended) => end_session(&ended, output),
+        Err(fault) => break_off(fault, output),
+    }
+}
+
+/// How the program ends with these words, after its name; what each ending says is in `EndsBy`. It leaves the
+/// files and the clock as they were. Only the session itself is handed the runtime.
+fn end_of<R: Threads + Wait + Sync, S: Source, K: Sink, F: Fabric, D: Files, C: Clock>(
+    rt: &R,
+    alloc: Global,
+    words: &Vec<String>,
+    input: &mut S,
+    output: &mut K,
+    fabric: &mut F,
+    files: &mut D,
+    clock: &mut C,
+) -> Ending
+    ensures ends { EndsBy result (map string_bytes words.now.items)
+        (outside (S.left input.old) (F.told fabric.old) (K.pieces output.old)
+        (S.fault_count input.old) (F.fault_count fabric.old) (K.fault_count output.old))
+        (outside (S.left input.new) (F.told fabric.new) (K.pieces output.new)
+        (S.fault_count input.new) (F.fault_count fabric.new) (K.fault_count output.new)) }
+    ensures files { D.contents files.new ≡ D.contents files.old }
+    ensures file_faults { D.fault_count files.new ≡ D.fault_count files.old }
+    ensures clock { C.moments clock.new ≡ C.moments clock.old }
+{
+    if is_show(words) {
+        return show(alloc, input, output);
+    }
+    run_words(rt, alloc, words, input, output, fabric, files, clock)
+}
+
+/// The program: `words` are those after its name. Answers the exit status; what each one says is in
+/// `Ends`. It leaves the files and the clock as they were.
+pub fn norm_main<R: Threads + Wait + Sync, S: Source, K: Sink, F: Fabric, D: Files, C: Clock>(
+    rt: &R,
+    alloc: Global,
+    words: &Vec<String>,
+    input: &mut S,
+    output: &mut K,
+    fabric: &mut F,
+    files: &mut D,
+    clock: &mut C,
+) -> Status
+    ensures ends { EndsWith result (map string_bytes words.now.items)
+        (outside (S.left input.old) (F.told fabric.old) (K.pieces output.old)
+        (S.fault_count input.old) (F.fault_count fabric.old) (K.fault_count output.old))
+        (outside (S.left input.new) (F.told fabric.new) (K.pieces output.new)
+        (S.fault_count input.new) (F.fault_count fabric.new) (K.fault_count output.new)) }
+    ensures files { D.contents files.new ≡ D.contents files.old }
+    ensures file_faults { D.fault_count files.new ≡ D.fault_count files.old }
+    ensures clock { C.moments clock.new ≡ C.moments clock.old }
+{
+    end_of(rt, alloc, words, input, output, fabric, files, clock).status()
+}
+
+/// Says on standard error why a line was refused.
+fn explain(rt: &impl Eprint, ending: &Ending) {
+    match ending {
+        Ending::Refused { refusal } => {
+            let _ = eprintln!(rt; "{refusal}");
+        }
+        Ending::Line { number } => {
+            let _ = eprintln!(rt;
+                "line {number}: a datagram is an even number of hexadecimal digits, at most 3000"
+            );
+        }
+        _ => {}
+    }
+}
+
+/// The program as a process: the words after its name, or why there are none, and the objects that it
+/// has. Its exit code is the status of `norm_main` for these words. Why a line was refused goes to standard error.
+pub fn run<R: Threads + Wait + Sync + Eprint, S: Source, K: Sink, F: Fabric, D: Files, C: Clock>(
+    rt: &R,
+    alloc: Global,
+    words: Result<Vec<String>, WordsFault>,
+    input: &mut S,
+    output: &mut K,
+    fabric: &mut F,
+    files: &mut D,
+    clock: &mut C,
+) -> ExitCode
+    ensures ends { let before = outside (S.left input.old) (F.told fabric.old) (K.pieces output.old)
+        (S.fault_count input.old) (F.fault_count fabric.old) (K.fault_count output.old) in
+        let after = outside (S.left input.new) (F.told fabric.new) (K.pieces output.new)
+        (S.fault_count input.new) (F.fault_count fabric.new) (K.fault_count output.new) in
+        MatchResult words (λ words. EndsWith (exit_status result) (map string_bytes words.items) before after)
+        (λ fault. EndsUnread fault (exit_status result) before after) }
+    ensures files { D.contents files.new ≡ D.contents files.old }
+    ensures file_faults { D.fault_count files.new ≡ D.fault_count files.old }
+    ensures clock { C.moments clock.new ≡ C.moments clock.old }
+{
+    let words = match words {
+        Ok(words) => words,
+        Err(WordsFault::NotText) => {
+            say(output, USAGE);
+            return ExitCode::from(Ending::Words.status());
+        }
+        Err(WordsFault::Memory) => return ExitCode::from(Ending::Memory.status()),
+    };
+    let ending = end_of(rt, alloc, &words, input, output, fabric, files, clock);
+    explain(rt, &ending);
+    ExitCode::from(ending.status())
+}

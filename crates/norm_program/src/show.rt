@@ -1,0 +1,44 @@
+//! `show`: the datagrams of the input, a line each.
+
+ghost use Rattle.norm_base.specs.Network.{Network};
+ghost use Rattle.std.specs.Prelude.{ℕ};
+ghost use Rattle.norm_program.specs.Ends.{outside};
+ghost use Rattle.norm_program.specs.ShowEnds.{ShowEnds, IsLineEnding};
+
+use crate::program::{refused_line, say};
+use crate::status::Ending;
+use norm_base::{Sink, Source};
+use norm_show::ShowFault;
+use std::alloc::Global;
+
+/// The last line where line `number` spells no datagram, and how that ends the program.
+fn refuse_line<K: Sink>(alloc: Global, number: u64, output: &mut K) -> Ending
+    ensures { IsLineEnding result number (K.pieces output.old) (K.pieces output.new) (K.fault_count output.old) (K.fault_count output.new) }
+{
+    match refused_line(alloc, number) {
+        Ok(line) => {
+            say(output, line.as_bytes());
+            Ending::Line { number }
+        }
+        Err(_) => Ending::Memory,
+    }
+}
+
+/// Shows the datagrams that the input's lines spell, and answers how that ends. It calls no network.
+pub(crate) fn show<S: Source, K: Sink>(alloc: Global, input: &mut S, output: &mut K) -> Ending
+    ensures { (n : Network) (calls : ℕ) → ShowEnds result
+        (outside (S.left input.old) n (K.pieces output.old) (S.fault_count input.old) calls (K.fault_count output.old))
+        (outside (S.left input.new) n (K.pieces output.new) (S.fault_count input.new) calls (K.fault_count output.new)) }
+{
+    match norm_show::show(alloc, input, output) {
+        Ok(false) => Ending::Done,
+        Ok(true) => Ending::Datagram,
+        Err(ShowFault::Line { number }) => refuse_line(alloc, number, output),
+        Err(ShowFault::Read) => {
+            say(output, b"fault read\n");
+            Ending::Read
+        }
+        Err(ShowFault::Write) => Ending::Write,
+        Err(ShowFault::Memory) => Ending::Memory,
+    }
+}

@@ -1,0 +1,47 @@
+//! The words of the command line.
+
+ghost use Rattle.std.specs.Prelude.{◌≡◌, ◌↔◌};
+ghost use Rattle.std.specs.IoError.{error_kind};
+ghost use Rattle.std.specs.declared.io.ErrorKind.TheVariants.{OutOfMemory};
+ghost use Rattle.norm_program.specs.declared.words.WordsFault.TheVariants as fault;
+
+use std::alloc::{AllocFailed, Global};
+use std::rt::Env;
+use std::{env, io};
+
+/// Why the words of the command line were not read.
+#[derive(Clone, Copy, Debug, PartialEq, Eq)]
+pub enum WordsFault {
+    /// A word is not UTF-8.
+    NotText,
+    /// There was no memory.
+    Memory,
+}
+
+impl From<io::Error> for WordsFault {
+    ghost from_gives = { λ error r. (error_kind error ≡ OutOfMemory) ↔ (r ≡ fault.Memory) };
+
+    fn from(error: io::Error) -> WordsFault {
+        match error.kind() {
+            io::ErrorKind::OutOfMemory => WordsFault::Memory,
+            _ => WordsFault::NotText,
+        }
+    }
+}
+
+impl<T: Drop> From<AllocFailed<T>> for WordsFault {
+    ghost from_gives = { λ e r. r ≡ fault.Memory };
+
+    fn from(_refused: AllocFailed<T>) -> WordsFault {
+        WordsFault::Memory
+    }
+}
+
+/// The words after the program's name.
+pub fn arguments<R: Env + Alloc<A = Global>>(rt: &R) -> Result<Vec<String>, WordsFault> {
+    let mut words = Vec::new(rt.alloc());
+    for word in env::args(rt)?.skip(1) {
+        words.push(word)?;
+    }
+    Ok(words)
+}

@@ -1,0 +1,142 @@
+//! Each adapter over the process once, over a reader and a writer that fail in mid-stream too.
+
+use crate::calls::{Call, answers, moments, reads, takes, writes};
+use norm_base::{Fabric, FabricFault, FabricKind, FileFault, Files, Local, NodeId, Profile};
+use norm_host::{FolderFiles, HostClock, HostFabric, StdSink, StdSource};
+use std::fs;
+use std::io::{self, ErrorKind, Read, Write};
+use std::test::Fail;
+
+/// The folder of the test.
+const FOLDER: &str = "norm_host_test";
+
+/// Gives its octets, but fails at the second read.
+#[derive(Drop)]
+struct FailingReader<'a> {
+    octets: &'a [u8],
+    reads: u32,
+}
+
+impl Read for FailingReader<'_> {
+    fn read(&mut self, buf: &mut [u8]) -> io::Result<usize> {
+        self.reads = self.reads.saturating_add(1);
+        if self.reads == 2 {
+            return Err(io::Error::from(ErrorKind::BrokenPipe));
+        }
+        self.octets.read(buf)
+    }
+}
+
+/// Takes octets, but fails at the second write.
+#[derive(Drop)]
+struct FailingWriter {
+    octets: Vec<u8>,
+    writes: u32,
+}
+
+impl Write for FailingWriter {
+    fn write(&mut self, buf: &[u8]) -> io::Result<usize> {
+        self.writes = self.writes.saturating_add(1);
+        if self.writes == 2 {
+            return Err(io::Error::from(ErrorKind::BrokenPipe));
+        }
+        self.octets.write(buf)
+    }
+
+    fn flush(&mut self) -> io::Result<()> {
+        Ok(())
+    }
+}
+
+#[test]
+fn a_failed_read_is_no_end(rt: HostRuntime) -> Result<(), Fail> {
+    let mut source = StdSource::of(FailingReader {
+        octets: b"hello",
+        reads: 0,
+    });
+    let all = reads(rt.alloc(), &mut source, 4)?;
+    assert!(rt; all.as_slice() == b"3hel!2lol0lol1".as_slice());
+    Ok(())
+}
+
+#[test]
+fn a_failed_write_is_told(rt: HostRuntime) -> Result<(), Fail> {
+    let mut writer = FailingWriter {
+        octets: Vec::new(rt.alloc()),
+        writes: 0,
+    };
+    let mut sink = StdSink::of(&mut writer);
+    let all = writes(rt.alloc(), &mut sink, b"ace")?;
+    assert!(rt; all.as_slice() == b".!.1".as_slice());
+    assert!(rt; writer.octets.as_slice() == b"ae".as_slice());
+    Ok(())
+}
+
+#[test]
+fn a_clock_begins_at_nothing(rt: HostRuntime) -> Result<(), Fail> {
+    let alloc = rt.alloc();
+    let mut clock = HostClock::of(rt);
+    let all = moments(alloc, &mut clock, 3)?;
+    assert!(rt; all.first() == Some(&0));
+    assert!(rt; all.is_sorted());
+    Ok(())
+}
+
+/// What the calls of a folder answer: names within it, names that are none of a file in it, and a put outside of it.
+const CALLS: [Call; 7] = [
+    Call::Put("a.txt", b"hello"),
+    Call::Length("a.txt"),
+    Call::Length("b"),
+    Call::Length(""),
+    Call::Length("."),
+    Call::Length("../norm_host_test/a.txt"),
+    Call::Put("../b", b"x"),
+];
+
+#[test]
+fn a_folder_keeps_names_within(rt: HostRuntime) -> Result<(), Fail> {
+    let _ = fs::remove_dir_all(&rt, FOLDER);
+    fs::create_dir(&rt, FOLDER)?;
+    let alloc = rt.alloc();
+    let mut files = FolderFiles::of(alloc, rt, FOLDER)?;
+    let all = answers(alloc, &mut files, &CALLS)?;
+    assert!(rt; all.as_slice() == b".5----!1".as_slice());
+    let mut buf = [0; 3];
+    assert!(rt; files.read_at("a.txt", 3, &mut buf) == Ok(2));
+    assert!(rt; buf.as_slice() == b"lo\0".as_slice());
+    assert!(rt; files.read_at("a.txt", 5, &mut buf) == Err(FileFault::Failed));
+    fs::remove_dir_all(&rt, FOLDER)?;
+    Ok(())
+}
+
+/// Begins a session of one receiver over a network of this kind, and offers it a datagram.
+fn play<F: Fabric>(fabric: &mut F, kind: FabricKind, from: NodeId) -> Result<(), FabricFault> {
+    let profile = Profile {
+        fabric: kind,
+        ..Profile::default()
+    };
+    fabric.start(&profile, Local::All)?;
+    fabric.offer(from, b"hello")
+}
+
+/// Whether such a session failed, for want of a network or of memory.
+fn fails<F: Fabric>(fabric: &mut F, kind: FabricKind, from: NodeId) -> bool {
+    play(fabric, kind, from).is_err()
+}
+
+#[test]
+fn a_network_goes_by_the_profile(rt: HostRuntime) -> Result<(), Fail> {
+    let Some(sender) = NodeId::of(1) else {
+        return Err("no member")?;
+    };
+    let mut fabric = HostFabric::new(rt.alloc())?;
+    for kind in [FabricKind::Direct, FabricKind::Chance] {
+        assert!(rt; !fails(&mut fabric, kind, sender));
+        assert!(rt; fails(&mut fabric, FabricKind::Udp, sender));
+        let mut all = Vec::new(rt.alloc());
+        assert!(rt; takes(rt.alloc(), &mut fabric, &mut all).is_ok());
+        assert!(rt; all.as_slice() == b"2hello".as_slice());
+    }
+    assert!(rt; fabric.faults() == 2);
+    Ok(())
+}

@@ -1,0 +1,94 @@
+//! Each call that makes a line once with ample memory, and a line of the largest object.
+
+use fec_plan::Position;
+use norm_base::{InstanceId, Kind, NodeId, Octets, Origin};
+use norm_journal::{Totals, end_line, gave_line, news_line, up_line};
+use norm_order::Up;
+use norm_send_rules::{EnqueueFault, News, Outcome, Receipt, SendFault};
+use std::alloc::Global;
+use std::test::Fail;
+
+/// Whether the line of what was given is this one, or none where the text is empty.
+fn gives(alloc: Global, kind: Kind, gave: &Result<Receipt, SendFault>, text: &[u8]) -> bool {
+    let by = Origin {
+        producer: 3,
+        number: 12,
+    };
+    match gave_line(alloc, by, InstanceId(7), kind, gave) {
+        Ok(Some(line)) => line.as_slice() == text,
+        Ok(None) => text.is_empty(),
+        Err(_) => false,
+    }
+}
+
+#[test]
+fn what_is_given_has_its_line(rt: HostRuntime) {
+    let alloc = rt.alloc();
+    let object = Ok(Receipt::Object { index: 2, len: 5 });
+    assert!(rt; gives(alloc, Kind::File, &object, b"enq 3 12 7 2 file 5\n"));
+    let big = Err(SendFault::Enqueue(EnqueueFault::TooBig { len: 600 }));
+    assert!(rt; gives(alloc, Kind::Data, &big, b"no 3 12 too-big 600\n"));
+    let full = Err(SendFault::Enqueue(EnqueueFault::WindowFull { first: 0 }));
+    assert!(rt; gives(alloc, Kind::Data, &full, b""));
+}
+
+/// Whether the line of these news is this one.
+fn tells(alloc: Global, left: &[NodeId], news: &News, text: &[u8]) -> bool {
+    match news_line(alloc, InstanceId(7), left, news) {
+        Ok(Some(line)) => line.as_slice() == text,
+        _ => false,
+    }
+}
+
+#[test]
+fn news_have_their_lines(rt: HostRuntime) -> Result<(), Fail> {
+    let Some(node) = NodeId::of(2) else {
+        return Err("no member")?;
+    };
+    let at = Position {
+        index: 0,
+        block: 1,
+        symbol: 3,
+    };
+    let past = News::Past { node, at };
+    assert!(rt; tells(rt.alloc(), &[node], &past, b"past 2 7 0 1 3\n"));
+    let done = News::Done {
+        mark: 1,
+        outcome: Outcome::Expired { left: 1 },
+    };
+    assert!(rt; tells(rt.alloc(), &[node], &done, b"done 1 expired 2\n"));
+    Ok(())
+}
+
+#[test]
+fn the_totals_have_their_line(rt: HostRuntime) -> Result<(), Fail> {
+    let totals = Totals {
+        objects: 3,
+        octets: 1000,
+        handed: 2,
+        lost: 1,
+        satisfied: 1,
+        expired: 0,
+        cut: 0,
+    };
+    let text = end_line(rt.alloc(), &totals)?;
+    let want = b"end objects 3 octets 1000 handed 2 lost 1 satisfied 1 expired 0 cut 0\n";
+    assert!(rt; text.as_slice() == want.as_slice());
+    Ok(())
+}
+
+#[test]
+fn the_largest_object_has_a_line(rt: HostRuntime) -> Result<(), Fail> {
+    let Some(node) = NodeId::of(2) else {
+        return Err("no member")?;
+    };
+    let up = Up::Object {
+        index: 0,
+        kind: Kind::Data,
+        info: None,
+        bytes: Octets::of(vec![in rt.alloc(); 0xa5u8; 16_777_216]?),
+    };
+    let line = up_line(rt.alloc(), node, InstanceId(7), &up)?;
+    assert!(rt; line.len() == 33_554_432 + 26);
+    Ok(())
+}

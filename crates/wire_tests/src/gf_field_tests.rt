@@ -1,0 +1,110 @@
+//! Rows of RFC 5510's field from outside, and products as polynomials.
+
+use gf_field::{add_scaled, alpha_log, alpha_pow, inv, mul};
+
+#[test]
+fn products_powers_and_inverses_are_those_of_the_field(rt: HostRuntime) {
+    for (j, power) in [
+        (0, 0x01),
+        (1, 0x02),
+        (7, 0x80),
+        (8, 0x1d),
+        (9, 0x3a),
+        (10, 0x74),
+        (11, 0xe8),
+        (12, 0xcd),
+        (13, 0x87),
+        (14, 0x13),
+        (15, 0x26),
+        (255, 0x01),
+    ] {
+        assert!(rt; alpha_pow(j) == power, "at {j}");
+    }
+    for (a, b, product) in [
+        (0x80, 0x02, 0x1d),
+        (0x80, 0x80, 0x13),
+        (0x03, 0x03, 0x05),
+        (0x80, 0x00, 0x00),
+    ] {
+        assert!(rt; mul(a, b) == product, "at {a} and {b}");
+    }
+    assert!(rt; inv(0x01) == 0x01);
+    assert!(rt; inv(0x02) == 0x8e);
+    assert!(rt; inv(0x03) == 0xf4);
+    assert!(rt; inv(0x04) == 0x47);
+}
+
+/// The product as polynomials over two elements, reduced afterwards from the highest bit on.
+fn reduced_product(a: u8, b: u8) -> u8 {
+    let mut product = 0u32;
+    for place in 0..8u32 {
+        if b >> place & 1 == 1 {
+            product ^= u32::from(a) << place;
+        }
+    }
+    for place in 0..7u32 {
+        let shift = 6 - place;
+        if product >> (shift + 8) & 1 == 1 {
+            product ^= 0x11d << shift;
+        }
+    }
+    (product & 0xff) as u8
+}
+
+#[test]
+fn all_products_are_those_of_polynomials(rt: HostRuntime) {
+    for a in 0..=255u8 {
+        for b in 0..=255u8 {
+            assert!(rt; mul(a, b) == reduced_product(a, b), "at {a} and {b}");
+        }
+    }
+}
+
+#[test]
+fn a_power_of_the_logarithm_is_the_octet(rt: HostRuntime) {
+    for a in 1..=255u8 {
+        assert!(rt; a != 0);
+        assert!(rt; alpha_pow(alpha_log(a)) == a, "at {a}");
+        assert!(rt; reduced_product(a, inv(a)) == 1, "at {a}");
+    }
+}
+
+/// Octets of no pattern.
+fn octets_of(factor: u8) -> [u8; 200] {
+    let mut octets = [0; 200];
+    for (i, octet) in octets.iter_mut().enumerate() {
+        *octet = ((i % 256) as u8).wrapping_mul(factor) ^ 0x5a;
+    }
+    octets
+}
+
+/// The sums with `c` times other octets, by products of polynomials.
+fn expected(before: &[u8; 200], octets: &[u8; 200], c: u8) -> [u8; 200] {
+    let mut sums = *before;
+    for (sum, octet) in sums.iter_mut().zip(octets) {
+        *sum ^= reduced_product(c, *octet);
+    }
+    sums
+}
+
+/// The octets, of which so many are added to.
+fn scaled(before: &[u8; 200], octets: &[u8; 200], len: usize, c: u8) -> [u8; 200] {
+    let mut sums = *before;
+    if len <= 200 {
+        add_scaled(&mut sums[..len], &octets[..len], c);
+    }
+    sums
+}
+
+#[test]
+fn each_octet_of_a_scaled_sum_is_the_sum_with_the_product(rt: HostRuntime) {
+    let (before, octets) = (octets_of(91), octets_of(37));
+    for c in [0, 1, 2, 0x8e] {
+        let all = expected(&before, &octets, c);
+        for len in 0..=200usize {
+            let sums = scaled(&before, &octets, len, c);
+            assert!(rt; sums[..len] == all[..len], "{len} octets times {c}");
+            assert!(rt; sums[len..] == before[len..], "behind {len} octets");
+        }
+    }
+}

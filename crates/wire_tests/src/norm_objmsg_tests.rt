@@ -1,0 +1,107 @@
+//! A worked NORM_DATA message, and octets that spell none.
+
+ghost use Rattle.std.specs.Prelude.{◌<◌};
+
+use fec_plan::PayloadId;
+use norm_base::{Datagram, InstanceId, NodeId};
+use norm_ext::{Extensions, Fti, fti_words, read_fti};
+use norm_objmsg::{DataMsg, ObjHead, read_data, write_data};
+use std::process::Abort;
+use std::test::Fail;
+
+/// Sequence 0 of instance 7 and source 1: object 0, of 5 octets, cut by e 64, b 4 and max_n 6.
+const WORKED: [u8; 37] = [
+    0x12, 0x08, 0, 0, 0, 0, 0, 1, 0, 7, 0x40, 0x41, 0, 5, 0, 0, 0, 0, 0, 0, 0x40, 3, 0, 0, 0, 0, 0,
+    5, 0, 0x40, 4, 6, 0x68, 0x65, 0x6c, 0x6c, 0x6f,
+];
+
+/// The head of the worked message.
+fn worked_head(rt: &impl Abort) -> ObjHead
+    ensures { (result.backoff < 16) × (result.gsize < 16) }
+{
+    ObjHead {
+        source: NodeId::of(1).expect(rt, "a member's id"),
+        sequence: 0,
+        instance: InstanceId(7),
+        grtt: 64,
+        backoff: 4,
+        gsize: 1,
+        flags: 0,
+        object: 0,
+    }
+}
+
+/// What its extension says.
+const FTI: Fti = Fti {
+    l: 5,
+    e: 64,
+    b: 4,
+    max_n: 6,
+};
+
+#[test]
+fn the_worked_message_is_written(rt: HostRuntime) -> Result<(), Fail> {
+    let exts = fti_words(&FTI);
+    let msg = DataMsg {
+        head: worked_head(&rt),
+        id: PayloadId::read([0, 0, 0, 0]),
+        exts: &exts,
+        payload: b"hello",
+    };
+    let mut out = Datagram::new(rt.alloc())?;
+    out.clear();
+    write_data(&msg, &mut out);
+    assert!(rt; out.bytes() == WORKED.as_slice());
+    Ok(())
+}
+
+/// Whether extensions say what the worked message's does.
+fn is_fti(exts: &[u8]) -> bool {
+    match Extensions::check(exts) {
+        Ok(exts) => read_fti(exts) == Some(FTI),
+        Err(_) => false,
+    }
+}
+
+/// Whether these octets are read as the worked message.
+fn is_worked(rt: &impl Abort, bytes: &[u8]) -> bool {
+    match read_data(bytes) {
+        Ok(msg) => {
+            msg.head == worked_head(rt)
+                && msg.id == PayloadId::read([0; 4])
+                && msg.payload == b"hello".as_slice()
+                && is_fti(msg.exts)
+        }
+        Err(_) => false,
+    }
+}
+
+#[test]
+fn the_worked_message_is_read(rt: HostRuntime) {
+    let bytes = WORKED;
+    assert!(rt; is_worked(&rt, &bytes));
+}
+
+/// Whether these octets spell a message.
+fn is_read(bytes: &[u8]) -> bool {
+    read_data(bytes).is_ok()
+}
+
+#[test]
+fn other_octets_are_not_read(rt: HostRuntime) {
+    for (place, octet) in [
+        (0, 0x22),
+        (0, 0x11),
+        (1, 4),
+        (1, 10),
+        (7, 0),
+        (13, 129),
+        (21, 4),
+    ] {
+        let mut bytes = WORKED;
+        bytes[place] = octet;
+        assert!(rt; !is_read(&bytes), "octet {place} is {octet}");
+    }
+    assert!(rt; !is_read(&WORKED[..31]), "31 octets");
+    assert!(rt; is_read(&WORKED[..32]), "no payload");
+}

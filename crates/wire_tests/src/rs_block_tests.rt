@@ -1,0 +1,228 @@
+//! Rows from outside, parity by Newton's differences, and blocks solved from every choice of k symbols.
+
+ghost use Rattle.std.specs.Prelude.{ℕ, ◌≡◌, ◌<◌, IsTrue, length};
+ghost use Rattle.rs_block.specs.Codeword.{AreIds};
+
+use gf_field::{alpha_pow, inv, mul};
+use norm_base::Memory;
+use rs_block::{Code, Solver};
+use std::alloc::{AllocError, Global};
+use std::process::Abort;
+use std::test::Fail;
+
+/// Whether the ids rise and are below 255.
+fn are_ids(ids: &[u8]) -> bool
+    ensures { IsTrue result → AreIds (length ids.now) 255 ids.now }
+{
+    for (i, id) in ids.iter().enumerate() {
+        if *id == 255 || (i > 0 && ids[i - 1] >= *id) {
+            return false;
+        }
+    }
+    true
+}
+
+/// All n symbols of the block, in a row.
+fn encoded(
+    rt: &impl Abort,
+    alloc: Global,
+    k: u8,
+    n: u8,
+    size: usize,
+    source: &[u8],
+) -> Result<Vec<u8>, Fail> {
+    assert!(rt; 1 <= k && k <= n && size <= 1408);
+    assert_eq!(rt; source.len(), usize::from(k) * size);
+    let code = Code::new(alloc, k, n)?;
+    let mut symbols = source.to_vec(alloc)?;
+    for j in k..n {
+        let mut symbol = vec![in alloc; 0; size]?;
+        code.parity(source, size, j, &mut symbol);
+        symbols.extend_from_slice(&symbol)?;
+    }
+    Ok(symbols)
+}
+
+/// The source symbols from the symbols with these ids.
+fn solved(
+    rt: &impl Abort,
+    alloc: Global,
+    size: usize,
+    ids: &[u8],
+    symbols: &[u8],
+) -> Result<Vec<u8>, Fail> {
+    assert!(rt; 1 <= ids.len() && ids.len() < 256 && 1 <= size && size <= 1408);
+    assert!(rt; are_ids(ids));
+    assert_eq!(rt; symbols.len(), ids.len() * size);
+    let mut solver = Solver::new(alloc, ids.len() as u8, size)?;
+    let mut out = vec![in alloc; 0; ids.len() * size]?;
+    solver.solve(ids, symbols, &mut out);
+    Ok(out)
+}
+
+/// The value at `x` of the polynomial through the values at the first powers of alpha, by divided differences.
+fn newton(rt: &impl Abort, alloc: Global, values: &[u8], x: u8) -> Result<u8, AllocError> {
+    let mut table = values.to_vec(alloc)?;
+    let mut differences = Vec::new(alloc);
+    for level in 1..256u32 {
+        let Some(first) = table.first().copied() else {
+            break;
+        };
+        differences.push(first)?;
+        let mut next = Vec::new(alloc);
+        for (i, pair) in table.windows(2).enumerate() {
+            assert!(rt; i < 255 && pair.len() == 2);
+            let gap = alpha_pow(i as u32) ^ alpha_pow(i as u32 + level);
+            assert!(rt; gap != 0);
+            next.push(mul(pair[0] ^ pair[1], inv(gap)))?;
+        }
+        table = next;
+    }
+    let mut value = 0;
+    for (i, difference) in differences.iter().enumerate().rev() {
+        assert!(rt; i < 255);
+        value = mul(value, x ^ alpha_pow(i as u32)) ^ *difference;
+    }
+    Ok(value)
+}
+
+/// Whether these are the encoded symbols of source symbols.
+fn are_encoded(
+    rt: &impl Abort,
+    alloc: Global,
+    sizes: (u8, u8, usize),
+    source: &[u8],
+    symbols: &[u8],
+) -> Result<bool, Fail> {
+    let (k, n, size) = sizes;
+    let found = encoded(rt, alloc, k, n, size, source)?;
+    Ok(found.as_slice() == symbols)
+}
+
+#[test]
+fn symbols_of_short_codes_are_those_of_the_rows(rt: HostRuntime) -> Result<(), Fail> {
+    let alloc = rt.alloc();
+    for (a, b, parity) in [(0x80, 0xff, 0x01), (0x01, 0x02, 0x04), (0x00, 0x80, 0x9d)] {
+        let are_so = are_encoded(&rt, alloc, (2, 3, 1), &[a, b], &[a, b, parity])?;
+        assert!(rt; are_so, "{a} and {b}");
+    }
+    let powers = [0x01, 0x04, 0x10, 0x40, 0x1d];
+    let are_so = are_encoded(&rt, alloc, (3, 5, 1), powers.split_at(3).0, &powers)?;
+    assert!(rt; are_so, "powers");
+    let are_so = are_encoded(&rt, alloc, (1, 4, 2), &[7, 9], &[7, 9, 7, 9, 7, 9, 7, 9])?;
+    assert!(rt; are_so, "copies");
+    Ok(())
+}
+
+#[test]
+fn a_short_block_is_solved(rt: HostRuntime) -> Result<(), Fail> {
+    let sources = solved(&rt, rt.alloc(), 1, &[2, 3], &[0x04, 0x08])?;
+    assert!(rt; sources.as_slice() == [0x01, 0x02].as_slice());
+    Ok(())
+}
+
+/// Parity symbol 3 or 4 of source symbols that are cut in two.
+fn parity_cut_at(alloc: Global, cut: usize, j: u8) -> Result<u8, Memory> {
+    if cut > 3 {
+        return Ok(0);
+    }
+    if j < 3 {
+        return Ok(0);
+    }
+    if j > 4 {
+        return Ok(0);
+    }
+    let code = Code::new(alloc, 3, 5)?;
+    let source = [0x01, 0x04, 0x10];
+    let (front, back) = source.split_at(cut);
+    let mut symbol = [0];
+    code.parity_in_two(front, back, 1, j, &mut symbol);
+    Ok(symbol[0])
+}
+
+#[test]
+fn parity_of_two_pieces_is_that_of_the_rows(rt: HostRuntime) -> Result<(), Fail> {
+    for cut in 0..=3usize {
+        for (j, symbol) in [(3, 0x40), (4, 0x1d)] {
+            let found = parity_cut_at(rt.alloc(), cut, j)?;
+            assert!(rt; found == symbol, "{j} cut at {cut}");
+        }
+    }
+    Ok(())
+}
+
+/// Source octets of no pattern.
+fn octets(alloc: Global, count: u8) -> Result<Vec<u8>, AllocError> {
+    let mut source = Vec::new(alloc);
+    let mut seed = u32::from(count);
+    for _ in 0..count {
+        seed = seed.wrapping_mul(1_664_525).wrapping_add(1_013_904_223);
+        source.push((seed >> 24) as u8)?;
+    }
+    Ok(source)
+}
+
+#[test]
+fn parity_is_the_value_by_divided_differences(rt: HostRuntime) -> Result<(), Fail> {
+    let alloc = rt.alloc();
+    for k in 1..=12u8 {
+        let source = octets(alloc, k)?;
+        for (j, symbol) in encoded(&rt, alloc, k, 20, 1, &source)?.iter().enumerate() {
+            assert!(rt; j < 255);
+            let value = newton(&rt, alloc, &source, alpha_pow(j as u32))?;
+            assert!(rt; value == *symbol, "symbol {j} of {k}");
+        }
+    }
+    Ok(())
+}
+
+/// The sources from the symbols whose bits are set in the mask.
+fn solved_from(rt: &impl Abort, alloc: Global, mask: u32, symbols: &[u8]) -> Result<Vec<u8>, Fail> {
+    let mut ids = Vec::new(alloc);
+    let mut given = Vec::new(alloc);
+    for (id, symbol) in symbols.iter().enumerate() {
+        assert!(rt; id < 32);
+        if (mask >> id) % 2 == 1 {
+            ids.push(id as u8)?;
+            given.push(*symbol)?;
+        }
+    }
+    solved(rt, alloc, 1, &ids, &given)
+}
+
+#[test]
+fn every_choice_of_k_symbols_gives_the_sources(rt: HostRuntime) -> Result<(), Fail> {
+    let alloc = rt.alloc();
+    for k in 1..=12u8 {
+        let source = octets(alloc, k)?;
+        let symbols = encoded(&rt, alloc, k, k + 2, 1, &source)?;
+        for mask in 0..(1u32 << (k + 2)) {
+            if mask.count_ones() == u32::from(k) {
+                let sources = solved_from(&rt, alloc, mask, &symbols)?;
+                assert!(rt;
+                    sources.as_slice() == source.as_slice(),
+                    "choice {mask} of {k}"
+                );
+            }
+        }
+    }
+    Ok(())
+}
+
+#[test]
+fn the_largest_code_is_solved_from_its_last_symbols(rt: HostRuntime) -> Result<(), Fail> {
+    let alloc = rt.alloc();
+    let mut source = Vec::new(alloc);
+    for i in 0..12_800u32 {
+        source.push((i * i % 251) as u8)?;
+    }
+    let symbols = encoded(&rt, alloc, 200, 255, 64, &source)?;
+    let mut ids = Vec::new(alloc);
+    for id in 55..255u8 {
+        ids.push(id)?;
+    }
+    assert!(rt; symbols.len() == 16_320);
+    let sources = solved(&rt, alloc, 64, &ids, &symbols[3520..])?;
+    assert!(rt; sources.as_slice() == source.as_slice());
+    Ok(())
+}
