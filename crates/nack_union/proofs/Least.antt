@@ -42,7 +42,7 @@ firsts_are [] = refl
 firsts_are (s ∷ spans) = ap (λ (indexes : List ℕ). s.first.index ∷ indexes) (firsts_are spans)
 
 -- the least index of a request of a form that gives something
-abbrev least_at : Settings → ℕ → Request → Option ℕ
+abbrev pub least_at : Settings → ℕ → Request → Option ℕ
 least_at p known r = least_with None (map (λ (at : Position). at.index) (begins_at (named p known r)))
 
 pub least_items : (p : Settings) (known : ℕ) (r : Request) → r.form ≡ form.Items

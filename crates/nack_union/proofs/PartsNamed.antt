@@ -1,6 +1,6 @@
 -- What items and pairs of items ask for, one after another, and what a request asks for by its form.
 use Rattle.std.proofs.Common.{◌≡◌, ℕ, ◌<◌, List, [], ◌∷◌, ◌++◌, map, length, Bool, true, false, Option, Some, None, refl, sym, ap, ◌∙◌, subst, arith}
-use Rattle.std.specs.Prelude.{◌×◌, ◌||◌, flat_map}
+use Rattle.std.specs.Prelude.{◌||◌, flat_map}
 use Rattle.norm_base.specs.Settings.{Settings}
 use Rattle.fec_plan.specs.declared.position.Position.{Position}
 use Rattle.norm_ext.specs.Asking.{Span, span, pairs, pair_span, item_span, item_named, named_by, named, is_proper, has_flag, segment_flag, block_flag}

@@ -131,7 +131,7 @@ second_of false c e = absurd (clash e)
 kept_within : (p : Settings) (shapes : List Shape) (asked : List Asked) (c : Count) → In c (flat_map (counts_of shapes) asked) → c.of.index < length shapes
 kept_within p shapes asked c here =
     let found = in_flat (counts_of shapes) c asked here in
-    let kept = (in_filter (λ (c : Count). is_kept (as_it_came found.0 shapes) found.0.first c.of) c (asked_counts p found.0.request) found.2).1 in
+    let kept = (in_filter (λ (c : Count). is_kept (as_it_came found.0 shapes) found.0.first c.of) c (asked_counts found.0.request) found.2).1 in
     let lt = within_order (as_it_came found.0 shapes) c.of.index (λ s. nat_lt 0 (closed_in s c.of.block)) (second_of (not (point_before c.of found.0.first)) _ kept) in
     omega (arith, lt, length-shapes_at found.0.last 0 (take found.0.next shapes), length-take found.0.next shapes)
 
@@ -178,7 +178,7 @@ collects_admitted p s u asked entry m n unasked uncounted st col = record {
     counts_same =
         flat_same (counts_of (current_shapes p (with_entry entry s))) (counts_of (current_shapes p s)) (next_index s) asked
         (λ a le. ap (λ shapes. counts_of shapes a) grown
-        ∙ ap (λ shapes. filter (λ (c : Count). is_kept shapes a.first c.of) (asked_counts p a.request)) (came_same a (current_shapes p s) x (omega (arith, le, many)))) col.known
+        ∙ ap (λ shapes. filter (λ (c : Count). is_kept shapes a.first c.of) (asked_counts a.request)) (came_same a (current_shapes p s) x (omega (arith, le, many)))) col.known
 
     at : (k : ℕ) (d : Marked) → k < length (u.objects ++ m ∷ []) → (block : ℕ) → (k < length u.objects) ⊎ (length u.objects ≤ k)
         → get_or (get_or (u.objects ++ m ∷ []) k d).counts block 0 ≡ greatest (flat_map (counts_of (current_shapes p s)) asked) (point (u.first + k) block)

@@ -396,7 +396,7 @@ impl Union {
         ensures early { result.early ≡ is_below_first self.old.earliest self.old.first }
         ensures rules { (p : Settings) (s : SenderState) (r : Round) → Stands p self.old s → Collects p self.old s r.asked
             → Stands p self.new (round_closed p r s) × (result.queued ≡ min (length (round_closed p r s).wants - length s.wants) 4294967295)
-            × (result.early ≡ list_any (λ (a : Asked). asks_early p s.current.drop a.request) r.asked) }
+            × (result.early ≡ list_any (λ (a : Asked). asks_early s.current.drop a.request) r.asked) }
         ensures begun { (p : Settings) (s : SenderState) → Collects p self.new s [] }
     {
         let high = self.high.min(self.objects.len());

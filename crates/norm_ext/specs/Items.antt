@@ -1,5 +1,5 @@
 -- Items of repair requests and the symbols that they name (RFC 5740 section 4.3.1).
-use Rattle.std.specs.Prelude.{ℕ, ◌×◌, Option, Some, None}
+use Rattle.std.specs.Prelude.{Option, Some, None}
 use Rattle.norm_base.specs.Settings.{Settings}
 use Rattle.fec_plan.specs.declared.position.Position.{Position}
 use Rattle.norm_ext.specs.ObjectIds.{object_id}

@@ -5,7 +5,8 @@ use Rattle.norm_journal.specs.declared.event.Event.{Event}
 use Rattle.norm_journal.specs.declared.event.Event.TheVariants as event
 use Rattle.norm_journal.specs.Judged.{Judged}
 
--- a take gives what another member offered
+-- A take gives what another member offered, and no later than its ids name the same indices: those lie within 32,767 of the
+-- greatest that the node, or the sender, then knows. (That each run of a script meets this is not proved.)
 abbrev pub IsHonest : Judged → Event → Type 0
 IsHonest j (event.Took to octets) = LawfulDelivery j.profile j.world to octets
 IsHonest j _ = ⊤

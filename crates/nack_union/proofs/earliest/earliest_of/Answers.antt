@@ -17,6 +17,6 @@ returns-in-Ranges c =
 
 pub returns-in-Erasures : goal.returns-in-Erasures
 returns-in-Erasures c =
-    c.least_of_items-Erasures.ensures
+    c.least_of_items-in-Erasures.ensures
     ∙ least_erasures c.args.profile.now c.args.known (request_of c.args.request.now) c.in-Erasures.is
     ∙ ap (λ (b : Bool). elim b as (λ _. Option ℕ) [ true ↦ least_at c.args.profile.now c.args.known (request_of c.args.request.now) | false ↦ None ]) (sym c.if-not-gives_something.false ∙ c.gives_something.ensures)

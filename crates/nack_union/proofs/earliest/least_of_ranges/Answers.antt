@@ -18,5 +18,5 @@ pairs-preserved c =
 
 pub returns : goal.returns
 returns c =
-    sym (ap (λ (spans : List Span). least_with c.pairs.least (firsts (filter is_proper spans))) (no_pairs c.args.profile.now c.args.known (items_named c.pairs.rest) c.in_default.ensures))
+    sym (ap (λ (spans : List Span). least_with c.pairs.least (firsts (filter is_proper spans))) (no_pairs c.args.profile.now c.args.known (items_named c.pairs.rest.now) c.in_default.ensures))
     ∙ c.pairs.invariant

@@ -15,8 +15,8 @@ use Rattle.nack_union.proofs.union.Union.add.Goals as goal
 
 pub returns-clause-added : goal.returns-clause-added
 returns-clause-added c =
-    subst (λ (known : ℕ). HasAdded (map (named c.args.profile.now known) c.args.requests) c.args.self.now c.ask_requests.new.self) c.known.ensures
-    (added_parts (map (named c.args.profile.now c.known.result) c.args.requests) c.args.self.now c.ask_requests.new.self c.ask_requests.ensures.asked
+    subst (λ (known : ℕ). HasAdded (map (named c.args.profile.now known) c.args.requests) c.args.self.now c.ask_requests.new.self) c.known-known.ensures
+    (added_parts (map (named c.args.profile.now c.known-known.result) c.args.requests) c.args.self.now c.ask_requests.new.self c.ask_requests.ensures.asked
     (listed_rise c.ask_requests.new.self.first c.ask_requests.new.self.objects
     (subst (λ (ms : List Marked). AllByRecursion (λ (m : Marked). Rises m.asked) ms)
     (c.deref-2.ensures.value ∙ ap (λ (u : Kept). u.objects) c.self-2.view_is) c.hold_all-2.ensures.rise))

@@ -19,7 +19,7 @@ pub items-preserved : goal.items-preserved
 items-preserved c = λ u more.
     c.items.invariant u
     (subst (λ (spans : List Span). HasPart (counts_part spans) c.items.self u)
-    (item_gone c.args.profile.now c.args.known c.in-Some.item (items_named c.in-Some.behind.now) c.in-None.ensures
+    (item_gone c.args.profile.now c.args.known c.in-Some.item (items_named c.in-Some.behind.now) c.in_default-position_of.ensures
     ∙ ap (items_spans c.args.profile.now c.args.known) (sym c.in-Some.ensures)) more)
 
 pub returns : goal.returns

@@ -19,11 +19,11 @@ pub pairs-preserved : goal.pairs-preserved
 pairs-preserved c = λ u more.
     c.pairs.invariant u
     (subst (λ (spans : List Span). HasPart (ranges_part c.args.flags spans) c.pairs.self u)
-    (pair_spans c.args.profile.now c.args.known c.in-Some.first c.in-Some.last (items_named c.in-Some.behind.now) None c.in-None.ensures
+    (pair_spans c.args.profile.now c.args.known c.in-Some.first c.in-Some.last (items_named c.in-Some.behind.now) None c.in_default-ends_of.ensures
     ∙ ap (pairs_spans c.args.profile.now c.args.known) (sym c.in-Some.ensures)) more)
 
 pub returns : goal.returns
 returns c =
     c.pairs.invariant c.pairs.self
     (subst (λ (spans : List Span). HasPart (ranges_part c.args.flags spans) c.pairs.self c.pairs.self)
-    (sym (no_pairs c.args.profile.now c.args.known (items_named c.pairs.rest) c.in_default.ensures)) (part_none c.pairs.self))
+    (sym (no_pairs c.args.profile.now c.args.known (items_named c.pairs.rest.now) c.in_default.ensures)) (part_none c.pairs.self))
