@@ -1,4 +1,4 @@
-use Rattle.std.proofs.Common.{◌≡◌, Bool, subst, true, sym, ap, ◌∙◌}
+use Rattle.std.proofs.Common.{◌≡◌, ℕ, Bool, subst, true, sym, ap, ◌∙◌}
 use Rattle.std.specs.Prelude.{◌||◌}
 use Rattle.norm_ext.specs.Asking.{has_flag, segment_flag, block_flag}
 use Rattle.norm_ext.specs.RequestView.{request_of}
@@ -17,6 +17,7 @@ pub returns-then-has_flag : goal.returns-then-has_flag
 returns-then-has_flag c =
     subst (λ (part : Part). HasPart part c.args.self.now c.ask_counts.new.self) (of_erasures c.args.profile.now c.args.known (request_of c.args.request.now) true c.in-Erasures.is wanted) c.ask_counts.ensures
   where
+    flags : ℕ
     flags = c.args.request.now.flags
 
     wanted : (has_flag flags segment_flag || has_flag flags block_flag) ≡ true
