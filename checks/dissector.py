@@ -2,13 +2,14 @@
 """The dissector (tools/norm.lua) against the lines of `normd show`, on datagrams in lines of hexadecimal.
 
 dissector.py LINES SHOWN       SHOWN is what `normd show` prints for LINES
-dissector.py --runs RUN.json.. the datagrams of recorded runs, each once, as lines
+dissector.py --runs RUN.json.. the datagrams of recorded runs, each once, as lines, and behind them as many damaged ones
 
 Each line is made again of the fields that tshark gives, and of nothing else; the first that differ are named."""
 from __future__ import annotations
 
 import argparse
 import os
+import random
 import subprocess
 import sys
 import tempfile
@@ -32,6 +33,24 @@ def datagrams_of_runs(paths: list[str]) -> list[bytes]:
     """The datagrams of recorded runs, each once, but for one of no octets, which no line can say."""
     runs = [wire.run_of(path, wire.read_file(path)) for path in paths]
     return list(dict.fromkeys(step.octets() for run in runs for step in run.steps if step.event.get('bytes')))
+
+
+def damaged(datagrams: list[bytes]) -> list[bytes]:
+    """The datagrams with octets changed, cut off, added or put between, by draws that are the same each time."""
+    draws, made = random.Random(5740), []
+    for octets in datagrams:
+        parts = bytearray(octets)
+        for _ in range(draws.randint(1, 3)):
+            place, octet = draws.randrange(len(parts)), draws.choice((0, 1, 2, 3, 4, 5, 9, 64, 128, 255))
+            what = draws.choice(('change', 'change', 'change', 'cut', 'add', 'insert'))
+            if what == 'change':
+                parts[min(place, place % 40)] = octet
+            elif what == 'cut':
+                del parts[max(place, 1):]
+            else:
+                parts.insert(place if what == 'insert' else len(parts), octet)
+        made.append(bytes(parts))
+    return made
 
 
 def tshark(lines: str) -> list[Fields]:
@@ -135,7 +154,8 @@ def main() -> int:
     words = parser.parse_args()
     try:
         if words.runs:
-            wire.write_file('-', ''.join(octets.hex() + '\n' for octets in datagrams_of_runs(words.runs)).encode())
+            datagrams = datagrams_of_runs(words.runs)
+            wire.write_file('-', ''.join(octets.hex() + '\n' for octets in datagrams + damaged(datagrams)).encode())
             return 0
         if len(words.files) != 2:
             parser.error('name LINES and SHOWN')

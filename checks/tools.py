@@ -27,7 +27,8 @@ HERE = os.path.dirname(os.path.abspath(__file__))
 ROOT = os.path.dirname(HERE)
 TOOLS, FIXTURES = os.path.join(ROOT, 'tools'), os.path.join(HERE, 'tools')
 REPAIR = os.path.join(ROOT, 'examples', 'repair.json')
-sys.path.insert(0, TOOLS)
+sys.path[:0] = [TOOLS, HERE]
+import dissector  # noqa: E402
 import norm_journal  # noqa: E402
 import norm_keys  # noqa: E402
 import norm_ladder  # noqa: E402
@@ -95,12 +96,13 @@ def check_wire() -> str:
         wants(f'datagram {place}', wanted, wire.show(bytes.fromhex(line)))
     if not os.access(PROGRAM, os.X_OK):
         return f'{len(lines)} datagrams; not run: the comparison with `normd show`, since the program is not built'
-    of_runs = list(dict.fromkeys(step.octets() for _, _, r in runs() for step in r.steps if step.event.get('bytes')))
+    of_runs = dissector.datagrams_of_runs(recorded())
+    of_runs += dissector.damaged(of_runs)
     given = ''.join(octets.hex() + '\n' for octets in of_runs).encode()
     out = subprocess.run([PROGRAM, 'show'], input=given, capture_output=True, check=False).stdout.decode().splitlines()
     for place, (octets, wanted) in enumerate(zip(of_runs, out, strict=True), 1):
-        wants(f'datagram {place} of the recorded runs', wanted, wire.show(octets))
-    return f'{len(lines)} datagrams, and {len(of_runs)} of recorded runs as `normd show` prints them'
+        wants(f'datagram {octets.hex()} of the recorded runs, or damaged', wanted, wire.show(octets))
+    return f'{len(lines)} datagrams, and {len(of_runs)} of recorded runs and damaged ones as `normd show` prints them'
 
 
 def packets(capture: bytes) -> list[tuple[int, int, int, bytes]]:
