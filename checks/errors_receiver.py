@@ -40,7 +40,7 @@ ERRORS = [
     ('a receiver begins its sequence anew', R, 'Leaving', '(Some instance) s.sequence', '(Some instance) 0'),
     ('hand-ups of an instance that was left stay', R, 'Leaving', 'enters instance s = knowing_nothing s.node (Some instance) s.sequence', 'enters instance s = record (knowing_nothing s.node (Some instance) s.sequence) { ups = s.ups }'),
     ('only what is kept is seen', R, 'Receiving', '  | None ↦ handed_up p (put (sees (point_of at) s))', '  | None ↦ handed_up p (put s)'),
-    ('a point further back is the farthest', R, 'Seeing', 'if point_before other at then Some at else Some other\n\n-- the further of two positions', 'if point_before at other then Some at else Some other\n\n-- the further of two positions'),
+    ('the last point that is seen is the farthest', R, 'Seeing', 'farthest = further_point at s.farthest;', 'farthest = Some at;'),
     ('blocks of a stream are not seen', R, 'Seeing', '[ true ↦ with_block at s.seen | false ↦ s.seen ]', '[ true ↦ s.seen | false ↦ s.seen ]'),
     # handing up
     ('all source symbols have to come', R, 'Plans', 'length (held_of s plan.index block)\n\n-- a block has', 'length (filter (λ (h : Held). nat_lt h.at.symbol (source_symbols (cut_of_plan plan) block)) (held_of s plan.index block))\n\n-- a block has'),
