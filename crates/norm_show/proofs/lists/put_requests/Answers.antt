@@ -3,7 +3,7 @@ use Rattle.std.specs.Prelude.{slice_get}
 use Rattle.norm_ext.specs.Requests.{Request, requests_of as all_requests}
 use Rattle.norm_ext.specs.RequestView.{request_of}
 use Rattle.norm_show.proofs.ListLemmas.{requests_begin}
-use Rattle.norm_show.proofs.lists.put_whole_requests.Goals as goal
+use Rattle.norm_show.proofs.lists.put_requests.Goals as goal
 
 pub loop-request-init : goal.loop-request-init
 loop-request-init c = (

@@ -2,7 +2,7 @@ use Rattle.std.proofs.Common.{◌≡◌, map}
 use Rattle.norm_ext.specs.Requests.{requests_of}
 use Rattle.norm_text.specs.Words.{with_pieces, with_word}
 use Rattle.norm_show.specs.Words.{request_word, requests_word}
-use Rattle.norm_show.proofs.lists.put_whole_requests.Given as goal
+use Rattle.norm_show.proofs.lists.put_requests.Given as goal
 
 abbrev pub invariant-loop-request : goal.invariant-loop-request
 invariant-loop-request l =
