@@ -1,0 +1,14 @@
+//! Tests of the parts of a sender and of a receiver: what a window sends, what is asked for and acknowledged, and what is held. A
+//! module for each crate.
+#![tactic(auto)]
+
+#[cfg(test)]
+mod mark_book_tests;
+#[cfg(test)]
+mod nack_union_tests;
+#[cfg(test)]
+mod obj_buffer_tests;
+#[cfg(test)]
+mod rx_hold_tests;
+#[cfg(test)]
+mod tx_window_tests;
