@@ -1,5 +1,10 @@
-pub mod Calls
+pub mod Heard
 pub mod Names
 pub mod Numbered
+pub mod Prefixes
+pub mod RingCalls
+pub mod RingSteps
 pub mod Settles
-pub mod Steps
+pub mod Views
+pub mod WordCalls
+pub mod WordSteps

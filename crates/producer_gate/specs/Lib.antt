@@ -1,5 +1,11 @@
+pub mod BoardInside
+pub mod Boards
 pub mod Commands
+pub mod Entries
 pub mod Inside
+pub mod Places
+pub mod Plays
+pub mod Posts
 pub mod Ring
 pub mod Seats
 pub mod Views

@@ -5,12 +5,19 @@
 //! have come back, says what was pulled and how much was left. A producer passes a [`Turnstile`] before each submit.
 #![tactic(auto)]
 
+mod board;
 mod command;
+mod entries;
 mod gate;
 mod knows;
+mod lookup;
 mod settle;
+mod steps;
 mod turnstile;
+mod words;
 
+pub use crate::board::{Board, BoardReader, Front};
 pub use crate::command::{GateFault, Order, Submitted};
+pub use crate::entries::Seen;
 pub use crate::gate::{Gate, PullSeat, Seat};
 pub use crate::turnstile::{Through, Turnstile};

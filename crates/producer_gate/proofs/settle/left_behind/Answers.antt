@@ -3,7 +3,7 @@ use Rattle.crossbeam_queue.specs.Passes.{view}
 use Rattle.producer_gate.specs.Commands.{of_producer, IsBeginning}
 use Rattle.producer_gate.specs.Inside.{pulled_in, items_in}
 use Rattle.producer_gate.specs.Seats.{SeatState, left_of}
-use Rattle.producer_gate.proofs.Calls.{merges, learns, compared}
+use Rattle.producer_gate.proofs.RingCalls.{merges, learns, compared}
 use Rattle.producer_gate.proofs.Names.{count_is}
 use Rattle.producer_gate.proofs.settle.left_behind.Goals as goal
 

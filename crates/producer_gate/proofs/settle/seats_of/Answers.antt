@@ -1,4 +1,4 @@
-use Rattle.producer_gate.proofs.Calls.{forks}
+use Rattle.producer_gate.proofs.RingCalls.{forks}
 use Rattle.producer_gate.proofs.settle.seats_of.Goals as goal
 
 pub another-pass-requires-clause-rule : goal.another-pass-requires-clause-rule

@@ -1,4 +1,4 @@
-use Rattle.producer_gate.proofs.Steps.{begins}
+use Rattle.producer_gate.proofs.RingSteps.{begins}
 use Rattle.producer_gate.proofs.gate.Gate.new.Goals as goal
 
 pub ruled-requires-clause-rule : goal.ruled-requires-clause-rule

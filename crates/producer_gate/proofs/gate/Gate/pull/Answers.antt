@@ -1,5 +1,5 @@
-use Rattle.producer_gate.proofs.Calls.{pops}
-use Rattle.producer_gate.proofs.Steps.{was_so}
+use Rattle.producer_gate.proofs.RingCalls.{pops}
+use Rattle.producer_gate.proofs.RingSteps.{was_so}
 use Rattle.producer_gate.proofs.gate.Gate.pull.Goals as goal
 
 pub pop_as-requires-clause-rule : goal.pop_as-requires-clause-rule

@@ -1,6 +1,6 @@
 use Rattle.std.proofs.Common.{arith, refl}
-use Rattle.producer_gate.proofs.Calls.{pushes}
-use Rattle.producer_gate.proofs.Steps.{was_so}
+use Rattle.producer_gate.proofs.RingCalls.{pushes}
+use Rattle.producer_gate.proofs.RingSteps.{was_so}
 use Rattle.producer_gate.proofs.gate.Gate.submit.Goals as goal
 
 pub push_as-requires-clause-rule : goal.push_as-requires-clause-rule

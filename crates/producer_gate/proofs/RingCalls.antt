@@ -8,7 +8,7 @@ use Rattle.producer_gate.specs.Commands.{IsBeginning}
 use Rattle.producer_gate.specs.Inside.{pulled_in}
 use Rattle.producer_gate.specs.Ring.{Balances}
 use Rattle.producer_gate.specs.Views.{one_more, newcomer, taken_in, Added, Taken, Compared, IsPulling}
-use Rattle.producer_gate.proofs.Steps.{push_at, pop_at, fork_at, join_at, compare_at}
+use Rattle.producer_gate.proofs.RingSteps.{push_at, pop_at, fork_at, join_at, compare_at}
 
 pub pushes : (n pass : ℕ) (v : Knows) (p : ℕ) (xs : List ℕ) (c : Submitted) → v ≡ Submits p xs → length xs < 4096 → c.producer ≡ p → c.number ≡ length xs + 1 → Pushes Balances n pass v c (Added v c)
 pushes n pass v p xs c is few e f = subst (λ (z : Knows). Pushes Balances n pass z c (Added z c)) (sym is) (push_at n pass p xs c few e f)

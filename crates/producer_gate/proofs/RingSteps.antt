@@ -1,45 +1,24 @@
 -- Each step keeps the rule of the ring, by what the pass knows that makes it.
 use Rattle.std.proofs.Common.{◌≡◌, ◌≢◌, ◌⊎◌, ℕ, zero, suc, ◌+◌, ◌*◌, ◌<◌, ◌≤◌, List, [], ◌∷◌, ◌++◌, length, set, sym, refl, ap, ◌∙◌, subst, inl, inr, ⊎_elim, zero-le, append_assoc, append-nil, length-append, add-one, add_comm, eq-zero-or-pos, lt_of_not-le, arith}
-use mathlib.Core.Option.{some, some-injective, some-ne-none}
+use mathlib.Core.Option.{some}
 use mathlib.Core.Logic.{dite}
 use native.Mathlib.Decide.{dec_le, ℕ_discrete}
 use lib.ListN.{get_elem?}
 use Rattle.crossbeam_queue.specs.Fifo.{Pushes, Pops, Forks, Merges, Learns}
-use Rattle.crossbeam_queue.proofs.Lists.{at_set}
 use Rattle.producer_gate.specs.declared.command.Submitted.{Submitted}
 use Rattle.producer_gate.specs.declared.knows.Knows.{Knows}
 use Rattle.producer_gate.specs.declared.knows.Knows.TheVariants.{Pulls, Submits, Spent}
 use Rattle.producer_gate.specs.Commands.{of_producer, numbered, IsBeginning}
 use Rattle.producer_gate.specs.Ring.{Ledger, IsLedger, Fits, Balances, WasSo, total}
 use Rattle.producer_gate.specs.Views.{Added, Taken, Compared}
+use Rattle.producer_gate.proofs.Views.{AllFit, only_view, all_set, all_snoc, stood}
 use Rattle.producer_gate.proofs.Numbered.{command, numbered-append, front, next, of_here, of_else, of_both, changed, changed_here, changed_else, changed_all, total-one, total-bound}
-
-snoc_cases : (l : List Knows) (a b : Knows) (j : ℕ) → get_elem? (l ++ a ∷ []) j ≡ some b → (get_elem? l j ≡ some b) ⊎ ((j ≡ length l) × (a ≡ b))
-snoc_cases [] a b zero e = inr (refl, some-injective a b e)
-snoc_cases [] a b (suc j) e = absurd (some-ne-none b (sym e))
-snoc_cases (x ∷ xs) a b zero e = inl e
-snoc_cases (x ∷ xs) a b (suc j) e = ⊎_elim (λ t. inl t) (λ t. inr (ap suc t.0, t.1)) (snoc_cases xs a b j e)
-
-abbrev AllFit : (ℕ → Knows → Type 0) → List Knows → Type 0
-AllFit F views = (pass : ℕ) (v : Knows) → get_elem? views pass ≡ some v → F pass v
-
-moved : (F : ℕ → Knows → Type 0) (i j : ℕ) (w u : Knows) → j ≡ i → w ≡ u → F i w → F j u
-moved F i j w u e is h = subst (λ (y : ℕ × Knows). F y.0 y.1) (λ k. (sym e k, is k)) h
-
-all_set : (F : ℕ → Knows → Type 0) (views : List Knows) (pass : ℕ) (w : Knows) → F pass w → ((j : ℕ) (u : Knows) → j ≢ pass → get_elem? views j ≡ some u → F j u) → AllFit F (set views pass w)
-all_set F views pass w mine others j u e =
-    ⊎_elim (λ (t : (j ≡ pass) × (w ≡ u)). moved F pass j w u t.0 t.1 mine)
-    (λ (t : (j ≢ pass) × (get_elem? views j ≡ some u)). others j u t.0 t.1) (at_set views pass j w u e)
 
 abbrev opened : Ledger
 opened = record { given = 0; puller = 0; seat = λ _. 0; pulled = []; items = λ _. []; ended = 0 }
 
-begins_fit : AllFit (Fits opened) (Pulls 0 [] 0 [] ∷ [])
-begins_fit zero v e = moved (Fits opened) 0 0 (Pulls 0 [] 0 []) v refl (some-injective (Pulls 0 [] 0 []) v e) (refl, refl, refl, refl, refl)
-begins_fit (suc j) v e = absurd (some-ne-none v (sym e))
-
 pub begins : Balances [] (Pulls 0 [] 0 [] ∷ [])
-begins = (opened, record { order = λ p. refl; none = λ p _. refl; short = λ p. zero-le; count = refl }, begins_fit)
+begins = (opened, record { order = λ p. refl; none = λ p _. refl; short = λ p. zero-le; count = refl }, only_view (Fits opened) (Pulls 0 [] 0 []) (refl, refl, refl, refl, refl))
 
 -- a push
 push_fits : (l : Ledger) (p : ℕ) (ys : List ℕ) (j : ℕ) (u : Knows) → j ≢ l.seat p → p ≢ l.ended → Fits l j u → Fits (record l { items = changed l.items p ys }) j u
@@ -183,8 +162,7 @@ fork_at pass g ps ring views b at =
         short = k.short;
         count = omega (arith, k.count, ap length no_item);
       },
-      λ j u there.
-          ⊎_elim (λ t. old j u t) (λ (t : (j ≡ n) × (Submits (g + 1) [] ≡ u)). moved (Fits l') n j (Submits (g + 1) []) u t.0 t.1 new) (snoc_cases vs (Submits (g + 1) []) u j there),
+      all_snoc (Fits l') vs (Submits (g + 1) []) old new,
     )
 
 -- a seat that is taken in
@@ -199,8 +177,7 @@ join_at pass g ps e la other p xs ring views b at apart there =
     let k : IsLedger l ring = b.1 in
     let mine : Fits l pass (Pulls g ps e la) = b.2 pass (Pulls g ps e la) at in
     let both : Knows = Pulls g ps p xs in
-    let was : get_elem? views other ≡ some (Submits p xs) =
-    ⊎_elim (λ (t : (other ≡ pass) × (both ≡ Submits p xs)). absurd (apart t.0)) (λ (t : (other ≢ pass) × (get_elem? views other ≡ some (Submits p xs))). t.1) (at_set views pass other both (Submits p xs) there) in
+    let was : get_elem? views other ≡ some (Submits p xs) = stood views pass other both (Submits p xs) apart there in
     let theirs : Fits l other (Submits p xs) = b.2 other (Submits p xs) was in
     let l' : Ledger = record l { ended = p } in
     let Late : ℕ → Knows → Type 0 = λ j u. j ≢ other → Fits l' j u in

@@ -1,0 +1,167 @@
+//! The board of outcomes, and who reads it.
+ghost use Rattle.std.specs.Prelude.{◌≡◌, ◌≤◌, [], IfOk, length, replicate};
+ghost use mathlib.Core.List.{IsPrefix};
+ghost use Rattle.producer_gate.specs.Boards.{PublishEnds, front_of, new_reader};
+ghost use Rattle.producer_gate.specs.Entries.{last_of};
+
+use crate::entries::{Seen, word_of};
+use crate::lookup::{find_last, post, readers_of};
+use crate::steps::{compare, hear, look, note};
+use crate::words::{MOST, Place, WORDS, Words};
+use mark_book::Outcome;
+use norm_base::Memory;
+use std::alloc::Global;
+use std::marker::Model;
+use std::sync::Arc;
+
+/// The board. One thread owns it and publishes.
+#[derive(Drop)]
+pub struct Board {
+    words: Arc<Words, Global>,
+    place: Place,
+    count: u64,
+}
+
+impl Model for Board {
+    ghost use Rattle.producer_gate.specs.Boards.{BoardState};
+
+    ghost Value = { BoardState };
+
+    ghost use Rattle.producer_gate.specs.BoardInside.{board_state, IsBoard};
+
+    ghost view = { board_state };
+
+    ghost invariant = { IsBoard };
+}
+
+/// What one thread reads a board with. It never waits, and what it saw or was told of it sees again.
+#[derive(Drop)]
+pub struct BoardReader {
+    pub(crate) words: Arc<Words, Global>,
+    pub(crate) place: Place,
+}
+
+impl Model for BoardReader {
+    ghost use Rattle.producer_gate.specs.Boards.{ReaderState};
+
+    ghost Value = { ReaderState };
+
+    ghost use Rattle.producer_gate.specs.BoardInside.{reader_state, IsBoardReader};
+
+    ghost view = { reader_state };
+
+    ghost invariant = { IsBoardReader };
+}
+
+/// How far a board was published. It may go to a reader's thread, to be told there.
+#[derive(Drop)]
+pub struct Front {
+    place: Place,
+    count: u64,
+}
+
+impl Model for Front {
+    ghost use Rattle.producer_gate.specs.Boards.{FrontState};
+
+    ghost Value = { FrontState };
+
+    ghost use Rattle.producer_gate.specs.BoardInside.{front_state, IsFrontSeat};
+
+    ghost view = { front_state };
+
+    ghost invariant = { IsFrontSeat };
+}
+
+impl Front {
+    /// How many entries were published.
+    pub fn count(&self) -> u64
+        ensures { result ≡ length self.now.entries }
+    {
+        self.count
+    }
+}
+
+impl Board {
+    /// A board with no entry, and 1 to 16 readers of it.
+    pub fn new(alloc: Global, readers: u32) -> Result<(Board, Vec<BoardReader>), Memory>
+        requires { (1 ≤ readers) × (readers ≤ 16) }
+        ensures board { IfOk result (λ made. made.0.entries ≡ []) }
+        ensures readers { IfOk result (λ made. made.1.items ≡ replicate readers (new_reader made.0.id)) }
+    {
+        let cells = Vec::from_elem(alloc, 0u64, WORDS)?;
+        let (table, mut place) = Words::of_words(alloc, &cells, &())?;
+        let words = Arc::new(alloc, table)?;
+        let readers = readers_of(alloc, &words, &mut place, readers)?;
+        let board = Board {
+            words,
+            place,
+            count: 0,
+        };
+        Ok((board, readers))
+    }
+
+    /// Publishes an entry behind the others, and answers the front that has it. It takes no memory: the want of it is told where
+    /// the board is full, with 4,096 entries.
+    pub fn publish(&mut self, mark: u32, outcome: Outcome) -> Result<Front, Memory>
+        ensures { PublishEnds self.old mark outcome result self.new }
+    {
+        if self.count >= MOST {
+            return Err(Memory);
+        }
+        let (mark, outcome) = (u64::from(mark), word_of(outcome));
+        post(&self.words, &mut self.place, self.count, mark, outcome);
+        self.count += 1;
+        Ok(self.front())
+    }
+
+    /// The front of all that is published.
+    pub fn front(&mut self) -> Front
+        ensures same { self.new ≡ self.old }
+        ensures front { result ≡ front_of self.old }
+    {
+        let place = note(&self.words, &mut self.place);
+        Front {
+            place,
+            count: self.count,
+        }
+    }
+
+    /// Changes nothing, and shows that a reader saw and was told of nothing but what this board published.
+    pub fn hear(&mut self, reader: &mut BoardReader)
+        requires { reader.old.board ≡ self.old.id }
+        ensures published { IsPrefix reader.old.known self.old.entries }
+        ensures same { (self.new ≡ self.old) × (reader.new ≡ reader.old) }
+    {
+        let theirs = note(&reader.words, &mut reader.place);
+        hear(&self.words, &mut self.place, theirs);
+        compare(&self.words, &mut self.place);
+    }
+}
+
+impl BoardReader {
+    /// Is told of a front of this board. What is read from now on begins with what was published by then.
+    pub fn learn(&mut self, front: Front)
+        requires { front.board ≡ self.old.board }
+        ensures same { self.new.board ≡ self.old.board }
+        ensures before { IsPrefix self.old.known self.new.known }
+        ensures told { IsPrefix front.entries self.new.known }
+    {
+        let Front {
+            place: theirs,
+            count: _,
+        } = front;
+        hear(&self.words, &mut self.place, theirs);
+        let _count = look(&self.words, &mut self.place);
+    }
+
+    /// What the last entry of a mark says, in the list of entries that is read now. That list begins with all that this reader
+    /// saw before or was told of.
+    pub fn outcome(&mut self, mark: u32) -> Seen
+        ensures same { self.new.board ≡ self.old.board }
+        ensures before { IsPrefix self.old.known self.new.known }
+        ensures seen { result ≡ last_of mark self.new.known }
+    {
+        let count = look(&self.words, &mut self.place);
+        find_last(&self.words, &mut self.place, count, u64::from(mark))
+    }
+}
