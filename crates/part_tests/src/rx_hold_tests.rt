@@ -68,7 +68,7 @@ fn hold_of(
 
 /// Gives a hold transmission information that data or a file can have.
 fn fit(hold: &mut Hold, index: u32, fti: &Fti, has_info: bool) -> Result<Fit, Memory> {
-    if index == u32::MAX {
+    if index >= u32::MAX {
         return Err(Memory);
     }
     if fti.l > u64::from(u32::MAX) {
@@ -129,7 +129,7 @@ fn clear(hold: &mut Hold) {
 }
 
 fn lose_before(hold: &mut Hold, index: u32, block: u32) -> Result<(), Memory> {
-    if index == u32::MAX {
+    if index >= u32::MAX {
         return Err(Memory);
     }
     hold.lose_before(index, block)
@@ -145,15 +145,16 @@ fn receive(hold: &mut Hold, index: u32, octet: u8) -> Result<(), Memory> {
 
 /// Takes up an object in blocks of 2, and takes it back.
 fn take_back(hold: &mut Hold, index: u32, l: u32) -> Result<bool, Memory> {
-    if index == u32::MAX {
+    if index >= u32::MAX {
         return Err(Memory);
     }
     let word = hold.fti(index, &in_twos(l, 64), 0)?;
-    if word != Fit::Taken {
-        return Ok(false);
+    if word == Fit::Taken {
+        hold.untake(index);
+        Ok(true)
+    } else {
+        Ok(false)
     }
-    hold.untake(index);
-    Ok(true)
 }
 
 fn next_up(hold: &mut Hold) -> Option<Up> {
