@@ -1,7 +1,7 @@
 use Rattle.std.proofs.Common.{◌∙◌}
 use Rattle.std.specs.Prelude.{nat_lt}
 use Rattle.norm_order.specs.Sets.{with_member}
-use Rattle.tx_window.proofs.tests.Standing.send_info.Goals as goal
+use Rattle.part_tests.proofs.tx_window_tests.Standing.send_info.Goals as goal
 
 pub invariant_of-self : goal.invariant_of-self
 invariant_of-self c =

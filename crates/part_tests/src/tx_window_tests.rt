@@ -1,6 +1,5 @@
 //! Objects that are taken in, sent, dropped and refused, and one that goes round the ring's end.
 
-use super::*;
 use fec_plan::Position;
 use norm_base::{Datagram, Given, Key, Kind, Memory, Mode, Octets, Profile};
 use norm_send_rules::EnqueueFault;
@@ -8,6 +7,7 @@ use std::alloc::Global;
 use std::marker::Model;
 use std::process::Abort;
 use std::test::Fail;
+use tx_window::Window;
 
 /// A window that stands for some state of a sender, so that what it answers can be noted as sent.
 #[derive(Drop)]
@@ -70,6 +70,18 @@ impl Standing {
     fn note_past(&mut self, through: Option<Position>) {
         self.window.note_past(through);
     }
+
+    fn is_source(&self, at: Position) -> bool {
+        self.window.is_source(at)
+    }
+
+    fn first(&self) -> (u32, u32) {
+        self.window.first()
+    }
+
+    fn end(&self) -> Option<Position> {
+        self.window.end()
+    }
 }
 
 /// A position: the object's index, the block and the symbol.
@@ -127,39 +139,25 @@ fn offer(
 }
 
 /// Where there was no memory for it, the same is asked again: the window is as it was.
-fn expect_enqueued(
-    rt: &impl Abort,
+fn enqueued(
     alloc: Global,
     window: &mut Standing,
     sizes: (usize, usize),
-    answer: Result<u32, EnqueueFault>,
-) -> Result<(), Memory> {
-    let first = offer(alloc, window, sizes)?;
-    let given = match first {
-        Err(EnqueueFault::Memory) => offer(alloc, window, sizes)?,
-        _ => first,
-    };
-    let (info, len) = sizes;
-    assert!(rt; given == answer, "{len} octets with {info} of info");
-    Ok(())
+) -> Result<Result<u32, EnqueueFault>, Memory> {
+    match offer(alloc, window, sizes)? {
+        Err(EnqueueFault::Memory) => offer(alloc, window, sizes),
+        answer => Ok(answer),
+    }
 }
 
-fn expect_sent(
-    rt: &impl Abort,
-    alloc: Global,
-    window: &mut Standing,
-    at: At,
-    answer: Option<(u16, u8)>,
-) -> Result<(), Memory> {
+/// How many octets a symbol is sent with, and the first of them.
+fn sent(alloc: Global, window: &mut Standing, at: At) -> Result<Option<(u16, u8)>, Memory> {
     let mut out = Datagram::new(alloc)?;
     let octets = window.send(position(at), &mut out);
-    let given = match (octets, out.bytes().first()) {
-        (Some(octets), Some(first)) => Some((octets, *first)),
-        _ => None,
-    };
-    let (index, block, symbol) = at;
-    assert!(rt; given == answer, "({index}, {block}, {symbol})");
-    Ok(())
+    match (octets, out.bytes().first()) {
+        (Some(octets), Some(first)) => Ok(Some((octets, *first))),
+        _ => Ok(None),
+    }
 }
 
 fn send_all(alloc: Global, window: &mut Standing, index: u32) -> Result<(), Memory> {
@@ -172,30 +170,42 @@ fn send_all(alloc: Global, window: &mut Standing, index: u32) -> Result<(), Memo
     Ok(())
 }
 
-/// Makes a call, and sees what it answers.
-fn take(rt: &impl Abort, alloc: Global, window: &mut Standing, step: Step) -> Result<(), Memory> {
+/// Makes a call, and says whether it was answered so.
+fn does(alloc: Global, window: &mut Standing, step: Step) -> Result<bool, Memory> {
     match step {
-        Step::Enqueue(info, len, answer) => {
-            expect_enqueued(rt, alloc, window, (info, len), answer)?;
+        Step::Enqueue(info, len, answer) => Ok(enqueued(alloc, window, (info, len))? == answer),
+        Step::Send(at, answer) => Ok(sent(alloc, window, at)? == answer),
+        Step::SendAll(index) => {
+            send_all(alloc, window, index)?;
+            Ok(true)
         }
-        Step::Send(at, answer) => expect_sent(rt, alloc, window, at, answer)?,
-        Step::SendAll(index) => send_all(alloc, window, index)?,
-        Step::SendInfo(index, answer) => assert!(rt;
-            window.send_info(index) == answer,
-            "info of {index}"
-        ),
-        Step::Past(at) => window.note_past(Some(position(at))),
-        Step::IsSource(at, answer) => {
-            let (index, block, symbol) = at;
-            assert!(rt;
-                window.window.is_source(position(at)) == answer,
-                "source ({index}, {block}, {symbol})"
-            );
+        Step::SendInfo(index, answer) => Ok(window.send_info(index) == answer),
+        Step::Past(at) => {
+            window.note_past(Some(position(at)));
+            Ok(true)
         }
-        Step::First(index) => assert!(rt; window.window.first() == (index, 0), "first {index}"),
-        Step::End(at) => assert!(rt; window.window.end() == at.map(position), "the end"),
+        Step::IsSource(at, answer) => Ok(window.is_source(position(at)) == answer),
+        Step::First(index) => Ok(window.first() == (index, 0)),
+        Step::End(at) => Ok(window.end() == at.map(position)),
     }
-    Ok(())
+}
+
+/// A profile with symbols, blocks and encoded symbols of these sizes, and at most so many objects and octets.
+fn profile_of(rt: &impl Abort, mode: Mode, sizes: (u32, u32, u32), most: (u32, u32)) -> Profile {
+    let (e, b, max_n) = sizes;
+    let (window, octets) = most;
+    let mut given = Given::new();
+    for (key, value) in [
+        (Key::E, e),
+        (Key::B, b),
+        (Key::MaxN, max_n),
+        (Key::Window, window),
+        (Key::Octets, octets),
+    ] {
+        given.set(key, value);
+    }
+    let profile = Profile::of(&given).expect(rt, "a profile");
+    Profile { mode, ..profile }
 }
 
 /// Makes calls in their order, of a window for symbols, blocks and encoded symbols of these sizes, and at most so many objects
@@ -208,20 +218,11 @@ fn play(
     most: (u32, u32),
     steps: &[Step],
 ) -> Result<(), Memory> {
-    let mut given = Given::new();
-    for (key, value) in [
-        (Key::E, sizes.0),
-        (Key::B, sizes.1),
-        (Key::MaxN, sizes.2),
-        (Key::Window, most.0),
-        (Key::Octets, most.1),
-    ] {
-        given.set(key, value);
-    }
-    let profile = Profile::of(&given).expect(rt, "a profile");
-    let mut window = Standing::new(alloc, &Profile { mode, ..profile })?;
-    for step in steps {
-        take(rt, alloc, &mut window, *step)?;
+    let profile = profile_of(rt, mode, sizes, most);
+    let mut window = Standing::new(alloc, &profile)?;
+    for (place, step) in steps.iter().enumerate() {
+        let is_so = does(alloc, &mut window, *step)?;
+        assert!(rt; is_so, "call {place}");
     }
     Ok(())
 }

@@ -3,7 +3,7 @@ use Rattle.norm_send_rules.specs.Sending.{noted}
 use Rattle.norm_send_rules.specs.declared.want.Want.TheVariants.{Symbol}
 use Rattle.tx_window.specs.Asked.{AnswersAt}
 use Rattle.tx_window.proofs.StandingLemmas.{may_note}
-use Rattle.tx_window.proofs.tests.Standing.send.Goals as goal
+use Rattle.part_tests.proofs.tx_window_tests.Standing.send.Goals as goal
 
 pub note_sent-requires-clause-block : goal.note_sent-requires-clause-block
 note_sent-requires-clause-block c =

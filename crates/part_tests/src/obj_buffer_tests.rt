@@ -1,9 +1,9 @@
 //! Symbols of worked objects, and one object that lies in two pieces.
 
-use super::*;
 use fec_plan::Plan;
 use norm_base::{Datagram, Given, Key, Kind, Profile};
 use norm_ext::Fti;
+use obj_buffer::{Codes, ObjectBuf, symbol_of};
 use std::alloc::{AllocError, Global};
 use std::process::Abort;
 use std::test::Fail;
@@ -70,7 +70,7 @@ fn last_symbols_have_their_own_length(rt: HostRuntime) -> Result<(), Fail> {
         (1000, 3, 3, 40),
     ] {
         let out = sent(&rt, rt.alloc(), &small, len, block, symbol)?;
-        assert_eq!(rt; out, octets, "({block}, {symbol}) of {len}");
+        assert!(rt; out == octets, "({block}, {symbol}) of {len}");
     }
     Ok(())
 }
@@ -80,7 +80,7 @@ fn the_largest_object_has_symbols(rt: HostRuntime) -> Result<(), Fail> {
     let large = profile_of(&rt, 1400, 200, 255);
     for (symbol, octets) in [(197, 1400), (198, 1016), (252, 1400)] {
         let out = sent(&rt, rt.alloc(), &large, 16_777_216, 59, symbol)?;
-        assert_eq!(rt; out, octets, "symbol {symbol}");
+        assert!(rt; out == octets, "symbol {symbol}");
     }
     Ok(())
 }
@@ -100,7 +100,7 @@ fn parity_goes_on_with_the_powers(rt: HostRuntime) -> Result<(), Fail> {
     let buffer = buffer_of(&rt, rt.alloc(), &profile, powers(rt.alloc())?)?;
     for (symbol, octet) in [(0, 1), (3, 8), (4, 16), (5, 32)] {
         let out = symbol_in(&rt, rt.alloc(), &buffer, 0, symbol)?;
-        assert_eq!(rt; out.bytes(), [octet; 64].as_slice(), "symbol {symbol}");
+        assert!(rt; out.bytes() == [octet; 64].as_slice(), "symbol {symbol}");
     }
     Ok(())
 }
@@ -129,31 +129,37 @@ fn two_pieces_give_the_symbols_of_one(rt: HostRuntime) -> Result<(), Fail> {
         (4, 4, 16),
     ] {
         let out = symbol_cut_at(&rt, rt.alloc(), cut, symbol)?;
-        assert_eq!(rt;
-            out.bytes(),
-            [octet; 64].as_slice(),
+        assert!(rt;
+            out.bytes() == [octet; 64].as_slice(),
             "symbol {symbol} cut at {cut}"
         );
     }
     Ok(())
 }
 
+/// A buffer of a file with two octets.
+fn file_of(rt: &impl Abort, alloc: Global) -> Result<ObjectBuf, Fail> {
+    let name = b"a.txt".to_vec(alloc)?;
+    let octets = b"hi".to_vec(alloc)?;
+    let profile = profile_of(rt, 64, 4, 6);
+    assert!(rt; octets.len() == 2);
+    Ok(ObjectBuf::whole(alloc, &profile, Kind::File, Some(name), octets)?)
+}
+
+/// What transmission information it has.
+const FTI: Fti = Fti {
+    l: 2,
+    e: 64,
+    b: 4,
+    max_n: 6,
+};
+
 #[test]
 fn a_file_keeps_its_name(rt: HostRuntime) -> Result<(), Fail> {
-    let name = b"a.txt".to_vec(rt.alloc())?;
-    let octets = b"hi".to_vec(rt.alloc())?;
-    let profile = profile_of(&rt, 64, 4, 6);
-    assert_eq!(rt; octets.len(), 2);
-    let buffer = ObjectBuf::whole(rt.alloc(), &profile, Kind::File, Some(name), octets)?;
-    assert_eq!(rt; buffer.kind(), Kind::File);
-    assert_eq!(rt; buffer.info(), Some(b"a.txt".as_slice()));
-    assert_eq!(rt; buffer.len(), 2);
-    let fti = Fti {
-        l: 2,
-        e: 64,
-        b: 4,
-        max_n: 6,
-    };
-    assert_eq!(rt; buffer.fti(), fti);
+    let buffer = file_of(&rt, rt.alloc())?;
+    assert!(rt; buffer.kind() == Kind::File);
+    assert!(rt; buffer.info() == Some(b"a.txt".as_slice()));
+    assert!(rt; buffer.len() == 2);
+    assert!(rt; buffer.fti() == FTI);
     Ok(())
 }
