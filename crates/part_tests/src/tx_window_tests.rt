@@ -29,10 +29,10 @@ impl Model for Standing {
 
 impl Standing {
     fn new(alloc: Global, profile: &Profile) -> Result<Standing, Memory> {
-        Ok(Standing {
-            window: Window::new(alloc, profile)?,
-            e: usize::from(profile.e),
-        })
+        let window = Window::new(alloc, profile)?;
+        let e = usize::from(profile.e);
+        let standing = Standing { window, e };
+        Ok(standing)
     }
 
     /// The index of an object, or why it is refused.
