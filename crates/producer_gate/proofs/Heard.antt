@@ -4,7 +4,6 @@ use mathlib.Core.List.{IsPrefix}
 use Rattle.std.proofs.lemmas.List.{map-append, reverse-append, take_more}
 use Rattle.producer_gate.specs.declared.words.Role.{Role}
 use Rattle.producer_gate.specs.declared.words.Role.TheVariants.{Writes, Reads, Gone}
-use Rattle.producer_gate.specs.declared.entries.Seen.{Seen}
 use Rattle.producer_gate.specs.declared.entries.Seen.TheVariants.{Known}
 use Rattle.producer_gate.specs.Entries.{Entry, entry_in, outcome_in, found_in, last_of}
 use Rattle.producer_gate.specs.Plays.{IsWriter, IsReader, own_in, asked_in, known_in, told_in, noted, heard}

@@ -1,11 +1,11 @@
 -- The names of what was pulled: how many are a producer's, and which numbers these have.
-use Rattle.std.proofs.Common.{◌≡◌, ℕ, ◌+◌, ◌≤◌, ◌==◌, true, false, cond, eqb, List, [], ◌∷◌, length, take, map, filter, All, count_by, sym, refl, ap, ◌∙◌, length-take-le}
+use Rattle.std.proofs.Common.{◌≡◌, ℕ, ◌+◌, ◌==◌, true, false, cond, eqb, List, [], ◌∷◌, length, take, map, filter, All, count_by, sym, refl, ap, ◌∙◌, length-take-le}
 use Rattle.std.specs.List.{range_with_len}
 use Rattle.std.proofs.lemmas.List.{length-map}
 use Rattle.std.proofs.lemmas.List.Sums.{length-filter}
 use Rattle.std.proofs.lemmas.List.Elements.{All-weaker}
 use Rattle.producer_gate.specs.declared.command.Submitted.{Submitted}
-use Rattle.producer_gate.specs.Commands.{of_producer, numbered, named, numbers_of}
+use Rattle.producer_gate.specs.Commands.{of_producer, numbered, named}
 use Rattle.producer_gate.specs.Seats.{SeatState, IsFront, HasNumbers}
 
 names_are : (p : ℕ) (cs : List Submitted) → filter (λ (e : ℕ × ℕ). eqb e.0 p) (map named cs) ≡ map named (of_producer p cs)

@@ -1,10 +1,10 @@
 -- Numbered commands, how many there are, and a function that is changed at one place.
-use Rattle.std.proofs.Common.{◌≡◌, ◌≢◌, ℕ, zero, suc, ◌+◌, ◌*◌, ◌<◌, ◌≤◌, true, false, cond, eqb, List, [], ◌∷◌, ◌++◌, length, take, filter, sym, refl, ap, ◌∙◌, subst, zero-le, add-zero, suc-mul, append-nil, eq-eqb, ne_eqb, arith}
+use Rattle.std.proofs.Common.{◌≡◌, ◌≢◌, ℕ, zero, suc, ◌+◌, ◌*◌, ◌<◌, ◌≤◌, true, false, cond, eqb, List, [], ◌∷◌, ◌++◌, length, take, sym, refl, ap, ◌∙◌, subst, zero-le, add-zero, suc-mul, eq-eqb, ne_eqb, arith}
 use mathlib.Core.Logic.{dite}
 use native.Mathlib.Decide.{ℕ_discrete}
 use Rattle.std.proofs.lemmas.List.Elements.{filter-append}
 use Rattle.producer_gate.specs.declared.command.Submitted.{Submitted}
-use Rattle.producer_gate.specs.Commands.{of_producer, numbered, IsBeginning}
+use Rattle.producer_gate.specs.Commands.{of_producer, numbered}
 use Rattle.producer_gate.specs.Ring.{total}
 
 abbrev pub command : ℕ → ℕ → ℕ → Submitted

@@ -1,5 +1,5 @@
 -- Beginnings of one list.
-use Rattle.std.proofs.Common.{◌≡◌, ℕ, zero, suc, ◌<◌, ◌≤◌, List, [], ◌∷◌, ◌++◌, length, get_or, map, refl, ap, sym, ◌∙◌, append_assoc, length-append, arith}
+use Rattle.std.proofs.Common.{◌≡◌, ℕ, ◌<◌, ◌≤◌, List, [], ◌∷◌, ◌++◌, length, get_or, map, refl, ap, sym, ◌∙◌, append_assoc, length-append, arith}
 use Rattle.std.proofs.lemmas.List.{get_or_append_left, map-append}
 use mathlib.Core.List.{IsPrefix}
 

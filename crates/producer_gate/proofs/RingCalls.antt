@@ -1,5 +1,5 @@
 -- The steps as the calls ask for them: of a view that is known by an equation.
-use Rattle.std.proofs.Common.{◌≡◌, ℕ, ◌+◌, ◌<◌, List, [], ◌∷◌, length, sym, refl, ◌∙◌, subst}
+use Rattle.std.proofs.Common.{◌≡◌, ℕ, ◌+◌, ◌<◌, List, [], length, sym, ◌∙◌, subst}
 use Rattle.crossbeam_queue.specs.Fifo.{Pushes, Pops, Forks, Merges, Learns}
 use Rattle.producer_gate.specs.declared.command.Submitted.{Submitted}
 use Rattle.producer_gate.specs.declared.knows.Knows.{Knows}

@@ -1,5 +1,5 @@
 -- Each step keeps the rule of the ring, by what the pass knows that makes it.
-use Rattle.std.proofs.Common.{◌≡◌, ◌≢◌, ◌⊎◌, ℕ, zero, suc, ◌+◌, ◌*◌, ◌<◌, ◌≤◌, List, [], ◌∷◌, ◌++◌, length, set, sym, refl, ap, ◌∙◌, subst, inl, inr, ⊎_elim, zero-le, append_assoc, append-nil, length-append, add-one, add_comm, eq-zero-or-pos, lt_of_not-le, arith}
+use Rattle.std.proofs.Common.{◌≡◌, ◌≢◌, ◌⊎◌, ℕ, suc, ◌+◌, ◌*◌, ◌<◌, ◌≤◌, List, [], ◌∷◌, ◌++◌, length, set, sym, refl, ap, ◌∙◌, subst, inl, inr, ⊎_elim, zero-le, append_assoc, append-nil, length-append, eq-zero-or-pos, lt_of_not-le, arith}
 use mathlib.Core.Option.{some}
 use mathlib.Core.Logic.{dite}
 use native.Mathlib.Decide.{dec_le, ℕ_discrete}
@@ -8,8 +8,8 @@ use Rattle.crossbeam_queue.specs.Fifo.{Pushes, Pops, Forks, Merges, Learns}
 use Rattle.producer_gate.specs.declared.command.Submitted.{Submitted}
 use Rattle.producer_gate.specs.declared.knows.Knows.{Knows}
 use Rattle.producer_gate.specs.declared.knows.Knows.TheVariants.{Pulls, Submits, Spent}
-use Rattle.producer_gate.specs.Commands.{of_producer, numbered, IsBeginning}
-use Rattle.producer_gate.specs.Ring.{Ledger, IsLedger, Fits, Balances, WasSo, total}
+use Rattle.producer_gate.specs.Commands.{of_producer, numbered}
+use Rattle.producer_gate.specs.Ring.{Ledger, IsLedger, Fits, Balances, WasSo}
 use Rattle.producer_gate.specs.Views.{Added, Taken, Compared}
 use Rattle.producer_gate.proofs.Views.{AllFit, only_view, all_set, all_snoc, stood}
 use Rattle.producer_gate.proofs.Numbered.{command, numbered-append, front, next, of_here, of_else, of_both, changed, changed_here, changed_else, changed_all, total-one, total-bound}

@@ -1,5 +1,5 @@
 -- Each step on the board's words keeps their rule, by what the seat knows that makes it.
-use Rattle.std.proofs.Common.{◌≡◌, ◌≢◌, ℕ, zero, suc, ◌+◌, ◌*◌, ◌<◌, ◌≤◌, List, [], ◌∷◌, ◌++◌, length, get_or, set, replicate, slice_index, sym, refl, ap, ◌∙◌, subst, length-append, length-set, get_or-set_other, get_or-set_same, zero-le, arith}
+use Rattle.std.proofs.Common.{◌≡◌, ◌≢◌, ℕ, ◌+◌, ◌*◌, ◌<◌, List, [], ◌∷◌, ◌++◌, length, set, replicate, slice_index, sym, refl, ap, ◌∙◌, subst, length-append, length-set, get_or-set_other, get_or-set_same, zero-le, arith}
 use mathlib.Core.Option.{some, none}
 use mathlib.Core.List.{IsPrefix}
 use mathlib.Core.Logic.{dite}
@@ -7,12 +7,12 @@ use native.Mathlib.Decide.{ℕ_discrete}
 use lib.ListN.{get_elem?}
 use Rattle.std.proofs.lemmas.List.{get_or_append_left, get_or-replicate, length-replicate, set-get_or}
 use Rattle.std.proofs.Math.Seq.{get_or-append_seam}
-use Rattle.atomic_table.specs.Table.{State, Me, Act, keeps, step, stepped, opening, Allows, Splits, Joins}
+use Rattle.atomic_table.specs.Table.{State, keeps, step, stepped, opening, Allows, Splits, Joins}
 use Rattle.atomic_table.proofs.Lists.{set_again}
 use Rattle.producer_gate.specs.declared.words.Role.{Role}
 use Rattle.producer_gate.specs.declared.words.Role.TheVariants.{Writes, Reads, Gone}
 use Rattle.producer_gate.specs.Posts.{words_at, Holds, Fits, Posts}
-use Rattle.producer_gate.specs.Plays.{IsWriter, IsReader, own_in, known_in, noted, heard, PutFirst, PutSecond, Shown, Looked, Read, Compared}
+use Rattle.producer_gate.specs.Plays.{known_in, noted, heard, PutFirst, PutSecond, Shown, Looked, Read, Compared}
 use Rattle.producer_gate.proofs.Prefixes.{prefix_self, prefix_nil, prefix_more, prefix_length, prefix_at}
 use Rattle.producer_gate.proofs.Views.{AllFit, only_view, all_set, all_snoc, stood}
 

@@ -1,5 +1,5 @@
 -- What the fields of a board, a reader and a front stand for, and what holds of them.
-use Rattle.std.specs.Prelude.{◌≡◌, ℕ, ◌≤◌, [], length, map}
+use Rattle.std.specs.Prelude.{◌≡◌, ◌≤◌, [], length, map}
 use Rattle.std.specs.Arc.{arc_value}
 use Rattle.producer_gate.specs.declared.board.Board.TheInside as board
 use Rattle.producer_gate.specs.declared.board.BoardReader.TheInside as reader

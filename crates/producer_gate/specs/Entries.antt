@@ -1,5 +1,5 @@
 -- Entries of the board: a mark and an outcome, each kept as a word, and what is found of a mark.
-use Rattle.std.specs.Prelude.{ℕ, ◌+◌, ◌*◌, ◌/◌, ◌%◌, ◌^◌, ◌==◌, List, map, find, reverse, Option, Some, None, if◌then◌else◌}
+use Rattle.std.specs.Prelude.{ℕ, ◌+◌, ◌*◌, ◌/◌, ◌%◌, ◌^◌, ◌==◌, List, find, reverse, Option, Some, None, if◌then◌else◌}
 use Rattle.norm_send_rules.specs.declared.news.Outcome.{Outcome}
 use Rattle.norm_send_rules.specs.declared.news.Outcome.TheVariants.{Open, Satisfied, Expired, Cut}
 use Rattle.producer_gate.specs.declared.entries.Seen.{Seen}

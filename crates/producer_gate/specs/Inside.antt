@@ -1,6 +1,5 @@
 -- What the fields of a gate and of its seats stand for, and what holds of them.
-use Rattle.std.specs.Prelude.{◌≡◌, ℕ, ◌+◌, ◌*◌, ◌<◌, ◌≤◌, List, [], length, map, vec_capacity}
-use Rattle.atomic_table.specs.Seated.{TableId}
+use Rattle.std.specs.Prelude.{◌≡◌, ℕ, ◌*◌, ◌≤◌, List, [], length, map, vec_capacity}
 use Rattle.crossbeam_queue.specs.Passes.{view, ruled_capacity}
 use Rattle.producer_gate.specs.declared.command.Submitted.{Submitted}
 use Rattle.producer_gate.specs.declared.knows.Knows.{Knows}

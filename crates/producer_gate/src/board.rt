@@ -1,5 +1,5 @@
 //! The board of outcomes, and who reads it.
-ghost use Rattle.std.specs.Prelude.{◌≡◌, ◌≤◌, [], IfOk, length, replicate};
+ghost use Rattle.std.specs.Prelude.{◌≡◌, ◌≤◌, [], All, IfOk, length, replicate, vec_len};
 ghost use mathlib.Core.List.{IsPrefix};
 ghost use Rattle.producer_gate.specs.Boards.{PublishEnds, front_of, new_reader};
 ghost use Rattle.producer_gate.specs.Entries.{last_of};
@@ -87,6 +87,7 @@ impl Board {
         requires { (1 ≤ readers) × (readers ≤ 16) }
         ensures board { IfOk result (λ made. made.0.entries ≡ []) }
         ensures readers { IfOk result (λ made. made.1.items ≡ replicate readers (new_reader made.0.id)) }
+        ensures own { IfOk result (λ made. All (λ r. r.board ≡ made.0.id) made.1.items × (vec_len made.1 ≡ readers)) }
     {
         let cells = Vec::from_elem(alloc, 0u64, WORDS)?;
         let (table, mut place) = Words::of_words(alloc, &cells, &())?;
@@ -103,7 +104,8 @@ impl Board {
     /// Publishes an entry behind the others, and answers the front that has it. It takes no memory: the want of it is told where
     /// the board is full, with 4,096 entries.
     pub fn publish(&mut self, mark: u32, outcome: Outcome) -> Result<Front, Memory>
-        ensures { PublishEnds self.old mark outcome result self.new }
+        ensures same { self.new.id ≡ self.old.id }
+        ensures ends { PublishEnds self.old mark outcome result self.new }
     {
         if self.count >= MOST {
             return Err(Memory);

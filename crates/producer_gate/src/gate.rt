@@ -4,8 +4,8 @@ ghost use Rattle.producer_gate.specs.Commands.{named};
 ghost use Rattle.producer_gate.specs.Seats.{SubmitEnds, PullEnds, HasNumbers, IsFront, left_of, new_seats, new_pull};
 
 use crate::command::{GateFault, Order, Submitted};
-use crate::knows::{Adds, Own, Ring, Takes};
-use crate::settle::{rest_of, seats_of};
+use crate::knows::{Own, Ring, Takes};
+use crate::settle::{push, rest_of, seats_of};
 use norm_base::Memory;
 use std::alloc::Global;
 use std::marker::Model;
@@ -84,6 +84,7 @@ impl Gate {
         ensures gate { IfOk result (λ made. (made.0.producers ≡ producers) × (made.0.capacity ≡ capacity)) }
         ensures seats { IfOk result (λ made. made.1.items ≡ new_seats made.0.id producers) }
         ensures pull { IfOk result (λ made. made.2 ≡ new_pull made.0.id producers) }
+        ensures own { IfOk result (λ made. All (λ s. s.gate ≡ made.0.id) made.1.items × (vec_len made.1 ≡ producers)) }
     {
         let (ring, mut pass) = Ring::ruled(alloc, capacity as usize)?;
         let names = Vec::with_capacity(alloc, producers as usize * MOST as usize)?;
@@ -100,7 +101,8 @@ impl Gate {
         item: u32,
     ) -> Result<u64, (u32, GateFault)>
         requires { seat.old.gate ≡ self.now.id }
-        ensures { SubmitEnds self.now seat.old item result seat.new }
+        ensures same { (seat.new.gate ≡ seat.old.gate) × (seat.new.producer ≡ seat.old.producer) }
+        ensures ends { SubmitEnds self.now seat.old item result seat.new }
     {
         if seat.count >= MOST {
             return Err((item, GateFault::TooMany));
@@ -111,19 +113,18 @@ impl Gate {
             number,
             item,
         };
-        match self.ring.push_as::<Adds, R>(rt, &mut seat.pass, command) {
-            Ok(()) => {
-                seat.count = number;
-                Ok(number)
-            }
-            Err(_) => Err((item, GateFault::Full)),
+        if !push(&self.ring, rt, &mut seat.pass, command) {
+            return Err((item, GateFault::Full));
         }
+        seat.count = number;
+        Ok(number)
     }
 
     /// Pulls the oldest command. There was none where the ring was empty at some moment of this call.
     pub fn pull<R: Wait>(&self, rt: &R, seat: &mut PullSeat) -> Option<Submitted>
         requires { seat.old.gate ≡ self.now.id }
-        ensures { PullEnds seat.old result seat.new }
+        ensures same { (seat.new.gate ≡ seat.old.gate) × (seat.new.producers ≡ seat.old.producers) }
+        ensures ends { PullEnds seat.old result seat.new }
     {
         match self.ring.pop_as::<Takes, R>(rt, &mut seat.pass) {
             Some(command) => {

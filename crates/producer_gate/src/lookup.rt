@@ -1,5 +1,5 @@
 //! Runs of steps on the board's words: an entry that is published, the last entry of a mark, and the seats of readers.
-ghost use Rattle.std.specs.Prelude.{◌≡◌, ◌<◌, ◌≤◌, [], ◌∷◌, ◌++◌, IfOk, length, map, replicate};
+ghost use Rattle.std.specs.Prelude.{◌≡◌, ◌<◌, ◌≤◌, [], ◌∷◌, ◌++◌, All, IfOk, length, map, replicate, vec_len};
 ghost use Rattle.std.specs.Arc.{arc_value};
 ghost use Rattle.producer_gate.specs.Boards.{new_reader};
 ghost use Rattle.producer_gate.specs.Entries.{entry_in, last_of};
@@ -63,6 +63,7 @@ pub(crate) fn readers_of(
     requires fresh { own_in place.old.me.0 ≡ [] }
     ensures place { IfOk result (λ _. IsAt (arc_value words.now).shared.table_id place.new × (place.new.me ≡ place.old.me)) }
     ensures readers { IfOk result (λ list. list.items ≡ replicate readers (new_reader place.old.table_id)) }
+    ensures own { IfOk result (λ list. All (λ r. r.board ≡ place.old.table_id) list.items × (vec_len list ≡ readers)) }
 {
     let mut list = Vec::with_capacity(alloc, readers as usize)?;
     for made in 0..readers {

@@ -1,15 +1,34 @@
-//! How the seats of a gate are made, and what is left of them at its end.
-ghost use Rattle.std.specs.Prelude.{◌≡◌, ◌==◌, ◌≤◌, All, IfOk, [], count_by, map, sum_by, vec_len};
-ghost use Rattle.crossbeam_queue.specs.Passes.{view, IsPassOf};
+//! How the seats of a gate are made, how one submits, and what is left of them at the end.
+ghost use Rattle.std.specs.Prelude.{◌≡◌, ◌==◌, ◌+◌, ◌<◌, ◌≤◌, All, IfOk, MatchBool, [], ◌∷◌, ◌++◌, count_by, length, map, sum_by, vec_len};
+ghost use Rattle.crossbeam_queue.specs.Fifo.{Held};
+ghost use Rattle.crossbeam_queue.specs.Passes.{view, IsPassOf, ruled_capacity};
 ghost use Rattle.producer_gate.specs.declared.knows.Knows.TheVariants.{Pulls, Submits};
 ghost use Rattle.producer_gate.specs.Commands.{named};
-ghost use Rattle.producer_gate.specs.Inside.{pulled_in};
+ghost use Rattle.producer_gate.specs.Inside.{items_in, pulled_in};
+ghost use Rattle.producer_gate.specs.Ring.{WasSo};
 ghost use Rattle.producer_gate.specs.Seats.{new_seat, new_seats, IsFront, left_of};
 ghost use Rattle.producer_gate.specs.Views.{IsPulling};
 
+use crate::command::Submitted;
 use crate::gate::Seat;
-use crate::knows::{Compares, Gives, Own, Ring, TakesIn};
+use crate::knows::{Adds, Compares, Gives, Own, Ring, TakesIn};
 use std::alloc::{AllocError, Global};
+use std::sync::Wait;
+
+/// Pushes the next command of a producer, and says whether the ring had room for it.
+pub(crate) fn push<R: Wait>(ring: &Ring, rt: &R, pass: &mut Own, command: Submitted) -> bool
+    requires pass { IsPassOf ring.now pass.old × (view pass.old ≡ Submits command.producer (items_in (view pass.old))) }
+    requires next { (length (items_in (view pass.old)) < 4096) × (command.number ≡ length (items_in (view pass.old)) + 1) }
+    ensures pass { IsPassOf ring.now pass.new × (pass.new.table_id ≡ pass.old.table_id) }
+    ensures pushed { MatchBool result
+        (view pass.new ≡ Submits command.producer (items_in (view pass.old) ++ command.item ∷ []))
+        ((view pass.new ≡ view pass.old) × Held (ruled_capacity ring.now) (WasSo (view pass.old))) }
+{
+    match ring.push_as::<Adds, R>(rt, pass, command) {
+        Ok(()) => true,
+        Err(_) => false,
+    }
+}
 
 // The seat of a producer whose pass knows nothing of it yet.
 fn seated(pass: Own, producer: u32) -> Seat
@@ -33,6 +52,7 @@ pub(crate) fn seats_of(
     requires { IsPassOf ring.now pull.old × (view pull.old ≡ Pulls 0 [] 0 []) }
     ensures pull { IfOk result (λ seats. IsPassOf ring.now pull.new × (view pull.new ≡ Pulls producers [] 0 [])) }
     ensures seats { IfOk result (λ seats. seats.items ≡ new_seats pull.new.table_id producers) }
+    ensures own { IfOk result (λ seats. All (λ s. s.gate ≡ pull.new.table_id) seats.items × (vec_len seats ≡ producers)) }
 {
     let mut seats = Vec::with_capacity(alloc, producers as usize)?;
     for made in 0..producers {

@@ -1,8 +1,8 @@
-use Rattle.std.proofs.Common.{◌≡◌, ℕ, ◌-◌, ◌≤◌, ◌==◌, length, map, count_by, ap, ◌∙◌, subst, arith}
+use Rattle.std.proofs.Common.{◌≡◌, ℕ, ◌-◌, ◌==◌, length, count_by, ap, ◌∙◌, arith}
 use Rattle.crossbeam_queue.specs.Passes.{view}
-use Rattle.producer_gate.specs.Commands.{of_producer, IsBeginning}
+use Rattle.producer_gate.specs.Commands.{of_producer}
 use Rattle.producer_gate.specs.Inside.{pulled_in, items_in}
-use Rattle.producer_gate.specs.Seats.{SeatState, left_of}
+use Rattle.producer_gate.specs.Seats.{left_of}
 use Rattle.producer_gate.proofs.RingCalls.{merges, learns, compared}
 use Rattle.producer_gate.proofs.Names.{count_is}
 use Rattle.producer_gate.proofs.settle.left_behind.Goals as goal

@@ -1,4 +1,4 @@
-use Rattle.std.proofs.Common.{◌≡◌, ◌∷◌, ◌∙◌}
+use Rattle.std.proofs.Common.{◌∷◌, ◌∙◌}
 use Rattle.producer_gate.proofs.Settles.{settled_more}
 use Rattle.producer_gate.proofs.settle.rest_of.Goals as goal
 

@@ -1,4 +1,4 @@
-use Rattle.std.proofs.Common.{◌≡◌, ap, sym, refl, ◌∙◌}
+use Rattle.std.proofs.Common.{refl, ◌∙◌}
 use Rattle.producer_gate.proofs.WordSteps.{begins}
 use Rattle.producer_gate.proofs.board.Board.new.Goals as goal
 

@@ -1,4 +1,4 @@
-use Rattle.std.proofs.Common.{◌≡◌, List, ap, ◌∙◌, map, sym, subst}
+use Rattle.std.proofs.Common.{List, ap, map, sym, subst}
 use mathlib.Core.List.{IsPrefix}
 use Rattle.producer_gate.specs.Entries.{Entry, entry_in}
 use Rattle.producer_gate.specs.Plays.{known_in}

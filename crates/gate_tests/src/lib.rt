@@ -1,0 +1,7 @@
+//! Tests of what the threads of a session share: the ring of the producers, and the board of outcomes. No other code stands here.
+#![tactic(auto)]
+
+#[cfg(test)]
+mod alone;
+#[cfg(test)]
+mod threads;
