@@ -91,9 +91,11 @@ given_decides : (w : World) (node : ℕ) (octets : List ℕ) → Decides (list_a
 given_decides w node octets = (
   λ e.
       let found = any_has (is_of node octets) w.given e in
-      let two = both (found.0.0 == node) (same_octets found.0.1.octets octets) found.1 in
-      (found.0.1, subst (λ (g : ℕ × Written). Contains w.given g) (ap (λ n. gift n found.0.1) ((Decides-eqb found.0.0 node).0 two.0)) found.2,
-        same_list found.0.1.octets octets two.1),
+      let two = both (found.0.0 == node) (same_octets found.0.1.octets octets) found.1 in (
+        found.0.1,
+        subst (λ (g : ℕ × Written). Contains w.given g) (ap (λ n. gift n found.0.1) ((Decides-eqb found.0.0 node).0 two.0)) found.2,
+        same_list found.0.1.octets octets two.1,
+      ),
   λ has. has_any (is_of node octets) (node, has.0) w.given has.1
       (of_both (node == node) (same_octets has.0.octets octets) ((Decides-eqb node node).1 refl)
       (ap (same_octets has.0.octets) (sym has.2) ∙ list_itself has.0.octets)),

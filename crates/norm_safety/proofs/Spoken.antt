@@ -209,10 +209,11 @@ symbol_true p range s at entry (Whole kind info octets) repair is h differ found
       head = object_head_fits p range s at.index object repair h (flags_fit kind info octets repair few).0;
       id = names;
       extensions = extensions_fit 5 (fti_of_object p object) (omega arith);
-    })
-    (speaks_of p range s at.index h index,
+    }) (
+      speaks_of p range s at.index h index,
       says_some P (entry_at s s.current.id at.index) entry (entry_told s at.index entry differ found)
-      (subst O (sym is) (encoded, refl, says_object p range kind info octets repair sized few)))
+          (subst O (sym is) (encoded, refl, says_object p range kind info octets repair sized few)),
+    )
 
 info_true : (p : Settings) → InRange p → (s : SenderState) (index : ℕ) (entry : Entry) (object : Object) (repair : ℕ) → entry.object ≡ object
     → SenderHolds p s → IsDistinct nat_eq (instance_ids s) → slice_get s.current.order index ≡ Some entry → IsSized p object
@@ -234,10 +235,11 @@ info_true p range s index entry (Whole kind (Some info) octets) repair is h diff
     (record {
       head = object_head_fits p range s index object repair h (flags_fit kind (Some info) octets repair few).0;
       extensions = extensions_fit 4 (fti_of_object p object) (omega arith);
-    })
-    (speaks_of p range s index h place,
+    }) (
+      speaks_of p range s index h place,
       says_some P (entry_at s s.current.id index) entry (entry_told s index entry differ found)
-      (subst O (sym is) (refl, says_object p range kind (Some info) octets repair sized few)))
+          (subst O (sym is) (refl, says_object p range kind (Some info) octets repair sized few)),
+    )
 
 -- a test of an entry's shape, by its index
 tested_at : (p : Settings) (order : List Entry) (i : ℕ) (test : Shape → Bool) (entry : Entry) → slice_get order i ≡ Some entry
@@ -279,9 +281,10 @@ squelch_true p range s h differ =
       id = (block, omega arith);
       extensions = record { each = tt; most = omega arith };
       invalid = tt;
-    })
-    (speaks_of p range s drop.index h h.index,
-      (s.current, current_found s.earlier s.current s.current refl differ, not_before_itself drop, h.block))
+    }) (
+      speaks_of p range s drop.index h h.index,
+      (s.current, current_found s.earlier s.current s.current refl differ, not_before_itself drop, h.block),
+    )
 
 -- the entry of which a test of a shape is true
 entry_with : (p : Settings) (order : List Entry) (i : ℕ) (test : Shape → Bool) → at_index (shapes_of p order) i false test ≡ true
@@ -327,7 +330,8 @@ flush_true p range s head at nodes h differ fits current source few =
       id = source_named p range found.0.object at.block at.symbol sized found.2;
       extensions = record { each = tt; most = omega arith };
       nodes = few;
-    })
-    (subst S (sym current) (speaks_of p range s at.index h index),
+    }) (
+      subst S (sym current) (speaks_of p range s at.index h index),
       ap (λ (id : ℕ). is_source (shapes_of p (order_of s id)) at) current
-      ∙ ap (λ (order : List Entry). is_source (shapes_of p order) at) (current_order s differ) ∙ source)
+          ∙ ap (λ (order : List Entry). is_source (shapes_of p order) at) (current_order s differ) ∙ source,
+    )
