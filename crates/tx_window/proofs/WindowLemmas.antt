@@ -99,7 +99,7 @@ some_receivers p (suc i) some = omega (arith, length-append (receivers_of p i) (
 
 pub begins : (p : Settings) → 1 ≤ p.receivers → (instance : ℕ) → Stands (empty_window p) (sender_opening p instance)
 unfolding last_from is_member
-begins p some = record {
+begins p some instance = record {
   dropped = refl;
   objects = refl;
   next = refl;
