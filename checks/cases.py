@@ -2,6 +2,7 @@
 import cases_asked
 import cases_backing_off                                        # noqa: F401
 import cases_heard                                              # noqa: F401
+import cases_ids                                                # noqa: F401
 import cases_needs                                              # noqa: F401
 import cases_receiver                                           # noqa: F401
 import cases_room                                               # noqa: F401

@@ -14,7 +14,7 @@ def which_messages_a_receiver_hears():
     r = Run().hears(2, wrong).hears(2, '[]').take(2, [40])
     r.hears(2, data(0, 0, 0, 'hx 1 0x41', l=1)).take(2, [41, 0, 0, 0, 0x41]).hears(2, data(0, 0, 0, 'hx 1 0x42', l=1, instance=8)).take(2, [41, 0, 0, 0, 0x42])
     r.hears(2, data(1, 0, 0, 'hx 1 0x43', l=1)).take(2, [40])
-    return receiver_look(r, 'shown_option (λ i. i ∷ []) r.instance ++ r.left ++ at_numbers r.point', [8, 7, 1, 0, 0])
+    return receiver_look(r, 'shown_option (λ i. i ∷ []) r.instance ++ r.known ∷ at_numbers r.point', [8, 0, 1, 0, 0])
 
 
 @small
@@ -60,7 +60,7 @@ def a_squelch_behind_whole_objects():
 @small
 def a_sequence_goes_on_in_another_instance():
     """The sequence number is the second pair of octets of a NACK."""
-    r, head = Run(), 'flat_map (λ (g : ℕ × List ℕ). take 4 g.1) w.given'
+    r, head = Run(), 'flat_map (λ (g : ℕ × Written). take 4 g.1.octets) w.given'
     for i, instance in enumerate((7, 8)):
         r.hears(2, data(1, 0, 0, 'hx 1 0x41', instance=instance)).tick(2, 0, [4, 1, 12, 0, 0, 0]).look(head, [0x14, 6, 0, i])
     return r

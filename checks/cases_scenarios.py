@@ -42,7 +42,7 @@ def what_a_restart_leaves():
     """The next send moment, the sequence number and the numbers of requests."""
     r = Run(gap=5000).data(1, 1000, [1, 0, 1]).tick(1, 1000, [2, 0, 0, 0, 0]).job('job.Mark', 1500, [5, 1, 0, 0, 0])
     r.job('(job.Restart 8)', 2000, [6, 8]).data(1, 3000, [1, 0, 1]).tick(1, 3000).tick(1, 5999).tick(1, 6000, [2, 0, 0, 0, 0])
-    r.look('flat_map (λ (g : ℕ × List ℕ). take 14 g.1) w.given', [0x12, 8, 0, 1, 0, 0, 0, 1, 0, 8, 64, 0x41, 0, 5])
+    r.look('flat_map (λ (g : ℕ × Written). take 14 g.1.octets) w.given', [0x12, 8, 0, 1, 0, 0, 0, 1, 0, 8, 64, 0x41, 0, 5])
     return r.news([22, 1, 3]).job('job.Mark', 7000, [5, 2, 0, 0, 0]).job('(job.Restart 7)', 7000, [7, 12, 7]).job('(job.Restart 8)', 7000, [7, 12, 8])
 
 

@@ -109,16 +109,6 @@ def refusals_of_commands():
 
 
 @small
-def ids_that_are_spent():
-    """An instance has 65,536 object ids: after 65,535 entries there is one more, and then none, for a stream neither."""
-    r = Run().data(1, 0, [1, 0, 1])
-    for order, job, gives in [('drop 1 (doubled 16 w.sender.current.order)', '(job.Data None (1 ∷ []))', [1, 65535, 1]),
-                              ('doubled 16 w.sender.current.order', '(job.Data None (1 ∷ []))', [7, 6]), ('doubled 16 w.sender.current.order', 'job.Open', [7, 6])]:
-        r.look('brief (world_step PROFILE (with_order (%s) w) (Commanded (record { producer = 1; number = 9 }) %s 0)).1' % (order, job), gives)
-    return r
-
-
-@small
 def a_stream_has_its_buffer():
     r = Run(octets=511, blocks=2).job('job.Open', 0, [7, 2, 512])
     return r

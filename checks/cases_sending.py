@@ -4,7 +4,7 @@ from steps import Run, nack, request, small
 
 def fti_of_given(r, gives):
     """The twelve octets behind the 20 of a DATA's head: EXT_FTI, which says L, E, B and max_n."""
-    return r.look('flat_map (λ (g : ℕ × List ℕ). take 12 (drop 20 g.1)) w.given', gives)
+    return r.look('flat_map (λ (g : ℕ × Written). take 12 (drop 20 g.1.octets)) w.given', gives)
 
 
 @small

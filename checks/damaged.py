@@ -78,7 +78,7 @@ def after_the_instance_was_left(run):
     """A hand-up of an instance that the node left comes again at the end."""
     for node, r in sorted(run['after']['receivers'].items()):
         mine = taken(run, int(node))
-        if r['left'] and mine and mine[0][0] < len(run['events']) // 2:
+        if r['instance'] not in (None, run['profile']['instance']) and mine and mine[0][0] < len(run['events']) // 2:
             return 'with_happened (again_at %d)' % mine[0][0], 1
 
 

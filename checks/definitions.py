@@ -7,7 +7,7 @@ A recorded run is a list of events with what each gave, and where the nodes stoo
 antt computes the defined steps, event by event, and compares each answer and the end state with the record: the proof of
 the statement "they never part" is `refl`. Nothing is proved or built of the crates, and no code of theirs is run.
 
-Without a flag the runs are compared. `--safe` evaluates the tests of lawfulness and safety along each run, `--cases` the
+Without a flag the runs are compared. `--safe` evaluates the tests of lawfulness and safety along each lawful run, `--cases` the
 small runs and values of checks/cases.py, `--damaged` the tests of safety on damaged runs, and `--errors` looks whether
 each deliberate error of checks/errors.py in a definition is noticed. `--journals` judges each recorded journal, which has to be
 accepted event by event, to end as recorded and to print the recorded text, and damaged ones, which have to be refused (with
@@ -82,17 +82,18 @@ def main():
     with tempfile.TemporaryDirectory() as scratch:
         try:
             space = Workspace(a.work or scratch)
+            lawful = [(n, r) for n, r in runs if r.get('lawful', True)]
             if a.errors:
                 import errors
                 said, differ = errors.look(space, runs, a.names)
             elif a.journals:
                 said, differ = judge(a)
             elif a.safe:
-                said, differ = compare(space, [], [(n, *terms.safe_case(n, r)) for n, r in runs])
+                said, differ = compare(space, [], [(n, *terms.safe_case(n, r)) for n, r in lawful])
             elif a.gate or a.damaged or a.cases:
                 import cases
                 import damaged
-                more = (cases.cases() if a.gate or a.cases else []) + (damaged.cases(runs) if a.gate or a.damaged else [])
+                more = (cases.cases() if a.gate or a.cases else []) + (damaged.cases(lawful) if a.gate or a.damaged else [])
                 said, differ = compare(space, [runs[i * len(runs) // 10] for i in range(10)] if a.gate else [], more)
                 if a.gate:
                     judged, refused = judge(a, 10)

@@ -10,7 +10,7 @@ from evaluating import Failed, Variant
 ERRORS = errors_sender.ERRORS + errors_receiver.ERRORS
 UNREAD = 'CANNOT BE READ'
 # the steps of a small run by which a definition of one kind of node is used; its sender is node 1
-STEPS = {errors_sender.S: r'Commanded|(Ticked|Delivered) 1 |NewsAsked|Pass ', errors_receiver.R: r'(Ticked|Delivered|UpTaken) [2-9]\b|Pass '}
+STEPS = {errors_sender.S: r'Commanded|(Ticked|Delivered) 1 |NewsAsked|Pass |is_no_index', errors_receiver.R: r'(Ticked|Delivered|UpTaken) [2-9]\b|Pass '}
 
 
 def look(space, runs, names, at_once=12):

@@ -13,7 +13,7 @@ ERRORS = [
     ('an open block has parity', O, 'Shapes', 'encoding_symbols s.cut block | false ↦ closed_in s block ]', 'encoding_symbols s.cut block | false ↦ encoding_symbols s.cut block ]'),
     # enqueuing, and room in the window
     ('a file loses its name', S, 'Commanding', 'enqueued p s by kind.File (Some name) bytes', 'enqueued p s by kind.File None bytes'),
-    ('an instance has an id more than 16 bits', S, 'Enqueuing', 'nat_le 65536 (next_index s)', 'nat_lt 65536 (next_index s)'),
+    ('an instance has an index more than 32 bits', S, 'Enqueuing', 'is_no_index index = nat_lt last_of_all index', 'is_no_index index = nat_lt (last_of_all + 1) index'),
     ('a stream is open before an info is too big', S, 'Enqueuing', '(nat_lt p.e (info_length info), InfoTooBig (info_length info))\n    ∷ (is_some (open_stream s), StreamOpen (last_index s))', '(is_some (open_stream s), StreamOpen (last_index s))\n    ∷ (nat_lt p.e (info_length info), InfoTooBig (info_length info))'),
     ('an info is too big before the octets are too many', S, 'Enqueuing', '(nat_lt p.octets (length octets), TooBig (length octets))\n    ∷ (nat_lt p.e (info_length info), InfoTooBig (info_length info))', '(nat_lt p.e (info_length info), InfoTooBig (info_length info))\n    ∷ (nat_lt p.octets (length octets), TooBig (length octets))'),
     ('a stream takes the octets that it has', S, 'Room', 'size_of p (Stream parts) = p.blocks * p.b * p.e', 'size_of p (Stream parts) = length (written parts)'),
@@ -35,7 +35,12 @@ ERRORS = [
     ('a seventeenth request is open', S, 'Marking', 'most_open = 16', 'most_open = 17'),
     ('a request is not satisfied as it is made', S, 'Marking', 'counted_anew s (settled more)', 'counted_anew s more'),
     # a restart
-    ('an id is used twice', S, 'Restarting', 'list_any (λ (i : Instance). i.id == id) (instances s)', 's.current.id == id'),
+    ('an id that lies no higher is taken', S, 'Restarting', 'nat_le (rise (first_id s) id) (rise (first_id s) s.current.id) ||', 's.current.id == id ||'),
+    ('the current id is taken again', S, 'Restarting', 'nat_le (rise (first_id s) id) (rise (first_id s) s.current.id)', 'nat_lt (rise (first_id s) id) (rise (first_id s) s.current.id)'),
+    ('ids rise from 0 on', S, 'Restarting', 'first_id s = elim s.earlier [ i ∷ earlier ↦ i.id | [] ↦ s.current.id ]', 'first_id s = 0'),
+    ('ids rise from the current one on', S, 'Restarting', 'first_id s = elim s.earlier [ i ∷ earlier ↦ i.id | [] ↦ s.current.id ]', 'first_id s = s.current.id'),
+    ('an id lies 32,768 above the first', S, 'Restarting', 'nat_lt most_rise (rise (first_id s) id)', 'nat_lt (most_rise + 1) (rise (first_id s) id)'),
+    ('an id does not lie 32,767 above the first', S, 'Restarting', 'nat_lt most_rise (rise (first_id s) id)', 'nat_le most_rise (rise (first_id s) id)'),
     ('a restart leaves wants', S, 'Restarting', '  wants = [];\n', ''),
     ('a restart leaves the round', S, 'Restarting', '  round = None;\n', ''),
     ('a restart leaves listings', S, 'Restarting', '  listings = unlisted p;\n', ''),

@@ -127,7 +127,7 @@ def rows(run):
     out = [('sender: ' + name, row) for name, row in out]
     for node, r in sorted((int(k), v) for k, v in run['after']['receivers'].items()):
         held = [n for i, b, ids in r['held'] for x in ids for n in (i, b, x)]
-        mine = [('instance', some(r['instance'])), ('left', r['left']), ('hand-up point', r['hand_up']), ('lost', r['lost']),
+        mine = [('instance', some(r['instance'])), ('known', [r['known']]), ('hand-up point', r['hand_up']), ('lost', r['lost']),
                 ('farthest', some(r['farthest'])), ('flush', some(r['flush'])), ('back-off', some(r['backoff'])), ('hold-off', some(r['holdoff'])),
                 ('due acknowledgement', some(r['due_ack'])), ('sequence', [r['sequence']]), ('held', held), ('infos', r['infos']), ('untaken', [r['untaken']])]
         out += [('node %d: %s' % (node, name), row) for name, row in mine]

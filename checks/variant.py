@@ -12,7 +12,7 @@ def put(path, text):
 
 # names that a changed text may need, and where they are
 NAMES = {
-    'Rattle.std.specs.Prelude': ['None', 'Some', 'true', 'false', 'not', '◌&&◌', '◌||◌', '◌+◌', '◌*◌', '◌%◌', 'max', 'min', 'length', 'map', 'filter', 'reverse', 'take',
+    'Rattle.std.specs.Prelude': ['◌==◌', 'None', 'Some', 'true', 'false', 'not', '◌&&◌', '◌||◌', '◌+◌', '◌*◌', '◌%◌', 'max', 'min', 'length', 'map', 'filter', 'reverse', 'take',
                                  'nat_lt', 'nat_le', '[]', '◌∷◌', '◌++◌'],
     'Rattle.std.specs.List': ['list_any'],
     'Rattle.fec_plan.specs.Partition': ['source_symbols'],

@@ -15,7 +15,7 @@ same_states (k ∷ ks) = ap (λ (states : List MarkState). kept_state k ∷ stat
 
 pub each_book_stands : EachBookStands
 each_book_stands = λ b. (
-  record (sender_opening defaults) {
+  record (sender_opening defaults 0) {
     listings = b.listings;
     requests = map named b.requests;
     untold_nodes = b.untold_nodes;

@@ -61,7 +61,7 @@ impl Book {
         requires some { 0 < length nodes.now }
         requires few { length nodes.now ≤ 16 }
         ensures begun { IfOk result (λ book. book ≡ begun_book nodes.now) }
-        ensures stands { IfOk result (λ book. (p : Settings) → nodes.now ≡ receivers_of p p.receivers → Stands book (sender_opening p)) }
+        ensures stands { IfOk result (λ book. (p : Settings) (instance : ℕ) → nodes.now ≡ receivers_of p p.receivers → Stands book (sender_opening p instance)) }
     {
         let untold = Vec::with_capacity(alloc, nodes.len())?;
         let listings = begun(alloc, nodes)?;

@@ -11,6 +11,3 @@ mod untold;
 
 pub use crate::book::Book;
 pub use norm_send_rules::{MarkFault, News, Outcome};
-
-#[cfg(test)]
-mod tests;

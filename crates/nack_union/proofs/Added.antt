@@ -8,12 +8,12 @@ use Rattle.std.proofs.lemmas.List.Concat.{flat_map-append}
 use Rattle.norm_base.specs.Settings.{Settings}
 use Rattle.fec_plan.specs.Partition.{stream_cut}
 use Rattle.fec_plan.specs.Points.{point}
-use Rattle.norm_ext.specs.Asking.{asked_counts}
+use Rattle.norm_ext.specs.Asking.{Named, named, asked_counts}
 use Rattle.norm_ext.specs.Requests.{Request}
 use Rattle.norm_order.specs.Sets.{is_member}
 use Rattle.norm_order.specs.Shapes.{Shape}
 use Rattle.norm_send_rules.specs.SenderState.{SenderState, Asked}
-use Rattle.norm_send_rules.specs.InWindow.{stands_behind, current_shapes, next_index}
+use Rattle.norm_send_rules.specs.InWindow.{stands_behind, current_shapes, next_index, last_index}
 use Rattle.norm_send_rules.specs.Asking.{wants_of, counts_of}
 use Rattle.norm_send_rules.specs.Closing.{greatest}
 use Rattle.norm_send_rules.specs.Hearing.{asked_now}
@@ -24,7 +24,7 @@ use Rattle.norm_send_rules.proofs.ClosingLemmas.{rise_more}
 use Rattle.nack_union.specs.Slots.{want_at, slot_of_want}
 use Rattle.nack_union.specs.Kept.{Marked, Kept, Stands, listed, shape_of_marked, admitted}
 use Rattle.nack_union.specs.Earliest.{lesser, earliest, earliest_with}
-use Rattle.nack_union.specs.Collected.{Collects}
+use Rattle.nack_union.specs.Collected.{Collects, asked_of}
 use Rattle.nack_union.specs.Adding.{IsPlanned, HasAsked, HasAdded, asks_slot, is_asked_slot}
 use Rattle.nack_union.proofs.Orders.{want_there}
 use Rattle.nack_union.proofs.Dropped.{behind_start, index_at}
@@ -60,7 +60,7 @@ some_object : Marked
 some_object = admitted (stream_cut 0 0 0) false
 
 -- what is asked for changes nothing else
-pub stands_added : (p : Settings) (s : SenderState) (old new : Kept) (requests : List Request) → Stands p old s → HasAdded p requests old new → Stands p new s
+pub stands_added : (p : Settings) (s : SenderState) (old new : Kept) (requests : List Named) → Stands p old s → HasAdded requests old new → Stands p new s
 stands_added p s old new requests st h = record {
   first = h.first ∙ st.first;
   whole = st.whole;
@@ -83,25 +83,25 @@ known_all : (n : ℕ) (xs ys : List Asked) → AllByRecursion (λ (a : Asked). a
 known_all n [] ys these those = those
 known_all n (x ∷ xs) ys these those = (these.0, known_all n xs ys these.1 those)
 
-known_now : (p : Settings) (s : SenderState) (requests : List Request) → AllByRecursion (λ (a : Asked). a.next ≤ next_index s) (map (asked_now p s) requests)
+known_now : (p : Settings) (s : SenderState) (requests : List Named) → AllByRecursion (λ (a : Asked). a.next ≤ next_index s) (map (asked_of p s) requests)
 known_now p s [] = tt
 known_now p s (r ∷ requests) = (omega arith, known_now p s requests)
 
 -- the least index of more requests
-later : (p : Settings) (s : SenderState) (found : Option ℕ) (asked : List Asked) (requests : List Request)
-    → earliest_with p found (map (λ (a : Asked). a.request) (asked ++ map (asked_now p s) requests)) ≡ earliest_with p (earliest_with p found (map (λ (a : Asked). a.request) asked)) requests
+later : (p : Settings) (s : SenderState) (found : Option ℕ) (asked : List Asked) (requests : List Named)
+    → earliest_with found (map (λ (a : Asked). a.request) (asked ++ map (asked_of p s) requests)) ≡ earliest_with (earliest_with found (map (λ (a : Asked). a.request) asked)) requests
 later p s found [] [] = refl
-later p s found [] (r ∷ requests) = later p s (lesser found (earliest p r)) [] requests
-later p s found (a ∷ asked) requests = later p s (lesser found (earliest p a.request)) asked requests
+later p s found [] (r ∷ requests) = later p s (lesser found (earliest r)) [] requests
+later p s found (a ∷ asked) requests = later p s (lesser found (earliest a.request)) asked requests
 
 -- A union that collected what was asked, to which requests were added.
-module _ (p : Settings) (s : SenderState) (old new : Kept) (asked : List Asked) (requests : List Request)
-    (st : Stands p old s) (planned : AllByRecursion IsPlanned old.objects) (col : Collects p old s asked) (h : HasAdded p requests old new) where
+module _ (p : Settings) (s : SenderState) (old new : Kept) (asked : List Asked) (requests : List Named)
+    (st : Stands p old s) (planned : AllByRecursion IsPlanned old.objects) (col : Collects p old s asked) (h : HasAdded requests old new) where
   abbrev more : List Asked
-  more = map (asked_now p s) requests
+  more = map (asked_of p s) requests
 
   abbrev wants : Asked → List Want
-  wants = wants_of p (current_shapes p s)
+  wants = wants_of (current_shapes p s)
 
   abbrev behind : Want → Bool
   behind = stands_behind s.current.drop
@@ -117,7 +117,7 @@ module _ (p : Settings) (s : SenderState) (old new : Kept) (asked : List Asked) 
 
   new_at : (k a : ℕ) (d : Marked) → k < length old.objects
       → is_member want_before (want_at (old.first + k) a) (collected new)
-      ≡ (is_member nat_lt a (get_or old.objects k d).asked || is_asked_slot p requests (old.first + k) (get_or old.objects k d) a)
+      ≡ (is_member nat_lt a (get_or old.objects k d).asked || is_asked_slot requests (old.first + k) (get_or old.objects k d) a)
   new_at k a d lt =
       ap (λ i. is_member want_before (want_at (i + k) a) (collected new)) (sym h.first)
       ∙ member_at (λ m. m.asked) new.first k a new.objects d (let many = h.objects in omega (arith, many, lt))
@@ -135,13 +135,13 @@ module _ (p : Settings) (s : SenderState) (old new : Kept) (asked : List Asked) 
       go (inr none) = absurd none
 
   -- what a request adds
-  from_request : (k a : ℕ) → k < length old.objects → (r : Request) → In r requests → asks_slot p r (old.first + k) (get_or old.objects k some_object) a ≡ true
+  from_request : (k a : ℕ) → k < length old.objects → (r : Named) → In r requests → asks_slot r (old.first + k) (get_or old.objects k some_object) a ≡ true
       → In (want_at (old.first + k) a) (filter behind (flat_map wants (asked ++ more)))
   from_request k a lt r here asks =
       filter_in behind (want_at (old.first + k) a) (flat_map wants (asked ++ more))
       (subst (In (want_at (old.first + k) a)) (sym (flat_map-append wants asked more))
       (in_right (want_at (old.first + k) a) (flat_map wants asked) (flat_map wants more)
-      (flat_in wants (want_at (old.first + k) a) (asked_now p s r) more (map_in (asked_now p s) r requests here)
+      (flat_in wants (want_at (old.first + k) a) (asked_of p s r) more (map_in (asked_of p s) r requests here)
       (slot_in p s old r some_object st planned k a lt asks))))
       (behind_start s.current.drop (want_at (old.first + k) a) st.whole (let f = st.first in let g = index_at (old.first + k) a in omega (arith, f, g)))
 
@@ -157,16 +157,16 @@ module _ (p : Settings) (s : SenderState) (old new : Kept) (asked : List Asked) 
           lt : k < length old.objects
           lt = let many = h.objects in omega (arith, less, many)
 
-          by : (is_member nat_lt a (get_or old.objects k some_object).asked ≡ true) ⊎ (is_asked_slot p requests (old.first + k) (get_or old.objects k some_object) a ≡ true)
+          by : (is_member nat_lt a (get_or old.objects k some_object).asked ≡ true) ⊎ (is_asked_slot requests (old.first + k) (get_or old.objects k some_object) a ≡ true)
               → In (want_at (old.first + k) a) (filter behind (flat_map wants (asked ++ more)))
           by (inl before) = from_old (want_at (old.first + k) a) (found_in (want_at (old.first + k) a) (collected old) (old_at k a some_object lt ∙ before))
           by (inr now) =
-              let r = any_in (λ r. asks_slot p r (old.first + k) (get_or old.objects k some_object) a) requests now in
+              let r = any_in (λ r. asks_slot r (old.first + k) (get_or old.objects k some_object) a) requests now in
               from_request k a lt r.0 r.1 r.2
 
   -- what stands at a slot that was collected, or that is asked for now
   found_at : (k a : ℕ) → k < length old.objects
-      → (is_member nat_lt a (get_or old.objects k some_object).asked || is_asked_slot p requests (old.first + k) (get_or old.objects k some_object) a) ≡ true
+      → (is_member nat_lt a (get_or old.objects k some_object).asked || is_asked_slot requests (old.first + k) (get_or old.objects k some_object) a) ≡ true
       → In (want_at (old.first + k) a) (collected new)
   found_at k a lt e = found_in (want_at (old.first + k) a) (collected new) (new_at k a some_object lt ∙ e)
 
@@ -176,15 +176,15 @@ module _ (p : Settings) (s : SenderState) (old new : Kept) (asked : List Asked) 
       go : (k : ℕ) × (a : ℕ) × (k < length old.objects) × (w ≡ want_at (old.first + k) a) → In w (collected new)
       go (k, a, lt, same) =
           subst (λ v. In v (collected new)) (sym same)
-          (found_at k a lt (ap (λ b. b || is_asked_slot p requests (old.first + k) (get_or old.objects k some_object) a)
+          (found_at k a lt (ap (λ b. b || is_asked_slot requests (old.first + k) (get_or old.objects k some_object) a)
           (sym (old_at k a some_object lt) ∙ is_found (want_at (old.first + k) a) (collected old) rise_old (subst (λ v. In v (collected old)) same here))))
 
-  back_request : (w : Want) (r : Request) → In r requests → AsksAt p old r some_object w → In w (collected new)
+  back_request : (w : Want) (r : Named) → In r requests → AsksAt old r some_object w → In w (collected new)
   back_request w r here at =
       subst (λ v. In v (collected new)) (want_there (old.first + at.place) w at.named at.index)
       (found_at at.place (slot_of_want w) at.within
       (of_right (is_member nat_lt (slot_of_want w) (get_or old.objects at.place some_object).asked) _
-      (in_any (λ r. asks_slot p r (old.first + at.place) (get_or old.objects at.place some_object) (slot_of_want w)) requests r here at.asks)))
+      (in_any (λ r. asks_slot r (old.first + at.place) (get_or old.objects at.place some_object) (slot_of_want w)) requests r here at.asks)))
 
   back : (w : Want) → In w (filter behind (flat_map wants (asked ++ more))) → In w (collected new)
   back w here = by (in_filter behind w (flat_map wants (asked ++ more)) here)
@@ -194,20 +194,20 @@ module _ (p : Settings) (s : SenderState) (old new : Kept) (asked : List Asked) 
           back_old w (subst (In w) (sym col.named) (set_in w (filter behind (flat_map wants asked)) [] (inl (filter_in behind w (flat_map wants asked) before passes))))
       go passes (inr now) =
           let a = in_flat wants w more now in
-          let r = in_map (asked_now p s) a.0 requests a.1 in
+          let r = in_map (asked_of p s) a.0 requests a.1 in
           back_request w r.0 r.1 (in_slot p s old r.0 some_object st planned w (subst (λ (x : Asked). In w (wants x)) r.2 a.2) passes)
 
       by : In w (flat_map wants (asked ++ more)) × (behind w ≡ true) → In w (collected new)
       by (all, passes) = go passes (in_either w (flat_map wants asked) (flat_map wants more) (subst (In w) (flat_map-append wants asked more) all))
 
   count_is : (k : ℕ) (d : Marked) → k < length old.objects → (block : ℕ)
-      → get_or (get_or new.objects k d).counts block 0 ≡ greatest (flat_map (counts_of p (current_shapes p s)) (asked ++ more)) (point (old.first + k) block)
+      → get_or (get_or new.objects k d).counts block 0 ≡ greatest (flat_map (counts_of (current_shapes p s)) (asked ++ more)) (point (old.first + k) block)
   count_is k d lt block =
       go (cases_lt block (length (get_or old.objects k d).counts))
-      ∙ sym (greatest_both (flat_map (counts_of p (current_shapes p s)) asked) (flat_map (counts_of p (current_shapes p s)) more) (point (old.first + k) block))
-      ∙ ap (λ cs. greatest cs (point (old.first + k) block)) (sym (flat_map-append (counts_of p (current_shapes p s)) asked more))
+      ∙ sym (greatest_both (flat_map (counts_of (current_shapes p s)) asked) (flat_map (counts_of (current_shapes p s)) more) (point (old.first + k) block))
+      ∙ ap (λ cs. greatest cs (point (old.first + k) block)) (sym (flat_map-append (counts_of (current_shapes p s)) asked more))
     where
-      each : HasAsked p requests (old.first + k) (get_or old.objects k d) (get_or new.objects k d)
+      each : HasAsked requests (old.first + k) (get_or old.objects k d) (get_or new.objects k d)
       each = h.each k d lt
 
       plan : IsPlanned (get_or old.objects k d)
@@ -215,11 +215,11 @@ module _ (p : Settings) (s : SenderState) (old new : Kept) (asked : List Asked) 
 
       go : (block < length (get_or old.objects k d).counts) ⊎ (length (get_or old.objects k d).counts ≤ block)
           → get_or (get_or new.objects k d).counts block 0
-          ≡ max (greatest (flat_map (counts_of p (current_shapes p s)) asked) (point (old.first + k) block)) (greatest (flat_map (counts_of p (current_shapes p s)) more) (point (old.first + k) block))
+          ≡ max (greatest (flat_map (counts_of (current_shapes p s)) asked) (point (old.first + k) block)) (greatest (flat_map (counts_of (current_shapes p s)) more) (point (old.first + k) block))
       go (inl less) =
           each.counts block less
-          ∙ ap (λ n. max n (greatest (flat_map (asked_counts p) requests) (point (old.first + k) block))) (col.counts k d lt block)
-          ∙ ap (max (greatest (flat_map (counts_of p (current_shapes p s)) asked) (point (old.first + k) block)))
+          ∙ ap (λ n. max n (greatest (flat_map asked_counts requests) (point (old.first + k) block))) (col.counts k d lt block)
+          ∙ ap (max (greatest (flat_map (counts_of (current_shapes p s)) asked) (point (old.first + k) block)))
           (sym (all_kept p s old d st planned requests k block lt (let all = plan.counts in omega (arith, less, all))))
       go (inr past) =
           let here = get_or_past (get_or new.objects k d).counts block 0 (let many = each.blocks in omega (arith, past, many)) in
@@ -231,10 +231,18 @@ module _ (p : Settings) (s : SenderState) (old new : Kept) (asked : List Asked) 
   -- Requests that were added as they came are collected.
   pub collects_more : Collects p new s (asked ++ more)
   collects_more = record {
-    earliest = h.earliest ∙ ap (λ found. earliest_with p found requests) col.earliest ∙ sym (later p s None asked requests);
+    earliest = h.earliest ∙ ap (λ found. earliest_with found requests) col.earliest ∙ sym (later p s None asked requests);
     known = known_all (next_index s) asked more col.known (known_now p s requests);
     named = sym (rising_self (collected new) h.rise) ∙ same_set (collected new) (filter behind (flat_map wants (asked ++ more))) [] there back;
     counts = λ k d lt block.
         count_is k d (let many = h.objects in omega (arith, lt, many)) block
-        ∙ ap (λ i. greatest (flat_map (counts_of p (current_shapes p s)) (asked ++ more)) (point (i + k) block)) (sym h.first);
+        ∙ ap (λ i. greatest (flat_map (counts_of (current_shapes p s)) (asked ++ more)) (point (i + k) block)) (sym h.first);
   }
+
+-- what requests name, as the order stands
+pub named_then_asked : (p : Settings) (s : SenderState) (known : ℕ) (requests : List Request) → known ≡ last_index s
+    → map (asked_of p s) (map (named p known) requests) ≡ map (asked_now p s) requests
+named_then_asked p s known [] is = refl
+named_then_asked p s known (r ∷ requests) is =
+    ap (λ (n : ℕ). asked_of p s (named p n r) ∷ map (asked_of p s) (map (named p known) requests)) is
+    ∙ ap (λ (asked : List Asked). asked_now p s r ∷ asked) (named_then_asked p s known requests is)

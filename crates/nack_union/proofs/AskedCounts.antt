@@ -7,14 +7,13 @@ use Rattle.std.proofs.lemmas.Bool.Decides.{Decides-eqb, Decides-and}
 use Rattle.norm_base.specs.Settings.{Settings}
 use Rattle.fec_plan.specs.Partition.{IsSound, blocks}
 use Rattle.fec_plan.specs.Points.{Point, point, point_before, position, same_point}
-use Rattle.norm_ext.specs.Asking.{Count, asked_counts}
-use Rattle.norm_ext.specs.Requests.{Request}
+use Rattle.norm_ext.specs.Asking.{Named, Count, asked_counts}
 use Rattle.norm_order.specs.Shapes.{closed_in}
 use Rattle.norm_send_rules.specs.SenderState.{SenderState, Asked}
 use Rattle.norm_send_rules.specs.InWindow.{current_shapes}
 use Rattle.norm_send_rules.specs.Asking.{as_it_came, counts_of, is_kept}
 use Rattle.norm_send_rules.specs.Closing.{greatest}
-use Rattle.norm_send_rules.specs.Hearing.{asked_now}
+use Rattle.nack_union.specs.Collected.{asked_of}
 use Rattle.norm_send_rules.specs.declared.want.Want.TheVariants.{Symbol}
 use Rattle.fec_plan.proofs.PartitionLemmas.{some_sources}
 use Rattle.nack_union.specs.Kept.{Marked, Kept, Stands, shape_of_marked}
@@ -75,11 +74,11 @@ kept_there kept at (c ∷ counts) e = go (kept c.of) (same_point c.of at) refl r
 
 -- A union that stands for a state, at whose moment requests come.
 module _ (p : Settings) (s : SenderState) (u : Kept) (d : Marked) (st : Stands p u s) (planned : AllByRecursion IsPlanned u.objects) where
-  abbrev kept_at : Request → Point → Bool
-  kept_at r at = is_kept (as_it_came (asked_now p s r) (current_shapes p s)) s.current.drop at
+  abbrev kept_at : Named → Point → Bool
+  kept_at r at = is_kept (as_it_came (asked_of p s r) (current_shapes p s)) s.current.drop at
 
   -- a block of the window is kept
-  block_kept : (r : Request) (k block : ℕ) → k < length u.objects → block < blocks (get_or u.objects k d).cut → kept_at r (point (u.first + k) block) ≡ true
+  block_kept : (r : Named) (k block : ℕ) → k < length u.objects → block < blocks (get_or u.objects k d).cut → kept_at r (point (u.first + k) block) ≡ true
   block_kept r k block lt less =
       go _ _ (behind_start s.current.drop (Symbol (position (u.first + k) block 0)) st.whole (let f = st.first in omega (arith, f)))
       (test_at p s u r d st planned k lt (λ x. nat_lt 0 (closed_in x block))
@@ -93,30 +92,30 @@ module _ (p : Settings) (s : SenderState) (u : Kept) (d : Marked) (st : Stands p
       go false c e f = absurd (cc)
 
   -- so that of such a block the rules keep all counts
-  pub all_kept : (requests : List Request) (k block : ℕ) → k < length u.objects → block < blocks (get_or u.objects k d).cut
-      → greatest (flat_map (counts_of p (current_shapes p s)) (map (asked_now p s) requests)) (point (u.first + k) block)
-      ≡ greatest (flat_map (asked_counts p) requests) (point (u.first + k) block)
+  pub all_kept : (requests : List Named) (k block : ℕ) → k < length u.objects → block < blocks (get_or u.objects k d).cut
+      → greatest (flat_map (counts_of (current_shapes p s)) (map (asked_of p s) requests)) (point (u.first + k) block)
+      ≡ greatest (flat_map asked_counts requests) (point (u.first + k) block)
   all_kept [] k block lt less = refl
   all_kept (r ∷ requests) k block lt less =
-      greatest_both (counts_of p (current_shapes p s) (asked_now p s r)) (flat_map (counts_of p (current_shapes p s)) (map (asked_now p s) requests)) (point (u.first + k) block)
-      ∙ ap (λ cs. max (most cs) (greatest (flat_map (counts_of p (current_shapes p s)) (map (asked_now p s) requests)) (point (u.first + k) block)))
-      (kept_there (kept_at r) (point (u.first + k) block) (asked_counts p r) (block_kept r k block lt less))
-      ∙ ap (max (greatest (asked_counts p r) (point (u.first + k) block))) (all_kept requests k block lt less)
-      ∙ sym (greatest_both (asked_counts p r) (flat_map (asked_counts p) requests) (point (u.first + k) block))
+      greatest_both (counts_of (current_shapes p s) (asked_of p s r)) (flat_map (counts_of (current_shapes p s)) (map (asked_of p s) requests)) (point (u.first + k) block)
+      ∙ ap (λ cs. max (most cs) (greatest (flat_map (counts_of (current_shapes p s)) (map (asked_of p s) requests)) (point (u.first + k) block)))
+      (kept_there (kept_at r) (point (u.first + k) block) (asked_counts r) (block_kept r k block lt less))
+      ∙ ap (max (greatest (asked_counts r) (point (u.first + k) block))) (all_kept requests k block lt less)
+      ∙ sym (greatest_both (asked_counts r) (flat_map asked_counts requests) (point (u.first + k) block))
 
   -- and of one that the object has not, none
-  pub none_past : (requests : List Request) (k block : ℕ) → k < length u.objects → blocks (get_or u.objects k d).cut ≤ block
-      → greatest (flat_map (counts_of p (current_shapes p s)) (map (asked_now p s) requests)) (point (u.first + k) block) ≡ 0
+  pub none_past : (requests : List Named) (k block : ℕ) → k < length u.objects → blocks (get_or u.objects k d).cut ≤ block
+      → greatest (flat_map (counts_of (current_shapes p s)) (map (asked_of p s) requests)) (point (u.first + k) block) ≡ 0
   none_past requests k block lt past = go (cases_lt 0 (greatest counts (point (u.first + k) block)))
     where
       counts : List Count
-      counts = flat_map (counts_of p (current_shapes p s)) (map (asked_now p s) requests)
+      counts = flat_map (counts_of (current_shapes p s)) (map (asked_of p s) requests)
 
       second : (b c : Bool) → (b && c) ≡ true → c ≡ true
       second true c e = e
       second false c e = absurd (cc)
 
-      refuted : (r : Request) → kept_at r (point (u.first + k) block) ≡ true → ⊥
+      refuted : (r : Named) → kept_at r (point (u.first + k) block) ≡ true → ⊥
       refuted r e =
           let some = ltb-true 0 (closed_in (shape_of_marked (get_or u.objects k d)) block) (sym (test_at p s u r d st planned k lt (λ x. nat_lt 0 (closed_in x block))) ∙ second (not (point_before (point (u.first + k) block) s.current.drop)) _ e) in
           let none = closed_past (get_or u.objects k d) block (all_at u.objects k d planned lt).sound past in
@@ -125,9 +124,9 @@ module _ (p : Settings) (s : SenderState) (u : Kept) (d : Marked) (st : Stands p
       go : (0 < greatest counts (point (u.first + k) block)) ⊎ (greatest counts (point (u.first + k) block) ≤ 0) → greatest counts (point (u.first + k) block) ≡ 0
       go (inl some) =
           let c = some_greatest counts (point (u.first + k) block) some in
-          let a = in_flat (counts_of p (current_shapes p s)) c.0 (map (asked_now p s) requests) c.1 in
-          let r = in_map (asked_now p s) a.0 requests a.1 in
-          let of : In c.0 (counts_of p (current_shapes p s) (asked_now p s r.0)) = subst (λ (x : Asked). In c.0 (counts_of p (current_shapes p s) x)) r.2 a.2 in
-          let kept = (in_filter (λ (c : Count). kept_at r.0 c.of) c.0 (asked_counts p r.0) of).1 in
+          let a = in_flat (counts_of (current_shapes p s)) c.0 (map (asked_of p s) requests) c.1 in
+          let r = in_map (asked_of p s) a.0 requests a.1 in
+          let of : In c.0 (counts_of (current_shapes p s) (asked_of p s r.0)) = subst (λ (x : Asked). In c.0 (counts_of (current_shapes p s) x)) r.2 a.2 in
+          let kept = (in_filter (λ (c : Count). kept_at r.0 c.of) c.0 (asked_counts r.0) of).1 in
           absurd (refuted r.0 (sym (ap (kept_at r.0) c.2) ∙ kept))
       go (inr none) = omega (arith, none)

@@ -7,13 +7,12 @@ use Rattle.norm_base.specs.Settings.{Settings}
 use Rattle.fec_plan.specs.Partition.{IsSound, blocks, source_symbols, encoding_symbols}
 use Rattle.fec_plan.specs.Points.{position}
 use Rattle.fec_plan.specs.declared.position.Position.{Position}
-use Rattle.norm_ext.specs.Asking.{asks_source, asks_info, asked_symbols}
-use Rattle.norm_ext.specs.Requests.{Request}
+use Rattle.norm_ext.specs.Asking.{Named, asks_source, asks_info, asked_symbols}
 use Rattle.norm_order.specs.Shapes.{Shape, closed_in, closed_blocks, encoded_in, at_index, is_encoded, has_info}
 use Rattle.norm_send_rules.specs.SenderState.{SenderState}
 use Rattle.norm_send_rules.specs.InWindow.{current_shapes, stands_behind}
 use Rattle.norm_send_rules.specs.Asking.{all_sources, as_it_came, wants_of}
-use Rattle.norm_send_rules.specs.Hearing.{asked_now}
+use Rattle.nack_union.specs.Collected.{asked_of}
 use Rattle.norm_send_rules.specs.Wants.{want_index}
 use Rattle.norm_send_rules.specs.declared.want.Want.{Want}
 use Rattle.norm_send_rules.specs.declared.want.Want.TheVariants.{Info, Symbol}
@@ -32,36 +31,36 @@ use Rattle.nack_union.proofs.Windows.{within_order}
 use Rattle.nack_union.proofs.NamedSymbols.{clash, both_of, of_both, one_of, of_left, of_right, slot_asks, named_in, in_named}
 
 -- a place of the window whose slot a request asks for by name
-pub record AsksAt (p : Settings) (u : Kept) (r : Request) (d : Marked) (w : Want) : Type 0 where
+pub record AsksAt (u : Kept) (r : Named) (d : Marked) (w : Want) : Type 0 where
   pub place : ℕ
   pub within : place < length u.objects
   pub index : want_index w ≡ u.first + place
   pub named : IsNamed w
-  pub asks : asks_slot p r (u.first + place) (get_or u.objects place d) (slot_of_want w) ≡ true
+  pub asks : asks_slot r (u.first + place) (get_or u.objects place d) (slot_of_want w) ≡ true
 
 -- A union that stands for a state, at whose moment a request comes.
-module _ (p : Settings) (s : SenderState) (u : Kept) (r : Request) (d : Marked) (st : Stands p u s) (planned : AllByRecursion IsPlanned u.objects) where
+module _ (p : Settings) (s : SenderState) (u : Kept) (r : Named) (d : Marked) (st : Stands p u s) (planned : AllByRecursion IsPlanned u.objects) where
   abbrev came : List Shape
-  came = as_it_came (asked_now p s r) (current_shapes p s)
+  came = as_it_came (asked_of p s r) (current_shapes p s)
 
   abbrev of_sources : List Want
-  of_sources = map Symbol (filter (asks_source p r) (all_sources 0 came))
+  of_sources = map Symbol (filter (asks_source r) (all_sources 0 came))
 
   abbrev of_named : List Want
-  of_named = map Symbol (filter (is_encoded came) (asked_symbols p r))
+  of_named = map Symbol (filter (is_encoded came) (asked_symbols r))
 
   abbrev of_infos : List Want
-  of_infos = map Info (filter (λ index. has_info came index && asks_info p r index) (range_with_len 0 (length came)))
+  of_infos = map Info (filter (λ index. has_info came index && asks_info r index) (range_with_len 0 (length came)))
 
   -- what a test says of an object of the window
   pub test_at : (k : ℕ) → k < length u.objects → (test : Shape → Bool) → at_index came (u.first + k) false test ≡ test (shape_of_marked (get_or u.objects k d))
   test_at k lt test = ap (λ (o : Option Shape). elim o as (λ _. Bool) [ Some x ↦ test x | None ↦ false ]) (came_at p s u r k d st planned lt)
 
   source_in : (k : ℕ) (at : Position) → k < length u.objects → at.index ≡ u.first + k → at.block < blocks (get_or u.objects k d).cut
-      → at.symbol < source_symbols (get_or u.objects k d).cut at.block → asks_source p r at ≡ true → In (Symbol at) (wants_of p (current_shapes p s) (asked_now p s r))
+      → at.symbol < source_symbols (get_or u.objects k d).cut at.block → asks_source r at ≡ true → In (Symbol at) (wants_of (current_shapes p s) (asked_of p s r))
   source_in k at lt index block symbol asks =
       in_left (Symbol at) (of_sources ++ of_named) of_infos (in_left (Symbol at) of_sources of_named
-      (map_in Symbol at (filter (asks_source p r) (all_sources 0 came)) (filter_in (asks_source p r) at (all_sources 0 came)
+      (map_in Symbol at (filter (asks_source r) (all_sources 0 came)) (filter_in (asks_source r) at (all_sources 0 came)
       (all_sources_have 0 came at (u.first + k) (shape_of_marked m) (came_at p s u r k d st planned lt) (record {
         index_is = omega (arith, index);
         block = let all = blocks_closed m sound in omega (arith, block, all);
@@ -75,26 +74,26 @@ module _ (p : Settings) (s : SenderState) (u : Kept) (r : Request) (d : Marked) 
       sound = (all_at u.objects k d planned lt).sound
 
   encoded_there : (k : ℕ) (at : Position) → k < length u.objects → at.index ≡ u.first + k → at.block < blocks (get_or u.objects k d).cut
-      → at.symbol < encoding_symbols (get_or u.objects k d).cut at.block → names_symbol p r at ≡ true → In (Symbol at) (wants_of p (current_shapes p s) (asked_now p s r))
+      → at.symbol < encoding_symbols (get_or u.objects k d).cut at.block → names_symbol r at ≡ true → In (Symbol at) (wants_of (current_shapes p s) (asked_of p s r))
   encoded_there k at lt index block symbol names =
       in_left (Symbol at) (of_sources ++ of_named) of_infos (in_right (Symbol at) of_sources of_named
-      (map_in Symbol at (filter (is_encoded came) (asked_symbols p r)) (filter_in (is_encoded came) at (asked_symbols p r) (named_in p r at names)
+      (map_in Symbol at (filter (is_encoded came) (asked_symbols r)) (filter_in (is_encoded came) at (asked_symbols r) (named_in r at names)
       (ap (λ i. at_index came i false (λ x. nat_lt at.symbol (encoded_in x at.block))) index
       ∙ test_at k lt (λ x. nat_lt at.symbol (encoded_in x at.block))
       ∙ lt-ltb at.symbol (encoded_in (shape_of_marked (get_or u.objects k d)) at.block)
       (let all = encoded_is (get_or u.objects k d) at.block (all_at u.objects k d planned lt).sound block in omega (arith, symbol, all))))))
 
-  info_in : (k : ℕ) → k < length u.objects → ((get_or u.objects k d).info && asks_info p r (u.first + k)) ≡ true → In (Info (u.first + k)) (wants_of p (current_shapes p s) (asked_now p s r))
+  info_in : (k : ℕ) → k < length u.objects → ((get_or u.objects k d).info && asks_info r (u.first + k)) ≡ true → In (Info (u.first + k)) (wants_of (current_shapes p s) (asked_of p s r))
   info_in k lt asks =
       in_right (Info (u.first + k)) (of_sources ++ of_named) of_infos
-      (map_in Info (u.first + k) (filter (λ index. has_info came index && asks_info p r index) (range_with_len 0 (length came)))
-      (filter_in (λ index. has_info came index && asks_info p r index) (u.first + k) (range_with_len 0 (length came))
+      (map_in Info (u.first + k) (filter (λ index. has_info came index && asks_info r index) (range_with_len 0 (length came)))
+      (filter_in (λ index. has_info came index && asks_info r index) (u.first + k) (range_with_len 0 (length came))
       (range_in (u.first + k) 0 (length came) (omega arith) (let here = past_end came (u.first + k) (shape_of_marked (get_or u.objects k d)) (came_at p s u r k d st planned lt) in omega (arith, here)))
-      (ap (λ b. b && asks_info p r (u.first + k)) (test_at k lt (λ x. x.info)) ∙ asks)))
+      (ap (λ b. b && asks_info r (u.first + k)) (test_at k lt (λ x. x.info)) ∙ asks)))
 
   -- what a request asks for at a slot of the window, the rules want
-  pub slot_in : (k slot : ℕ) → k < length u.objects → asks_slot p r (u.first + k) (get_or u.objects k d) slot ≡ true
-      → In (want_at (u.first + k) slot) (wants_of p (current_shapes p s) (asked_now p s r))
+  pub slot_in : (k slot : ℕ) → k < length u.objects → asks_slot r (u.first + k) (get_or u.objects k d) slot ≡ true
+      → In (want_at (u.first + k) slot) (wants_of (current_shapes p s) (asked_of p s r))
   slot_in k zero lt asks = info_in k lt asks
   slot_in k (suc n) lt asks =
       let two = both_of _ _ asks in
@@ -105,9 +104,9 @@ module _ (p : Settings) (s : SenderState) (u : Kept) (r : Request) (d : Marked) 
       at = position (u.first + k) (n / 256) (n % 256)
 
       go : n / 256 < blocks (get_or u.objects k d).cut
-          → ((nat_lt at.symbol (source_symbols (get_or u.objects k d).cut at.block) && asks_source p r at) ≡ true)
-          ⊎ ((nat_lt at.symbol (encoding_symbols (get_or u.objects k d).cut at.block) && names_symbol p r at) ≡ true)
-          → In (Symbol at) (wants_of p (current_shapes p s) (asked_now p s r))
+          → ((nat_lt at.symbol (source_symbols (get_or u.objects k d).cut at.block) && asks_source r at) ≡ true)
+          ⊎ ((nat_lt at.symbol (encoding_symbols (get_or u.objects k d).cut at.block) && names_symbol r at) ≡ true)
+          → In (Symbol at) (wants_of (current_shapes p s) (asked_of p s r))
       go block (inl h) = let two = both_of _ _ h in source_in k at lt refl block (ltb-true at.symbol (source_symbols (get_or u.objects k d).cut at.block) two.0) two.1
       go block (inr h) = let two = both_of _ _ h in encoded_there k at lt refl block (ltb-true at.symbol (encoding_symbols (get_or u.objects k d).cut at.block) two.0) two.1
 
@@ -125,16 +124,16 @@ module _ (p : Settings) (s : SenderState) (u : Kept) (r : Request) (d : Marked) 
 
   symbol_asked : (k : ℕ) (at : Position) → k < length u.objects → at.index ≡ u.first + k → at.block < blocks (get_or u.objects k d).cut
       → at.symbol < encoding_symbols (get_or u.objects k d).cut at.block
-      → ((nat_lt at.symbol (source_symbols (get_or u.objects k d).cut at.block) && asks_source p r at) || (nat_lt at.symbol (encoding_symbols (get_or u.objects k d).cut at.block) && names_symbol p r at)) ≡ true
-      → AsksAt p u r d (Symbol at)
+      → ((nat_lt at.symbol (source_symbols (get_or u.objects k d).cut at.block) && asks_source r at) || (nat_lt at.symbol (encoding_symbols (get_or u.objects k d).cut at.block) && names_symbol r at)) ≡ true
+      → AsksAt u r d (Symbol at)
   symbol_asked k at lt index block symbol asks = record {
     place = k;
     within = lt;
     index = index;
     named = few;
     asks =
-        slot_asks p r (u.first + k) at.block at.symbol (get_or u.objects k d) few
-        ∙ ap (λ i. asks_symbol p r (get_or u.objects k d).cut (position i at.block at.symbol)) (sym index)
+        slot_asks r (u.first + k) at.block at.symbol (get_or u.objects k d) few
+        ∙ ap (λ i. asks_symbol r (get_or u.objects k d).cut (position i at.block at.symbol)) (sym index)
         ∙ of_both _ _ (lt-ltb at.block (blocks (get_or u.objects k d).cut) block) asks;
   }
     where
@@ -147,7 +146,7 @@ module _ (p : Settings) (s : SenderState) (u : Kept) (r : Request) (d : Marked) 
   same_some : (x y : Shape) → Some x ≡ Some y → x ≡ y
   same_some x y e = cc
 
-  from_source : (at : Position) → In at (all_sources 0 came) → asks_source p r at ≡ true → stands_behind s.current.drop (Symbol at) ≡ true → AsksAt p u r d (Symbol at)
+  from_source : (at : Position) → In at (all_sources 0 came) → asks_source r at ≡ true → stands_behind s.current.drop (Symbol at) ≡ true → AsksAt u r d (Symbol at)
   from_source at here asks behind =
       let found = in_all_sources 0 came at here in
       let in_order = past_end came found.0 found.1 found.2 in
@@ -156,7 +155,7 @@ module _ (p : Settings) (s : SenderState) (u : Kept) (r : Request) (d : Marked) 
       go place.0 place.1 place.2 found.1 (ap (slice_get came) (let e : u.first + place.0 ≡ found.0 = let f = place.2 in omega (arith, f, at_index-is) in e) ∙ found.2) found.3.block found.3.symbol
     where
       go : (k : ℕ) → k < length u.objects → at.index ≡ u.first + k → (x : Shape) → slice_get came (u.first + k) ≡ Some x
-          → at.block < closed_blocks x → at.symbol < closed_in x at.block → AsksAt p u r d (Symbol at)
+          → at.block < closed_blocks x → at.symbol < closed_in x at.block → AsksAt u r d (Symbol at)
       go k lt index x is block symbol =
           let shape = same_some x (shape_of_marked (get_or u.objects k d)) (sym is ∙ came_at p s u r k d st planned lt) in
           let sound = (all_at u.objects k d planned lt).sound in
@@ -165,12 +164,12 @@ module _ (p : Settings) (s : SenderState) (u : Kept) (r : Request) (d : Marked) 
           symbol_asked k at lt index block_lt (let fit = sources_fit (get_or u.objects k d).cut at.block sound in omega (arith, fit, symbol_lt))
           (of_left _ _ (of_both _ _ (lt-ltb at.symbol (source_symbols (get_or u.objects k d).cut at.block) symbol_lt) asks))
 
-  from_named : (at : Position) → In at (asked_symbols p r) → is_encoded came at ≡ true → stands_behind s.current.drop (Symbol at) ≡ true → AsksAt p u r d (Symbol at)
+  from_named : (at : Position) → In at (asked_symbols r) → is_encoded came at ≡ true → stands_behind s.current.drop (Symbol at) ≡ true → AsksAt u r d (Symbol at)
   from_named at here encoded behind =
       let place = place_of (Symbol at) (within_order came at.index (λ x. nat_lt at.symbol (encoded_in x at.block)) encoded) behind in
       go place.0 place.1 place.2 (cases_lt at.block (blocks (get_or u.objects place.0 d).cut))
     where
-      go : (k : ℕ) → k < length u.objects → at.index ≡ u.first + k → (at.block < blocks (get_or u.objects k d).cut) ⊎ (blocks (get_or u.objects k d).cut ≤ at.block) → AsksAt p u r d (Symbol at)
+      go : (k : ℕ) → k < length u.objects → at.index ≡ u.first + k → (at.block < blocks (get_or u.objects k d).cut) ⊎ (blocks (get_or u.objects k d).cut ≤ at.block) → AsksAt u r d (Symbol at)
       go k lt index side = by side
         where
           sound : IsSound (get_or u.objects k d).cut
@@ -180,14 +179,14 @@ module _ (p : Settings) (s : SenderState) (u : Kept) (r : Request) (d : Marked) 
           symbol = ltb-true at.symbol (encoded_in (shape_of_marked (get_or u.objects k d)) at.block)
               (sym (test_at k lt (λ x. nat_lt at.symbol (encoded_in x at.block))) ∙ ap (λ i. at_index came i false (λ x. nat_lt at.symbol (encoded_in x at.block))) (sym index) ∙ encoded)
 
-          by : (at.block < blocks (get_or u.objects k d).cut) ⊎ (blocks (get_or u.objects k d).cut ≤ at.block) → AsksAt p u r d (Symbol at)
+          by : (at.block < blocks (get_or u.objects k d).cut) ⊎ (blocks (get_or u.objects k d).cut ≤ at.block) → AsksAt u r d (Symbol at)
           by (inl block) =
               let symbol_lt : at.symbol < encoding_symbols (get_or u.objects k d).cut at.block = subst (λ n. at.symbol < n) (encoded_is (get_or u.objects k d) at.block sound block) symbol in
               symbol_asked k at lt index block symbol_lt
-              (of_right _ _ (of_both _ _ (lt-ltb at.symbol (encoding_symbols (get_or u.objects k d).cut at.block) symbol_lt) (in_named p r at here)))
+              (of_right _ _ (of_both _ _ (lt-ltb at.symbol (encoding_symbols (get_or u.objects k d).cut at.block) symbol_lt) (in_named r at here)))
           by (inr past) = let none = encoded_past (get_or u.objects k d) at.block sound past in absurd (omega (arith, none, symbol))
 
-  from_info : (i : ℕ) → (has_info came i && asks_info p r i) ≡ true → stands_behind s.current.drop (Info i) ≡ true → AsksAt p u r d (Info i)
+  from_info : (i : ℕ) → (has_info came i && asks_info r i) ≡ true → stands_behind s.current.drop (Info i) ≡ true → AsksAt u r d (Info i)
   from_info i asks behind =
       let place = place_of (Info i) (within_order came i (λ x. x.info) (both_of _ _ asks).0) behind in
       record {
@@ -196,27 +195,27 @@ module _ (p : Settings) (s : SenderState) (u : Kept) (r : Request) (d : Marked) 
         index = place.2;
         named = tt;
         asks =
-            ap (λ b. b && asks_info p r (u.first + place.0)) (sym (test_at place.0 place.1 (λ x. x.info)))
-            ∙ ap (λ j. has_info came j && asks_info p r j) (sym place.2) ∙ asks;
+            ap (λ b. b && asks_info r (u.first + place.0)) (sym (test_at place.0 place.1 (λ x. x.info)))
+            ∙ ap (λ j. has_info came j && asks_info r j) (sym place.2) ∙ asks;
       }
 
   -- what the rules want of a request behind the drop point, it asks for at a slot of the window
-  pub in_slot : (w : Want) → In w (wants_of p (current_shapes p s) (asked_now p s r)) → stands_behind s.current.drop w ≡ true → AsksAt p u r d w
+  pub in_slot : (w : Want) → In w (wants_of (current_shapes p s) (asked_of p s r)) → stands_behind s.current.drop w ≡ true → AsksAt u r d w
   in_slot w here behind = go (in_either w (of_sources ++ of_named) of_infos here)
     where
-      symbols : In w of_sources ⊎ In w of_named → AsksAt p u r d w
+      symbols : In w of_sources ⊎ In w of_named → AsksAt u r d w
       symbols (inl h) =
-          let at = in_map Symbol w (filter (asks_source p r) (all_sources 0 came)) h in
-          let both = in_filter (asks_source p r) at.0 (all_sources 0 came) at.1 in
-          subst (AsksAt p u r d) (sym at.2) (from_source at.0 both.0 both.1 (sym (ap (stands_behind s.current.drop) at.2) ∙ behind))
+          let at = in_map Symbol w (filter (asks_source r) (all_sources 0 came)) h in
+          let both = in_filter (asks_source r) at.0 (all_sources 0 came) at.1 in
+          subst (AsksAt u r d) (sym at.2) (from_source at.0 both.0 both.1 (sym (ap (stands_behind s.current.drop) at.2) ∙ behind))
       symbols (inr h) =
-          let at = in_map Symbol w (filter (is_encoded came) (asked_symbols p r)) h in
-          let both = in_filter (is_encoded came) at.0 (asked_symbols p r) at.1 in
-          subst (AsksAt p u r d) (sym at.2) (from_named at.0 both.0 both.1 (sym (ap (stands_behind s.current.drop) at.2) ∙ behind))
+          let at = in_map Symbol w (filter (is_encoded came) (asked_symbols r)) h in
+          let both = in_filter (is_encoded came) at.0 (asked_symbols r) at.1 in
+          subst (AsksAt u r d) (sym at.2) (from_named at.0 both.0 both.1 (sym (ap (stands_behind s.current.drop) at.2) ∙ behind))
 
-      go : In w (of_sources ++ of_named) ⊎ In w of_infos → AsksAt p u r d w
+      go : In w (of_sources ++ of_named) ⊎ In w of_infos → AsksAt u r d w
       go (inl h) = symbols (in_either w of_sources of_named h)
       go (inr h) =
-          let i = in_map Info w (filter (λ index. has_info came index && asks_info p r index) (range_with_len 0 (length came))) h in
-          let both = in_filter (λ index. has_info came index && asks_info p r index) i.0 (range_with_len 0 (length came)) i.1 in
-          subst (AsksAt p u r d) (sym i.2) (from_info i.0 both.1 (sym (ap (stands_behind s.current.drop) i.2) ∙ behind))
+          let i = in_map Info w (filter (λ index. has_info came index && asks_info r index) (range_with_len 0 (length came))) h in
+          let both = in_filter (λ index. has_info came index && asks_info r index) i.0 (range_with_len 0 (length came)) i.1 in
+          subst (AsksAt u r d) (sym i.2) (from_info i.0 both.1 (sym (ap (stands_behind s.current.drop) i.2) ∙ behind))

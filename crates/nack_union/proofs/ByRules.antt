@@ -32,7 +32,7 @@ use Rattle.nack_union.proofs.Collecting.{counted_from, named_first, block_repair
 
 -- the counts of a round that are kept, and the repairs that they ask for
 abbrev kept_counts : Settings → SenderState → List Asked → List Count
-kept_counts p s asked = flat_map (counts_of p (current_shapes p s)) asked
+kept_counts p s asked = flat_map (counts_of (current_shapes p s)) asked
 
 abbrev all_repairs : Settings → SenderState → List Asked → List Want
 all_repairs p s asked = flat_map (λ (c : Count). counted s (current_shapes p s) (kept_counts p s asked) c.of) (kept_counts p s asked)
@@ -144,13 +144,13 @@ by_rules p s u asked st col =
     ∙ same_set (counted_from s u.first u.objects) counts (with_members want_before named s.wants)
     (there p s u asked d st col) (back p s u asked d st col)
     ∙ sym (put_both want_before named counts s.wants)
-    ∙ ap (λ ws. with_members want_before ws s.wants) (sym (filter-append (stands_behind s.current.drop) (flat_map (wants_of p (current_shapes p s)) asked) (all_repairs p s asked)))
+    ∙ ap (λ ws. with_members want_before ws s.wants) (sym (filter-append (stands_behind s.current.drop) (flat_map (wants_of (current_shapes p s)) asked) (all_repairs p s asked)))
   where
     d : Marked
     d = admitted (stream_cut 0 0 0) false
 
     named : List Want
-    named = filter (stands_behind s.current.drop) (flat_map (wants_of p (current_shapes p s)) asked)
+    named = filter (stands_behind s.current.drop) (flat_map (wants_of (current_shapes p s)) asked)
 
     counts : List Want
     counts = filter (stands_behind s.current.drop) (all_repairs p s asked)

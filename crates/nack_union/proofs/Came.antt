@@ -9,13 +9,13 @@ use Rattle.norm_base.specs.Settings.{Settings}
 use Rattle.fec_plan.specs.Partition.{IsSound, all_symbols, symbol_number, source_symbols, blocks}
 use Rattle.fec_plan.specs.Points.{position}
 use Rattle.fec_plan.specs.declared.position.Position.{Position}
-use Rattle.norm_ext.specs.Requests.{Request}
+use Rattle.norm_ext.specs.Asking.{Named}
 use Rattle.norm_order.specs.Entries.{Entry}
 use Rattle.norm_order.specs.Shapes.{Shape, shape_of, closed_in, closed_blocks, last_in, last_from, last_source}
 use Rattle.norm_send_rules.specs.SenderState.{SenderState}
 use Rattle.norm_send_rules.specs.InWindow.{current_shapes, next_index}
 use Rattle.norm_send_rules.specs.Asking.{closed_at, shapes_at, as_it_came}
-use Rattle.norm_send_rules.specs.Hearing.{asked_now}
+use Rattle.nack_union.specs.Collected.{asked_of}
 use Rattle.fec_plan.proofs.PartitionLemmas.{some_sources, number_from_first, some_blocks_of}
 use Rattle.nack_union.specs.Kept.{Marked, Kept, Stands, shape_of_marked}
 use Rattle.nack_union.specs.Adding.{IsPlanned}
@@ -93,8 +93,8 @@ own_last m sound =
     whole all last first size is some le = omega (arith, is, some, le)
 
 -- each object of the window stands as it is
-pub came_at : (p : Settings) (s : SenderState) (u : Kept) (r : Request) (k : ℕ) (d : Marked) → Stands p u s → AllByRecursion IsPlanned u.objects → k < length u.objects
-    → slice_get (as_it_came (asked_now p s r) (current_shapes p s)) (u.first + k) ≡ Some (shape_of_marked (get_or u.objects k d))
+pub came_at : (p : Settings) (s : SenderState) (u : Kept) (r : Named) (k : ℕ) (d : Marked) → Stands p u s → AllByRecursion IsPlanned u.objects → k < length u.objects
+    → slice_get (as_it_came (asked_of p s r) (current_shapes p s)) (u.first + k) ≡ Some (shape_of_marked (get_or u.objects k d))
 came_at p s u r k d st planned lt =
     ap (λ shapes. slice_get (shapes_at (last_source (current_shapes p s)) 0 shapes) (u.first + k))
     (ap (λ n. take n (current_shapes p s)) (sym many) ∙ take_all (length (current_shapes p s)) (current_shapes p s) (omega arith))
@@ -144,7 +144,7 @@ came_at p s u r k d st planned lt =
     go true e = at_end end (let same = (Decides-eqb (u.first + end) (0 + (u.first + k))).0 e in omega (arith, same))
     go false e = later (nat_lt (u.first + end) (0 + (u.first + k))) (all_symbols (get_or u.objects k d).cut) (le-ltb (u.first + end) (0 + (u.first + k)) (omega (arith, lt)))
 
-pub length_came : (p : Settings) (s : SenderState) (r : Request) → length (as_it_came (asked_now p s r) (current_shapes p s)) ≡ next_index s
+pub length_came : (p : Settings) (s : SenderState) (r : Named) → length (as_it_came (asked_of p s r) (current_shapes p s)) ≡ next_index s
 length_came p s r =
     length-shapes_at (last_source (current_shapes p s)) 0 (take (next_index s) (current_shapes p s))
     ∙ ap length (ap (λ n. take n (current_shapes p s)) (sym many) ∙ take_all (length (current_shapes p s)) (current_shapes p s) (omega arith)) ∙ many

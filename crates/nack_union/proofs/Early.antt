@@ -4,11 +4,9 @@ use Rattle.std.specs.Prelude.{nat_lt, min, ◌&&◌, ◌||◌, ◌==◌}
 use Rattle.std.specs.List.{list_any}
 use Rattle.std.proofs.lemmas.Bool.{cases_lt, lt-ltb, le-ltb}
 use Rattle.std.proofs.Math.Bool.{or_assoc}
-use Rattle.norm_base.specs.Settings.{Settings}
 use Rattle.fec_plan.specs.Points.{Point, point, point_of, point_before}
 use Rattle.fec_plan.specs.declared.position.Position.{Position}
-use Rattle.norm_ext.specs.Asking.{has_flag, object_flag, info_flag}
-use Rattle.norm_ext.specs.Requests.{Request}
+use Rattle.norm_ext.specs.Asking.{Named, has_flag, object_flag, info_flag}
 use Rattle.norm_send_rules.specs.SenderState.{Asked}
 use Rattle.norm_send_rules.specs.Closing.{asks_early, gives_something, begins_at, counts_from}
 use Rattle.nack_union.specs.Earliest.{lesser, least_with, earliest, earliest_with, is_below_first}
@@ -67,24 +65,24 @@ any_by_index flags (at ∷ places) d whole =
     ∙ ap (λ t. point_before (counts_from flags at) d || t) (any_by_index flags places d whole)
 
 -- of one request
-below_earliest : (p : Settings) (d : Point) (r : Request) → d.block ≡ 0 → is_below_first (earliest p r) d.index ≡ asks_early p d r
-below_earliest p d r whole = go (gives_something r)
+below_earliest : (d : Point) (r : Named) → d.block ≡ 0 → is_below_first (earliest r) d.index ≡ asks_early d r
+below_earliest d r whole = go (gives_something r)
   where
-    go : (b : Bool) → is_below_first (elim b as (λ _. Option ℕ) [ true ↦ least_with None (map (λ (at : Position). at.index) (begins_at p r)) | false ↦ None ]) d.index
-        ≡ (b && list_any (λ at. point_before (counts_from r.flags at) d) (begins_at p r))
-    go true = below_least d.index None (map (λ (at : Position). at.index) (begins_at p r)) ∙ any_by_index r.flags (begins_at p r) d whole
+    go : (b : Bool) → is_below_first (elim b as (λ _. Option ℕ) [ true ↦ least_with None (map (λ (at : Position). at.index) (begins_at r)) | false ↦ None ]) d.index
+        ≡ (b && list_any (λ at. point_before (counts_from r.flags at) d) (begins_at r))
+    go true = below_least d.index None (map (λ (at : Position). at.index) (begins_at r)) ∙ any_by_index r.flags (begins_at r) d whole
     go false = refl
 
-below_all : (p : Settings) (d : Point) (found : Option ℕ) (asked : List Asked) → d.block ≡ 0
-    → is_below_first (earliest_with p found (map (λ (a : Asked). a.request) asked)) d.index ≡ (is_below_first found d.index || list_any (λ (a : Asked). asks_early p d a.request) asked)
-below_all p d found [] whole = sym (or_false (is_below_first found d.index))
-below_all p d found (a ∷ asked) whole =
-    below_all p d (lesser found (earliest p a.request)) asked whole
-    ∙ ap (λ t. t || list_any (λ (a : Asked). asks_early p d a.request) asked)
-    (below_lesser d.index found (earliest p a.request) ∙ ap (λ t. is_below_first found d.index || t) (below_earliest p d a.request whole))
-    ∙ or_assoc (is_below_first found d.index) (asks_early p d a.request) (list_any (λ (a : Asked). asks_early p d a.request) asked)
+below_all : (d : Point) (found : Option ℕ) (asked : List Asked) → d.block ≡ 0
+    → is_below_first (earliest_with found (map (λ (a : Asked). a.request) asked)) d.index ≡ (is_below_first found d.index || list_any (λ (a : Asked). asks_early d a.request) asked)
+below_all d found [] whole = sym (or_false (is_below_first found d.index))
+below_all d found (a ∷ asked) whole =
+    below_all d (lesser found (earliest a.request)) asked whole
+    ∙ ap (λ t. t || list_any (λ (a : Asked). asks_early d a.request) asked)
+    (below_lesser d.index found (earliest a.request) ∙ ap (λ t. is_below_first found d.index || t) (below_earliest d a.request whole))
+    ∙ or_assoc (is_below_first found d.index) (asks_early d a.request) (list_any (λ (a : Asked). asks_early d a.request) asked)
 
 -- of a round
-pub early_is : (p : Settings) (d : Point) (asked : List Asked) → d.block ≡ 0
-    → is_below_first (earliest_with p None (map (λ (a : Asked). a.request) asked)) d.index ≡ list_any (λ (a : Asked). asks_early p d a.request) asked
-early_is p d asked whole = below_all p d None asked whole
+pub early_is : (d : Point) (asked : List Asked) → d.block ≡ 0
+    → is_below_first (earliest_with None (map (λ (a : Asked). a.request) asked)) d.index ≡ list_any (λ (a : Asked). asks_early d a.request) asked
+early_is d asked whole = below_all d None asked whole

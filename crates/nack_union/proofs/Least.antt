@@ -1,62 +1,67 @@
 -- Items of requests one by one, and the least index from which a request counts.
-use Rattle.std.proofs.Common.{◌≡◌, ℕ, List, [], ◌∷◌, map, Bool, true, false, cond, Option, Some, None, refl, sym, ap, ◌∙◌}
-use Rattle.std.specs.Prelude.{filter, not}
+use Rattle.std.proofs.Common.{◌≡◌, ℕ, List, [], ◌∷◌, ◌++◌, map, Bool, true, false, cond, Option, Some, None, refl, sym, ap, ◌∙◌}
+use Rattle.std.specs.Prelude.{filter, flat_map}
 use Rattle.norm_base.specs.Settings.{Settings}
 use Rattle.fec_plan.specs.Points.{position_before}
 use Rattle.fec_plan.specs.declared.position.Position.{Position}
-use Rattle.norm_ext.specs.Asking.{Span, span, pairs, is_proper, named_by}
-use Rattle.norm_ext.specs.Items.{position_named}
+use Rattle.norm_ext.specs.Asking.{Span, span, pairs, pair_span, item_span, item_named, named_by, named, is_proper}
 use Rattle.norm_ext.specs.Requests.{Request, RequestItem}
 use Rattle.norm_ext.specs.declared.head.Item.{Item}
+use Rattle.norm_ext.specs.declared.kinds.Form.{Form}
 use Rattle.norm_ext.specs.declared.kinds.Form.TheVariants as form
 use Rattle.norm_send_rules.specs.Closing.{begins_at}
-use Rattle.nack_union.specs.Earliest.{lesser, least_with, item_index, begins_of}
+use Rattle.nack_union.specs.Earliest.{lesser, least_with, firsts, items_spans, pairs_spans, range_begin, lesser_at}
+use Rattle.nack_union.proofs.PartsNamed.{names_are}
 
--- without a pair no range begins
-pub no_range : (p : Settings) (x : Item) → begins_of (map (position_named p) (x ∷ [])) ≡ []
-unfolding pairs
-no_range p x = refl
+-- an item more
+pub item_least : (found : Option ℕ) (at : Option Position) (spans : List Span) → least_with (lesser_at found at) (firsts spans) ≡ least_with found (firsts (item_span at ++ spans))
+item_least found (Some at) spans = refl
+item_least found None spans = refl
 
-pub no_ranges : (p : Settings) → begins_of (map (position_named p) []) ≡ []
-unfolding pairs
-no_ranges p = refl
-
--- a pair of items more
-range_more : (p : Settings) (x y : Item) (items : List Item) (found : Option ℕ) (test : Bool) → position_before (position_named p y) (position_named p x) ≡ test
-    → least_with (cond (not test) (lesser found (Some (item_index p x))) found) (begins_of (map (position_named p) items))
-    ≡ least_with found (begins_of (map (position_named p) (x ∷ y ∷ items)))
-unfolding pairs
-range_more p x y items found test is = go test ∙ ap (λ b. least_with found (map (λ (s : Span). s.first.index) (cond (not b) (span (position_named p x) (position_named p y) ∷ behind) behind))) (sym is)
+-- a range more
+range_least : (found : Option ℕ) (a b : Option Position) (spans : List Span)
+    → least_with (lesser_at found (range_begin a b)) (firsts (filter is_proper spans)) ≡ least_with found (firsts (filter is_proper (pair_span a b ++ spans)))
+range_least found (Some a) (Some b) spans = go (position_before b a)
   where
-    behind : List Span
-    behind = filter is_proper (pairs (map (position_named p) items))
-
-    go : (b : Bool)
-        → least_with (cond (not b) (lesser found (Some (item_index p x))) found) (map (λ (s : Span). s.first.index) behind)
-        ≡ least_with found (map (λ (s : Span). s.first.index) (cond (not b) (span (position_named p x) (position_named p y) ∷ behind) behind))
+    go : (test : Bool)
+        → least_with (lesser_at found (elim test as (λ _. Option Position) [ true ↦ None | false ↦ Some a ])) (firsts (filter is_proper spans))
+        ≡ least_with found (firsts (cond (elim test as (λ _. Bool) [ true ↦ false | false ↦ true ]) (span a b ∷ filter is_proper spans) (filter is_proper spans)))
     go true = refl
     go false = refl
+range_least found (Some a) None spans = refl
+range_least found None b spans = refl
 
-pub range_joined : (p : Settings) (x y : Item) (items : List Item) (found : Option ℕ) → position_before (position_named p y) (position_named p x) ≡ false
-    → least_with (lesser found (Some (item_index p x))) (begins_of (map (position_named p) items)) ≡ least_with found (begins_of (map (position_named p) (x ∷ y ∷ items)))
-range_joined p x y items found is = range_more p x y items found false is
+pub pair_least : (p : Settings) (known : ℕ) (found : Option ℕ) (x y : Item) (items : List Item)
+    → least_with (lesser_at found (range_begin (item_named p known x) (item_named p known y))) (firsts (filter is_proper (pairs_spans p known items)))
+    ≡ least_with found (firsts (filter is_proper (pairs_spans p known (x ∷ y ∷ items))))
+unfolding pairs
+pair_least p known found x y items = range_least found (item_named p known x) (item_named p known y) (pairs_spans p known items)
 
-pub range_empty : (p : Settings) (x y : Item) (items : List Item) (found : Option ℕ) → position_before (position_named p y) (position_named p x) ≡ true
-    → least_with found (begins_of (map (position_named p) items)) ≡ least_with found (begins_of (map (position_named p) (x ∷ y ∷ items)))
-range_empty p x y items found is = range_more p x y items found true is
-
--- what items name
-names_are : (p : Settings) (items : List RequestItem) → map (position_named p) (map (λ (x : RequestItem). x.item) items) ≡ map (named_by p) items
-names_are p [] = refl
-names_are p (x ∷ items) = ap (λ places. named_by p x ∷ places) (names_are p items)
-
-firsts_are : (spans : List Span) → map (λ (s : Span). s.first.index) spans ≡ map (λ (at : Position). at.index) (map (λ (s : Span). s.first) spans)
+firsts_are : (spans : List Span) → firsts spans ≡ map (λ (at : Position). at.index) (map (λ (s : Span). s.first) spans)
 firsts_are [] = refl
-firsts_are (s ∷ spans) = ap (λ indexes. s.first.index ∷ indexes) (firsts_are spans)
+firsts_are (s ∷ spans) = ap (λ (indexes : List ℕ). s.first.index ∷ indexes) (firsts_are spans)
 
--- the least index of a request of ranges that gives something
-pub of_ranges : (p : Settings) (r : Request) → r.form ≡ form.Ranges → least_with None (begins_of (map (position_named p) (map (λ (x : RequestItem). x.item) r.items))) ≡ least_with None (map (λ (at : Position). at.index) (begins_at p r))
-of_ranges p r is =
-    ap (λ places. least_with None (begins_of places)) (names_are p r.items)
-    ∙ ap (least_with None) (firsts_are (filter is_proper (pairs (map (named_by p) r.items))))
-    ∙ ap (λ f. least_with None (map (λ (at : Position). at.index) (begins_at p (record r { form = f })))) (sym is)
+-- the least index of a request of a form that gives something
+abbrev pub least_at : Settings → ℕ → Request → Option ℕ
+least_at p known r = least_with None (map (λ (at : Position). at.index) (begins_at (named p known r)))
+
+pub least_items : (p : Settings) (known : ℕ) (r : Request) → r.form ≡ form.Items
+    → least_with None (firsts (items_spans p known (map (λ (x : RequestItem). x.item) r.items))) ≡ least_at p known r
+least_items p known r is =
+    ap (λ (places : List (Option Position)). least_with None (firsts (flat_map item_span places))) (names_are p known r.items)
+    ∙ ap (least_with None) (firsts_are (flat_map item_span (map (named_by p known) r.items)))
+    ∙ ap (λ (f : Form). least_at p known (record r { form = f })) (sym is)
+
+pub least_erasures : (p : Settings) (known : ℕ) (r : Request) → r.form ≡ form.Erasures
+    → least_with None (firsts (items_spans p known (map (λ (x : RequestItem). x.item) r.items))) ≡ least_at p known r
+least_erasures p known r is =
+    ap (λ (places : List (Option Position)). least_with None (firsts (flat_map item_span places))) (names_are p known r.items)
+    ∙ ap (least_with None) (firsts_are (flat_map item_span (map (named_by p known) r.items)))
+    ∙ ap (λ (f : Form). least_at p known (record r { form = f })) (sym is)
+
+pub least_ranges : (p : Settings) (known : ℕ) (r : Request) → r.form ≡ form.Ranges
+    → least_with None (firsts (filter is_proper (pairs_spans p known (map (λ (x : RequestItem). x.item) r.items)))) ≡ least_at p known r
+least_ranges p known r is =
+    ap (λ (places : List (Option Position)). least_with None (firsts (filter is_proper (pairs places)))) (names_are p known r.items)
+    ∙ ap (least_with None) (firsts_are (filter is_proper (pairs (map (named_by p known) r.items))))
+    ∙ ap (λ (f : Form). least_at p known (record r { form = f })) (sym is)

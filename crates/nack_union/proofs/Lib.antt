@@ -24,7 +24,6 @@ pub mod AskedSlots
 pub mod Risen
 pub mod AskedCounts
 pub mod Added
-pub mod Least
 pub mod Early
 pub mod Puts
 pub mod Runs
@@ -34,6 +33,8 @@ pub mod Named
 pub mod Items
 pub mod Outside
 pub mod Parts
+pub mod PartsNamed
+pub mod Least
 pub mod Requested
 pub mod Summed
 pub mod Rising

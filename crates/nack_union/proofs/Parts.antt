@@ -1,9 +1,7 @@
 -- One part after another.
-use Rattle.std.proofs.Common.{◌≡◌, ℕ, ◌+◌, ◌<◌, length, get_or, false, refl, sym, ap, ◌∙◌, subst, arith, List, [], ◌∷◌}
-use Rattle.norm_base.specs.Settings.{Settings}
-use Rattle.norm_ext.specs.declared.head.Item.{Item}
+use Rattle.std.proofs.Common.{◌≡◌, ℕ, ◌+◌, ◌<◌, length, get_or, false, refl, sym, ap, ◌∙◌, subst}
 use Rattle.nack_union.specs.Kept.{Kept, Marked}
-use Rattle.nack_union.specs.More.{HasMore, HasPart, MoreOf, Part, no_part, and_part, ranges_part}
+use Rattle.nack_union.specs.More.{HasMore, HasPart, MoreOf, Part, no_part, and_part}
 use Rattle.nack_union.proofs.Mores.{none_more, more_twice}
 
 pub part_none : (u : Kept) → HasPart no_part u u
@@ -26,9 +24,3 @@ part_then a b old mid new one two = record {
         more_twice (a.slots (old.first + k) x.cut x.info) (b.slots (old.first + k) x.cut x.info) (a.counts (old.first + k)) (b.counts (old.first + k)) x y z f
         (subst (λ c. HasMore (b.slots (old.first + k) c x.info) (b.counts (old.first + k)) y z) (ap (λ (m : Marked). m.cut) f.rest)
         (subst (λ i. HasMore (b.slots (old.first + k) y.cut i) (b.counts (old.first + k)) y z) (ap (λ (m : Marked). m.info) f.rest) g))
-
--- less than a pair
-pub no_pair : (p : Settings) (flags : ℕ) (xs : List Item) → length xs < 2 → ranges_part p flags xs ≡ no_part
-no_pair p flags [] lt = refl
-no_pair p flags (x ∷ []) lt = refl
-no_pair p flags (x ∷ y ∷ xs) lt = absurd (omega (arith, lt))

@@ -3,12 +3,10 @@ use Rattle.std.proofs.Common.{◌≡◌, ℕ, zero, suc, ◌/◌, ◌%◌, List,
 use Rattle.std.specs.Prelude.{◌==◌, ◌&&◌, ◌||◌, filter}
 use Rattle.std.specs.List.{list_any}
 use Rattle.std.proofs.Math.Bool.{or_assoc}
-use Rattle.norm_base.specs.Settings.{Settings}
 use Rattle.fec_plan.specs.Partition.{Cut}
 use Rattle.fec_plan.specs.Points.{position}
 use Rattle.fec_plan.specs.declared.position.Position.{Position}
-use Rattle.norm_ext.specs.Asking.{Span, span, lies_in, block_span, object_span, has_flag, segment_flag, block_flag, object_flag, info_flag, where_flag, named_by, pairs, is_proper}
-use Rattle.norm_ext.specs.Requests.{RequestItem}
+use Rattle.norm_ext.specs.Asking.{Span, lies_in, block_span, object_span, has_flag, segment_flag, block_flag, object_flag, info_flag, where_flag, is_proper}
 use Rattle.nack_union.specs.More.{is_source_slot, is_encoded_slot, asks_by, named_part, symbol_part, part_where, items_part, ranges_part}
 use Rattle.nack_union.proofs.Puts.{or_false, other_is}
 
@@ -149,25 +147,29 @@ join s e f a b x y =
     four (s && a) (e && (f && b)) (s && x) (e && (f && y)) ∙ ap (λ v. v || ((e && (f && b)) || (e && (f && y)))) (dist s a x)
     ∙ ap (λ v. (s && (a || x)) || v) (dist e (f && b) (f && y) ∙ ap (λ v. e && v) (dist f b y))
 
+-- where spans begin
+abbrev pub begins : List Span → List Position
+begins spans = map (λ (s : Span). s.first) spans
+
 -- items, for the slot of a symbol
-pub items_slot : (p : Settings) (flags index n : ℕ) (c : Cut) (info : Bool) (xs : List RequestItem)
-    → (items_part p flags (map (λ x. x.item) xs)).slots index c info (suc n)
-    ≡ ((is_source_slot c (suc n) && by_spans flags (position index (n / 256) (n % 256)) (map (λ x. span (named_by p x) (named_by p x)) xs))
-    || (is_encoded_slot c (suc n) && (has_flag flags segment_flag && list_any (same_symbol (position index (n / 256) (n % 256))) (map (named_by p) xs))))
-items_slot p flags index n c info [] =
+pub items_slot : (flags index n : ℕ) (c : Cut) (info : Bool) (spans : List Span)
+    → (items_part flags spans).slots index c info (suc n)
+    ≡ ((is_source_slot c (suc n) && by_spans flags (position index (n / 256) (n % 256)) spans)
+    || (is_encoded_slot c (suc n) && (has_flag flags segment_flag && list_any (same_symbol (position index (n / 256) (n % 256))) (begins spans))))
+items_slot flags index n c info [] =
     none_asked (is_source_slot c (suc n)) (has_flag flags segment_flag) (has_flag flags block_flag) (has_flag flags object_flag) (is_encoded_slot c (suc n))
-items_slot p flags index n c info (x ∷ xs) =
-    ap (λ v. (v || (part_where (has_flag flags segment_flag) (symbol_part (named_by p x))).slots index c info (suc n)) || (items_part p flags (map (λ x. x.item) xs)).slots index c info (suc n))
-    (slot_by flags index n (span (named_by p x) (named_by p x)) c info)
-    ∙ ap (λ v. ((is_source_slot c (suc n) && by_span flags (position index (n / 256) (n % 256)) (span (named_by p x) (named_by p x))) || v) || (items_part p flags (map (λ x. x.item) xs)).slots index c info (suc n))
-    (named_by_flag flags index n (named_by p x) c info)
-    ∙ ap (λ v. ((is_source_slot c (suc n) && by_span flags (position index (n / 256) (n % 256)) (span (named_by p x) (named_by p x)))
-    || (is_encoded_slot c (suc n) && (has_flag flags segment_flag && same_symbol (position index (n / 256) (n % 256)) (named_by p x)))) || v)
-    (items_slot p flags index n c info xs)
+items_slot flags index n c info (x ∷ spans) =
+    ap (λ v. (v || (part_where (has_flag flags segment_flag) (symbol_part x.first)).slots index c info (suc n)) || (items_part flags spans).slots index c info (suc n))
+    (slot_by flags index n x c info)
+    ∙ ap (λ v. ((is_source_slot c (suc n) && by_span flags (position index (n / 256) (n % 256)) x) || v) || (items_part flags spans).slots index c info (suc n))
+    (named_by_flag flags index n x.first c info)
+    ∙ ap (λ v. ((is_source_slot c (suc n) && by_span flags (position index (n / 256) (n % 256)) x)
+    || (is_encoded_slot c (suc n) && (has_flag flags segment_flag && same_symbol (position index (n / 256) (n % 256)) x.first))) || v)
+    (items_slot flags index n c info spans)
     ∙ join (is_source_slot c (suc n)) (is_encoded_slot c (suc n)) (has_flag flags segment_flag) _ _ _ _
     ∙ ap (λ v. (is_source_slot c (suc n) && v) || (is_encoded_slot c (suc n) && (has_flag flags segment_flag
-    && (same_symbol (position index (n / 256) (n % 256)) (named_by p x) || list_any (same_symbol (position index (n / 256) (n % 256))) (map (named_by p) xs)))))
-    (more_spans flags (position index (n / 256) (n % 256)) (span (named_by p x) (named_by p x)) (map (λ x. span (named_by p x) (named_by p x)) xs))
+    && (same_symbol (position index (n / 256) (n % 256)) x.first || list_any (same_symbol (position index (n / 256) (n % 256))) (begins spans)))))
+    (more_spans flags (position index (n / 256) (n % 256)) x spans)
 
 pub no_infos : (i f : Bool) → false ≡ (i && (f && false))
 no_infos true true = refl
@@ -175,60 +177,50 @@ no_infos true false = refl
 no_infos false f = refl
 
 -- items, for an info
-pub items_info : (p : Settings) (flags index : ℕ) (c : Cut) (info : Bool) (xs : List RequestItem)
-    → (items_part p flags (map (λ x. x.item) xs)).slots index c info zero
-    ≡ (info && (has_flag flags info_flag && list_any (λ s. lies_in (position index 0 0) (object_span s)) (map (λ x. span (named_by p x) (named_by p x)) xs)))
-items_info p flags index c info [] = no_infos info (has_flag flags info_flag)
-items_info p flags index c info (x ∷ xs) =
-    ap (λ v. (v || (part_where (has_flag flags segment_flag) (symbol_part (named_by p x))).slots index c info zero) || (items_part p flags (map (λ x. x.item) xs)).slots index c info zero)
-    (info_by flags index (span (named_by p x) (named_by p x)) c info)
-    ∙ ap (λ v. v || (items_part p flags (map (λ x. x.item) xs)).slots index c info zero) (or_false _ _ (named_info flags index (named_by p x) c info))
-    ∙ ap (λ v. (info && (has_flag flags info_flag && lies_in (position index 0 0) (object_span (span (named_by p x) (named_by p x))))) || v) (items_info p flags index c info xs)
+pub items_info : (flags index : ℕ) (c : Cut) (info : Bool) (spans : List Span)
+    → (items_part flags spans).slots index c info zero
+    ≡ (info && (has_flag flags info_flag && list_any (λ s. lies_in (position index 0 0) (object_span s)) spans))
+items_info flags index c info [] = no_infos info (has_flag flags info_flag)
+items_info flags index c info (x ∷ spans) =
+    ap (λ v. (v || (part_where (has_flag flags segment_flag) (symbol_part x.first)).slots index c info zero) || (items_part flags spans).slots index c info zero)
+    (info_by flags index x c info)
+    ∙ ap (λ v. v || (items_part flags spans).slots index c info zero) (or_false _ _ (named_info flags index x.first c info))
+    ∙ ap (λ v. (info && (has_flag flags info_flag && lies_in (position index 0 0) (object_span x))) || v) (items_info flags index c info spans)
     ∙ dist info _ _ ∙ ap (λ v. info && v) (dist (has_flag flags info_flag) _ _)
 
 -- ranges
-pub ranges_slot : (p : Settings) (flags index n : ℕ) (c : Cut) (info : Bool) (xs : List RequestItem)
-    → (ranges_part p flags (map (λ x. x.item) xs)).slots index c info (suc n)
-    ≡ (is_source_slot c (suc n) && by_spans flags (position index (n / 256) (n % 256)) (filter is_proper (pairs (map (named_by p) xs))))
-unfolding pairs
-ranges_slot p flags index n c info [] = go (is_source_slot c (suc n)) (has_flag flags segment_flag) (has_flag flags block_flag) (has_flag flags object_flag)
+pub ranges_slot : (flags index n : ℕ) (c : Cut) (info : Bool) (spans : List Span)
+    → (ranges_part flags spans).slots index c info (suc n)
+    ≡ (is_source_slot c (suc n) && by_spans flags (position index (n / 256) (n % 256)) (filter is_proper spans))
+ranges_slot flags index n c info [] = go (is_source_slot c (suc n)) (has_flag flags segment_flag) (has_flag flags block_flag) (has_flag flags object_flag)
   where
     go : (s f g h : Bool) → false ≡ (s && (((f && false) || (g && false)) || (h && false)))
     go s f g h = none_asked s f g h false ∙ or_false _ false refl
-ranges_slot p flags index n c info (x ∷ []) = go (is_source_slot c (suc n)) (has_flag flags segment_flag) (has_flag flags block_flag) (has_flag flags object_flag)
+ranges_slot flags index n c info (x ∷ spans) = go (is_proper x) (ranges_slot flags index n c info spans)
   where
-    go : (s f g h : Bool) → false ≡ (s && (((f && false) || (g && false)) || (h && false)))
-    go s f g h = none_asked s f g h false ∙ or_false _ false refl
-ranges_slot p flags index n c info (x ∷ y ∷ xs) = go (is_proper (span (named_by p x) (named_by p y))) (ranges_slot p flags index n c info xs)
-  where
-    go : (b : Bool) → (ranges_part p flags (map (λ x. x.item) xs)).slots index c info (suc n)
-        ≡ (is_source_slot c (suc n) && by_spans flags (position index (n / 256) (n % 256)) (filter is_proper (pairs (map (named_by p) xs))))
-        → ((part_where b (named_part flags (span (named_by p x) (named_by p y)))).slots index c info (suc n) || (ranges_part p flags (map (λ x. x.item) xs)).slots index c info (suc n))
-        ≡ (is_source_slot c (suc n) && by_spans flags (position index (n / 256) (n % 256))
-        (cond b (span (named_by p x) (named_by p y) ∷ filter is_proper (pairs (map (named_by p) xs))) (filter is_proper (pairs (map (named_by p) xs)))))
+    go : (b : Bool) → (ranges_part flags spans).slots index c info (suc n)
+        ≡ (is_source_slot c (suc n) && by_spans flags (position index (n / 256) (n % 256)) (filter is_proper spans))
+        → ((part_where b (named_part flags x)).slots index c info (suc n) || (ranges_part flags spans).slots index c info (suc n))
+        ≡ (is_source_slot c (suc n) && by_spans flags (position index (n / 256) (n % 256)) (cond b (x ∷ filter is_proper spans) (filter is_proper spans)))
     go true rest =
-        ap (λ v. v || (ranges_part p flags (map (λ x. x.item) xs)).slots index c info (suc n)) (slot_by flags index n (span (named_by p x) (named_by p y)) c info)
-        ∙ ap (λ v. (is_source_slot c (suc n) && by_span flags (position index (n / 256) (n % 256)) (span (named_by p x) (named_by p y))) || v) rest
+        ap (λ v. v || (ranges_part flags spans).slots index c info (suc n)) (slot_by flags index n x c info)
+        ∙ ap (λ v. (is_source_slot c (suc n) && by_span flags (position index (n / 256) (n % 256)) x) || v) rest
         ∙ dist (is_source_slot c (suc n)) _ _
-        ∙ ap (λ v. is_source_slot c (suc n) && v)
-        (more_spans flags (position index (n / 256) (n % 256)) (span (named_by p x) (named_by p y)) (filter is_proper (pairs (map (named_by p) xs))))
+        ∙ ap (λ v. is_source_slot c (suc n) && v) (more_spans flags (position index (n / 256) (n % 256)) x (filter is_proper spans))
     go false rest = rest
 
-pub ranges_info : (p : Settings) (flags index : ℕ) (c : Cut) (info : Bool) (xs : List RequestItem)
-    → (ranges_part p flags (map (λ x. x.item) xs)).slots index c info zero
-    ≡ (info && (has_flag flags info_flag && list_any (λ s. lies_in (position index 0 0) (object_span s)) (filter is_proper (pairs (map (named_by p) xs)))))
-unfolding pairs
-ranges_info p flags index c info [] = no_infos info (has_flag flags info_flag)
-ranges_info p flags index c info (x ∷ []) = no_infos info (has_flag flags info_flag)
-ranges_info p flags index c info (x ∷ y ∷ xs) = go (is_proper (span (named_by p x) (named_by p y))) (ranges_info p flags index c info xs)
+pub ranges_info : (flags index : ℕ) (c : Cut) (info : Bool) (spans : List Span)
+    → (ranges_part flags spans).slots index c info zero
+    ≡ (info && (has_flag flags info_flag && list_any (λ s. lies_in (position index 0 0) (object_span s)) (filter is_proper spans)))
+ranges_info flags index c info [] = no_infos info (has_flag flags info_flag)
+ranges_info flags index c info (x ∷ spans) = go (is_proper x) (ranges_info flags index c info spans)
   where
-    go : (b : Bool) → (ranges_part p flags (map (λ x. x.item) xs)).slots index c info zero
-        ≡ (info && (has_flag flags info_flag && list_any (λ s. lies_in (position index 0 0) (object_span s)) (filter is_proper (pairs (map (named_by p) xs)))))
-        → ((part_where b (named_part flags (span (named_by p x) (named_by p y)))).slots index c info zero || (ranges_part p flags (map (λ x. x.item) xs)).slots index c info zero)
-        ≡ (info && (has_flag flags info_flag && list_any (λ s. lies_in (position index 0 0) (object_span s))
-        (cond b (span (named_by p x) (named_by p y) ∷ filter is_proper (pairs (map (named_by p) xs))) (filter is_proper (pairs (map (named_by p) xs))))))
+    go : (b : Bool) → (ranges_part flags spans).slots index c info zero
+        ≡ (info && (has_flag flags info_flag && list_any (λ s. lies_in (position index 0 0) (object_span s)) (filter is_proper spans)))
+        → ((part_where b (named_part flags x)).slots index c info zero || (ranges_part flags spans).slots index c info zero)
+        ≡ (info && (has_flag flags info_flag && list_any (λ s. lies_in (position index 0 0) (object_span s)) (cond b (x ∷ filter is_proper spans) (filter is_proper spans))))
     go true rest =
-        ap (λ v. v || (ranges_part p flags (map (λ x. x.item) xs)).slots index c info zero) (info_by flags index (span (named_by p x) (named_by p y)) c info)
-        ∙ ap (λ v. (info && (has_flag flags info_flag && lies_in (position index 0 0) (object_span (span (named_by p x) (named_by p y))))) || v) rest
+        ap (λ v. v || (ranges_part flags spans).slots index c info zero) (info_by flags index x c info)
+        ∙ ap (λ v. (info && (has_flag flags info_flag && lies_in (position index 0 0) (object_span x))) || v) rest
         ∙ dist info _ _ ∙ ap (λ v. info && v) (dist (has_flag flags info_flag) _ _)
     go false rest = rest

@@ -90,11 +90,11 @@ collects_retired p s u asked n le st col = record {
   counts = λ k d lt block.
       ap (λ (m : Marked). get_or m.counts block 0) (get_drop n u.objects k d (omega (arith, lt, length-drop n u.objects)))
       ∙ col.counts (n + k) d (omega (arith, lt, length-drop n u.objects)) block
-      ∙ ap (λ i. greatest (flat_map (counts_of p (current_shapes p s)) asked) (point i block)) (let e : u.first + (n + k) ≡ u.first + n + k = omega arith in e);
+      ∙ ap (λ i. greatest (flat_map (counts_of (current_shapes p s)) asked) (point i block)) (let e : u.first + (n + k) ≡ u.first + n + k = omega arith in e);
 }
   where
     all : List Want
-    all = flat_map (wants_of p (current_shapes p s)) asked
+    all = flat_map (wants_of (current_shapes p s)) asked
 
 -- what requests ask for stays as the order grows
 flat_same : {X : Type 0} (f g : Asked → List X) (n : ℕ) (asked : List Asked) → ((a : Asked) → a.next ≤ n → f a ≡ g a) → AllByRecursion (λ (a : Asked). a.next ≤ n) asked
@@ -128,19 +128,19 @@ second_of false c e = absurd (clash e)
     clash : false ≡ true → ⊥
     clash h = cc
 
-kept_within : (p : Settings) (shapes : List Shape) (asked : List Asked) (c : Count) → In c (flat_map (counts_of p shapes) asked) → c.of.index < length shapes
+kept_within : (p : Settings) (shapes : List Shape) (asked : List Asked) (c : Count) → In c (flat_map (counts_of shapes) asked) → c.of.index < length shapes
 kept_within p shapes asked c here =
-    let found = in_flat (counts_of p shapes) c asked here in
-    let kept = (in_filter (λ (c : Count). is_kept (as_it_came found.0 shapes) found.0.first c.of) c (asked_counts p found.0.request) found.2).1 in
+    let found = in_flat (counts_of shapes) c asked here in
+    let kept = (in_filter (λ (c : Count). is_kept (as_it_came found.0 shapes) found.0.first c.of) c (asked_counts found.0.request) found.2).1 in
     let lt = within_order (as_it_came found.0 shapes) c.of.index (λ s. nat_lt 0 (closed_in s c.of.block)) (second_of (not (point_before c.of found.0.first)) _ kept) in
     omega (arith, lt, length-shapes_at found.0.last 0 (take found.0.next shapes), length-take found.0.next shapes)
 
-none_kept : (p : Settings) (shapes : List Shape) (asked : List Asked) (at : Point) → length shapes ≤ at.index → greatest (flat_map (counts_of p shapes) asked) at ≡ 0
-none_kept p shapes asked at past = go (cases_lt 0 (greatest (flat_map (counts_of p shapes) asked) at))
+none_kept : (p : Settings) (shapes : List Shape) (asked : List Asked) (at : Point) → length shapes ≤ at.index → greatest (flat_map (counts_of shapes) asked) at ≡ 0
+none_kept p shapes asked at past = go (cases_lt 0 (greatest (flat_map (counts_of shapes) asked) at))
   where
-    go : (0 < greatest (flat_map (counts_of p shapes) asked) at) ⊎ (greatest (flat_map (counts_of p shapes) asked) at ≤ 0) → greatest (flat_map (counts_of p shapes) asked) at ≡ 0
+    go : (0 < greatest (flat_map (counts_of shapes) asked) at) ⊎ (greatest (flat_map (counts_of shapes) asked) at ≤ 0) → greatest (flat_map (counts_of shapes) asked) at ≡ 0
     go (inl some) =
-        let c = some_greatest (flat_map (counts_of p shapes) asked) at some in
+        let c = some_greatest (flat_map (counts_of shapes) asked) at some in
         let lt = kept_within p shapes asked c.0 c.1 in
         let same = ap (λ (q : Point). q.index) c.2 in
         absurd (omega (arith, lt, same, past))
@@ -169,19 +169,19 @@ collects_admitted p s u asked entry m n unasked uncounted st col = record {
     more [] known = tt
     more (a ∷ asked) known = (let le = known.0 in omega (arith, le, length-append s.current.order (entry ∷ [])), more asked known.1)
 
-    wants_same : flat_map (wants_of p (current_shapes p (with_entry entry s))) asked ≡ flat_map (wants_of p (current_shapes p s)) asked
+    wants_same : flat_map (wants_of (current_shapes p (with_entry entry s))) asked ≡ flat_map (wants_of (current_shapes p s)) asked
     wants_same =
-        flat_same (wants_of p (current_shapes p (with_entry entry s))) (wants_of p (current_shapes p s)) (next_index s) asked
-        (λ a le. ap (λ shapes. wants_of p shapes a) grown ∙ ap (λ shapes. asks_for p shapes a.request) (came_same a (current_shapes p s) x (omega (arith, le, many)))) col.known
+        flat_same (wants_of (current_shapes p (with_entry entry s))) (wants_of (current_shapes p s)) (next_index s) asked
+        (λ a le. ap (λ shapes. wants_of shapes a) grown ∙ ap (λ shapes. asks_for shapes a.request) (came_same a (current_shapes p s) x (omega (arith, le, many)))) col.known
 
-    counts_same : flat_map (counts_of p (current_shapes p (with_entry entry s))) asked ≡ flat_map (counts_of p (current_shapes p s)) asked
+    counts_same : flat_map (counts_of (current_shapes p (with_entry entry s))) asked ≡ flat_map (counts_of (current_shapes p s)) asked
     counts_same =
-        flat_same (counts_of p (current_shapes p (with_entry entry s))) (counts_of p (current_shapes p s)) (next_index s) asked
-        (λ a le. ap (λ shapes. counts_of p shapes a) grown
-        ∙ ap (λ shapes. filter (λ (c : Count). is_kept shapes a.first c.of) (asked_counts p a.request)) (came_same a (current_shapes p s) x (omega (arith, le, many)))) col.known
+        flat_same (counts_of (current_shapes p (with_entry entry s))) (counts_of (current_shapes p s)) (next_index s) asked
+        (λ a le. ap (λ shapes. counts_of shapes a) grown
+        ∙ ap (λ shapes. filter (λ (c : Count). is_kept shapes a.first c.of) (asked_counts a.request)) (came_same a (current_shapes p s) x (omega (arith, le, many)))) col.known
 
     at : (k : ℕ) (d : Marked) → k < length (u.objects ++ m ∷ []) → (block : ℕ) → (k < length u.objects) ⊎ (length u.objects ≤ k)
-        → get_or (get_or (u.objects ++ m ∷ []) k d).counts block 0 ≡ greatest (flat_map (counts_of p (current_shapes p s)) asked) (point (u.first + k) block)
+        → get_or (get_or (u.objects ++ m ∷ []) k d).counts block 0 ≡ greatest (flat_map (counts_of (current_shapes p s)) asked) (point (u.first + k) block)
     at k d lt block (inl less) = ap (λ (z : Marked). get_or z.counts block 0) (at_front u.objects m k d less) ∙ col.counts k d less block
     at k d lt block (inr past) =
         ap (λ i. get_or (get_or (u.objects ++ m ∷ []) i d).counts block 0) (let e : k ≡ length u.objects = omega (arith, lt, past, length-append u.objects (m ∷ [])) in e)

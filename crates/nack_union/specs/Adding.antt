@@ -2,12 +2,10 @@
 -- they ask for by name, and of each block the greatest count.
 use Rattle.std.specs.Prelude.{ℕ, zero, suc, ◌≡◌, ◌+◌, ◌<◌, ◌≤◌, ◌/◌, ◌%◌, ◌==◌, ◌&&◌, ◌||◌, List, length, max, Bool, nat_lt, get_or, slice_index, flat_map}
 use Rattle.std.specs.List.{list_any}
-use Rattle.norm_base.specs.Settings.{Settings}
 use Rattle.fec_plan.specs.Partition.{Cut, IsSound, blocks, source_symbols, encoding_symbols}
 use Rattle.fec_plan.specs.Points.{point, position}
 use Rattle.fec_plan.specs.declared.position.Position.{Position}
-use Rattle.norm_ext.specs.Asking.{asks_source, asks_info, asked_symbols, asked_counts}
-use Rattle.norm_ext.specs.Requests.{Request}
+use Rattle.norm_ext.specs.Asking.{Named, asks_source, asks_info, asked_symbols, asked_counts}
 use Rattle.norm_order.specs.Sets.{is_member}
 use Rattle.norm_send_rules.specs.Closing.{greatest}
 use Rattle.norm_send_rules.specs.Laws.{Rise}
@@ -15,41 +13,41 @@ use Rattle.nack_union.specs.Earliest.{earliest_with}
 use Rattle.nack_union.specs.Kept.{Marked, Kept, listed}
 
 -- a request names this encoded symbol, which may be a parity symbol
-abbrev pub names_symbol : Settings → Request → Position → Bool
-names_symbol p r at = list_any
-    (λ (x : Position). x.index == at.index && x.block == at.block && x.symbol == at.symbol) (asked_symbols p r)
+abbrev pub names_symbol : Named → Position → Bool
+names_symbol r at = list_any
+    (λ (x : Position). x.index == at.index && x.block == at.block && x.symbol == at.symbol) (asked_symbols r)
 
 -- a request asks by name for a symbol of an object that is cut so
-abbrev pub asks_symbol : Settings → Request → Cut → Position → Bool
-asks_symbol p r c at = nat_lt at.block (blocks c) && (
-    (nat_lt at.symbol (source_symbols c at.block) && asks_source p r at)
-    || (nat_lt at.symbol (encoding_symbols c at.block) && names_symbol p r at))
+abbrev pub asks_symbol : Named → Cut → Position → Bool
+asks_symbol r c at = nat_lt at.block (blocks c) && (
+    (nat_lt at.symbol (source_symbols c at.block) && asks_source r at)
+    || (nat_lt at.symbol (encoding_symbols c at.block) && names_symbol r at))
 
 -- a request asks by name for what stands at a slot of an object with this index
-abbrev pub asks_slot : Settings → Request → ℕ → Marked → ℕ → Bool
-asks_slot p r index m zero = m.info && asks_info p r index
-asks_slot p r index m (suc n) = asks_symbol p r m.cut (position index (n / 256) (n % 256))
+abbrev pub asks_slot : Named → ℕ → Marked → ℕ → Bool
+asks_slot r index m zero = m.info && asks_info r index
+asks_slot r index m (suc n) = asks_symbol r m.cut (position index (n / 256) (n % 256))
 
 -- one of these requests does
-abbrev pub is_asked_slot : Settings → List Request → ℕ → Marked → ℕ → Bool
-is_asked_slot p requests index m slot = list_any (λ r. asks_slot p r index m slot) requests
+abbrev pub is_asked_slot : List Named → ℕ → Marked → ℕ → Bool
+is_asked_slot requests index m slot = list_any (λ r. asks_slot r index m slot) requests
 
 -- requests were added to what was collected of the object with this index
-pub record HasAsked (p : Settings) (requests : List Request) (index : ℕ) (old new : Marked) : Type 0 where
+pub record HasAsked (requests : List Named) (index : ℕ) (old new : Marked) : Type 0 where
   pub rest : new ≡ record old { asked = new.asked; counts = new.counts }
-  pub asked : (slot : ℕ) → is_member nat_lt slot new.asked ≡ (is_member nat_lt slot old.asked || is_asked_slot p requests index old slot)
+  pub asked : (slot : ℕ) → is_member nat_lt slot new.asked ≡ (is_member nat_lt slot old.asked || is_asked_slot requests index old slot)
   pub blocks : length new.counts ≡ length old.counts
   pub counts : (block : ℕ) → block < length old.counts
-      → slice_index new.counts block ≡ max (slice_index old.counts block) (greatest (flat_map (asked_counts p) requests) (point index block))
+      → slice_index new.counts block ≡ max (slice_index old.counts block) (greatest (flat_map asked_counts requests) (point index block))
 
 -- requests were added to what a union collected
-pub record HasAdded (p : Settings) (requests : List Request) (old new : Kept) : Type 0 where
+pub record HasAdded (requests : List Named) (old new : Kept) : Type 0 where
   pub first : new.first ≡ old.first
   pub objects : length new.objects ≡ length old.objects
   pub each : (k : ℕ) (d : Marked) → k < length old.objects
-      → HasAsked p requests (old.first + k) (get_or old.objects k d) (get_or new.objects k d)
+      → HasAsked requests (old.first + k) (get_or old.objects k d) (get_or new.objects k d)
   pub rise : Rise (listed (λ m. m.asked) new.first new.objects)
-  pub earliest : new.earliest ≡ earliest_with p old.earliest requests
+  pub earliest : new.earliest ≡ earliest_with old.earliest requests
 
 -- what holds of each object: nothing is wrong with its cut, its symbols' ids have 8 bits, and each block has a count
 pub record IsPlanned (m : Marked) : Type 0 where

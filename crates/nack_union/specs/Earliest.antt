@@ -1,11 +1,10 @@
 -- The least index from which repair requests count (RFC 5740 section 5.4): what was asked for before the window makes a squelch
 -- due.
-use Rattle.std.specs.Prelude.{ℕ, List, fold, map, filter, min, Bool, true, false, nat_lt, Option, None, Some}
+use Rattle.std.specs.Prelude.{ℕ, List, fold, map, filter, flat_map, min, Bool, true, false, nat_lt, Option, None, Some}
 use Rattle.norm_base.specs.Settings.{Settings}
+use Rattle.fec_plan.specs.Points.{position_before}
 use Rattle.fec_plan.specs.declared.position.Position.{Position}
-use Rattle.norm_ext.specs.ObjectIds.{index_of}
-use Rattle.norm_ext.specs.Asking.{Span, pairs, is_proper}
-use Rattle.norm_ext.specs.Requests.{Request}
+use Rattle.norm_ext.specs.Asking.{Span, Named, item_named, item_span, pairs}
 use Rattle.norm_ext.specs.declared.head.Item.{Item}
 use Rattle.norm_send_rules.specs.Closing.{gives_something, begins_at}
 
@@ -20,22 +19,35 @@ abbrev pub least_with : Option ℕ → List ℕ → Option ℕ
 least_with found indexes = fold (λ least i. lesser least (Some i)) found indexes
 
 -- the least index from which a request counts, where it gives something
-abbrev pub earliest : Settings → Request → Option ℕ
-earliest p r = elim (gives_something r) [ true ↦ least_with None (map (λ (at : Position). at.index) (begins_at p r)) | false ↦ None ]
+abbrev pub earliest : Named → Option ℕ
+earliest r = elim (gives_something r) [ true ↦ least_with None (map (λ (at : Position). at.index) (begins_at r)) | false ↦ None ]
 
 -- the least from which some requests count, and of one that was found before
-abbrev pub earliest_with : Settings → Option ℕ → List Request → Option ℕ
-earliest_with p found requests = fold (λ least r. lesser least (earliest p r)) found requests
+abbrev pub earliest_with : Option ℕ → List Named → Option ℕ
+earliest_with found requests = fold (λ least r. lesser least (earliest r)) found requests
 
 -- there is an index, and it is below this one
 abbrev pub is_below_first : Option ℕ → ℕ → Bool
 is_below_first None first = false
 is_below_first (Some index) first = nat_lt index first
 
--- the index that an item names
-abbrev pub item_index : Settings → Item → ℕ
-item_index p x = index_of p x.object
+-- the indexes that spans begin with
+abbrev pub firsts : List Span → List ℕ
+firsts spans = map (λ (s : Span). s.first.index) spans
 
--- where the ranges begin that are not empty
-abbrev pub begins_of : List Position → List ℕ
-begins_of places = map (λ (s : Span). s.first.index) (filter is_proper (pairs places))
+-- what items name, each by itself, and pair by pair
+abbrev pub items_spans : Settings → ℕ → List Item → List Span
+items_spans p known items = flat_map item_span (map (item_named p known) items)
+
+abbrev pub pairs_spans : Settings → ℕ → List Item → List Span
+pairs_spans p known items = pairs (map (item_named p known) items)
+
+-- where a range begins that is not empty
+abbrev pub range_begin : Option Position → Option Position → Option Position
+range_begin (Some first) (Some last) = elim (position_before last first) [ true ↦ None | false ↦ Some first ]
+range_begin _ _ = None
+
+-- the lesser of an index and that of a position, where there are any
+abbrev pub lesser_at : Option ℕ → Option Position → Option ℕ
+lesser_at least (Some at) = lesser least (Some at.index)
+lesser_at least None = least

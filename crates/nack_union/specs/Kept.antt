@@ -29,6 +29,10 @@ pub record Kept : Type 0 where
   pub objects : List Marked
   pub earliest : Option ℕ
 
+-- the greatest index that the sender of a union knows: that of the window's last object
+abbrev pub known_of : Kept → ℕ
+known_of u = u.first + length u.objects - 1
+
 -- an object as it is admitted
 abbrev pub admitted : Cut → Bool → Marked
 admitted cut info = record { cut = cut; info = info; wants = []; sent = []; asked = []; counts = replicate (blocks cut) 0 }

@@ -1,16 +1,11 @@
 -- What calls add to what the open round asks for, slot by slot and block by block.
-use Rattle.std.specs.Prelude.{ℕ, zero, suc, ◌≡◌, ◌+◌, ◌<◌, ◌/◌, ◌%◌, ◌==◌, ◌&&◌, ◌||◌, length, max, Bool, true, false, nat_lt, not, get_or, slice_index, List, [], ◌∷◌, map}
+use Rattle.std.specs.Prelude.{ℕ, zero, suc, ◌≡◌, ◌+◌, ◌<◌, ◌/◌, ◌%◌, ◌==◌, ◌&&◌, ◌||◌, length, max, Bool, true, false, nat_lt, not, get_or, slice_index, List, [], ◌∷◌}
 use Rattle.fec_plan.specs.Partition.{Cut, blocks, source_symbols, encoding_symbols}
 use Rattle.fec_plan.specs.Points.{position}
 use Rattle.fec_plan.specs.declared.position.Position.{Position}
 use Rattle.nack_union.specs.Slots.{symbol_slot}
-use Rattle.norm_base.specs.Settings.{Settings}
-use Rattle.norm_ext.specs.ObjectIds.{index_of}
-use Rattle.norm_ext.specs.Requests.{Request}
-use Rattle.norm_ext.specs.declared.head.Item.{Item}
 use Rattle.norm_ext.specs.declared.kinds.Form.TheVariants as form
-use Rattle.norm_ext.specs.Asking.{Span, span, is_proper, lies_in, block_span, object_span, has_flag, segment_flag, block_flag, object_flag, info_flag}
-use Rattle.norm_ext.specs.Items.{position_named}
+use Rattle.norm_ext.specs.Asking.{Span, Named, is_proper, lies_in, block_span, object_span, has_flag, segment_flag, block_flag, object_flag, info_flag}
 use Rattle.norm_order.specs.Sets.{is_member}
 use Rattle.nack_union.specs.Kept.{Marked, Kept}
 
@@ -120,36 +115,33 @@ abbrev pub part_where : Bool → Part → Part
 part_where wanted part = elim wanted [ true ↦ part | false ↦ no_part ]
 
 -- an item asks for what it names: by SEGMENT for any encoded symbol
-abbrev pub item_part : ℕ → Position → Part
-item_part flags at = and_part (named_part flags (span at at)) (part_where (has_flag flags segment_flag) (symbol_part at))
+abbrev pub item_part : ℕ → Span → Part
+item_part flags s = and_part (named_part flags s) (part_where (has_flag flags segment_flag) (symbol_part s.first))
 
 -- items, one after another
-abbrev pub items_part : Settings → ℕ → List Item → Part
-items_part p flags [] = no_part
-items_part p flags (x ∷ xs) = and_part (item_part flags (position_named p x)) (items_part p flags xs)
+abbrev pub items_part : ℕ → List Span → Part
+items_part flags [] = no_part
+items_part flags (s ∷ spans) = and_part (item_part flags s) (items_part flags spans)
 
--- pairs of items, those that are not empty
-abbrev pub ranges_part : Settings → ℕ → List Item → Part
-ranges_part p flags [] = no_part
-ranges_part p flags (x ∷ []) = no_part
-ranges_part p flags (x ∷ y ∷ xs) =
-    and_part (part_where (is_proper (span (position_named p x) (position_named p y))) (named_part flags (span (position_named p x) (position_named p y))))
-    (ranges_part p flags xs)
+-- pairs, those that are not empty
+abbrev pub ranges_part : ℕ → List Span → Part
+ranges_part flags [] = no_part
+ranges_part flags (s ∷ spans) = and_part (part_where (is_proper s) (named_part flags s)) (ranges_part flags spans)
 
 -- counts
-abbrev pub counts_part : Settings → List Item → Part
-counts_part p [] = no_part
-counts_part p (x ∷ xs) = and_part (count_part (position_named p x)) (counts_part p xs)
+abbrev pub counts_part : List Span → Part
+counts_part [] = no_part
+counts_part (s ∷ spans) = and_part (count_part s.first) (counts_part spans)
 
 -- what a request asks for
-abbrev pub request_part : Settings → Request → Part
-request_part p r = elim r.form [
-  | form.Items ↦ items_part p r.flags (map (λ x. x.item) r.items)
-  | form.Ranges ↦ ranges_part p r.flags (map (λ x. x.item) r.items)
-  | form.Erasures ↦ part_where (has_flag r.flags segment_flag || has_flag r.flags block_flag) (counts_part p (map (λ x. x.item) r.items))
+abbrev pub request_part : Named → Part
+request_part r = elim r.form [
+  | form.Items ↦ items_part r.flags r.spans
+  | form.Ranges ↦ ranges_part r.flags r.spans
+  | form.Erasures ↦ part_where (has_flag r.flags segment_flag || has_flag r.flags block_flag) (counts_part r.spans)
 ]
 
 -- requests, one after another
-abbrev pub requests_part : Settings → List Request → Part
-requests_part p [] = no_part
-requests_part p (r ∷ rs) = and_part (request_part p r) (requests_part p rs)
+abbrev pub requests_part : List Named → Part
+requests_part [] = no_part
+requests_part (r ∷ rs) = and_part (request_part r) (requests_part rs)

@@ -1,17 +1,17 @@
 //! The least index from which repair requests count.
 
-ghost use Rattle.std.specs.Prelude.{◌≡◌, ◌<◌, map, filter, None};
+ghost use Rattle.std.specs.Prelude.{◌≡◌, ◌<◌, [], filter, None};
 ghost use Rattle.norm_ext.specs.Requests.{items_named};
 ghost use Rattle.norm_ext.specs.RequestView.{request_of};
-ghost use Rattle.norm_ext.specs.Asking.{pairs, is_proper};
-ghost use Rattle.norm_ext.specs.Items.{position_named};
+ghost use Rattle.norm_ext.specs.Asking.{is_proper, item_named, named};
 ghost use Rattle.norm_send_rules.specs.Closing.{gives_something};
-ghost use Rattle.nack_union.specs.Earliest.{lesser, least_with, earliest, is_below_first, item_index, begins_of};
+ghost use Rattle.nack_union.specs.Earliest.{lesser, least_with, earliest, is_below_first, firsts, items_spans, pairs_spans, range_begin, lesser_at};
 
+use fec_plan::Position;
 use norm_base::Profile;
 use norm_ext::flags::{WANT_BLOCK, WANT_INFO, WANT_OBJECT, WANT_SEGMENT};
-use norm_ext::items::{has_flag, position_of, split_item};
-use norm_ext::{Form, Request};
+use norm_ext::items::{ends_of, has_flag, position_of, split_item, split_pair};
+use norm_ext::{Form, Item, Request};
 
 /// The lesser of two indexes, where there are any.
 pub fn lesser(a: Option<u32>, b: Option<u32>) -> Option<u32>
@@ -36,7 +36,7 @@ pub fn is_below(index: Option<u32>, first: u32) -> bool
 
 /// Whether a form and its flags ask for anything.
 fn gives_something(request: &Request<'_>) -> bool
-    ensures { result ≡ gives_something (request_of request.now) }
+    ensures { result ≡ gives_something (record { form = request.now.form; flags = request.now.flags; spans = [] }) }
 {
     if has_flag(request.flags, WANT_SEGMENT) || has_flag(request.flags, WANT_BLOCK) {
         return true;
@@ -50,47 +50,68 @@ fn gives_something(request: &Request<'_>) -> bool
 }
 
 /// The least index that some items name.
-fn least_of_items(profile: &Profile, items: &[u8]) -> Option<u32>
-    ensures { result ≡ least_with None (map (item_index profile.now) (items_named items.now)) }
+fn least_of_items(profile: &Profile, known: u32, items: &[u8]) -> Option<u32>
+    ensures { result ≡ least_with None (firsts (items_spans profile.now known (items_named items.now))) }
 {
     let mut least = None;
     let mut rest = items;
     'items: while let Some((item, behind)) = split_item(rest) {
-        least = lesser(least, Some(position_of(profile, item).index));
+        least = lesser_at(least, position_of(profile, known, item));
         rest = behind;
     }
     least
+}
+
+/// The lesser of an index and that of a position, where there are any.
+fn lesser_at(least: Option<u32>, at: Option<Position>) -> Option<u32>
+    ensures { result ≡ lesser_at least at }
+{
+    match at {
+        None => least,
+        Some(at) => lesser(least, Some(at.index)),
+    }
+}
+
+/// Where a range begins that two items name. `None` where one of them names no index, or the range is empty.
+fn begin_of(profile: &Profile, known: u32, first: Item, last: Item) -> Option<Position>
+    ensures { result ≡ range_begin (item_named profile.now known first) (item_named profile.now known last) }
+{
+    match ends_of(profile, known, first, last) {
+        None => None,
+        Some((first, last)) => {
+            if last.is_before(&first) {
+                None
+            } else {
+                Some(first)
+            }
+        }
+    }
 }
 
 /// The least index that a range begins with, of some pairs of items. Empty ranges do not count.
-fn least_of_ranges(profile: &Profile, items: &[u8]) -> Option<u32>
-    ensures { result ≡ least_with None (begins_of (map (position_named profile.now) (items_named items.now))) }
+fn least_of_ranges(profile: &Profile, known: u32, items: &[u8]) -> Option<u32>
+    ensures { result ≡ least_with None (firsts (filter is_proper (pairs_spans profile.now known (items_named items.now)))) }
 {
     let mut least = None;
     let mut rest = items;
-    'pairs: while let Some((item, behind)) = split_item(rest) {
-        let Some((other, behind)) = split_item(behind) else {
-            return least;
-        };
-        let first = position_of(profile, item);
-        let last = position_of(profile, other);
-        if !last.is_before(&first) {
-            least = lesser(least, Some(first.index));
-        }
+    'pairs: while let Some((first, last, behind)) = split_pair(rest) {
+        least = lesser_at(least, begin_of(profile, known, first, last));
         rest = behind;
     }
     least
 }
 
-/// The least index from which a request counts. `None` where it asks for nothing.
-pub fn earliest_of(profile: &Profile, request: &Request<'_>) -> Option<u32>
-    ensures { result ≡ earliest profile.now (request_of request.now) }
+/// The least index from which a request counts, to a node that knows indices up to this one. `None` where it asks for
+/// nothing.
+pub fn earliest_of(profile: &Profile, known: u32, request: &Request<'_>) -> Option<u32>
+    ensures { result ≡ earliest (named profile.now known (request_of request.now)) }
 {
     if !gives_something(request) {
         return None;
     }
     match request.form {
-        Form::Items | Form::Erasures => least_of_items(profile, request.items),
-        Form::Ranges => least_of_ranges(profile, request.items),
+        Form::Items => least_of_items(profile, known, request.items),
+        Form::Ranges => least_of_ranges(profile, known, request.items),
+        Form::Erasures => least_of_items(profile, known, request.items),
     }
 }

@@ -13,6 +13,3 @@ mod union;
 pub use crate::mask::Mask;
 pub use crate::union::{Closed, Union};
 pub use norm_send_rules::Want;
-
-#[cfg(test)]
-mod tests;

@@ -19,15 +19,15 @@ ghost use Rattle.norm_send_rules.specs.declared.want.Want.{Want as Wanted};
 ghost use Rattle.norm_send_rules.specs.declared.want.Want.TheVariants.{Symbol};
 ghost use Rattle.norm_order.specs.Sets.{with_member};
 ghost use Rattle.nack_union.specs.Slots.{symbol_slot};
-ghost use Rattle.nack_union.specs.Kept.{Kept, Marked, Stands, begun_union, admitted, with_object, shape_of_marked, closed_marks, closed_union, IsCounted, with_marks};
+ghost use Rattle.nack_union.specs.Kept.{Kept, Marked, Stands, known_of, begun_union, admitted, with_object, shape_of_marked, closed_marks, closed_union, IsCounted, with_marks};
 ghost use Rattle.nack_union.specs.More.{HasPart, named_part, symbol_part, count_part, part_where, item_part, items_part, ranges_part, counts_part, request_part, requests_part};
 ghost use Rattle.nack_union.specs.Adding.{HasAdded, IsPlanned};
 ghost use Rattle.norm_ext.specs.Requests.{items_named};
 ghost use Rattle.norm_ext.specs.RequestView.{request_of};
-ghost use Rattle.norm_ext.specs.Asking.{span, is_proper};
+ghost use Rattle.norm_ext.specs.Asking.{span, is_proper, named};
 ghost use Rattle.std.specs.Bool.{MatchBool};
 ghost use Rattle.nack_union.specs.Rounds.{new_wants, wants_closed};
-ghost use Rattle.nack_union.specs.Earliest.{is_below_first, earliest_with};
+ghost use Rattle.nack_union.specs.Earliest.{is_below_first, earliest_with, items_spans, pairs_spans};
 ghost use Rattle.nack_union.specs.Collected.{Collects};
 
 use crate::asking::{ask_range, hold_all};
@@ -36,7 +36,7 @@ use crate::marks::{Marks, Named, slot_of, want_of};
 use fec_plan::{Plan, Position};
 use norm_base::{Memory, Profile};
 use norm_ext::flags::{WANT_BLOCK, WANT_SEGMENT};
-use norm_ext::items::{has_flag, position_of, split_item, split_pair};
+use norm_ext::items::{ends_of, has_flag, position_of, split_item, split_pair};
 use norm_ext::{Form, Request, Requests};
 use norm_send_rules::Want;
 use std::alloc::Global;
@@ -115,7 +115,7 @@ impl Union {
     /// A union as an instance begins: nothing is in the window.
     pub fn new(alloc: Global) -> Union
         ensures begun { result ≡ begun_union }
-        ensures stands { (p : Settings) → Stands p result (sender_opening p) }
+        ensures stands { (p : Settings) (instance : ℕ) → Stands p result (sender_opening p instance) }
         ensures collects { (p : Settings) (s : SenderState) → Collects p result s [] }
     {
         Union {
@@ -247,7 +247,7 @@ impl Union {
 
     /// The open round asks for what an item names.
     fn ask_item(&mut self, flags: u8, at: Position)
-        ensures { HasPart (item_part flags at) self.old self.new }
+        ensures { HasPart (item_part flags (span at at)) self.old self.new }
     {
         let (first, last) = (at, at);
         self.ask_named(Named { first, last, flags });
@@ -264,70 +264,72 @@ impl Union {
     }
 
     /// The open round asks for what items name.
-    fn ask_items(&mut self, profile: &Profile, flags: u8, items: &[u8])
-        ensures { HasPart (items_part profile.now flags (items_named items.now)) self.old self.new }
+    fn ask_items(&mut self, profile: &Profile, known: u32, flags: u8, items: &[u8])
+        ensures { HasPart (items_part flags (items_spans profile.now known (items_named items.now))) self.old self.new }
     {
         let _ = &self.objects;
         let mut rest = items;
         'items: while let Some((item, behind)) = split_item(rest) {
-            self.ask_item(flags, position_of(profile, item));
+            if let Some(at) = position_of(profile, known, item) {
+                self.ask_item(flags, at);
+            }
             rest = behind;
         }
     }
 
     /// The open round asks for what pairs of items name.
-    fn ask_ranges(&mut self, profile: &Profile, flags: u8, items: &[u8])
-        ensures { HasPart (ranges_part profile.now flags (items_named items.now)) self.old self.new }
+    fn ask_ranges(&mut self, profile: &Profile, known: u32, flags: u8, items: &[u8])
+        ensures { HasPart (ranges_part flags (pairs_spans profile.now known (items_named items.now))) self.old self.new }
     {
         let _ = &self.objects;
         let mut rest = items;
         'pairs: while let Some((first, last, behind)) = split_pair(rest) {
-            self.ask_pair(
-                flags,
-                position_of(profile, first),
-                position_of(profile, last),
-            );
+            if let Some((from, to)) = ends_of(profile, known, first, last) {
+                self.ask_pair(flags, from, to);
+            }
             rest = behind;
         }
     }
 
     /// The open round counts blocks for as many symbols as items say.
-    fn ask_counts(&mut self, profile: &Profile, items: &[u8])
-        ensures { HasPart (counts_part profile.now (items_named items.now)) self.old self.new }
+    fn ask_counts(&mut self, profile: &Profile, known: u32, items: &[u8])
+        ensures { HasPart (counts_part (items_spans profile.now known (items_named items.now))) self.old self.new }
     {
         let _ = &self.objects;
         let mut rest = items;
         'items: while let Some((item, behind)) = split_item(rest) {
-            self.count_block(position_of(profile, item));
+            if let Some(at) = position_of(profile, known, item) {
+                self.count_block(at);
+            }
             rest = behind;
         }
     }
 
     /// The open round asks for what a request asks for.
-    fn ask_request(&mut self, profile: &Profile, request: &Request<'_>)
-        ensures { HasPart (request_part profile.now (request_of request.now)) self.old self.new }
+    fn ask_request(&mut self, profile: &Profile, known: u32, request: &Request<'_>)
+        ensures { HasPart (request_part (named profile.now known (request_of request.now))) self.old self.new }
     {
         let flags = request.flags;
         match request.form {
-            Form::Items => self.ask_items(profile, flags, request.items),
-            Form::Ranges => self.ask_ranges(profile, flags, request.items),
+            Form::Items => self.ask_items(profile, known, flags, request.items),
+            Form::Ranges => self.ask_ranges(profile, known, flags, request.items),
             Form::Erasures => {
                 if has_flag(flags, WANT_SEGMENT) || has_flag(flags, WANT_BLOCK) {
-                    self.ask_counts(profile, request.items);
+                    self.ask_counts(profile, known, request.items);
                 }
             }
         }
     }
 
     /// The open round asks for what requests ask for.
-    fn ask_requests(&mut self, profile: &Profile, requests: Requests<'_>)
-        ensures asked { HasPart (requests_part profile.now requests.entry) self.old self.new }
-        ensures earliest { self.new.earliest ≡ earliest_with profile.now self.old.earliest requests.entry }
+    fn ask_requests(&mut self, profile: &Profile, known: u32, requests: Requests<'_>)
+        ensures asked { HasPart (requests_part (map (named profile.now known) requests.entry)) self.old self.new }
+        ensures earliest { self.new.earliest ≡ earliest_with self.old.earliest (map (named profile.now known) requests.entry) }
     {
         let mut earliest = self.earliest;
         'requests: for request in requests {
-            self.ask_request(profile, &request);
-            earliest = lesser(earliest, earliest_of(profile, &request));
+            self.ask_request(profile, known, &request);
+            earliest = lesser(earliest, earliest_of(profile, known, &request));
         }
         self.count_from(earliest);
     }
@@ -347,16 +349,25 @@ impl Union {
         self.first <= index && ((index - self.first) as usize) < self.objects.len()
     }
 
-    /// Takes the requests of a NACK, as far as the window has what they ask for, into what the open round asks for.
+    /// The greatest index that the window's sender knows: that of the window's last object.
+    fn known(&self) -> u32
+        ensures { result ≡ known_of self.now }
+    {
+        (u64::from(self.first) + self.objects.len() as u64).saturating_sub(1) as u32
+    }
+
+    /// Takes the requests of a NACK, as far as the window has what they ask for, into what the open round asks for. What
+    /// names no index to the window's sender asks for nothing.
     pub fn add(&mut self, profile: &Profile, requests: Requests<'_>)
-        ensures added { HasAdded profile.now requests.entry self.old self.new }
+        ensures added { HasAdded (map (named profile.now (known_of self.old)) requests.entry) self.old self.new }
         ensures planned { AllByRecursion IsPlanned self.old.objects }
         ensures stands { (s : SenderState) → Stands profile.now self.old s → Stands profile.now self.new s }
         ensures collects { (s : SenderState) (asked : List Asked) → Stands profile.now self.old s → Collects profile.now self.old s asked
             → Collects profile.now self.new s (asked ++ map (asked_now profile.now s) requests.entry) }
     {
+        let known = self.known();
         hold_all(&self.objects);
-        self.ask_requests(profile, requests);
+        self.ask_requests(profile, known, requests);
         hold_all(&self.objects);
     }
 
@@ -385,7 +396,7 @@ impl Union {
         ensures early { result.early ≡ is_below_first self.old.earliest self.old.first }
         ensures rules { (p : Settings) (s : SenderState) (r : Round) → Stands p self.old s → Collects p self.old s r.asked
             → Stands p self.new (round_closed p r s) × (result.queued ≡ min (length (round_closed p r s).wants - length s.wants) 4294967295)
-            × (result.early ≡ list_any (λ (a : Asked). asks_early p s.current.drop a.request) r.asked) }
+            × (result.early ≡ list_any (λ (a : Asked). asks_early s.current.drop a.request) r.asked) }
         ensures begun { (p : Settings) (s : SenderState) → Collects p self.new s [] }
     {
         let high = self.high.min(self.objects.len());

@@ -1,13 +1,14 @@
 -- Items of repair requests and the symbols that they name (RFC 5740 section 4.3.1).
+use Rattle.std.specs.Prelude.{Option, Some, None}
 use Rattle.norm_base.specs.Settings.{Settings}
-use Rattle.fec_plan.specs.Points.{position}
 use Rattle.fec_plan.specs.declared.position.Position.{Position}
-use Rattle.norm_ext.specs.ObjectIds.{index_of, object_id}
+use Rattle.norm_ext.specs.ObjectIds.{object_id}
 use Rattle.norm_ext.specs.declared.head.Item.{Item}
 
--- the symbol that an item names
-abbrev pub position_named : Settings → Item → Position
-position_named p x = position (index_of p x.object) x.id.block x.id.symbol
+-- both ends of a range, where there are both
+abbrev pub both_of : Option Position → Option Position → Option (Position × Position)
+both_of (Some first) (Some last) = Some (first, last)
+both_of _ _ = None
 
 -- the item that names a symbol
 abbrev pub item_of : Settings → Position → Item

@@ -8,10 +8,12 @@ pub mod Lists
 pub mod Segment
 pub mod Message
 pub mod Octets
+pub mod Written
 pub mod Headers
 pub mod Commands
 pub mod Reading
 pub mod ObjectIds
+pub mod InstanceIds
 pub mod Fitting
 pub mod Asked
 pub mod Asking

@@ -11,10 +11,6 @@ last_index = 4294967294
 abbrev pub object_id : Settings → ℕ → ℕ
 object_id p index = (p.first + index) % 65536
 
--- the index of an object transport id
-abbrev pub index_of : Settings → ℕ → ℕ
-index_of p object = (65536 + object - p.first) % 65536
-
 -- how many ids lie between one and a later one, going round
 abbrev pub ids_from : ℕ → ℕ → ℕ
 ids_from from object = (65536 + object - from) % 65536

@@ -3,12 +3,12 @@
 
 ghost use Rattle.std.specs.Prelude.{◌≡◌, ◌<◌, ◌∷◌, [], MatchOption, length};
 ghost use Rattle.norm_ext.specs.Requests.{items_named};
-ghost use Rattle.norm_ext.specs.Asking.{has_flag as has_this};
-ghost use Rattle.norm_ext.specs.Items.{position_named, item_of as item_at};
+ghost use Rattle.norm_ext.specs.Asking.{has_flag as has_this, item_named};
+ghost use Rattle.norm_ext.specs.Items.{both_of, item_of as item_at};
 
 use crate::head::Item;
 use crate::numbers::{read_16, read_name};
-use crate::object_ids::object_id;
+use crate::object_ids::{index_named, object_id};
 use fec_plan::{PayloadId, Position};
 use norm_base::Profile;
 
@@ -44,14 +44,36 @@ pub fn split_pair(items: &[u8]) -> Option<(Item, Item, &[u8])>
     Some((first, second, rest))
 }
 
-/// The symbol that an item names.
-pub fn position_of(profile: &Profile, item: Item) -> Position
-    ensures { result ≡ position_named profile.now item }
+/// The symbol that an item names to a node that knows indices up to this one. `None` where the item names no index.
+pub fn position_of(profile: &Profile, known: u32, item: Item) -> Option<Position>
+    ensures { result ≡ item_named profile.now known item }
 {
-    Position {
-        index: (65_536 + u32::from(item.object) - u32::from(profile.first)) % 65_536,
-        block: item.id.block,
-        symbol: item.id.symbol,
+    match index_named(profile, known, item.object) {
+        None => None,
+        Some(index) => Some(Position {
+            index,
+            block: item.id.block,
+            symbol: item.id.symbol,
+        }),
+    }
+}
+
+/// The ends of the range that two items name. `None` where one of them names no index.
+pub fn ends_of(
+    profile: &Profile,
+    known: u32,
+    first: Item,
+    last: Item,
+) -> Option<(Position, Position)>
+    ensures { result ≡ both_of (item_named profile.now known first) (item_named profile.now known last) }
+{
+    match (
+        position_of(profile, known, first),
+        position_of(profile, known, last),
+    ) {
+        (Some(first), Some(last)) => Some((first, last)),
+        (Some(_), None) => None,
+        (None, _) => None,
     }
 }
 

@@ -10,6 +10,7 @@ use Rattle.norm_base.specs.Contents.{content_of}
 use Rattle.norm_base.specs.declared.kinds.Sent.{Sent}
 use Rattle.norm_base.specs.declared.kinds.Sent.TheVariants as sent
 use Rattle.norm_base.specs.declared.node.Origin.{Origin}
+use Rattle.norm_ext.specs.Written.{Written}
 use Rattle.norm_order.specs.declared.up.Up.{Up}
 use Rattle.norm_receive_rules.specs.ReceiverState.{ReceiverState}
 use Rattle.norm_receive_rules.specs.Leaving.{is_in}
@@ -23,8 +24,8 @@ use Rattle.norm_send_rules.specs.declared.job.Receipt.{Receipt}
 use Rattle.norm_send_rules.specs.declared.news.News.{News}
 use Rattle.norm_safety.specs.Events.{Event as WorldEvent, Commanded, Ticked, Offered, UpTaken, NewsAsked, Answer, Gave, Sent as Gives, Took, Told, Silent}
 use Rattle.norm_safety.specs.Hands.{is_at}
-use Rattle.norm_safety.specs.Lawful.{AllTaken, all_taken, same_octets, same_origin}
-use Rattle.norm_safety.specs.World.{receiver_at}
+use Rattle.norm_safety.specs.Lawful.{AllTaken, all_taken, same_origin}
+use Rattle.norm_safety.specs.World.{receiver_at, same_octets}
 use Rattle.norm_safety.proofs.FrontLemmas.{same_list, list_itself}
 use Rattle.norm_journal.specs.declared.event.Event.{Event}
 use Rattle.norm_journal.specs.declared.event.Event.TheVariants as event
@@ -416,13 +417,13 @@ taken_there : (o : Option ReceiverState) → AllTaken o → all_taken o ≡ true
 taken_there (Some r) is = ap are_none is
 taken_there None is = refl
 
-said_same : (said : Sent) (datagram : Option (List ℕ)) → same_sent said datagram ≡ true → said ≡ sent_of datagram
+said_same : (said : Sent) (datagram : Option Written) → same_sent said datagram ≡ true → said ≡ sent_of datagram
 said_same sent.Nothing None e = refl
 said_same sent.Datagram (Some datagram) e = refl
 said_same sent.Nothing (Some datagram) e = absurd (clash e)
 said_same sent.Datagram None e = absurd (clash e)
 
-said_itself : (datagram : Option (List ℕ)) → same_sent (sent_of datagram) datagram ≡ true
+said_itself : (datagram : Option Written) → same_sent (sent_of datagram) datagram ≡ true
 said_itself None = refl
 said_itself (Some datagram) = refl
 
@@ -451,7 +452,7 @@ gave_exactly due after j node said (Gives datagram) is its taken only =
     ∙ ap (λ d. at (after_tick node d p.after) (world_after (Ticked node j.now) j)) (its_datagram p.datagram p.gives)
     ∙ ap (λ a. at (after_tick node datagram a) (world_after (Ticked node j.now) j)) (only next p).after_is))
   where
-    its_datagram : (other : Option (List ℕ)) → answer_to (Ticked node j.now) j ≡ Gives other → other ≡ datagram
+    its_datagram : (other : Option Written) → answer_to (Ticked node j.now) j ≡ Gives other → other ≡ datagram
     its_datagram other gives = let same : Gives datagram ≡ Gives other = sym is ∙ gives in cc
 gave_exactly due after j node said (Gave result) is its taken only = nothing (λ next p. let same : Gave result ≡ Gives p.datagram = sym is ∙ p.gives in cc)
 gave_exactly due after j node said (Took up) is its taken only = nothing (λ next p. let same : Took up ≡ Gives p.datagram = sym is ∙ p.gives in cc)

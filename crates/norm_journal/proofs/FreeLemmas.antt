@@ -5,9 +5,11 @@ use Rattle.std.specs.Option.{option_map}
 use Rattle.std.proofs.lemmas.Option.{none-some, same_Some}
 use Rattle.std.proofs.lemmas.Bool.{eqb-true, eq-eqb}
 use Rattle.norm_base.specs.Contents.{content_of}
+use Rattle.norm_base.specs.Settings.{Settings}
 use Rattle.norm_base.specs.declared.kinds.Sent.{Sent}
 use Rattle.norm_base.specs.declared.kinds.Sent.TheVariants as sent
 use Rattle.norm_base.specs.declared.node.Origin.{Origin}
+use Rattle.norm_ext.specs.Written.{Written}
 use Rattle.norm_order.specs.declared.up.Up.{Up}
 use Rattle.norm_receive_rules.specs.ReceiverState.{ReceiverState}
 use Rattle.norm_receive_rules.specs.Taking.{took}
@@ -22,7 +24,8 @@ use Rattle.norm_send_rules.specs.declared.news.News.{News}
 use Rattle.norm_safety.specs.Events.{Commanded, Ticked, Answer, Gave, Sent as Gives, Took, Silent}
 use Rattle.norm_safety.specs.Lawful.{AllTaken}
 use Rattle.norm_safety.specs.World.{World, receiver_at}
-use Rattle.norm_safety.specs.WorldStep.{of_receiver}
+use Rattle.norm_safety.specs.WorldStep.{moved, receiver_move}
+use Rattle.norm_receive_rules.specs.ReceiverStep as receiver
 use Rattle.norm_journal.specs.declared.event.Event.{Event}
 use Rattle.norm_journal.specs.declared.event.Event.TheVariants as event
 use Rattle.norm_journal.specs.Follows.{Follows, IsJobOf, OfferedFirst, OfferedAgain, SendersTick, ReceiversTick, TurnBegins, IsQuiet, sent_of}
@@ -156,7 +159,7 @@ job_decided j by told gave other quiet gives (inr a) =
     ∙ ap (λ job. Some (offer_of j a.command.by None job)) a.its_job
     ∙ ap Some (offer_is j by a.command.by None other gave a.named gives)))
 
-tick_is : (j : Judged) (node : ℕ) (said : Sent) (datagram : Option (List ℕ)) → answer_to (Ticked node j.now) j ≡ Gives datagram → said ≡ sent_of datagram
+tick_is : (j : Judged) (node : ℕ) (said : Sent) (datagram : Option Written) → answer_to (Ticked node j.now) j ≡ Gives datagram → said ≡ sent_of datagram
     → tick_due j node ≡ event.Tick node said
 tick_is j node said datagram gives is = ap (λ a. event.Tick node (sent_in a)) gives ∙ ap (λ s. event.Tick node s) (sym is)
 
@@ -164,7 +167,7 @@ part_ticks : (j : Judged) (node : ℕ) (o : Option ReceiverState) → AllTaken o
 part_ticks j node None taken = refl
 part_ticks j node (Some r) taken = ap (hands_due j node r.instance) taken
 
-tick_decided : (j : Judged) (node : ℕ) (said : Sent) (after : Place) (datagram : Option (List ℕ)) → IsQuiet j → AllTaken (receiver_at j.world node)
+tick_decided : (j : Judged) (node : ℕ) (said : Sent) (after : Place) (datagram : Option Written) → IsQuiet j → AllTaken (receiver_at j.world node)
     → answer_to (Ticked node j.now) j ≡ Gives datagram → said ≡ sent_of datagram → SendersTick j node after ⊎ ReceiversTick j node after
     → due j ≡ Some (event.Tick node said)
 tick_decided j node said after datagram quiet taken gives is (inl s) =
@@ -187,16 +190,13 @@ hands_up j node instance up s within (x ∷ ups) is e =
 abbrev instance_of : Option ReceiverState → Option ℕ
 instance_of o = elim o [ Some r ↦ r.instance | None ↦ None ]
 
-abbrev taking : World → Option ReceiverState → World × Answer
-taking w o = elim o [ Some r ↦ of_receiver Took w (took r) | None ↦ (w, Silent) ]
-
-abbrev answer_of : World → Option ReceiverState → Answer
-answer_of w o = (taking w o).1
+abbrev answer_of : Settings → World → Option ReceiverState → Answer
+answer_of p w o = (moved p w (receiver_move o receiver.UpTaken)).1
 
 silent_took : (up : Option Up) → Silent ≡ Took up → ⊥
 silent_took up e = cc
 
-part_hands : (j : Judged) (node instance : ℕ) (up : Up) (o : Option ReceiverState) → instance_of o ≡ Some instance → answer_of j.world o ≡ Took (Some up)
+part_hands : (j : Judged) (node instance : ℕ) (up : Up) (o : Option ReceiverState) → instance_of o ≡ Some instance → answer_of j.profile j.world o ≡ Took (Some up)
     → receiver_part j node o ≡ Some (event.Up node instance up)
 part_hands j node instance up None within gives = absurd (none-some instance within)
 part_hands j node instance up (Some r) within gives =

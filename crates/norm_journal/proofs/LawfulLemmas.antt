@@ -9,6 +9,7 @@ use Rattle.std.specs.Cmp.Lexicographic.{bytes_decides}
 use Rattle.norm_base.specs.Settings.{Settings}
 use Rattle.norm_base.specs.declared.node.Origin.{Origin}
 use Rattle.norm_base.specs.declared.kinds.Sent.{Sent}
+use Rattle.norm_ext.specs.Written.{Written}
 use Rattle.norm_order.specs.declared.up.Up.{Up}
 use Rattle.norm_receive_rules.specs.ReceiverState.{ReceiverState}
 use Rattle.norm_script.specs.declared.script.Line.{Line}
@@ -18,9 +19,11 @@ use Rattle.norm_send_rules.specs.declared.fault.SendFault.{SendFault}
 use Rattle.norm_send_rules.specs.declared.news.News.{News}
 use Rattle.norm_send_rules.specs.Commanding.{commanded}
 use Rattle.norm_safety.specs.Events.{Event as WorldEvent, Commanded, Delivered, Ticked, Offered, UpTaken, NewsAsked, Answer, Gave, Sent as Gives, Took, Told, Silent}
-use Rattle.norm_safety.specs.Lawful.{accepted_with, AllTaken, all_taken, MayCome, LawfulFrom, same_octets}
-use Rattle.norm_safety.specs.World.{World, receiver_at, with_given, given_others}
-use Rattle.norm_safety.specs.WorldStep.{run_from, gives as gives_datagram, at_receiver, sender_ticks, receiver_ticks}
+use Rattle.norm_safety.specs.Lawful.{accepted_with, AllTaken, all_taken, WasGiven, MayCome, LawfulFrom}
+use Rattle.norm_safety.specs.World.{World, receiver_at, with_given, given_others, same_octets}
+use Rattle.norm_safety.specs.WorldStep.{OfSender, OfReceiver, node_move, receiver_move, answered, moved, run_from}
+use Rattle.norm_send_rules.specs.SenderStep as sender
+use Rattle.norm_receive_rules.specs.ReceiverStep as receiver
 use Rattle.norm_journal.specs.declared.event.Event.{Event}
 use Rattle.norm_journal.specs.declared.event.Event.TheVariants as event
 use Rattle.norm_journal.specs.Accepting.{accepts, accepts_news, accepts_next, told_of, judged_from}
@@ -56,7 +59,7 @@ IsCalm _ = ⊤
 
 -- a datagram that is to be offered is the node's last tick's, and a command that is to be offered again is the one that waits
 abbrev IsReady : Place → Judged → Type 0
-IsReady (Offering node datagram next) j = Contains j.world.given (node, datagram) × IsCalm next
+IsReady (Offering node octets next) j = WasGiven j.world node octets × IsCalm next
 IsReady (Again command) j = j.waiting ≡ Some command
 IsReady _ j = ⊤
 
@@ -72,7 +75,7 @@ record Sound (accepted : List Origin) (place : Place) (j : Judged) : Type 0 wher
 -- the event may come in the world, if it is one there
 abbrev MayBe : List Origin → Judged → Option WorldEvent → Type 0
 MayBe accepted j None = ⊤
-MayBe accepted j (Some e) = MayCome j.world accepted e
+MayBe accepted j (Some e) = MayCome j.profile j.world accepted e
 
 abbrev accepted_after : List Origin → Judged → Option WorldEvent → List Origin
 accepted_after accepted j None = accepted
@@ -240,12 +243,12 @@ all_were_taken (Some r) e = none_left r.ups e where
   none_left (up ∷ ups) e = absurd (cc)
 
 -- what a tick gave stands in the world as given
-given_there : (node : ℕ) (o : Option (List ℕ)) (w : World) (datagram : List ℕ) → (gives_datagram node o w).1 ≡ Gives (Some datagram)
-    → Contains (gives_datagram node o w).0.given (node, datagram)
+given_there : (node : ℕ) (o : Option Written) (w : World) (datagram : Written) → (answered node (Gives o) w).1 ≡ Gives (Some datagram)
+    → Contains (answered node (Gives o) w).0.given (node, datagram)
 given_there node None w datagram e = absurd (cc)
 given_there node (Some other) w datagram e =
     subst (λ d. Contains (with_given node (Some other) w).given (node, d)) (same_datagram other datagram e) (Contains-push (given_others node w) (node, other)) where
-      same_datagram : (a b : List ℕ) → ◌≡◌ {A = Answer} (Gives (Some a)) (Gives (Some b)) → a ≡ b
+      same_datagram : (a b : Written) → ◌≡◌ {A = Answer} (Gives (Some a)) (Gives (Some b)) → a ≡ b
       same_datagram a b e = cc
 
 found_node : (node : ℕ) (rs : List ReceiverState) (r : ReceiverState) → find (λ (r : ReceiverState). r.node == node) rs ≡ Some r → r.node ≡ node
@@ -256,32 +259,32 @@ found_node node (x ∷ rs) r e = at_head (x.node == node) refl e (λ later. foun
   at_head true is e later = ap (λ (y : ReceiverState). y.node) (sym (same_Some x r e)) ∙ eqb-true x.node node is
   at_head false is e later = later e
 
-receiver_gives : (p : Settings) (w : World) (node now : ℕ) (o : Option ReceiverState) → receiver_at w node ≡ o → (datagram : List ℕ)
-    → (elim o as (λ x. World × Answer) [ Some r ↦ receiver_ticks p now w r | None ↦ (w, Silent) ]).1 ≡ Gives (Some datagram)
-    → Contains (elim o as (λ x. World × Answer) [ Some r ↦ receiver_ticks p now w r | None ↦ (w, Silent) ]).0.given (node, datagram)
+receiver_gives : (p : Settings) (w : World) (node now : ℕ) (o : Option ReceiverState) → receiver_at w node ≡ o → (datagram : Written)
+    → (moved p w (receiver_move o (receiver.Ticked now))).1 ≡ Gives (Some datagram)
+    → Contains (moved p w (receiver_move o (receiver.Ticked now))).0.given (node, datagram)
 receiver_gives p w node now None is datagram e = absurd (cc)
 receiver_gives p w node now (Some r) is datagram e =
-    subst (λ n. Contains (receiver_ticks p now w r).0.given (n, datagram)) (found_node node w.receivers r is) (given_there r.node _ _ datagram e)
+    subst (λ n. Contains (moved p w (OfReceiver r (receiver.Ticked now))).0.given (n, datagram)) (found_node node w.receivers r is) (given_there r.node _ _ datagram e)
 
-tick_gives_by : (b : Bool) (p : Settings) (w : World) (node now : ℕ) → node == p.sender ≡ b → (datagram : List ℕ)
-    → (elim b as (λ x. World × Answer) [ true ↦ sender_ticks p now w | false ↦ at_receiver w node (receiver_ticks p now w) ]).1 ≡ Gives (Some datagram)
-    → Contains (elim b as (λ x. World × Answer) [ true ↦ sender_ticks p now w | false ↦ at_receiver w node (receiver_ticks p now w) ]).0.given (node, datagram)
+tick_gives_by : (b : Bool) (p : Settings) (w : World) (node now : ℕ) → node == p.sender ≡ b → (datagram : Written)
+    → (moved p w (node_move b (receiver_at w node) (sender.Ticked now) (receiver.Ticked now))).1 ≡ Gives (Some datagram)
+    → Contains (moved p w (node_move b (receiver_at w node) (sender.Ticked now) (receiver.Ticked now))).0.given (node, datagram)
 tick_gives_by true p w node now is datagram e =
-    subst (λ n. Contains (sender_ticks p now w).0.given (n, datagram)) (sym (eqb-true node p.sender is)) (given_there p.sender _ _ datagram e)
+    subst (λ n. Contains (moved p w (OfSender (sender.Ticked now))).0.given (n, datagram)) (sym (eqb-true node p.sender is)) (given_there p.sender _ _ datagram e)
 tick_gives_by false p w node now is datagram e = receiver_gives p w node now (receiver_at w node) refl datagram e
 
-tick_gives : (j : Judged) (node : ℕ) (datagram : List ℕ) → answer_to (Ticked node j.now) j ≡ Gives (Some datagram)
+tick_gives : (j : Judged) (node : ℕ) (datagram : Written) → answer_to (Ticked node j.now) j ≡ Gives (Some datagram)
     → Contains (world_after (Ticked node j.now) j).world.given (node, datagram)
 tick_gives j node datagram e = tick_gives_by (node == j.profile.sender) j.profile j.world node j.now refl datagram e
 
 -- a tick that gave this
-ticked_sound : (accepted : List Origin) (old next : Place) (j : Judged) (node : ℕ) (o : Option (List ℕ)) → IsCalm next → Once accepted old j
+ticked_sound : (accepted : List Origin) (old next : Place) (j : Judged) (node : ℕ) (o : Option Written) → IsCalm next → Once accepted old j
     → answer_to (Ticked node j.now) j ≡ Gives o
     → Sound accepted (after_tick node o next) (at (after_tick node o next) (world_after (Ticked node j.now) j))
 ticked_sound accepted old next j node None calm once is = calm_sound accepted old next j _ calm refl refl once
 ticked_sound accepted old next j node (Some datagram) calm once is = record {
   once = λ q. fewer (count q accepted) (count q (names_waiting j.waiting)) (count q (map origin_of j.left)) (count q (names_in old)) 0 refl (once q);
-  ready = (tick_gives j node datagram is, calm);
+  ready = ((datagram, tick_gives j node datagram is, refl), calm);
 }
 
 gave_leads : (accepted : List Origin) (old next : Place) (j : Judged) (node : ℕ) (sent : Sent) (answer : Answer) → IsCalm next → Once accepted old j
@@ -318,8 +321,8 @@ offers_at_lead accepted (Offering node datagram next) j from octets s =
     from_map (at next) (comes (Offered from octets) Silent j) last is (λ x comes_so same.
     let came_so = came (Offered from octets) Silent j x comes_so in
     subst (λ y. Leads accepted j (Some (Offered from octets)) y) (ap (at next) came_so.1 ∙ same) (record {
-      may = subst (λ n. Contains j.world.given (n, octets)) (sym (eqb-true from node two.0))
-          (subst (λ d. Contains j.world.given (node, d)) (sym ((bytes_decides octets datagram).0 two.1)) s.ready.0);
+      may = subst (λ n. WasGiven j.world n octets) (sym (eqb-true from node two.0))
+          (subst (λ d. WasGiven j.world node d) (sym ((bytes_decides octets datagram).0 two.1)) s.ready.0);
       sound = calm_sound accepted (Offering node datagram next) next j _ s.ready.1 refl refl s.once;
     })))
 offers_at_lead accepted _ j from octets s = no_event accepted j (Some (Offered from octets))
@@ -329,7 +332,7 @@ abbrev either : {X : Type 0} → Bool → Bool → X → X → X → X
 either sender receiver a b c = elim sender [ true ↦ a | false ↦ elim receiver [ true ↦ b | false ↦ c ] ]
 
 taken_by : (sender receiver : Bool) (accepted : List Origin) (old place : Place) (j a b : Judged) (node : ℕ) (octets : List ℕ) (now draw other : ℕ)
-    → IsCalm place → Once accepted old j → MayCome j.world accepted (Delivered node octets now draw)
+    → IsCalm place → Once accepted old j → MayCome j.profile j.world accepted (Delivered node octets now draw)
     → a.waiting ≡ j.waiting → a.left ≡ j.left → b.waiting ≡ j.waiting → b.left ≡ j.left
     → Leads accepted j (either sender receiver (Some (Delivered node octets now draw)) (Some (Delivered node octets now other)) None)
     (at place (either sender receiver a b j))
@@ -362,7 +365,7 @@ none_leads accepted _ j s = no_event accepted j None
 
 ready_stays : (place : Place) (j x : Judged) → x.world.given ≡ j.world.given → x.waiting ≡ j.waiting → IsReady place j → IsReady place x
 ready_stays (Offering node datagram next) j x given waiting ready =
-    (subst (λ g. Contains g (node, datagram)) (sym given) ready.0, ready.1)
+    ((ready.0.0, subst (λ g. Contains g (node, ready.0.0)) (sym given) ready.0.1, ready.0.2), ready.1)
 ready_stays (Again command) j x given waiting ready = waiting ∙ ready
 ready_stays Starting j x given waiting ready = tt
 ready_stays Between j x given waiting ready = tt

@@ -4,6 +4,7 @@ use Rattle.norm_base.specs.Contents.{content_of}
 use Rattle.norm_base.specs.declared.kinds.Sent.{Sent}
 use Rattle.norm_base.specs.declared.kinds.Sent.TheVariants as sent
 use Rattle.norm_base.specs.declared.node.Origin.{Origin}
+use Rattle.norm_ext.specs.Written.{Written}
 use Rattle.norm_order.specs.declared.up.Up.{Up}
 use Rattle.norm_script.specs.declared.script.Line.{Line}
 use Rattle.norm_script.specs.declared.script.Verb.{Verb}
@@ -117,7 +118,7 @@ pub record ReceiversTick (j : Judged) (node : ℕ) (after : Place) : Type 0 wher
   pub after_is : after ≡ handing nodes
 
 -- whether a tick gave a datagram
-abbrev pub sent_of : Option (List ℕ) → Sent
+abbrev pub sent_of : Option Written → Sent
 sent_of None = sent.Nothing
 sent_of (Some datagram) = sent.Datagram
 
@@ -127,7 +128,7 @@ pub record NodeTicks (j : Judged) (node : ℕ) (said : Sent) (next : Judged) : T
   pub after : Place
   pub due : SendersTick j node after ⊎ ReceiversTick j node after
   pub taken : AllTaken (receiver_at j.world node)
-  pub datagram : Option (List ℕ)
+  pub datagram : Option Written
   pub gives : answer_to (Ticked node j.now) j ≡ Gives datagram
   pub said_is : said ≡ sent_of datagram
   pub then : next ≡ at (after_tick node datagram after) (world_after (Ticked node j.now) j)

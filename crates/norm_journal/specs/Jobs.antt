@@ -6,7 +6,7 @@ use Rattle.norm_script.specs.declared.script.Verb.{Verb}
 use Rattle.norm_script.specs.declared.script.Verb.TheVariants as verb
 use Rattle.norm_send_rules.specs.declared.job.Job.{Job}
 use Rattle.norm_send_rules.specs.declared.job.Job.TheVariants as job
-use Rattle.norm_safety.specs.Lawful.{same_octets}
+use Rattle.norm_safety.specs.World.{same_octets}
 
 -- the files that are there, by name, where they are told
 abbrev pub Told : Type 0

@@ -1,6 +1,7 @@
 -- The places in a run: each has what is due there.
 use Rattle.std.specs.Prelude.{ℕ, List, [], ◌∷◌, Option, None, Some}
 use Rattle.norm_base.specs.declared.node.Origin.{Origin}
+use Rattle.norm_ext.specs.Written.{Written}
 use Rattle.norm_script.specs.declared.script.Line.{Line}
 use Rattle.norm_send_rules.specs.declared.job.Job.{Job}
 
@@ -30,9 +31,9 @@ handing [] = Between
 handing (node ∷ nodes) = Handing node nodes
 
 -- after a tick what it gave is offered
-abbrev pub after_tick : ℕ → Option (List ℕ) → Place → Place
+abbrev pub after_tick : ℕ → Option Written → Place → Place
 after_tick node None next = next
-after_tick node (Some datagram) next = Offering node datagram next
+after_tick node (Some datagram) next = Offering node datagram.octets next
 
 -- a turn begins with a command: one that waits, or one that is pulled, where there are some left
 abbrev pub command_due : Option Waiting → List Line → Place

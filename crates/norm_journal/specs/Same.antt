@@ -4,6 +4,7 @@ use Rattle.std.specs.Option.{option_eq}
 use Rattle.norm_base.specs.declared.kinds.Sent.{Sent}
 use Rattle.norm_base.specs.declared.kinds.Sent.TheVariants as sent
 use Rattle.fec_plan.specs.Points.{same_position}
+use Rattle.norm_ext.specs.Written.{Written}
 use Rattle.norm_send_rules.specs.declared.job.Receipt.{Receipt}
 use Rattle.norm_send_rules.specs.declared.job.Receipt.TheVariants as receipt
 use Rattle.norm_send_rules.specs.declared.fault.EnqueueFault.{EnqueueFault}
@@ -95,7 +96,7 @@ same_answer Silent Silent = true
 same_answer _ _ = false
 
 -- a tick gave a datagram or none
-abbrev pub same_sent : Sent → Option (List ℕ) → Bool
+abbrev pub same_sent : Sent → Option Written → Bool
 same_sent sent.Nothing None = true
 same_sent sent.Datagram (Some datagram) = true
 same_sent _ _ = false

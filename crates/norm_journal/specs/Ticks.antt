@@ -5,8 +5,8 @@ use Rattle.norm_base.specs.declared.kinds.Sent.{Sent}
 use Rattle.norm_order.specs.declared.up.Up.{Up}
 use Rattle.norm_safety.specs.Events.{Ticked, Offered, UpTaken, Sent as Gives, Took, Answer, Silent}
 use Rattle.norm_safety.specs.Hands.{is_at}
-use Rattle.norm_safety.specs.Lawful.{all_taken, same_octets}
-use Rattle.norm_safety.specs.World.{receiver_at}
+use Rattle.norm_safety.specs.Lawful.{all_taken}
+use Rattle.norm_safety.specs.World.{receiver_at, same_octets}
 use Rattle.norm_journal.specs.InWorld.{world_after, answer_to, at, comes}
 use Rattle.norm_journal.specs.Judged.{Judged}
 use Rattle.norm_journal.specs.Places.{Place, Sending, Offering, Taking, Handing, handing, after_tick}

@@ -13,8 +13,8 @@ use Rattle.norm_receive_rules.specs.Lazy.{Lazy, Nil, Next, followed_by, lazily}
 use Rattle.norm_receive_rules.specs.ReceiverState.{ReceiverState, Plan}
 use Rattle.norm_receive_rules.specs.Plans.{cut_of_plan, says_stream, plan_of, holds, lacking, is_done, has_its_info, first_block}
 use Rattle.norm_receive_rules.specs.Seeing.{greatest_block}
-use Rattle.norm_receive_rules.specs.Needs.{Need, count_need, symbol_need, info_need, object_need, farthest_index, is_covered, info_needs, blocks_before, blocks_due, counts_from, object_needs, unknown_needs}
-use Rattle.norm_receive_rules.specs.StreamNeeds.{last_block, flush_in, stream_due, earlier_needs, missing_symbols, flush_symbols, end_of, end_symbols, last_symbols, is_behind, open_block, rest_need, rest_needs, stream_needs}
+use Rattle.norm_receive_rules.specs.Needs.{Need, Object, ObjectInfo, Symbols, Source, Rest, farthest_index, is_covered, info_needs, blocks_before, blocks_due, counts_from, object_needs, unknown_needs}
+use Rattle.norm_receive_rules.specs.StreamNeeds.{last_block, flush_in, stream_due, earlier_needs, missing_symbols, flush_symbols, end_of, end_symbols, last_symbols, is_behind, open_block, rest_needs, stream_needs}
 use Rattle.norm_receive_rules.specs.AllNeeds.{planned_needs, needs_of, needs_from, last_known, needs_nothing}
 use Rattle.norm_receive_rules.specs.NothingMissing.{IsBeforeFarthest, IsFlushed, BlocksAreThere, IsBeforeFlush, IsThere, StreamIsThere, IsThereByPlan, ObjectIsThere, NothingIsMissing}
 use Rattle.norm_receive_rules.specs.Laws.{NeedsLaws}
@@ -70,7 +70,7 @@ counts_nil s plan (suc n) first = go (lacking s plan first) refl (counts_nil s p
     counts : ℕ → Lazy Need
     counts less = elim less [
       | zero ↦ counts_from s plan n (suc first)
-      | suc k ↦ Next (count_need plan.index first (suc k)) (λ u. counts_from s plan n (suc first))
+      | suc k ↦ Next (Symbols plan.index first (suc k)) (λ u. counts_from s plan n (suc first))
     ]
 
     Rest : Type 0
@@ -435,7 +435,7 @@ rest_empty : (s : ReceiverState) (plan : Plan) (end : Option Position) → Decid
 rest_empty s plan end =
     let test = is_none end && is_behind s plan.index && nat_le (open_block s plan) last_block in
     let d = le_test (open_block s plan) last_block in
-    same_as (is_empty (rest_needs s plan end)) (one_empty test (rest_need plan.index (open_block s plan)))
+    same_as (is_empty (rest_needs s plan end)) (one_empty test (Rest plan.index (open_block s plan)))
     (λ no behind le. some_is end (λ none. clash (sym no ∙ all_three (is_none end) (is_behind s plan.index) (nat_le (open_block s plan) last_block) none behind (d.1 le))))
     (λ has. false_of test (λ e. let h = of_three (is_none end) (is_behind s plan.index) (nat_le (open_block s plan) last_block) e in
     none_is end h.0 (has h.1 (d.0 h.2))))
@@ -443,9 +443,9 @@ rest_empty s plan end =
 stream_nil : (p : Settings) (s : ReceiverState) (plan : Plan) → Decides (is_nil (stream_needs p s plan)) (StreamIsThere p s plan)
 stream_nil p s plan =
     let end = end_of p s plan in
-    let symbols = map symbol_need (last_symbols s plan end) in
+    let symbols = map Source (last_symbols s plan end) in
     let rest = rest_needs s plan end in
-    let last = map_empty symbol_need (last_symbols s plan end)
+    let last = map_empty Source (last_symbols s plan end)
     (both_symbols (flush_symbols s plan) (end_symbols s plan end) (flush_empty s plan) (end_empty s plan end)) in
     let listed = nil_lazily (symbols ++ rest) (both_empty symbols rest last (rest_empty s plan end)) in
     same_as (is_nil (stream_needs p s plan)) (both_nil (earlier_needs s plan) (λ u. lazily (symbols ++ rest)) (earlier_nil s plan) listed)
@@ -455,7 +455,7 @@ stream_nil p s plan =
 -- All objects.
 
 info_empty : (s : ReceiverState) (plan : Plan) → Decides (is_empty (info_needs s plan)) (is_covered s plan.index ≡ true → has_its_info s plan ≡ true)
-info_empty s plan = same_as (is_empty (info_needs s plan)) (one_empty (is_covered s plan.index && not (has_its_info s plan)) (info_need plan.index))
+info_empty s plan = same_as (is_empty (info_needs s plan)) (one_empty (is_covered s plan.index && not (has_its_info s plan)) (ObjectInfo plan.index))
     (λ no covered. has (is_covered s plan.index) (has_its_info s plan) no covered)
     (λ has. no_need (is_covered s plan.index) (has_its_info s plan) has)
   where
@@ -490,7 +490,7 @@ needs_nil p s index = go (plan_of s index)
     of_plan found = elim found [ Some plan ↦ planned_needs p s plan | None ↦ lazily (unknown_needs s index) ]
 
     go : (found : Option Plan) → Decides (is_nil (of_plan found)) (ObjectIsThere p s index found)
-    go None = nil_lazily (unknown_needs s index) (one_empty (is_covered s index) (object_need index))
+    go None = nil_lazily (unknown_needs s index) (one_empty (is_covered s index) (Object index))
     go (Some plan) = planned_nil p s plan
 
 from_nil : (n : ℕ) (p : Settings) (s : ReceiverState) (first : ℕ)

@@ -1,59 +1,56 @@
 -- The NACK and the acknowledgement that a receiver writes (RFC 5740 section 4.3).
-use Rattle.std.specs.Prelude.{ℕ, ◌+◌, ◌-◌, ◌==◌, ◌&&◌, List, [], ◌∷◌, ◌++◌, Bool, true, false, nat_le, Option, None, Some, unwrap_or}
+use Rattle.std.specs.Prelude.{ℕ, ◌+◌, ◌-◌, List, [], ◌∷◌, map, true, false, nat_le, Option, None, Some, unwrap_or}
 use Rattle.norm_base.specs.Settings.{Settings}
+use Rattle.fec_plan.specs.Points.{position}
 use Rattle.fec_plan.specs.declared.position.Position.{Position}
 use Rattle.norm_ext.specs.Message.{Message, Nack, Ack, Mark}
-use Rattle.norm_ext.specs.Numbers.{form_number, flush_ack}
+use Rattle.norm_ext.specs.Asked.{Asked, asked_for, octets_behind, requests_asked}
+use Rattle.norm_ext.specs.Asking.{segment_flag, block_flag, info_flag, object_flag}
+use Rattle.norm_ext.specs.Numbers.{flush_ack}
 use Rattle.norm_ext.specs.ObjectIds.{object_id}
-use Rattle.norm_ext.specs.Requests.{Request, RequestItem}
+use Rattle.norm_ext.specs.declared.head.Item.{Item}
+use Rattle.norm_ext.specs.declared.kinds.Form.TheVariants as form
 use Rattle.norm_receive_rules.specs.Lazy.{Lazy, Nil, Next}
 use Rattle.norm_receive_rules.specs.ReceiverState.{ReceiverState}
-use Rattle.norm_receive_rules.specs.Needs.{Need}
-
--- two needs have the same form and flags, and so share a request where they are neighbours
-abbrev pub alike : Need → Need → Bool
-alike a b = form_number a.form == form_number b.form && a.flags == b.flags
-
--- the octets of a need's items
-abbrev pub items_size : Need → ℕ
-items_size need = elim need.last [ Some at ↦ 16 | None ↦ 8 ]
-
--- the octets that a need takes behind the one before it: four of a request's head, where it begins one
-abbrev pub size_behind : Option Need → Need → ℕ
-size_behind None need = 4 + items_size need
-size_behind (Some before) need = elim (alike before need) [ true ↦ items_size need | false ↦ 4 + items_size need ]
-
--- the longest prefix of the needs whose requests fit so many octets
-unfoldable pub fitting : Lazy Need → Option Need → ℕ → List Need
-fitting Nil before room = []
-fitting (Next need rest) before room = elim (nat_le (size_behind before need) room) [
-  | true ↦ need ∷ fitting (rest tt) (Some need) (room - size_behind before need)
-  | false ↦ []
-]
+use Rattle.norm_receive_rules.specs.Needs.{Need, Object, ObjectInfo, Symbols, Source, Rest}
+use Rattle.norm_receive_rules.specs.StreamNeeds.{last_block}
 
 -- an item that names a position
-abbrev pub item_of : Settings → Position → RequestItem
-item_of p at = record {
-  reserved = 0;
-  item = record { object = object_id p at.index; id = record { block = at.block; symbol = at.symbol } };
-}
+abbrev pub item_of : Settings → Position → Item
+item_of p at = record { object = object_id p at.index; id = record { block = at.block; symbol = at.symbol } }
 
--- the items of a need: of a range both ends
-abbrev pub items_of_need : Settings → Need → List RequestItem
-items_of_need p need = item_of p need.first ∷ elim need.last [ Some at ↦ item_of p at ∷ [] | None ↦ [] ]
+-- an object, named by its first block's first symbol
+abbrev pub object_item : Settings → ℕ → Item
+object_item p index = item_of p (position index 0 0)
 
--- a need before these requests: it joins the first of them where that has its form and flags
-abbrev pub before_requests : Settings → Need → List Request → List Request
-before_requests p need [] = record { form = need.form; flags = need.flags; items = items_of_need p need } ∷ []
-before_requests p need (r ∷ requests) = elim (form_number need.form == form_number r.form && need.flags == r.flags) [
-  | true ↦ record r { items = items_of_need p need ++ r.items } ∷ requests
-  | false ↦ record { form = need.form; flags = need.flags; items = items_of_need p need } ∷ r ∷ requests
-]
+-- how a need is asked for: an object by OBJECT and INFO, an info by INFO, a count of symbols as erasures, a source symbol by
+-- SEGMENT, and the rest of a stream as a range of blocks
+abbrev pub asked_of : Settings → Need → Asked
+asked_of p (Object index) = asked_for form.Items (object_flag + info_flag) (object_item p index) None
+asked_of p (ObjectInfo index) = asked_for form.Items info_flag (object_item p index) None
+asked_of p (Symbols index block wanted) = asked_for form.Erasures segment_flag (item_of p (position index block wanted)) None
+asked_of p (Source at) = asked_for form.Items segment_flag (item_of p at) None
+asked_of p (Rest index block) =
+    asked_for form.Ranges block_flag (item_of p (position index block 0)) (Some (item_of p (position index last_block 0)))
 
--- needs as requests
-unfoldable pub requests_for : Settings → List Need → List Request
-requests_for p [] = []
-requests_for p (need ∷ needs) = before_requests p need (requests_for p needs)
+-- the indices of its items
+abbrev pub indices_of : Need → List ℕ
+indices_of (Object index) = index ∷ []
+indices_of (ObjectInfo index) = index ∷ []
+indices_of (Symbols index block wanted) = index ∷ []
+indices_of (Source at) = at.index ∷ []
+indices_of (Rest index block) = index ∷ index ∷ []
+
+-- The longest prefix of the needs whose requests fit so many octets. Neighbours of one form and the same flags share a
+-- request.
+unfoldable pub fitting : Settings → Lazy Need → Option Asked → ℕ → List Need
+fitting p Nil before room = []
+fitting p (Next need rest) before room =
+    let asked = asked_of p need in
+    elim (nat_le (octets_behind before asked) room) [
+      | true ↦ need ∷ fitting p (rest tt) (Some asked) (room - octets_behind before asked)
+      | false ↦ []
+    ]
 
 -- the current instance's id
 abbrev pub instance_id : ReceiverState → ℕ
@@ -67,7 +64,7 @@ nack_message p s needs = Nack (record {
   sender = p.sender;
   instance = instance_id s;
   extensions = [];
-  requests = requests_for p needs;
+  requests = requests_asked (map (asked_of p) needs);
 })
 
 -- an acknowledgement of a position to the sender
@@ -80,5 +77,5 @@ ack_message p s at = Ack (record {
   ack_type = flush_ack;
   ack_id = 0;
   extensions = [];
-  content = Mark ((item_of p at).item);
+  content = Mark (item_of p at);
 })

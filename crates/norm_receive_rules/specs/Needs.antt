@@ -1,41 +1,19 @@
 -- What a receiver needs of data and files (RFC 5740 section 5.3, RFC 5401 section 3.2.2), from what it saw of the sender.
 use Rattle.std.specs.Prelude.{ℕ, zero, suc, ◌+◌, ◌==◌, ◌&&◌, ◌||◌, not, List, [], ◌∷◌, max, min, Bool, true, false, nat_lt, nat_le, Option, None, Some}
 use Rattle.fec_plan.specs.Partition.{blocks}
-use Rattle.fec_plan.specs.Points.{position}
 use Rattle.fec_plan.specs.declared.position.Position.{Position}
-use Rattle.norm_ext.specs.Asking.{segment_flag, info_flag, object_flag}
-use Rattle.norm_ext.specs.declared.kinds.Form.{Form}
-use Rattle.norm_ext.specs.declared.kinds.Form.TheVariants as form
 use Rattle.norm_receive_rules.specs.Lazy.{Lazy, Nil, Next}
 use Rattle.norm_receive_rules.specs.ReceiverState.{ReceiverState, Plan}
 use Rattle.norm_receive_rules.specs.Plans.{cut_of_plan, has_its_info, lacking}
 
--- a need: a form and flags, an item, and of a range its last end
-pub record Need : Type 0 where
-  pub form : Form
-  pub flags : ℕ
-  pub first : Position
-  pub last : Option Position
-
--- one item
-abbrev pub item_need : Form → ℕ → Position → Need
-item_need form flags at = record { form = form; flags = flags; first = at; last = None }
-
--- an object of which nothing is known, and its info
-abbrev pub object_need : ℕ → Need
-object_need index = item_need form.Items (object_flag + info_flag) (position index 0 0)
-
--- an info
-abbrev pub info_need : ℕ → Need
-info_need index = item_need form.Items info_flag (position index 0 0)
-
--- so many symbols of a block
-abbrev pub count_need : ℕ → ℕ → ℕ → Need
-count_need index block wanted = item_need form.Erasures segment_flag (position index block wanted)
-
--- one source symbol
-abbrev pub symbol_need : Position → Need
-symbol_need at = item_need form.Items segment_flag at
+-- A need: an object of which nothing is known, and its info; the info of an object; so many symbols of a block; a source
+-- symbol; all of a stream from a block on.
+pub data Need : Type 0 where
+  Object : (index : ℕ) → Need
+  ObjectInfo : (index : ℕ) → Need
+  Symbols : (index block wanted : ℕ) → Need
+  Source : (at : Position) → Need
+  Rest : (index block : ℕ) → Need
 
 -- the index of the farthest point seen, or 0
 abbrev pub farthest_index : ReceiverState → ℕ
@@ -47,7 +25,7 @@ is_covered s index = nat_lt index (farthest_index s) || elim s.flush [ Some at �
 
 -- the info of a covered object that is missing
 abbrev pub info_needs : ReceiverState → Plan → List Need
-info_needs s plan = elim (is_covered s plan.index && not (has_its_info s plan)) [ true ↦ info_need plan.index ∷ [] | false ↦ [] ]
+info_needs s plan = elim (is_covered s plan.index && not (has_its_info s plan)) [ true ↦ ObjectInfo plan.index ∷ [] | false ↦ [] ]
 
 -- of the blocks of an object: all where its index is below this one, so many where it is this one, and none above
 abbrev pub blocks_before : Plan → ℕ → ℕ → ℕ
@@ -67,7 +45,7 @@ unfoldable pub counts_from : ReceiverState → Plan → ℕ → ℕ → Lazy Nee
 counts_from s plan zero block = Nil
 counts_from s plan (suc n) block = elim (lacking s plan block) [
   | zero ↦ counts_from s plan n (suc block)
-  | suc less ↦ Next (count_need plan.index block (suc less)) (λ u. counts_from s plan n (suc block))
+  | suc less ↦ Next (Symbols plan.index block (suc less)) (λ u. counts_from s plan n (suc block))
 ]
 
 -- what is needed of data or a file
@@ -76,4 +54,4 @@ object_needs s plan = counts_from s plan (blocks_due s plan) 0
 
 -- what is needed of an object without a plan: all of it, where it is covered
 abbrev pub unknown_needs : ReceiverState → ℕ → List Need
-unknown_needs s index = elim (is_covered s index) [ true ↦ object_need index ∷ [] | false ↦ [] ]
+unknown_needs s index = elim (is_covered s index) [ true ↦ Object index ∷ [] | false ↦ [] ]

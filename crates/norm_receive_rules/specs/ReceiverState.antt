@@ -2,7 +2,7 @@
 use Rattle.std.specs.Prelude.{ℕ, List, [], Option, None}
 use Rattle.fec_plan.specs.Points.{Point, position}
 use Rattle.fec_plan.specs.declared.position.Position.{Position}
-use Rattle.norm_ext.specs.Requests.{Request}
+use Rattle.norm_ext.specs.Asking.{Named}
 use Rattle.norm_ext.specs.declared.fti.Fti.{Fti}
 use Rattle.norm_order.specs.declared.up.Up.{Up}
 
@@ -22,15 +22,15 @@ pub record HeldInfo : Type 0 where
   pub index : ℕ
   pub info : List ℕ
 
--- The state of a node: the current instance or none, and the ids that were left; plans, symbols and infos that are
--- held, in order; the hand-up point, which is the next source symbol to be handed up; the objects that were lost; the
--- hand-ups that were not taken yet; the farthest point seen, of each stream with a plan the greatest block seen, and
--- the greatest flush position seen; the requests heard while backing off; the moment at which the back-off ends, and
--- the one before which none begins; the acknowledgement that is due; the sequence number.
+-- The state of a node: the current instance or none, and the greatest index that a message of it named; plans, symbols and
+-- infos that are held, in order; the hand-up point, which is the next source symbol to be handed up; the objects that were
+-- lost; the hand-ups that were not taken yet; the farthest point seen, of each stream with a plan the greatest block seen,
+-- and the greatest flush position seen; the requests heard while backing off, by what they named then; the moment at which
+-- the back-off ends, and the one before which none begins; the acknowledgement that is due; the sequence number.
 pub record ReceiverState : Type 0 where
   pub node : ℕ
   pub instance : Option ℕ
-  pub left : List ℕ
+  pub known : ℕ
   pub plans : List Plan
   pub held : List Held
   pub infos : List HeldInfo
@@ -40,18 +40,18 @@ pub record ReceiverState : Type 0 where
   pub farthest : Option Point
   pub seen : List Point
   pub flush : Option Position
-  pub heard : List Request
+  pub heard : List Named
   pub backoff : Option ℕ
   pub holdoff : ℕ
   pub due : Option Position
   pub sequence : ℕ
 
--- of an instance, or of none, nothing is known; the ids left and the sequence number go on
-abbrev pub knowing_nothing : ℕ → Option ℕ → List ℕ → ℕ → ReceiverState
-knowing_nothing node instance left sequence = record {
+-- of an instance, or of none, nothing is known; the sequence number goes on
+abbrev pub knowing_nothing : ℕ → Option ℕ → ℕ → ReceiverState
+knowing_nothing node instance sequence = record {
   node = node;
   instance = instance;
-  left = left;
+  known = 0;
   plans = [];
   held = [];
   infos = [];
@@ -70,4 +70,4 @@ knowing_nothing node instance left sequence = record {
 
 -- as a node's receiver begins
 abbrev pub receiver_opening : ℕ → ReceiverState
-receiver_opening node = knowing_nothing node None [] 0
+receiver_opening node = knowing_nothing node None 0

@@ -2,6 +2,7 @@
 use Rattle.std.specs.Prelude.{ℕ, List, Option}
 use Rattle.norm_base.specs.Settings.{Settings}
 use Rattle.norm_order.specs.declared.up.Up.{Up}
+use Rattle.norm_ext.specs.Written.{Written}
 use Rattle.norm_receive_rules.specs.ReceiverState.{ReceiverState}
 use Rattle.norm_receive_rules.specs.Receiving.{received}
 use Rattle.norm_receive_rules.specs.Taking.{took}
@@ -16,7 +17,7 @@ pub data ReceiverEvent : Type 0 where
 -- what it answers: nothing, a datagram or none, a hand-up or none
 pub data ReceiverAnswer : Type 0 where
   Silent : ReceiverAnswer
-  Sent : (datagram : Option (List ℕ)) → ReceiverAnswer
+  Sent : (datagram : Option Written) → ReceiverAnswer
   Gave : (up : Option Up) → ReceiverAnswer
 
 -- a step's state and answer, the answer under its word

@@ -1,11 +1,11 @@
 -- What a receiver does with a datagram (RFC 5740 section 5.3).
-use Rattle.std.specs.Prelude.{ℕ, ◌==◌, List, true, false, None, Some, Result, Ok}
+use Rattle.std.specs.Prelude.{ℕ, ◌==◌, List, max, true, false, Option, None, Some, unwrap_or, option_and_then, Result, Ok}
 use Rattle.norm_base.specs.Settings.{Settings}
 use Rattle.fec_plan.specs.Points.{point, position, point_of}
 use Rattle.fec_plan.specs.declared.position.Position.{Position}
 use Rattle.norm_ext.specs.Extensions.{Extension, fti_of}
 use Rattle.norm_ext.specs.Message.{Message, Info, Data, Flush, Squelch, RepairAdv, Nack, InfoMessage, DataMessage, FlushCommand, SquelchCommand}
-use Rattle.norm_ext.specs.ObjectIds.{index_of}
+use Rattle.norm_ext.specs.ObjectIds.{index_named}
 use Rattle.norm_ext.specs.Reading.{decoded}
 use Rattle.norm_receive_rules.specs.ReceiverState.{ReceiverState}
 use Rattle.norm_receive_rules.specs.Fitting.{fit_of, fitted, lets_put}
@@ -31,40 +31,50 @@ object_received p at extensions flags put s = elim (fti_of extensions) [
 ]
 
 -- an INFO counts as block 0, symbol 0 of its object
-abbrev pub info_received : Settings → InfoMessage → ReceiverState → ReceiverState
-info_received p m s =
-    let index = index_of p m.head.object in
-    object_received p (position index 0 0) m.extensions m.head.flags (put_info p index m.info) s
+abbrev pub info_received : Settings → InfoMessage → ℕ → ReceiverState → ReceiverState
+info_received p m index s = object_received p (position index 0 0) m.extensions m.head.flags (put_info p index m.info) s
 
 -- a DATA
-abbrev pub data_received : Settings → DataMessage → ReceiverState → ReceiverState
-data_received p m s =
-    let at = position (index_of p m.head.object) m.id.block m.id.symbol in
+abbrev pub data_received : Settings → DataMessage → ℕ → ReceiverState → ReceiverState
+data_received p m index s =
+    let at = position index m.id.block m.id.symbol in
     object_received p at m.extensions m.head.flags (put_symbol p at m.payload) s
 
 -- a flush
-abbrev pub flush_received : Settings → FlushCommand → ReceiverState → ReceiverState
-flush_received p m s = flushed (position (index_of p m.object) m.id.block m.id.symbol) m.nodes s
+abbrev pub flush_received : FlushCommand → ℕ → ReceiverState → ReceiverState
+flush_received m index s = flushed (position index m.id.block m.id.symbol) m.nodes s
 
 -- a squelch
-abbrev pub squelch_received : Settings → SquelchCommand → ReceiverState → ReceiverState
-squelch_received p m s = squelched p (point (index_of p m.object) m.id.block) s
+abbrev pub squelch_received : Settings → SquelchCommand → ℕ → ReceiverState → ReceiverState
+squelch_received p m index s = squelched p (point index m.id.block) s
 
--- A message of the profile's sender in an instance that was not left: the receiver enters the instance, does what the
--- message says, and may need something then.
-abbrev pub in_instance : Settings → ℕ → ℕ → ℕ → ℕ → (ReceiverState → ReceiverState) → ReceiverState → ReceiverState
-in_instance p now draw source instance received s = elim (source == p.sender) [
-  | true ↦ elim (entered s instance) [ Some s' ↦ may_need p now draw (received s') | None ↦ s ]
+-- an index is known
+abbrev pub knows : ℕ → ReceiverState → ReceiverState
+knows index s = record s { known = max s.known index }
+
+-- In the instance of a message: where its id names an index, that is known, the receiver does what the message says of it,
+-- and may need something then.
+abbrev pub takes_in : Settings → ℕ → ℕ → ℕ → (ℕ → ReceiverState → ReceiverState) → ReceiverState → Option ReceiverState
+takes_in p now draw object received s = elim (index_named p s.known object) [
+  | Some index ↦ Some (may_need p now draw (received index (knows index s)))
+  | None ↦ None
+]
+
+-- A message of the profile's sender, in the receiver's instance or in one that it goes on to. Where the message names
+-- nothing, nothing changes, and no instance begins.
+abbrev pub in_instance : Settings → ℕ → ℕ → ℕ → ℕ → ℕ → (ℕ → ReceiverState → ReceiverState) → ReceiverState → ReceiverState
+in_instance p now draw source instance object received s = elim (source == p.sender) [
+  | true ↦ unwrap_or (option_and_then (takes_in p now draw object received) (entered s instance)) s
   | false ↦ s
 ]
 
 -- of what a datagram spells
 abbrev pub message_received : {E : Type 0} → Settings → ℕ → ℕ → Result Message E → ReceiverState → ReceiverState
-message_received p now draw (Ok (Info m)) s = in_instance p now draw m.head.source m.head.instance (info_received p m) s
-message_received p now draw (Ok (Data m)) s = in_instance p now draw m.head.source m.head.instance (data_received p m) s
-message_received p now draw (Ok (Flush m)) s = in_instance p now draw m.head.source m.head.instance (flush_received p m) s
-message_received p now draw (Ok (Squelch m)) s = in_instance p now draw m.head.source m.head.instance (squelch_received p m) s
-message_received p now draw (Ok (RepairAdv m)) s = elim (m.head.source == p.sender) [ true ↦ adv_overheard m s | false ↦ s ]
+message_received p now draw (Ok (Info m)) s = in_instance p now draw m.head.source m.head.instance m.head.object (info_received p m) s
+message_received p now draw (Ok (Data m)) s = in_instance p now draw m.head.source m.head.instance m.head.object (data_received p m) s
+message_received p now draw (Ok (Flush m)) s = in_instance p now draw m.head.source m.head.instance m.object (flush_received m) s
+message_received p now draw (Ok (Squelch m)) s = in_instance p now draw m.head.source m.head.instance m.object (squelch_received p m) s
+message_received p now draw (Ok (RepairAdv m)) s = elim (m.head.source == p.sender) [ true ↦ adv_overheard p m s | false ↦ s ]
 message_received p now draw (Ok (Nack m)) s = nack_overheard p m s
 message_received p now draw _ s = s
 

@@ -5,15 +5,13 @@ use Rattle.norm_base.specs.Settings.{Settings}
 use Rattle.fec_plan.specs.Partition.{source_symbols}
 use Rattle.fec_plan.specs.Points.{position, same_position}
 use Rattle.fec_plan.specs.declared.position.Position.{Position}
-use Rattle.norm_ext.specs.Asking.{block_flag}
-use Rattle.norm_ext.specs.declared.kinds.Form.TheVariants as form
 use Rattle.norm_receive_rules.specs.Lazy.{Lazy, followed_by, lazily}
 use Rattle.norm_receive_rules.specs.ReceiverState.{ReceiverState, Plan, Held}
 use Rattle.norm_receive_rules.specs.Plans.{cut_of_plan, holds, is_done, first_block}
 use Rattle.norm_receive_rules.specs.BlockValue.{block_value}
 use Rattle.norm_receive_rules.specs.HandingUp.{segment_length}
 use Rattle.norm_receive_rules.specs.Seeing.{greatest_block}
-use Rattle.norm_receive_rules.specs.Needs.{Need, symbol_need, farthest_index, is_covered, counts_from}
+use Rattle.norm_receive_rules.specs.Needs.{Need, Source, Rest, farthest_index, is_covered, counts_from}
 
 -- the last block that 24 bits name
 abbrev pub last_block : ℕ
@@ -92,23 +90,14 @@ open_block s plan =
     let block = greatest_block s plan.index in
     elim (is_done s plan block) [ true ↦ block + 1 | false ↦ block ]
 
--- all blocks from this one on
-abbrev pub rest_need : ℕ → ℕ → Need
-rest_need index block = record {
-  form = form.Ranges;
-  flags = block_flag;
-  first = position index block 0;
-  last = Some (position index last_block 0);
-}
-
 -- the rest of a stream whose end is not held, where the sender is past it
 abbrev pub rest_needs : ReceiverState → Plan → Option Position → List Need
 rest_needs s plan end = elim (is_none end && is_behind s plan.index && nat_le (open_block s plan) last_block) [
-  | true ↦ rest_need plan.index (open_block s plan) ∷ []
+  | true ↦ Rest plan.index (open_block s plan) ∷ []
   | false ↦ []
 ]
 
 -- what is needed of a stream
 abbrev pub stream_needs : Settings → ReceiverState → Plan → Lazy Need
 stream_needs p s plan = followed_by (earlier_needs s plan) (λ u.
-    let end = end_of p s plan in lazily (map symbol_need (last_symbols s plan end) ++ rest_needs s plan end))
+    let end = end_of p s plan in lazily (map Source (last_symbols s plan end) ++ rest_needs s plan end))

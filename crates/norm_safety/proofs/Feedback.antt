@@ -1,11 +1,13 @@
 -- What receivers say says nothing of objects and of the sender's points, whatever is read of it.
-use Rattle.std.proofs.Common.{◌≡◌, ℕ, ◌*◌, List, [], Bool, true, false, Option, None, Some, Result, Ok, Err, refl, sym, ◌∙◌, subst}
-use Rattle.std.specs.Prelude.{⊤, nat_le}
+use Rattle.std.proofs.Common.{◌≡◌, ℕ, ◌*◌, List, [], ◌∷◌, Bool, true, false, Option, None, Some, Result, Ok, Err, refl, sym, ◌∙◌, subst}
+use Rattle.std.specs.Prelude.{⊤, nat_le, map, flat_map}
 use Rattle.std.specs.List.{list_all}
 use Rattle.norm_base.specs.Settings.{Settings}
 use Rattle.fec_plan.specs.declared.position.Position.{Position}
 use Rattle.norm_ext.specs.Message.{Message, Info, Data, Flush, Eot, Squelch, RepairAdv, AckReq, Opaque, Nack, Ack, Report, NackMessage, AckMessage, Mark}
+use Rattle.norm_ext.specs.Asked.{requests_asked}
 use Rattle.norm_ext.specs.Octets.{octets_of}
+use Rattle.norm_ext.specs.Written.{Written, writes}
 use Rattle.norm_ext.specs.Reading.{decoded, words_of, content_of, source_of, version_checked, header_checked, header_extensions_checked, member_checked, ack_encoding_checked, ack_length_checked, known_type, read_as, nack_read, ack_read}
 use Rattle.norm_ext.specs.declared.kinds.MessageType.{MessageType}
 use Rattle.norm_ext.specs.declared.kinds.MessageType.TheVariants as types
@@ -17,7 +19,7 @@ use Rattle.norm_receive_rules.specs.ReceiverState.{ReceiverState}
 use Rattle.norm_receive_rules.specs.Needs.{Need}
 use Rattle.norm_receive_rules.specs.AllNeeds.{needs, needs_nothing}
 use Rattle.norm_receive_rules.specs.HeardNeeds.{is_heard}
-use Rattle.norm_receive_rules.specs.Nack.{fitting, requests_for, item_of, instance_id, nack_message, ack_message}
+use Rattle.norm_receive_rules.specs.Nack.{asked_of, indices_of, fitting, item_of, instance_id, nack_message, ack_message}
 use Rattle.norm_receive_rules.specs.Ticking.{sends, holds_off, asks, asks_where_needed, ends_back_off, ticked}
 
 -- it says nothing of objects and of positions: a refusal, or a message of another kind
@@ -29,7 +31,7 @@ SaysNothing (Ok (Flush m)) = ⊥
 SaysNothing _ = ⊤
 
 -- a message that says nothing of objects and of positions
-abbrev IsOther : Message → Type 0
+abbrev pub IsOther : Message → Type 0
 IsOther (Info m) = ⊥
 IsOther (Data m) = ⊥
 IsOther (Squelch m) = ⊥
@@ -109,7 +111,7 @@ nack_of p s wanted = record {
   sender = p.sender;
   instance = instance_id s;
   extensions = [];
-  requests = requests_for p wanted;
+  requests = requests_asked (map (asked_of p) wanted);
 }
 
 abbrev ack_of : Settings → ReceiverState → Position → AckMessage
@@ -121,34 +123,34 @@ ack_of p s at = record {
   ack_type = flush_ack;
   ack_id = 0;
   extensions = [];
-  content = Mark ((item_of p at).item);
+  content = Mark (item_of p at);
 }
 
 -- what a tick sends, if anything
-abbrev pub SendsNothingOf : Option (List ℕ) → Type 0
-SendsNothingOf (Some datagram) = SaysNothing (decoded datagram)
+abbrev pub SendsNothingOf : Option Written → Type 0
+SendsNothingOf (Some datagram) = SaysNothing (decoded datagram.octets) × IsOther datagram.message
 SendsNothingOf None = ⊤
 
 -- A receiver's tick says nothing of objects.
 pub receiver_says_nothing : (p : Settings) (s : ReceiverState) (now : ℕ) → SendsNothingOf (ticked p s now).1
 receiver_says_nothing p s now = due s.due
   where
-    sent : ReceiverState × Option (List ℕ) → Option (List ℕ)
+    sent : ReceiverState × Option Written → Option Written
     sent step = step.1
 
     asked : (wanted : List Need) (r : ReceiverState) (all : Bool) → SendsNothingOf (sent (elim all [
       | true ↦ (holds_off p now r, None)
-      | false ↦ sends (nack_message p r wanted) (holds_off p now r)
+      | false ↦ sends (writes (nack_message p r wanted) (flat_map indices_of wanted)) (holds_off p now r)
     ]))
     asked wanted r true = tt
-    asked wanted r false = nack_said (nack_of p r wanted)
+    asked wanted r false = (nack_said (nack_of p r wanted), tt)
 
     needed : (r : ReceiverState) (none : Bool) → SendsNothingOf (sent (elim none [
       | true ↦ (r, None)
-      | false ↦ asks p now (fitting (needs p r) None p.e) r
+      | false ↦ asks p now (fitting p (needs p r) None p.e) r
     ]))
     needed r true = tt
-    needed r false = asked (fitting (needs p r) None p.e) r (list_all (is_heard p r) (fitting (needs p r) None p.e))
+    needed r false = asked (fitting p (needs p r) None p.e) r (list_all (is_heard r) (fitting p (needs p r) None p.e))
 
     ended : (r : ReceiverState) (reached : Bool) → SendsNothingOf (sent (elim reached [ true ↦ asks_where_needed p now r | false ↦ (s, None) ]))
     ended r true = needed r (needs_nothing p r)
@@ -162,8 +164,8 @@ receiver_says_nothing p s now = due s.due
     backed (Some ends) = ended (record s { backoff = None }) (nat_le ends now)
 
     due : (at : Option Position) → SendsNothingOf (sent (elim at [
-      | Some at ↦ sends (ack_message p s at) (record s { due = None })
+      | Some at ↦ sends (writes (ack_message p s at) (at.index ∷ [])) (record s { due = None })
       | None ↦ ends_back_off p now s
     ]))
     due None = backed s.backoff
-    due (Some at) = ack_said (ack_of p s at)
+    due (Some at) = (ack_said (ack_of p s at), tt)

@@ -5,13 +5,13 @@ use Rattle.std.specs.Bool.{Decides}
 use Rattle.std.specs.List.{list_any}
 use Rattle.std.proofs.lemmas.Bool.Decides.{Decides-eqb, Decides-not}
 use Rattle.norm_base.specs.Settings.{Settings}
-use Rattle.norm_base.specs.Network.{WasOffered}
 use Rattle.norm_base.specs.declared.node.Origin.{Origin}
+use Rattle.norm_ext.specs.Written.{Written}
 use Rattle.norm_order.specs.declared.up.Up.{Up}
 use Rattle.norm_receive_rules.specs.ReceiverState.{ReceiverState}
 use Rattle.norm_safety.specs.Events.{Event, Commanded, Delivered, Ticked, Offered, UpTaken, NewsAsked}
-use Rattle.norm_safety.specs.Lawful.{accepted_with, AllTaken, MayCome, LawfulFrom, Lawful, same_origin, same_octets, all_taken, may_come, is_lawful_from, is_lawful}
-use Rattle.norm_safety.specs.World.{World, world_opening, receiver_at}
+use Rattle.norm_safety.specs.Lawful.{comes_in_time, accepted_with, AllTaken, LawfulDelivery, WasGiven, MayCome, LawfulFrom, Lawful, same_origin, all_taken, is_lawful_delivery, may_come, is_lawful_from, is_lawful}
+use Rattle.norm_safety.specs.World.{World, world_opening, receiver_at, same_octets, is_of}
 use Rattle.norm_safety.specs.WorldStep.{world_step}
 use Rattle.norm_safety.proofs.FrontLemmas.{both, of_both, same_list, list_itself}
 
@@ -61,46 +61,46 @@ accepted_decides by accepted = (
   λ has. has_any (same_origin by) by accepted has (origin_itself by),
 )
 
--- who offered a datagram, and the datagram
-same_offer : (o : ℕ × List ℕ) (datagram : List ℕ) → same_octets o.1 datagram ≡ true → o ≡ (o.0, datagram)
-same_offer o datagram e = ap (λ (octets : List ℕ). offer octets) (same_list o.1 datagram e)
-  where
-    offer : List ℕ → ℕ × List ℕ
-    offer octets = (o.0, octets)
-
 not_same : (a b : ℕ) → not (a == b) ≡ true → a ≡ b → ⊥
 not_same a b e is = (Decides-not _ (Decides-eqb a b)).0 e is
 
-offered_decides : (offered : List (ℕ × List ℕ)) (node : ℕ) (datagram : List ℕ)
-    → Decides (list_any (λ (o : ℕ × List ℕ). not (o.0 == node) && same_octets o.1 datagram) offered) (WasOffered offered node datagram)
-offered_decides offered node datagram = (
+offered_decides : (p : Settings) (w : World) (node : ℕ) (octets : List ℕ) → Decides (is_lawful_delivery p w node octets) (LawfulDelivery p w node octets)
+offered_decides p w node octets = (
   λ e.
-      let found = any_has test offered e in
-      let two = both (not (found.0.0 == node)) (same_octets found.0.1 datagram) found.1 in
-      (found.0.0, not_same found.0.0 node two.0, subst (Contains offered) (same_offer found.0 datagram two.1) found.2),
-  λ was. has_any test (was.0, datagram) offered was.2
-      (of_both (not (was.0 == node)) (same_octets datagram datagram) ((Decides-not _ (Decides-eqb was.0 node)).1 was.1) (list_itself datagram)),
+      let found = any_has test w.offered e in
+      let all = both (not (found.0.0 == node) && same_octets found.0.1.octets octets) (comes_in_time p w node found.0.1) found.1 in
+      let two = both (not (found.0.0 == node)) (same_octets found.0.1.octets octets) all.0 in
+      record {
+        from = found.0.0;
+        datagram = found.0.1;
+        other = not_same found.0.0 node two.0;
+        offered = found.2;
+        same = same_list found.0.1.octets octets two.1;
+        near = all.1;
+      },
+  λ was. has_any test (was.from, was.datagram) w.offered was.offered
+      (of_both (not (was.from == node) && same_octets was.datagram.octets octets) (comes_in_time p w node was.datagram)
+      (of_both (not (was.from == node)) (same_octets was.datagram.octets octets) ((Decides-not _ (Decides-eqb was.from node)).1 was.other)
+      (ap (same_octets was.datagram.octets) (sym was.same) ∙ list_itself was.datagram.octets)) was.near),
 )
   where
-    test : ℕ × List ℕ → Bool
-    test o = not (o.0 == node) && same_octets o.1 datagram
+    test : ℕ × Written → Bool
+    test o = not (o.0 == node) && same_octets o.1.octets octets && comes_in_time p w node o.1
 
-given_decides : (given : List (ℕ × List ℕ)) (node : ℕ) (datagram : List ℕ)
-    → Decides (list_any (λ (g : ℕ × List ℕ). g.0 == node && same_octets g.1 datagram) given) (Contains given (node, datagram))
-given_decides given node datagram = (
+given_decides : (w : World) (node : ℕ) (octets : List ℕ) → Decides (list_any (is_of node octets) w.given) (WasGiven w node octets)
+given_decides w node octets = (
   λ e.
-      let found = any_has test given e in
-      let two = both (found.0.0 == node) (same_octets found.0.1 datagram) found.1 in
-      subst (Contains given) (same_offer found.0 datagram two.1 ∙ ap (λ n. offer n) ((Decides-eqb found.0.0 node).0 two.0)) found.2,
-  λ has. has_any test (node, datagram) given has
-      (of_both (node == node) (same_octets datagram datagram) ((Decides-eqb node node).1 refl) (list_itself datagram)),
+      let found = any_has (is_of node octets) w.given e in
+      let two = both (found.0.0 == node) (same_octets found.0.1.octets octets) found.1 in
+      (found.0.1, subst (λ (g : ℕ × Written). Contains w.given g) (ap (λ n. gift n found.0.1) ((Decides-eqb found.0.0 node).0 two.0)) found.2,
+        same_list found.0.1.octets octets two.1),
+  λ has. has_any (is_of node octets) (node, has.0) w.given has.1
+      (of_both (node == node) (same_octets has.0.octets octets) ((Decides-eqb node node).1 refl)
+      (ap (same_octets has.0.octets) (sym has.2) ∙ list_itself has.0.octets)),
 )
   where
-    test : ℕ × List ℕ → Bool
-    test g = g.0 == node && same_octets g.1 datagram
-
-    offer : ℕ → ℕ × List ℕ
-    offer n = (n, datagram)
+    gift : ℕ → Written → ℕ × Written
+    gift n datagram = (n, datagram)
 
 taken_decides : (found : Option ReceiverState) → Decides (all_taken found) (AllTaken found)
 taken_decides None = (λ e. tt, λ h. refl)
@@ -113,20 +113,20 @@ taken_decides (Some r) = go r.ups
     go [] = (λ e. refl, λ e. refl)
     go (up ∷ more) = (λ e. absurd (clash e), λ e. absurd (never up more e))
 
-may_come_decides : (w : World) (accepted : List Origin) (e : Event) → Decides (may_come w accepted e) (MayCome w accepted e)
-may_come_decides w accepted (Commanded by job now) = Decides-not _ (accepted_decides by accepted)
-may_come_decides w accepted (Delivered node datagram now draw) = offered_decides w.offered node datagram
-may_come_decides w accepted (Ticked node now) = taken_decides (receiver_at w node)
-may_come_decides w accepted (Offered node datagram) = given_decides w.given node datagram
-may_come_decides w accepted (UpTaken node) = (λ e. tt, λ h. refl)
-may_come_decides w accepted NewsAsked = (λ e. tt, λ h. refl)
+may_come_decides : (p : Settings) (w : World) (accepted : List Origin) (e : Event) → Decides (may_come p w accepted e) (MayCome p w accepted e)
+may_come_decides p w accepted (Commanded by job now) = Decides-not _ (accepted_decides by accepted)
+may_come_decides p w accepted (Delivered node datagram now draw) = offered_decides p w node datagram
+may_come_decides p w accepted (Ticked node now) = taken_decides (receiver_at w node)
+may_come_decides p w accepted (Offered node datagram) = given_decides w node datagram
+may_come_decides p w accepted (UpTaken node) = (λ e. tt, λ h. refl)
+may_come_decides p w accepted NewsAsked = (λ e. tt, λ h. refl)
 
 lawful_from : (p : Settings) (w : World) (accepted : List Origin) (events : List Event)
     → Decides (is_lawful_from p w accepted events) (LawfulFrom p w accepted events)
 unfolding is_lawful_from
 lawful_from p w accepted [] = (λ e. tt, λ h. refl)
 lawful_from p w accepted (e ∷ events) =
-    go (may_come w accepted e) refl (may_come_decides w accepted e)
+    go (may_come p w accepted e) refl (may_come_decides p w accepted e)
     (lawful_from p (world_step p w e).0 (accepted_with accepted e (world_step p w e).1) events)
   where
     rest : Bool
@@ -135,8 +135,8 @@ lawful_from p w accepted (e ∷ events) =
     Rest : Type 0
     Rest = LawfulFrom p (world_step p w e).0 (accepted_with accepted e (world_step p w e).1) events
 
-    go : (b : Bool) → may_come w accepted e ≡ b → Decides (may_come w accepted e) (MayCome w accepted e) → Decides rest Rest
-        → Decides (elim b [ true ↦ rest | false ↦ false ]) (MayCome w accepted e × Rest)
+    go : (b : Bool) → may_come p w accepted e ≡ b → Decides (may_come p w accepted e) (MayCome p w accepted e) → Decides rest Rest
+        → Decides (elim b [ true ↦ rest | false ↦ false ]) (MayCome p w accepted e × Rest)
     go true is d c = (λ f. (d.0 is, c.0 f), λ both. c.1 both.1)
     go false is d c = (λ f. absurd (clash f), λ both. absurd (clash (sym is ∙ d.1 both.0)))
 

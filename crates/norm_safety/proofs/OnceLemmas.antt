@@ -1,12 +1,14 @@
 -- Origins and ids that differ go on to differ; an accepted object stands at its place, and stays there.
-use Rattle.std.proofs.Common.{◌≡◌, ℕ, List, [], ◌∷◌, ◌++◌, Bool, true, false, refl, sym, ap, ◌∙◌, subst, arith, inl, inr}
-use Rattle.std.specs.Prelude.{map, ◌==◌, ◌&&◌, ◌||◌, nat_eq, Contains}
-use Rattle.std.specs.List.{IsDistinct, AllByRecursion, list_any}
-use Rattle.std.proofs.lemmas.Bool.Decides.{Decides-eqb}
+use Rattle.std.proofs.Common.{◌≡◌, ◌<◌, ◌≤◌, ℕ, List, [], ◌∷◌, ◌++◌, Bool, true, false, refl, sym, ap, ◌∙◌, subst, arith, inl, inr}
+use Rattle.std.specs.Prelude.{map, ◌==◌, ◌&&◌, ◌||◌, ◌⊎◌, nat_eq, nat_le, nat_lt, Contains}
+use Rattle.std.specs.List.{IsDistinct, AllByRecursion}
+use Rattle.std.proofs.lemmas.Bool.Decides.{Decides-eqb, Decides-ltb, leb_tells}
+use Rattle.std.proofs.lemmas.List.{map-append}
 use Rattle.std.proofs.lemmas.List.Elements.{Contains-append_left, Contains-append_right}
 use Rattle.norm_base.specs.declared.node.Origin.{Origin}
 use Rattle.norm_send_rules.specs.SenderState.{SenderState, Instance}
-use Rattle.norm_send_rules.specs.Restarting.{instances}
+use Rattle.norm_ext.specs.InstanceIds.{rise, most_rise}
+use Rattle.norm_send_rules.specs.Restarting.{instances, first_id, is_used}
 use Rattle.norm_safety.specs.Lawful.{same_origin}
 use Rattle.norm_safety.specs.OnceEach.{origins, instance_ids}
 use Rattle.norm_safety.proofs.EntryLemmas.{clash}
@@ -52,10 +54,16 @@ all_map : {X : Type 0} {P Q : X → Type 0} (xs : List X) → ((x : X) → P x �
 all_map [] f all = tt
 all_map (x ∷ xs) f all = (f x all.0, all_map xs f all.1)
 
--- What holds of a sender by the commands that it accepted: origins and ids differ, and each origin is an accepted command's.
+-- none of these ids lies higher above the first instance's than the current one
+abbrev pub AreLow : ℕ → ℕ → List ℕ → Type 0
+AreLow first last ids = AllByRecursion (λ x. rise first x ≤ rise first last) ids
+
+-- What holds of a sender by the commands that it accepted: origins and ids differ, each origin is an accepted command's, and
+-- no id lies higher than the current one.
 pub record OnceSoFar (s : SenderState) (accepted : List Origin) : Type 0 where
   pub differ : IsDistinct same_origin (origins s)
   pub ids : IsDistinct nat_eq (instance_ids s)
+  pub low : AreLow (first_id s) s.current.id (instance_ids s)
   pub known : AllByRecursion (λ by. Contains accepted by) (origins s)
 
 -- no origin that is known is that of a command that was not accepted
@@ -75,35 +83,123 @@ still_known : (accepted : List Origin) (by : Origin) (is : Bool) (xs : List Orig
 still_known accepted by true xs all = all_map xs (λ x has. Contains-append_left accepted (by ∷ []) x has) all
 still_known accepted by false xs all = all
 
--- ids: one that was not used is none of the ids
-unused_differs : (id : ℕ) (all : List Instance) → list_any (λ (i : Instance). i.id == id) all ≡ false
-    → IsDistinct nat_eq (map (λ (i : Instance). i.id) all) → IsDistinct nat_eq (map (λ (i : Instance). i.id) all ++ id ∷ [])
-unfolding IsDistinct
-unused_differs id [] e all = (tt, tt)
-unused_differs id (i ∷ more) e all =
-    let two = neither (i.id == id) (list_any (λ (i : Instance). i.id == id) more) e in
-    (all_last (λ other. (i.id == other) ≡ false) (map (λ (i : Instance). i.id) more) two.0 all.0, unused_differs id more two.1 all.1)
-  where
-    all_last : (P : ℕ → Type 0) (ids : List ℕ) → P id → AllByRecursion P ids → AllByRecursion P (ids ++ id ∷ [])
-    all_last P [] h all = (h, tt)
-    all_last P (x ∷ ids) h all = (all.0, all_last P ids h all.1)
+all_last : (P : ℕ → Type 0) (ids : List ℕ) (id : ℕ) → P id → AllByRecursion P ids → AllByRecursion P (ids ++ id ∷ [])
+all_last P [] id h all = (h, tt)
+all_last P (x ∷ ids) id h all = (all.0, all_last P ids id h all.1)
 
-    neither : (a b : Bool) → (a || b) ≡ false → (a ≡ false) × (b ≡ false)
-    neither true b e = absurd (clash (sym e))
-    neither false b e = (refl, e)
+-- ids: one that lies higher than all of them is none of them
+pub higher_differs : (first id : ℕ) (ids : List ℕ) → AllByRecursion (λ x. rise first x < rise first id) ids → IsDistinct nat_eq ids
+    → IsDistinct nat_eq (ids ++ id ∷ [])
+unfolding IsDistinct
+higher_differs first id [] lower all = (tt, tt)
+higher_differs first id (x ∷ ids) lower all =
+    (all_last (λ other. (x == other) ≡ false) ids id (not_true (x == id) (λ e. apart ((Decides-eqb x id).0 e))) all.0, higher_differs first id ids lower.1 all.1)
+  where
+    apart : x ≡ id → ⊥
+    apart e = (let lt = lower.0 in let same = ap (rise first) e in omega (arith, lt, same))
+
+-- the first of a list of ids, and the last one
+abbrev head_of : List ℕ → ℕ
+head_of [] = 0
+head_of (x ∷ ids) = x
+
+abbrev last_of : List ℕ → ℕ
+last_of [] = 0
+last_of (x ∷ []) = x
+last_of (x ∷ y ∷ ids) = last_of (y ∷ ids)
+
+last_is : (ids : List ℕ) (id : ℕ) → last_of (ids ++ id ∷ []) ≡ id
+last_is [] id = refl
+last_is (x ∷ []) id = refl
+last_is (x ∷ y ∷ ids) id = last_is (y ∷ ids) id
+
+head_is : (s : SenderState) → head_of (instance_ids s) ≡ first_id s
+head_is s = go s.earlier
+  where
+    go : (earlier : List Instance) → head_of (map (λ (i : Instance). i.id) (earlier ++ s.current ∷ [])) ≡ (elim earlier [ i ∷ more ↦ i.id | [] ↦ s.current.id ])
+    go [] = refl
+    go (i ∷ earlier) = refl
+
+head_with : (s : SenderState) (more : List ℕ) → head_of (instance_ids s ++ more) ≡ first_id s
+head_with s more = go s.earlier
+  where
+    go : (earlier : List Instance) → head_of (map (λ (i : Instance). i.id) (earlier ++ s.current ∷ []) ++ more) ≡ (elim earlier [ i ∷ more ↦ i.id | [] ↦ s.current.id ])
+    go [] = refl
+    go (i ∷ earlier) = refl
+
+current_is : (s : SenderState) → last_of (instance_ids s) ≡ s.current.id
+current_is s = ap last_of (map-append (λ (i : Instance). i.id) s.earlier (s.current ∷ [])) ∙ last_is (map (λ (i : Instance). i.id) s.earlier) s.current.id
+
+-- one more id leaves the first, and is the last
+head_of_more : (s new : SenderState) (id : ℕ) → instance_ids new ≡ instance_ids s ++ id ∷ [] → first_id new ≡ first_id s
+head_of_more s new id e = sym (head_is new) ∙ ap head_of e ∙ head_with s (id ∷ [])
+
+last_of_more : (s new : SenderState) (id : ℕ) → instance_ids new ≡ instance_ids s ++ id ∷ [] → new.current.id ≡ id
+last_of_more s new id e = sym (current_is new) ∙ ap last_of e ∙ last_is (instance_ids s) id
+
+-- ids that are the same have the same first and last
+pub low_by : (s new : SenderState) → instance_ids new ≡ instance_ids s → AreLow (first_id s) s.current.id (instance_ids s)
+    → AreLow (first_id new) new.current.id (instance_ids new)
+low_by s new e low =
+    let A : List ℕ → Type 0 = λ xs. AreLow (first_id s) s.current.id xs in
+    let first : first_id new ≡ first_id s = sym (head_is new) ∙ ap head_of e ∙ head_is s in
+    let last : new.current.id ≡ s.current.id = sym (current_is new) ∙ ap last_of e ∙ current_is s in
+    let L : ℕ → Type 0 = λ id. AreLow (first_id s) id (instance_ids new) in
+    let F : ℕ → Type 0 = λ id. AreLow id new.current.id (instance_ids new) in
+    subst F (sym first) (subst L (sym last) (subst A (sym e) low))
+
+neither : (a b : Bool) → (a || b) ≡ false → (a ≡ false) × (b ≡ false)
+neither true b e = absurd (clash (sym e))
+neither false b e = (refl, e)
+
+le_false : (a b : ℕ) → nat_le a b ≡ false → b < a
+le_false a b e = go (leb_tells a b)
+  where
+    go : ((nat_le a b ≡ true) × (a ≤ b)) ⊎ ((nat_le a b ≡ false) × (b < a)) → b < a
+    go (inl tells) = absurd (clash (sym e ∙ tells.0))
+    go (inr tells) = tells.1
+
+-- an id that is not used up lies higher than the current one
+pub unused_above : (s : SenderState) (id : ℕ) → is_used s id ≡ false → rise (first_id s) s.current.id < rise (first_id s) id
+unused_above s id e =
+    le_false (rise (first_id s) id) (rise (first_id s) s.current.id)
+    (neither (nat_le (rise (first_id s) id) (rise (first_id s) s.current.id)) (nat_lt most_rise (rise (first_id s) id)) e).0
+
+-- and at most so much
+pub unused_few : (s : SenderState) (id : ℕ) → is_used s id ≡ false → rise (first_id s) id ≤ 32767
+unused_few s id e =
+    let no = (neither (nat_le (rise (first_id s) id) (rise (first_id s) s.current.id)) (nat_lt most_rise (rise (first_id s) id)) e).1 in
+    let not_lt : most_rise < rise (first_id s) id → ⊥ = λ lt. clash (sym no ∙ (Decides-ltb most_rise (rise (first_id s) id)).1 lt) in
+    omega arith
 
 pub once_after : (s new : SenderState) (accepted : List Origin) (by : Origin) (is : Bool) → (Contains accepted by → ⊥)
     → Adds by is (origins s) (origins new) → IdsGo s new → OnceSoFar s accepted → OnceSoFar new (with_accepted accepted by is)
 once_after s new accepted by is free adds ids h = record {
   differ = differ adds;
   ids = ids_differ ids;
+  low = ids_low ids;
   known = known adds;
 }
   where
+    all_lower : (id : ℕ) → rise (first_id s) s.current.id < rise (first_id s) id → AllByRecursion (λ x. rise (first_id s) x < rise (first_id s) id) (instance_ids s)
+    all_lower id lt = all_map (instance_ids s) (λ x le. (let h : rise (first_id s) x < rise (first_id s) id = omega (arith, le, lt) in h)) h.low
+
     ids_differ : IdsGo s new → IsDistinct nat_eq (instance_ids new)
     ids_differ (inl e) = let D : List ℕ → Type 0 = λ xs. IsDistinct nat_eq xs in subst D (sym e) h.ids
     ids_differ (inr (id, unused, e)) =
-        let D : List ℕ → Type 0 = λ xs. IsDistinct nat_eq xs in subst D (sym e) (unused_differs id (instances s) unused h.ids)
+        let D : List ℕ → Type 0 = λ xs. IsDistinct nat_eq xs in
+        subst D (sym e) (higher_differs (first_id s) id (instance_ids s) (all_lower id (unused_above s id unused)) h.ids)
+
+    ids_low : IdsGo s new → AreLow (first_id new) new.current.id (instance_ids new)
+    ids_low (inl e) = low_by s new e h.low
+    ids_low (inr (id, unused, e)) =
+        let A : List ℕ → Type 0 = λ xs. AreLow (first_id s) id xs in
+        let lt = unused_above s id unused in
+        let all = all_last (λ x. rise (first_id s) x ≤ rise (first_id s) id) (instance_ids s) id (omega arith)
+        (all_map (instance_ids s) (λ x le. (let h : rise (first_id s) x ≤ rise (first_id s) id = omega (arith, le, lt) in h)) h.low) in
+        let L : ℕ → Type 0 = λ last. AreLow (first_id s) last (instance_ids new) in
+        let F : ℕ → Type 0 = λ first. AreLow first new.current.id (instance_ids new) in
+        subst F (sym (head_of_more s new id e)) (subst L (sym (last_of_more s new id e)) (subst A (sym e) all))
 
     differ : Adds by is (origins s) (origins new) → IsDistinct same_origin (origins new)
     differ (inl e) = let D : List Origin → Type 0 = λ xs. IsDistinct same_origin xs in subst D (sym e) h.differ

@@ -1,10 +1,13 @@
 -- Accepted objects enter the transport order once each: kept by each event of a lawful run, and so at its end.
-use Rattle.std.proofs.Common.{◌≡◌, ℕ, List, [], ◌∷◌, Bool, true, false, Option, None, Some, Result, Ok, Err, refl, sym, ap, ◌∙◌, subst}
-use Rattle.std.specs.Prelude.{◌==◌, is_ok, nat_eq, IsTrue, Contains}
+use Rattle.std.proofs.Common.{◌≡◌, ℕ, List, [], ◌∷◌, Bool, true, false, Option, None, Some, Result, Ok, Err, refl, sym, ap, ◌∙◌, subst, arith}
+use Rattle.std.specs.Prelude.{◌==◌, find, is_ok, nat_eq, IsTrue, Contains}
 use Rattle.std.specs.List.{IsDistinct, AllByRecursion}
 use Rattle.norm_base.specs.Settings.{Settings}
 use Rattle.norm_base.specs.declared.node.Origin.{Origin}
+use Rattle.norm_ext.specs.Written.{Written}
 use Rattle.norm_send_rules.specs.SenderState.{SenderState, Instance, sender_opening}
+use Rattle.norm_send_rules.specs.SenderStep as sender
+use Rattle.norm_receive_rules.specs.ReceiverStep as receiver
 use Rattle.norm_send_rules.specs.Restarting.{instances}
 use Rattle.norm_send_rules.specs.Commanding.{commanded}
 use Rattle.norm_send_rules.specs.Hearing.{heard}
@@ -19,15 +22,15 @@ use Rattle.norm_receive_rules.specs.Receiving.{received}
 use Rattle.norm_receive_rules.specs.Taking.{took}
 use Rattle.norm_receive_rules.specs.Ticking.{ticked as receiver_ticked}
 use Rattle.norm_safety.specs.Events.{Event, Commanded, Delivered, Ticked, Offered, UpTaken, NewsAsked, Answer, Gave, Sent, Took, Told, Silent}
-use Rattle.norm_safety.specs.World.{World, world_opening, receiver_at, with_receiver, with_given}
-use Rattle.norm_safety.specs.WorldStep.{world_step, sender_ticks, receiver_ticks}
+use Rattle.norm_safety.specs.World.{World, world_opening, receiver_at, with_receiver, with_given, is_of, offers}
+use Rattle.norm_safety.specs.WorldStep.{world_step, moved, node_move, receiver_move}
 use Rattle.norm_safety.specs.Lawful.{same_origin, accepted_with, MayCome, LawfulFrom, Lawful}
 use Rattle.norm_safety.specs.History.{Happening, happens, last_world, history}
 use Rattle.norm_safety.specs.OnceEach.{OnceEach, has_its_place}
 use Rattle.norm_safety.proofs.SenderKeeps.{Keeps, keeps_all, heard_keeps, ticked_keeps, told_keeps}
 use Rattle.norm_safety.proofs.EntryLemmas.{AllKept}
 use Rattle.norm_safety.proofs.CommandSteps.{keeps_origins, keeps_ids, same_instances, kept_all, command_goes}
-use Rattle.norm_safety.proofs.OnceLemmas.{OnceSoFar, once_after, with_accepted}
+use Rattle.norm_safety.proofs.OnceLemmas.{OnceSoFar, once_after, low_by, with_accepted}
 use Rattle.norm_safety.proofs.PlaceLemmas.{has_place, stays_placed, command_placed}
 
 -- what an event of a lawful run leaves: what holds of the sender so far, each entry at its place, and the answer's own
@@ -87,6 +90,7 @@ quiet_leaves w after accepted e answer keeps same placed h =
       once = subst O (sym same) (record {
         differ = subst D (sym by) h.differ;
         ids = subst I (sym (keeps_ids w.sender after.sender keeps)) h.ids;
+        low = low_by w.sender after.sender (keeps_ids w.sender after.sender keeps) h.low;
         known = subst K (sym by) h.known;
       });
       kept = subst A (sym (same_instances w.sender after.sender keeps)) (kept_all (instances w.sender));
@@ -100,15 +104,13 @@ delivery_leaves p w accepted node datagram now draw h = go (node == p.sender) (r
     quiet : (after : World) → Keeps w.sender after.sender → Leaves w accepted (Delivered node datagram now draw) (after, Silent)
     quiet after keeps = quiet_leaves w after accepted (Delivered node datagram now draw) Silent keeps refl (λ later x. refl) h
 
-    go : (own : Bool) (found : Option ReceiverState) → Leaves w accepted (Delivered node datagram now draw) (elim own [
-      | true ↦ (record w { sender = heard p w.sender datagram now }, Silent)
-      | false ↦ elim found [ Some r ↦ (with_receiver (received p r datagram now draw) w, Silent) | None ↦ (w, Silent) ]
-    ])
+    go : (own : Bool) (found : Option ReceiverState) → Leaves w accepted (Delivered node datagram now draw)
+        (moved p w (node_move own found (sender.Delivered datagram now) (receiver.Delivered datagram now draw)))
     go true found = quiet _ (heard_keeps p w.sender datagram now)
     go false (Some r) = quiet _ (keeps_all w.sender)
     go false None = quiet _ (keeps_all w.sender)
 
-given_keeps : (node : ℕ) (datagram : Option (List ℕ)) (w : World) (old : SenderState) → Keeps old w.sender → Keeps old (with_given node datagram w).sender
+given_keeps : (node : ℕ) (datagram : Option Written) (w : World) (old : SenderState) → Keeps old w.sender → Keeps old (with_given node datagram w).sender
 given_keeps node None w old h = h
 given_keeps node (Some datagram) w old h = h
 
@@ -119,10 +121,8 @@ tick_leaves p w accepted node now h = go (node == p.sender) (receiver_at w node)
     quiet : (after : World) (answer : Answer) → Keeps w.sender after.sender → Leaves w accepted (Ticked node now) (after, answer)
     quiet after answer keeps = quiet_leaves w after accepted (Ticked node now) answer keeps refl (λ later x. refl) h
 
-    go : (own : Bool) (found : Option ReceiverState) → Leaves w accepted (Ticked node now) (elim own [
-      | true ↦ sender_ticks p now w
-      | false ↦ elim found [ Some r ↦ receiver_ticks p now w r | None ↦ (w, Silent) ]
-    ])
+    go : (own : Bool) (found : Option ReceiverState) → Leaves w accepted (Ticked node now)
+        (moved p w (node_move own found (sender.Ticked now) (receiver.Ticked now)))
     go true found =
         let step = sender_ticked p w.sender now in
         quiet _ (Sent step.1) (given_keeps p.sender step.1 (record w { sender = step.0 }) w.sender (ticked_keeps p w.sender now))
@@ -134,18 +134,22 @@ taking_leaves : (p : Settings) (w : World) (accepted : List Origin) (node : ℕ)
     → OnceSoFar w.sender accepted → Leaves w accepted (UpTaken node) (world_step p w (UpTaken node))
 taking_leaves p w accepted node h = go (receiver_at w node)
   where
-    go : (found : Option ReceiverState) → Leaves w accepted (UpTaken node)
-        (elim found [ Some r ↦ (with_receiver (took r).0 w, Took (took r).1) | None ↦ (w, Silent) ])
+    go : (found : Option ReceiverState) → Leaves w accepted (UpTaken node) (moved p w (receiver_move found receiver.UpTaken))
     go (Some r) = quiet_leaves w _ accepted (UpTaken node) (Took (took r).1) (keeps_all w.sender) refl (λ later x. refl) h
     go None = quiet_leaves w w accepted (UpTaken node) Silent (keeps_all w.sender) refl (λ later x. refl) h
 
-pub event_leaves : (p : Settings) (w : World) (accepted : List Origin) (e : Event) → MayCome w accepted e
+-- an offer leaves the sender
+offer_keeps : (found : Option (ℕ × Written)) (node : ℕ) (w : World) → Keeps w.sender (offers found node w).sender
+offer_keeps None node w = keeps_all w.sender
+offer_keeps (Some datagram) node w = keeps_all w.sender
+
+pub event_leaves : (p : Settings) (w : World) (accepted : List Origin) (e : Event) → MayCome p w accepted e
     → OnceSoFar w.sender accepted → Leaves w accepted e (world_step p w e)
 event_leaves p w accepted (Commanded by job now) may h = command_leaves p w accepted by job now may h
 event_leaves p w accepted (Delivered node datagram now draw) may h = delivery_leaves p w accepted node datagram now draw h
 event_leaves p w accepted (Ticked node now) may h = tick_leaves p w accepted node now h
 event_leaves p w accepted (Offered node datagram) may h =
-    quiet_leaves w _ accepted (Offered node datagram) Silent (keeps_all w.sender) refl (λ later x. refl) h
+    quiet_leaves w _ accepted (Offered node datagram) Silent (offer_keeps (find (is_of node datagram) w.given) node w) refl (λ later x. refl) h
 event_leaves p w accepted (UpTaken node) may h = taking_leaves p w accepted node h
 event_leaves p w accepted NewsAsked may h =
     quiet_leaves w _ accepted NewsAsked (Told (told w.sender).1) (told_keeps w.sender) refl (λ later x. refl) h
@@ -175,6 +179,6 @@ run_ends p w accepted (e ∷ events) lawful h =
 pub once_each_run : (p : Settings) (events : List Event) → Lawful p events → OnceEach (history p events)
 unfolding IsDistinct
 once_each_run p events lawful =
-    let opening : OnceSoFar (sender_opening p) [] = record { differ = tt; ids = (tt, tt); known = tt } in
+    let opening : OnceSoFar (sender_opening p p.instance) [] = record { differ = tt; ids = (tt, tt); low = (omega arith, tt); known = tt } in
     let end = run_ends p (world_opening p) [] events lawful opening in
     record { origins = end.once.differ; ids = end.once.ids; places = end.places }

@@ -1,20 +1,21 @@
 -- A receiver hands up the transport order: kept by each event of a lawful run of data and files, and so at its end.
-use Rattle.std.proofs.Common.{◌≡◌, ℕ, cond, List, [], ◌∷◌, ◌++◌, Bool, true, false, Option, None, Some, refl, sym, subst, append_assoc, arith}
-use Rattle.std.specs.Prelude.{map, find, ◌==◌, nat_eq, Contains}
+use Rattle.std.proofs.Common.{◌≡◌, ℕ, cond, List, [], ◌∷◌, ◌++◌, Bool, true, false, Option, None, Some, refl, sym, subst, append_assoc, arith, inr}
+use Rattle.std.specs.Prelude.{map, find, ◌==◌, nat_eq, option_and_then, IsTrue, Contains}
 use Rattle.std.specs.List.{AllByRecursion, IsDistinct}
 use Rattle.std.proofs.lemmas.Bool.Decides.{Decides-eqb}
 use Rattle.std.proofs.lemmas.List.{append-nil}
 use Rattle.norm_base.specs.Settings.{Settings, InRange}
 use Rattle.norm_base.specs.Members.{receivers_of}
 use Rattle.norm_base.specs.declared.node.Origin.{Origin}
-use Rattle.norm_ext.specs.Reading.{decoded}
+use Rattle.norm_ext.specs.Written.{Written}
 use Rattle.norm_order.specs.declared.up.Up.{Up}
 use Rattle.norm_receive_rules.specs.ReceiverState.{ReceiverState, receiver_opening}
 use Rattle.norm_receive_rules.specs.Receiving.{received}
 use Rattle.norm_receive_rules.specs.Taking.{took}
 use Rattle.norm_receive_rules.specs.Ticking.{ticked as receiver_ticked}
 use Rattle.norm_send_rules.specs.SenderState.{SenderState, sender_opening}
-use Rattle.norm_send_rules.specs.SenderStep as events
+use Rattle.norm_send_rules.specs.SenderStep as sender
+use Rattle.norm_receive_rules.specs.ReceiverStep as receiver
 use Rattle.norm_send_rules.specs.Restarting.{instances}
 use Rattle.norm_send_rules.specs.Commanding.{commanded}
 use Rattle.norm_send_rules.specs.Hearing.{heard}
@@ -24,9 +25,9 @@ use Rattle.norm_send_rules.specs.declared.job.Job.{Job}
 use Rattle.norm_send_rules.proofs.StepLemmas.{step_holds as wants_step, blocks_of}
 use Rattle.norm_safety.specs.Events.{Event, Commanded, Delivered, Ticked, Offered, UpTaken, NewsAsked, Answer, Sent, Took, Told, Silent}
 use Rattle.norm_safety.specs.Jobs.{IsJob, OpensNone, IsEvent, IsOfObjects, AreEvents, AreOfObjects}
-use Rattle.norm_safety.specs.World.{World, world_opening, receiver_at, with_receiver, with_given, with_offer, given_others}
-use Rattle.norm_safety.specs.WorldStep.{world_step, sender_ticks, receiver_ticks}
-use Rattle.norm_safety.specs.Lawful.{accepted_with, MayCome, LawfulFrom, Lawful}
+use Rattle.norm_safety.specs.World.{World, world_opening, receiver_at, with_receiver, with_given, given_others, is_of, offers}
+use Rattle.norm_safety.specs.WorldStep.{world_step, moved, OfSender, OfReceiver, node_move, receiver_move}
+use Rattle.norm_safety.specs.Lawful.{sender_knows, receiver_knows, are_near, comes_in_time, accepted_with, MayCome, LawfulFrom, Lawful}
 use Rattle.norm_safety.specs.History.{Happening, happens, last_world, history}
 use Rattle.norm_safety.specs.InOrder.{came_to, InOrder, drop_of}
 use Rattle.norm_safety.specs.OnceEach.{order_of}
@@ -34,7 +35,7 @@ use Rattle.norm_safety.proofs.SenderKeeps.{Keeps, heard_keeps, ticked_keeps, tol
 use Rattle.norm_safety.specs.Hands.{taken_in}
 use Rattle.norm_safety.specs.Lawful.{same_origin}
 use Rattle.norm_safety.proofs.CommandSteps.{keeps_origins, keeps_ids}
-use Rattle.norm_safety.proofs.OnceLemmas.{OnceSoFar}
+use Rattle.norm_safety.proofs.OnceLemmas.{OnceSoFar, low_by}
 use Rattle.norm_safety.proofs.OnceRun.{event_leaves}
 use Rattle.norm_safety.proofs.Onward.{Onward, goes_on_itself}
 use Rattle.norm_safety.proofs.SenderHolds.{Steps, command_steps, keeps_steps, orders_hold, opening_holds}
@@ -70,7 +71,7 @@ command_holds p range past accepted w by job now may is none h =
 -- where a node moved is where it was
 moved_node_is : (p : Settings) (s : SenderState) (r t : ReceiverState) → Moved p s r t → t.node ≡ r.node
 moved_node_is p s r t (Remains ids stands) = ids.node
-moved_node_is p s r t (Enters id out gone node instance left holds) = node
+moved_node_is p s r t (Enters id out goes begun node instance holds) = node
 
 -- what holds of commands where the orders stay
 once_kept : (s t : SenderState) (accepted : List Origin) → Keeps s t → OnceSoFar s accepted → OnceSoFar t accepted
@@ -79,7 +80,12 @@ once_kept s t accepted keeps h =
     let I : List ℕ → Type 0 = λ xs. IsDistinct nat_eq xs in
     let K : List Origin → Type 0 = λ xs. AllByRecursion (λ x. Contains accepted x) xs in
     let by = keeps_origins s t keeps in
-    record { differ = subst D (sym by) h.differ; ids = subst I (sym (keeps_ids s t keeps)) h.ids; known = subst K (sym by) h.known }
+    record {
+      differ = subst D (sym by) h.differ;
+      ids = subst I (sym (keeps_ids s t keeps)) h.ids;
+      low = low_by s t (keeps_ids s t keeps) h.low;
+      known = subst K (sym by) h.known;
+    }
 
 -- a sender that keeps its orders, and says nothing
 sender_holds : (p : Settings) (past : List Happening) (accepted : List Origin) (w : World) (t : SenderState) (e : Event) (answer : Answer)
@@ -103,58 +109,57 @@ nothing_holds : (p : Settings) (past : List Happening) (accepted : List Origin) 
 nothing_holds p past accepted w e answer none h =
     quiet_world p past accepted accepted w w e answer refl h.sender h.once (goes_on_itself (instances w.sender)) h.offered h.given none h
 
-delivery_holds : (p : Settings) → InRange p → (past : List Happening) (accepted : List Origin) (w : World) (node : ℕ) (datagram : List ℕ) (now draw : ℕ)
-    → SaysTrue p w.sender datagram → WorldHolds p past accepted w
-    → HoldsAfter p past accepted w (Delivered node datagram now draw) (world_step p w (Delivered node datagram now draw))
-delivery_holds p range past accepted w node datagram now draw says h = go (node == p.sender) (receiver_at w node) refl
+delivery_holds : (p : Settings) → InRange p → (past : List Happening) (accepted : List Origin) (w : World) (node : ℕ) (octets : List ℕ) (now draw : ℕ)
+    → (o : Written) → SaysTrue p w.sender o → o.octets ≡ octets → IsTrue (comes_in_time p w node o) → WorldHolds p past accepted w
+    → HoldsAfter p past accepted w (Delivered node octets now draw) (world_step p w (Delivered node octets now draw))
+delivery_holds p range past accepted w node octets now draw o says same near h = go (node == p.sender) (receiver_at w node) refl near
   where
-    go : (own : Bool) (found : Option ReceiverState) → receiver_at w node ≡ found → HoldsAfter p past accepted w (Delivered node datagram now draw) (elim own [
-      | true ↦ (record w { sender = heard p w.sender datagram now }, Silent)
-      | false ↦ elim found [ Some r ↦ (with_receiver (received p r datagram now draw) w, Silent) | None ↦ (w, Silent) ]
-    ])
-    go true found e =
-        let keeps = heard_keeps p w.sender datagram now in
-        let wants = wants_step p (blocks_of p range) w.sender (events.Delivered datagram now) h.sender.wants in
-        sender_holds p past accepted w (heard p w.sender datagram now) (Delivered node datagram now draw) Silent
-        (keeps_steps p w.sender (heard p w.sender datagram now) keeps wants h.sender) keeps (λ other. refl) h
-    go false None e = nothing_holds p past accepted w (Delivered node datagram now draw) Silent (λ other. refl) h
-    go false (Some r) e =
-        receiver_holds p past accepted w node r (received p r datagram now draw) (Delivered node datagram now draw) Silent e
-        (received_moves p range w.sender r datagram now draw (orders_hold p w.sender h.sender) says) (λ other. refl) h
+    go : (own : Bool) (found : Option ReceiverState) → receiver_at w node ≡ found
+        → are_near (elim own [ true ↦ sender_knows w.sender o.message | false ↦ option_and_then (λ r. receiver_knows r o.message) found ]) o.indices ≡ true
+        → HoldsAfter p past accepted w (Delivered node octets now draw) (moved p w (node_move own found (sender.Delivered octets now) (receiver.Delivered octets now draw)))
+    go true found e close =
+        let keeps = heard_keeps p w.sender octets now in
+        let wants = wants_step p (blocks_of p range) w.sender (sender.Delivered octets now) h.sender.wants in
+        sender_holds p past accepted w (heard p w.sender octets now) (Delivered node octets now draw) Silent
+        (keeps_steps p w.sender (heard p w.sender octets now) keeps wants h.sender) keeps (λ other. refl) h
+    go false None e close = nothing_holds p past accepted w (Delivered node octets now draw) Silent (λ other. refl) h
+    go false (Some r) e close =
+        receiver_holds p past accepted w node r (received p r octets now draw) (Delivered node octets now draw) Silent e
+        (received_moves p range w.sender r o octets now draw (orders_hold p w.sender h.sender) says same close) (λ other. refl) h
 
 -- what a node's tick gave is its to offer
-given_holds : (p : Settings) (past : List Happening) (accepted : List Origin) (w : World) (x : Happening) (node : ℕ) (sent : Option (List ℕ))
+given_holds : (p : Settings) (past : List Happening) (accepted : List Origin) (w : World) (x : Happening) (node : ℕ) (sent : Option Written)
     → SentTrue p w.sender sent → WorldHolds p past accepted w
-    → AllByRecursion (λ (o : ℕ × List ℕ). SaysTrue p w.sender o.1) (with_given node sent w).given
-given_holds p past accepted w x node None says h = all_filter (λ (o : ℕ × List ℕ). SaysTrue p w.sender o.1) _ w.given h.given
+    → AllByRecursion (λ (o : ℕ × Written). SaysTrue p w.sender o.1) (with_given node sent w).given
+given_holds p past accepted w x node None says h = all_filter (λ (o : ℕ × Written). SaysTrue p w.sender o.1) _ w.given h.given
 given_holds p past accepted w x node (Some datagram) says h =
-    all_end (λ (o : ℕ × List ℕ). SaysTrue p w.sender o.1) (given_others node w) (node, datagram)
-    (all_filter (λ (o : ℕ × List ℕ). SaysTrue p w.sender o.1) _ w.given h.given) says
+    all_end (λ (o : ℕ × Written). SaysTrue p w.sender o.1) (given_others node w) (node, datagram)
+    (all_filter (λ (o : ℕ × Written). SaysTrue p w.sender o.1) _ w.given h.given) says
 
 -- a receiver says nothing false
-says_nothing_false : (p : Settings) (s : SenderState) (sent : Option (List ℕ)) → SendsNothingOf sent → SentTrue p s sent
+says_nothing_false : (p : Settings) (s : SenderState) (sent : Option Written) → SendsNothingOf sent → SentTrue p s sent
 says_nothing_false p s None h = tt
-says_nothing_false p s (Some datagram) h = nothing_true p s (decoded datagram) h
+says_nothing_false p s (Some datagram) h = (inr h.0, nothing_true p s datagram.indices datagram.message h.1)
 
 sender_tick_holds : (p : Settings) → InRange p → (past : List Happening) (accepted : List Origin) (w : World) (node now : ℕ) → WorldHolds p past accepted w
-    → HoldsAfter p past accepted w (Ticked node now) (sender_ticks p now w)
+    → HoldsAfter p past accepted w (Ticked node now) (moved p w (OfSender (sender.Ticked now)))
 sender_tick_holds p range past accepted w node now h =
     let t : SenderState = (sender_ticked p w.sender now).0 in
     let keeps = ticked_keeps p w.sender now in
-    let wants = wants_step p (blocks_of p range) w.sender (events.Ticked now) h.sender.wants in
+    let wants = wants_step p (blocks_of p range) w.sender (sender.Ticked now) h.sender.wants in
     let steps = keeps_steps p w.sender t keeps wants h.sender in
     go t (sender_ticked p w.sender now).1 steps keeps (tick_true p range w.sender now h.sender h.once.ids)
   where
-    said : (t : SenderState) (sent : Option (List ℕ)) → Onward w.sender t → SentTrue p w.sender sent
-        → AllByRecursion (λ (o : ℕ × List ℕ). SaysTrue p t o.1) (with_given p.sender sent (record w { sender = t })).given
+    said : (t : SenderState) (sent : Option Written) → Onward w.sender t → SentTrue p w.sender sent
+        → AllByRecursion (λ (o : ℕ × Written). SaysTrue p t o.1) (with_given p.sender sent (record w { sender = t })).given
     said t None onward says =
-        all_filter (λ (o : ℕ × List ℕ). SaysTrue p t o.1) _ w.given (said_later p w.sender t w.given onward h.given)
+        all_filter (λ (o : ℕ × Written). SaysTrue p t o.1) _ w.given (said_later p w.sender t w.given onward h.given)
     said t (Some datagram) onward says =
-        all_end (λ (o : ℕ × List ℕ). SaysTrue p t o.1) (given_others p.sender w) (p.sender, datagram)
-        (all_filter (λ (o : ℕ × List ℕ). SaysTrue p t o.1) _ w.given (said_later p w.sender t w.given onward h.given))
-        (true_later p w.sender t (decoded datagram) onward says)
+        all_end (λ (o : ℕ × Written). SaysTrue p t o.1) (given_others p.sender w) (p.sender, datagram)
+        (all_filter (λ (o : ℕ × Written). SaysTrue p t o.1) _ w.given (said_later p w.sender t w.given onward h.given))
+        (true_later p w.sender t datagram onward says)
 
-    go : (t : SenderState) (sent : Option (List ℕ)) → Steps p w.sender t → Keeps w.sender t → SentTrue p w.sender sent
+    go : (t : SenderState) (sent : Option Written) → Steps p w.sender t → Keeps w.sender t → SentTrue p w.sender sent
         → HoldsAfter p past accepted w (Ticked node now) (with_given p.sender sent (record w { sender = t }), Sent sent)
     go t None steps keeps says =
         quiet_world p past accepted accepted w (with_given p.sender None (record w { sender = t })) (Ticked node now) (Sent None) refl steps.holds
@@ -166,43 +171,61 @@ sender_tick_holds p range past accepted w node now h =
         (said t (Some datagram) steps.onward says) (λ other. refl) h
 
 receiver_tick_holds : (p : Settings) (past : List Happening) (accepted : List Origin) (w : World) (node now : ℕ) (r : ReceiverState) → receiver_at w node ≡ Some r
-    → WorldHolds p past accepted w → HoldsAfter p past accepted w (Ticked node now) (receiver_ticks p now w r)
+    → WorldHolds p past accepted w → HoldsAfter p past accepted w (Ticked node now) (moved p w (OfReceiver r (receiver.Ticked now)))
 receiver_tick_holds p past accepted w node now r found h =
     let t : ReceiverState = (receiver_ticked p r now).0 in
     let moved : Moved p w.sender r t = same_moves p w.sender r t (tick_same p r now) in
     go t (receiver_ticked p r now).1 moved (says_nothing_false p w.sender (receiver_ticked p r now).1 (receiver_says_nothing p r now))
   where
-    go : (t : ReceiverState) (sent : Option (List ℕ)) → Moved p w.sender r t → SentTrue p w.sender sent
+    go : (t : ReceiverState) (sent : Option Written) → Moved p w.sender r t → SentTrue p w.sender sent
         → HoldsAfter p past accepted w (Ticked node now) (with_given r.node sent (with_receiver t w), Sent sent)
     go t None moved says =
         moved_world p past accepted w (with_given r.node None (with_receiver t w)) (Ticked node now) (Sent None) node r t found
         (moved_node_is p w.sender r t moved) refl refl refl moved (λ other. refl)
-        (all_filter (λ (o : ℕ × List ℕ). SaysTrue p w.sender o.1) _ w.given h.given) h
+        (all_filter (λ (o : ℕ × Written). SaysTrue p w.sender o.1) _ w.given h.given) h
     go t (Some datagram) moved says =
         moved_world p past accepted w (with_given r.node (Some datagram) (with_receiver t w)) (Ticked node now) (Sent (Some datagram)) node r t found
         (moved_node_is p w.sender r t moved) refl refl refl moved (λ other. refl)
-        (all_end (λ (o : ℕ × List ℕ). SaysTrue p w.sender o.1) (given_others r.node w) (r.node, datagram)
-        (all_filter (λ (o : ℕ × List ℕ). SaysTrue p w.sender o.1) _ w.given h.given) says) h
+        (all_end (λ (o : ℕ × Written). SaysTrue p w.sender o.1) (given_others r.node w) (r.node, datagram)
+        (all_filter (λ (o : ℕ × Written). SaysTrue p w.sender o.1) _ w.given h.given) says) h
 
 tick_holds : (p : Settings) → InRange p → (past : List Happening) (accepted : List Origin) (w : World) (node now : ℕ) → WorldHolds p past accepted w
     → HoldsAfter p past accepted w (Ticked node now) (world_step p w (Ticked node now))
 tick_holds p range past accepted w node now h = go (node == p.sender) (receiver_at w node) refl
   where
-    go : (own : Bool) (found : Option ReceiverState) → receiver_at w node ≡ found → HoldsAfter p past accepted w (Ticked node now) (elim own [
-      | true ↦ sender_ticks p now w
-      | false ↦ elim found [ Some r ↦ receiver_ticks p now w r | None ↦ (w, Silent) ]
-    ])
+    go : (own : Bool) (found : Option ReceiverState) → receiver_at w node ≡ found
+        → HoldsAfter p past accepted w (Ticked node now) (moved p w (node_move own found (sender.Ticked now) (receiver.Ticked now)))
     go true found e = sender_tick_holds p range past accepted w node now h
     go false None e = nothing_holds p past accepted w (Ticked node now) Silent (λ other. refl) h
     go false (Some r) e = receiver_tick_holds p past accepted w node now r e h
 
-offer_holds : (p : Settings) (past : List Happening) (accepted : List Origin) (w : World) (node : ℕ) (datagram : List ℕ) → Contains w.given (node, datagram)
-    → WorldHolds p past accepted w → HoldsAfter p past accepted w (Offered node datagram) (world_step p w (Offered node datagram))
-offer_holds p past accepted w node datagram has h =
-    quiet_world p past accepted accepted w (with_offer node datagram w) (Offered node datagram) Silent refl h.sender h.once (goes_on_itself (instances w.sender))
-    (all_end (λ (o : ℕ × List ℕ). SaysTrue p w.sender o.1) w.offered (node, datagram) h.offered
-    (all_contains (λ (o : ℕ × List ℕ). SaysTrue p w.sender o.1) w.given (node, datagram) h.given has))
-    (all_filter (λ (o : ℕ × List ℕ). SaysTrue p w.sender o.1) _ w.given h.given) (λ other. refl) h
+-- an element that is found is one of them
+found_holds : {X : Type 0} (P : X → Type 0) (test : X → Bool) (xs : List X) (x : X) → AllByRecursion P xs → find test xs ≡ Some x → P x
+found_holds {X} P test [] x all e = absurd (none x e)
+  where
+    none : (x : X) → None ≡ Some x → ⊥
+    none x e = cc
+found_holds {X} P test (y ∷ xs) x all e = go (test y) (λ e. found_holds P test xs x all.1 e) e
+  where
+    same : (a b : X) → Some a ≡ Some b → a ≡ b
+    same a b e = cc
+
+    go : (b : Bool) → (find test xs ≡ Some x → P x) → cond b (Some y) (find test xs) ≡ Some x → P x
+    go true more e = subst P (same y x e) all.0
+    go false more e = more e
+
+offer_holds : (p : Settings) (past : List Happening) (accepted : List Origin) (w : World) (node : ℕ) (octets : List ℕ)
+    → WorldHolds p past accepted w → HoldsAfter p past accepted w (Offered node octets) (world_step p w (Offered node octets))
+offer_holds p past accepted w node octets h = go (find (is_of node octets) w.given) refl
+  where
+    go : (found : Option (ℕ × Written)) → find (is_of node octets) w.given ≡ found
+        → HoldsAfter p past accepted w (Offered node octets) (offers found node w, Silent)
+    go None e = nothing_holds p past accepted w (Offered node octets) Silent (λ other. refl) h
+    go (Some o) e =
+        quiet_world p past accepted accepted w (offers (Some o) node w) (Offered node octets) Silent refl h.sender h.once (goes_on_itself (instances w.sender))
+        (all_end (λ (o : ℕ × Written). SaysTrue p w.sender o.1) w.offered o h.offered
+        (found_holds (λ (o : ℕ × Written). SaysTrue p w.sender o.1) (is_of node octets) w.given o h.given e))
+        (all_filter (λ (o : ℕ × Written). SaysTrue p w.sender o.1) _ w.given h.given) (λ other. refl) h
 
 -- a world and the answer after a receiver's next hand-up was asked for
 abbrev taken_by : World → ReceiverState × Option Up → World × Answer
@@ -217,39 +240,36 @@ taking_holds p past accepted w node h = go (receiver_at w node) refl
     ups r found [] e = receiver_holds p past accepted w node r r (UpTaken node) (Took None) found (same_moves p w.sender r r (held_same r)) (λ other. refl) h
     ups r found (up ∷ more) e = taken_world p past accepted w (with_receiver (record r { ups = more }) w) node r up more found e refl refl refl refl h
 
-    go : (found : Option ReceiverState) → receiver_at w node ≡ found → HoldsAfter p past accepted w (UpTaken node) (elim found [
-      | Some r ↦ (with_receiver (took r).0 w, Took (took r).1)
-      | None ↦ (w, Silent)
-    ])
+    go : (found : Option ReceiverState) → receiver_at w node ≡ found → HoldsAfter p past accepted w (UpTaken node) (moved p w (receiver_move found receiver.UpTaken))
     go None e = nothing_holds p past accepted w (UpTaken node) Silent (λ other. refl) h
     go (Some r) e = ups r e r.ups refl
 
-event_holds : (p : Settings) → InRange p → (past : List Happening) (accepted : List Origin) (w : World) (e : Event) → MayCome w accepted e → IsEvent e → IsOfObjects e
+event_holds : (p : Settings) → InRange p → (past : List Happening) (accepted : List Origin) (w : World) (e : Event) → MayCome p w accepted e → IsEvent e → IsOfObjects e
     → WorldHolds p past accepted w → HoldsAfter p past accepted w e (world_step p w e)
 event_holds p range past accepted w (Commanded by job now) may is of h = command_holds p range past accepted w by job now may is of h
 event_holds p range past accepted w (Delivered node datagram now draw) may is of h =
-    delivery_holds p range past accepted w node datagram now draw
-    (all_contains (λ (o : ℕ × List ℕ). SaysTrue p w.sender o.1) w.offered (may.0, datagram) h.offered may.2) h
+    delivery_holds p range past accepted w node datagram now draw may.datagram
+    (all_contains (λ (o : ℕ × Written). SaysTrue p w.sender o.1) w.offered (may.from, may.datagram) h.offered may.offered) may.same may.near h
 event_holds p range past accepted w (Ticked node now) may is of h = tick_holds p range past accepted w node now h
-event_holds p range past accepted w (Offered node datagram) may is of h = offer_holds p past accepted w node datagram may h
+event_holds p range past accepted w (Offered node datagram) may is of h = offer_holds p past accepted w node datagram h
 event_holds p range past accepted w (UpTaken node) may is of h = taking_holds p past accepted w node h
 event_holds p range past accepted w NewsAsked may is of h =
     let keeps = told_keeps w.sender in
-    let wants = wants_step p (blocks_of p range) w.sender events.NewsAsked h.sender.wants in
+    let wants = wants_step p (blocks_of p range) w.sender sender.NewsAsked h.sender.wants in
     sender_holds p past accepted w (told w.sender).0 NewsAsked (Told (told w.sender).1) (keeps_steps p w.sender (told w.sender).0 keeps wants h.sender) keeps
     (λ other. refl) h
 
 -- ---- a run
 
 -- no node came to an instance, as a world begins
-none_yet : (p : Settings) (nodes : List ℕ) (node : ℕ) → AtNode p (sender_opening p) [] node (find (λ (r : ReceiverState). r.node == node) (map receiver_opening nodes))
+none_yet : (p : Settings) (nodes : List ℕ) (node : ℕ) → AtNode p (sender_opening p p.instance) [] node (find (λ (r : ReceiverState). r.node == node) (map receiver_opening nodes))
 unfolding IsDistinct came_to
 none_yet p [] node = record { came = refl }
 none_yet p (n ∷ nodes) node = go (n == node) refl (none_yet p nodes node)
   where
-    go : (b : Bool) → (n == node) ≡ b → AtNode p (sender_opening p) [] node (find (λ (r : ReceiverState). r.node == node) (map receiver_opening nodes))
-        → AtNode p (sender_opening p) [] node (cond b (Some (receiver_opening n)) (find (λ (r : ReceiverState). r.node == node) (map receiver_opening nodes)))
-    go true e more = record { here = (Decides-eqb n node).0 e; came = refl; once = tt; stands = refl; never = λ id out gone. refl }
+    go : (b : Bool) → (n == node) ≡ b → AtNode p (sender_opening p p.instance) [] node (find (λ (r : ReceiverState). r.node == node) (map receiver_opening nodes))
+        → AtNode p (sender_opening p p.instance) [] node (cond b (Some (receiver_opening n)) (find (λ (r : ReceiverState). r.node == node) (map receiver_opening nodes)))
+    go true e more = record { here = (Decides-eqb n node).0 e; came = refl; once = tt; stands = refl; never = λ id above. refl }
     go false e more = more
 
 none_in : (nodes : List ℕ) (node : ℕ) → instance_of (find (λ (r : ReceiverState). r.node == node) (map receiver_opening nodes)) ≡ None
@@ -265,7 +285,7 @@ opening_world : (p : Settings) → InRange p → WorldHolds p [] [] (world_openi
 unfolding IsDistinct
 opening_world p range = record {
   sender = opening_holds p range;
-  once = record { differ = tt; ids = (tt, tt); known = tt };
+  once = record { differ = tt; ids = (tt, tt); low = (omega arith, tt); known = tt };
   offered = tt;
   given = tt;
   nodes = λ node. none_yet p (receivers_of p p.receivers) node;
@@ -313,4 +333,4 @@ in_order_run p range events lawful are of = record {
     once : (node : ℕ) (found : Option ReceiverState) → AtNode p (history p events).now.sender (history p events).happened node found
         → IsDistinct nat_eq (came_to node None (history p events).happened)
     once node None h = let D : List ℕ → Type 0 = λ xs. IsDistinct nat_eq xs in subst D (sym h.came) tt
-    once node (Some r) h = let D : List ℕ → Type 0 = λ xs. IsDistinct nat_eq xs in subst D (sym h.came) h.once
+    once node (Some r) h = h.once

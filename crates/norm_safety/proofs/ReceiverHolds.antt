@@ -7,7 +7,6 @@ use Rattle.norm_base.specs.Settings.{Settings, InRange}
 use Rattle.fec_plan.specs.Points.{Point, point, position, point_of}
 use Rattle.fec_plan.specs.declared.position.Position.{Position}
 use Rattle.norm_ext.specs.Extensions.{Extension}
-use Rattle.norm_ext.specs.ObjectIds.{index_of}
 use Rattle.norm_ext.specs.declared.fti.Fti.{Fti}
 use Rattle.norm_ext.specs.Message.{InfoMessage, DataMessage, SquelchCommand}
 use Rattle.norm_order.specs.Entries.{Entry}
@@ -157,25 +156,24 @@ object_holding p range order d taken at extensions flags x brings r sized found 
     put true s = up_holding p range order d taken _ sized (kept _ s)
     put false s = s
 
-pub data_holding : (p : Settings) → InRange p → (order : List Entry) (d : ℕ) (taken : List Up) (m : DataMessage) (r : ReceiverState) → AreSized p order
-    → IsSomeAnd (slice_get order (index_of p m.head.object)) (λ (x : Entry).
+pub data_holding : (p : Settings) → InRange p → (order : List Entry) (d : ℕ) (taken : List Up) (m : DataMessage) (index : ℕ) (r : ReceiverState) → AreSized p order
+    → IsSomeAnd (slice_get order index) (λ (x : Entry).
     (nat_lt m.id.symbol (encoded_in (shape_of p x.object) m.id.block) ≡ true)
     × (m.payload ≡ symbol_octets p x.object m.id.block m.id.symbol) × SaysObject p x.object m.extensions m.head.flags)
-    → Holding p order d taken r → Holding p order d taken (data_received p m r)
-data_holding p range order d taken m r sized says h =
-    let at : Position = position (index_of p m.head.object) m.id.block m.id.symbol in
-    let entry = some_and _ (slice_get order (index_of p m.head.object)) says in
+    → Holding p order d taken r → Holding p order d taken (data_received p m index r)
+data_holding p range order d taken m index r sized says h =
+    let at : Position = position index m.id.block m.id.symbol in
+    let entry = some_and _ (slice_get order index) says in
     let S : Option Entry → Type 0 = λ o. IsSomeAnd o (λ (y : Entry).
     (nat_lt m.id.symbol (encoded_in (shape_of p y.object) m.id.block) ≡ true) × (m.payload ≡ symbol_octets p y.object m.id.block m.id.symbol)) in
     object_holding p range order d taken at m.extensions m.head.flags entry.0 (put_symbol p at m.payload) r sized entry.1 entry.2.2
     (λ s held. symbol_holding p order d taken (put_of p s at m.payload) at m.payload s (subst S (sym entry.1) (entry.2.0, entry.2.1)) held) h
 
-pub info_is_holding : (p : Settings) → InRange p → (order : List Entry) (d : ℕ) (taken : List Up) (m : InfoMessage) (r : ReceiverState) → AreSized p order
-    → IsSomeAnd (slice_get order (index_of p m.head.object)) (λ (x : Entry).
+pub info_is_holding : (p : Settings) → InRange p → (order : List Entry) (d : ℕ) (taken : List Up) (m : InfoMessage) (index : ℕ) (r : ReceiverState) → AreSized p order
+    → IsSomeAnd (slice_get order index) (λ (x : Entry).
     (info_of_object x.object ≡ Some m.info) × SaysObject p x.object m.extensions m.head.flags)
-    → Holding p order d taken r → Holding p order d taken (info_received p m r)
-info_is_holding p range order d taken m r sized says h =
-    let index : ℕ = index_of p m.head.object in
+    → Holding p order d taken r → Holding p order d taken (info_received p m index r)
+info_is_holding p range order d taken m index r sized says h =
     let entry = some_and _ (slice_get order index) says in
     let S : Option Entry → Type 0 = λ o. IsSomeAnd o (λ (y : Entry). info_of_object y.object ≡ Some m.info) in
     object_holding p range order d taken (position index 0 0) m.extensions m.head.flags entry.0 (put_info p index m.info) r sized entry.1 entry.2.1
@@ -255,10 +253,10 @@ not_cut_off p order d taken r first none = go (plan_of r r.point.index)
         last true false c e = refl
         last false b c e = refl
 
-pub squelch_holding : (p : Settings) → InRange p → (order : List Entry) (d : ℕ) (taken : List Up) (m : SquelchCommand) (r : ReceiverState) → AreSized p order
-    → d ≤ length order → index_of p m.object ≤ d → m.id.block ≡ 0 → Holding p order d taken r → Holding p order d taken (squelch_received p m r)
-squelch_holding p range order d taken m r sized most le none h =
-    let first : Point = point (index_of p m.object) m.id.block in
+pub squelch_holding : (p : Settings) → InRange p → (order : List Entry) (d : ℕ) (taken : List Up) (m : SquelchCommand) (index : ℕ) (r : ReceiverState) → AreSized p order
+    → d ≤ length order → index ≤ d → m.id.block ≡ 0 → Holding p order d taken r → Holding p order d taken (squelch_received p m index r)
+squelch_holding p range order d taken m index r sized most le none h =
+    let first : Point = point index m.id.block in
     let s : ReceiverState = loses_before (first.index - r.point.index) p first.index r in
     go s (s.point.index == first.index) (is_cut_off s first) (not_cut_off p order d taken s first none)
     (before_holding p range order d taken (first.index - r.point.index) first.index r sized most le h)

@@ -9,14 +9,12 @@ use Rattle.norm_base.specs.Members.{receivers_of}
 use Rattle.norm_order.specs.declared.up.Up.{Up}
 use Rattle.norm_receive_rules.specs.ReceiverState.{ReceiverState, receiver_opening}
 use Rattle.norm_receive_rules.specs.Leaving.{is_in}
-use Rattle.norm_receive_rules.specs.Receiving.{received}
-use Rattle.norm_receive_rules.specs.Taking.{took}
-use Rattle.norm_receive_rules.specs.Ticking.{ticked as receiver_ticked}
-use Rattle.norm_send_rules.specs.Ticking.{ticked as sender_ticked}
-use Rattle.norm_send_rules.specs.Hearing.{heard}
-use Rattle.norm_safety.specs.Events.{Event, Commanded, Delivered, Ticked, Offered, UpTaken, NewsAsked, Answer, Silent, Took}
-use Rattle.norm_safety.specs.World.{World, world_opening, receiver_at, with_receiver, with_given}
-use Rattle.norm_safety.specs.WorldStep.{world_step, of_receiver, at_receiver, sender_ticks, receiver_ticks}
+use Rattle.norm_receive_rules.specs.ReceiverStep.{receiver_step}
+use Rattle.norm_send_rules.specs.SenderStep.{sender_step}
+use Rattle.norm_ext.specs.Written.{Written}
+use Rattle.norm_safety.specs.Events.{Event, UpTaken, Answer, Gave, Sent, Took, Told, Silent}
+use Rattle.norm_safety.specs.World.{World, world_opening, receiver_at, with_receiver, with_given, is_of, offers}
+use Rattle.norm_safety.specs.WorldStep.{Move, OfSender, OfReceiver, OfNetwork, OfNobody, move_of, moved, answered, of_sender, of_receiver, world_step}
 use Rattle.norm_safety.specs.History.{Happening, History, happens, history}
 use Rattle.norm_safety.specs.Hands.{is_at, taken_in, hands, instance_at}
 use Rattle.norm_safety.specs.OnceEach.{order_of, are_distinct}
@@ -50,42 +48,30 @@ nodes_with r (x ∷ receivers) =
     ap (λ n. n ∷ map (λ (y : ReceiverState). y.node) (map (put_in r) receivers)) (same_node r x (x.node == r.node) refl)
     ∙ ap (λ ns. x.node ∷ ns) (nodes_with r receivers)
 
-given_nodes : (node : ℕ) (datagram : Option (List ℕ)) (w : World) → nodes (with_given node datagram w) ≡ nodes w
+given_nodes : (node : ℕ) (datagram : Option Written) (w : World) → nodes (with_given node datagram w) ≡ nodes w
 given_nodes node None w = refl
 given_nodes node (Some datagram) w = refl
 
-abbrev either : Bool → World × Answer → World × Answer → World × Answer
-either b t u = elim b [ true ↦ t | false ↦ u ]
+answered_nodes : (node : ℕ) (answer : Answer) (w : World) → nodes (answered node answer w).0 ≡ nodes w
+answered_nodes node (Sent datagram) w = given_nodes node datagram w
+answered_nodes node (Gave result) w = refl
+answered_nodes node (Took up) w = refl
+answered_nodes node (Told news) w = refl
+answered_nodes node Silent w = refl
 
-either_nodes : (b : Bool) (w : World) (t u : World × Answer) → nodes t.0 ≡ nodes w → nodes u.0 ≡ nodes w → nodes (either b t u).0 ≡ nodes w
-either_nodes true w t u h k = h
-either_nodes false w t u h k = k
+offers_nodes : (found : Option (ℕ × Written)) (node : ℕ) (w : World) → nodes (offers found node w) ≡ nodes w
+offers_nodes None node w = refl
+offers_nodes (Some datagram) node w = refl
 
-receiver_nodes : (w : World) (node : ℕ) (step : ReceiverState → World × Answer) → ((r : ReceiverState) → nodes (step r).0 ≡ nodes w)
-    → nodes (at_receiver w node step).0 ≡ nodes w
-receiver_nodes w node step each = go (receiver_at w node)
-  where
-    of : Option ReceiverState → World × Answer
-    of found = elim found [ Some r ↦ step r | None ↦ (w, Silent) ]
-
-    go : (found : Option ReceiverState) → nodes (of found).0 ≡ nodes w
-    go (Some r) = each r
-    go None = refl
+move_nodes : (p : Settings) (w : World) (move : Move) → nodes (moved p w move).0 ≡ nodes w
+move_nodes p w (OfSender event) = (let step = sender_step p w.sender event in answered_nodes p.sender (of_sender step.1) (record w { sender = step.0 }))
+move_nodes p w (OfReceiver r event) =
+    let step = receiver_step p r event in answered_nodes r.node (of_receiver step.1) (with_receiver step.0 w) ∙ nodes_with step.0 w.receivers
+move_nodes p w (OfNetwork node octets) = offers_nodes (find (is_of node octets) w.given) node w
+move_nodes p w OfNobody = refl
 
 step_nodes : (p : Settings) (w : World) (e : Event) → nodes (world_step p w e).0 ≡ nodes w
-step_nodes p w (Commanded by job now) = refl
-step_nodes p w (Delivered node datagram now draw) = either_nodes (node == p.sender) w
-    (record w { sender = heard p w.sender datagram now }, Silent)
-    (at_receiver w node (λ r. (with_receiver (received p r datagram now draw) w, Silent))) refl
-    (receiver_nodes w node (λ r. (with_receiver (received p r datagram now draw) w, Silent)) (λ r. nodes_with (received p r datagram now draw) w.receivers))
-step_nodes p w (Ticked node now) = either_nodes (node == p.sender) w (sender_ticks p now w) (at_receiver w node (receiver_ticks p now w))
-    (let step = sender_ticked p w.sender now in given_nodes p.sender step.1 (record w { sender = step.0 }))
-    (receiver_nodes w node (receiver_ticks p now w) (λ r.
-    let step = receiver_ticked p r now in given_nodes r.node step.1 (with_receiver step.0 w) ∙ nodes_with step.0 w.receivers))
-step_nodes p w (Offered node datagram) = refl
-step_nodes p w (UpTaken node) =
-    receiver_nodes w node (λ r. of_receiver Took w (took r)) (λ r. nodes_with (took r).0 w.receivers)
-step_nodes p w NewsAsked = refl
+step_nodes p w e = move_nodes p w (move_of p w e)
 
 -- A node without a receiver comes to no instance.
 

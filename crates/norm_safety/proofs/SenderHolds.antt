@@ -8,12 +8,13 @@ use Rattle.norm_base.specs.Members.{receivers_of}
 use Rattle.norm_base.specs.declared.node.Origin.{Origin}
 use Rattle.fec_plan.specs.Points.{Point, point}
 use Rattle.fec_plan.specs.declared.position.Position.{Position}
+use Rattle.norm_ext.specs.InstanceIds.{rise}
 use Rattle.norm_order.specs.Entries.{Object, Whole, Entry}
 use Rattle.norm_order.specs.Shapes.{shapes_of, is_source, last_source}
 use Rattle.norm_send_rules.specs.SenderState.{SenderState, Instance, Watermark, begun, sender_opening}
 use Rattle.norm_send_rules.specs.SenderStep as events
 use Rattle.norm_send_rules.specs.InWindow.{next_index, current_shapes}
-use Rattle.norm_send_rules.specs.Restarting.{instances, begun_anew}
+use Rattle.norm_send_rules.specs.Restarting.{instances, first_id, is_used, begun_anew}
 use Rattle.norm_send_rules.specs.Requests.{is_open, ended_with}
 use Rattle.norm_send_rules.specs.declared.news.Outcome.TheVariants.{Cut as CutOff}
 use Rattle.norm_send_rules.specs.Room.{size_of, window, has_room, has_to_go, drop_after}
@@ -26,6 +27,7 @@ use Rattle.norm_safety.specs.OnceEach.{order_of}
 use Rattle.norm_safety.specs.InOrder.{drop_of}
 use Rattle.norm_safety.specs.Jobs.{IsJob, OpensNone}
 use Rattle.norm_safety.proofs.SenderKeeps.{Keeps, nodes_in, AllOpen, request_at_of}
+use Rattle.norm_safety.proofs.OnceLemmas.{unused_few}
 use Rattle.norm_safety.proofs.EntryLemmas.{clash}
 use Rattle.norm_safety.proofs.Cuts.{cut_range}
 use Rattle.norm_safety.proofs.LastLemmas.{last_is_source, source_still}
@@ -41,38 +43,47 @@ IsKept p i = AreSized p i.order × (i.drop.index ≤ length i.order)
 abbrev pub AllSized : Settings → List Instance → Type 0
 AllSized p all = AllByRecursion (IsKept p) all
 
--- What holds: wants are symbols and infos of the window; objects are data and files of their sizes; ids, indices and the
--- sequence number have 16 bits; listings are the receivers'; the drop point lies within the order, before a block 0; and
+-- What holds: wants are symbols and infos of the window; objects are data and files of their sizes; the current id lies less
+-- than half of all ids above the first, which is the profile's; ids and the sequence number have 16 bits, indices 32; listings are the receivers'; the drop point lies within the order, before a block 0; and
 -- open requests are of source symbols of the order.
 pub record SenderHolds (p : Settings) (s : SenderState) : Type 0 where
   pub wants : WantsHold p s
   pub sized : AllSized p (instances s)
   pub id : s.current.id < 65536
-  pub many : length s.current.order ≤ 65536
+  pub first : first_id s ≡ p.instance
+  pub few : rise p.instance s.current.id ≤ 32767
+  pub many : length s.current.order ≤ 4294967295
   pub sequence : s.sequence < 65536
   pub nodes : nodes_in s.listings ≡ receivers_of p p.receivers
   pub within : s.current.drop.index ≤ length s.current.order
-  pub index : s.current.drop.index < 65536
+  pub index : s.current.drop.index < 4294967295
   pub block : s.current.drop.block ≡ 0
   pub asked : AllOpen (is_source (shapes_of p s.current.order)) s.requests
 
 same_all : (p : Settings) (s t : SenderState) → Steady p s t → instances t ≡ instances s
 same_all p s t h = ap (λ (xs : List Instance). xs ++ t.current ∷ []) h.earlier ∙ ap (λ (x : Instance). s.earlier ++ x ∷ []) h.current
 
+-- the id of the first of these instances
+abbrev first_in : List Instance → Instance → ℕ
+first_in earlier current = elim earlier [ i ∷ more ↦ i.id | [] ↦ current.id ]
+
 steady_holds : (p : Settings) (s t : SenderState) → Steady p s t → AllOpen (is_source (shapes_of p s.current.order)) t.requests
     → WantsHold p t → SenderHolds p s → SenderHolds p t
 steady_holds p s t same asked wants h =
     let A : List Instance → Type 0 = λ all. AllSized p all in
     let C : Instance → Type 0 = λ i. i.id < 65536 in
-    let M : Instance → Type 0 = λ i. length i.order ≤ 65536 in
+    let U : Instance → Type 0 = λ i. rise p.instance i.id ≤ 32767 in
+    let M : Instance → Type 0 = λ i. length i.order ≤ 4294967295 in
     let W : Instance → Type 0 = λ i. i.drop.index ≤ length i.order in
-    let I : Instance → Type 0 = λ i. i.drop.index < 65536 in
+    let I : Instance → Type 0 = λ i. i.drop.index < 4294967295 in
     let B : Instance → Type 0 = λ i. i.drop.block ≡ 0 in
     let O : Instance → Type 0 = λ i. AllOpen (is_source (shapes_of p i.order)) t.requests in
     record {
       wants = wants;
       sized = subst A (sym (same_all p s t same)) h.sized;
       id = subst C (sym same.current) h.id;
+      first = ap (λ (earlier : List Instance). first_in earlier t.current) same.earlier ∙ ap (λ (x : Instance). first_in s.earlier x) same.current ∙ h.first;
+      few = subst U (sym same.current) h.few;
       many = subst M (sym same.current) h.many;
       sequence = same.sequence h.sequence;
       nodes = same.nodes ∙ h.nodes;
@@ -158,7 +169,7 @@ ended_all test (w ∷ requests) = (go (is_open w) refl, ended_all test requests)
     go true is e = absurd (clash e)
     go false is e = absurd (clash (sym is ∙ e))
 
-joins_holds : (p : Settings) (by : Origin) (object : Object) (s : SenderState) → IsSized p object → next_index s < 65536
+joins_holds : (p : Settings) (by : Origin) (object : Object) (s : SenderState) → IsSized p object → next_index s < 4294967295
     → WantsHold p (joined p by object s) → SenderHolds p s → SenderHolds p (joined p by object s)
 joins_holds p by object s is few wants h =
     let new = joined p by object s in
@@ -170,6 +181,8 @@ joins_holds p by object s is few wants h =
       sized = last_more (IsKept p) s.earlier s.current new.current
           (entries_more p s.current.order entry is (current_sized p s h), omega arith) h.sized;
       id = h.id;
+      first = h.first;
+      few = h.few;
       many = omega arith;
       sequence = h.sequence;
       nodes = h.nodes;
@@ -203,12 +216,22 @@ all_with : (P : Instance → Type 0) (all : List Instance) (x : Instance) → P 
 all_with P [] x h all = (h, tt)
 all_with P (y ∷ more) x h all = (all.0, all_with P more x h all.1)
 
-restarts_holds : (p : Settings) (id : ℕ) (s : SenderState) → id < 65536 → WantsHold p (begun_anew p id s) → SenderHolds p s
+-- a new instance leaves the first one
+first_stays : (p : Settings) (id : ℕ) (s : SenderState) → first_id (begun_anew p id s) ≡ first_id s
+first_stays p id s = go s.earlier
+  where
+    go : (earlier : List Instance) → first_in (earlier ++ s.current ∷ []) (begun id) ≡ first_in earlier s.current
+    go [] = refl
+    go (i ∷ earlier) = refl
+
+restarts_holds : (p : Settings) (id : ℕ) (s : SenderState) → is_used s id ≡ false → id < 65536 → WantsHold p (begun_anew p id s) → SenderHolds p s
     → SenderHolds p (begun_anew p id s)
-restarts_holds p id s few wants h = record {
+restarts_holds p id s unused few wants h = record {
   wants = wants;
   sized = all_with (IsKept p) (instances s) (begun id) (tt, omega arith) h.sized;
   id = few;
+  first = first_stays p id s ∙ h.first;
+  few = (let F : ℕ → Type 0 = λ first. rise first id ≤ 32767 in subst F h.first (unused_few s id unused));
   many = omega arith;
   sequence = h.sequence;
   nodes = unlisted_nodes (receivers_of p p.receivers);
@@ -241,7 +264,7 @@ command_steps p range s by job now is none h =
       onward = joins_onward p by (Whole kind info octets) s h.block;
     }
     go t (Restarts id unused few) wants = record {
-      holds = restarts_holds p id s few wants h;
+      holds = restarts_holds p id s unused few wants h;
       onward = more_goes_on (instances s) (begun id);
     }
 
@@ -254,11 +277,13 @@ keeps_steps p s t keeps wants h =
       onward = steady_onward p s t same;
     }
 
-pub opening_holds : (p : Settings) → InRange p → SenderHolds p (sender_opening p)
+pub opening_holds : (p : Settings) → InRange p → SenderHolds p (sender_opening p p.instance)
 opening_holds p range = record {
   wants = record { rise = tt; of_order = tt; in_window = tt };
   sized = ((tt, omega arith), tt);
   id = omega (arith, range.instance.1);
+  first = refl;
+  few = omega arith;
   many = omega arith;
   sequence = omega arith;
   nodes = unlisted_nodes (receivers_of p p.receivers);

@@ -6,18 +6,18 @@ use Rattle.std.specs.Prelude.{map, find, ◌==◌, ◌&&◌, nat_le, nat_lt, is_
 use Rattle.norm_base.specs.Settings.{Settings}
 use Rattle.norm_base.specs.declared.node.Origin.{Origin}
 use Rattle.fec_plan.specs.declared.position.Position.{Position}
-use Rattle.fec_plan.specs.Points.{position}
 use Rattle.norm_ext.specs.declared.head.Item.{Item}
 use Rattle.norm_ext.specs.Message.{Message, Info, Data, Flush, Eot, Squelch, RepairAdv, AckReq, Opaque, Nack, Ack, Report, NackMessage, AckMessage, AckContent, Mark, Unread}
-use Rattle.norm_ext.specs.ObjectIds.{index_of}
+use Rattle.norm_ext.specs.Asking.{item_named}
 use Rattle.norm_ext.specs.Reading.{decoded}
 use Rattle.norm_ext.specs.Requests.{Request}
+use Rattle.norm_ext.specs.Written.{Written, writes}
 use Rattle.norm_order.specs.Entries.{Entry, Object}
 use Rattle.norm_order.specs.Shapes.{is_source}
 use Rattle.norm_send_rules.specs.SenderState.{Listing, SenderState, Watermark, Round}
-use Rattle.norm_send_rules.specs.InWindow.{current_shapes}
+use Rattle.norm_send_rules.specs.InWindow.{last_index, current_shapes}
 use Rattle.norm_send_rules.specs.Requests.{is_past, pending, is_open, keeps_oldest, counted_anew, ended_with, end_where, settled, open_requests}
-use Rattle.norm_send_rules.specs.Hearing.{listed_past, is_for, joined_round, rises, credited, credited_at, nack_heard, ack_heard, message_heard, heard}
+use Rattle.norm_send_rules.specs.Hearing.{listed_past, is_for, joined_round, rises, credited, credited_at, credited_by, nack_heard, ack_heard, message_heard, heard}
 use Rattle.norm_send_rules.specs.Closing.{round_closed}
 use Rattle.norm_send_rules.specs.Messages.{squelch_message, flush_message}
 use Rattle.norm_send_rules.specs.Sending.{message_of, sends, noted, sends_want, repairs_next, sends_new, next_new}
@@ -63,7 +63,7 @@ abbrev pub request_at_of : Watermark → Position
 request_at_of w = w.at
 
 -- the state of a step
-abbrev step_of : SenderState × Option (List ℕ) → SenderState
+abbrev step_of : SenderState × Option Written → SenderState
 step_of step = step.0
 
 -- the node of a listing
@@ -155,14 +155,18 @@ credited_at_keeps p node at s = where_true (is_source (current_shapes p s) at) s
 nack_keeps : (p : Settings) (s : SenderState) (now : ℕ) (m : NackMessage) → Keeps s (nack_heard p s now m)
 nack_keeps p s now m = where_true (is_for p s m.source m.sender m.instance) s _ (joined_keeps p s now m.requests)
 
-content_keeps : (p : Settings) (node : ℕ) (at : Item → Position) (s : SenderState) (c : AckContent)
-    → Keeps s (elim c [ Mark item ↦ credited_at p node (at item) s | Unread octets ↦ s ])
-content_keeps p node at s (Mark item) = credited_at_keeps p node (at item) s
+credited_by_keeps : (p : Settings) (node : ℕ) (at : Option Position) (s : SenderState) → Keeps s (credited_by p node at s)
+credited_by_keeps p node None s = keeps_all s
+credited_by_keeps p node (Some at) s = credited_at_keeps p node at s
+
+content_keeps : (p : Settings) (node : ℕ) (at : Item → Option Position) (s : SenderState) (c : AckContent)
+    → Keeps s (elim c [ Mark item ↦ credited_by p node (at item) s | Unread octets ↦ s ])
+content_keeps p node at s (Mark item) = credited_by_keeps p node (at item) s
 content_keeps p node at s (Unread octets) = keeps_all s
 
 ack_keeps : (p : Settings) (s : SenderState) (m : AckMessage) → Keeps s (ack_heard p s m)
 ack_keeps p s m = where_true (is_for p s m.source m.sender m.instance) s _
-    (content_keeps p m.source (λ item. position (index_of p item.object) item.id.block item.id.symbol) s m.content)
+    (content_keeps p m.source (item_named p (last_index s)) s m.content)
 
 message_keeps : {E : Type 0} (p : Settings) (s : SenderState) (now : ℕ) (r : Result Message E) → Keeps s (message_heard p s now r)
 message_keeps p s now (Ok (Nack m)) = nack_keeps p s now m
@@ -186,7 +190,7 @@ noted_keeps : (w : Want) (s : SenderState) → Keeps s (noted w s)
 noted_keeps (WantedInfo index) s = record { earlier = refl; current = refl; by = refl; nodes = refl; sequence = λ h. h; asked = λ test all. all }
 noted_keeps (Symbol at) s = record { earlier = refl; current = refl; by = refl; nodes = refl; sequence = λ h. h; asked = λ test all. all }
 
-sends_keeps : (p : Settings) (now : ℕ) (m : Message) (old s : SenderState) → Keeps old s → Keeps old (sends p now m s).0
+sends_keeps : (p : Settings) (now : ℕ) (m : Written) (old s : SenderState) → Keeps old s → Keeps old (sends p now m s).0
 sends_keeps p now m old s h = record {
   earlier = h.earlier;
   current = h.current;
@@ -196,7 +200,7 @@ sends_keeps p now m old s h = record {
   asked = h.asked;
 }
 
-entry_sends : (p : Settings) (now : ℕ) (old s : SenderState) (m : Entry → Message) (w : Want) (found : Option Entry) → Keeps old s
+entry_sends : (p : Settings) (now : ℕ) (old s : SenderState) (m : Entry → Written) (w : Want) (found : Option Entry) → Keeps old s
     → Keeps old (step_of (elim found [ Some entry ↦ sends p now (m entry) (noted w s) | None ↦ (s, None) ]))
 entry_sends p now old s m w (Some entry) h = sends_keeps p now (m entry) old (noted w s) (keeps_on old s (noted w s) h (noted_keeps w s))
 entry_sends p now old s m w None h = h
@@ -204,10 +208,10 @@ entry_sends p now old s m w None h = h
 want_keeps : (p : Settings) (now : ℕ) (repair : Object → ℕ) (w : Want) (old s : SenderState) → Keeps old s
     → Keeps old (sends_want p now repair w s).0
 want_keeps p now repair w old s h =
-    entry_sends p now old s (λ entry. message_of p s w entry.object (repair entry.object)) w (slice_get s.current.order (want_index w)) h
+    entry_sends p now old s (λ entry. writes (message_of p s w entry.object (repair entry.object)) (want_index w ∷ [])) w (slice_get s.current.order (want_index w)) h
 
 flushes_for_keeps : (p : Settings) (now : ℕ) (w : Watermark) (s : SenderState) → Keeps s (flushes_for p now w s).0
-flushes_for_keeps p now w s = sends_keeps p now (flush_message p s w.at (pending s w.at)) s
+flushes_for_keeps p now w s = sends_keeps p now (writes (flush_message p s w.at (pending s w.at)) (w.at.index ∷ [])) s
     (record s { flushes = s.flushes + 1; last_flush = Some now }) (record { earlier = refl; current = refl; by = refl; nodes = refl; sequence = λ h. h; asked = λ test all. all })
 
 pub expired_keeps : (mark : ℕ) (s : SenderState) → Keeps s (expired mark s)
@@ -228,7 +232,7 @@ flushed_keeps p now (w ∷ requests) s = go (nat_lt s.flushes most_flushes) (is_
     go false true more = keeps_all s
     go false false more = more
 
-step_where : (b : Bool) (s : SenderState) (step : SenderState × Option (List ℕ)) → Keeps s step.0
+step_where : (b : Bool) (s : SenderState) (step : SenderState × Option Written) → Keeps s step.0
     → Keeps s (step_of (elim b [ true ↦ step | false ↦ (s, None) ]))
 step_where true s step h = h
 step_where false s step h = keeps_all s
@@ -254,10 +258,10 @@ first_keeps : (p : Settings) (now : ℕ) (s : SenderState) → Keeps s (sends_fi
 first_keeps p now s = go s.squelch_due
   where
     go : (due : Bool) → Keeps s (step_of (elim due [
-      | true ↦ sends p now (squelch_message p s s.current.drop) (record s { squelch_due = false })
+      | true ↦ sends p now (writes (squelch_message p s s.current.drop) (s.current.drop.index ∷ [])) (record s { squelch_due = false })
       | false ↦ sends_wanted p now s
     ]))
-    go true = sends_keeps p now (squelch_message p s s.current.drop) s (record s { squelch_due = false })
+    go true = sends_keeps p now (writes (squelch_message p s s.current.drop) (s.current.drop.index ∷ [])) s (record s { squelch_due = false })
         (record { earlier = refl; current = refl; by = refl; nodes = refl; sequence = λ h. h; asked = λ test all. all })
     go false = wanted_keeps p now s
 

@@ -1,6 +1,6 @@
 -- What a sender of data and files says is read again of its octets, and is true of its orders.
-use Rattle.std.proofs.Common.{◌≡◌, ℕ, zero, suc, ◌+◌, ◌*◌, ◌/◌, ◌<◌, ◌≤◌, List, [], ◌∷◌, ◌++◌, length, Bool, true, false, Option, None, Some, Result, Ok, refl, sym, ap, ◌∙◌, subst, arith}
-use Rattle.std.specs.Prelude.{slice_get, nat_lt, is_some, nat_eq, ⊤, IsTrue, IsSomeAnd}
+use Rattle.std.proofs.Common.{◌≡◌, ℕ, zero, suc, ◌+◌, ◌*◌, ◌/◌, ◌<◌, ◌≤◌, List, [], ◌∷◌, ◌++◌, length, Bool, true, false, Option, None, Some, Result, Ok, refl, sym, ap, ◌∙◌, subst, arith, inl}
+use Rattle.std.specs.Prelude.{◌⊎◌, slice_get, nat_lt, is_some, nat_eq, ⊤, IsTrue, IsSomeAnd}
 use Rattle.std.specs.List.{AllByRecursion, IsDistinct}
 use Rattle.byteorder.specs.Endian.{big_bytes}
 use Rattle.norm_base.specs.Settings.{Settings, InRange}
@@ -11,13 +11,13 @@ use Rattle.fec_plan.specs.declared.position.Position.{Position}
 use Rattle.norm_ext.specs.Extensions.{IsExtension, fti_extension, fti_of}
 use Rattle.norm_ext.specs.Message.{Message, Info, Data, Flush, Squelch, InfoMessage, DataMessage, FlushCommand, SquelchCommand}
 use Rattle.norm_ext.specs.Numbers.{number}
-use Rattle.norm_ext.specs.ObjectIds.{object_id, index_of}
-use Rattle.norm_ext.specs.Octets.{octets_of}
+use Rattle.norm_ext.specs.ObjectIds.{object_id}
+use Rattle.norm_ext.specs.InstanceIds.{rise}
+use Rattle.norm_ext.specs.Written.{Written, writes}
 use Rattle.norm_ext.specs.Reading.{decoded}
 use Rattle.norm_ext.specs.Spells.{IsMessage, IsObjectHead, IsCommandHead, AreExtensions}
 use Rattle.norm_ext.specs.declared.fti.Fti.{Fti}
 use Rattle.norm_ext.specs.declared.head.CmdHead.{CmdHead}
-use Rattle.norm_ext.specs.declared.refusal.Refusal.{Refusal}
 use Rattle.norm_ext.proofs.LawsHold.{read_again_law}
 use Rattle.norm_order.specs.Entries.{Object, Whole, Stream, Entry}
 use Rattle.norm_order.specs.Shapes.{Shape, shape_of, shapes_of, closed_in, encoded_in, at_index, is_source}
@@ -34,9 +34,10 @@ use Rattle.norm_send_rules.specs.Laws.{is_of_order}
 use Rattle.norm_send_rules.specs.declared.want.Want.{Want}
 use Rattle.norm_send_rules.specs.declared.want.Want.TheVariants.{Info as WantedInfo, Symbol}
 use Rattle.norm_safety.specs.OnceEach.{order_of, instance_ids}
-use Rattle.norm_safety.specs.Said.{entry_at}
+use Rattle.norm_safety.specs.Said.{About, about, entry_at}
 use Rattle.norm_safety.specs.SaysPositions.{flushes_source}
 use Rattle.norm_safety.specs.SaysSymbols.{SaysSymbol, SaysInfo, SaysObject, info_of_object}
+use Rattle.norm_safety.proofs.Feedback.{SaysNothing}
 use Rattle.norm_safety.proofs.EntryLemmas.{clash}
 use Rattle.norm_safety.proofs.PlaceLemmas.{current_found}
 use Rattle.norm_safety.proofs.WholeOrders.{IsSized, AreSized}
@@ -65,9 +66,6 @@ fti_fits f = record { kind = omega arith; words = 3; whole = refl; most = omega 
 
 extensions_fit : (words : ℕ) (f : Fti) → words ≤ 5 → AreExtensions words (fti_extension f ∷ [])
 extensions_fit words f h = record { each = (fti_fits f, tt); most = omega arith }
-
-index_again : (p : Settings) → InRange p → (index : ℕ) → index < 65536 → index_of p (object_id p index) ≡ index
-index_again p range index h = (let f = range.first.1 in omega (arith, f))
 
 -- the flags of data and files, and what is left of them without those of a repair
 flags_fit : (kind : Kind) (info : Option (List ℕ)) (octets : List ℕ) (repair : ℕ) → repair < 4
@@ -112,13 +110,10 @@ current_order s differ = ap order_found (current_found s.earlier s.current s.cur
     order_found : Option Instance → List Entry
     order_found found = elim found [ Some i ↦ i.order | None ↦ [] ]
 
--- the entry at an index that is told again
-entry_told : (p : Settings) → InRange p → (s : SenderState) (index : ℕ) (entry : Entry) → IsDistinct nat_eq (instance_ids s) → index < 65536
-    → slice_get s.current.order index ≡ Some entry
-    → entry_at s s.current.id (index_of p (object_id p index)) ≡ Some entry
-entry_told p range s index entry differ few e =
-    ap (λ (i : ℕ). entry_at s s.current.id i) (index_again p range index few)
-    ∙ ap (λ (order : List Entry). slice_get order index) (current_order s differ) ∙ e
+-- the entry of the current order at an index
+entry_told : (s : SenderState) (index : ℕ) (entry : Entry) → IsDistinct nat_eq (instance_ids s) → slice_get s.current.order index ≡ Some entry
+    → entry_at s s.current.id index ≡ Some entry
+entry_told s index entry differ e = ap (λ (order : List Entry). slice_get order index) (current_order s differ) ∙ e
 
 says_some : (P : Entry → Type 0) (found : Option Entry) (entry : Entry) → found ≡ Some entry → P entry → IsSomeAnd found P
 says_some P found entry e h = let S : Option Entry → Type 0 = λ o. IsSomeAnd o P in subst S (sym e) h
@@ -133,26 +128,51 @@ says_object p range kind info octets repair sized h = (
 
 -- ---- what is said
 
+-- an instance that the sender began lies less than half of all ids above the profile's
+pub record IsBegun (p : Settings) (id : ℕ) : Type 0 where
+  pub first : p.instance < 65536
+  pub small : id < 65536
+  pub few : rise p.instance id ≤ 32767
+
+-- a message of an instance has the id of the one index that it was written for
+pub record Speaks (p : Settings) (id object : ℕ) (indices : List ℕ) : Type 0 where
+  pub index : ℕ
+  pub alone : indices ≡ index ∷ []
+  pub named : object ≡ object_id p index
+  pub most : index ≤ 4294967294
+  pub begun : IsBegun p id
+
+pub current_begun : (p : Settings) → InRange p → (s : SenderState) → SenderHolds p s → IsBegun p s.current.id
+current_begun p range s h = record { first = omega (arith, range.instance.1); small = h.id; few = h.few }
+
+speaks_of : (p : Settings) → InRange p → (s : SenderState) (index : ℕ) → SenderHolds p s → index < 4294967295
+    → Speaks p s.current.id (object_id p index) (index ∷ [])
+speaks_of p range s index h most = record { index = index; alone = refl; named = refl; most = omega (arith, most); begun = current_begun p range s h }
+
 -- a squelch names a point that its instance's drop point is not before, at a block 0
-abbrev pub SquelchesDropped : Settings → SenderState → SquelchCommand → Type 0
-SquelchesDropped p s m =
-    (i : Instance) × (instance_in (instances s) m.head.instance ≡ Some i)
-    × (point_before i.drop (point (index_of p m.object) m.id.block) ≡ false) × (m.id.block ≡ 0)
+abbrev pub SquelchesDropped : SenderState → About SquelchCommand → Type 0
+SquelchesDropped s x =
+    (i : Instance) × (instance_in (instances s) x.message.head.instance ≡ Some i)
+    × (point_before i.drop (point x.index x.message.id.block) ≡ false) × (x.message.id.block ≡ 0)
 
--- What octets say of objects is true of a sender's orders; of anything else nothing is said here.
-abbrev pub IsTrueOf : Settings → SenderState → Result Message Refusal → Type 0
-IsTrueOf p s (Ok (Data m)) = SaysSymbol p s m
-IsTrueOf p s (Ok (Info m)) = SaysInfo p s m
-IsTrueOf p s (Ok (Squelch m)) = SquelchesDropped p s m
-IsTrueOf p s (Ok (Flush m)) = IsTrue (flushes_source p s m)
-IsTrueOf p s _ = ⊤
+-- What a message with ids of these indices says of objects is true of a sender's orders; of anything else nothing is said here.
+abbrev pub IsTrueOf : Settings → SenderState → List ℕ → Message → Type 0
+IsTrueOf p s indices (Data m) = Speaks p m.head.instance m.head.object indices × SaysSymbol p s (about indices m)
+IsTrueOf p s indices (Info m) = Speaks p m.head.instance m.head.object indices × SaysInfo p s (about indices m)
+IsTrueOf p s indices (Squelch m) = Speaks p m.head.instance m.object indices × SquelchesDropped s (about indices m)
+IsTrueOf p s indices (Flush m) = Speaks p m.head.instance m.object indices × IsTrue (flushes_source p s (about indices m))
+IsTrueOf p s indices _ = ⊤
 
--- so does a datagram
-abbrev pub SaysTrue : Settings → SenderState → List ℕ → Type 0
-SaysTrue p s datagram = IsTrueOf p s (decoded datagram)
+-- its octets are read as the message, or as nothing that says something of objects
+abbrev pub Reads : Written → Type 0
+Reads o = (decoded o.octets ≡ Ok o.message) ⊎ SaysNothing (decoded o.octets)
 
-true_again : (p : Settings) (s : SenderState) (m : Message) → IsMessage m → IsTrueOf p s (Ok m) → SaysTrue p s (octets_of m)
-true_again p s m fits h = let T : Result Message Refusal → Type 0 = λ r. IsTrueOf p s r in subst T (sym (read_again_law m fits)) h
+-- a datagram is read, and what it says is true
+abbrev pub SaysTrue : Settings → SenderState → Written → Type 0
+SaysTrue p s o = Reads o × IsTrueOf p s o.indices o.message
+
+true_again : (p : Settings) (s : SenderState) (m : Message) (indices : List ℕ) → IsMessage m → IsTrueOf p s indices m → SaysTrue p s (writes m indices)
+true_again p s m indices fits h = (inl (read_again_law m fits), h)
 
 -- an entry of an order of objects of their sizes
 pub sized_at : (p : Settings) (order : List Entry) (index : ℕ) (entry : Entry) → AreSized p order → slice_get order index ≡ Some entry → IsSized p entry.object
@@ -164,12 +184,12 @@ sized_at p (x ∷ order) (suc index) entry all e = sized_at p order index entry 
 symbol_true : (p : Settings) → InRange p → (s : SenderState) (at : Position) (entry : Entry) (object : Object) (repair : ℕ) → entry.object ≡ object
     → SenderHolds p s → IsDistinct nat_eq (instance_ids s) → slice_get s.current.order at.index ≡ Some entry → IsSized p object
     → nat_lt at.symbol (encoded_in (shape_of p object) at.block) ≡ true → repair < 4
-    → SaysTrue p s (octets_of (data_message p s at object repair))
+    → SaysTrue p s (writes (data_message p s at object repair) (at.index ∷ []))
 symbol_true p range s at entry (Stream parts) repair is h differ found sized encoded few = absurd sized
 symbol_true p range s at entry (Whole kind info octets) repair is h differ found sized encoded few =
     let object : Object = Whole kind info octets in
     let names = names_fit p (cut_range p range) (length octets) (is_some info) at.block at.symbol sized.0 sized.1 encoded in
-    let index : at.index < 65536 = (let lt = slice_get_within s.current.order at.index entry found in omega (arith, lt, h.many)) in
+    let index : at.index < 4294967295 = (let lt = slice_get_within s.current.order at.index entry found in omega (arith, lt, h.many)) in
     let m : DataMessage = record {
       head = object_head p s at.index object repair;
       id = record { block = at.block; symbol = at.symbol };
@@ -184,24 +204,25 @@ symbol_true p range s at entry (Whole kind info octets) repair is h differ found
     IsTrue (nat_lt at.symbol (encoded_in (shape_of p o) at.block))
     × (m.payload ≡ symbol_octets p o at.block at.symbol)
     × SaysObject p o m.extensions m.head.flags in
-    true_again p s (Data m)
+    true_again p s (Data m) (at.index ∷ [])
     (record {
       head = object_head_fits p range s at.index object repair h (flags_fit kind info octets repair few).0;
       id = names;
       extensions = extensions_fit 5 (fti_of_object p object) (omega arith);
     })
-    (says_some P (entry_at s s.current.id (index_of p (object_id p at.index))) entry (entry_told p range s at.index entry differ index found)
-    (subst O (sym is) (encoded, refl, says_object p range kind info octets repair sized few)))
+    (speaks_of p range s at.index h index,
+      says_some P (entry_at s s.current.id at.index) entry (entry_told s at.index entry differ found)
+      (subst O (sym is) (encoded, refl, says_object p range kind info octets repair sized few)))
 
 info_true : (p : Settings) → InRange p → (s : SenderState) (index : ℕ) (entry : Entry) (object : Object) (repair : ℕ) → entry.object ≡ object
     → SenderHolds p s → IsDistinct nat_eq (instance_ids s) → slice_get s.current.order index ≡ Some entry → IsSized p object
     → (shape_of p object).info ≡ true → repair < 4
-    → SaysTrue p s (octets_of (message_of p s (WantedInfo index) object repair))
+    → SaysTrue p s (writes (message_of p s (WantedInfo index) object repair) (index ∷ []))
 info_true p range s index entry (Stream parts) repair is h differ found sized has few = absurd sized
 info_true p range s index entry (Whole kind None octets) repair is h differ found sized has few = absurd (clash has)
 info_true p range s index entry (Whole kind (Some info) octets) repair is h differ found sized has few =
     let object : Object = Whole kind (Some info) octets in
-    let place : index < 65536 = (let lt = slice_get_within s.current.order index entry found in omega (arith, lt, h.many)) in
+    let place : index < 4294967295 = (let lt = slice_get_within s.current.order index entry found in omega (arith, lt, h.many)) in
     let m : InfoMessage = record {
       head = object_head p s index object repair;
       extensions = fti_extension (fti_of_object p object) ∷ [];
@@ -209,13 +230,14 @@ info_true p range s index entry (Whole kind (Some info) octets) repair is h diff
     } in
     let P : Entry → Type 0 = λ e. (info_of_object e.object ≡ Some info) × SaysObject p e.object m.extensions m.head.flags in
     let O : Object → Type 0 = λ o. (info_of_object o ≡ Some info) × SaysObject p o m.extensions m.head.flags in
-    true_again p s (Info m)
+    true_again p s (Info m) (index ∷ [])
     (record {
       head = object_head_fits p range s index object repair h (flags_fit kind (Some info) octets repair few).0;
       extensions = extensions_fit 4 (fti_of_object p object) (omega arith);
     })
-    (says_some P (entry_at s s.current.id (index_of p (object_id p index))) entry (entry_told p range s index entry differ place found)
-    (subst O (sym is) (refl, says_object p range kind (Some info) octets repair sized few)))
+    (speaks_of p range s index h place,
+      says_some P (entry_at s s.current.id index) entry (entry_told s index entry differ found)
+      (subst O (sym is) (refl, says_object p range kind (Some info) octets repair sized few)))
 
 -- a test of an entry's shape, by its index
 tested_at : (p : Settings) (order : List Entry) (i : ℕ) (test : Shape → Bool) (entry : Entry) → slice_get order i ≡ Some entry
@@ -227,7 +249,7 @@ tested_at p (x ∷ order) (suc i) test entry found e = tested_at p order i test 
 -- A symbol or info of the current order is said truly.
 pub want_true : (p : Settings) → InRange p → (s : SenderState) (w : Want) (entry : Entry) (repair : ℕ) → SenderHolds p s
     → IsDistinct nat_eq (instance_ids s) → is_of_order (current_shapes p s) w ≡ true → slice_get s.current.order (want_index w) ≡ Some entry
-    → repair < 4 → SaysTrue p s (octets_of (message_of p s w entry.object repair))
+    → repair < 4 → SaysTrue p s (writes (message_of p s w entry.object repair) (want_index w ∷ []))
 want_true p range s (Symbol at) entry repair h differ of found few =
     let sized = sized_at p s.current.order at.index entry (current_sized p s h) found in
     symbol_true p range s at entry entry.object repair refl h differ found sized
@@ -239,7 +261,7 @@ want_true p range s (WantedInfo index) entry repair h differ of found few =
 
 -- the drop point is said truly
 pub squelch_true : (p : Settings) → InRange p → (s : SenderState) → SenderHolds p s → IsDistinct nat_eq (instance_ids s)
-    → SaysTrue p s (octets_of (squelch_message p s s.current.drop))
+    → SaysTrue p s (writes (squelch_message p s s.current.drop) (s.current.drop.index ∷ []))
 squelch_true p range s h differ =
     let drop : Point = s.current.drop in
     let m : SquelchCommand = record {
@@ -250,9 +272,7 @@ squelch_true p range s h differ =
       invalid = [];
     } in
     let block : drop.block < 16777216 = omega (arith, h.block) in
-    let again : index_of p (object_id p drop.index) ≡ drop.index = index_again p range drop.index h.index in
-    let B : ℕ → Type 0 = λ i. point_before drop (point i drop.block) ≡ false in
-    true_again p s (Squelch m)
+    true_again p s (Squelch m) (drop.index ∷ [])
     (record {
       head = command_head_fits p range s h.sequence h.id;
       object = omega arith;
@@ -260,7 +280,8 @@ squelch_true p range s h differ =
       extensions = record { each = tt; most = omega arith };
       invalid = tt;
     })
-    (s.current, current_found s.earlier s.current s.current refl differ, subst B (sym again) (not_before_itself drop), h.block)
+    (speaks_of p range s drop.index h h.index,
+      (s.current, current_found s.earlier s.current s.current refl differ, not_before_itself drop, h.block))
 
 -- the entry of which a test of a shape is true
 entry_with : (p : Settings) (order : List Entry) (i : ℕ) (test : Shape → Bool) → at_index (shapes_of p order) i false test ≡ true
@@ -280,13 +301,13 @@ source_named p range (Stream parts) block symbol sized e = absurd sized
 pub flush_true : (p : Settings) → InRange p → (s : SenderState) (head : CmdHead) (at : Position) (nodes : List ℕ) → SenderHolds p s
     → IsDistinct nat_eq (instance_ids s) → IsCommandHead head → head.instance ≡ s.current.id → is_source (current_shapes p s) at ≡ true
     → AllByRecursion (λ n. n < 4294967296) nodes
-    → SaysTrue p s (octets_of (Flush (record {
+    → SaysTrue p s (writes (Flush (record {
       head = head;
       object = object_id p at.index;
       id = record { block = at.block; symbol = at.symbol };
       extensions = [];
       nodes = nodes;
-    })))
+    })) (at.index ∷ []))
 flush_true p range s head at nodes h differ fits current source few =
     let m : FlushCommand = record {
       head = head;
@@ -296,9 +317,10 @@ flush_true p range s head at nodes h differ fits current source few =
       nodes = nodes;
     } in
     let found = entry_with p s.current.order at.index (λ x. nat_lt at.symbol (closed_in x at.block)) source in
-    let index : at.index < 65536 = (let lt = slice_get_within s.current.order at.index found.0 found.1 in omega (arith, lt, h.many)) in
+    let index : at.index < 4294967295 = (let lt = slice_get_within s.current.order at.index found.0 found.1 in omega (arith, lt, h.many)) in
+    let S : ℕ → Type 0 = λ id. Speaks p id (object_id p at.index) (at.index ∷ []) in
     let sized = sized_at p s.current.order at.index found.0 (current_sized p s h) found.1 in
-    true_again p s (Flush m)
+    true_again p s (Flush m) (at.index ∷ [])
     (record {
       head = fits;
       object = omega arith;
@@ -306,7 +328,6 @@ flush_true p range s head at nodes h differ fits current source few =
       extensions = record { each = tt; most = omega arith };
       nodes = few;
     })
-    (ap (λ (id : ℕ). is_source (shapes_of p (order_of s id)) (position (index_of p (object_id p at.index)) at.block at.symbol)) current
-    ∙ ap (λ (order : List Entry). is_source (shapes_of p order) (position (index_of p (object_id p at.index)) at.block at.symbol)) (current_order s differ)
-    ∙ ap (λ (i : ℕ). is_source (shapes_of p s.current.order) (position i at.block at.symbol)) (index_again p range at.index index)
-    ∙ source)
+    (subst S (sym current) (speaks_of p range s at.index h index),
+      ap (λ (id : ℕ). is_source (shapes_of p (order_of s id)) at) current
+      ∙ ap (λ (order : List Entry). is_source (shapes_of p order) at) (current_order s differ) ∙ source)

@@ -12,15 +12,13 @@ use Rattle.fec_plan.specs.Points.{position}
 use Rattle.fec_plan.specs.declared.position.Position.{Position}
 use Rattle.fec_plan.specs.Partition.{source_symbols, encoding_symbols}
 use Rattle.norm_ext.specs.Message.{Message, Info, Data, Flush, Eot, Squelch, RepairAdv, AckReq, Opaque, Nack, Ack, Report}
-use Rattle.norm_ext.specs.Reading.{decoded}
-use Rattle.norm_ext.specs.declared.refusal.Refusal.{Refusal}
+use Rattle.norm_ext.specs.Written.{Written, writes}
 use Rattle.norm_order.specs.Entries.{Object, Entry}
 use Rattle.norm_order.specs.Shapes.{Shape, shape_of, shapes_of, symbols_of, closed_in, encoded_in, is_full, closed_blocks, at_index, is_source}
 use Rattle.norm_order.proofs.UptoLemmas.{found_front}
 use Rattle.norm_send_rules.specs.SenderState.{SenderState, Instance, Listing, Watermark}
 use Rattle.norm_send_rules.specs.InWindow.{current_shapes, stands_behind}
 use Rattle.norm_send_rules.specs.Restarting.{instances}
-use Rattle.norm_ext.specs.ObjectIds.{index_of}
 use Rattle.norm_send_rules.specs.Messages.{command_head, squelch_message, explicit_repair, parity_repair}
 use Rattle.norm_send_rules.specs.Sending.{sent_once, new_of, new_from, next_new, behind, sends, noted, repair_flags, message_of, sends_want, repairs_next, sends_new}
 use Rattle.norm_send_rules.specs.Flushing.{most_flushes, flushes_for, expired, flushed, flushes, may_flush}
@@ -33,7 +31,7 @@ use Rattle.norm_send_rules.specs.declared.want.Want.TheVariants.{Info as WantedI
 use Rattle.norm_send_rules.proofs.StepLemmas.{due_holds, blocks_of}
 use Rattle.norm_send_rules.proofs.ShapeLemmas.{Blocks, HasParity, shape_parity}
 use Rattle.norm_safety.specs.OnceEach.{order_of, instance_ids}
-use Rattle.norm_safety.specs.Said.{entry_at}
+use Rattle.norm_safety.specs.Said.{first_index, entry_at}
 use Rattle.norm_safety.proofs.CommandSteps.{same_instances, keeps_ids}
 use Rattle.fec_plan.proofs.PointLemmas.{not_before_both}
 use Rattle.norm_safety.proofs.Onward.{GoOn, Onward, LaterThan, instance_in, goes_on_itself}
@@ -41,22 +39,21 @@ use Rattle.norm_safety.proofs.SenderKeeps.{Keeps, keeps_all, keeps_on, expired_k
 use Rattle.norm_safety.proofs.SenderHolds.{SenderHolds, keeps_steps, order_later}
 use Rattle.norm_safety.proofs.LastLemmas.{found_behind, source_still}
 use Rattle.norm_safety.proofs.Spoken.{IsTrueOf, SaysTrue, command_head_fits, want_true, squelch_true, flush_true}
-use Rattle.norm_safety.proofs.Feedback.{SaysNothing}
+use Rattle.norm_safety.proofs.Feedback.{IsOther}
 
 -- what says nothing of objects is true
-pub nothing_true : (p : Settings) (s : SenderState) (r : Result Message Refusal) → SaysNothing r → IsTrueOf p s r
-nothing_true p s (Ok (Info m)) h = absurd h
-nothing_true p s (Ok (Data m)) h = absurd h
-nothing_true p s (Ok (Squelch m)) h = absurd h
-nothing_true p s (Ok (Flush m)) h = absurd h
-nothing_true p s (Ok (Eot m)) h = tt
-nothing_true p s (Ok (RepairAdv m)) h = tt
-nothing_true p s (Ok (AckReq m)) h = tt
-nothing_true p s (Ok (Opaque m)) h = tt
-nothing_true p s (Ok (Nack m)) h = tt
-nothing_true p s (Ok (Ack m)) h = tt
-nothing_true p s (Ok (Report m)) h = tt
-nothing_true p s (Err refusal) h = tt
+pub nothing_true : (p : Settings) (s : SenderState) (indices : List ℕ) (m : Message) → IsOther m → IsTrueOf p s indices m
+nothing_true p s indices (Info m) h = absurd h
+nothing_true p s indices (Data m) h = absurd h
+nothing_true p s indices (Squelch m) h = absurd h
+nothing_true p s indices (Flush m) h = absurd h
+nothing_true p s indices (Eot m) h = tt
+nothing_true p s indices (RepairAdv m) h = tt
+nothing_true p s indices (AckReq m) h = tt
+nothing_true p s indices (Opaque m) h = tt
+nothing_true p s indices (Nack m) h = tt
+nothing_true p s indices (Ack m) h = tt
+nothing_true p s indices (Report m) h = tt
 
 -- ---- what is true stays true
 
@@ -81,24 +78,26 @@ entry_later P s t id index onward h = go (instance_in (instances s) id) (onward 
         let O : Option Instance → Type 0 = λ found. IsSomeAnd (slice_get (order_in found) index) P in
         subst O (sym later.1) (subst S (sym later.2.order) (there i.order later.2.more (slice_get i.order index) refl h))
 
-pub true_later : (p : Settings) (s t : SenderState) (r : Result Message Refusal) → Onward s t → IsTrueOf p s r → IsTrueOf p t r
-true_later p s t (Ok (Info m)) onward h = entry_later _ s t m.head.instance _ onward h
-true_later p s t (Ok (Data m)) onward h = entry_later _ s t m.head.instance _ onward h
-true_later p s t (Ok (Squelch m)) onward h =
-    let later = onward m.head.instance h.0 h.1 in
-    (later.0, later.1, not_before_both _ h.0.drop later.0.drop h.2 later.2.drop, h.3)
-true_later p s t (Ok (Flush m)) onward h =
+message_later : (p : Settings) (s t : SenderState) (indices : List ℕ) (m : Message) → Onward s t → IsTrueOf p s indices m → IsTrueOf p t indices m
+message_later p s t indices (Info m) onward h = (h.0, entry_later _ s t m.head.instance _ onward h.1)
+message_later p s t indices (Data m) onward h = (h.0, entry_later _ s t m.head.instance _ onward h.1)
+message_later p s t indices (Squelch m) onward (speaks, says) =
+    let later = onward m.head.instance says.0 says.1 in
+    (speaks, (later.0, later.1, not_before_both _ says.0.drop later.0.drop says.2 later.2.drop, says.3))
+message_later p s t indices (Flush m) onward h =
     let later = order_later s t onward m.head.instance in
-    let at : Position = position (index_of p m.object) m.id.block m.id.symbol in
-    ap (λ (order : List Entry). is_source (shapes_of p order) at) later.order ∙ source_still p (order_of s m.head.instance) later.more at h
-true_later p s t (Ok (Eot m)) onward h = tt
-true_later p s t (Ok (RepairAdv m)) onward h = tt
-true_later p s t (Ok (AckReq m)) onward h = tt
-true_later p s t (Ok (Opaque m)) onward h = tt
-true_later p s t (Ok (Nack m)) onward h = tt
-true_later p s t (Ok (Ack m)) onward h = tt
-true_later p s t (Ok (Report m)) onward h = tt
-true_later p s t (Err refusal) onward h = tt
+    let at : Position = position (first_index indices) m.id.block m.id.symbol in
+    (h.0, ap (λ (order : List Entry). is_source (shapes_of p order) at) later.order ∙ source_still p (order_of s m.head.instance) later.more at h.1)
+message_later p s t indices (Eot m) onward h = tt
+message_later p s t indices (RepairAdv m) onward h = tt
+message_later p s t indices (AckReq m) onward h = tt
+message_later p s t indices (Opaque m) onward h = tt
+message_later p s t indices (Nack m) onward h = tt
+message_later p s t indices (Ack m) onward h = tt
+message_later p s t indices (Report m) onward h = tt
+
+pub true_later : (p : Settings) (s t : SenderState) (o : Written) → Onward s t → SaysTrue p s o → SaysTrue p t o
+true_later p s t o onward h = (h.0, message_later p s t o.indices o.message onward h.1)
 
 -- ---- what is new is of the order
 
@@ -237,12 +236,12 @@ next_of_order p blocks s w e =
 -- ---- a tick
 
 -- what a step sends is true of a state's orders
-abbrev pub SentTrue : Settings → SenderState → Option (List ℕ) → Type 0
+abbrev pub SentTrue : Settings → SenderState → Option Written → Type 0
 SentTrue p s (Some datagram) = SaysTrue p s datagram
 SentTrue p s None = ⊤
 
 -- what a step gives
-abbrev given : SenderState × Option (List ℕ) → Option (List ℕ)
+abbrev given : SenderState × Option Written → Option Written
 given step = step.1
 
 repair_few : (p : Settings) (object : Object) (w : Want) → repair_flags p object w < 4
@@ -260,7 +259,7 @@ wanted_true : (p : Settings) → InRange p → (s : SenderState) (now : ℕ) (re
 wanted_true p range s now repair w h differ of few = go (slice_get s.current.order (want_index w)) refl
   where
     go : (found : Option Entry) → slice_get s.current.order (want_index w) ≡ found → SentTrue p s (given (elim found [
-      | Some entry ↦ sends p now (message_of p s w entry.object (repair entry.object)) (noted w s)
+      | Some entry ↦ sends p now (writes (message_of p s w entry.object (repair entry.object)) (want_index w ∷ [])) (noted w s)
       | None ↦ (s, None)
     ]))
     go None e = tt
@@ -341,9 +340,9 @@ flushes_true p range now s h differ = go (may_flush p s now)
 without : (p : Settings) (s t : SenderState) → Keeps s t → WantsHold p t → SenderHolds p s → SenderHolds p t
 without p s t keeps wants h = (keeps_steps p s t keeps wants h).holds
 
-same_true : (p : Settings) (s t : SenderState) (sent : Option (List ℕ)) → Onward s t → SentTrue p s sent → SentTrue p t sent
+same_true : (p : Settings) (s t : SenderState) (sent : Option Written) → Onward s t → SentTrue p s sent → SentTrue p t sent
 same_true p s t None onward h = tt
-same_true p s t (Some datagram) onward h = true_later p s t (decoded datagram) onward h
+same_true p s t (Some datagram) onward h = true_later p s t datagram onward h
 
 further_true : (p : Settings) → InRange p → (now : ℕ) (s : SenderState) → SenderHolds p s → IsDistinct nat_eq (instance_ids s) → SentTrue p s (sends_further p now s).1
 further_true p range now s h differ = go (next_new p s) refl
@@ -385,7 +384,7 @@ first_true : (p : Settings) → InRange p → (now : ℕ) (s : SenderState) → 
 first_true p range now s h differ = go s.squelch_due
   where
     go : (due : Bool) → SentTrue p s (given (elim due [
-      | true ↦ sends p now (squelch_message p s s.current.drop) (record s { squelch_due = false })
+      | true ↦ sends p now (writes (squelch_message p s s.current.drop) (s.current.drop.index ∷ [])) (record s { squelch_due = false })
       | false ↦ sends_wanted p now s
     ]))
     go true = squelch_true p range s h differ

@@ -86,7 +86,7 @@ keeps_steady p old new h = record {
 -- What a command does to orders of data and files: nothing, or an object joins, or a new instance begins.
 pub data CommandCase (p : Settings) (s : SenderState) (by : Origin) : SenderState → Type 0 where
   Stays : {new : SenderState} → Steady p s new → CommandCase p s by new
-  Joins : (kind : Kind) (info : Option (List ℕ)) (octets : List ℕ) → IsSized p (Whole kind info octets) → next_index s < 65536
+  Joins : (kind : Kind) (info : Option (List ℕ)) (octets : List ℕ) → IsSized p (Whole kind info octets) → next_index s < 4294967295
       → CommandCase p s by (joined p by (Whole kind info octets) s)
   Restarts : (id : ℕ) → is_used s id ≡ false → id < 65536 → CommandCase p s by (begun_anew p id s)
 
@@ -134,12 +134,8 @@ object_case p by kind info octets s are none =
         go zero e = absurd (clash (sym e))
         go (suc n) e = omega arith
 
-    below : ids_spent s ≡ false → next_index s < 65536
-    below e = go (nat_le 65536 (next_index s)) refl
-      where
-        go : (t : Bool) → nat_le 65536 (next_index s) ≡ t → next_index s < 65536
-        go true is = absurd (clash (sym e ∙ is))
-        go false is = le_false 65536 (next_index s) is
+    below : ids_spent s ≡ false → next_index s < 4294967295
+    below e = (let le = not_less 4294967294 (next_index s) e in omega arith)
 
 -- a write or a close finds no open stream
 closed_case : (p : Settings) (by : Origin) (s : SenderState) → open_stream s ≡ None

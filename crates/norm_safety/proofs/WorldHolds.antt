@@ -1,5 +1,5 @@
 -- What holds of a world of data and files after every lawful event.
-use Rattle.std.proofs.Common.{◌≡◌, ℕ, zero, suc, ◌+◌, ◌≤◌, cond, List, [], ◌∷◌, ◌++◌, length, take, Bool, true, false, Option, None, Some, refl, sym, ap, ◌∙◌, subst, append_assoc, arith}
+use Rattle.std.proofs.Common.{◌≡◌, ℕ, zero, suc, ◌+◌, ◌<◌, ◌≤◌, cond, List, [], ◌∷◌, ◌++◌, length, take, Bool, true, false, Option, None, Some, refl, sym, ap, ◌∙◌, subst, append_assoc, arith}
 use Rattle.norm_order.proofs.UptoLemmas.{found_front}
 use Rattle.std.specs.Prelude.{slice_get, IsSomeAnd, filter, find, ◌==◌, nat_eq, Contains}
 use Rattle.std.specs.List.{AllByRecursion, IsDistinct}
@@ -8,11 +8,11 @@ use Rattle.std.proofs.lemmas.List.{append-nil, length-append, take-append-le}
 use Rattle.std.proofs.lemmas.Grind.{flat_map-append}
 use Rattle.norm_base.specs.Settings.{Settings}
 use Rattle.norm_base.specs.declared.node.Origin.{Origin}
-use Rattle.norm_ext.specs.Reading.{decoded}
+use Rattle.norm_ext.specs.InstanceIds.{rise}
+use Rattle.norm_ext.specs.Written.{Written}
 use Rattle.norm_order.specs.Entries.{Entry}
 use Rattle.norm_order.specs.declared.up.Up.{Up}
 use Rattle.norm_receive_rules.specs.ReceiverState.{ReceiverState}
-use Rattle.norm_receive_rules.specs.Leaving.{is_in, has_left, left_now}
 use Rattle.norm_send_rules.specs.SenderState.{SenderState}
 use Rattle.norm_safety.specs.Events.{Event, Answer}
 use Rattle.norm_safety.specs.World.{World, receiver_at}
@@ -24,7 +24,7 @@ use Rattle.norm_safety.proofs.EntryLemmas.{clash}
 use Rattle.norm_safety.proofs.Onward.{Onward}
 use Rattle.norm_safety.proofs.SenderHolds.{SenderHolds, order_later}
 use Rattle.norm_safety.proofs.OnceLemmas.{OnceSoFar}
-use Rattle.norm_safety.proofs.Spoken.{SaysTrue}
+use Rattle.norm_safety.proofs.Spoken.{IsBegun, SaysTrue}
 use Rattle.norm_safety.proofs.TickTrue.{true_later}
 use Rattle.norm_safety.proofs.Exact.{Exactly, exactly_later}
 use Rattle.norm_safety.proofs.Holding.{Holding, IsPlanOf, IsSymbolOf, IsInfoOf, some_and}
@@ -36,14 +36,30 @@ pub record Through (p : Settings) (s : SenderState) (id : ℕ) (ups : List Up) :
   pub within : count ≤ length (order_of s id)
   pub exactly : Exactly p (drop_of s id).index 0 (take count (order_of s id)) ups
 
--- What holds at a node, by its receiver: where it came, in order, are the instances that it left and the one that it is in,
--- each once; it holds what it should; and nothing was handed up in an instance in which it never was.
+-- an id lies higher above the profile's than all these
+abbrev pub IsAbove : Settings → List ℕ → ℕ → Type 0
+IsAbove p ids id = AllByRecursion (λ x. rise p.instance x < rise p.instance id) ids
+
+-- the instance that a node came to last, and those before it, which lie lower
+pub record CameLast (p : Settings) (ids : List ℕ) (current : ℕ) : Type 0 where
+  pub before : List ℕ
+  pub is : ids ≡ before ++ current ∷ []
+  pub lower : IsAbove p before current
+  pub begun : IsBegun p current
+
+-- the instances that a node came to, by the one that it is in
+abbrev pub CameTo : Settings → List ℕ → Option ℕ → Type 0
+CameTo p ids None = ids ≡ []
+CameTo p ids (Some current) = CameLast p ids current
+
+-- What holds at a node, by its receiver: it came from instance to higher instance, and is in the last of them; it holds what
+-- it should; and nothing was handed up in an instance that lies above those.
 pub record AtReceiver (p : Settings) (s : SenderState) (past : List Happening) (node : ℕ) (r : ReceiverState) : Type 0 where
   pub here : r.node ≡ node
-  pub came : came_to node None past ≡ left_now r
-  pub once : IsDistinct nat_eq (left_now r)
+  pub came : CameTo p (came_to node None past) r.instance
+  pub once : IsDistinct nat_eq (came_to node None past)
   pub stands : Standing p s (hands past node) r
-  pub never : (id : ℕ) → is_in r id ≡ false → has_left r id ≡ false → hands past node id ≡ []
+  pub never : (id : ℕ) → IsAbove p (came_to node None past) id → hands past node id ≡ []
 
 pub record AtNone (past : List Happening) (node : ℕ) : Type 0 where
   pub came : came_to node None past ≡ []
@@ -63,8 +79,8 @@ last_in node was (h ∷ past) = last_in node (instance_at h.after node) past
 pub record WorldHolds (p : Settings) (past : List Happening) (accepted : List Origin) (w : World) : Type 0 where
   pub sender : SenderHolds p w.sender
   pub once : OnceSoFar w.sender accepted
-  pub offered : AllByRecursion (λ (o : ℕ × List ℕ). SaysTrue p w.sender o.1) w.offered
-  pub given : AllByRecursion (λ (o : ℕ × List ℕ). SaysTrue p w.sender o.1) w.given
+  pub offered : AllByRecursion (λ (o : ℕ × Written). SaysTrue p w.sender o.1) w.offered
+  pub given : AllByRecursion (λ (o : ℕ × Written). SaysTrue p w.sender o.1) w.given
   pub nodes : (node : ℕ) → AtNode p w.sender past node (receiver_at w node)
   pub through : (node id : ℕ) → Through p w.sender id (hands past node id)
   pub latest : (node : ℕ) → last_in node None past ≡ instance_at w node
@@ -189,30 +205,37 @@ hands_same past x node id none =
     go true = none
     go false = refl
 
+-- a node that stays where it was came to nothing more
+pub same_came : (p : Settings) (past : List Happening) (x : Happening) (node : ℕ) → last_in node None past ≡ instance_at x.after node
+    → came_to node None (past ++ x ∷ []) ≡ came_to node None past
+same_came p past x node same =
+    came_more node None past x ∙ ap (λ (was : Option ℕ). came_to node None past ++ newly was (instance_at x.after node)) same
+    ∙ ap (λ (ids : List ℕ). came_to node None past ++ ids) (newly_none (instance_at x.after node)) ∙ append-nil (came_to node None past)
+
 -- a node whose receiver stays as it was, while the orders go on
 pub node_later : (p : Settings) (s t : SenderState) (past : List Happening) (x : Happening) (node : ℕ) (found : Option ReceiverState) → Onward s t
     → taken_in node x.event x.answer ≡ [] → last_in node None past ≡ instance_at x.after node
     → AtNode p s past node found → AtNode p t (past ++ x ∷ []) node found
-node_later p s t past x node None onward none same h = record {
-  came = came_more node None past x ∙ ap (λ (was : Option ℕ). came_to node None past ++ newly was (instance_at x.after node)) same
-      ∙ ap (λ (ids : List ℕ). came_to node None past ++ ids) (newly_none (instance_at x.after node)) ∙ append-nil (came_to node None past) ∙ h.came;
-}
-node_later p s t past x node (Some r) onward none same h = record {
-  here = h.here;
-  came = came_more node None past x ∙ ap (λ (was : Option ℕ). came_to node None past ++ newly was (instance_at x.after node)) same
-      ∙ ap (λ (ids : List ℕ). came_to node None past ++ ids) (newly_none (instance_at x.after node)) ∙ append-nil (came_to node None past) ∙ h.came;
-  once = h.once;
-  stands = same_taken p t (hands past node) (hands (past ++ x ∷ []) node) r (λ id. hands_same past x node id none)
-      (standing_later p s t (hands past node) r onward h.stands);
-  never = λ id out left. hands_same past x node id none ∙ h.never id out left;
-}
+node_later p s t past x node None onward none same h = record { came = same_came p past x node same ∙ h.came }
+node_later p s t past x node (Some r) onward none same h =
+    let still : came_to node None (past ++ x ∷ []) ≡ came_to node None past = same_came p past x node same in
+    let C : List ℕ → Type 0 = λ ids. CameTo p ids r.instance in
+    let D : List ℕ → Type 0 = λ ids. IsDistinct nat_eq ids in
+    record {
+      here = h.here;
+      came = subst C (sym still) h.came;
+      once = subst D (sym still) h.once;
+      stands = same_taken p t (hands past node) (hands (past ++ x ∷ []) node) r (λ id. hands_same past x node id none)
+          (standing_later p s t (hands past node) r onward h.stands);
+      never = λ id above. (let A : List ℕ → Type 0 = λ ids. IsAbove p ids id in hands_same past x node id none ∙ h.never id (subst A still above));
+    }
 
 -- ---- what was said
 
-pub said_later : (p : Settings) (s t : SenderState) (said : List (ℕ × List ℕ)) → Onward s t → AllByRecursion (λ (o : ℕ × List ℕ). SaysTrue p s o.1) said
-    → AllByRecursion (λ (o : ℕ × List ℕ). SaysTrue p t o.1) said
+pub said_later : (p : Settings) (s t : SenderState) (said : List (ℕ × Written)) → Onward s t → AllByRecursion (λ (o : ℕ × Written). SaysTrue p s o.1) said
+    → AllByRecursion (λ (o : ℕ × Written). SaysTrue p t o.1) said
 said_later p s t said onward all =
-    all_later (λ (o : ℕ × List ℕ). SaysTrue p s o.1) (λ (o : ℕ × List ℕ). SaysTrue p t o.1) said (λ o h. true_later p s t (decoded o.1) onward h) all
+    all_later (λ (o : ℕ × Written). SaysTrue p s o.1) (λ (o : ℕ × Written). SaysTrue p t o.1) said (λ o h. true_later p s t o.1 onward h) all
 
 pub all_filter : {X : Type 0} (P : X → Type 0) (test : X → Bool) (xs : List X) → AllByRecursion P xs → AllByRecursion P (filter test xs)
 all_filter P test [] all = tt
@@ -240,7 +263,7 @@ instance_of found = elim found [ Some r ↦ r.instance | None ↦ None ]
 -- the world after an event that leaves the receivers, where the sender goes on and what was said is true
 pub quiet_world : (p : Settings) (past : List Happening) (accepted after : List Origin) (w v : World) (e : Event) (answer : Answer)
     → v.receivers ≡ w.receivers → SenderHolds p v.sender → OnceSoFar v.sender after → Onward w.sender v.sender
-    → AllByRecursion (λ (o : ℕ × List ℕ). SaysTrue p v.sender o.1) v.offered → AllByRecursion (λ (o : ℕ × List ℕ). SaysTrue p v.sender o.1) v.given
+    → AllByRecursion (λ (o : ℕ × Written). SaysTrue p v.sender o.1) v.offered → AllByRecursion (λ (o : ℕ × Written). SaysTrue p v.sender o.1) v.given
     → ((node : ℕ) → taken_in node e answer ≡ []) → WorldHolds p past accepted w
     → WorldHolds p (past ++ record { before = w; event = e; answer = answer; after = v } ∷ []) after v
 quiet_world p past accepted after w v e answer same holds once onward offered given none h =

@@ -1,18 +1,19 @@
 -- What holds of a world of data and files after a receiver moved.
-use Rattle.std.proofs.Common.{◌≡◌, ℕ, cond, List, [], ◌∷◌, ◌++◌, Bool, true, false, Option, None, Some, refl, sym, ap, ◌∙◌, subst}
-use Rattle.std.specs.Prelude.{map, find, ◌==◌, ◌||◌, nat_eq}
-use Rattle.std.specs.List.{AllByRecursion, IsDistinct, list_any}
+use Rattle.std.proofs.Common.{◌≡◌, ◌<◌, ◌≤◌, ℕ, cond, List, [], ◌∷◌, ◌++◌, Bool, true, false, Option, None, Some, refl, sym, ap, ◌∙◌, subst, arith}
+use Rattle.std.specs.Prelude.{map, find, ◌==◌, ◌&&◌, nat_eq, nat_le}
+use Rattle.std.specs.List.{AllByRecursion, IsDistinct}
 use Rattle.std.proofs.lemmas.Bool.Decides.{Decides-eqb}
 use Rattle.std.proofs.lemmas.List.{append-nil}
 use Rattle.norm_base.specs.Settings.{Settings}
 use Rattle.norm_base.specs.declared.node.Origin.{Origin}
+use Rattle.norm_ext.specs.InstanceIds.{rise, most_rise, is_above}
+use Rattle.norm_ext.specs.Written.{Written}
 use Rattle.norm_order.specs.declared.up.Up.{Up}
 use Rattle.norm_receive_rules.specs.ReceiverState.{ReceiverState}
-use Rattle.norm_receive_rules.specs.Leaving.{is_in, has_left, left_now}
 use Rattle.norm_send_rules.specs.SenderState.{SenderState}
 use Rattle.norm_send_rules.specs.Restarting.{instances}
 use Rattle.norm_safety.proofs.SenderHolds.{SenderHolds}
-use Rattle.norm_safety.proofs.OnceLemmas.{OnceSoFar}
+use Rattle.norm_safety.proofs.OnceLemmas.{OnceSoFar, higher_differs}
 use Rattle.norm_safety.specs.Events.{Event, Answer}
 use Rattle.norm_safety.specs.World.{World, receiver_at, with_receiver}
 use Rattle.norm_safety.specs.History.{Happening}
@@ -21,10 +22,10 @@ use Rattle.norm_safety.specs.InOrder.{came_to, newly, drop_of}
 use Rattle.norm_safety.specs.OnceEach.{order_of}
 use Rattle.norm_safety.proofs.EntryLemmas.{clash}
 use Rattle.norm_safety.proofs.Onward.{goes_on_itself}
-use Rattle.norm_safety.proofs.Spoken.{SaysTrue}
+use Rattle.norm_safety.proofs.Spoken.{IsBegun, SaysTrue}
 use Rattle.norm_safety.proofs.Holding.{Holding}
-use Rattle.norm_safety.proofs.ReceiverMoves.{StandingIn, Moved, Remains, Enters, SameIds}
-use Rattle.norm_safety.proofs.WorldHolds.{Through, AtReceiver, AtNode, WorldHolds, last_in, last_more, came_more, hands_same, newly_none, new_id, same_taken, node_later, instance_of}
+use Rattle.norm_safety.proofs.ReceiverMoves.{StandingIn, Moved, Remains, Enters, le_true}
+use Rattle.norm_safety.proofs.WorldHolds.{Through, IsAbove, CameLast, CameTo, AtReceiver, AtNode, WorldHolds, last_in, last_more, came_more, hands_same, newly_none, new_id, same_taken, node_later, instance_of}
 
 -- ---- a world where one receiver is another
 
@@ -77,67 +78,52 @@ found_other t (x ∷ rs) node other = go (x.node == t.node) refl (found_other t 
 
 -- ---- instances that a node came to
 
--- the ids left with the current one, by both
-abbrev left_by : Option ℕ → List ℕ → List ℕ
-left_by instance left = elim instance [ Some current ↦ left ++ current ∷ [] | None ↦ left ]
-
-left_same : (r t : ReceiverState) → SameIds r t → left_now t ≡ left_now r
-left_same r t same = ap (λ (instance : Option ℕ). left_by instance t.left) same.instance ∙ ap (λ (left : List ℕ). left_by r.instance left) same.left
-
-any_end : (id : ℕ) (xs : List ℕ) (x : ℕ) → list_any (λ y. y == id) (xs ++ x ∷ []) ≡ false
-    → (list_any (λ y. y == id) xs ≡ false) × ((x == id) ≡ false)
-any_end id [] x e = (refl, neither (x == id) e)
+-- an instance that lies above the one before it lies higher above the profile's
+goes_higher : (p : Settings) (current id : ℕ) → IsBegun p current → IsBegun p id → is_above current id ≡ true → rise p.instance current < rise p.instance id
+goes_higher p current id was now above =
+    let two = both (nat_le 1 (rise current id)) (nat_le (rise current id) most_rise) above in
+    higher p.instance current id was.first was.small now.small was.few now.few (le_true 1 (rise current id) two.0) (le_true (rise current id) most_rise two.1)
   where
-    neither : (a : Bool) → (a || false) ≡ false → a ≡ false
-    neither true e = absurd (clash (sym e))
-    neither false e = refl
-any_end id (y ∷ xs) x e = go (y == id) (any_end id xs x) e
-  where
-    go : (a : Bool) → (list_any (λ y. y == id) (xs ++ x ∷ []) ≡ false → (list_any (λ y. y == id) xs ≡ false) × ((x == id) ≡ false))
-        → (a || list_any (λ y. y == id) (xs ++ x ∷ [])) ≡ false → ((a || list_any (λ y. y == id) xs) ≡ false) × ((x == id) ≡ false)
-    go true more e = absurd (clash (sym e))
-    go false more e = more e
+    both : (a b : Bool) → (a && b) ≡ true → (a ≡ true) × (b ≡ true)
+    both true b e = (refl, e)
+    both false b e = absurd (clash e)
 
-any_more : (id : ℕ) (xs : List ℕ) (x : ℕ) → list_any (λ y. y == id) xs ≡ false → (x == id) ≡ false → list_any (λ y. y == id) (xs ++ x ∷ []) ≡ false
-any_more id [] x h e = ap (λ (b : Bool). b || false) e
-any_more id (y ∷ xs) x h e = go (y == id) (any_more id xs x) h
-  where
-    go : (a : Bool) → (list_any (λ y. y == id) xs ≡ false → (x == id) ≡ false → list_any (λ y. y == id) (xs ++ x ∷ []) ≡ false)
-        → (a || list_any (λ y. y == id) xs) ≡ false → (a || list_any (λ y. y == id) (xs ++ x ∷ [])) ≡ false
-    go true more h = absurd (clash (sym h))
-    go false more h = more h e
+    higher : (f c i : ℕ) → f < 65536 → c < 65536 → i < 65536 → rise f c ≤ 32767 → rise f i ≤ 32767 → 1 ≤ rise c i → rise c i ≤ 32767 → rise f c < rise f i
+    higher f c i hf hc hi fc fi least most = omega (arith, hf, hc, hi, fc, fi, least, most)
 
--- an instance in which a receiver is not, and which it did not leave, is none that it came to
-not_come : (r : ReceiverState) (id : ℕ) → is_in r id ≡ false → has_left r id ≡ false → list_any (λ y. y == id) (left_now r) ≡ false
-not_come r id out left = go r.instance out
-  where
-    go : (instance : Option ℕ) → (elim instance [ Some current ↦ current == id | None ↦ false ]) ≡ false
-        → list_any (λ y. y == id) (left_by instance r.left) ≡ false
-    go None out = left
-    go (Some current) out = any_more id r.left current left out
+all_end : {X : Type 0} (P : X → Type 0) (xs : List X) (x : X) → AllByRecursion P xs → P x → AllByRecursion P (xs ++ x ∷ [])
+all_end P [] x all h = (h, tt)
+all_end P (y ∷ xs) x all h = (all.0, all_end P xs x all.1 h)
 
--- and the other way round
-come_not : (r : ReceiverState) (id : ℕ) → list_any (λ y. y == id) (left_now r) ≡ false → (is_in r id ≡ false) × (has_left r id ≡ false)
-come_not r id none = go r.instance none
-  where
-    go : (instance : Option ℕ) → list_any (λ y. y == id) (left_by instance r.left) ≡ false
-        → ((elim instance [ Some current ↦ current == id | None ↦ false ]) ≡ false) × (has_left r id ≡ false)
-    go None none = (refl, none)
-    go (Some current) none = (let two = any_end id r.left current none in (two.1, two.0))
+pub all_front : {X : Type 0} (P : X → Type 0) (xs more : List X) → AllByRecursion P (xs ++ more) → AllByRecursion P xs
+all_front P [] more all = tt
+all_front P (y ∷ xs) more all = (all.0, all_front P xs more all.1)
 
-distinct_end : (id : ℕ) (xs : List ℕ) → list_any (λ y. y == id) xs ≡ false → IsDistinct nat_eq xs → IsDistinct nat_eq (xs ++ id ∷ [])
-unfolding IsDistinct
-distinct_end id [] e all = (tt, tt)
-distinct_end id (x ∷ xs) e all = go (x == id) refl (λ none. distinct_end id xs none all.1) e
-  where
-    last : (ids : List ℕ) → (x == id) ≡ false → AllByRecursion (λ y. (x == y) ≡ false) ids → AllByRecursion (λ y. (x == y) ≡ false) (ids ++ id ∷ [])
-    last [] e h = (e, tt)
-    last (y ∷ ids) e h = (h.0, last ids e h.1)
+pub all_behind : {X : Type 0} (P : X → Type 0) (xs more : List X) → AllByRecursion P (xs ++ more) → AllByRecursion P more
+all_behind P [] more all = all
+all_behind P (y ∷ xs) more all = all_behind P xs more all.1
 
-    go : (a : Bool) → (x == id) ≡ a → (list_any (λ y. y == id) xs ≡ false → IsDistinct nat_eq (xs ++ id ∷ []))
-        → (a || list_any (λ y. y == id) xs) ≡ false → AllByRecursion (λ y. (x == y) ≡ false) (xs ++ id ∷ []) × IsDistinct nat_eq (xs ++ id ∷ [])
-    go true is more e = absurd (clash (sym e))
-    go false is more e = (last xs is all.0, more e)
+lower_still : (p : Settings) (ids : List ℕ) (current id : ℕ) → rise p.instance current < rise p.instance id → IsAbove p ids current → IsAbove p ids id
+lower_still p [] current id lt all = tt
+lower_still p (x ∷ ids) current id lt all = ((let below = all.0 in omega arith), lower_still p ids current id lt all.1)
+
+-- an instance that a receiver goes on to lies above all that it came to
+lies_above : (p : Settings) (ids : List ℕ) (instance : Option ℕ) (id : ℕ) → CameTo p ids instance → IsBegun p id
+    → (elim instance [ Some current ↦ is_above current id | None ↦ true ]) ≡ true → IsAbove p ids id
+lies_above p ids None id came begun above = let A : List ℕ → Type 0 = λ xs. IsAbove p xs id in subst A (sym came) tt
+lies_above p ids (Some current) id came begun above =
+    let A : List ℕ → Type 0 = λ xs. IsAbove p xs id in
+    let lt = goes_higher p current id came.begun begun above in
+    subst A (sym came.is) (all_end (λ x. rise p.instance x < rise p.instance id) came.before current (lower_still p came.before current id lt came.lower) lt)
+
+-- a receiver is in no instance that lies above all that it came to
+pub above_is_out : (p : Settings) (ids : List ℕ) (instance : Option ℕ) (id : ℕ) → CameTo p ids instance → IsAbove p ids id
+    → (elim instance [ Some current ↦ current == id | None ↦ false ]) ≡ false
+above_is_out p ids None id came above = refl
+above_is_out p ids (Some current) id came above =
+    let A : List ℕ → Type 0 = λ xs. IsAbove p xs id in
+    let last = all_behind (λ x. rise p.instance x < rise p.instance id) came.before (current ∷ []) (subst A came.is above) in
+    not_same current id (λ e. (let lt = last.0 in let is = ap (rise p.instance) e in omega (arith, lt, is)))
 
 -- ---- at the node of a receiver that moved
 
@@ -147,46 +133,50 @@ pub moved_node : (p : Settings) (s : SenderState) (past : List Happening) (x : H
     → AtReceiver p s past node r → AtReceiver p s (past ++ x ∷ []) node t
 moved_node p s past x node r t moved none latest now h = go moved
   where
-    came : came_to node None (past ++ x ∷ []) ≡ left_now r ++ newly r.instance t.instance
+    came : came_to node None (past ++ x ∷ []) ≡ came_to node None past ++ newly r.instance t.instance
     came =
         came_more node None past x
-        ∙ ap (λ (ids : List ℕ). ids ++ newly (last_in node None past) (instance_at x.after node)) h.came
-        ∙ ap (λ (was : Option ℕ). left_now r ++ newly was (instance_at x.after node)) latest
-        ∙ ap (λ (is : Option ℕ). left_now r ++ newly r.instance is) now
+        ∙ ap (λ (was : Option ℕ). came_to node None past ++ newly was (instance_at x.after node)) latest
+        ∙ ap (λ (is : Option ℕ). came_to node None past ++ newly r.instance is) now
 
     same : (id : ℕ) → hands (past ++ x ∷ []) node id ≡ hands past node id
     same id = hands_same past x node id none
 
     go : Moved p s r t → AtReceiver p s (past ++ x ∷ []) node t
     go (Remains ids stands) =
-        let left : left_now t ≡ left_now r = left_same r t ids in
+        let still : came_to node None (past ++ x ∷ []) ≡ came_to node None past =
+        came ∙ ap (λ (is : Option ℕ). came_to node None past ++ newly r.instance is) ids.instance
+        ∙ ap (λ (more : List ℕ). came_to node None past ++ more) (newly_none r.instance) ∙ append-nil (came_to node None past) in
+        let C : List ℕ → Type 0 = λ xs. CameTo p xs t.instance in
+        let I : Option ℕ → Type 0 = λ is. CameTo p (came_to node None past) is in
         let D : List ℕ → Type 0 = λ xs. IsDistinct nat_eq xs in
         record {
           here = ids.node ∙ h.here;
-          came = came ∙ ap (λ (is : Option ℕ). left_now r ++ newly r.instance is) ids.instance
-              ∙ ap (λ (more : List ℕ). left_now r ++ more) (newly_none r.instance) ∙ append-nil (left_now r) ∙ sym left;
-          once = subst D (sym left) h.once;
+          came = subst C (sym still) (subst I (sym ids.instance) h.came);
+          once = subst D (sym still) h.once;
           stands = same_taken p s (hands past node) (hands (past ++ x ∷ []) node) t same (stands (hands past node) h.stands);
-          never = λ id out gone. same id ∙ h.never id
-              (ap (λ (instance : Option ℕ). elim instance [ Some current ↦ current == id | None ↦ false ]) (sym ids.instance) ∙ out)
-              (ap (λ (left : List ℕ). list_any (λ y. y == id) left) (sym ids.left) ∙ gone);
+          never = λ id above. (let A : List ℕ → Type 0 = λ xs. IsAbove p xs id in same id ∙ h.never id (subst A still above));
         }
-    go (Enters id out gone at instance left holds) =
-        let joined : left_now t ≡ left_now r ++ id ∷ [] =
-        ap (λ (is : Option ℕ). left_by is t.left) instance ∙ ap (λ (ids : List ℕ). ids ++ id ∷ []) left in
+    go (Enters id out goes begun at instance holds) =
         let new : newly r.instance t.instance ≡ id ∷ [] =
         ap (λ (is : Option ℕ). newly r.instance is) instance ∙ ap (λ (b : Bool). new_id b id) out in
+        let joined : came_to node None (past ++ x ∷ []) ≡ came_to node None past ++ id ∷ [] =
+        came ∙ ap (λ (more : List ℕ). came_to node None past ++ more) new in
+        let above : IsAbove p (came_to node None past) id = lies_above p (came_to node None past) r.instance id h.came begun goes in
+        let C : Option ℕ → Type 0 = λ is. CameTo p (came_to node None (past ++ x ∷ [])) is in
         let D : List ℕ → Type 0 = λ xs. IsDistinct nat_eq xs in
         let S : Option ℕ → Type 0 = λ is. StandingIn p s (hands (past ++ x ∷ []) node) t is in
         let H : List Up → Type 0 = λ ups. Holding p (order_of s id) (drop_of s id).index ups t in
+        let last : CameLast p (came_to node None (past ++ x ∷ [])) id =
+        record { before = came_to node None past; is = joined; lower = above; begun = begun } in
         record {
           here = at ∙ h.here;
-          came = came ∙ ap (λ (more : List ℕ). left_now r ++ more) new ∙ sym joined;
-          once = subst D (sym joined) (distinct_end id (left_now r) (not_come r id out gone) h.once);
-          stands = subst S (sym instance) (subst H (sym (same id ∙ h.never id out gone)) holds);
-          never = λ other not_in not_left. (
-              let none_of = ap (λ (xs : List ℕ). list_any (λ y. y == other) xs) left in
-              let none = come_not r other (sym none_of ∙ not_left) in same other ∙ h.never other none.0 none.1
+          came = subst C (sym instance) last;
+          once = subst D (sym joined) (higher_differs p.instance id (came_to node None past) above h.once);
+          stands = subst S (sym instance) (subst H (sym (same id ∙ h.never id above)) holds);
+          never = λ other over. (
+              let A : List ℕ → Type 0 = λ xs. IsAbove p xs other in
+              same other ∙ h.never other (all_front (λ y. rise p.instance y < rise p.instance other) (came_to node None past) (id ∷ []) (subst A joined over))
               );
         }
 
@@ -194,7 +184,7 @@ moved_node p s past x node r t moved none latest now h = go moved
 
 pub moved_world : (p : Settings) (past : List Happening) (accepted : List Origin) (w v : World) (e : Event) (answer : Answer) (node : ℕ) (r t : ReceiverState)
     → receiver_at w node ≡ Some r → t.node ≡ r.node → v.sender ≡ w.sender → v.receivers ≡ (with_receiver t w).receivers → v.offered ≡ w.offered
-    → Moved p w.sender r t → ((other : ℕ) → taken_in other e answer ≡ []) → AllByRecursion (λ (o : ℕ × List ℕ). SaysTrue p w.sender o.1) v.given
+    → Moved p w.sender r t → ((other : ℕ) → taken_in other e answer ≡ []) → AllByRecursion (λ (o : ℕ × Written). SaysTrue p w.sender o.1) v.given
     → WorldHolds p past accepted w
     → WorldHolds p (past ++ record { before = w; event = e; answer = answer; after = v } ∷ []) accepted v
 moved_world p past accepted w v e answer node r t found same sender receivers offered moved none given h = record {
@@ -219,14 +209,14 @@ moved_world p past accepted w v e answer node r t found same sender receivers of
     OnceOf : SenderState → Type 0
     OnceOf s = OnceSoFar s accepted
 
-    Said : List (ℕ × List ℕ) → Type 0
-    Said said = AllByRecursion (λ (o : ℕ × List ℕ). SaysTrue p w.sender o.1) said
+    Said : List (ℕ × Written) → Type 0
+    Said said = AllByRecursion (λ (o : ℕ × Written). SaysTrue p w.sender o.1) said
 
     SaidOf : SenderState → Type 0
-    SaidOf s = AllByRecursion (λ (o : ℕ × List ℕ). SaysTrue p s o.1) v.offered
+    SaidOf s = AllByRecursion (λ (o : ℕ × Written). SaysTrue p s o.1) v.offered
 
     GivenOf : SenderState → Type 0
-    GivenOf s = AllByRecursion (λ (o : ℕ × List ℕ). SaysTrue p s o.1) v.given
+    GivenOf s = AllByRecursion (λ (o : ℕ × Written). SaysTrue p s o.1) v.given
 
     NodeOf : ℕ → SenderState → Type 0
     NodeOf other s = AtNode p s (past ++ record { before = w; event = e; answer = answer; after = v } ∷ []) other (receiver_at v other)

@@ -1,22 +1,23 @@
 -- What holds of a world of data and files after a hand-up was taken.
 use Rattle.std.proofs.Common.{◌≡◌, ℕ, zero, suc, ◌≤◌, List, [], ◌∷◌, ◌++◌, take, Bool, true, false, Option, None, Some, refl, sym, ap, ◌∙◌, subst, append_assoc, arith}
-use Rattle.std.specs.Prelude.{map, ◌==◌}
-use Rattle.std.specs.List.{AllByRecursion}
+use Rattle.std.specs.Prelude.{map, ◌==◌, nat_eq}
+use Rattle.std.specs.List.{AllByRecursion, IsDistinct}
 use Rattle.std.proofs.lemmas.Bool.Decides.{Decides-eqb}
 use Rattle.std.proofs.lemmas.List.{append-nil, length-take}
 use Rattle.norm_base.specs.Settings.{Settings}
 use Rattle.norm_base.specs.declared.node.Origin.{Origin}
+use Rattle.norm_ext.specs.Written.{Written}
 use Rattle.norm_order.specs.Entries.{Entry}
 use Rattle.norm_order.specs.declared.up.Up.{Up}
 use Rattle.norm_receive_rules.specs.ReceiverState.{ReceiverState}
-use Rattle.norm_receive_rules.specs.Leaving.{is_in, left_now}
+use Rattle.norm_receive_rules.specs.Leaving.{is_in}
 use Rattle.norm_send_rules.specs.SenderState.{SenderState}
 use Rattle.norm_send_rules.specs.Restarting.{instances}
 use Rattle.norm_safety.specs.Events.{UpTaken, Took}
 use Rattle.norm_safety.specs.World.{World, receiver_at, with_receiver}
 use Rattle.norm_safety.specs.History.{Happening}
 use Rattle.norm_safety.specs.Hands.{hands, taken_in, is_at, instance_at}
-use Rattle.norm_safety.specs.InOrder.{newly, drop_of}
+use Rattle.norm_safety.specs.InOrder.{came_to, drop_of}
 use Rattle.norm_safety.specs.OnceEach.{order_of}
 use Rattle.norm_safety.proofs.EntryLemmas.{clash}
 use Rattle.norm_safety.proofs.WholeOrders.{AreSized}
@@ -27,8 +28,8 @@ use Rattle.norm_safety.proofs.Exact.{Exactly, front_exactly}
 use Rattle.norm_safety.proofs.SenderHolds.{SenderHolds, orders_hold}
 use Rattle.norm_safety.proofs.Holding.{Holding}
 use Rattle.norm_safety.proofs.ReceiverMoves.{StandingIn, in_instance_is}
-use Rattle.norm_safety.proofs.WorldHolds.{Through, AtReceiver, AtNode, WorldHolds, last_in, last_more, came_more, hands_more, hands_same, newly_none, node_later, instance_of}
-use Rattle.norm_safety.proofs.WorldMoves.{at_node, put_in, found_put, found_other, same_self}
+use Rattle.norm_safety.proofs.WorldHolds.{Through, IsAbove, CameTo, AtReceiver, AtNode, WorldHolds, last_more, hands_more, hands_same, same_came, node_later, instance_of}
+use Rattle.norm_safety.proofs.WorldMoves.{at_node, put_in, found_put, found_other, same_self, above_is_out}
 
 -- a front of a front of an order
 take_of_take : (n m : ℕ) (order : List Entry) → n ≤ m → take n (take m order) ≡ take n order
@@ -113,14 +114,14 @@ taken_world p past accepted w v node r up ups found is sender receivers offered 
     OnceOf : SenderState → Type 0
     OnceOf s = OnceSoFar s accepted
 
-    Said : List (ℕ × List ℕ) → Type 0
-    Said said = AllByRecursion (λ (o : ℕ × List ℕ). SaysTrue p w.sender o.1) said
+    Said : List (ℕ × Written) → Type 0
+    Said said = AllByRecursion (λ (o : ℕ × Written). SaysTrue p w.sender o.1) said
 
     SaidOf : SenderState → Type 0
-    SaidOf s = AllByRecursion (λ (o : ℕ × List ℕ). SaysTrue p s o.1) v.offered
+    SaidOf s = AllByRecursion (λ (o : ℕ × Written). SaysTrue p s o.1) v.offered
 
     GivenOf : SenderState → Type 0
-    GivenOf s = AllByRecursion (λ (o : ℕ × List ℕ). SaysTrue p s o.1) v.given
+    GivenOf s = AllByRecursion (λ (o : ℕ × Written). SaysTrue p s o.1) v.given
 
     now : List Happening
     now = past ++ record { before = w; event = UpTaken node; answer = Took (Some up); after = v } ∷ []
@@ -177,17 +178,22 @@ taken_world p past accepted w v node r up ups found is sender receivers offered 
     own_found = at_v node ∙ ap (at_node (map (put_in (behind_up ups r)) w.receivers)) (sym here.here) ∙ found_put (behind_up ups r) r w.receivers own_there
 
     at_own : AtReceiver p w.sender (past ++ record { before = w; event = UpTaken node; answer = Took (Some up); after = v } ∷ []) node (behind_up ups r)
-    at_own = record {
-      here = here.here;
-      came = came_more node None past x
-          ∙ ap (λ (ids : List ℕ). ids ++ newly (last_in node None past) (instance_at v node)) here.came
-          ∙ ap (λ (was : Option ℕ). left_now r ++ newly was (instance_at v node)) (h.latest node ∙ ap instance_of found)
-          ∙ ap (λ (is : Option ℕ). left_now r ++ newly r.instance is) (ap instance_of own_found)
-          ∙ ap (λ (more : List ℕ). left_now r ++ more) (newly_none r.instance) ∙ append-nil (left_now r);
-      once = here.once;
-      stands = stands r.instance refl;
-      never = λ id out gone. outside id out ∙ here.never id out gone;
-    }
+    at_own =
+        let still : came_to node None (past ++ x ∷ []) ≡ came_to node None past =
+        same_came p past x node (h.latest node ∙ ap instance_of found ∙ sym (ap instance_of own_found)) in
+        let C : List ℕ → Type 0 = λ xs. CameTo p xs r.instance in
+        let D : List ℕ → Type 0 = λ xs. IsDistinct nat_eq xs in
+        record {
+          here = here.here;
+          came = subst C (sym still) here.came;
+          once = subst D (sym still) here.once;
+          stands = stands r.instance refl;
+          never = λ id above. (
+              let A : List ℕ → Type 0 = λ xs. IsAbove p xs id in
+              let over = subst A still above in
+              outside id (above_is_out p (came_to node None past) r.instance id here.came over) ∙ here.never id over
+              );
+        }
 
     nodes : (other : ℕ) (b : Bool) → (node == other) ≡ b
         → AtNode p w.sender (past ++ record { before = w; event = UpTaken node; answer = Took (Some up); after = v } ∷ []) other (receiver_at v other)

@@ -5,7 +5,6 @@ use Rattle.norm_base.specs.Settings.{Settings}
 use Rattle.fec_plan.specs.Points.{position}
 use Rattle.fec_plan.specs.declared.position.Position.{Position}
 use Rattle.norm_ext.specs.Message.{AckMessage, Mark, Unread}
-use Rattle.norm_ext.specs.ObjectIds.{index_of}
 use Rattle.norm_order.specs.declared.up.Up.{Up}
 use Rattle.norm_order.specs.Upto.{upto}
 use Rattle.norm_receive_rules.specs.ReceiverState.{ReceiverState}
@@ -14,16 +13,16 @@ use Rattle.norm_safety.specs.Hands.{hands}
 use Rattle.norm_safety.specs.History.{History}
 use Rattle.norm_safety.specs.HoldsSaid.{handed_by}
 use Rattle.norm_safety.specs.OnceEach.{order_of}
-use Rattle.norm_safety.specs.Said.{said_acks}
+use Rattle.norm_safety.specs.Said.{About, said_acks}
 
 -- everything before a position of an instance
 abbrev pub upto_in : Settings → History → ℕ → Position → List Up
 upto_in p h id at = upto p (order_of h.now.sender id) at
 
 -- the position that an acknowledgement names
-abbrev pub acknowledged : Settings → AckMessage → Option Position
-acknowledged p m = elim m.content [
-  | Mark item ↦ Some (position (index_of p item.object) item.id.block item.id.symbol)
+abbrev pub acknowledged : About AckMessage → Option Position
+acknowledged x = elim x.message.content [
+  | Mark item ↦ Some (position x.index item.id.block item.id.symbol)
   | Unread octets ↦ None
 ]
 
@@ -32,8 +31,9 @@ abbrev pub DueIsHanded : Settings → History → ReceiverState → Type 0
 DueIsHanded p h r = IfSome r.instance (λ id. IfSome r.due (λ at. IsFront (upto_in p h id at) (handed_by h r id)))
 
 -- everything before an acknowledgement that was said was taken
-abbrev pub SaidIsHanded : Settings → History → AckMessage → Type 0
-SaidIsHanded p h m = IfSome (acknowledged p m) (λ at. IsFront (upto_in p h m.instance at) (hands h.happened m.source m.instance))
+abbrev pub SaidIsHanded : Settings → History → About AckMessage → Type 0
+SaidIsHanded p h x = let m = x.message in
+    IfSome (acknowledged x) (λ at. IsFront (upto_in p h m.instance at) (hands h.happened m.source m.instance))
 
 -- the acknowledgements that are due, and those that were said
 pub record AcknowledgesHanded (p : Settings) (h : History) : Type 0 where
@@ -48,8 +48,8 @@ due_is_handed p h r = elim r.instance [
 ]
 
 -- everything before an acknowledgement that was said was taken
-abbrev pub said_is_handed : Settings → History → AckMessage → Bool
-said_is_handed p h m = elim (acknowledged p m) [
+abbrev pub said_is_handed : Settings → History → About AckMessage → Bool
+said_is_handed p h x = let m = x.message in elim (acknowledged x) [
   | Some at ↦ is_front (upto_in p h m.instance at) (hands h.happened m.source m.instance)
   | None ↦ true
 ]

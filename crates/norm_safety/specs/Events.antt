@@ -1,6 +1,7 @@
 -- What happens in a world of a sender and its receivers, and what each event answers.
 use Rattle.std.specs.Prelude.{ℕ, List, Option, Result}
 use Rattle.norm_base.specs.declared.node.Origin.{Origin}
+use Rattle.norm_ext.specs.Written.{Written}
 use Rattle.norm_order.specs.declared.up.Up.{Up}
 use Rattle.norm_send_rules.specs.declared.job.Job.{Job}
 use Rattle.norm_send_rules.specs.declared.job.Receipt.{Receipt}
@@ -20,7 +21,7 @@ pub data Event : Type 0 where
 -- what an event answers: a receipt or a fault, a datagram or none, a hand-up or none, news or none, or nothing
 pub data Answer : Type 0 where
   Gave : (result : Result Receipt SendFault) → Answer
-  Sent : (datagram : Option (List ℕ)) → Answer
+  Sent : (datagram : Option Written) → Answer
   Took : (up : Option Up) → Answer
   Told : (news : Option News) → Answer
   Silent : Answer

@@ -7,7 +7,6 @@ use Rattle.norm_base.specs.Settings.{Settings}
 use Rattle.fec_plan.specs.Points.{same_position}
 use Rattle.norm_ext.specs.Extensions.{Extension, fti_of}
 use Rattle.norm_ext.specs.Message.{InfoMessage, DataMessage}
-use Rattle.norm_ext.specs.ObjectIds.{index_of}
 use Rattle.norm_ext.specs.declared.head.ObjHead.{ObjHead}
 use Rattle.norm_order.specs.declared.up.Up.{Up}
 use Rattle.norm_order.specs.declared.up.Up.TheVariants as up
@@ -16,32 +15,32 @@ use Rattle.norm_safety.specs.Hands.{hands}
 use Rattle.norm_safety.specs.History.{History}
 use Rattle.norm_safety.specs.InOrder.{GoesThrough, goes_through, drop_of}
 use Rattle.norm_safety.specs.OnceEach.{order_of}
-use Rattle.norm_safety.specs.Said.{said_infos, said_data, place_of}
+use Rattle.norm_safety.specs.Said.{About, said_infos, said_data, place_of}
 use Rattle.norm_safety.specs.SaysSymbols.{same_fti}
 use Rattle.norm_safety.specs.World.{World}
 
 -- a message of an instance says a plan
-abbrev pub says_plan : Settings → ℕ → Plan → ObjHead → List Extension → Bool
-says_plan p id plan head extensions =
-    head.instance == id && index_of p head.object == plan.index && head.flags / 4 == plan.flags / 4
+abbrev pub says_plan : ℕ → Plan → ℕ → ObjHead → List Extension → Bool
+says_plan id plan index head extensions =
+    head.instance == id && index == plan.index && head.flags / 4 == plan.flags / 4
     && option_eq same_fti (fti_of extensions) (Some plan.fti)
 
 -- a plan was said in an instance
-abbrev pub plan_said : Settings → World → ℕ → Plan → Bool
-plan_said p w id plan =
-    list_any (λ (m : DataMessage). says_plan p id plan m.head m.extensions) (said_data w)
-    || list_any (λ (m : InfoMessage). says_plan p id plan m.head m.extensions) (said_infos w)
+abbrev pub plan_said : World → ℕ → Plan → Bool
+plan_said w id plan =
+    list_any (λ (x : About DataMessage). says_plan id plan x.index x.message.head x.message.extensions) (said_data w)
+    || list_any (λ (x : About InfoMessage). says_plan id plan x.index x.message.head x.message.extensions) (said_infos w)
 
 -- a symbol that is held was said in an instance
-abbrev pub symbol_said : Settings → World → ℕ → Held → Bool
-symbol_said p w id held = list_any
-    (λ (m : DataMessage). m.head.instance == id && same_position (place_of p m) held.at && pointwise nat_eq m.payload held.octets)
+abbrev pub symbol_said : World → ℕ → Held → Bool
+symbol_said w id held = list_any
+    (λ (x : About DataMessage). x.message.head.instance == id && same_position (place_of x) held.at && pointwise nat_eq x.message.payload held.octets)
     (said_data w)
 
 -- an info that is held was said in an instance
-abbrev pub info_said_of : Settings → World → ℕ → HeldInfo → Bool
-info_said_of p w id held = list_any
-    (λ (m : InfoMessage). m.head.instance == id && index_of p m.head.object == held.index && pointwise nat_eq m.info held.info)
+abbrev pub info_said_of : World → ℕ → HeldInfo → Bool
+info_said_of w id held = list_any
+    (λ (x : About InfoMessage). x.message.head.instance == id && x.index == held.index && pointwise nat_eq x.message.info held.info)
     (said_infos w)
 
 -- what a node handed up in an instance, with what it handed up and was not taken yet
@@ -57,9 +56,9 @@ losses_in (_ ∷ ups) = losses_in ups
 -- a receiver in an instance: its plans, symbols and infos were said there; its hand-ups go through the order, and what
 -- it counts as lost is what they report
 pub record HoldsIn (p : Settings) (h : History) (r : ReceiverState) (id : ℕ) : Type 0 where
-  pub plans : AllByRecursion (λ plan. IsTrue (plan_said p h.now id plan)) r.plans
-  pub symbols : AllByRecursion (λ held. IsTrue (symbol_said p h.now id held)) r.held
-  pub infos : AllByRecursion (λ held. IsTrue (info_said_of p h.now id held)) r.infos
+  pub plans : AllByRecursion (λ plan. IsTrue (plan_said h.now id plan)) r.plans
+  pub symbols : AllByRecursion (λ held. IsTrue (symbol_said h.now id held)) r.held
+  pub infos : AllByRecursion (λ held. IsTrue (info_said_of h.now id held)) r.infos
   pub order : GoesThrough p (drop_of h.now.sender id) 0 (order_of h.now.sender id) (handed_by h r id)
   pub lost : r.lost ≡ losses_in (handed_by h r id)
 
@@ -70,7 +69,7 @@ pub record HoldsSaid (p : Settings) (h : History) : Type 0 where
 -- The same as a test.
 abbrev pub holds_in : Settings → History → ReceiverState → ℕ → Bool
 holds_in p h r id =
-    list_all (plan_said p h.now id) r.plans && list_all (symbol_said p h.now id) r.held && list_all (info_said_of p h.now id) r.infos
+    list_all (plan_said h.now id) r.plans && list_all (symbol_said h.now id) r.held && list_all (info_said_of h.now id) r.infos
     && goes_through p (drop_of h.now.sender id) 0 (order_of h.now.sender id) (handed_by h r id)
     && pointwise nat_eq r.lost (losses_in (handed_by h r id))
 

@@ -41,7 +41,7 @@ pub record SaidOfOrders (p : Settings) (h : History) : Type 0 where
   pub symbols : AllByRecursion (SaysSymbol p h.now.sender) (said_data h.now)
   pub infos : AllByRecursion (SaysInfo p h.now.sender) (said_infos h.now)
   pub flushes : AllByRecursion (λ m. IsTrue (flushes_source p h.now.sender m)) (said_flushes h.now)
-  pub squelches : AllByRecursion (λ m. IsTrue (squelches_dropped p h.now.sender m)) (said_squelches h.now)
+  pub squelches : AllByRecursion (λ m. IsTrue (squelches_dropped h.now.sender m)) (said_squelches h.now)
 
 -- a promise of each lawful run of data and files under a profile, whatever the network loses, repeats, reorders or delays,
 -- and however often the sender restarts

@@ -6,7 +6,6 @@ use Rattle.std.specs.Option.{option_eq}
 use Rattle.norm_base.specs.Settings.{Settings}
 use Rattle.norm_ext.specs.Extensions.{Extension, fti_of}
 use Rattle.norm_ext.specs.Message.{InfoMessage, DataMessage}
-use Rattle.norm_ext.specs.ObjectIds.{index_of}
 use Rattle.norm_ext.specs.declared.fti.Fti.{Fti}
 use Rattle.norm_order.specs.Entries.{Part, Object, Whole, Stream, Entry}
 use Rattle.norm_order.specs.Segments.{segments}
@@ -18,7 +17,7 @@ use Rattle.norm_send_rules.specs.Restarting.{instances}
 use Rattle.norm_safety.specs.Fronts.{IsFront}
 use Rattle.norm_safety.specs.History.{Happening, History}
 use Rattle.norm_safety.specs.OnceEach.{order_of}
-use Rattle.norm_safety.specs.Said.{said_infos, said_data, place_of, entry_at}
+use Rattle.norm_safety.specs.Said.{About, said_infos, said_data, entry_at}
 
 -- the info of an object that has one
 abbrev pub info_of_object : Object → Option (List ℕ)
@@ -31,15 +30,15 @@ SaysObject p object extensions flags =
     (fti_of extensions ≡ Some (fti_of_object p object)) × (4 * (flags / 4) ≡ object_flags object)
 
 -- a DATA carries an encoded symbol of its entry
-abbrev pub SaysSymbol : Settings → SenderState → DataMessage → Type 0
-SaysSymbol p s m = IsSomeAnd (entry_at s m.head.instance (place_of p m).index) (λ entry.
+abbrev pub SaysSymbol : Settings → SenderState → About DataMessage → Type 0
+SaysSymbol p s x = let m = x.message in IsSomeAnd (entry_at s m.head.instance x.index) (λ entry.
     IsTrue (nat_lt m.id.symbol (encoded_in (shape_of p entry.object) m.id.block))
     × (m.payload ≡ symbol_octets p entry.object m.id.block m.id.symbol)
     × SaysObject p entry.object m.extensions m.head.flags)
 
 -- an INFO carries the info of its entry
-abbrev pub SaysInfo : Settings → SenderState → InfoMessage → Type 0
-SaysInfo p s m = IsSomeAnd (entry_at s m.head.instance (index_of p m.head.object)) (λ entry.
+abbrev pub SaysInfo : Settings → SenderState → About InfoMessage → Type 0
+SaysInfo p s x = let m = x.message in IsSomeAnd (entry_at s m.head.instance x.index) (λ entry.
     (info_of_object entry.object ≡ Some m.info) × SaysObject p entry.object m.extensions m.head.flags)
 
 -- an object stays, or is a stream with more parts, of which the closed segments stay
@@ -75,8 +74,8 @@ says_object p object extensions flags =
     option_eq same_fti (fti_of extensions) (Some (fti_of_object p object)) && 4 * (flags / 4) == object_flags object
 
 -- a DATA carries an encoded symbol of its entry
-abbrev pub says_symbol : Settings → SenderState → DataMessage → Bool
-says_symbol p s m = elim (entry_at s m.head.instance (place_of p m).index) [
+abbrev pub says_symbol : Settings → SenderState → About DataMessage → Bool
+says_symbol p s x = let m = x.message in elim (entry_at s m.head.instance x.index) [
   | Some entry ↦
       nat_lt m.id.symbol (encoded_in (shape_of p entry.object) m.id.block)
       && pointwise nat_eq m.payload (symbol_octets p entry.object m.id.block m.id.symbol)
@@ -85,8 +84,8 @@ says_symbol p s m = elim (entry_at s m.head.instance (place_of p m).index) [
 ]
 
 -- an INFO carries the info of its entry
-abbrev pub says_info : Settings → SenderState → InfoMessage → Bool
-says_info p s m = elim (entry_at s m.head.instance (index_of p m.head.object)) [
+abbrev pub says_info : Settings → SenderState → About InfoMessage → Bool
+says_info p s x = let m = x.message in elim (entry_at s m.head.instance x.index) [
   | Some entry ↦
       option_eq (pointwise nat_eq) (info_of_object entry.object) (Some m.info) && says_object p entry.object m.extensions m.head.flags
   | None ↦ false

@@ -1,7 +1,9 @@
 -- A world: the states of a sender and its receivers, and what they gave to the network.
-use Rattle.std.specs.Prelude.{ℕ, ◌==◌, not, List, [], ◌∷◌, ◌++◌, map, filter, find, true, false, Option, None, Some}
+use Rattle.std.specs.Prelude.{ℕ, ◌==◌, ◌&&◌, not, List, [], ◌∷◌, ◌++◌, map, filter, find, nat_eq, Bool, true, false, Option, None, Some}
+use Rattle.std.specs.Cmp.Lexicographic.{pointwise}
 use Rattle.norm_base.specs.Settings.{Settings}
 use Rattle.norm_base.specs.Members.{receivers_of}
+use Rattle.norm_ext.specs.Written.{Written}
 use Rattle.norm_send_rules.specs.SenderState.{SenderState, sender_opening}
 use Rattle.norm_receive_rules.specs.ReceiverState.{ReceiverState, receiver_opening}
 
@@ -10,13 +12,13 @@ use Rattle.norm_receive_rules.specs.ReceiverState.{ReceiverState, receiver_openi
 pub record World : Type 0 where
   pub sender : SenderState
   pub receivers : List ReceiverState
-  pub offered : List (ℕ × List ℕ)
-  pub given : List (ℕ × List ℕ)
+  pub offered : List (ℕ × Written)
+  pub given : List (ℕ × Written)
 
 -- as a world begins: nothing was enqueued, offered, asked for or heard
 abbrev pub world_opening : Settings → World
 world_opening p = record {
-  sender = sender_opening p;
+  sender = sender_opening p p.instance;
   receivers = map receiver_opening (receivers_of p p.receivers);
   offered = [];
   given = [];
@@ -31,14 +33,27 @@ abbrev pub with_receiver : ReceiverState → World → World
 with_receiver r w = record w { receivers = map (λ (x : ReceiverState). elim (x.node == r.node) [ true ↦ r | false ↦ x ]) w.receivers }
 
 -- what others were given
-abbrev pub given_others : ℕ → World → List (ℕ × List ℕ)
-given_others node w = filter (λ (g : ℕ × List ℕ). not (g.0 == node)) w.given
+abbrev pub given_others : ℕ → World → List (ℕ × Written)
+given_others node w = filter (λ (g : ℕ × Written). not (g.0 == node)) w.given
 
 -- what a node's tick gave
-abbrev pub with_given : ℕ → Option (List ℕ) → World → World
+abbrev pub with_given : ℕ → Option Written → World → World
 with_given node None w = record w { given = given_others node w }
 with_given node (Some datagram) w = record w { given = given_others node w ++ (node, datagram) ∷ [] }
 
--- a node's datagram is offered
+-- two lists of octets are equal
+abbrev pub same_octets : List ℕ → List ℕ → Bool
+same_octets a b = pointwise nat_eq a b
+
+-- it is a datagram of this node, with these octets
+abbrev pub is_of : ℕ → List ℕ → ℕ × Written → Bool
+is_of node octets g = g.0 == node && same_octets g.1.octets octets
+
+-- a datagram that was given is offered
+abbrev pub offers : Option (ℕ × Written) → ℕ → World → World
+offers None node w = w
+offers (Some datagram) node w = record w { offered = w.offered ++ datagram ∷ []; given = given_others node w }
+
+-- A node's datagram is offered, where its last tick gave one of these octets.
 abbrev pub with_offer : ℕ → List ℕ → World → World
-with_offer node datagram w = record w { offered = w.offered ++ (node, datagram) ∷ []; given = given_others node w }
+with_offer node octets w = offers (find (is_of node octets) w.given) node w

@@ -7,8 +7,7 @@ use Rattle.norm_base.specs.Settings.{Settings}
 use Rattle.fec_plan.specs.Partition.{source_symbols, symbol_number}
 use Rattle.fec_plan.specs.Points.{Point, position}
 use Rattle.fec_plan.specs.declared.position.Position.{Position}
-use Rattle.norm_ext.specs.Asking.{asks_source, asks_info, asked_symbols, Count}
-use Rattle.norm_ext.specs.Requests.{Request}
+use Rattle.norm_ext.specs.Asking.{Named, asks_source, asks_info, asked_symbols, Count}
 use Rattle.norm_order.specs.Shapes.{Shape, at_index, symbols_of, sources_in, closed_in, encoded_in, closed_blocks, is_encoded, has_info}
 use Rattle.norm_send_rules.specs.SenderState.{SenderState, Asked}
 use Rattle.norm_send_rules.specs.InWindow.{current_shapes}
@@ -101,19 +100,19 @@ first_of_both : (a b : Bool) → (a && b) ≡ true → a ≡ true
 first_of_both true b e = refl
 first_of_both false b e = e
 
-asked_of_order : (p : Settings) (shapes : List Shape) (r : Request) → HaveParity shapes → Each (is_of_order shapes) (asks_for p shapes r)
-asked_of_order p shapes r parity =
+asked_of_order : (shapes : List Shape) (r : Named) → HaveParity shapes → Each (is_of_order shapes) (asks_for shapes r)
+asked_of_order shapes r parity =
     let P = λ (w : Want). is_of_order shapes w ≡ true in
-    all_append P (map Symbol (filter (asks_source p r) (all_sources 0 shapes)) ++ map Symbol (filter (is_encoded shapes) (asked_symbols p r)))
-    (map Info (filter (λ index. has_info shapes index && asks_info p r index) (range_with_len 0 (length shapes))))
-    (all_append P (map Symbol (filter (asks_source p r) (all_sources 0 shapes))) (map Symbol (filter (is_encoded shapes) (asked_symbols p r)))
-    (all_map P Symbol (filter (asks_source p r) (all_sources 0 shapes))
-    (all_filtered (λ at. is_encoded shapes at ≡ true) (asks_source p r) (all_sources 0 shapes) (sources_encoded shapes parity)))
-    (all_map P Symbol (filter (is_encoded shapes) (asked_symbols p r))
-    (all_passed (λ at. is_encoded shapes at ≡ true) (is_encoded shapes) (asked_symbols p r) (λ at e. e))))
-    (all_map P Info (filter (λ index. has_info shapes index && asks_info p r index) (range_with_len 0 (length shapes)))
-    (all_passed (λ index. has_info shapes index ≡ true) (λ index. has_info shapes index && asks_info p r index) (range_with_len 0 (length shapes))
-    (λ index e. first_of_both (has_info shapes index) (asks_info p r index) e)))
+    all_append P (map Symbol (filter (asks_source r) (all_sources 0 shapes)) ++ map Symbol (filter (is_encoded shapes) (asked_symbols r)))
+    (map Info (filter (λ index. has_info shapes index && asks_info r index) (range_with_len 0 (length shapes))))
+    (all_append P (map Symbol (filter (asks_source r) (all_sources 0 shapes))) (map Symbol (filter (is_encoded shapes) (asked_symbols r)))
+    (all_map P Symbol (filter (asks_source r) (all_sources 0 shapes))
+    (all_filtered (λ at. is_encoded shapes at ≡ true) (asks_source r) (all_sources 0 shapes) (sources_encoded shapes parity)))
+    (all_map P Symbol (filter (is_encoded shapes) (asked_symbols r))
+    (all_passed (λ at. is_encoded shapes at ≡ true) (is_encoded shapes) (asked_symbols r) (λ at e. e))))
+    (all_map P Info (filter (λ index. has_info shapes index && asks_info r index) (range_with_len 0 (length shapes)))
+    (all_passed (λ index. has_info shapes index ≡ true) (λ index. has_info shapes index && asks_info r index) (range_with_len 0 (length shapes))
+    (λ index e. first_of_both (has_info shapes index) (asks_info r index) e)))
 
 -- an order has all that it had when a request came
 
@@ -148,10 +147,10 @@ pub of_more : (less more : List Shape) (w : Want) → HaveAll less more → is_o
 of_more less more (Info index) all e = info_still less more index all e
 of_more less more (Symbol at) all e = encoded_still less more at all e
 
-wants_of_order : (p : Settings) (shapes : List Shape) (a : Asked) → HaveParity shapes → Each (is_of_order shapes) (wants_of p shapes a)
-wants_of_order p shapes a parity = all_implied (λ w. is_of_order (as_it_came a shapes) w ≡ true) (λ w. is_of_order shapes w ≡ true) (wants_of p shapes a)
+wants_of_order : (shapes : List Shape) (a : Asked) → HaveParity shapes → Each (is_of_order shapes) (wants_of shapes a)
+wants_of_order shapes a parity = all_implied (λ w. is_of_order (as_it_came a shapes) w ≡ true) (λ w. is_of_order shapes w ≡ true) (wants_of shapes a)
     (λ w e. of_more (as_it_came a shapes) shapes w (had_less a.last 0 a.next shapes parity) e)
-    (asked_of_order p (as_it_came a shapes) a.request (had_parity a.last 0 a.next shapes parity))
+    (asked_of_order (as_it_came a shapes) a.request (had_parity a.last 0 a.next shapes parity))
 
 -- an encoded symbol of a shape that is there
 there_encoded : (shapes : List Shape) (at : Point) (shape : Shape) (symbol : ℕ) → slice_get shapes at.index ≡ Some shape → symbol < encoded_in shape at.block
@@ -202,8 +201,8 @@ pub asked_in_order : (p : Settings) (s : SenderState) (asked : List Asked) → H
     → Each (is_of_order (current_shapes p s)) (asked_in p s asked)
 asked_in_order p s asked parity =
     let shapes = current_shapes p s in
-    let counts = flat_map (counts_of p shapes) asked in
+    let counts = flat_map (counts_of shapes) asked in
     let P = λ (w : Want). is_of_order shapes w ≡ true in
-    all_append P (flat_map (wants_of p shapes) asked) (flat_map (λ (c : Count). counted s shapes counts c.of) counts)
-    (all_flat P (wants_of p shapes) asked (λ a. wants_of_order p shapes a parity))
+    all_append P (flat_map (wants_of shapes) asked) (flat_map (λ (c : Count). counted s shapes counts c.of) counts)
+    (all_flat P (wants_of shapes) asked (λ a. wants_of_order shapes a parity))
     (all_flat P (λ (c : Count). counted s shapes counts c.of) counts (λ c. counted_of_order s shapes counts c.of parity))

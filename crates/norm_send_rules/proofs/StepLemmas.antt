@@ -5,11 +5,11 @@ use Rattle.std.proofs.Math.Nat.{zero-mod}
 use Rattle.norm_base.specs.Settings.{Settings, InRange}
 use Rattle.norm_base.specs.declared.kinds.Kind.TheVariants as kind
 use Rattle.norm_base.specs.declared.node.Origin.{Origin}
-use Rattle.fec_plan.specs.Points.{position}
 use Rattle.fec_plan.specs.declared.position.Position.{Position}
 use Rattle.norm_ext.specs.Message.{Message, Nack, Ack, AckContent, Mark, Unread}
-use Rattle.norm_ext.specs.ObjectIds.{index_of}
+use Rattle.norm_ext.specs.Asking.{item_named}
 use Rattle.norm_ext.specs.Reading.{decoded}
+use Rattle.norm_ext.specs.Written.{Written, writes}
 use Rattle.norm_ext.specs.Requests.{Request}
 use Rattle.norm_order.specs.Entries.{Part, Write, Cut, End, Object, Whole, Stream, Entry}
 use Rattle.norm_order.specs.Segments.{since_cut, unclosed}
@@ -18,7 +18,8 @@ use Rattle.norm_order.specs.Sets.{with_member}
 use Rattle.norm_send_rules.specs.SenderState.{SenderState, Watermark, Round}
 use Rattle.norm_send_rules.specs.SenderStep as events
 use Rattle.norm_send_rules.specs.SenderStep.{SenderEvent, sender_step}
-use Rattle.norm_send_rules.specs.InWindow.{stands_behind, current_shapes}
+use Rattle.norm_send_rules.specs.InWindow.{stands_behind, last_index, current_shapes}
+use Rattle.norm_send_rules.specs.Wants.{want_index}
 use Rattle.norm_send_rules.specs.Requests.{counted_anew, settled, end_where, open_requests, pending}
 use Rattle.norm_send_rules.specs.Enqueuing.{open_stream, object_fault, joined}
 use Rattle.norm_send_rules.specs.Streaming.{open_fault, with_parts, parts_now, write_fault, close_fault, grown, cut}
@@ -26,7 +27,7 @@ use Rattle.norm_send_rules.specs.Marking.{most_open, request_at, requested}
 use Rattle.norm_send_rules.specs.Restarting.{is_used, begun_anew}
 use Rattle.norm_send_rules.specs.Commanding.{commanded}
 use Rattle.norm_send_rules.specs.Closing.{asked_in, round_closed}
-use Rattle.norm_send_rules.specs.Hearing.{is_for, joined_round, listed_past, rises, credited, credited_at, message_heard, heard}
+use Rattle.norm_send_rules.specs.Hearing.{is_for, joined_round, listed_past, rises, credited, credited_at, credited_by, message_heard, heard}
 use Rattle.norm_send_rules.specs.Messages.{squelch_message}
 use Rattle.norm_send_rules.specs.Sending.{next_new, behind, repair_flags, sends, noted, sends_want, repairs_next, sends_new, message_of}
 use Rattle.norm_send_rules.specs.Flushing.{most_flushes, may_flush, flushes_for, expired, flushed, flushes}
@@ -106,16 +107,20 @@ credited_same node at s =
 credited_at_same : (p : Settings) (node : ℕ) (at : Position) (s : SenderState) → Same s (credited_at p node at s)
 credited_at_same p node at s = same_by (is_source (current_shapes p s) at) s (credited node at s) s (credited_same node at s) (refl, refl)
 
+credited_by_same : (p : Settings) (node : ℕ) (at : Option Position) (s : SenderState) → Same s (credited_by p node at s)
+credited_by_same p node None s = (refl, refl)
+credited_by_same p node (Some at) s = credited_at_same p node at s
+
 heard_same : {E : Type 0} (p : Settings) (s : SenderState) (now : ℕ) (read : Result Message E) → Same s (message_heard p s now read)
 heard_same p s now (Ok (Nack m)) =
     same_by (is_for p s m.source m.sender m.instance) s (joined_round p s now m.requests) s (round_same p s now m.requests) (refl, refl)
 heard_same p s now (Ok (Ack m)) = same_by (is_for p s m.source m.sender m.instance) s _ s (go m.content) (refl, refl)
   where
     go : (content : AckContent) → Same s (elim content [
-      | Mark item ↦ credited_at p m.source (position (index_of p item.object) item.id.block item.id.symbol) s
+      | Mark item ↦ credited_by p m.source (item_named p (last_index s) item) s
       | Unread octets ↦ s
     ])
-    go (Mark item) = credited_at_same p m.source (position (index_of p item.object) item.id.block item.id.symbol) s
+    go (Mark item) = credited_by_same p m.source (item_named p (last_index s) item) s
     go (Unread octets) = (refl, refl)
 heard_same p s now _ = (refl, refl)
 
@@ -151,8 +156,8 @@ noted_same (Symbol at) s = (refl, refl)
 sends_same : (p : Settings) (now : ℕ) (repair : Object → ℕ) (w : Want) (s : SenderState) → Same s (sends_want p now repair w s).0
 sends_same p now repair w s = go (slice_get s.current.order _)
   where
-    sent : Option Entry → SenderState × Option (List ℕ)
-    sent found = elim found [ Some entry ↦ sends p now (message_of p s w entry.object (repair entry.object)) (noted w s) | None ↦ (s, None) ]
+    sent : Option Entry → SenderState × Option Written
+    sent found = elim found [ Some entry ↦ sends p now (writes (message_of p s w entry.object (repair entry.object)) (want_index w ∷ [])) (noted w s) | None ↦ (s, None) ]
 
     go : (found : Option Entry) → Same s (sent found).0
     go (Some entry) = noted_same w s
@@ -172,7 +177,7 @@ flushed_same p now (w ∷ requests) s = same_step (nat_lt s.flushes most_flushes
 further_same : (p : Settings) (now : ℕ) (s : SenderState) → Same s (sends_further p now s).0
 further_same p now s = go (next_new p s)
   where
-    further : Option Want → SenderState × Option (List ℕ)
+    further : Option Want → SenderState × Option Written
     further found = elim found [ Some w ↦ sends_new p now w s | None ↦ flushes p now s ]
 
     go : (found : Option Want) → Same s (further found).0
@@ -192,7 +197,7 @@ repairs_hold p now w wants s e h =
 wanted_holds : (p : Settings) (now : ℕ) (s : SenderState) → WantsHold p s → WantsHold p (sends_wanted p now s).0
 wanted_holds p now s h = go s.wants refl
   where
-    sent : List Want → SenderState × Option (List ℕ)
+    sent : List Want → SenderState × Option Written
     sent found = elim found [ [] ↦ sends_further p now s | w ∷ wants ↦ repairs_next p now w wants s ]
 
     go : (found : List Want) → s.wants ≡ found → WantsHold p (sent found).0
@@ -201,7 +206,7 @@ wanted_holds p now s h = go s.wants refl
 
 in_time_holds : (p : Settings) (now : ℕ) (s : SenderState) → WantsHold p s → WantsHold p (sends_in_time p now s).0
 in_time_holds p now s h = either_holds p (nat_lt now s.next_send) (s, None) (sends_first p now s) h
-    (either_holds p s.squelch_due (sends p now (squelch_message p s s.current.drop) (record s { squelch_due = false })) (sends_wanted p now s)
+    (either_holds p s.squelch_due (sends p now (writes (squelch_message p s s.current.drop) (s.current.drop.index ∷ [])) (record s { squelch_due = false })) (sends_wanted p now s)
     (hold_same p s _ (refl, refl) h) (wanted_holds p now s h))
 
 -- News.
@@ -234,6 +239,6 @@ blocks_of p range = record { e_pos = omega (arith, range.e.0); b_pos = omega (ar
 
 pub want_laws : WantLaws
 want_laws = record {
-  at_first = λ p. record { rise = tt; of_order = tt; in_window = tt };
+  at_first = λ p instance. record { rise = tt; of_order = tt; in_window = tt };
   always = λ p s event range h. step_holds p (blocks_of p range) s event h;
 }

@@ -4,8 +4,7 @@ use Rattle.std.specs.List.{list_any}
 use Rattle.norm_base.specs.Settings.{Settings}
 use Rattle.fec_plan.specs.Partition.{source_symbols}
 use Rattle.fec_plan.specs.declared.position.Position.{Position}
-use Rattle.norm_ext.specs.Asking.{segment_flag, block_flag, object_flag, info_flag, has_flag, named_by, Span, named_spans, Count}
-use Rattle.norm_ext.specs.Requests.{Request}
+use Rattle.norm_ext.specs.Asking.{segment_flag, block_flag, object_flag, info_flag, has_flag, Span, Named, is_proper, Count}
 use Rattle.norm_ext.specs.declared.kinds.Form.TheVariants as form
 use Rattle.fec_plan.specs.Points.{Point, point, point_of, point_before, position_before, same_point}
 use Rattle.norm_order.specs.Sets.{is_member, with_members}
@@ -49,11 +48,11 @@ counted s shapes counts at = elim (slice_get shapes at.index) [
 abbrev pub asked_in : Settings → SenderState → List Asked → List Want
 asked_in p s asked =
     let shapes = current_shapes p s in
-    let counts = flat_map (counts_of p shapes) asked in
-    flat_map (wants_of p shapes) asked ++ flat_map (λ (c : Count). counted s shapes counts c.of) counts
+    let counts = flat_map (counts_of shapes) asked in
+    flat_map (wants_of shapes) asked ++ flat_map (λ (c : Count). counted s shapes counts c.of) counts
 
 -- a form and its flags give something: erasures give nothing for OBJECT and INFO
-abbrev pub gives_something : Request → Bool
+abbrev pub gives_something : Named → Bool
 gives_something r =
     has_flag r.flags segment_flag || has_flag r.flags block_flag
     || elim r.form [
@@ -63,12 +62,12 @@ gives_something r =
     ]
 
 -- the items of a request, of ranges the first ends of those that are not empty
-abbrev pub begins_at : Settings → Request → List Position
-begins_at p r = elim r.form [
-  | form.Items ↦ map (λ (s : Span). s.first) (named_spans p r)
-  | form.Ranges ↦ map (λ (s : Span). s.first) (named_spans p r)
-  | form.Erasures ↦ map (named_by p) r.items
-]
+abbrev pub begins_at : Named → List Position
+begins_at r = map (λ (s : Span). s.first) (elim r.form [
+  | form.Items ↦ r.spans
+  | form.Ranges ↦ filter is_proper r.spans
+  | form.Erasures ↦ r.spans
+])
 
 -- where an item counts from: with OBJECT or INFO among the flags from the object's first block
 abbrev pub counts_from : ℕ → Position → Point
@@ -78,9 +77,9 @@ counts_from flags at = elim (has_flag flags object_flag || has_flag flags info_f
 ]
 
 -- A request asks for what lies before the window, whatever stood there.
-abbrev pub asks_early : Settings → Point → Request → Bool
-asks_early p drop r =
-    gives_something r && list_any (λ at. point_before (counts_from r.flags at) drop) (begins_at p r)
+abbrev pub asks_early : Point → Named → Bool
+asks_early drop r =
+    gives_something r && list_any (λ at. point_before (counts_from r.flags at) drop) (begins_at r)
 
 -- the wants of a round that are in the window, beside those that were there
 abbrev pub wants_after : Settings → SenderState → List Asked → List Want
@@ -95,5 +94,5 @@ round_closed p r s =
       round = None;
       wants = wants;
       flushes = elim (nat_lt (length s.wants) (length wants)) [ true ↦ 0 | false ↦ s.flushes ];
-      squelch_due = s.squelch_due || list_any (λ (a : Asked). asks_early p s.current.drop a.request) r.asked;
+      squelch_due = s.squelch_due || list_any (λ (a : Asked). asks_early s.current.drop a.request) r.asked;
     }

@@ -3,11 +3,12 @@ use Rattle.std.specs.Prelude.{ℕ, ◌-◌, ◌==◌, List, [], ◌∷◌, ◌++
 use Rattle.norm_base.specs.Settings.{Settings}
 use Rattle.norm_base.specs.declared.kinds.Kind.{Kind}
 use Rattle.norm_base.specs.declared.node.Origin.{Origin}
+use Rattle.norm_ext.specs.ObjectIds.{last_index as last_of_all}
 use Rattle.norm_order.specs.First.{first_where}
 use Rattle.norm_order.specs.Entries.{Part, Object, Whole, Stream, Entry}
 use Rattle.norm_order.specs.Segments.{has_end}
 use Rattle.norm_send_rules.specs.SenderState.{SenderState}
-use Rattle.norm_send_rules.specs.InWindow.{next_index}
+use Rattle.norm_send_rules.specs.InWindow.{next_index, last_index}
 use Rattle.norm_send_rules.specs.Dropping.{dropped_to}
 use Rattle.norm_send_rules.specs.Room.{size_of, window, has_to_go, can_make_room, drop_after}
 use Rattle.norm_send_rules.specs.declared.fault.EnqueueFault.{EnqueueFault}
@@ -24,13 +25,13 @@ open_parts (Stream parts) = elim (has_end parts) [ true ↦ None | false ↦ Som
 abbrev pub open_stream : SenderState → Option (List Part)
 open_stream s = elim (reverse s.current.order) [ [] ↦ None | entry ∷ entries ↦ open_parts entry.object ]
 
--- the index of the last entry
-abbrev pub last_index : SenderState → ℕ
-last_index s = next_index s - 1
+-- no object can have this index
+abbrev pub is_no_index : ℕ → Bool
+is_no_index index = nat_lt last_of_all index
 
--- the instance's object transport ids, of 16 bits, are all used
+-- the instance's indices are all used
 abbrev pub ids_spent : SenderState → Bool
-ids_spent s = nat_le 65536 (next_index s)
+ids_spent s = is_no_index (next_index s)
 
 -- how many octets an info has; without one there are none
 abbrev pub info_length : Option (List ℕ) → ℕ

@@ -1,6 +1,7 @@
 -- Flushing (RFC 5740 section 5.5.3): the oldest open request is asked of the receivers that are not past it.
 use Rattle.std.specs.Prelude.{ℕ, ◌+◌, ◌*◌, ◌==◌, List, [], ◌∷◌, length, Bool, true, false, nat_lt, nat_le, Option, None, Some, is_some}
 use Rattle.norm_base.specs.Settings.{Settings}
+use Rattle.norm_ext.specs.Written.{Written, writes}
 use Rattle.norm_order.specs.Moments.{moment_after}
 use Rattle.norm_send_rules.specs.SenderState.{SenderState, Watermark}
 use Rattle.norm_send_rules.specs.Requests.{open_requests, pending, counted_anew, end_where}
@@ -17,9 +18,9 @@ abbrev pub may_flush : Settings → SenderState → ℕ → Bool
 may_flush p s now = elim s.last_flush [ Some last ↦ nat_le (moment_after last (2 * p.grtt)) now | None ↦ true ]
 
 -- a flush up to a request's position, to all that are not past it
-abbrev pub flushes_for : Settings → ℕ → Watermark → SenderState → SenderState × Option (List ℕ)
+abbrev pub flushes_for : Settings → ℕ → Watermark → SenderState → SenderState × Option Written
 flushes_for p now w s =
-    sends p now (flush_message p s w.at (pending s w.at)) (record s { flushes = s.flushes + 1; last_flush = Some now })
+    sends p now (writes (flush_message p s w.at (pending s w.at)) (w.at.index ∷ [])) (record s { flushes = s.flushes + 1; last_flush = Some now })
 
 -- the request with this number is given up
 abbrev pub expired : ℕ → SenderState → SenderState
@@ -27,7 +28,7 @@ expired mark s = counted_anew s (end_where (λ w. w.mark == mark) (λ w. Expired
 
 -- The requests, the oldest first. Fewer than 20 flushes counted: one more. Else, while no round is open, the request
 -- expires, and the next one has its turn.
-unfoldable pub flushed : Settings → ℕ → List Watermark → SenderState → SenderState × Option (List ℕ)
+unfoldable pub flushed : Settings → ℕ → List Watermark → SenderState → SenderState × Option Written
 flushed p now [] s = (s, None)
 flushed p now (w ∷ requests) s = elim (nat_lt s.flushes most_flushes) [
   | true ↦ flushes_for p now w s
@@ -35,5 +36,5 @@ flushed p now (w ∷ requests) s = elim (nat_lt s.flushes most_flushes) [
 ]
 
 -- where the time has come for a flush
-abbrev pub flushes : Settings → ℕ → SenderState → SenderState × Option (List ℕ)
+abbrev pub flushes : Settings → ℕ → SenderState → SenderState × Option Written
 flushes p now s = elim (may_flush p s now) [ true ↦ flushed p now (open_requests s) s | false ↦ (s, None) ]

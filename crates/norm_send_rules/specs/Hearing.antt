@@ -1,18 +1,17 @@
 -- What a sender hears (RFC 5740 sections 5.4 and 5.5.3): NACKs and acknowledgements of its receivers.
-use Rattle.std.specs.Prelude.{ℕ, ◌+◌, ◌*◌, ◌==◌, ◌&&◌, List, [], ◌∷◌, ◌++◌, map, Bool, true, false, nat_lt, not, None, Some, Result, Ok}
+use Rattle.std.specs.Prelude.{ℕ, ◌+◌, ◌*◌, ◌==◌, ◌&&◌, List, [], ◌∷◌, ◌++◌, map, Bool, true, false, nat_lt, not, Option, None, Some, Result, Ok}
 use Rattle.std.specs.List.{list_any}
 use Rattle.norm_base.specs.Settings.{Settings}
 use Rattle.fec_plan.specs.declared.position.Position.{Position}
-use Rattle.norm_ext.specs.ObjectIds.{index_of}
+use Rattle.norm_ext.specs.Asking.{named, item_named}
 use Rattle.norm_ext.specs.Message.{Message, Nack, Ack, NackMessage, AckMessage, Mark, Unread}
 use Rattle.norm_ext.specs.Reading.{decoded}
 use Rattle.norm_ext.specs.Requests.{Request}
 use Rattle.norm_order.specs.Moments.{moment_after}
-use Rattle.fec_plan.specs.Points.{position}
 use Rattle.norm_order.specs.Sets.{with_member}
 use Rattle.norm_order.specs.Shapes.{is_source, last_source}
 use Rattle.norm_send_rules.specs.SenderState.{SenderState, Listing, Asked, Round}
-use Rattle.norm_send_rules.specs.InWindow.{next_index, current_shapes}
+use Rattle.norm_send_rules.specs.InWindow.{next_index, last_index, current_shapes}
 use Rattle.norm_send_rules.specs.Requests.{is_past, counted_anew, settled}
 
 -- a NACK or an acknowledgement counts where it is a receiver's, to this sender and its current instance
@@ -20,9 +19,9 @@ abbrev pub is_for : Settings → SenderState → ℕ → ℕ → ℕ → Bool
 is_for p s source sender instance =
     list_any (λ (l : Listing). l.node == source) s.listings && sender == p.sender && instance == s.current.id
 
--- a request, with how the order stands
+-- a request by what its items name now, with how the order stands
 abbrev pub asked_now : Settings → SenderState → Request → Asked
-asked_now p s r = record { request = r; first = s.current.drop; next = next_index s; last = last_source (current_shapes p s) }
+asked_now p s r = record { request = named p (last_index s) r; first = s.current.drop; next = next_index s; last = last_source (current_shapes p s) }
 
 -- the open round, or a new one, which closes K + 1 round trips from now
 abbrev pub round_at : Settings → SenderState → ℕ → Round
@@ -67,11 +66,15 @@ credited_at p node at s = elim (is_source (current_shapes p s) at) [ true ↦ cr
 abbrev pub nack_heard : Settings → SenderState → ℕ → NackMessage → SenderState
 nack_heard p s now m = elim (is_for p s m.source m.sender m.instance) [ true ↦ joined_round p s now m.requests | false ↦ s ]
 
+-- an acknowledgement of what its item names
+abbrev pub credited_by : Settings → ℕ → Option Position → SenderState → SenderState
+credited_by p node at s = elim at [ Some at ↦ credited_at p node at s | None ↦ s ]
+
 -- an acknowledgement: of a flush the position counts, and others change nothing
 abbrev pub ack_heard : Settings → SenderState → AckMessage → SenderState
 ack_heard p s m = elim (is_for p s m.source m.sender m.instance) [
   | true ↦ elim m.content [
-    | Mark item ↦ credited_at p m.source (position (index_of p item.object) item.id.block item.id.symbol) s
+    | Mark item ↦ credited_by p m.source (item_named p (last_index s) item) s
     | Unread octets ↦ s
   ]
   | false ↦ s

@@ -1,5 +1,5 @@
 -- What is promised of the sender's rules.
-use Rattle.std.specs.Prelude.{◌≡◌, List, [], ◌∷◌, ⊤, Bool, true, Err}
+use Rattle.std.specs.Prelude.{ℕ, ◌≡◌, List, [], ◌∷◌, ⊤, Bool, true, Err}
 use Rattle.std.specs.List.{AllByRecursion}
 use Rattle.norm_base.specs.Settings.{Settings, InRange}
 use Rattle.norm_base.specs.declared.node.Origin.{Origin}
@@ -60,5 +60,5 @@ pub record WantsHold (p : Settings) (s : SenderState) : Type 0 where
 
 -- the wants of a sender hold as it begins, and each step keeps that
 pub record WantLaws : Type 0 where
-  pub at_first : (p : Settings) → WantsHold p (sender_opening p)
+  pub at_first : (p : Settings) (instance : ℕ) → WantsHold p (sender_opening p instance)
   pub always : (p : Settings) (s : SenderState) (event : SenderEvent) → InRange p → WantsHold p s → WantsHold p (sender_step p s event).0

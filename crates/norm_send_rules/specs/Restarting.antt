@@ -1,7 +1,7 @@
 -- A restart (RFC 5740 section 4.1 on instance_id): a new instance with an order of its own.
-use Rattle.std.specs.Prelude.{ℕ, ◌==◌, List, [], ◌∷◌, ◌++◌, Bool, true, false, None, Result, Ok, Err}
-use Rattle.std.specs.List.{list_any}
+use Rattle.std.specs.Prelude.{ℕ, ◌||◌, nat_le, nat_lt, List, [], ◌∷◌, ◌++◌, Bool, true, false, None, Result, Ok, Err}
 use Rattle.norm_base.specs.Settings.{Settings}
+use Rattle.norm_ext.specs.InstanceIds.{rise, most_rise}
 use Rattle.norm_send_rules.specs.SenderState.{SenderState, Instance, begun, unlisted}
 use Rattle.norm_send_rules.specs.Requests.{end_where}
 use Rattle.norm_send_rules.specs.declared.want.Want.TheVariants.{Info}
@@ -15,9 +15,14 @@ use Rattle.norm_send_rules.specs.declared.job.Receipt.TheVariants.{Restarted}
 abbrev pub instances : SenderState → List Instance
 instances s = s.earlier ++ s.current ∷ []
 
--- an instance had this id
+-- the id of the first instance
+abbrev pub first_id : SenderState → ℕ
+first_id s = elim s.earlier [ i ∷ earlier ↦ i.id | [] ↦ s.current.id ]
+
+-- Ids rise from the first instance's on: one is used up where it lies no higher above that than the current one, or half
+-- of all ids above it.
 abbrev pub is_used : SenderState → ℕ → Bool
-is_used s id = list_any (λ (i : Instance). i.id == id) (instances s)
+is_used s id = nat_le (rise (first_id s) id) (rise (first_id s) s.current.id) || nat_lt most_rise (rise (first_id s) id)
 
 -- The new instance begins: window, wants, round and listings are empty, no squelch is due, nothing was flushed, and
 -- every open request is cut. The next send moment, the sequence number and the numbers of requests go on.
@@ -37,7 +42,7 @@ begun_anew p id s = end_where (λ w. true) (λ w. Cut) (record s {
   untold_nodes = [];
 })
 
--- An id is used once.
+-- Each id lies above the one before.
 abbrev pub restarted : Settings → SenderState → ℕ → SenderState × Result Receipt SendFault
 restarted p s id = elim (is_used s id) [
   | true ↦ (s, Err (IdUsed id))

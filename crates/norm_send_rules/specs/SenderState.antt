@@ -4,7 +4,7 @@ use Rattle.norm_base.specs.Settings.{Settings}
 use Rattle.norm_base.specs.Members.{receivers_of}
 use Rattle.norm_base.specs.declared.node.Origin.{Origin}
 use Rattle.fec_plan.specs.declared.position.Position.{Position}
-use Rattle.norm_ext.specs.Requests.{Request}
+use Rattle.norm_ext.specs.Asking.{Named}
 use Rattle.fec_plan.specs.Points.{Point, point}
 use Rattle.norm_order.specs.Entries.{Entry}
 use Rattle.norm_send_rules.specs.declared.news.Outcome.{Outcome}
@@ -17,10 +17,10 @@ pub record Instance : Type 0 where
   pub order : List Entry
   pub drop : Point
 
--- a repair request of a NACK as it came: with the window's first point, the next object's index, and the last closed
--- source symbol of that moment
+-- a repair request of a NACK, by what its items named as it came: with the window's first point, the next object's index,
+-- and the last closed source symbol of that moment
 pub record Asked : Type 0 where
-  pub request : Request
+  pub request : Named
   pub first : Point
   pub next : ℕ
   pub last : Option Position
@@ -73,11 +73,11 @@ begun id = record { id = id; order = []; drop = point 0 0 }
 abbrev pub unlisted : Settings → List Listing
 unlisted p = map (λ node. record { node = node; past = None }) (receivers_of p p.receivers)
 
--- as a sender begins
-abbrev pub sender_opening : Settings → SenderState
-sender_opening p = record {
+-- as a sender begins, in an instance
+abbrev pub sender_opening : Settings → ℕ → SenderState
+sender_opening p instance = record {
   earlier = [];
-  current = begun p.instance;
+  current = begun instance;
   next = Info 0;
   wants = [];
   sent = [];

@@ -2,6 +2,7 @@
 use Rattle.std.specs.Prelude.{ℕ, List, Option, Result}
 use Rattle.norm_base.specs.Settings.{Settings}
 use Rattle.norm_base.specs.declared.node.Origin.{Origin}
+use Rattle.norm_ext.specs.Written.{Written}
 use Rattle.norm_send_rules.specs.SenderState.{SenderState}
 use Rattle.norm_send_rules.specs.Commanding.{commanded}
 use Rattle.norm_send_rules.specs.Hearing.{heard}
@@ -23,7 +24,7 @@ pub data SenderEvent : Type 0 where
 pub data SenderAnswer : Type 0 where
   Answered : (gave : Result Receipt SendFault) → SenderAnswer
   Silent : SenderAnswer
-  Sent : (datagram : Option (List ℕ)) → SenderAnswer
+  Sent : (datagram : Option Written) → SenderAnswer
   Told : (news : Option News) → SenderAnswer
 
 -- a step's state and answer, the answer under its word

@@ -4,7 +4,7 @@ use Rattle.std.specs.List.{range_with_len}
 use Rattle.norm_base.specs.Settings.{Settings}
 use Rattle.fec_plan.specs.Partition.{source_symbols, encoding_symbols}
 use Rattle.norm_ext.specs.Message.{Message}
-use Rattle.norm_ext.specs.Octets.{octets_of}
+use Rattle.norm_ext.specs.Written.{Written, writes}
 use Rattle.norm_order.specs.Moments.{moment_after}
 use Rattle.fec_plan.specs.Points.{position, position_before}
 use Rattle.norm_order.specs.Sets.{with_member}
@@ -48,9 +48,9 @@ behind (Info index) = Symbol (position index 0 0)
 behind (Symbol at) = Symbol (position at.index at.block (at.symbol + 1))
 
 -- a datagram, after which the next may be sent a gap later
-abbrev pub sends : Settings → ℕ → Message → SenderState → SenderState × Option (List ℕ)
-sends p now m s =
-    (record s { next_send = moment_after now p.gap; sequence = (s.sequence + 1) % 65536 }, Some (octets_of m))
+abbrev pub sends : Settings → ℕ → Written → SenderState → SenderState × Option Written
+sends p now datagram s =
+    (record s { next_send = moment_after now p.gap; sequence = (s.sequence + 1) % 65536 }, Some datagram)
 
 -- an info or symbol was sent in this instance
 abbrev pub noted : Want → SenderState → SenderState
@@ -70,16 +70,16 @@ message_of p s (Info index) object repair = info_message p s index object [] rep
 message_of p s (Symbol at) object repair = data_message p s at object repair
 
 -- an info or symbol is sent, where its object is there
-abbrev pub sends_want : Settings → ℕ → (Object → ℕ) → Want → SenderState → SenderState × Option (List ℕ)
+abbrev pub sends_want : Settings → ℕ → (Object → ℕ) → Want → SenderState → SenderState × Option Written
 sends_want p now repair w s = elim (slice_get s.current.order (want_index w)) [
-  | Some entry ↦ sends p now (message_of p s w entry.object (repair entry.object)) (noted w s)
+  | Some entry ↦ sends p now (writes (message_of p s w entry.object (repair entry.object)) (want_index w ∷ [])) (noted w s)
   | None ↦ (s, None)
 ]
 
 -- the lowest want is sent, and is a want no more
-abbrev pub repairs_next : Settings → ℕ → Want → List Want → SenderState → SenderState × Option (List ℕ)
+abbrev pub repairs_next : Settings → ℕ → Want → List Want → SenderState → SenderState × Option Written
 repairs_next p now w wants s = sends_want p now (λ object. repair_flags p object w) w (record s { wants = wants })
 
 -- a new symbol or info is sent, and what comes behind it is next
-abbrev pub sends_new : Settings → ℕ → Want → SenderState → SenderState × Option (List ℕ)
+abbrev pub sends_new : Settings → ℕ → Want → SenderState → SenderState × Option Written
 sends_new p now w s = sends_want p now (λ object. 0) w (record s { next = behind w })

@@ -7,10 +7,10 @@ use Rattle.norm_order.specs.Entries.{Part, Write, Cut, End, Object, Stream, Entr
 use Rattle.norm_order.specs.Segments.{closed_from, unclosed, written}
 use Rattle.norm_order.specs.Shapes.{shape_of}
 use Rattle.norm_send_rules.specs.SenderState.{SenderState}
-use Rattle.norm_send_rules.specs.InWindow.{next_index}
+use Rattle.norm_send_rules.specs.InWindow.{next_index, last_index}
 use Rattle.norm_send_rules.specs.Dropping.{dropped_to}
 use Rattle.norm_send_rules.specs.Room.{size_of, can_make_room, first_kept, stream_has_room, stream_drop}
-use Rattle.norm_send_rules.specs.Enqueuing.{open_stream, last_index, ids_spent, joined}
+use Rattle.norm_send_rules.specs.Enqueuing.{open_stream, ids_spent, joined}
 use Rattle.norm_send_rules.specs.declared.fault.EnqueueFault.{EnqueueFault}
 use Rattle.norm_send_rules.specs.declared.fault.EnqueueFault.TheVariants.{Empty, TooBig, StreamOpen, NoStream, IdsSpent, Stream as OfStream, WindowFull}
 use Rattle.norm_send_rules.specs.declared.fault.StreamFault.TheVariants.{Spent, Full}

@@ -1,6 +1,6 @@
 use Rattle.std.specs.Prelude.{ℕ, List, [], ◌∷◌, codes, sum_by, Ok}
 use Rattle.std.specs.Fmt.{decimal}
-use Rattle.norm_session.specs.Printed.{line}
+use Rattle.norm_text.specs.Words.{line}
 use Rattle.norm_session.specs.declared.event.Event.{Event}
 use Rattle.norm_session.specs.declared.event.Event.TheVariants as event
 use Rattle.norm_session.specs.declared.job.Receipt.TheVariants.{Object as Enqueued}
@@ -20,10 +20,12 @@ handed (event.Up node instance up) = 1
 handed _ = 0
 
 -- the counts in words
-unfoldable pub summary : (objects octets handed : ℕ) → List ℕ
+abbrev pub summary : (objects octets handed : ℕ) → List ℕ
 summary objects octets handed =
-    line (codes "end objects" ∷ decimal objects ∷ codes "octets" ∷ decimal octets ∷ codes "handed" ∷ decimal handed
-    ∷ codes "lost 0 satisfied 0 expired 0 cut 0" ∷ [])
+    line (codes "end objects") (
+    decimal objects ∷ codes "octets" ∷ decimal octets ∷ codes "handed" ∷ decimal handed
+    ∷ codes "lost 0 satisfied 0 expired 0 cut 0" ∷ []
+    )
 
 -- the last line of a run
 abbrev pub end_line : List Event → List ℕ

@@ -181,7 +181,7 @@ impl Run {
         ensures cause { WriteCause result (K.fault_count output.old) (K.fault_count output.new) }
     {
         let line = end_line(self.alloc, &self.events)?;
-        output.write(line.as_bytes())?;
+        output.write(line.as_slice())?;
         Ok(())
     }
 
@@ -206,7 +206,7 @@ impl Run {
         let line = line_of(self.alloc, instance_of(&self.profile), &event)?;
         self.events.push(event)?;
         if let Some(line) = line {
-            output.write(line.as_bytes())?;
+            output.write(line.as_slice())?;
         }
         Ok(())
     }

@@ -1,10 +1,11 @@
 //! The last line of a run.
 
-ghost use Rattle.std.specs.Prelude.{◌≡◌, ◌≤◌, ◌*◌, IfOk, length, sum_by, string_bytes};
+ghost use Rattle.std.specs.Prelude.{◌≡◌, ◌≤◌, ◌*◌, IfOk, length, sum_by};
 ghost use Rattle.norm_session.specs.Totals.{accepted, accepted_octets, handed, summary, end_line};
 
 use crate::event::Event;
 use crate::job::Receipt;
+use norm_text::Line;
 use std::alloc::{AllocError, Global};
 
 /// How many objects an event accepted.
@@ -76,18 +77,23 @@ fn count_handed(events: &[Event]) -> u64
 }
 
 /// The counts in words.
-#[tactic(auto, unfolding(crate::specs::Totals::summary))]
-fn summary(alloc: Global, objects: u64, octets: u128, handed: u64) -> Result<String, AllocError>
-    ensures { IfOk result (λ text. string_bytes text ≡ summary objects octets handed) }
+fn summary(alloc: Global, objects: u64, octets: u128, handed: u64) -> Result<Vec<u8>, AllocError>
+    ensures { IfOk result (λ text. text.items ≡ summary objects octets handed) }
 {
-    format!(in alloc;
-        "end objects {objects} octets {octets} handed {handed} lost 0 satisfied 0 expired 0 cut 0\n"
-    )
+    let octets = format!(in alloc; "{octets}")?;
+    let mut line = Line::begin(alloc, b"end objects", 0)?;
+    line.number(objects)?;
+    line.word(b"octets")?;
+    line.word(octets.as_bytes())?;
+    line.word(b"handed")?;
+    line.number(handed)?;
+    line.word(b"lost 0 satisfied 0 expired 0 cut 0")?;
+    line.end()
 }
 
 /// The last line of a run with these events, with its line feed.
-pub(crate) fn end_line(alloc: Global, events: &[Event]) -> Result<String, AllocError>
-    ensures { IfOk result (λ text. string_bytes text ≡ end_line events.now) }
+pub(crate) fn end_line(alloc: Global, events: &[Event]) -> Result<Vec<u8>, AllocError>
+    ensures { IfOk result (λ text. text.items ≡ end_line events.now) }
 {
     summary(
         alloc,

@@ -1,5 +1,5 @@
 -- The words of a list, one after the other.
-use Rattle.std.proofs.Common.{◌≡◌, ℕ, ◌≤◌, ◌<◌, Option, None, List, [], ◌∷◌, length, drop, map, Some, refl, sym, ap, ◌∙◌, arith}
+use Rattle.std.proofs.Common.{◌≡◌, ℕ, ◌≤◌, ◌<◌, List, [], ◌∷◌, length, drop, map, Some, refl, sym, ap, ◌∙◌, arith}
 use Rattle.std.specs.Prelude.{slice_get}
 use Rattle.std.specs.Fmt.{decimal}
 use Rattle.norm_ext.specs.Lists.{nodes_of, objects_of}
@@ -33,27 +33,6 @@ pub objects_end : (xs : List ℕ) → length xs < 2 → objects_of xs ≡ []
 objects_end [] short = refl
 objects_end (a ∷ []) short = refl
 objects_end (a ∷ b ∷ rest) short = absurd (omega (arith, short))
-
--- what stands first, before the others
-abbrev some_first : Option Item → List Item → List Item
-some_first (Some x) rest = x ∷ rest
-some_first None rest = rest
-
-pub items_step : (xs : List ℕ) (x : Item) → 8 ≤ length xs → slice_get (items_named xs) 0 ≡ Some x → items_named xs ≡ x ∷ items_named (drop 8 xs)
-items_step (a ∷ b ∷ c ∷ d ∷ e ∷ f ∷ g ∷ h ∷ rest) x long is =
-    ap (λ (o : Option Item). some_first o (items_named rest)) is
-items_step _ x long is = absurd (omega (arith, long))
-
-pub items_end : (xs : List ℕ) → length xs < 8 → items_named xs ≡ []
-items_end (a ∷ b ∷ c ∷ d ∷ e ∷ f ∷ g ∷ h ∷ rest) short = absurd (omega (arith, short))
-items_end [] short = refl
-items_end (a ∷ []) short = refl
-items_end (a ∷ b ∷ []) short = refl
-items_end (a ∷ b ∷ c ∷ []) short = refl
-items_end (a ∷ b ∷ c ∷ d ∷ []) short = refl
-items_end (a ∷ b ∷ c ∷ d ∷ e ∷ []) short = refl
-items_end (a ∷ b ∷ c ∷ d ∷ e ∷ f ∷ []) short = refl
-items_end (a ∷ b ∷ c ∷ d ∷ e ∷ f ∷ g ∷ []) short = refl
 
 -- ---- the first piece of a list is put, and one more
 
@@ -93,17 +72,14 @@ objects_more rest behind text after whole n long value put back so =
     pieces_more decimal 44 text after whole (objects_of rest) (objects_of behind) n
     (objects_step rest long ∙ ap (λ (m : ℕ). m ∷ objects_of (drop 2 rest)) (sym value) ∙ ap (λ (r : List ℕ). n ∷ objects_of r) (sym back)) put so
 
-pub items_begin : (start items text rest : List ℕ) (x : Item) → 8 ≤ length items → text ≡ with_piece 58 start (item_word x) → slice_get (items_named items) 0 ≡ Some x → rest ≡ drop 8 items
+pub items_begin : (start text items rest : List ℕ) (x : Item) → text ≡ with_piece 58 start (item_word x) → items_named items ≡ x ∷ items_named rest
     → with_pieces 43 text (map item_word (items_named rest)) ≡ with_piece 58 start (joined 43 (map item_word (items_named items)))
-items_begin start items text rest x long is value back =
-    begin item_word 58 43 start text x (items_named rest) (items_named items) is
-    (items_step items x long value ∙ ap (λ (r : List ℕ). x ∷ items_named r) (sym back))
+items_begin start text items rest x is every = begin item_word 58 43 start text x (items_named rest) (items_named items) is every
 
-pub items_more : (rest behind text after whole : List ℕ) (x : Item) → 8 ≤ length rest → slice_get (items_named rest) 0 ≡ Some x → after ≡ with_piece 43 text (item_word x) → behind ≡ drop 8 rest
+pub items_more : (rest behind text after whole : List ℕ) (x : Item) → items_named rest ≡ x ∷ items_named behind → after ≡ with_piece 43 text (item_word x)
     → with_pieces 43 text (map item_word (items_named rest)) ≡ whole → with_pieces 43 after (map item_word (items_named behind)) ≡ whole
-items_more rest behind text after whole x long value put back so =
-    pieces_more item_word 43 text after whole (items_named rest) (items_named behind) x
-    (items_step rest x long value ∙ ap (λ (r : List ℕ). x ∷ items_named r) (sym back)) put so
+items_more rest behind text after whole x is put so =
+    pieces_more item_word 43 text after whole (items_named rest) (items_named behind) x is put so
 
 pub requests_begin : (start text : List ℕ) (x : Request) (all left : List Request) → text ≡ with_word start (request_word x) → Some x ≡ slice_get all 0 → left ≡ drop 1 all
     → with_pieces 44 text (map request_word left) ≡ with_word start (requests_word all)

@@ -2,10 +2,14 @@
 
 ghost use Rattle.std.specs.Prelude.{◌≡◌, ◌∷◌, [], ◌++◌, codes, decimal, map, IfOk, OnOk};
 ghost use Rattle.norm_ext.specs.Lists.{nodes_of, objects_of};
-ghost use Rattle.norm_ext.specs.Requests.{requests_of};
+ghost use Rattle.norm_ext.specs.Extensions.{IsChecked};
+ghost use Rattle.norm_ext.specs.Requests.{requests_of, IsRequests};
 ghost use Rattle.norm_codec.specs.View.{message_of};
+ghost use Rattle.norm_codec.specs.Whole.{IsWhole};
 ghost use Rattle.norm_cmdmsg.specs.View.{command_of};
+ghost use Rattle.norm_cmdmsg.specs.Whole.{IsWhole as IsWholeCommand};
 ghost use Rattle.norm_fbmsg.specs.View.{nack_of, ack_of, content_of};
+ghost use Rattle.norm_fbmsg.specs.Whole.{IsWholeNack};
 ghost use Rattle.norm_objmsg.specs.MessageView.{info_of, data_of};
 ghost use Rattle.norm_text.specs.Words.{line, with_words, numbers_word};
 ghost use Rattle.norm_show.specs.Words.{command_words, symbol_words, requests_word};
@@ -13,7 +17,6 @@ ghost use Rattle.norm_show.specs.Line.{ack_words, message_line, refused_line};
 
 use crate::lists::{put_nodes, put_objects, put_requests};
 use crate::words::{put_command, put_fti, put_object, put_receiver, put_symbol};
-use norm_base::Memory;
 use norm_cmdmsg::CommandMsg;
 use norm_codec::{Message, Refusal};
 use norm_ext::{CmdHead, Item};
@@ -23,18 +26,20 @@ use norm_text::Line;
 use std::alloc::{AllocError, Global};
 
 /// The line of INFO.
-fn info_text(alloc: Global, msg: &InfoMsg<'_>) -> Result<Vec<u8>, Memory>
+fn info_text(alloc: Global, msg: &InfoMsg<'_>) -> Result<Vec<u8>, AllocError>
+    requires { IsChecked msg.now.exts.now }
     ensures { IfOk result (λ text. text.items ≡ message_line (info_of msg.now)) }
 {
     let mut line = Line::begin(alloc, b"info", msg.info.len())?;
     put_object(&mut line, &msg.head)?;
     put_fti(&mut line, msg.exts)?;
     line.contents_or_dash(msg.info)?;
-    Ok(line.end()?)
+    line.end()
 }
 
 /// The line of DATA.
-fn data_text(alloc: Global, msg: &DataMsg<'_>) -> Result<Vec<u8>, Memory>
+fn data_text(alloc: Global, msg: &DataMsg<'_>) -> Result<Vec<u8>, AllocError>
+    requires { IsChecked msg.now.exts.now }
     ensures { IfOk result (λ text. text.items ≡ message_line (data_of msg.now)) }
 {
     let mut line = Line::begin(alloc, b"data", msg.payload.len())?;
@@ -43,7 +48,7 @@ fn data_text(alloc: Global, msg: &DataMsg<'_>) -> Result<Vec<u8>, Memory>
     line.number(u64::from(msg.id.symbol))?;
     put_fti(&mut line, msg.exts)?;
     line.contents_or_dash(msg.payload)?;
-    Ok(line.end()?)
+    line.end()
 }
 
 /// The beginning of a command's line, with room for a list of so many octets.
@@ -93,14 +98,20 @@ fn squelch_text(
 }
 
 /// The line of REPAIR_ADV.
-fn adv_text(alloc: Global, head: &CmdHead, flags: u8, requests: &[u8]) -> Result<Vec<u8>, Memory>
+fn adv_text(
+    alloc: Global,
+    head: &CmdHead,
+    flags: u8,
+    requests: &[u8],
+) -> Result<Vec<u8>, AllocError>
+    requires { IsRequests requests.now }
     ensures { IfOk result (λ text. text.items ≡ line (codes "adv")
         (command_words head.now ++ decimal flags ∷ requests_word (requests_of requests.now) ∷ [])) }
 {
     let mut line = begin_command(alloc, b"adv", head, requests.len())?;
     line.number(u64::from(flags))?;
     put_requests(&mut line, requests)?;
-    Ok(line.end()?)
+    line.end()
 }
 
 /// The line of ACK_REQ.
@@ -138,7 +149,8 @@ fn opaque_text(alloc: Global, head: &CmdHead, sub_type: u8) -> Result<Vec<u8>, A
 }
 
 /// The line of a command.
-fn command_text(alloc: Global, msg: &CommandMsg<'_>) -> Result<Vec<u8>, Memory>
+fn command_text(alloc: Global, msg: &CommandMsg<'_>) -> Result<Vec<u8>, AllocError>
+    requires { IsWholeCommand msg.now }
     ensures { IfOk result (λ text. text.items ≡ message_line (command_of msg.now)) }
 {
     match msg {
@@ -153,9 +165,9 @@ fn command_text(alloc: Global, msg: &CommandMsg<'_>) -> Result<Vec<u8>, Memory>
                 object: *object,
                 id: *id,
             };
-            Ok(flush_text(alloc, head, symbol, nodes)?)
+            flush_text(alloc, head, symbol, nodes)
         }
-        CommandMsg::Eot { head, .. } => Ok(eot_text(alloc, head)?),
+        CommandMsg::Eot { head, .. } => eot_text(alloc, head),
         CommandMsg::Squelch {
             head,
             object,
@@ -167,7 +179,7 @@ fn command_text(alloc: Global, msg: &CommandMsg<'_>) -> Result<Vec<u8>, Memory>
                 object: *object,
                 id: *id,
             };
-            Ok(squelch_text(alloc, head, symbol, invalid)?)
+            squelch_text(alloc, head, symbol, invalid)
         }
         CommandMsg::RepairAdv {
             head,
@@ -181,13 +193,14 @@ fn command_text(alloc: Global, msg: &CommandMsg<'_>) -> Result<Vec<u8>, Memory>
             ack_id,
             nodes,
             ..
-        } => Ok(ackreq_text(alloc, head, *ack_type, *ack_id, nodes)?),
-        CommandMsg::Opaque { head, sub_type, .. } => Ok(opaque_text(alloc, head, *sub_type)?),
+        } => ackreq_text(alloc, head, *ack_type, *ack_id, nodes),
+        CommandMsg::Opaque { head, sub_type, .. } => opaque_text(alloc, head, *sub_type),
     }
 }
 
 /// The line of NACK.
-fn nack_text(alloc: Global, msg: &NackMsg<'_>) -> Result<Vec<u8>, Memory>
+fn nack_text(alloc: Global, msg: &NackMsg<'_>) -> Result<Vec<u8>, AllocError>
+    requires { IsWholeNack msg.now }
     ensures { IfOk result (λ text. text.items ≡ message_line (nack_of msg.now)) }
 {
     let mut line = Line::begin(alloc, b"nack", msg.requests.len())?;
@@ -199,7 +212,7 @@ fn nack_text(alloc: Global, msg: &NackMsg<'_>) -> Result<Vec<u8>, Memory>
         msg.instance,
     )?;
     put_requests(&mut line, msg.requests)?;
-    Ok(line.end()?)
+    line.end()
 }
 
 /// Puts what an acknowledgement holds.
@@ -244,7 +257,8 @@ fn report_text(alloc: Global, source: u32, sequence: u16) -> Result<Vec<u8>, All
 }
 
 /// The line of a message.
-pub(crate) fn message_text(alloc: Global, msg: &Message<'_>) -> Result<Vec<u8>, Memory>
+pub(crate) fn message_text(alloc: Global, msg: &Message<'_>) -> Result<Vec<u8>, AllocError>
+    requires { IsWhole msg.now }
     ensures { IfOk result (λ text. text.items ≡ message_line (message_of msg.now)) }
 {
     match msg {
@@ -252,12 +266,12 @@ pub(crate) fn message_text(alloc: Global, msg: &Message<'_>) -> Result<Vec<u8>, 
         Message::Data(m) => data_text(alloc, m),
         Message::Command(m) => command_text(alloc, m),
         Message::Nack(m) => nack_text(alloc, m),
-        Message::Ack(m) => Ok(ack_text(alloc, m)?),
+        Message::Ack(m) => ack_text(alloc, m),
         Message::Report {
             source,
             sequence,
             ..
-        } => Ok(report_text(alloc, source.number(), *sequence)?),
+        } => report_text(alloc, source.number(), *sequence),
     }
 }
 

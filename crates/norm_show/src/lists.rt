@@ -1,14 +1,14 @@
 //! The words of lists: node ids, objects, repair requests and their items.
 
-ghost use Rattle.std.specs.Prelude.{◌≡◌, ◌≤◌, OnOk, map, length, slice_get, Some};
+ghost use Rattle.std.specs.Prelude.{◌≡◌, OnOk, map};
 ghost use Rattle.norm_ext.specs.Lists.{nodes_of, objects_of};
 ghost use Rattle.norm_ext.specs.Requests.{requests_of as all_requests, items_named, IsRequests};
 ghost use Rattle.norm_ext.specs.RequestView.{request_of};
 ghost use Rattle.norm_text.specs.Words.{with_piece, with_word, joined, numbers_word};
 ghost use Rattle.norm_show.specs.Words.{item_word, request_word, requests_word};
 
-use norm_base::Memory;
-use norm_ext::{Item, Request, check_requests, read_16, read_32, read_name, requests_of};
+use norm_ext::items::split_item;
+use norm_ext::{Item, Request, read_16, read_32, requests_of};
 use norm_text::Line;
 use std::alloc::AllocError;
 
@@ -16,8 +16,6 @@ use std::alloc::AllocError;
 const NODE: usize = 4;
 /// The octets of an object transport id.
 const OBJECT: usize = 2;
-/// The octets of an item.
-const ITEM: usize = 8;
 
 /// Puts node ids joined by commas, or a dash.
 pub(crate) fn put_nodes(line: &mut Line, list: &[u8]) -> Result<(), AllocError>
@@ -51,17 +49,6 @@ pub(crate) fn put_objects(line: &mut Line, list: &[u8]) -> Result<(), AllocError
     Ok(())
 }
 
-/// The item at the front of octets.
-fn first_item(octets: &[u8]) -> Item
-    requires { 8 ≤ length octets.now }
-    ensures { slice_get (items_named octets.now) 0 ≡ Some result }
-{
-    Item {
-        object: read_16(octets, 2),
-        id: read_name(octets, 4),
-    }
-}
-
 /// Puts an item of a request behind a separator.
 fn put_item(line: &mut Line, by: u8, item: Item) -> Result<(), AllocError>
     ensures { OnOk result (line.new ≡ with_piece by line.old (item_word item)) }
@@ -78,14 +65,14 @@ fn put_item(line: &mut Line, by: u8, item: Item) -> Result<(), AllocError>
 fn put_items(line: &mut Line, items: &[u8]) -> Result<(), AllocError>
     ensures { OnOk result (line.new ≡ with_piece 58 line.old (joined 43 (map item_word (items_named items.now)))) }
 {
-    if items.len() < ITEM {
+    let Some((first, behind)) = split_item(items) else {
         return line.piece(b':', b"");
-    }
-    put_item(line, b':', first_item(items))?;
-    let mut rest = items.split_at(ITEM).1;
-    'items: while rest.len() >= ITEM {
-        put_item(line, b'+', first_item(rest))?;
-        rest = rest.split_at(ITEM).1;
+    };
+    put_item(line, b':', first)?;
+    let mut rest = behind;
+    'items: while let Some((item, behind)) = split_item(rest) {
+        put_item(line, b'+', item)?;
+        rest = behind;
     }
     Ok(())
 }
@@ -101,7 +88,7 @@ fn put_request(line: &mut Line, by: u8, request: &Request<'_>) -> Result<(), All
 }
 
 /// Puts the words of a list of whole requests, joined by commas, or a dash.
-fn put_whole_requests(line: &mut Line, list: &[u8]) -> Result<(), AllocError>
+pub(crate) fn put_requests(line: &mut Line, list: &[u8]) -> Result<(), AllocError>
     requires { IsRequests list.now }
     ensures { OnOk result (line.new ≡ with_word line.old (requests_word (all_requests list.now))) }
 {
@@ -114,15 +101,4 @@ fn put_whole_requests(line: &mut Line, list: &[u8]) -> Result<(), AllocError>
         put_request(line, b',', &request)?;
     }
     Ok(())
-}
-
-/// Puts the words of a list of requests, joined by commas, or a dash. Requests that a message lends are whole, so none is
-/// refused.
-pub(crate) fn put_requests(line: &mut Line, list: &[u8]) -> Result<(), Memory>
-    ensures { OnOk result (line.new ≡ with_word line.old (requests_word (all_requests list.now))) }
-{
-    match check_requests(list, 0) {
-        Ok(()) => Ok(put_whole_requests(line, list)?),
-        Err(_) => Err(Memory),
-    }
 }

@@ -1,11 +1,11 @@
 //! The words that messages share.
 
 ghost use Rattle.std.specs.Prelude.{◌≡◌, ◌∷◌, [], decimal, OnOk};
-ghost use Rattle.norm_ext.specs.Extensions.{extensions_of};
+ghost use Rattle.norm_ext.specs.Extensions.{extensions_of, IsChecked};
 ghost use Rattle.norm_text.specs.Words.{with_word, with_words};
 ghost use Rattle.norm_show.specs.Words.{sizes_word, command_words, object_words, receiver_words, symbol_words, plan_word, fti_word};
 
-use norm_base::{InstanceId, Memory, NodeId};
+use norm_base::{InstanceId, NodeId};
 use norm_ext::{CmdHead, Extensions, Fti, Item, ObjHead, read_fti};
 use norm_text::Line;
 use std::alloc::AllocError;
@@ -92,16 +92,21 @@ fn put_plan(line: &mut Line, fti: Fti) -> Result<(), AllocError>
     )
 }
 
-/// Puts what the transmission information among a message's extensions says, or a dash. Extensions that a message lends are
-/// whole, so none is refused.
-pub(crate) fn put_fti(line: &mut Line, exts: &[u8]) -> Result<(), Memory>
+/// The extensions of a list of whole ones.
+fn extensions_in(exts: &[u8]) -> Extensions<'_>
+    requires { IsChecked exts.now }
+    ensures { result ≡ extensions_of exts.now }
+{
+    Extensions::check(exts).unwrap()
+}
+
+/// Puts what the transmission information among a message's whole extensions says, or a dash.
+pub(crate) fn put_fti(line: &mut Line, exts: &[u8]) -> Result<(), AllocError>
+    requires { IsChecked exts.now }
     ensures { OnOk result (line.new ≡ with_word line.old (fti_word (extensions_of exts.now))) }
 {
-    let Ok(extensions) = Extensions::check(exts) else {
-        return Err(Memory);
-    };
-    match read_fti(extensions) {
-        Some(fti) => Ok(put_plan(line, fti)?),
-        None => Ok(line.word(b"-")?),
+    match read_fti(extensions_in(exts)) {
+        Some(fti) => put_plan(line, fti),
+        None => line.word(b"-"),
     }
 }

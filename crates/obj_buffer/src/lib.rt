@@ -12,6 +12,3 @@ mod symbol;
 pub use crate::buffer::ObjectBuf;
 pub use crate::codes::Codes;
 pub use crate::symbol::symbol_of;
-
-#[cfg(test)]
-mod tests;

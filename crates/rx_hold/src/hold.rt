@@ -86,7 +86,7 @@ impl Hold {
     /// `Memory` where memory runs out.
     pub fn new(alloc: Global, profile: &Profile) -> Result<Hold, Memory>
         ensures empty { IfOk result (λ hold. hold ≡ empty_hold profile.now) }
-        ensures begun { IfOk result (λ hold. (node : ℕ) (instance : Option ℕ) (gone : List ℕ) (sequence : ℕ) → Stands hold (knowing_nothing node instance gone sequence)) }
+        ensures begun { IfOk result (λ hold. (node : ℕ) (instance : Option ℕ) (sequence : ℕ) → Stands hold (knowing_nothing node instance sequence)) }
     {
         let mut ring = VecDeque::with_capacity(alloc, PLACES)?;
         fill(&mut ring);
@@ -108,7 +108,7 @@ impl Hold {
     /// All is forgotten, as the receiver enters another instance. It takes no memory.
     pub fn clear(&mut self)
         ensures empty { self.new ≡ empty_hold self.old.p }
-        ensures begun { (node : ℕ) (instance : Option ℕ) (gone : List ℕ) (sequence : ℕ) → Stands self.new (knowing_nothing node instance gone sequence) }
+        ensures begun { (node : ℕ) (instance : Option ℕ) (sequence : ℕ) → Stands self.new (knowing_nothing node instance sequence) }
     {
         self.front.ring.clear();
         fill(&mut self.front.ring);

@@ -7,8 +7,9 @@ use Rattle.norm_order.specs.First.{first_where}
 use Rattle.norm_order.specs.Entries.{Part, Object, Whole, Stream, Entry}
 use Rattle.norm_order.specs.Shapes.{Shape, shape_of}
 use Rattle.norm_send_rules.specs.SenderState.{SenderState}
+use Rattle.norm_send_rules.specs.InWindow.{last_index}
 use Rattle.norm_send_rules.specs.Room.{can_make_room}
-use Rattle.norm_send_rules.specs.Enqueuing.{object_fault, open_stream, open_parts, last_index, info_length, ids_spent}
+use Rattle.norm_send_rules.specs.Enqueuing.{object_fault, open_stream, open_parts, info_length, ids_spent}
 use Rattle.norm_send_rules.specs.declared.fault.EnqueueFault.{EnqueueFault}
 use Rattle.norm_send_rules.specs.declared.fault.EnqueueFault.TheVariants.{Empty, TooBig, InfoTooBig, StreamOpen, IdsSpent, WindowFull}
 use Rattle.tx_window.specs.Taking.{size_fault}

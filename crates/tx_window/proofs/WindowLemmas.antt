@@ -97,7 +97,7 @@ some_receivers : (p : Settings) (n : ℕ) → 1 ≤ n → 0 < length (receivers_
 some_receivers p zero some = absurd (omega arith)
 some_receivers p (suc i) some = omega (arith, length-append (receivers_of p i) ((p.sender + 1 + i) ∷ []))
 
-pub begins : (p : Settings) → 1 ≤ p.receivers → Stands (empty_window p) (sender_opening p)
+pub begins : (p : Settings) → 1 ≤ p.receivers → (instance : ℕ) → Stands (empty_window p) (sender_opening p instance)
 unfolding last_from is_member
 begins p some = record {
   dropped = refl;

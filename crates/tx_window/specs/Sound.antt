@@ -85,6 +85,6 @@ pub record IsSoundWindow (w : Inside) : Type 0 where
   pub placed : (i : ℕ) (h : HeldObject) → slice_get w.held.items i ≡ Some h → IsPlaced w.ring w.profile h
   pub filling : (h : HeldObject) → w.begun ≡ Some h → IsFilling w.ring w.profile w.filled h
   pub room : (h : HeldObject) → w.begun ≡ Some h → (length w.held.items < deque_capacity w.held) × (length w.lengths.items < vec_capacity w.lengths)
-  pub counted : w.dropped + length (all_kept w) ≤ 65536
+  pub counted : w.dropped + length (all_kept w) ≤ 4294967295
   pub numbered : length w.lengths.items ≡ w.dropped + length w.held.items
   pub sized : (i l : ℕ) → slice_get w.lengths.items i ≡ Some l → (1 ≤ l) × (l ≤ 16777216)

@@ -9,6 +9,3 @@ mod ring;
 mod window;
 
 pub use crate::window::Window;
-
-#[cfg(test)]
-mod tests;

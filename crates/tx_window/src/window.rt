@@ -27,13 +27,11 @@ use crate::held::{Held, plan_of};
 use crate::ring::Ring;
 use fec_plan::{Position, reached_by};
 use norm_base::{Datagram, Kind, Memory, Mode, Octets, Profile};
+use norm_ext::LAST_INDEX;
 use norm_send_rules::EnqueueFault;
 use std::alloc::Global;
 use std::collections::VecDeque;
 use std::marker::Model;
-
-/// How many objects an instance has transport ids for.
-const MOST_OBJECTS: u32 = 65_536;
 
 /// The window of a sender. All its octets lie in one ring, made once.
 ///
@@ -175,7 +173,7 @@ impl Window {
     /// `Memory` where memory runs out.
     pub fn new(alloc: Global, profile: &Profile) -> Result<Window, Memory>
         ensures empty { IfOk result (λ window. window ≡ empty_window profile.now) }
-        ensures begun { IfOk result (λ window. Stands window (sender_opening profile.now)) }
+        ensures begun { IfOk result (λ window. (instance : ℕ) → Stands window (sender_opening profile.now instance)) }
     {
         let e = u64::from(profile.e);
         let slots = u64::from(profile.octets) / e + u64::from(profile.window);
@@ -282,12 +280,12 @@ impl Window {
         ensures exact { (s : SenderState) (name : Option (List ℕ)) (octets : List ℕ) → Stands self.now s → info_length name ≡ info
             → length octets ≡ len → result ≡ object_fault self.now.p s name octets }
         ensures memory { result ≡ Some EnqueueMemory → ⊥ }
-        ensures free { result ≡ None → (1 ≤ len) × (len ≤ self.now.p.octets) × (len ≤ 16777216) × (self.now.dropped + length self.now.objects < 65536) }
+        ensures free { result ≡ None → (1 ≤ len) × (len ≤ self.now.p.octets) × (len ≤ 16777216) × (self.now.dropped + length self.now.objects < 4294967295) }
     {
         if let Some(fault) = size_fault(&self.profile, info, len) {
             return Some(fault);
         }
-        if self.next_index() >= MOST_OBJECTS {
+        if self.next_index() > LAST_INDEX {
             return Some(EnqueueFault::IdsSpent);
         }
         if !self.can_make_room(len as u32) {

@@ -1,10 +1,10 @@
-use Rattle.std.proofs.Common.{◌≡◌, map, None, length}
+use Rattle.std.proofs.Common.{◌≡◌, None, length}
 use Rattle.norm_ext.specs.Requests.{items_named}
-use Rattle.nack_union.specs.Earliest.{least_with, item_index}
+use Rattle.nack_union.specs.Earliest.{least_with, firsts, items_spans}
 use Rattle.nack_union.proofs.earliest.least_of_items.Given as goal
 
 abbrev pub invariant-items : goal.invariant-items
-invariant-items l = least_with l.least (map (item_index l.profile) (items_named l.rest)) ≡ least_with None (map (item_index l.profile) (items_named l.items))
+invariant-items l = least_with l.least (firsts (items_spans l.profile l.known (items_named l.rest))) ≡ least_with None (firsts (items_spans l.profile l.known (items_named l.items)))
 
 abbrev pub decreases-items : goal.decreases-items
 decreases-items l = length (items_named l.rest)

@@ -8,4 +8,4 @@ abbrev pub invariant-items : goal.invariant-items
 invariant-items l = with_pieces 43 l.line (map item_word (items_named l.rest)) ≡ with_piece 58 l.fn.line (joined 43 (map item_word (items_named l.fn.items)))
 
 abbrev pub decreases-items : goal.decreases-items
-decreases-items l = length l.rest
+decreases-items l = length (items_named l.rest)

@@ -17,6 +17,6 @@ pub returns-clause-begun : goal.returns-clause-begun
 returns-clause-begun c = begins c
 
 pub returns-clause-stands : goal.returns-clause-stands
-returns-clause-stands c = λ p nodes.
+returns-clause-stands c = λ p instance nodes.
     stands_by (begun_book c.args.nodes.now) _ _ (ap (λ (b : Booked). b.listings) (begins c)) (ap (λ (b : Booked). b.requests) (begins c)) (ap (λ (b : Booked). b.untold_nodes) (begins c))
     (record { listings = ap (map unlisted_node) nodes; requests = refl; nodes = refl; marks = refl })

@@ -1,4 +1,5 @@
-use Rattle.std.proofs.Common.{◌≡◌}
+use Rattle.std.proofs.Common.{◌≡◌, map}
+use Rattle.norm_ext.specs.Asking.{named}
 use Rattle.nack_union.specs.Kept.{Kept}
 use Rattle.nack_union.specs.Earliest.{earliest_with}
 use Rattle.nack_union.specs.More.{HasPart, requests_part}
@@ -6,6 +7,6 @@ use Rattle.nack_union.proofs.union.Union.ask_requests.Given as goal
 
 abbrev pub invariant-requests : goal.invariant-requests
 invariant-requests l = record {
-  asked : (u : Kept) → HasPart (requests_part l.profile l.request-iterator) l.self u → HasPart (requests_part l.profile l.initial.request-iterator) l.initial.self u;
-  least : earliest_with l.profile l.earliest l.request-iterator ≡ earliest_with l.profile l.initial.earliest l.initial.request-iterator;
+  asked : (u : Kept) → HasPart (requests_part (map (named l.profile l.known) l.request-iterator)) l.self u → HasPart (requests_part (map (named l.profile l.known) l.initial.request-iterator)) l.initial.self u;
+  least : earliest_with l.earliest (map (named l.profile l.known) l.request-iterator) ≡ earliest_with l.initial.earliest (map (named l.profile l.known) l.initial.request-iterator);
 }

@@ -77,8 +77,8 @@ returns-clause-rules c = λ p s r st col. (
   c.is_below-early.ensures
       ∙ ap (λ (u : Kept). is_below_first u.earliest u.first) c.self.view_is
       ∙ ap (λ (o : Option ℕ). is_below_first o c.args.self.now.first) col.earliest
-      ∙ ap (is_below_first (earliest_with p None (map (λ (a : Asked). a.request) r.asked))) st.first
-      ∙ early_is p s.current.drop r.asked st.whole,
+      ∙ ap (is_below_first (earliest_with None (map (λ (a : Asked). a.request) r.asked))) st.first
+      ∙ early_is s.current.drop r.asked st.whole,
 )
 
 pub returns-clause-begun : goal.returns-clause-begun

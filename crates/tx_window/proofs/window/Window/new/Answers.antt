@@ -16,12 +16,12 @@ abbrev with_objects : Settings → List WindowObject → List ℕ → Windowed
 with_objects p os ls = record { p = p; dropped = 0; objects = os; lengths = ls; filling = None; last = None; past = None }
 
 pub returns-clause-begun : goal.returns-clause-begun
-returns-clause-begun c =
-    subst (λ (w : Windowed). Stands w (sender_opening c.args.profile.now))
+returns-clause-begun c = λ instance.
+    subst (λ (w : Windowed). Stands w (sender_opening c.args.profile.now instance))
     (sym (ap (λ (p : Settings). with_objects p (map (window_object c.in_ok-ring.ring) c.in_ok-held.held.items) c.new-2.result.items) c.profile.view_is
     ∙ ap (λ (hs : List HeldObject). with_objects c.args.profile.now (map (window_object c.in_ok-ring.ring) hs) c.new-2.result.items) c.in_ok-held.ensures.items
     ∙ ap (λ (ls : List ℕ). with_objects c.args.profile.now [] ls) c.new-2.ensures.items))
-    (begins c.args.profile.now (subst (λ (p : Settings). 1 ≤ p.receivers) c.profile.view_is c.profile.invariant.receivers.0))
+    (begins c.args.profile.now (subst (λ (p : Settings). 1 ≤ p.receivers) c.profile.view_is c.profile.invariant.receivers.0) instance)
 
 pub invariant_of-result-2 : goal.invariant_of-result-2
 invariant_of-result-2 c =

@@ -1,0 +1,20 @@
+use Rattle.std.proofs.Common.{ℕ, subst, ◌∙◌, Option}
+use Rattle.norm_send_rules.specs.Sending.{noted}
+use Rattle.norm_send_rules.specs.declared.want.Want.TheVariants.{Symbol}
+use Rattle.tx_window.specs.Asked.{AnswersAt}
+use Rattle.tx_window.proofs.StandingLemmas.{may_note}
+use Rattle.part_tests.proofs.tx_window_tests.Standing.send.Goals as goal
+
+pub note_sent-requires-clause-block : goal.note_sent-requires-clause-block
+note_sent-requires-clause-block c =
+    let w = c.self.inside.window in
+    let s = c.self.invariant.state in
+    (may_note w s c.args.at c.clear.new.self c.symbol.new.out c.in-Some.octets c.self.invariant.stands
+    (subst (λ (r : Option ℕ). AnswersAt w.p s c.args.at c.clear.new.self c.symbol.new.out r) c.in-Some.is (c.symbol.ensures s c.self.invariant.stands))).1
+
+pub invariant_of-self : goal.invariant_of-self
+invariant_of-self c = record {
+  state = noted (Symbol c.args.at) c.self.invariant.state;
+  stands = c.note_sent.ensures.stands c.self.invariant.state c.self.invariant.stands;
+  filling = c.note_sent.ensures.filling ∙ c.self.invariant.filling;
+}

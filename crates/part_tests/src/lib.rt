@@ -1,0 +1,11 @@
+//! Tests of the parts of a sender: what a window sends, and what is asked for and acknowledged. A module for each crate.
+#![tactic(auto)]
+
+#[cfg(test)]
+mod mark_book_tests;
+#[cfg(test)]
+mod nack_union_tests;
+#[cfg(test)]
+mod obj_buffer_tests;
+#[cfg(test)]
+mod tx_window_tests;

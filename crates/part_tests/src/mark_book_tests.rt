@@ -1,0 +1,236 @@
+//! Books over one receiver and over three: what each call answers, what is told and in which order, and what a restart leaves.
+
+use fec_plan::Position;
+use mark_book::Book;
+use norm_base::{Memory, NodeId};
+use norm_send_rules::{MarkFault, News, Outcome};
+use std::alloc::Global;
+use std::process::Abort;
+
+/// A symbol of an object's first block: the object's index and the symbol.
+type At = (u32, u8);
+
+fn position(at: At) -> Position {
+    let (index, symbol) = at;
+    Position {
+        index,
+        block: 0,
+        symbol,
+    }
+}
+
+/// A call of a book, with what it has to answer. A node is its number, and a request is its number.
+#[derive(Clone, Copy)]
+enum Call {
+    /// A request up to a position.
+    Request(Option<At>, Result<u32, MarkFault>),
+    Ack(u32, At),
+    Expire(u32),
+    CutAll,
+    Outcome(u32, Option<Outcome>),
+    /// A node that a request waits for, by its place among them.
+    Pending(u32, u32, Option<u32>),
+    Past(u32, Option<At>),
+    Least(Option<At>),
+    Oldest(Option<u32>),
+    Position(u32, Option<At>),
+    /// What is told is that a node is past a position.
+    TellsPast(u32, At),
+    TellsDone(u32, Outcome),
+    TellsNothing,
+}
+
+fn request(book: &mut Book, at: Option<At>) -> Result<u32, MarkFault> {
+    book.request(at.map(position))
+}
+
+fn ack(book: &mut Book, node: NodeId, at: At) {
+    book.ack(node, position(at));
+}
+
+fn expire(book: &mut Book, mark: u32) {
+    book.expire(mark);
+}
+
+fn cut_all(book: &mut Book) {
+    book.cut_all();
+}
+
+fn outcome(book: &Book, mark: u32) -> Option<Outcome> {
+    book.outcome(mark)
+}
+
+fn pending(book: &Book, mark: u32, place: u32) -> Option<NodeId> {
+    book.pending(mark, place)
+}
+
+fn past(book: &Book, node: NodeId) -> Option<Position> {
+    book.past(node)
+}
+
+fn least(book: &Book) -> Option<Position> {
+    book.least()
+}
+
+fn oldest(book: &Book) -> Option<u32> {
+    book.oldest()
+}
+
+fn position_of(book: &Book, mark: u32) -> Option<Position> {
+    book.position(mark)
+}
+
+fn news(book: &mut Book) -> Option<News> {
+    book.news()
+}
+
+/// The member with this id.
+fn node(rt: &impl Abort, n: u32) -> NodeId {
+    NodeId::of(n).expect(rt, "a member's id")
+}
+
+/// Whether what is asked of a book is answered so.
+fn is_answered(rt: &impl Abort, book: &Book, call: Call) -> bool {
+    match call {
+        Call::Outcome(mark, answer) => outcome(book, mark) == answer,
+        Call::Pending(mark, place, answer) => {
+            pending(book, mark, place).map(|node| node.number()) == answer
+        }
+        Call::Past(n, answer) => past(book, node(rt, n)) == answer.map(position),
+        Call::Least(answer) => least(book) == answer.map(position),
+        Call::Oldest(answer) => oldest(book) == answer,
+        Call::Position(mark, answer) => position_of(book, mark) == answer.map(position),
+        _ => false,
+    }
+}
+
+/// Whether a book does what the call says.
+fn does(rt: &impl Abort, book: &mut Book, call: Call) -> bool {
+    match call {
+        Call::Request(at, answer) => request(book, at) == answer,
+        Call::Ack(n, at) => {
+            ack(book, node(rt, n), at);
+            true
+        }
+        Call::Expire(mark) => {
+            expire(book, mark);
+            true
+        }
+        Call::CutAll => {
+            cut_all(book);
+            true
+        }
+        Call::TellsPast(n, at) => {
+            let node = node(rt, n);
+            let at = position(at);
+            news(book) == Some(News::Past { node, at })
+        }
+        Call::TellsDone(mark, outcome) => news(book) == Some(News::Done { mark, outcome }),
+        Call::TellsNothing => news(book).is_none(),
+        _ => is_answered(rt, book, call),
+    }
+}
+
+/// A book over these nodes.
+fn book_over(rt: &impl Abort, alloc: Global, nodes: &[NodeId]) -> Book {
+    assert!(rt; 1 <= nodes.len() && nodes.len() <= 16);
+    match Book::new(alloc, nodes) {
+        Ok(book) => book,
+        Err(Memory) => panic!(rt; "no memory for a book"),
+    }
+}
+
+/// Makes calls in their order, and sees what each answers.
+fn play(rt: &impl Abort, book: &mut Book, calls: &[Call]) {
+    for (place, call) in calls.iter().enumerate() {
+        let is_so = does(rt, book, *call);
+        assert!(rt; is_so, "call {place}");
+    }
+}
+
+/// A request is satisfied once its one receiver is past it; another node is of no account.
+const ONE: [Call; 13] = [
+    Call::Request(None, Err(MarkFault::NothingEnqueued)),
+    Call::Request(Some((0, 0)), Ok(1)),
+    Call::Outcome(1, Some(Outcome::Open { left: 1 })),
+    Call::Pending(1, 0, Some(2)),
+    Call::Ack(2, (0, 0)),
+    Call::Outcome(1, Some(Outcome::Satisfied)),
+    Call::Pending(1, 0, None),
+    Call::Request(Some((0, 0)), Ok(2)),
+    Call::Outcome(2, Some(Outcome::Satisfied)),
+    Call::Ack(9, (7, 0)),
+    Call::Past(9, None),
+    Call::Least(Some((0, 0))),
+    Call::Outcome(3, None),
+];
+
+/// Behind these, and sixteen more up to an object that comes later.
+const FULL: [Call; 4] = [
+    Call::Request(Some((1, 0)), Err(MarkFault::TooMany { count: 16 })),
+    Call::Oldest(Some(3)),
+    Call::Position(18, Some((1, 0))),
+    Call::Outcome(19, None),
+];
+
+#[test]
+fn a_request_is_satisfied_once_its_one_receiver_is_past_it(rt: HostRuntime) {
+    let (first, last) = (ONE, FULL);
+    let mut book = book_over(&rt, rt.alloc(), &[node(&rt, 2)]);
+    play(&rt, &mut book, &first);
+    for mark in 3..19u32 {
+        play(&rt, &mut book, &[Call::Request(Some((1, 0)), Ok(mark))]);
+    }
+    play(&rt, &mut book, &last);
+}
+
+/// Over receivers 5, 2 and 3: listings are told before outcomes, in order of node, each with its latest position and once.
+const TOLD: [Call; 16] = [
+    Call::Request(Some((1, 3)), Ok(1)),
+    Call::Request(Some((0, 1)), Ok(2)),
+    Call::Ack(5, (0, 1)),
+    Call::Outcome(2, Some(Outcome::Open { left: 2 })),
+    Call::Ack(5, (1, 3)),
+    Call::Ack(5, (0, 0)),
+    Call::Ack(2, (2, 0)),
+    Call::Least(None),
+    Call::Outcome(1, Some(Outcome::Open { left: 1 })),
+    Call::Ack(3, (1, 3)),
+    Call::TellsPast(2, (2, 0)),
+    Call::TellsPast(3, (1, 3)),
+    Call::TellsPast(5, (1, 3)),
+    Call::TellsDone(1, Outcome::Satisfied),
+    Call::TellsDone(2, Outcome::Satisfied),
+    Call::TellsNothing,
+];
+
+#[test]
+fn listings_are_told_before_outcomes_and_each_change_once(rt: HostRuntime) {
+    let calls = TOLD;
+    let nodes = [node(&rt, 5), node(&rt, 2), node(&rt, 3)];
+    let mut book = book_over(&rt, rt.alloc(), &nodes);
+    play(&rt, &mut book, &calls);
+}
+
+/// Over receivers 2 and 3: a restart cuts open requests and forgets listings.
+const RESTARTED: [Call; 12] = [
+    Call::Request(Some((0, 0)), Ok(1)),
+    Call::Request(Some((4, 0)), Ok(2)),
+    Call::Ack(3, (0, 0)),
+    Call::Expire(1),
+    Call::Expire(1),
+    Call::CutAll,
+    Call::Past(3, None),
+    Call::Request(Some((0, 0)), Ok(3)),
+    Call::Oldest(Some(3)),
+    Call::TellsDone(1, Outcome::Expired { left: 1 }),
+    Call::TellsDone(2, Outcome::Cut),
+    Call::TellsNothing,
+];
+
+#[test]
+fn a_restart_cuts_requests_and_forgets_listings(rt: HostRuntime) {
+    let calls = RESTARTED;
+    let mut book = book_over(&rt, rt.alloc(), &[node(&rt, 2), node(&rt, 3)]);
+    play(&rt, &mut book, &calls);
+}

@@ -1,0 +1,431 @@
+//! Objects that are taken in, sent, dropped and refused, and one that goes round the ring's end.
+
+use fec_plan::Position;
+use norm_base::{Datagram, Given, Key, Kind, Memory, Mode, Octets, Profile};
+use norm_send_rules::EnqueueFault;
+use std::alloc::Global;
+use std::marker::Model;
+use std::process::Abort;
+use std::test::Fail;
+use tx_window::Window;
+
+/// A window that stands for some state of a sender, so that what it answers can be noted as sent.
+#[derive(Drop)]
+struct Standing {
+    window: Window,
+    e: usize,
+}
+
+impl Model for Standing {
+    ghost use Rattle.tx_window.specs.Windowed.{Windowed};
+    ghost use Rattle.tx_window.specs.Standing.{IsStanding};
+
+    ghost Value = { Windowed };
+
+    ghost view = { λ s. s.window };
+
+    ghost invariant = { λ s. IsStanding s.window };
+}
+
+impl Standing {
+    fn new(alloc: Global, profile: &Profile) -> Result<Standing, Memory> {
+        Ok(Standing {
+            window: Window::new(alloc, profile)?,
+            e: usize::from(profile.e),
+        })
+    }
+
+    /// The index of an object, or why it is refused.
+    fn enqueue(
+        &mut self,
+        kind: Kind,
+        info: Option<Octets>,
+        bytes: Octets,
+    ) -> Result<u32, EnqueueFault> {
+        match self.window.enqueue(kind, info, bytes) {
+            Ok(index) => Ok(index),
+            Err((_, fault)) => Err(fault),
+        }
+    }
+
+    /// Sends a symbol: it is the datagram, and noted as sent.
+    fn send(&mut self, at: Position, out: &mut Datagram) -> Option<u16> {
+        out.clear();
+        let Some(octets) = self.window.symbol(at, out) else {
+            return None;
+        };
+        self.window.note_sent(at);
+        Some(octets)
+    }
+
+    /// Sends an info, where there is one.
+    fn send_info(&mut self, index: u32) -> bool {
+        if self.window.info(index).is_none() {
+            return false;
+        }
+        self.window.note_info(index);
+        true
+    }
+
+    fn note_past(&mut self, through: Option<Position>) {
+        self.window.note_past(through);
+    }
+
+    fn is_source(&self, at: Position) -> bool {
+        self.window.is_source(at)
+    }
+
+    fn first(&self) -> (u32, u32) {
+        self.window.first()
+    }
+
+    fn end(&self) -> Option<Position> {
+        self.window.end()
+    }
+}
+
+/// A position: the object's index, the block and the symbol.
+type At = (u32, u32, u8);
+
+fn position(at: At) -> Position {
+    let (index, block, symbol) = at;
+    Position {
+        index,
+        block,
+        symbol,
+    }
+}
+
+/// A call of a window, with what it has to answer.
+#[derive(Clone, Copy)]
+enum Step {
+    /// An object with an info of so many octets (0: without one), of so many octets.
+    Enqueue(usize, usize, Result<u32, EnqueueFault>),
+    /// A symbol is sent: how many octets it has, and the first of them.
+    Send(At, Option<(u16, u8)>),
+    /// All source symbols of an object are sent.
+    SendAll(u32),
+    SendInfo(u32, bool),
+    Past(At),
+    IsSource(At, bool),
+    First(u32),
+    End(Option<At>),
+}
+
+/// The octets of an object: 1 in all of its first symbol, 2 in the next, and so on up to 128, and again.
+fn octets_of(alloc: Global, e: usize, len: usize) -> Result<Octets, Memory> {
+    let mut octets = vec![in alloc; 0; len]?;
+    for (place, octet) in octets.iter_mut().enumerate() {
+        let symbol = place.checked_div(e).unwrap_or(0);
+        *octet = [1, 2, 4, 8, 16, 32, 64, 128][symbol % 8];
+    }
+    Ok(Octets::of(octets))
+}
+
+/// Enqueues an object with an info of so many octets, of so many octets.
+fn offer(
+    alloc: Global,
+    window: &mut Standing,
+    sizes: (usize, usize),
+) -> Result<Result<u32, EnqueueFault>, Memory> {
+    let (info, len) = sizes;
+    let name = if info == 0 {
+        None
+    } else {
+        Some(octets_of(alloc, 1, info)?)
+    };
+    let bytes = octets_of(alloc, window.e, len)?;
+    Ok(window.enqueue(Kind::File, name, bytes))
+}
+
+/// Where there was no memory for it, the same is asked again: the window is as it was.
+fn enqueued(
+    alloc: Global,
+    window: &mut Standing,
+    sizes: (usize, usize),
+) -> Result<Result<u32, EnqueueFault>, Memory> {
+    match offer(alloc, window, sizes)? {
+        Err(EnqueueFault::Memory) => offer(alloc, window, sizes),
+        answer => Ok(answer),
+    }
+}
+
+/// How many octets a symbol is sent with, and the first of them.
+fn sent(alloc: Global, window: &mut Standing, at: At) -> Result<Option<(u16, u8)>, Memory> {
+    let mut out = Datagram::new(alloc)?;
+    let octets = window.send(position(at), &mut out);
+    match (octets, out.bytes().first()) {
+        (Some(octets), Some(first)) => Ok(Some((octets, *first))),
+        _ => Ok(None),
+    }
+}
+
+fn send_all(alloc: Global, window: &mut Standing, index: u32) -> Result<(), Memory> {
+    let mut out = Datagram::new(alloc)?;
+    for block in 0..4u32 {
+        for symbol in 0..188u8 {
+            window.send(position((index, block, symbol)), &mut out);
+        }
+    }
+    Ok(())
+}
+
+/// Makes a call, and says whether it was answered so.
+fn does(alloc: Global, window: &mut Standing, step: Step) -> Result<bool, Memory> {
+    match step {
+        Step::Enqueue(info, len, answer) => Ok(enqueued(alloc, window, (info, len))? == answer),
+        Step::Send(at, answer) => Ok(sent(alloc, window, at)? == answer),
+        Step::SendAll(index) => {
+            send_all(alloc, window, index)?;
+            Ok(true)
+        }
+        Step::SendInfo(index, answer) => Ok(window.send_info(index) == answer),
+        Step::Past(at) => {
+            window.note_past(Some(position(at)));
+            Ok(true)
+        }
+        Step::IsSource(at, answer) => Ok(window.is_source(position(at)) == answer),
+        Step::First(index) => Ok(window.first() == (index, 0)),
+        Step::End(at) => Ok(window.end() == at.map(position)),
+    }
+}
+
+/// A profile with symbols, blocks and encoded symbols of these sizes, and at most so many objects and octets.
+fn profile_of(rt: &impl Abort, mode: Mode, sizes: (u32, u32, u32), most: (u32, u32)) -> Profile {
+    let (e, b, max_n) = sizes;
+    let (window, octets) = most;
+    let mut given = Given::new();
+    for (key, value) in [
+        (Key::E, e),
+        (Key::B, b),
+        (Key::MaxN, max_n),
+        (Key::Window, window),
+        (Key::Octets, octets),
+    ] {
+        given.set(key, value);
+    }
+    let profile = Profile::of(&given).expect(rt, "a profile");
+    Profile { mode, ..profile }
+}
+
+/// Makes calls in their order, of a window for symbols, blocks and encoded symbols of these sizes, and at most so many objects
+/// and octets.
+fn play(
+    rt: &impl Abort,
+    alloc: Global,
+    mode: Mode,
+    sizes: (u32, u32, u32),
+    most: (u32, u32),
+    steps: &[Step],
+) -> Result<(), Memory> {
+    let profile = profile_of(rt, mode, sizes, most);
+    let mut window = Standing::new(alloc, &profile)?;
+    for (place, step) in steps.iter().enumerate() {
+        let is_so = does(alloc, &mut window, *step)?;
+        assert!(rt; is_so, "call {place}");
+    }
+    Ok(())
+}
+
+/// A window without objects.
+const EMPTY: [Step; 5] = [
+    Step::Send((0, 0, 0), None),
+    Step::SendInfo(0, false),
+    Step::IsSource((0, 0, 0), false),
+    Step::First(0),
+    Step::End(None),
+];
+
+#[test]
+fn a_new_window_has_no_symbol(rt: HostRuntime) -> Result<(), Fail> {
+    let steps = EMPTY;
+    play(&rt, rt.alloc(), Mode::Hold, (64, 4, 6), (1, 64), &steps)?;
+    Ok(())
+}
+
+/// The first fault that applies: of no octets, of too many, of too large an info, of a full window.
+const OFFERS: [Step; 9] = [
+    Step::Enqueue(65, 0, Err(EnqueueFault::Empty)),
+    Step::Enqueue(65, 193, Err(EnqueueFault::TooBig { len: 193 })),
+    Step::Enqueue(65, 192, Err(EnqueueFault::InfoTooBig { len: 65 })),
+    Step::Enqueue(64, 128, Ok(0)),
+    Step::Enqueue(65, 65, Err(EnqueueFault::InfoTooBig { len: 65 })),
+    Step::Enqueue(0, 193, Err(EnqueueFault::TooBig { len: 193 })),
+    Step::Enqueue(0, 65, Err(EnqueueFault::WindowFull { first: 0 })),
+    Step::Enqueue(0, 64, Ok(1)),
+    Step::Enqueue(0, 1, Err(EnqueueFault::WindowFull { first: 0 })),
+];
+
+#[test]
+fn the_first_fault_counts(rt: HostRuntime) -> Result<(), Fail> {
+    let steps = OFFERS;
+    play(&rt, rt.alloc(), Mode::Hold, (64, 4, 6), (2, 192), &steps)?;
+    Ok(())
+}
+
+/// A sent object stays until every receiver is listed past it.
+const HELD: [Step; 7] = [
+    Step::Enqueue(0, 1, Ok(0)),
+    Step::Send((0, 0, 0), Some((1, 1))),
+    Step::Enqueue(0, 1, Err(EnqueueFault::WindowFull { first: 0 })),
+    Step::Past((0, 0, 0)),
+    Step::Enqueue(0, 1, Ok(1)),
+    Step::Send((0, 0, 0), None),
+    Step::Send((1, 0, 0), Some((1, 1))),
+];
+
+#[test]
+fn an_object_is_held_until_all_are_past_it(rt: HostRuntime) -> Result<(), Fail> {
+    let steps = HELD;
+    play(&rt, rt.alloc(), Mode::Hold, (64, 4, 6), (1, 64), &steps)?;
+    Ok(())
+}
+
+/// An object stays until its source symbols and its info were sent; a parity symbol that was not sent is passed over.
+const UNSENT: [Step; 10] = [
+    Step::Enqueue(3, 128, Ok(0)),
+    Step::Send((0, 0, 0), Some((64, 1))),
+    Step::Send((0, 0, 2), Some((64, 4))),
+    Step::Send((0, 0, 3), None),
+    Step::SendInfo(0, true),
+    Step::Enqueue(0, 64, Err(EnqueueFault::WindowFull { first: 0 })),
+    Step::Send((0, 0, 1), Some((64, 2))),
+    Step::Enqueue(0, 64, Ok(1)),
+    Step::SendInfo(0, false),
+    Step::Send((0, 0, 2), None),
+];
+
+#[test]
+fn an_object_is_kept_until_it_was_sent(rt: HostRuntime) -> Result<(), Fail> {
+    let steps = UNSENT;
+    play(&rt, rt.alloc(), Mode::Drop, (64, 4, 6), (1, 192), &steps)?;
+    Ok(())
+}
+
+/// An object for which two would have to go, of which one may.
+const REFUSED: [Step; 13] = [
+    Step::Enqueue(0, 64, Ok(0)),
+    Step::Enqueue(0, 64, Ok(1)),
+    Step::Enqueue(0, 64, Ok(2)),
+    Step::SendAll(0),
+    Step::SendAll(1),
+    Step::SendAll(2),
+    Step::Past((0, 0, 0)),
+    Step::Enqueue(0, 128, Err(EnqueueFault::WindowFull { first: 0 })),
+    Step::First(0),
+    Step::Send((0, 0, 0), Some((64, 1))),
+    Step::Past((1, 0, 0)),
+    Step::Enqueue(0, 128, Ok(3)),
+    Step::First(2),
+];
+
+#[test]
+fn a_refused_object_drops_nothing(rt: HostRuntime) -> Result<(), Fail> {
+    let steps = REFUSED;
+    play(&rt, rt.alloc(), Mode::Hold, (64, 4, 6), (3, 192), &steps)?;
+    Ok(())
+}
+
+/// An object of 257 octets in blocks of 3 and 2 source symbols, before and after it was dropped.
+const DROPPED: [Step; 20] = [
+    Step::Enqueue(0, 257, Ok(0)),
+    Step::Send((0, 0, 2), Some((64, 4))),
+    Step::Send((0, 0, 3), Some((64, 8))),
+    Step::Send((0, 0, 4), None),
+    Step::Send((0, 1, 1), Some((1, 16))),
+    Step::Send((0, 1, 2), Some((64, 32))),
+    Step::Send((0, 1, 3), None),
+    Step::Send((0, 2, 0), None),
+    Step::Send((1, 0, 0), None),
+    Step::SendAll(0),
+    Step::Enqueue(0, 1, Ok(1)),
+    Step::Send((0, 0, 2), None),
+    Step::IsSource((0, 0, 2), true),
+    Step::IsSource((0, 0, 3), false),
+    Step::IsSource((0, 1, 1), true),
+    Step::IsSource((0, 1, 2), false),
+    Step::IsSource((0, 2, 0), false),
+    Step::IsSource((1, 0, 0), true),
+    Step::IsSource((2, 0, 0), false),
+    Step::End(Some((1, 0, 0))),
+];
+
+#[test]
+fn a_dropped_object_keeps_its_place(rt: HostRuntime) -> Result<(), Fail> {
+    let steps = DROPPED;
+    play(&rt, rt.alloc(), Mode::Drop, (64, 4, 6), (1, 257), &steps)?;
+    Ok(())
+}
+
+/// A ring of six symbols: the second object lies in the last two and the first two.
+const ROUND: [Step; 9] = [
+    Step::Enqueue(0, 256, Ok(0)),
+    Step::SendAll(0),
+    Step::Enqueue(0, 256, Ok(1)),
+    Step::Send((1, 0, 0), Some((64, 1))),
+    Step::Send((1, 0, 1), Some((64, 2))),
+    Step::Send((1, 0, 2), Some((64, 4))),
+    Step::Send((1, 0, 3), Some((64, 8))),
+    Step::Send((1, 0, 4), Some((64, 16))),
+    Step::Send((1, 0, 5), Some((64, 32))),
+];
+
+#[test]
+fn an_object_goes_round_the_end_of_the_ring(rt: HostRuntime) -> Result<(), Fail> {
+    let steps = ROUND;
+    play(&rt, rt.alloc(), Mode::Drop, (64, 4, 6), (2, 256), &steps)?;
+    Ok(())
+}
+
+/// A ring of 1,499 symbols: the third file, of 749, lies in the last and the first 748.
+const THIRD: [Step; 13] = [
+    Step::Enqueue(0, 1_048_576, Ok(0)),
+    Step::SendAll(0),
+    Step::Past((0, 3, 186)),
+    Step::Enqueue(0, 1_048_576, Ok(1)),
+    Step::Enqueue(0, 1_048_576, Ok(2)),
+    Step::First(1),
+    Step::Send((2, 0, 0), Some((1400, 1))),
+    Step::Send((2, 0, 1), Some((1400, 2))),
+    Step::Send((2, 0, 187), Some((1400, 8))),
+    Step::Send((2, 1, 0), Some((1400, 16))),
+    Step::Send((2, 3, 186), Some((1376, 16))),
+    Step::Send((1, 0, 0), Some((1400, 1))),
+    Step::Send((1, 3, 186), Some((1376, 16))),
+];
+
+#[test]
+fn a_third_file_goes_round_the_end_of_the_ring(rt: HostRuntime) -> Result<(), Fail> {
+    let steps = THIRD;
+    play(
+        &rt,
+        rt.alloc(),
+        Mode::Hold,
+        (1400, 200, 255),
+        (2, 2_097_152),
+        &steps,
+    )?;
+    Ok(())
+}
+
+/// The largest object.
+const LARGEST: [Step; 4] = [
+    Step::Enqueue(0, 16_777_216, Ok(0)),
+    Step::Send((0, 59, 198), Some((1016, 128))),
+    Step::Send((0, 59, 253), None),
+    Step::End(Some((0, 59, 198))),
+];
+
+#[test]
+fn the_largest_object_is_taken(rt: HostRuntime) -> Result<(), Fail> {
+    let steps = LARGEST;
+    play(
+        &rt,
+        rt.alloc(),
+        Mode::Hold,
+        (1400, 200, 255),
+        (1, 16_777_216),
+        &steps,
+    )?;
+    Ok(())
+}
