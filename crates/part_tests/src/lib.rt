@@ -1,4 +1,5 @@
-//! Tests of the parts of a sender: what a window sends, and what is asked for and acknowledged. A module for each crate.
+//! Tests of the parts of a sender and of a receiver: what a window sends, what is asked for and acknowledged, and what is held
+//! until it is handed up. A module for each crate.
 #![tactic(auto)]
 
 #[cfg(test)]
@@ -7,5 +8,7 @@ mod mark_book_tests;
 mod nack_union_tests;
 #[cfg(test)]
 mod obj_buffer_tests;
+#[cfg(test)]
+mod rx_hold_tests;
 #[cfg(test)]
 mod tx_window_tests;

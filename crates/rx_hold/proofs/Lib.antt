@@ -13,7 +13,6 @@ pub mod SourceLemmas
 pub mod Covering
 pub mod DoneBlocks
 pub mod WholeLemmas
-pub mod OfferedLemmas
 pub mod RingLemmas
 pub mod PlaceLemmas
 pub mod AlikeLemmas

@@ -15,8 +15,3 @@ mod object;
 mod rows;
 
 pub use crate::hold::Hold;
-
-#[cfg(test)]
-mod hold_tests;
-#[cfg(test)]
-mod tests;
