@@ -39,11 +39,11 @@ def a_change_of_instance_forgets_hand_ups():
 
 @small
 def what_a_restart_leaves():
-    """The next send moment, the sequence number and the numbers of requests."""
-    r = Run(gap=5000).data(1, 1000, [1, 0, 1]).tick(1, 1000, [2, 0, 0, 0, 0]).job('job.Mark', 1500, [5, 1, 0, 0, 0])
+    """The next send moment, the sequence number and the numbers of watermarks."""
+    r = Run(gap=5000).data(1, 1000, [1, 0, 1]).tick(1, 1000, [2, 0, 0, 0, 0]).mark(1500, [5, 1, 0, 0, 0])
     r.job('(job.Restart 8)', 2000, [6, 8]).data(1, 3000, [1, 0, 1]).tick(1, 3000).tick(1, 5999).tick(1, 6000, [2, 0, 0, 0, 0])
     r.look('flat_map (λ (g : ℕ × Written). take 14 g.1.octets) w.given', [0x12, 8, 0, 1, 0, 0, 0, 1, 0, 8, 64, 0x41, 0, 5])
-    return r.news([22, 1, 3]).job('job.Mark', 7000, [5, 2, 0, 0, 0]).job('(job.Restart 7)', 7000, [7, 12, 7]).job('(job.Restart 8)', 7000, [7, 12, 8])
+    return r.news([22, 1, 3]).mark(7000, [5, 2, 0, 0, 0]).job('(job.Restart 7)', 7000, [7, 12, 7]).job('(job.Restart 8)', 7000, [7, 12, 8])
 
 
 @small
@@ -107,13 +107,13 @@ def direct_turn(r, t, job=None, sends=NOTHING, ups=(), answers=NOTHING):
 
 @small
 def flushes():
-    """The count begins anew with another request, the moment of the last flush does not."""
+    """The count begins anew with another watermark, the moment of the last flush does not."""
     r = Run()
     direct_turn(r, 1, lambda now: r.data(1, now, [1, 0, 1]), [2, 0, 0, 0, 0], [[41, 0, 0, 0, 0]])
-    direct_turn(r, 2, lambda now: r.job('job.Mark', now, [5, 1, 0, 0, 0]), [31, 0, 0, 0, 2], [], [5, 0, 0, 0])
+    direct_turn(r, 2, lambda now: r.mark(now, [5, 1, 0, 0, 0]), [31, 0, 0, 0, 2], [], [5, 0, 0, 0])
     direct_turn(r, 3, lambda now: r.data(1, now, [1, 1, 1]), [2, 0, 1, 0, 0], [[41, 1, 0, 0, 2]])
     r.news([21, 2, 0, 0, 0]).news([22, 1, 1]).news([20])
-    direct_turn(r, 4, lambda now: r.job('job.Mark', now, [5, 2, 1, 0, 0]))
+    direct_turn(r, 4, lambda now: r.mark(now, [5, 2, 1, 0, 0]))
     direct_turn(r, 21)
     direct_turn(r, 22, None, [31, 1, 0, 0, 2], [], [5, 1, 0, 0])
     direct_turn(r, 23)
@@ -125,7 +125,7 @@ def an_acknowledgement_of_what_was_dropped():
     """It counts where its position is a source symbol of the whole order, dropped or not."""
     r = Run(mode='drop', window=1, k=0)
     direct_turn(r, 1, lambda now: r.data(1, now, [1, 0, 1]), [2, 0, 0, 0, 0], [[41, 0, 0, 0, 0]])
-    direct_turn(r, 2, lambda now: r.job('job.Mark', now, [5, 1, 0, 0, 0]), [31, 0, 0, 0, 2], [], [5, 0, 0, 0])
+    direct_turn(r, 2, lambda now: r.mark(now, [5, 1, 0, 0, 0]), [31, 0, 0, 0, 2], [], [5, 0, 0, 0])
     r.data(1, 3000, [1, 1, 1]).drop([1, 0]).tick(1, 3000, [2, 0, 1, 0, 0]).passes(2, 1, 3000)
     return r.news([21, 2, 0, 0, 0]).news([22, 1, 1])
 
@@ -187,8 +187,8 @@ def squelch_within_a_stream():
 @small
 def a_mark_without_a_segment():
     """The position is the last closed source symbol of the whole order."""
-    r = Run().job('job.Mark', 0, [7, 10]).data(1, 0, [1, 0, 1]).job('job.Open', 0, [2, 1]).job('job.Mark', 0, [5, 1, 0, 0, 0])
-    return r.write(3, 0, [3, 1, 0, 3]).job('job.Mark', 0, [5, 2, 1, 0, 0]).job('job.Mark', 0, [5, 3, 1, 0, 0])
+    r = Run().mark(0, [7, 10]).data(1, 0, [1, 0, 1]).job('job.Open', 0, [2, 1]).mark(0, [5, 1, 0, 0, 0])
+    return r.write(3, 0, [3, 1, 0, 3]).mark(0, [5, 2, 1, 0, 0]).mark(0, [5, 3, 1, 0, 0])
 
 
 @small

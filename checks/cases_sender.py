@@ -65,8 +65,8 @@ def the_closing_moment():
 
 @small
 def expiry_waits_for_the_round():
-    """After 20 flushes nothing is sent while a round is open; then the request expires, and the next has its turn."""
-    r = Run(grtt=1000, gap=1).data(1, 0, [1, 0, 1]).tick(1, 0, [2, 0, 0, 0, 0]).job('job.Mark', 0, [5, 1, 0, 0, 0]).job('job.Mark', 0, [5, 2, 0, 0, 0])
+    """After 20 flushes nothing is sent while a round is open; then the watermark expires, and the next has its turn."""
+    r = Run(grtt=1000, gap=1).data(1, 0, [1, 0, 1]).tick(1, 0, [2, 0, 0, 0, 0]).mark(0, [5, 1, 0, 0, 0]).mark(0, [5, 2, 0, 0, 0])
     for i in range(20):
         r.tick(1, 1000 + 2000 * i, [31, 0, 0, 0, 2]).tick(1, 2999 + 2000 * i)
     r.hears(1, nack(2, request('Items', 1, (9, 0, 0))), 40000).tick(1, 41000).news([20])
@@ -76,18 +76,18 @@ def expiry_waits_for_the_round():
 @small
 def the_count_of_flushes_and_a_round():
     """A round that added a want makes it begin anew, and one that added none does not."""
-    r = Run(k=0, grtt=1, gap=1).data(1, 0, [1, 0, 1]).tick(1, 0, [2, 0, 0, 0, 0]).job('job.Mark', 0, [5, 1, 0, 0, 0])
+    r = Run(k=0, grtt=1, gap=1).data(1, 0, [1, 0, 1]).tick(1, 0, [2, 0, 0, 0, 0]).mark(0, [5, 1, 0, 0, 0])
     r.tick(1, 10, [31, 0, 0, 0, 2]).tick(1, 20, [31, 0, 0, 0, 2]).look('w.sender.flushes ∷ []', [2])
     r.hears(1, nack(2, request('Items', 1, (9, 0, 0))), 20).tick(1, 21).look('w.sender.flushes ∷ []', [2])
     return r.hears(1, nack(2, request('Items', 1, (0, 0, 0))), 21).tick(1, 22, [2, 3, 0, 0, 0]).look('w.sender.flushes ∷ []', [0])
 
 
 @small
-def a_request_that_is_satisfied_as_it_is_made():
+def a_watermark_that_is_satisfied_as_it_is_made():
     """Every receiver is listed past its position already; the one behind it waits, and its flush is the first that counts."""
     r = Run(receivers=2).data(1, 0, [1, 0, 1]).tick(1, 0, [2, 0, 0, 0, 0]).hears(1, ack(2, 0, 0, 0)).hears(1, ack(3, 0, 0, 0))
-    r.job('job.Mark', 0, [5, 1, 0, 0, 0]).news([21, 2, 0, 0, 0]).news([21, 3, 0, 0, 0]).news([22, 1, 1]).news([20]).tick(1, 1000)
-    r.data(1, 1000, [1, 1, 1]).job('job.Mark', 1000, [5, 2, 1, 0, 0]).tick(1, 1000, [2, 0, 1, 0, 0]).tick(1, 2000, [31, 1, 0, 0, 2, 3])
+    r.mark(0, [5, 1, 0, 0, 0]).news([21, 2, 0, 0, 0]).news([21, 3, 0, 0, 0]).news([22, 1, 1]).news([20]).tick(1, 1000)
+    r.data(1, 1000, [1, 1, 1]).mark(1000, [5, 2, 1, 0, 0]).tick(1, 1000, [2, 0, 1, 0, 0]).tick(1, 2000, [31, 1, 0, 0, 2, 3])
     return r.hears(1, ack(3, 1, 0, 0)).tick(1, 22000, [31, 1, 0, 0, 2]).news([21, 3, 1, 0, 0]).news([20])
 
 
@@ -95,8 +95,8 @@ def a_request_that_is_satisfied_as_it_is_made():
 def a_refused_mark_leaves_its_cut():
     r = Run().job('job.Open', 0, [2, 0]).write(64, 0, [3, 0, 0, 64])
     for i in range(16):
-        r.job('job.Mark', 0, [5, i + 1, 0, 0, 0])
-    r.write(3, 0, [3, 0, 64, 3]).job('job.Mark', 0, [7, 11, 16]).tick(1, 0, [2, 32, 0, 0, 0]).tick(1, 1000, [2, 32, 0, 0, 1])
+        r.mark(0, [5, i + 1, 0, 0, 0])
+    r.write(3, 0, [3, 0, 64, 3]).mark(0, [7, 11, 16]).tick(1, 0, [2, 32, 0, 0, 0]).tick(1, 1000, [2, 32, 0, 0, 1])
     return r.job('(job.Write [])', 1000, [7, 1]).job('(job.Data None [])', 1000, [7, 1]).tick(1, 2000, [31, 0, 0, 0, 2])
 
 
@@ -138,8 +138,8 @@ def a_restart_forgets_what_was_sent():
     def enqueues(r, now, gives):
         return r.data(1, now, gives, info='(Some (9 ∷ []))')
     r = enqueues(Run(mode='drop', window=1, k=0, grtt=1, gap=1), 0, [1, 0, 1]).tick(1, 0, [1, 4, 0]).tick(1, 1, [2, 4, 0, 0, 0])
-    r.hears(1, ack(2, 0, 0, 0)).job('job.Mark', 1, [5, 1, 0, 0, 0]).job('(job.Restart 8)', 2, [6, 8]).news([22, 1, 1]).news([20])
-    enqueues(r, 2, [1, 0, 1]).job('job.Mark', 2, [5, 2, 0, 0, 0]).news([20]).hears(1, nack(2, request('Items', 1, (0, 0, 0)), instance=8), 2)
+    r.hears(1, ack(2, 0, 0, 0)).mark(1, [5, 1, 0, 0, 0]).job('(job.Restart 8)', 2, [6, 8]).news([22, 1, 1]).news([20])
+    enqueues(r, 2, [1, 0, 1]).mark(2, [5, 2, 0, 0, 0]).news([20]).hears(1, nack(2, request('Items', 1, (0, 0, 0)), instance=8), 2)
     enqueues(r.tick(1, 3, [2, 7, 0, 0, 0]), 3, [7, 9, 0]).tick(1, 4, [1, 4, 0])
     enqueues(r.job('(job.Restart 9)', 4, [6, 9]), 4, [1, 0, 1]).tick(1, 5, [1, 4, 0])
     return enqueues(enqueues(r, 5, [7, 9, 0]).tick(1, 6, [2, 4, 0, 0, 0]), 6, [1, 1, 1])
@@ -148,20 +148,20 @@ def a_restart_forgets_what_was_sent():
 @small
 def the_first_flush_after_a_restart():
     """It waits for no flush of the instance before."""
-    r = Run().data(1, 0, [1, 0, 1]).tick(1, 0, [2, 0, 0, 0, 0]).job('job.Mark', 0, [5, 1, 0, 0, 0]).tick(1, 1000, [31, 0, 0, 0, 2])
-    r.job('(job.Restart 8)', 1000, [6, 8]).data(1, 1000, [1, 0, 1]).tick(1, 2000, [2, 0, 0, 0, 0]).job('job.Mark', 2000, [5, 2, 0, 0, 0])
+    r = Run().data(1, 0, [1, 0, 1]).tick(1, 0, [2, 0, 0, 0, 0]).mark(0, [5, 1, 0, 0, 0]).tick(1, 1000, [31, 0, 0, 0, 2])
+    r.job('(job.Restart 8)', 1000, [6, 8]).data(1, 1000, [1, 0, 1]).tick(1, 2000, [2, 0, 0, 0, 0]).mark(2000, [5, 2, 0, 0, 0])
     return r.tick(1, 3000, [31, 0, 0, 0, 2])
 
 
 @small
 def when_a_sender_is_idle():
-    """Where no squelch, want, new symbol or open round is there; an open request leaves it idle."""
+    """Where no squelch, want, new symbol or open round is there; an open watermark leaves it idle."""
     def idle(r, gives):
         return r.look('elim (is_idle PROFILE w.sender) [ true ↦ 1 ∷ [] | false ↦ 0 ∷ [] ]', [gives])
     r = idle(idle(Run(mode='drop', window=1, k=0, grtt=1), 1).data(1, 0, [1, 0, 1]), 0).tick(1, 0, [2, 0, 0, 0, 0])
     idle(idle(idle(r, 1).hears(1, nack(2, request('Items', 1, (0, 0, 0))), 10), 0).tick(1, 12), 0)
     idle(idle(r.data(1, 20, [1, 1, 1]), 0).tick(1, 1000, [33, 1, 0, 0]), 0)
-    idle(idle(r.tick(1, 2000, [2, 0, 1, 0, 0]), 1).job('job.Mark', 2000, [5, 1, 1, 0, 0]), 1)
+    idle(idle(r.tick(1, 2000, [2, 0, 1, 0, 0]), 1).mark(2000, [5, 1, 1, 0, 0]), 1)
     r.hears(1, nack(2, request('Items', 1, (0, 0, 0)), request('Items', 1, (9, 0, 0))), 2000)
     return idle(idle(r.tick(1, 2001), 0).tick(1, 3000, [33, 1, 0, 0]), 1)
 
@@ -182,3 +182,89 @@ def which_messages_a_sender_hears():
                 command('Flush', 0, 0, 0, nodes=[2]), repair_adv(request('Items', 1, (0, 0, 0))), '[]'):
         r.hears(1, bad).look(look, [NONE])
     return r.hears(1, nack(2, request('Items', 1, (0, 0, 0)))).look(look, [1])
+
+
+@small
+def a_quorum():
+    """It is from 1 to the number of receivers; a refused one cuts nothing, and is told before anything else."""
+    r = Run(receivers=2).mark(0, [7, 13, 0], quorum=0).mark(0, [7, 13, 3], quorum=3).mark(0, [7, 10], quorum=2).job('job.Open', 0, [2, 0])
+    r.write(3, 0, [3, 0, 0, 3]).mark(0, [7, 13, 0], quorum=0).mark(0, [7, 13, 3], quorum=3).tick(1, 0)
+    r.mark(0, [5, 1, 0, 0, 0], quorum=1).tick(1, 0, [2, 32, 0, 0, 0]).hears(1, ack(3, 0, 0, 0)).news([21, 3, 0, 0, 0]).news([22, 1, 1])
+    return r.news([20]).mark(0, [5, 2, 0, 0, 0], quorum=1).news([22, 2, 1]).mark(0, [5, 3, 0, 0, 0], quorum=2).news([20])
+
+
+@small
+def a_quorum_of_two():
+    """Two of three receivers satisfy it; the flushes go to all that are not listed past it."""
+    r = Run(receivers=3).data(1, 0, [1, 0, 1]).tick(1, 0, [2, 0, 0, 0, 0]).mark(0, [5, 1, 0, 0, 0], quorum=2).mark(0, [5, 2, 0, 0, 0])
+    r.tick(1, 1000, [31, 0, 0, 0, 2, 3, 4]).hears(1, ack(4, 0, 0, 0)).tick(1, 21000, [31, 0, 0, 0, 2, 3]).news([21, 4, 0, 0, 0]).news([20])
+    r.look('w.sender.flushes ∷ []', [2]).hears(1, ack(2, 0, 0, 0)).look('w.sender.flushes ∷ []', [0]).news([21, 2, 0, 0, 0]).news([22, 1, 1]).news([20])
+    return r.tick(1, 41000, [31, 0, 0, 0, 3]).hears(1, ack(3, 0, 0, 0)).news([21, 3, 0, 0, 0]).news([22, 2, 1])
+
+
+@small
+def a_quorum_above_the_members():
+    """Where fewer members are left than it says, all of them are enough."""
+    r = Run(receivers=3).data(1, 0, [1, 0, 1]).tick(1, 0, [2, 0, 0, 0, 0]).mark(0, [5, 1, 0, 0, 0], quorum=3).hears(1, ack(2, 0, 0, 0))
+    r.news([21, 2, 0, 0, 0]).strike(4, 0, [8, 4]).news([20]).mark(0, [5, 2, 0, 0, 0], quorum=3).hears(1, ack(3, 0, 0, 0))
+    return r.news([21, 3, 0, 0, 0]).news([22, 1, 1]).news([22, 2, 1]).mark(0, [7, 13, 4], quorum=4)
+
+
+@small
+def strikes():
+    """A stranger and who was struck are no members; the last one stays. Who is struck is kept, also over a restart."""
+    r = Run(receivers=2).strike(4, 0, [7, 14, 4]).strike(1, 0, [7, 14, 1]).strike(3, 0, [8, 3]).strike(3, 0, [7, 14, 3]).strike(2, 0, [7, 15, 2])
+    r.look('w.sender.struck', [3]).job('(job.Restart 8)', 0, [6, 8]).look('w.sender.struck', [3]).strike(3, 0, [7, 14, 3]).strike(2, 0, [7, 15, 2])
+    return r.look('map (λ (l : Listing). l.node) w.sender.listings', [2])
+
+
+@small
+def a_strike_satisfies():
+    """What waited for the struck node alone is satisfied, and another watermark is flushed from 0 on."""
+    r = Run(receivers=2).data(1, 0, [1, 0, 1]).tick(1, 0, [2, 0, 0, 0, 0]).mark(0, [5, 1, 0, 0, 0]).data(1, 0, [1, 1, 1]).mark(0, [5, 2, 1, 0, 0])
+    r.tick(1, 1000, [2, 0, 1, 0, 0]).hears(1, ack(2, 0, 0, 0)).tick(1, 2000, [31, 0, 0, 0, 3]).look('w.sender.flushes ∷ []', [1]).strike(3, 2000, [8, 3])
+    r.look('w.sender.flushes ∷ []', [0]).news([21, 2, 0, 0, 0]).news([22, 1, 1]).news([20])
+    return r.tick(1, 22000, [31, 1, 0, 0, 2]).hears(1, ack(2, 1, 0, 0)).news([21, 2, 1, 0, 0]).news([22, 2, 1])
+
+
+@small
+def a_strike_after_the_outcome():
+    """Of a node whose rise was not told, that is told no more; what was satisfied stays so, and other rises are told."""
+    r = Run(receivers=2).data(1, 0, [1, 0, 1]).tick(1, 0, [2, 0, 0, 0, 0]).mark(0, [5, 1, 0, 0, 0]).hears(1, ack(3, 0, 0, 0)).hears(1, ack(2, 0, 0, 0))
+    return r.strike(3, 0, [8, 3]).news([21, 2, 0, 0, 0]).news([22, 1, 1]).news([20])
+
+
+@small
+def what_a_struck_node_says():
+    """Its NACK opens a round as before, since members that heard it hold theirs back; its acknowledgement counts no more."""
+    r = Run(receivers=2, k=0, grtt=1, gap=1).data(1, 0, [1, 0, 1]).tick(1, 0, [2, 0, 0, 0, 0]).mark(0, [5, 1, 0, 0, 0]).strike(3, 0, [8, 3])
+    r.hears(1, ack(3, 0, 0, 0)).news([20]).tick(1, 1, [31, 0, 0, 0, 2]).hears(1, nack(3, request('Items', 1, (0, 0, 0))), 10).tick(1, 11, [2, 3, 0, 0, 0])
+    return r.hears(1, ack(2, 0, 0, 0)).news([21, 2, 0, 0, 0]).news([22, 1, 1]).news([20])
+
+
+@small
+def a_struck_node_and_room():
+    """In hold mode nothing waits for a node that was struck."""
+    r = Run(receivers=2, window=1).data(1, 0, [1, 0, 1]).tick(1, 0, [2, 0, 0, 0, 0]).hears(1, ack(2, 0, 0, 0)).data(1, 0, [7, 9, 0])
+    return r.strike(3, 0, [8, 3]).data(1, 0, [1, 1, 1])
+
+
+@small
+def a_struck_node_after_a_restart():
+    """It is asked no more, and the others are listed past nothing."""
+    r = Run(receivers=2).data(1, 0, [1, 0, 1]).tick(1, 0, [2, 0, 0, 0, 0]).hears(1, ack(2, 0, 0, 0)).strike(3, 0, [8, 3]).job('(job.Restart 8)', 0, [6, 8])
+    r.data(1, 0, [1, 0, 1]).tick(1, 1000, [2, 0, 0, 0, 0]).mark(1000, [5, 1, 0, 0, 0]).news([20]).tick(1, 2000, [31, 0, 0, 0, 2])
+    return r.hears(1, ack(3, 0, 0, 0, instance=8)).news([20]).hears(1, ack(2, 0, 0, 0, instance=8)).news([21, 2, 0, 0, 0]).news([22, 1, 1])
+
+
+@small
+def what_is_left_of_the_window():
+    """Its infos and encoded symbols, and its streams."""
+    def counts(r, *gives):
+        return r.look('repairable PROFILE w.sender ∷ streams w.sender ∷ []', list(gives))
+    r = counts(Run(mode='drop', window=2, b=2, max_n=3), 0, 0).data(130, 0, [1, 0, 130], info='(Some (9 ∷ []))')
+    counts(r, 5, 0).job('job.Open', 0, [2, 1]).write(130, 0, [3, 1, 0, 130])
+    counts(r, 8, 1).job('job.Close', 0, [4, 1])
+    for i in range(4):
+        r.tick(1, 1000 * i, [1, 4, 0] if i == 0 else [2, 4, 0, (i - 1) // 2, (i - 1) % 2])
+    return counts(r.data(1, 4000, [1, 2, 1]), 7, 1)

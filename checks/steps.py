@@ -1,7 +1,7 @@
 """How small runs are written: steps of a world, what they list, and messages made by hand."""
 import re
 
-from terms import lst, nums, settings
+from terms import lst, nums, opt, settings
 
 DEFAULTS = dict(instance=7, first=0, sender=1, receivers=1, producers=1, e=64, b=4, max_n=6, auto=0, window=256, octets=16777216,
                 blocks=16, mode='hold', gap=1000, grtt=10000, grtt_code=64, gsize_code=1, k=4, step=1000, turns=1000000,
@@ -31,6 +31,12 @@ class Run:
 
     def data(self, count, now, gives, info='None'):
         return self.job('(job.Data %s (hx %d 0x%s))' % (info, count, '%02x' % self.number * count), now, gives)
+
+    def mark(self, now, gives, quorum=None):
+        return self.job('(job.Mark %s)' % opt(quorum), now, gives)
+
+    def strike(self, node, now, gives):
+        return self.job('(job.Strike %d)' % node, now, gives)
 
     def write(self, count, now, gives):
         return self.job('(job.Write (hx %d 0x%s))' % (count, '5a' * count), now, gives)

@@ -14,7 +14,7 @@ hx len n = octets_onto len n []
 
 '''
 REASONS = {'empty': 1, 'too-big': 2, 'info-too-big': 3, 'stream-open': 4, 'no-stream': 5, 'ids-spent': 6, 'spent': 7,
-           'stream-full': 8, 'window-full': 9, 'nothing-enqueued': 10, 'too-many': 11, 'id-used': 12}
+           'stream-full': 8, 'window-full': 9, 'nothing-enqueued': 10, 'too-many': 11, 'id-used': 12, 'quorum': 13, 'not-member': 14, 'last-member': 15}
 OUTCOMES = {'open': 0, 'satisfied': 1, 'expired': 2, 'cut': 3}
 
 
@@ -48,6 +48,7 @@ def job(j):
     info = None if j.get('info') is None else octets(j['info'])
     return {'data': lambda: '(job.Data %s %s)' % (opt(info), octets(j['bytes'])), 'file': lambda: '(job.File %s %s)' % (info, octets(j['bytes'])),
             'write': lambda: '(job.Write %s)' % octets(j['bytes']), 'restart': lambda: '(job.Restart %d)' % j['instance'],
+            'mark': lambda: '(job.Mark %s)' % opt(j.get('quorum')), 'strike': lambda: '(job.Strike %d)' % j['node'],
             }.get(j['verb'], lambda: 'job.' + j['verb'].capitalize())()
 
 
@@ -66,7 +67,7 @@ def event(e):
 def gave(g):
     (word, v), = g.items()
     return {'object': lambda: [1, v['index'], v['len']], 'opened': lambda: [2, v['index']], 'wrote': lambda: [3, v['index'], v['offset'], v['len']],
-            'closed': lambda: [4, v['index']], 'mark': lambda: [5, v['mark'], *v['at']], 'restarted': lambda: [6, v['instance']],
+            'closed': lambda: [4, v['index']], 'mark': lambda: [5, v['mark'], *v['at']], 'restarted': lambda: [6, v['instance']], 'struck': lambda: [8, v['node']],
             'refused': lambda: [7, REASONS[v['reason']], *v['args']]}[word]()
 
 
@@ -120,9 +121,9 @@ def rows(run):
     s = run['after']['sender']
     wants = [n for x in s['wants'] for n in ([x[0], NONE] if x[1] < 0 else x)]
     listed = [n for node, at in sorted((int(k), v) for k, v in s['listed'].items()) if at for n in (node, *at)]
-    requests = [n for q in s['requests'] for n in (q['mark'], OUTCOMES[q['outcome']], *q['at'])]
+    marks = [n for q in s['requests'] for n in (q['mark'], OUTCOMES[q['outcome']], *some(q.get('quorum')), *q['at'])]
     out = [('instance', [s['instance']]), ('drop point', s['drop']), ('next index', [s['next_index']]), ('wants', wants),
-           ('squelch due', [int(s['squelch_due'])]), ('round', some(s['round_closes'])), ('listings', listed), ('requests', requests),
+           ('squelch due', [int(s['squelch_due'])]), ('round', some(s['round_closes'])), ('listings', listed), ('watermarks', marks), ('struck', s.get('struck', [])),
            ('flushes', [s['flushes']]), ('last flush', some(s['last_flush'])), ('next send', [s['next_send']]), ('sequence', [s['sequence']])]
     out = [('sender: ' + name, row) for name, row in out]
     for node, r in sorted((int(k), v) for k, v in run['after']['receivers'].items()):

@@ -20,7 +20,7 @@ NAMES = {
     'Rattle.norm_ext.specs.Message': ['RepairAdv'],
     'Rattle.norm_order.specs.Shapes': ['is_encoded'],
     'Rattle.norm_send_rules.specs.SenderState': ['Listing'],
-    'Rattle.norm_send_rules.specs.Requests': ['open_requests'],
+    'Rattle.norm_send_rules.specs.Watermarks': ['open_watermarks'],
     'Rattle.norm_receive_rules.specs.ReceiverState': ['Held'],
     'Rattle.norm_receive_rules.specs.Lazy': ['all_of'],
     'Rattle.norm_order.specs.Segments': ['written'],

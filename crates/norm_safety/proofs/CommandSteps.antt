@@ -15,20 +15,22 @@ use Rattle.norm_send_rules.specs.InWindow.{current_shapes}
 use Rattle.norm_send_rules.specs.Restarting.{instances, is_used, begun_anew, restarted}
 use Rattle.norm_send_rules.specs.Enqueuing.{open_stream, object_fault, joined}
 use Rattle.norm_send_rules.specs.Streaming.{open_fault, parts_now, with_parts, write_fault, close_fault, grown, wrote, closed, cut, with_last}
-use Rattle.norm_send_rules.specs.Marking.{most_open, requested, request_at}
-use Rattle.norm_send_rules.specs.Requests.{open_requests}
+use Rattle.norm_send_rules.specs.Marking.{is_no_quorum, most_open, with_watermark, watermark_at, cut_and_marked, marked}
+use Rattle.norm_send_rules.specs.Striking.{strike_fault, struck_off, strikes}
+use Rattle.norm_send_rules.specs.Watermarks.{open_watermarks}
 use Rattle.norm_send_rules.specs.Commanding.{commanded, answered}
 use Rattle.norm_send_rules.specs.declared.news.Outcome.TheVariants.{Cut as CutOff}
 use Rattle.norm_send_rules.specs.declared.fault.EnqueueFault.{EnqueueFault}
-use Rattle.norm_send_rules.specs.declared.fault.MarkFault.TheVariants.{TooMany}
+use Rattle.norm_send_rules.specs.declared.fault.MarkFault.TheVariants.{TooMany, Quorum}
+use Rattle.norm_send_rules.specs.declared.fault.StrikeFault.{StrikeFault}
 use Rattle.norm_send_rules.specs.declared.fault.SendFault.{SendFault}
-use Rattle.norm_send_rules.specs.declared.fault.SendFault.TheVariants.{Enqueue, Mark, IdUsed}
+use Rattle.norm_send_rules.specs.declared.fault.SendFault.TheVariants.{Enqueue, Mark, Strike, IdUsed}
 use Rattle.norm_send_rules.specs.declared.job.Job.{Job}
 use Rattle.norm_send_rules.specs.declared.job.Job.TheVariants as job
 use Rattle.norm_send_rules.specs.declared.job.Receipt.{Receipt}
 use Rattle.norm_send_rules.specs.declared.job.Receipt.TheVariants as receipt
 use Rattle.norm_safety.specs.OnceEach.{origin_of_part, origins_of, origins, instance_ids}
-use Rattle.norm_safety.proofs.SenderKeeps.{bys, Keeps, keeps_all, ended_by, counted_keeps, settled_keeps}
+use Rattle.norm_safety.proofs.SenderKeeps.{bys, Keeps, keeps_all, ended_by, counted_keeps, settled_keeps, struck_keeps}
 use Rattle.norm_safety.proofs.EntryLemmas.{PlacesKept, AllKept, append_places, with_last_places, current_kept, begun_kept, origins_in, origins_of_all, origins_last, origins_entry, origins_with_last, EndsOpen, ends_open}
 
 -- An accepted command may add its origin, once; a refused one adds none.
@@ -49,10 +51,10 @@ pub record Goes (by : Origin) (s : SenderState) (new : SenderState) (accepted : 
 
 -- all origins, by parts
 abbrev total : List Instance → List Origin → List Origin → List Origin
-total earlier current requests = (origins_of_all earlier ++ current) ++ requests
+total earlier current watermarks = (origins_of_all earlier ++ current) ++ watermarks
 
-total_is : (s : SenderState) → origins s ≡ total s.earlier (origins_in s.current.order) (bys s.requests)
-total_is s = ap (λ (xs : List Origin). xs ++ bys s.requests) (origins_last s.earlier s.current)
+total_is : (s : SenderState) → origins s ≡ total s.earlier (origins_in s.current.order) (bys s.watermarks)
+total_is s = ap (λ (xs : List Origin). xs ++ bys s.watermarks) (origins_last s.earlier s.current)
 
 pub kept_all : (all : List Instance) → AllKept all all
 kept_all all id index by h = h
@@ -63,7 +65,7 @@ same_instances s new h =
 
 pub keeps_origins : (s new : SenderState) → Keeps s new → origins new ≡ origins s
 keeps_origins s new h =
-    ap (λ (xs : List Instance). origins_of_all xs ++ bys new.requests) (same_instances s new h)
+    ap (λ (xs : List Instance). origins_of_all xs ++ bys new.watermarks) (same_instances s new h)
     ∙ ap (λ (xs : List Origin). origins_of_all (instances s) ++ xs) h.by
 
 pub keeps_ids : (s new : SenderState) → Keeps s new → instance_ids new ≡ instance_ids s
@@ -82,7 +84,7 @@ keeps_goes by s new accepted h =
 pub record OrderGoes (s new : SenderState) : Type 0 where
   pub earlier : new.earlier ≡ s.earlier
   pub id : new.current.id ≡ s.current.id
-  pub by : bys new.requests ≡ bys s.requests
+  pub by : bys new.watermarks ≡ bys s.watermarks
   pub places : PlacesKept s.current.order new.current.order
 
 same_ids : (s new : SenderState) → OrderGoes s new → instance_ids new ≡ instance_ids s
@@ -102,14 +104,14 @@ all_places s new h =
 
 -- all origins where the current order has these more
 total_more : (s new : SenderState) (more : List Origin) → OrderGoes s new → origins_in new.current.order ≡ origins_in s.current.order ++ more
-    → origins new ≡ (origins_of_all s.earlier ++ origins_in s.current.order) ++ (more ++ bys s.requests)
+    → origins new ≡ (origins_of_all s.earlier ++ origins_in s.current.order) ++ (more ++ bys s.watermarks)
 total_more s new more h e =
     total_is new
-    ∙ ap (λ (xs : List Instance). total xs (origins_in new.current.order) (bys new.requests)) h.earlier
-    ∙ ap (λ (xs : List Origin). total s.earlier xs (bys new.requests)) e
+    ∙ ap (λ (xs : List Instance). total xs (origins_in new.current.order) (bys new.watermarks)) h.earlier
+    ∙ ap (λ (xs : List Origin). total s.earlier xs (bys new.watermarks)) e
     ∙ ap (λ (xs : List Origin). total s.earlier (origins_in s.current.order ++ more) xs) h.by
-    ∙ ap (λ (xs : List Origin). xs ++ bys s.requests) (sym (append_assoc (origins_of_all s.earlier) (origins_in s.current.order) more))
-    ∙ append_assoc (origins_of_all s.earlier ++ origins_in s.current.order) more (bys s.requests)
+    ∙ ap (λ (xs : List Origin). xs ++ bys s.watermarks) (sym (append_assoc (origins_of_all s.earlier) (origins_in s.current.order) more))
+    ∙ append_assoc (origins_of_all s.earlier ++ origins_in s.current.order) more (bys s.watermarks)
 
 quiet_goes : (by : Origin) (s new : SenderState) (accepted : Bool) → OrderGoes s new
     → origins_in new.current.order ≡ origins_in s.current.order ++ [] → Goes by s new accepted
@@ -122,7 +124,7 @@ quiet_goes by s new accepted h e = record {
 adding_goes : (by : Origin) (s new : SenderState) → OrderGoes s new
     → origins_in new.current.order ≡ origins_in s.current.order ++ by ∷ [] → Goes by s new true
 adding_goes by s new h e = record {
-  origins = inr (refl, origins_of_all s.earlier ++ origins_in s.current.order, bys s.requests, total_is s, total_more s new (by ∷ []) h e);
+  origins = inr (refl, origins_of_all s.earlier ++ origins_in s.current.order, bys s.watermarks, total_is s, total_more s new (by ∷ []) h e);
   ids = inl (same_ids s new h);
   places = all_places s new h;
 }
@@ -136,7 +138,7 @@ joined_goes p by object s e = adding_goes by s (joined p by object s)
 
 -- the open stream has one part more
 parts_goes : (by : Origin) (part : Part) (accepted : Bool) (parts : List Part) (s new : SenderState) → EndsOpen s.current.order parts
-    → new.earlier ≡ s.earlier → new.current.id ≡ s.current.id → bys new.requests ≡ bys s.requests
+    → new.earlier ≡ s.earlier → new.current.id ≡ s.current.id → bys new.watermarks ≡ bys s.watermarks
     → new.current.order ≡ with_last (Stream (parts ++ part ∷ [])) s.current.order
     → (origin_of_part part ≡ []) ⊎ ((accepted ≡ true) × (origin_of_part part ≡ by ∷ []))
     → Goes by s new accepted
@@ -253,63 +255,79 @@ goes_after by s between new accepted h g f = record {
     more (inl same) = inl (f ∙ same)
     more (inr (id, unused, e)) = inr (id, unused, f ∙ e)
 
--- the state with one more request, before it is settled
-abbrev pub with_request : Origin → Position → SenderState → SenderState
-with_request by at s = record s { requests = s.requests ++ record { mark = length s.requests + 1; by = by; at = at; ended = None } ∷ [] }
+-- the state with one more watermark, before it is settled
+abbrev pub with_mark : Origin → Option ℕ → Position → SenderState → SenderState
+with_mark by quorum at s = record s { watermarks = s.watermarks ++ record { mark = length s.watermarks + 1; by = by; at = at; quorum = quorum; ended = None } ∷ [] }
 
-pub requested_keeps : (by : Origin) (s : SenderState) (at : Position) → Keeps (with_request by at s) (requested s by at)
-requested_keeps by s at =
-    counted_keeps s (with_request by at s) _ (settled_keeps (with_request by at s) (with_request by at s) (keeps_all (with_request by at s)))
+pub marked_keeps : (by : Origin) (s : SenderState) (quorum : Option ℕ) (at : Position) → Keeps (with_mark by quorum at s) (with_watermark s by quorum at)
+marked_keeps by s quorum at =
+    counted_keeps s (with_mark by quorum at s) _ (settled_keeps (with_mark by quorum at s) (with_mark by quorum at s) (keeps_all (with_mark by quorum at s)))
 
-requested_goes : (by : Origin) (s : SenderState) (at : Position) → Goes by s (requested s by at) true
-requested_goes by s at = record {
+marked_goes : (by : Origin) (s : SenderState) (quorum : Option ℕ) (at : Position) → Goes by s (with_watermark s by quorum at) true
+marked_goes by s quorum at = record {
   origins = inr (
     refl,
     origins s,
     [],
     sym (append-nil (origins s)),
     (
-        keeps_origins (with_request by at s) (requested s by at) (requested_keeps by s at)
-        ∙ ap (λ (xs : List Origin). origins_of_all (instances s) ++ xs) (map-append (λ (w : Watermark). w.by) s.requests _)
-        ∙ sym (append_assoc (origins_of_all (instances s)) (bys s.requests) (by ∷ []))
+        keeps_origins (with_mark by quorum at s) (with_watermark s by quorum at) (marked_keeps by s quorum at)
+        ∙ ap (λ (xs : List Origin). origins_of_all (instances s) ++ xs) (map-append (λ (w : Watermark). w.by) s.watermarks _)
+        ∙ sym (append_assoc (origins_of_all (instances s)) (bys s.watermarks) (by ∷ []))
         ),
   );
-  ids = inl (keeps_ids (with_request by at s) (requested s by at) (requested_keeps by s at));
-  places = (keeps_goes by (with_request by at s) (requested s by at) true (requested_keeps by s at)).places;
+  ids = inl (keeps_ids (with_mark by quorum at s) (with_watermark s by quorum at) (marked_keeps by s quorum at));
+  places = (keeps_goes by (with_mark by quorum at s) (with_watermark s by quorum at) true (marked_keeps by s quorum at)).places;
 }
 
-mark_goes : (p : Settings) (by : Origin) (s : SenderState) (found : Option Position) → StepGoes by s (answered Mark (request_at (cut p s) by found))
-mark_goes p by s None = cut_goes p by s false
-mark_goes p by s (Some at) = go (nat_le most_open (length (open_requests (cut p s))))
+cut_mark_goes : (p : Settings) (by : Origin) (s : SenderState) (quorum : Option ℕ) (found : Option Position)
+    → StepGoes by s (answered Mark (watermark_at (cut p s) by quorum found))
+cut_mark_goes p by s quorum None = cut_goes p by s false
+cut_mark_goes p by s quorum (Some at) = go (nat_le most_open (length (open_watermarks (cut p s))))
   where
     go : (many : Bool) → StepGoes by s (answered Mark (elim many [
-      | true ↦ (cut p s, Err (TooMany (length (open_requests (cut p s)))))
-      | false ↦ (requested (cut p s) by at, Ok (receipt.Mark (length (cut p s).requests + 1) at))
+      | true ↦ (cut p s, Err (TooMany (length (open_watermarks (cut p s)))))
+      | false ↦ (with_watermark (cut p s) by quorum at, Ok (receipt.Mark (length (cut p s).watermarks + 1) at))
     ]))
     go true = cut_goes p by s false
-    go false = goes_after by s (cut p s) (requested (cut p s) by at) true (cut_goes p by s false) (requested_goes by (cut p s) at)
-        (keeps_ids (with_request by at (cut p s)) (requested (cut p s) by at) (requested_keeps by (cut p s) at))
+    go false = goes_after by s (cut p s) (with_watermark (cut p s) by quorum at) true (cut_goes p by s false) (marked_goes by (cut p s) quorum at)
+        (keeps_ids (with_mark by quorum at (cut p s)) (with_watermark (cut p s) by quorum at) (marked_keeps by (cut p s) quorum at))
+
+mark_goes : (p : Settings) (by : Origin) (s : SenderState) (quorum : Option ℕ) → StepGoes by s (answered Mark (marked p s by quorum))
+mark_goes p by s None = cut_mark_goes p by s None (last_source (current_shapes p (cut p s)))
+mark_goes p by s (Some q) = go (is_no_quorum p q)
+  where
+    go : (none : Bool) → StepGoes by s (answered Mark (elim none [ true ↦ (s, Err (Quorum q)) | false ↦ cut_and_marked p s by (Some q) ]))
+    go true = keeps_goes by s s false (keeps_all s)
+    go false = cut_mark_goes p by s (Some q) (last_source (current_shapes p (cut p s)))
+
+strike_goes : (by : Origin) (s : SenderState) (node : ℕ) → StepGoes by s (answered Strike (strikes s node))
+strike_goes by s node = go (strike_fault s node)
+  where
+    go : (found : Option StrikeFault) → StepGoes by s (answered Strike (elim found [ Some fault ↦ (s, Err fault) | None ↦ (struck_off node s, Ok (receipt.Struck node)) ]))
+    go (Some fault) = keeps_goes by s s false (keeps_all s)
+    go None = keeps_goes by s (struck_off node s) true (struck_keeps node s)
 
 -- a restart
-anew_goes : (p : Settings) (by : Origin) (id : ℕ) (s : SenderState) → is_used s id ≡ false → Goes by s (begun_anew p id s) true
-anew_goes p by id s unused = record {
+anew_goes : (by : Origin) (id : ℕ) (s : SenderState) → is_used s id ≡ false → Goes by s (begun_anew id s) true
+anew_goes by id s unused = record {
   origins = inl (
-      ap (λ (xs : List Origin). origins_of_all (instances s ++ begun id ∷ []) ++ xs) (ended_by (λ w. true) (λ w. CutOff) s.requests)
-      ∙ ap (λ (xs : List Origin). xs ++ bys s.requests) (origins_last (instances s) (begun id) ∙ append-nil (origins_of_all (instances s)))
+      ap (λ (xs : List Origin). origins_of_all (instances s ++ begun id ∷ []) ++ xs) (ended_by (λ w. true) (λ w. CutOff) s.watermarks)
+      ∙ ap (λ (xs : List Origin). xs ++ bys s.watermarks) (origins_last (instances s) (begun id) ∙ append-nil (origins_of_all (instances s)))
       );
   ids = inr (id, unused, map-append (λ (i : Instance). i.id) (instances s) (begun id ∷ []));
   places = begun_kept (instances s) id;
 }
 
-restart_goes : (p : Settings) (by : Origin) (s : SenderState) (id : ℕ) → StepGoes by s (restarted p s id)
-restart_goes p by s id = go (is_used s id) refl
+restart_goes : (by : Origin) (s : SenderState) (id : ℕ) → StepGoes by s (restarted s id)
+restart_goes by s id = go (is_used s id) refl
   where
     go : (used : Bool) → is_used s id ≡ used → StepGoes by s (elim used [
       | true ↦ (s, Err (IdUsed id))
-      | false ↦ (begun_anew p id s, Ok (receipt.Restarted id))
+      | false ↦ (begun_anew id s, Ok (receipt.Restarted id))
     ])
     go true e = keeps_goes by s s false (keeps_all s)
-    go false e = anew_goes p by id s e
+    go false e = anew_goes by id s e
 
 -- Each command adds its own origin at most, and where it is accepted.
 pub command_goes : (p : Settings) (s : SenderState) (by : Origin) (job : Job) → StepGoes by s (commanded p s by job)
@@ -321,5 +339,6 @@ command_goes p s by (job.File name bytes) =
 command_goes p s by job.Open = free_goes by (open_fault p s) s (joined p by (Stream []) s) _ (λ none. joined_goes p by (Stream []) s refl)
 command_goes p s by (job.Write bytes) = wrote_goes p s by bytes
 command_goes p s by job.Close = closed_goes p s by
-command_goes p s by job.Mark = mark_goes p by s (last_source (current_shapes p (cut p s)))
-command_goes p s by (job.Restart id) = restart_goes p by s id
+command_goes p s by (job.Mark quorum) = mark_goes p by s quorum
+command_goes p s by (job.Restart id) = restart_goes by s id
+command_goes p s by (job.Strike node) = strike_goes by s node

@@ -8,7 +8,7 @@ use Rattle.std.proofs.lemmas.List.Elements.{Contains-append_left, Contains-appen
 use Rattle.norm_base.specs.declared.node.Origin.{Origin}
 use Rattle.norm_send_rules.specs.SenderState.{SenderState, Instance}
 use Rattle.norm_ext.specs.InstanceIds.{rise, most_rise}
-use Rattle.norm_send_rules.specs.Restarting.{instances, first_id, is_used}
+use Rattle.norm_send_rules.specs.Restarting.{first_id, is_used}
 use Rattle.norm_safety.specs.Lawful.{same_origin}
 use Rattle.norm_safety.specs.OnceEach.{origins, instance_ids}
 use Rattle.norm_safety.proofs.EntryLemmas.{clash}

@@ -10,7 +10,6 @@ use Rattle.norm_send_rules.specs.SenderStep as sender
 use Rattle.norm_receive_rules.specs.ReceiverStep as receiver
 use Rattle.norm_send_rules.specs.Restarting.{instances}
 use Rattle.norm_send_rules.specs.Commanding.{commanded}
-use Rattle.norm_send_rules.specs.Hearing.{heard}
 use Rattle.norm_send_rules.specs.Ticking.{ticked as sender_ticked}
 use Rattle.norm_send_rules.specs.Telling.{told}
 use Rattle.norm_send_rules.specs.declared.job.Job.{Job}
@@ -18,7 +17,6 @@ use Rattle.norm_send_rules.specs.declared.job.Receipt.{Receipt}
 use Rattle.norm_send_rules.specs.declared.job.Receipt.TheVariants as receipt
 use Rattle.norm_send_rules.specs.declared.fault.SendFault.{SendFault}
 use Rattle.norm_receive_rules.specs.ReceiverState.{ReceiverState}
-use Rattle.norm_receive_rules.specs.Receiving.{received}
 use Rattle.norm_receive_rules.specs.Taking.{took}
 use Rattle.norm_receive_rules.specs.Ticking.{ticked as receiver_ticked}
 use Rattle.norm_safety.specs.Events.{Event, Commanded, Delivered, Ticked, Offered, UpTaken, NewsAsked, Answer, Gave, Sent, Took, Told, Silent}
@@ -51,6 +49,7 @@ placed_later w later h by job now (Ok (receipt.Wrote index offset len)) e placed
 placed_later w later h by job now (Ok (receipt.Closed index)) e placed = refl
 placed_later w later h by job now (Ok (receipt.Mark mark at)) e placed = refl
 placed_later w later h by job now (Ok (receipt.Restarted instance)) e placed = refl
+placed_later w later h by job now (Ok (receipt.Struck node)) e placed = refl
 placed_later w later h by job now (Err fault) e placed = refl
 
 -- the accepted commands after one more

@@ -11,7 +11,6 @@ use Rattle.norm_ext.specs.Written.{Written}
 use Rattle.norm_order.specs.declared.up.Up.{Up}
 use Rattle.norm_receive_rules.specs.ReceiverState.{ReceiverState, receiver_opening}
 use Rattle.norm_receive_rules.specs.Receiving.{received}
-use Rattle.norm_receive_rules.specs.Taking.{took}
 use Rattle.norm_receive_rules.specs.Ticking.{ticked as receiver_ticked}
 use Rattle.norm_send_rules.specs.SenderState.{SenderState, sender_opening}
 use Rattle.norm_send_rules.specs.SenderStep as sender

@@ -14,13 +14,15 @@ use Rattle.norm_send_rules.specs.InWindow.{next_index, current_shapes}
 use Rattle.norm_send_rules.specs.Restarting.{instances, is_used, begun_anew}
 use Rattle.norm_send_rules.specs.Enqueuing.{object_fault, joined}
 use Rattle.norm_send_rules.specs.Streaming.{open_fault, write_fault, close_fault, grown, parts_now, cut}
-use Rattle.norm_send_rules.specs.Marking.{most_open, requested, request_at}
-use Rattle.norm_send_rules.specs.Requests.{open_requests}
+use Rattle.norm_send_rules.specs.Marking.{is_no_quorum, most_open, with_watermark, watermark_at, cut_and_marked}
+use Rattle.norm_send_rules.specs.Striking.{strike_fault, struck_off}
+use Rattle.norm_send_rules.specs.Watermarks.{open_watermarks}
 use Rattle.norm_send_rules.specs.Commanding.{commanded, answered}
 use Rattle.norm_send_rules.specs.declared.fault.EnqueueFault.{EnqueueFault}
-use Rattle.norm_send_rules.specs.declared.fault.MarkFault.TheVariants.{TooMany}
+use Rattle.norm_send_rules.specs.declared.fault.MarkFault.TheVariants.{TooMany, Quorum}
+use Rattle.norm_send_rules.specs.declared.fault.StrikeFault.{StrikeFault}
 use Rattle.norm_send_rules.specs.declared.fault.SendFault.{SendFault}
-use Rattle.norm_send_rules.specs.declared.fault.SendFault.TheVariants.{Mark, IdUsed}
+use Rattle.norm_send_rules.specs.declared.fault.SendFault.TheVariants.{Mark, IdUsed, Strike}
 use Rattle.norm_send_rules.specs.declared.job.Job.{Job}
 use Rattle.norm_send_rules.specs.declared.job.Job.TheVariants as job
 use Rattle.norm_send_rules.specs.declared.job.Receipt.{Receipt}
@@ -48,6 +50,7 @@ stays_placed id s later by (Ok (receipt.Wrote index offset len)) kept h = h
 stays_placed id s later by (Ok (receipt.Closed index)) kept h = h
 stays_placed id s later by (Ok (receipt.Mark mark at)) kept h = h
 stays_placed id s later by (Ok (receipt.Restarted instance)) kept h = h
+stays_placed id s later by (Ok (receipt.Struck node)) kept h = h
 stays_placed id s later by (Err fault) kept h = h
 
 -- the last of several different ids is found behind the others
@@ -92,6 +95,18 @@ free_placed : (by : Origin) (found : Option EnqueueFault) (s after : SenderState
 free_placed by None s after receipt h = h
 free_placed by (Some fault) s after receipt h = refl
 
+mark_placed : (p : Settings) (s : SenderState) (by : Origin) (quorum : Option ℕ) (found : Option Position)
+    → IsPlaced s.current.id by (answered Mark (watermark_at (cut p s) by quorum found))
+mark_placed p s by quorum None = refl
+mark_placed p s by quorum (Some at) = go (nat_le most_open (length (open_watermarks (cut p s))))
+  where
+    go : (many : Bool) → IsPlaced s.current.id by (answered Mark (elim many [
+      | true ↦ (cut p s, Err (TooMany (length (open_watermarks (cut p s)))))
+      | false ↦ (with_watermark (cut p s) by quorum at, Ok (receipt.Mark (length (cut p s).watermarks + 1) at))
+    ]))
+    go true = refl
+    go false = refl
+
 -- An accepted object or stream stands at the index that it is answered.
 pub command_placed : (p : Settings) (s : SenderState) (by : Origin) (job : Job) → IsDistinct nat_eq (instance_ids s)
     → IsPlaced s.current.id by (commanded p s by job)
@@ -106,23 +121,23 @@ command_placed p s by (job.Write bytes) differ =
     let parts = parts_now s ++ Write by bytes ∷ [] in free_placed by (write_fault p s bytes parts) s (grown p s parts) _ refl
 command_placed p s by job.Close differ =
     let parts = parts_now s ++ End ∷ [] in free_placed by (close_fault p s parts) s (grown p s parts) _ refl
-command_placed p s by job.Mark differ = marks (last_source (current_shapes p (cut p s)))
+command_placed p s by (job.Mark None) differ = mark_placed p s by None (last_source (current_shapes p (cut p s)))
+command_placed p s by (job.Mark (Some q)) differ = go (is_no_quorum p q)
   where
-    few : (at : Position) (many : Bool) → IsPlaced s.current.id by (answered Mark (elim many [
-      | true ↦ (cut p s, Err (TooMany (length (open_requests (cut p s)))))
-      | false ↦ (requested (cut p s) by at, Ok (receipt.Mark (length (cut p s).requests + 1) at))
-    ]))
-    few at true = refl
-    few at false = refl
-
-    marks : (found : Option Position) → IsPlaced s.current.id by (answered Mark (request_at (cut p s) by found))
-    marks None = refl
-    marks (Some at) = few at (nat_le most_open (length (open_requests (cut p s))))
+    go : (none : Bool) → IsPlaced s.current.id by (answered Mark (elim none [ true ↦ (s, Err (Quorum q)) | false ↦ cut_and_marked p s by (Some q) ]))
+    go true = refl
+    go false = mark_placed p s by (Some q) (last_source (current_shapes p (cut p s)))
 command_placed p s by (job.Restart id) differ = go (is_used s id)
   where
     go : (used : Bool) → IsPlaced s.current.id by (elim used [
       | true ↦ (s, Err (IdUsed id))
-      | false ↦ (begun_anew p id s, Ok (receipt.Restarted id))
+      | false ↦ (begun_anew id s, Ok (receipt.Restarted id))
     ])
     go true = refl
     go false = refl
+command_placed p s by (job.Strike node) differ = go (strike_fault s node)
+  where
+    go : (found : Option StrikeFault)
+        → IsPlaced s.current.id by (answered Strike (elim found [ Some fault ↦ (s, Err fault) | None ↦ (struck_off node s, Ok (receipt.Struck node)) ]))
+    go (Some fault) = refl
+    go None = refl

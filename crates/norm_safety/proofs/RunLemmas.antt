@@ -12,7 +12,7 @@ use Rattle.norm_receive_rules.specs.Leaving.{is_in}
 use Rattle.norm_receive_rules.specs.ReceiverStep.{receiver_step}
 use Rattle.norm_send_rules.specs.SenderStep.{sender_step}
 use Rattle.norm_ext.specs.Written.{Written}
-use Rattle.norm_safety.specs.Events.{Event, UpTaken, Answer, Gave, Sent, Took, Told, Silent}
+use Rattle.norm_safety.specs.Events.{Event, Answer, Gave, Sent, Took, Told, Silent}
 use Rattle.norm_safety.specs.World.{World, world_opening, receiver_at, with_receiver, with_given, is_of, offers}
 use Rattle.norm_safety.specs.WorldStep.{Move, OfSender, OfReceiver, OfNetwork, OfNobody, move_of, moved, answered, of_sender, of_receiver, world_step}
 use Rattle.norm_safety.specs.History.{Happening, History, happens, history}

@@ -11,11 +11,11 @@ use Rattle.fec_plan.specs.declared.position.Position.{Position}
 use Rattle.norm_ext.specs.InstanceIds.{rise}
 use Rattle.norm_order.specs.Entries.{Object, Whole, Entry}
 use Rattle.norm_order.specs.Shapes.{shapes_of, is_source, last_source}
-use Rattle.norm_send_rules.specs.SenderState.{SenderState, Instance, Watermark, begun, sender_opening}
+use Rattle.norm_send_rules.specs.SenderState.{SenderState, Instance, Watermark, begun, unlisted, sender_opening}
 use Rattle.norm_send_rules.specs.SenderStep as events
 use Rattle.norm_send_rules.specs.InWindow.{next_index, current_shapes}
 use Rattle.norm_send_rules.specs.Restarting.{instances, first_id, is_used, begun_anew}
-use Rattle.norm_send_rules.specs.Requests.{is_open, ended_with}
+use Rattle.norm_send_rules.specs.Watermarks.{members, is_open, ended_with}
 use Rattle.norm_send_rules.specs.declared.news.Outcome.TheVariants.{Cut as CutOff}
 use Rattle.norm_send_rules.specs.Room.{size_of, window, has_room, has_to_go, drop_after}
 use Rattle.norm_send_rules.specs.Enqueuing.{joined}
@@ -26,7 +26,7 @@ use Rattle.norm_send_rules.proofs.StepLemmas.{step_holds as wants_step, blocks_o
 use Rattle.norm_safety.specs.OnceEach.{order_of}
 use Rattle.norm_safety.specs.InOrder.{drop_of}
 use Rattle.norm_safety.specs.Jobs.{IsJob, OpensNone}
-use Rattle.norm_safety.proofs.SenderKeeps.{Keeps, nodes_in, AllOpen, request_at_of}
+use Rattle.norm_safety.proofs.SenderKeeps.{Keeps, FewNodes, AllOpen, mark_position}
 use Rattle.norm_safety.proofs.OnceLemmas.{unused_few}
 use Rattle.norm_safety.proofs.EntryLemmas.{clash}
 use Rattle.norm_safety.proofs.Cuts.{cut_range}
@@ -44,8 +44,8 @@ abbrev pub AllSized : Settings → List Instance → Type 0
 AllSized p all = AllByRecursion (IsKept p) all
 
 -- What holds: wants are symbols and infos of the window; objects are data and files of their sizes; the current id lies less
--- than half of all ids above the first, which is the profile's; ids and the sequence number have 16 bits, indices 32; listings are the receivers'; the drop point lies within the order, before a block 0; and
--- open requests are of source symbols of the order.
+-- than half of all ids above the first, which is the profile's; ids and the sequence number have 16 bits, indices and members' ids 32; the drop point lies within the order, before a block 0; and
+-- open watermarks are of source symbols of the order.
 pub record SenderHolds (p : Settings) (s : SenderState) : Type 0 where
   pub wants : WantsHold p s
   pub sized : AllSized p (instances s)
@@ -54,11 +54,11 @@ pub record SenderHolds (p : Settings) (s : SenderState) : Type 0 where
   pub few : rise p.instance s.current.id ≤ 32767
   pub many : length s.current.order ≤ 4294967295
   pub sequence : s.sequence < 65536
-  pub nodes : nodes_in s.listings ≡ receivers_of p p.receivers
+  pub nodes : FewNodes s.listings
   pub within : s.current.drop.index ≤ length s.current.order
   pub index : s.current.drop.index < 4294967295
   pub block : s.current.drop.block ≡ 0
-  pub asked : AllOpen (is_source (shapes_of p s.current.order)) s.requests
+  pub asked : AllOpen (is_source (shapes_of p s.current.order)) s.watermarks
 
 same_all : (p : Settings) (s t : SenderState) → Steady p s t → instances t ≡ instances s
 same_all p s t h = ap (λ (xs : List Instance). xs ++ t.current ∷ []) h.earlier ∙ ap (λ (x : Instance). s.earlier ++ x ∷ []) h.current
@@ -67,7 +67,7 @@ same_all p s t h = ap (λ (xs : List Instance). xs ++ t.current ∷ []) h.earlie
 abbrev first_in : List Instance → Instance → ℕ
 first_in earlier current = elim earlier [ i ∷ more ↦ i.id | [] ↦ current.id ]
 
-steady_holds : (p : Settings) (s t : SenderState) → Steady p s t → AllOpen (is_source (shapes_of p s.current.order)) t.requests
+steady_holds : (p : Settings) (s t : SenderState) → Steady p s t → AllOpen (is_source (shapes_of p s.current.order)) t.watermarks
     → WantsHold p t → SenderHolds p s → SenderHolds p t
 steady_holds p s t same asked wants h =
     let A : List Instance → Type 0 = λ all. AllSized p all in
@@ -77,7 +77,7 @@ steady_holds p s t same asked wants h =
     let W : Instance → Type 0 = λ i. i.drop.index ≤ length i.order in
     let I : Instance → Type 0 = λ i. i.drop.index < 4294967295 in
     let B : Instance → Type 0 = λ i. i.drop.block ≡ 0 in
-    let O : Instance → Type 0 = λ i. AllOpen (is_source (shapes_of p i.order)) t.requests in
+    let O : Instance → Type 0 = λ i. AllOpen (is_source (shapes_of p i.order)) t.watermarks in
     record {
       wants = wants;
       sized = subst A (sym (same_all p s t same)) h.sized;
@@ -86,7 +86,7 @@ steady_holds p s t same asked wants h =
       few = subst U (sym same.current) h.few;
       many = subst M (sym same.current) h.many;
       sequence = same.sequence h.sequence;
-      nodes = same.nodes ∙ h.nodes;
+      nodes = same.nodes h.nodes;
       within = subst W (sym same.current) h.within;
       index = subst I (sym same.current) h.index;
       block = subst B (sym same.current) h.block;
@@ -152,20 +152,20 @@ pub current_sized : (p : Settings) (s : SenderState) → SenderHolds p s → Are
 current_sized p s h = (last_of (IsKept p) s.earlier s.current h.sized).0
 
 -- where more joins, the positions that are asked for stay source symbols
-still_asked : (p : Settings) (order more : List Entry) (requests : List Watermark) → AllOpen (is_source (shapes_of p order)) requests
-    → AllOpen (is_source (shapes_of p (order ++ more))) requests
+still_asked : (p : Settings) (order more : List Entry) (watermarks : List Watermark) → AllOpen (is_source (shapes_of p order)) watermarks
+    → AllOpen (is_source (shapes_of p (order ++ more))) watermarks
 still_asked p order more [] all = tt
-still_asked p order more (w ∷ requests) all = (λ is. source_still p order more w.at (all.0 is), still_asked p order more requests all.1)
+still_asked p order more (w ∷ watermarks) all = (λ is. source_still p order more w.at (all.0 is), still_asked p order more watermarks all.1)
 
--- where all requests end, none is open
-ended_all : (test : Position → Bool) (requests : List Watermark) → AllOpen test (map (λ (w : Watermark). cond (is_open w && true) (ended_with CutOff w) w) requests)
+-- where all watermarks end, none is open
+ended_all : (test : Position → Bool) (watermarks : List Watermark) → AllOpen test (map (λ (w : Watermark). cond (is_open w && true) (ended_with CutOff w) w) watermarks)
 ended_all test [] = tt
-ended_all test (w ∷ requests) = (go (is_open w) refl, ended_all test requests)
+ended_all test (w ∷ watermarks) = (go (is_open w) refl, ended_all test watermarks)
   where
     now : Bool → Watermark
     now b = cond (b && true) (ended_with CutOff w) w
 
-    go : (b : Bool) → is_open w ≡ b → is_open (now b) ≡ true → test (request_at_of (now b)) ≡ true
+    go : (b : Bool) → is_open w ≡ b → is_open (now b) ≡ true → test (mark_position (now b)) ≡ true
     go true is e = absurd (clash e)
     go false is e = absurd (clash (sym is ∙ e))
 
@@ -189,7 +189,7 @@ joins_holds p by object s is few wants h =
       within = omega arith;
       index = omega arith;
       block = drop_block s.current.drop (going p object s) h.block;
-      asked = still_asked p s.current.order (entry ∷ []) s.requests h.asked;
+      asked = still_asked p s.current.order (entry ∷ []) s.watermarks h.asked;
     }
 
 joins_onward : (p : Settings) (by : Origin) (object : Object) (s : SenderState) → s.current.drop.block ≡ 0 → Onward s (joined p by object s)
@@ -208,24 +208,34 @@ joins_onward p by object s none =
     go zero e = inr (refl, omega arith)
     go (suc n) e = inl (omega arith)
 
-unlisted_nodes : (nodes : List ℕ) → nodes_in (map (λ (node : ℕ). record { node = node; past = None }) nodes) ≡ nodes
-unlisted_nodes [] = refl
-unlisted_nodes (node ∷ nodes) = ap (λ (ns : List ℕ). node ∷ ns) (unlisted_nodes nodes)
+unlisted_few : (nodes : List ℕ) → AllByRecursion (λ id. id < 4294967296) nodes → FewNodes (unlisted nodes)
+unlisted_few [] few = tt
+unlisted_few (node ∷ nodes) few = (few.0, unlisted_few nodes few.1)
+
+-- the receivers have ids of 32 bits
+receivers_few : (p : Settings) → InRange p → (n : ℕ) → n ≤ p.receivers → AllByRecursion (λ id. id < 4294967296) (receivers_of p n)
+receivers_few p range zero le = tt
+receivers_few p range (suc n) le =
+    ids_append (receivers_of p n) (p.sender + 1 + n) (receivers_few p range n (omega arith)) (omega (arith, range.sender.1, range.receivers.1))
+  where
+    ids_append : (ids : List ℕ) (id : ℕ) → AllByRecursion (λ id. id < 4294967296) ids → id < 4294967296 → AllByRecursion (λ id. id < 4294967296) (ids ++ id ∷ [])
+    ids_append [] id all few = (few, tt)
+    ids_append (x ∷ ids) id all few = (all.0, ids_append ids id all.1 few)
 
 all_with : (P : Instance → Type 0) (all : List Instance) (x : Instance) → P x → AllByRecursion P all → AllByRecursion P (all ++ x ∷ [])
 all_with P [] x h all = (h, tt)
 all_with P (y ∷ more) x h all = (all.0, all_with P more x h all.1)
 
 -- a new instance leaves the first one
-first_stays : (p : Settings) (id : ℕ) (s : SenderState) → first_id (begun_anew p id s) ≡ first_id s
+first_stays : (p : Settings) (id : ℕ) (s : SenderState) → first_id (begun_anew id s) ≡ first_id s
 first_stays p id s = go s.earlier
   where
     go : (earlier : List Instance) → first_in (earlier ++ s.current ∷ []) (begun id) ≡ first_in earlier s.current
     go [] = refl
     go (i ∷ earlier) = refl
 
-restarts_holds : (p : Settings) (id : ℕ) (s : SenderState) → is_used s id ≡ false → id < 65536 → WantsHold p (begun_anew p id s) → SenderHolds p s
-    → SenderHolds p (begun_anew p id s)
+restarts_holds : (p : Settings) (id : ℕ) (s : SenderState) → is_used s id ≡ false → id < 65536 → WantsHold p (begun_anew id s) → SenderHolds p s
+    → SenderHolds p (begun_anew id s)
 restarts_holds p id s unused few wants h = record {
   wants = wants;
   sized = all_with (IsKept p) (instances s) (begun id) (tt, omega arith) h.sized;
@@ -234,11 +244,11 @@ restarts_holds p id s unused few wants h = record {
   few = (let F : ℕ → Type 0 = λ first. rise first id ≤ 32767 in subst F h.first (unused_few s id unused));
   many = omega arith;
   sequence = h.sequence;
-  nodes = unlisted_nodes (receivers_of p p.receivers);
+  nodes = unlisted_few (members s) h.nodes;
   within = omega arith;
   index = omega arith;
   block = refl;
-  asked = ended_all (is_source []) s.requests;
+  asked = ended_all (is_source []) s.watermarks;
 }
 
 -- a command keeps what holds, and instances go on
@@ -286,7 +296,7 @@ opening_holds p range = record {
   few = omega arith;
   many = omega arith;
   sequence = omega arith;
-  nodes = unlisted_nodes (receivers_of p p.receivers);
+  nodes = unlisted_few (receivers_of p p.receivers) (receivers_few p range p.receivers (omega arith));
   within = omega arith;
   index = omega arith;
   block = refl;

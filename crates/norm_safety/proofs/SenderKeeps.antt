@@ -1,8 +1,8 @@
--- What a sender hears, sends and tells leaves its orders, and the commands of its requests.
+-- What a sender hears, sends and tells leaves its orders, and the commands of its watermarks.
 use Rattle.std.proofs.Math.Nat.{mod-lt}
-use Rattle.std.proofs.Common.{arith, ◌+◌, ◌<◌, ◌≡◌, ℕ, cond, List, [], ◌∷◌, Bool, true, false, Option, None, Some, Result, Ok, Err, refl, ap, ◌∙◌}
+use Rattle.std.proofs.Common.{arith, ◌+◌, ◌<◌, ◌≡◌, ℕ, cond, List, [], ◌∷◌, Bool, true, false, Option, None, Some, Result, Ok, Err, refl, ap, ◌∙◌, subst, sym}
 use Rattle.std.specs.List.{AllByRecursion}
-use Rattle.std.specs.Prelude.{map, find, ◌==◌, ◌&&◌, nat_le, nat_lt, is_some, slice_get}
+use Rattle.std.specs.Prelude.{map, filter, not, ◌==◌, ◌&&◌, nat_le, nat_lt}
 use Rattle.norm_base.specs.Settings.{Settings}
 use Rattle.norm_base.specs.declared.node.Origin.{Origin}
 use Rattle.fec_plan.specs.declared.position.Position.{Position}
@@ -12,16 +12,17 @@ use Rattle.norm_ext.specs.Asking.{item_named}
 use Rattle.norm_ext.specs.Reading.{decoded}
 use Rattle.norm_ext.specs.Requests.{Request}
 use Rattle.norm_ext.specs.Written.{Written, writes}
-use Rattle.norm_order.specs.Entries.{Entry, Object}
+use Rattle.norm_order.specs.Entries.{Object}
 use Rattle.norm_order.specs.Shapes.{is_source}
 use Rattle.norm_send_rules.specs.SenderState.{Listing, SenderState, Watermark, Round}
 use Rattle.norm_send_rules.specs.InWindow.{last_index, current_shapes}
-use Rattle.norm_send_rules.specs.Requests.{is_past, pending, is_open, keeps_oldest, counted_anew, ended_with, end_where, settled, open_requests}
-use Rattle.norm_send_rules.specs.Hearing.{listed_past, is_for, joined_round, rises, credited, credited_at, credited_by, nack_heard, ack_heard, message_heard, heard}
+use Rattle.norm_send_rules.specs.Watermarks.{is_past, pending, is_open, keeps_oldest, counted_anew, ended_with, end_where, settled, oldest, watermark_of}
+use Rattle.norm_send_rules.specs.Hearing.{listed_past, nack_counts, ack_counts, joined_round, rises, credited, credited_at, credited_by, nack_heard, ack_heard, message_heard, heard}
+use Rattle.norm_send_rules.specs.Striking.{without_node, struck_off}
 use Rattle.norm_send_rules.specs.Closing.{round_closed}
 use Rattle.norm_send_rules.specs.Messages.{squelch_message, flush_message}
-use Rattle.norm_send_rules.specs.Sending.{message_of, sends, noted, sends_want, repairs_next, sends_new, next_new}
-use Rattle.norm_send_rules.specs.Flushing.{most_flushes, flushes_for, expired, flushed, flushes, may_flush}
+use Rattle.norm_send_rules.specs.Sending.{behind, repair_flags, object_of, message_of, sends, noted, sends_want, repairs_next, sends_new, next_new}
+use Rattle.norm_send_rules.specs.Flushing.{most_flushes, flushes_for, expired, flushes_oldest, flushes_no_more, flushed, flushes_in_turn, flushes, may_flush}
 use Rattle.norm_send_rules.specs.Ticking.{closed_where_due, sends_further, sends_wanted, sends_first, sends_in_time, ticked}
 use Rattle.norm_send_rules.specs.Telling.{told, past_news, done_news, listing_of}
 use Rattle.norm_send_rules.specs.Wants.{want_index}
@@ -30,37 +31,41 @@ use Rattle.norm_send_rules.specs.declared.news.News.{News}
 use Rattle.norm_send_rules.specs.declared.want.Want.{Want}
 use Rattle.norm_send_rules.specs.declared.want.Want.TheVariants.{Info as WantedInfo, Symbol}
 
--- the commands of requests
+-- the commands of watermarks
 abbrev pub bys : List Watermark → List Origin
-bys requests = map (λ (w : Watermark). w.by) requests
+bys watermarks = map (λ (w : Watermark). w.by) watermarks
 
--- each open request is of a position that passes a test
+-- each open watermark is of a position that passes a test
 abbrev pub AllOpen : (Position → Bool) → List Watermark → Type 0
-AllOpen test requests = AllByRecursion (λ (w : Watermark). is_open w ≡ true → test w.at ≡ true) requests
+AllOpen test watermarks = AllByRecursion (λ (w : Watermark). is_open w ≡ true → test w.at ≡ true) watermarks
 
 -- the nodes that may be listed
 abbrev pub nodes_in : List Listing → List ℕ
 nodes_in listings = map (λ (l : Listing). l.node) listings
 
--- A later state has the instances, orders and drop points of an earlier one; its listings are of the same nodes, its
--- requests of the same commands, and open only where they were; and its sequence number has 16 bits where that had.
+-- the nodes that may be listed have ids of 32 bits
+abbrev pub FewNodes : List Listing → Type 0
+FewNodes listings = AllByRecursion (λ id. id < 4294967296) (nodes_in listings)
+
+-- A later state has the instances, orders and drop points of an earlier one; its members' ids have 32 bits where those had;
+-- its watermarks are of the same commands, and open only where they were; and its sequence number has 16 bits where that had.
 pub record Keeps (old new : SenderState) : Type 0 where
   pub earlier : new.earlier ≡ old.earlier
   pub current : new.current ≡ old.current
-  pub by : bys new.requests ≡ bys old.requests
-  pub nodes : nodes_in new.listings ≡ nodes_in old.listings
+  pub by : bys new.watermarks ≡ bys old.watermarks
+  pub nodes : FewNodes old.listings → FewNodes new.listings
   pub sequence : old.sequence < 65536 → new.sequence < 65536
-  pub asked : (test : Position → Bool) → AllOpen test old.requests → AllOpen test new.requests
+  pub asked : (test : Position → Bool) → AllOpen test old.watermarks → AllOpen test new.watermarks
 
 pub keeps_all : (s : SenderState) → Keeps s s
-keeps_all s = record { earlier = refl; current = refl; by = refl; nodes = refl; sequence = λ h. h; asked = λ test all. all }
+keeps_all s = record { earlier = refl; current = refl; by = refl; nodes = λ few. few; sequence = λ h. h; asked = λ test all. all }
 
 pub keeps_on : (a b c : SenderState) → Keeps a b → Keeps b c → Keeps a c
-keeps_on a b c h g = record { earlier = g.earlier ∙ h.earlier; current = g.current ∙ h.current; by = g.by ∙ h.by; nodes = g.nodes ∙ h.nodes; sequence = λ n. g.sequence (h.sequence n); asked = λ test all. g.asked test (h.asked test all) }
+keeps_on a b c h g = record { earlier = g.earlier ∙ h.earlier; current = g.current ∙ h.current; by = g.by ∙ h.by; nodes = λ few. g.nodes (h.nodes few); sequence = λ n. g.sequence (h.sequence n); asked = λ test all. g.asked test (h.asked test all) }
 
--- the position of a request
-abbrev pub request_at_of : Watermark → Position
-request_at_of w = w.at
+-- the position of a watermark
+abbrev pub mark_position : Watermark → Position
+mark_position w = w.at
 
 -- the state of a step
 abbrev step_of : SenderState × Option Written → SenderState
@@ -74,27 +79,27 @@ listing_node l = l.node
 abbrev news_of : SenderState × Option News → SenderState
 news_of step = step.0
 
--- Ending requests does not change whose they are.
-pub ended_by : (test : Watermark → Bool) (outcome : Watermark → Outcome) (requests : List Watermark)
-    → bys (map (λ w. cond (is_open w && test w) (ended_with (outcome w) w) w) requests) ≡ bys requests
+-- Ending watermarks does not change whose they are.
+pub ended_by : (test : Watermark → Bool) (outcome : Watermark → Outcome) (watermarks : List Watermark)
+    → bys (map (λ w. cond (is_open w && test w) (ended_with (outcome w) w) w) watermarks) ≡ bys watermarks
 ended_by test outcome [] = refl
-ended_by test outcome (w ∷ requests) = go (is_open w && test w) (ended_by test outcome requests)
+ended_by test outcome (w ∷ watermarks) = go (is_open w && test w) (ended_by test outcome watermarks)
   where
-    go : (b : Bool) {rest : List Origin} → rest ≡ bys requests
-        → ((cond b (ended_with (outcome w) w) w).by ∷ rest) ≡ (w.by ∷ bys requests)
+    go : (b : Bool) {rest : List Origin} → rest ≡ bys watermarks
+        → ((cond b (ended_with (outcome w) w) w).by ∷ rest) ≡ (w.by ∷ bys watermarks)
     go true e = ap (λ (xs : List Origin). w.by ∷ xs) e
     go false e = ap (λ (xs : List Origin). w.by ∷ xs) e
 
--- A request that ends is open no more.
-ended_open : (asks : Position → Bool) (test : Watermark → Bool) (outcome : Watermark → Outcome) (requests : List Watermark) → AllOpen asks requests
-    → AllOpen asks (map (λ w. cond (is_open w && test w) (ended_with (outcome w) w) w) requests)
+-- A watermark that ends is open no more.
+ended_open : (asks : Position → Bool) (test : Watermark → Bool) (outcome : Watermark → Outcome) (watermarks : List Watermark) → AllOpen asks watermarks
+    → AllOpen asks (map (λ w. cond (is_open w && test w) (ended_with (outcome w) w) w) watermarks)
 ended_open asks test outcome [] all = tt
-ended_open asks test outcome (w ∷ requests) all = (go (is_open w && test w), ended_open asks test outcome requests all.1)
+ended_open asks test outcome (w ∷ watermarks) all = (go (is_open w && test w), ended_open asks test outcome watermarks all.1)
   where
     now : Bool → Watermark
     now b = cond b (ended_with (outcome w) w) w
 
-    go : (b : Bool) → is_open (now b) ≡ true → asks (request_at_of (now b)) ≡ true
+    go : (b : Bool) → is_open (now b) ≡ true → asks (mark_position (now b)) ≡ true
     go true e = absurd (cc)
     go false e = all.0 e
 
@@ -102,10 +107,10 @@ pub ends_keeps : (test : Watermark → Bool) (outcome : Watermark → Outcome) (
 ends_keeps test outcome s = record {
   earlier = refl;
   current = refl;
-  by = ended_by test outcome s.requests;
-  nodes = refl;
+  by = ended_by test outcome s.watermarks;
+  nodes = λ few. few;
   sequence = λ h. h;
-  asked = λ asks all. ended_open asks test outcome s.requests all;
+  asked = λ asks all. ended_open asks test outcome s.watermarks all;
 }
 
 anew : (b : Bool) (old new : SenderState) → Keeps old new → Keeps old (elim b [ true ↦ new | false ↦ record new { flushes = 0 } ])
@@ -120,7 +125,7 @@ settled_keeps old new h = keeps_on old new (settled new) h (ends_keeps _ _ new)
 
 joined_keeps : (p : Settings) (s : SenderState) (now : ℕ) (requests : List Request) → Keeps s (joined_round p s now requests)
 joined_keeps p s now [] = keeps_all s
-joined_keeps p s now (r ∷ requests) = record { earlier = refl; current = refl; by = refl; nodes = refl; sequence = λ h. h; asked = λ test all. all }
+joined_keeps p s now (r ∷ requests) = record { earlier = refl; current = refl; by = refl; nodes = λ few. few; sequence = λ h. h; asked = λ test all. all }
 
 where_true : (b : Bool) (s new : SenderState) → Keeps s new → Keeps s (elim b [ true ↦ new | false ↦ s ])
 where_true true s new h = h
@@ -144,7 +149,7 @@ credited_keeps node at s = where_true (rises node at s) s _
       earlier = refl;
       current = refl;
       by = refl;
-      nodes = listed_nodes node at s.listings;
+      nodes = (let N : List ℕ → Type 0 = λ ids. AllByRecursion (λ id. id < 4294967296) ids in subst N (sym (listed_nodes node at s.listings)));
       sequence = λ h. h;
       asked = λ test all. all;
     })))
@@ -153,7 +158,7 @@ credited_at_keeps : (p : Settings) (node : ℕ) (at : Position) (s : SenderState
 credited_at_keeps p node at s = where_true (is_source (current_shapes p s) at) s _ (credited_keeps node at s)
 
 nack_keeps : (p : Settings) (s : SenderState) (now : ℕ) (m : NackMessage) → Keeps s (nack_heard p s now m)
-nack_keeps p s now m = where_true (is_for p s m.source m.sender m.instance) s _ (joined_keeps p s now m.requests)
+nack_keeps p s now m = where_true (nack_counts p s m) s _ (joined_keeps p s now m.requests)
 
 credited_by_keeps : (p : Settings) (node : ℕ) (at : Option Position) (s : SenderState) → Keeps s (credited_by p node at s)
 credited_by_keeps p node None s = keeps_all s
@@ -165,7 +170,7 @@ content_keeps p node at s (Mark item) = credited_by_keeps p node (at item) s
 content_keeps p node at s (Unread octets) = keeps_all s
 
 ack_keeps : (p : Settings) (s : SenderState) (m : AckMessage) → Keeps s (ack_heard p s m)
-ack_keeps p s m = where_true (is_for p s m.source m.sender m.instance) s _
+ack_keeps p s m = where_true (ack_counts p s m) s _
     (content_keeps p m.source (item_named p (last_index s)) s m.content)
 
 message_keeps : {E : Type 0} (p : Settings) (s : SenderState) (now : ℕ) (r : Result Message E) → Keeps s (message_heard p s now r)
@@ -187,8 +192,8 @@ heard_keeps p s bytes now = message_keeps p s now (decoded bytes)
 
 -- A tick: what is sent changes what was sent, and the moments.
 noted_keeps : (w : Want) (s : SenderState) → Keeps s (noted w s)
-noted_keeps (WantedInfo index) s = record { earlier = refl; current = refl; by = refl; nodes = refl; sequence = λ h. h; asked = λ test all. all }
-noted_keeps (Symbol at) s = record { earlier = refl; current = refl; by = refl; nodes = refl; sequence = λ h. h; asked = λ test all. all }
+noted_keeps (WantedInfo index) s = record { earlier = refl; current = refl; by = refl; nodes = λ few. few; sequence = λ h. h; asked = λ test all. all }
+noted_keeps (Symbol at) s = record { earlier = refl; current = refl; by = refl; nodes = λ few. few; sequence = λ h. h; asked = λ test all. all }
 
 sends_keeps : (p : Settings) (now : ℕ) (m : Written) (old s : SenderState) → Keeps old s → Keeps old (sends p now m s).0
 sends_keeps p now m old s h = record {
@@ -200,37 +205,47 @@ sends_keeps p now m old s h = record {
   asked = h.asked;
 }
 
-entry_sends : (p : Settings) (now : ℕ) (old s : SenderState) (m : Entry → Written) (w : Want) (found : Option Entry) → Keeps old s
-    → Keeps old (step_of (elim found [ Some entry ↦ sends p now (m entry) (noted w s) | None ↦ (s, None) ]))
-entry_sends p now old s m w (Some entry) h = sends_keeps p now (m entry) old (noted w s) (keeps_on old s (noted w s) h (noted_keeps w s))
-entry_sends p now old s m w None h = h
-
 want_keeps : (p : Settings) (now : ℕ) (repair : Object → ℕ) (w : Want) (old s : SenderState) → Keeps old s
     → Keeps old (sends_want p now repair w s).0
 want_keeps p now repair w old s h =
-    entry_sends p now old s (λ entry. writes (message_of p s w entry.object (repair entry.object)) (want_index w ∷ [])) w (slice_get s.current.order (want_index w)) h
+    let object = object_of s w in
+    sends_keeps p now (writes (message_of p s w object (repair object)) (want_index w ∷ [])) old (noted w s)
+    (keeps_on old s (noted w s) h (noted_keeps w s))
 
 flushes_for_keeps : (p : Settings) (now : ℕ) (w : Watermark) (s : SenderState) → Keeps s (flushes_for p now w s).0
 flushes_for_keeps p now w s = sends_keeps p now (writes (flush_message p s w.at (pending s w.at)) (w.at.index ∷ [])) s
-    (record s { flushes = s.flushes + 1; last_flush = Some now }) (record { earlier = refl; current = refl; by = refl; nodes = refl; sequence = λ h. h; asked = λ test all. all })
+    (record s { flushes = s.flushes + 1; last_flush = Some now }) (record { earlier = refl; current = refl; by = refl; nodes = λ few. few; sequence = λ h. h; asked = λ test all. all })
 
 pub expired_keeps : (mark : ℕ) (s : SenderState) → Keeps s (expired mark s)
 expired_keeps mark s = counted_keeps s s _ (ends_keeps _ _ s)
 
-flushed_keeps : (p : Settings) (now : ℕ) (requests : List Watermark) (s : SenderState) → Keeps s (flushed p now requests s).0
-unfolding flushed
-flushed_keeps p now [] s = keeps_all s
-flushed_keeps p now (w ∷ requests) s = go (nat_lt s.flushes most_flushes) (is_some s.round)
-    (keeps_on s (expired w.mark s) _ (expired_keeps w.mark s) (flushed_keeps p now requests (expired w.mark s)))
+oldest_keeps : (p : Settings) (now : ℕ) (s : SenderState) → Keeps s (flushes_oldest p now s).0
+oldest_keeps p now s = go (oldest s)
   where
-    go : (b c : Bool) → Keeps s (flushed p now requests (expired w.mark s)).0
-        → Keeps s (step_of (elim b [
-          | true ↦ flushes_for p now w s
-          | false ↦ elim c [ true ↦ (s, None) | false ↦ flushed p now requests (expired w.mark s) ]
-        ]))
-    go true c more = flushes_for_keeps p now w s
-    go false true more = keeps_all s
-    go false false more = more
+    go : (found : Option Watermark) → Keeps s (step_of (elim found [ Some w ↦ flushes_for p now w s | None ↦ (s, None) ]))
+    go (Some w) = flushes_for_keeps p now w s
+    go None = keeps_all s
+
+no_more_keeps : (p : Settings) (now : ℕ) (w : Watermark) (s : SenderState) → Keeps s (flushes_no_more p now w s).0
+no_more_keeps p now w s = go s.round
+  where
+    go : (round : Option Round) → Keeps s (step_of (elim round [ Some r ↦ (s, None) | None ↦ flushes_oldest p now (expired w.mark s) ]))
+    go (Some r) = keeps_all s
+    go None = keeps_on s (expired w.mark s) _ (expired_keeps w.mark s) (oldest_keeps p now (expired w.mark s))
+
+flushed_keeps : (p : Settings) (now : ℕ) (w : Watermark) (s : SenderState) → Keeps s (flushed p now w s).0
+flushed_keeps p now w s = go (nat_lt s.flushes most_flushes)
+  where
+    go : (b : Bool) → Keeps s (step_of (elim b [ true ↦ flushes_for p now w s | false ↦ flushes_no_more p now w s ]))
+    go true = flushes_for_keeps p now w s
+    go false = no_more_keeps p now w s
+
+in_turn_keeps : (p : Settings) (now : ℕ) (s : SenderState) → Keeps s (flushes_in_turn p now s).0
+in_turn_keeps p now s = go (oldest s)
+  where
+    go : (found : Option Watermark) → Keeps s (step_of (elim found [ Some w ↦ flushed p now w s | None ↦ (s, None) ]))
+    go (Some w) = flushed_keeps p now w s
+    go None = keeps_all s
 
 step_where : (b : Bool) (s : SenderState) (step : SenderState × Option Written) → Keeps s step.0
     → Keeps s (step_of (elim b [ true ↦ step | false ↦ (s, None) ]))
@@ -238,13 +253,13 @@ step_where true s step h = h
 step_where false s step h = keeps_all s
 
 flushes_keeps : (p : Settings) (now : ℕ) (s : SenderState) → Keeps s (flushes p now s).0
-flushes_keeps p now s = step_where (may_flush p s now) s _ (flushed_keeps p now (open_requests s) s)
+flushes_keeps p now s = step_where (may_flush p s now) s _ (in_turn_keeps p now s)
 
 further_keeps : (p : Settings) (now : ℕ) (s : SenderState) → Keeps s (sends_further p now s).0
 further_keeps p now s = go (next_new p s)
   where
     go : (found : Option Want) → Keeps s (step_of (elim found [ Some w ↦ sends_new p now w s | None ↦ flushes p now s ]))
-    go (Some w) = want_keeps p now _ w s _ (record { earlier = refl; current = refl; by = refl; nodes = refl; sequence = λ h. h; asked = λ test all. all })
+    go (Some w) = want_keeps p now (λ object. 0) w s (record s { next = behind w }) (record { earlier = refl; current = refl; by = refl; nodes = λ few. few; sequence = λ h. h; asked = λ test all. all })
     go None = flushes_keeps p now s
 
 wanted_keeps : (p : Settings) (now : ℕ) (s : SenderState) → Keeps s (sends_wanted p now s).0
@@ -252,7 +267,7 @@ wanted_keeps p now s = go s.wants
   where
     go : (wants : List Want) → Keeps s (step_of (elim wants [ [] ↦ sends_further p now s | w ∷ wants ↦ repairs_next p now w wants s ]))
     go [] = further_keeps p now s
-    go (w ∷ wants) = want_keeps p now _ w s _ (record { earlier = refl; current = refl; by = refl; nodes = refl; sequence = λ h. h; asked = λ test all. all })
+    go (w ∷ wants) = want_keeps p now (λ object. repair_flags p object w) w s (record s { wants = wants }) (record { earlier = refl; current = refl; by = refl; nodes = λ few. few; sequence = λ h. h; asked = λ test all. all })
 
 first_keeps : (p : Settings) (now : ℕ) (s : SenderState) → Keeps s (sends_first p now s).0
 first_keeps p now s = go s.squelch_due
@@ -262,7 +277,7 @@ first_keeps p now s = go s.squelch_due
       | false ↦ sends_wanted p now s
     ]))
     go true = sends_keeps p now (writes (squelch_message p s s.current.drop) (s.current.drop.index ∷ [])) s (record s { squelch_due = false })
-        (record { earlier = refl; current = refl; by = refl; nodes = refl; sequence = λ h. h; asked = λ test all. all })
+        (record { earlier = refl; current = refl; by = refl; nodes = λ few. few; sequence = λ h. h; asked = λ test all. all })
     go false = wanted_keeps p now s
 
 in_time_keeps : (p : Settings) (now : ℕ) (s : SenderState) → Keeps s (sends_in_time p now s).0
@@ -279,7 +294,7 @@ closed_keeps p now s = go s.round
       | Some r ↦ elim (nat_le r.closes now) [ true ↦ round_closed p r s | false ↦ s ]
       | None ↦ s
     ])
-    go (Some r) = where_true (nat_le r.closes now) s _ (record { earlier = refl; current = refl; by = refl; nodes = refl; sequence = λ h. h; asked = λ test all. all })
+    go (Some r) = where_true (nat_le r.closes now) s _ (record { earlier = refl; current = refl; by = refl; nodes = λ few. few; sequence = λ h. h; asked = λ test all. all })
     go None = keeps_all s
 
 pub ticked_keeps : (p : Settings) (s : SenderState) (now : ℕ) → Keeps s (ticked p s now).0
@@ -293,14 +308,36 @@ told_keeps s = nodes s.untold_nodes
       | [] ↦ (s, None)
     ]))
     marks [] news = keeps_all s
-    marks (mark ∷ more) news = record { earlier = refl; current = refl; by = refl; nodes = refl; sequence = λ h. h; asked = λ test all. all }
+    marks (mark ∷ more) news = record { earlier = refl; current = refl; by = refl; nodes = λ few. few; sequence = λ h. h; asked = λ test all. all }
 
     nodes : (ns : List ℕ) → Keeps s (news_of (elim ns [
       | node ∷ more ↦ (record s { untold_nodes = more }, past_news node (listing_of s node))
       | [] ↦ elim s.untold_marks [
-        | mark ∷ more ↦ (record s { untold_marks = more }, done_news s mark (find (λ (w : Watermark). w.mark == mark) s.requests))
+        | mark ∷ more ↦ (record s { untold_marks = more }, done_news s mark (watermark_of s mark))
         | [] ↦ (s, None)
       ]
     ]))
-    nodes (node ∷ more) = record { earlier = refl; current = refl; by = refl; nodes = refl; sequence = λ h. h; asked = λ test all. all }
-    nodes [] = marks s.untold_marks (λ mark. done_news s mark (find (λ (w : Watermark). w.mark == mark) s.requests))
+    nodes (node ∷ more) = record { earlier = refl; current = refl; by = refl; nodes = λ few. few; sequence = λ h. h; asked = λ test all. all }
+    nodes [] = marks s.untold_marks (λ mark. done_news s mark (watermark_of s mark))
+
+-- A strike leaves all but the listing of a node.
+others_few : (node : ℕ) (listings : List Listing) → FewNodes listings → FewNodes (filter (λ (l : Listing). not (l.node == node)) listings)
+others_few node [] few = tt
+others_few node (l ∷ listings) few = go (not (l.node == node)) (others_few node listings few.1)
+  where
+    rest : List Listing
+    rest = filter (λ (l : Listing). not (l.node == node)) listings
+
+    go : (b : Bool) → FewNodes rest → FewNodes (cond b (l ∷ rest) rest)
+    go true more = (few.0, more)
+    go false more = more
+
+pub struck_keeps : (node : ℕ) (s : SenderState) → Keeps s (struck_off node s)
+struck_keeps node s = counted_keeps s s _ (settled_keeps s (without_node node s) (record {
+  earlier = refl;
+  current = refl;
+  by = refl;
+  nodes = others_few node s.listings;
+  sequence = λ h. h;
+  asked = λ test all. all;
+}))

@@ -1,12 +1,12 @@
 -- What a sender of data and files says is read again of its octets, and is true of its orders.
-use Rattle.std.proofs.Common.{◌≡◌, ℕ, zero, suc, ◌+◌, ◌*◌, ◌/◌, ◌<◌, ◌≤◌, List, [], ◌∷◌, ◌++◌, length, Bool, true, false, Option, None, Some, Result, Ok, refl, sym, ap, ◌∙◌, subst, arith, inl}
+use Rattle.std.proofs.Common.{◌≡◌, ℕ, zero, suc, ◌+◌, ◌*◌, ◌/◌, ◌<◌, ◌≤◌, List, [], ◌∷◌, ◌++◌, length, Bool, true, false, Option, None, Some, Ok, refl, sym, ap, ◌∙◌, subst, arith, inl}
 use Rattle.std.specs.Prelude.{◌⊎◌, slice_get, nat_lt, is_some, nat_eq, ⊤, IsTrue, IsSomeAnd}
 use Rattle.std.specs.List.{AllByRecursion, IsDistinct}
 use Rattle.byteorder.specs.Endian.{big_bytes}
 use Rattle.norm_base.specs.Settings.{Settings, InRange}
 use Rattle.norm_base.specs.declared.kinds.Kind.{Kind}
 use Rattle.norm_base.specs.declared.kinds.Kind.TheVariants as kind
-use Rattle.fec_plan.specs.Points.{Point, point, point_before, position}
+use Rattle.fec_plan.specs.Points.{Point, point, point_before}
 use Rattle.fec_plan.specs.declared.position.Position.{Position}
 use Rattle.norm_ext.specs.Extensions.{IsExtension, fti_extension, fti_of}
 use Rattle.norm_ext.specs.Message.{Message, Info, Data, Flush, Squelch, InfoMessage, DataMessage, FlushCommand, SquelchCommand}

@@ -47,7 +47,7 @@ once_decides h =
 satisfied_decides : (h : History) → Decides (is_satisfied_exactly h) (SatisfiedExactly h)
 satisfied_decides h =
     let exactly = each_decides (λ (w : Watermark). beq (is_satisfied w) (was_past h.happened w.mark))
-    (λ w. is_satisfied w ≡ was_past h.happened w.mark) (λ w. same_decides _ _) h.now.sender.requests in
+    (λ w. is_satisfied w ≡ was_past h.happened w.mark) (λ w. same_decides _ _) h.now.sender.watermarks in
     let stays = each_decides keeps_outcomes (λ x. IsTrue (keeps_outcomes x)) (λ x. is_true_decides _) h.happened in
     let all = Decides-and _ _ exactly stays in (
       λ e. let parts = all.0 e in record { exactly = parts.0; stays = parts.1 },

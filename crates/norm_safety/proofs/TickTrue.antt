@@ -1,28 +1,27 @@
 -- What a sender's tick sends is true of its orders, and stays true as its instances go on.
-use Rattle.std.proofs.Common.{◌≡◌, ℕ, zero, suc, ◌+◌, ◌<◌, ◌≤◌, cond, List, [], ◌∷◌, ◌++◌, length, take, drop, Bool, true, false, Option, None, Some, Result, Ok, Err, refl, sym, ap, ◌∙◌, subst, arith, ◌⊎◌, inl, inr}
-use Rattle.std.specs.Prelude.{map, filter, find, flat_map, slice_get, ◌&&◌, not, min, nat_lt, is_some, nat_eq, ⊤, IsSomeAnd}
+use Rattle.std.proofs.Common.{◌≡◌, ℕ, zero, suc, ◌+◌, ◌<◌, ◌≤◌, cond, List, [], ◌∷◌, ◌++◌, length, take, drop, Bool, true, false, Option, None, Some, refl, sym, ap, ◌∙◌, subst, arith, ◌⊎◌, inl, inr}
+use Rattle.std.specs.Prelude.{map, filter, find, flat_map, slice_get, ◌&&◌, not, min, nat_lt, nat_eq, ⊤, IsSomeAnd}
 use Rattle.std.specs.List.{AllByRecursion, IsDistinct, range_with_len}
 use Rattle.std.proofs.Common.{append_assoc}
 use Rattle.std.proofs.lemmas.Bool.{cases_lt}
 use Rattle.std.proofs.lemmas.Bool.Decides.{Decides-ltb}
 use Rattle.std.proofs.lemmas.List.{map-append, length-append, length-take, take-append-drop}
 use Rattle.norm_base.specs.Settings.{Settings, InRange}
-use Rattle.norm_base.specs.Members.{receivers_of}
 use Rattle.fec_plan.specs.Points.{position}
 use Rattle.fec_plan.specs.declared.position.Position.{Position}
 use Rattle.fec_plan.specs.Partition.{source_symbols, encoding_symbols}
 use Rattle.norm_ext.specs.Message.{Message, Info, Data, Flush, Eot, Squelch, RepairAdv, AckReq, Opaque, Nack, Ack, Report}
 use Rattle.norm_ext.specs.Written.{Written, writes}
-use Rattle.norm_order.specs.Entries.{Object, Entry}
+use Rattle.norm_order.specs.Entries.{Object, Stream, Entry}
 use Rattle.norm_order.specs.Shapes.{Shape, shape_of, shapes_of, symbols_of, closed_in, encoded_in, is_full, closed_blocks, at_index, is_source}
 use Rattle.norm_order.proofs.UptoLemmas.{found_front}
-use Rattle.norm_send_rules.specs.SenderState.{SenderState, Instance, Listing, Watermark}
+use Rattle.norm_send_rules.specs.SenderState.{SenderState, Instance, Listing, Watermark, Round}
 use Rattle.norm_send_rules.specs.InWindow.{current_shapes, stands_behind}
 use Rattle.norm_send_rules.specs.Restarting.{instances}
 use Rattle.norm_send_rules.specs.Messages.{command_head, squelch_message, explicit_repair, parity_repair}
 use Rattle.norm_send_rules.specs.Sending.{sent_once, new_of, new_from, next_new, behind, sends, noted, repair_flags, message_of, sends_want, repairs_next, sends_new}
-use Rattle.norm_send_rules.specs.Flushing.{most_flushes, flushes_for, expired, flushed, flushes, may_flush}
-use Rattle.norm_send_rules.specs.Requests.{is_open, open_requests, pending}
+use Rattle.norm_send_rules.specs.Flushing.{most_flushes, flushes_for, expired, flushes_oldest, flushes_no_more, flushed, flushes_in_turn, flushes, may_flush}
+use Rattle.norm_send_rules.specs.Watermarks.{is_open, oldest, pending}
 use Rattle.norm_send_rules.specs.Ticking.{closed_where_due, sends_further, sends_wanted, sends_first, ticked}
 use Rattle.norm_send_rules.specs.Wants.{want_before, want_index}
 use Rattle.norm_send_rules.specs.Laws.{Rise, is_of_order, WantsHold}
@@ -34,8 +33,9 @@ use Rattle.norm_safety.specs.OnceEach.{order_of, instance_ids}
 use Rattle.norm_safety.specs.Said.{first_index, entry_at}
 use Rattle.norm_safety.proofs.CommandSteps.{same_instances, keeps_ids}
 use Rattle.fec_plan.proofs.PointLemmas.{not_before_both}
+use Rattle.norm_safety.proofs.EntryLemmas.{clash}
 use Rattle.norm_safety.proofs.Onward.{GoOn, Onward, LaterThan, instance_in, goes_on_itself}
-use Rattle.norm_safety.proofs.SenderKeeps.{Keeps, keeps_all, keeps_on, expired_keeps, closed_keeps, nodes_in, AllOpen}
+use Rattle.norm_safety.proofs.SenderKeeps.{Keeps, keeps_all, expired_keeps, closed_keeps, nodes_in, AllOpen}
 use Rattle.norm_safety.proofs.SenderHolds.{SenderHolds, keeps_steps, order_later}
 use Rattle.norm_safety.proofs.LastLemmas.{found_behind, source_still}
 use Rattle.norm_safety.proofs.Spoken.{IsTrueOf, SaysTrue, command_head_fits, want_true, squelch_true, flush_true}
@@ -252,30 +252,36 @@ repair_few p object (Symbol at) = go (nat_lt at.symbol (source_symbols (shape_of
     go true = omega arith
     go false = omega arith
 
+-- what is of the order has its entry
+not_at : (p : Settings) (order : List Entry) (index : ℕ) (test : Shape → Bool) → slice_get order index ≡ None → at_index (shapes_of p order) index false test ≡ true → ⊥
+not_at p [] index test e h = clash h
+not_at p (x ∷ order) zero test e h = absurd (some_none x e)
+  where
+    some_none : (y : Entry) → Some y ≡ None → ⊥
+    some_none y e = cc
+not_at p (x ∷ order) (suc index) test e h = not_at p order index test e h
+
+not_of_order : (p : Settings) (order : List Entry) (w : Want) → slice_get order (want_index w) ≡ None → is_of_order (shapes_of p order) w ≡ true → ⊥
+not_of_order p order (WantedInfo index) e h = not_at p order index (λ s. s.info) e h
+not_of_order p order (Symbol at) e h = not_at p order at.index (λ s. nat_lt at.symbol (encoded_in s at.block)) e h
+
 -- a want of the order that is sent
 wanted_true : (p : Settings) → InRange p → (s : SenderState) (now : ℕ) (repair : Object → ℕ) (w : Want) → SenderHolds p s
     → IsDistinct nat_eq (instance_ids s) → is_of_order (current_shapes p s) w ≡ true → ((object : Object) → repair object < 4)
     → SentTrue p s (sends_want p now repair w s).1
 wanted_true p range s now repair w h differ of few = go (slice_get s.current.order (want_index w)) refl
   where
-    go : (found : Option Entry) → slice_get s.current.order (want_index w) ≡ found → SentTrue p s (given (elim found [
-      | Some entry ↦ sends p now (writes (message_of p s w entry.object (repair entry.object)) (want_index w ∷ [])) (noted w s)
-      | None ↦ (s, None)
-    ]))
-    go None e = tt
+    object_in : Option Entry → Object
+    object_in found = elim found [ Some entry ↦ entry.object | None ↦ Stream [] ]
+
+    sent : Object → Option Written
+    sent object = (sends p now (writes (message_of p s w object (repair object)) (want_index w ∷ [])) (noted w s)).1
+
+    go : (found : Option Entry) → slice_get s.current.order (want_index w) ≡ found → SentTrue p s (sent (object_in found))
+    go None e = absurd (not_of_order p s.current.order w e of)
     go (Some entry) e = want_true p range s w entry (repair entry.object) h differ of e (few entry.object)
 
--- the receivers have ids of 32 bits
-receivers_few : (p : Settings) → InRange p → (n : ℕ) → n ≤ p.receivers → AllByRecursion (λ id. id < 4294967296) (receivers_of p n)
-receivers_few p range zero le = tt
-receivers_few p range (suc n) le =
-    ids_append (receivers_of p n) (p.sender + 1 + n) (receivers_few p range n (omega arith)) (omega (arith, range.sender.1, range.receivers.1))
-  where
-    ids_append : (ids : List ℕ) (id : ℕ) → AllByRecursion (λ id. id < 4294967296) ids → id < 4294967296 → AllByRecursion (λ id. id < 4294967296) (ids ++ id ∷ [])
-    ids_append [] id all few = (few, tt)
-    ids_append (x ∷ ids) id all few = (all.0, ids_append ids id all.1 few)
-
--- and so have those that are waited for
+-- those that are waited for have ids of 32 bits
 pending_few : (test : Listing → Bool) (listings : List Listing) → AllByRecursion (λ id. id < 4294967296) (nodes_in listings)
     → AllByRecursion (λ id. id < 4294967296) (map (λ (l : Listing). l.node) (filter test listings))
 pending_few test [] all = tt
@@ -289,51 +295,69 @@ pending_few test (l ∷ listings) all = go (test l) (pending_few test listings a
     go true more = (all.0, more)
     go false more = more
 
--- the requests that are open are of positions that pass the test
-open_pass : (test : Position → Bool) (requests : List Watermark) → AllOpen test requests
-    → AllByRecursion (λ (w : Watermark). test w.at ≡ true) (filter is_open requests)
-open_pass test [] all = tt
-open_pass test (w ∷ requests) all = go (is_open w) refl (open_pass test requests all.1)
+-- the oldest open watermark is of a position that passes the test
+oldest_passes : (test : Position → Bool) (watermarks : List Watermark) (w : Watermark) → AllOpen test watermarks → find is_open watermarks ≡ Some w
+    → test w.at ≡ true
+oldest_passes test [] w all e = absurd (none_some w e)
   where
-    go : (b : Bool) → is_open w ≡ b → AllByRecursion (λ (w : Watermark). test w.at ≡ true) (filter is_open requests)
-        → AllByRecursion (λ (w : Watermark). test w.at ≡ true) (cond b (w ∷ filter is_open requests) (filter is_open requests))
-    go true is more = (all.0 is, more)
-    go false is more = more
+    none_some : (x : Watermark) → None ≡ Some x → ⊥
+    none_some x e = cc
+oldest_passes test (x ∷ watermarks) w all e = go (is_open x) refl (λ e. oldest_passes test watermarks w all.1 e) e
+  where
+    same_mark : (x y : Watermark) → Some x ≡ Some y → x ≡ y
+    same_mark x y e = cc
+
+    go : (b : Bool) → is_open x ≡ b → (find is_open watermarks ≡ Some w → test w.at ≡ true) → cond b (Some x) (find is_open watermarks) ≡ Some w → test w.at ≡ true
+    go true is more e = subst (λ (v : Watermark). test v.at ≡ true) (same_mark x w e) (all.0 is)
+    go false is more e = more e
 
 -- a flush of a state that keeps the orders
 flushed_one : (p : Settings) → InRange p → (t : SenderState) → SenderHolds p t → IsDistinct nat_eq (instance_ids t) → (s : SenderState) → Keeps t s
     → (w : Watermark) → is_source (current_shapes p t) w.at ≡ true → (now : ℕ) → SentTrue p t (flushes_for p now w s).1
 flushed_one p range t h differ s keeps w source now =
     let I : Instance → Type 0 = λ i. i.id < 65536 in
-    let N : List ℕ → Type 0 = λ ids. AllByRecursion (λ id. id < 4294967296) ids in
-    let nodes : AllByRecursion (λ id. id < 4294967296) (nodes_in s.listings) =
-    subst N (sym (keeps.nodes ∙ h.nodes)) (receivers_few p range p.receivers (omega arith)) in
     flush_true p range t (command_head p s) w.at (pending s w.at) h differ
     (command_head_fits p range s (keeps.sequence h.sequence) (subst I (sym keeps.current) h.id))
-    (ap (λ (i : Instance). i.id) keeps.current) source (pending_few _ s.listings nodes)
+    (ap (λ (i : Instance). i.id) keeps.current) source (pending_few _ s.listings (keeps.nodes h.nodes))
 
-flushed_true : (p : Settings) → InRange p → (t : SenderState) → SenderHolds p t → IsDistinct nat_eq (instance_ids t) → (now : ℕ) (requests : List Watermark)
-    → AllByRecursion (λ (w : Watermark). is_source (current_shapes p t) w.at ≡ true) requests → (s : SenderState) → Keeps t s
-    → SentTrue p t (flushed p now requests s).1
-unfolding flushed
-flushed_true p range t h differ now [] all s keeps = tt
-flushed_true p range t h differ now (w ∷ requests) all s keeps =
-    go (nat_lt s.flushes most_flushes) (is_some s.round)
-    (flushed_true p range t h differ now requests all.1 (expired w.mark s) (keeps_on t s (expired w.mark s) keeps (expired_keeps w.mark s)))
+oldest_true : (p : Settings) → InRange p → (t : SenderState) → SenderHolds p t → IsDistinct nat_eq (instance_ids t) → (now : ℕ) (s : SenderState) → Keeps t s
+    → SentTrue p t (flushes_oldest p now s).1
+oldest_true p range t h differ now s keeps = go (oldest s) refl
   where
-    go : (b c : Bool) → SentTrue p t (flushed p now requests (expired w.mark s)).1 → SentTrue p t (given (elim b [
-      | true ↦ flushes_for p now w s
-      | false ↦ elim c [ true ↦ (s, None) | false ↦ flushed p now requests (expired w.mark s) ]
-    ]))
-    go true c more = flushed_one p range t h differ s keeps w all.0 now
-    go false true more = tt
-    go false false more = more
+    go : (found : Option Watermark) → oldest s ≡ found → SentTrue p t (given (elim found [ Some w ↦ flushes_for p now w s | None ↦ (s, None) ]))
+    go None e = tt
+    go (Some w) e =
+        let source = oldest_passes (is_source (current_shapes p t)) s.watermarks w (keeps.asked (is_source (current_shapes p t)) h.asked) e in
+        flushed_one p range t h differ s keeps w source now
+
+no_more_true : (p : Settings) → InRange p → (t : SenderState) → SenderHolds p t → IsDistinct nat_eq (instance_ids t) → (now : ℕ) (w : Watermark)
+    → SentTrue p t (flushes_no_more p now w t).1
+no_more_true p range t h differ now w = go t.round
+  where
+    go : (round : Option Round) → SentTrue p t (given (elim round [ Some r ↦ (t, None) | None ↦ flushes_oldest p now (expired w.mark t) ]))
+    go (Some r) = tt
+    go None = oldest_true p range t h differ now (expired w.mark t) (expired_keeps w.mark t)
+
+flushed_true : (p : Settings) → InRange p → (t : SenderState) → SenderHolds p t → IsDistinct nat_eq (instance_ids t) → (now : ℕ) (w : Watermark)
+    → is_source (current_shapes p t) w.at ≡ true → SentTrue p t (flushed p now w t).1
+flushed_true p range t h differ now w source = go (nat_lt t.flushes most_flushes)
+  where
+    go : (b : Bool) → SentTrue p t (given (elim b [ true ↦ flushes_for p now w t | false ↦ flushes_no_more p now w t ]))
+    go true = flushed_one p range t h differ t (keeps_all t) w source now
+    go false = no_more_true p range t h differ now w
+
+in_turn_true : (p : Settings) → InRange p → (now : ℕ) (s : SenderState) → SenderHolds p s → IsDistinct nat_eq (instance_ids s) → SentTrue p s (flushes_in_turn p now s).1
+in_turn_true p range now s h differ = go (oldest s) refl
+  where
+    go : (found : Option Watermark) → oldest s ≡ found → SentTrue p s (given (elim found [ Some w ↦ flushed p now w s | None ↦ (s, None) ]))
+    go None e = tt
+    go (Some w) e = flushed_true p range s h differ now w (oldest_passes (is_source (current_shapes p s)) s.watermarks w h.asked e)
 
 flushes_true : (p : Settings) → InRange p → (now : ℕ) (s : SenderState) → SenderHolds p s → IsDistinct nat_eq (instance_ids s) → SentTrue p s (flushes p now s).1
 flushes_true p range now s h differ = go (may_flush p s now)
   where
-    go : (b : Bool) → SentTrue p s (given (elim b [ true ↦ flushed p now (open_requests s) s | false ↦ (s, None) ]))
-    go true = flushed_true p range s h differ now (open_requests s) (open_pass (is_source (current_shapes p s)) s.requests h.asked) s (keeps_all s)
+    go : (b : Bool) → SentTrue p s (given (elim b [ true ↦ flushes_in_turn p now s | false ↦ (s, None) ]))
+    go true = in_turn_true p range now s h differ
     go false = tt
 
 -- the state in which a want is sent holds what holds, and has the same orders
@@ -353,9 +377,9 @@ further_true p range now s h differ = go (next_new p s) refl
     go : (found : Option Want) → next_new p s ≡ found → SentTrue p s (given (elim found [ Some w ↦ sends_new p now w s | None ↦ flushes p now s ]))
     go None e = flushes_true p range now s h differ
     go (Some w) e =
-        let keeps : Keeps s (next w) = record { earlier = refl; current = refl; by = refl; nodes = refl; sequence = λ n. n; asked = λ test all. all } in
+        let keeps : Keeps s (next w) = record { earlier = refl; current = refl; by = refl; nodes = λ few. few; sequence = λ n. n; asked = λ test all. all } in
         let wants : WantsHold p (next w) = record { rise = h.wants.rise; of_order = h.wants.of_order; in_window = h.wants.in_window } in
-        same_true p (next w) s _ (goes_on_itself (instances s))
+        same_true p (next w) s (sends_want p now (λ object. 0) w (next w)).1 (goes_on_itself (instances s))
         (wanted_true p range (next w) now (λ object. 0) w (without p s (next w) keeps wants h) differ
         (next_of_order p (blocks_of p range) s w e) (λ object. omega arith))
 
@@ -374,9 +398,9 @@ wants_true p range now s h differ = go s.wants refl
         let rise = subst R e h.wants.rise in
         let of = subst O e h.wants.of_order in
         let within = subst W e h.wants.in_window in
-        let keeps : Keeps s (rest wants) = record { earlier = refl; current = refl; by = refl; nodes = refl; sequence = λ n. n; asked = λ test all. all } in
+        let keeps : Keeps s (rest wants) = record { earlier = refl; current = refl; by = refl; nodes = λ few. few; sequence = λ n. n; asked = λ test all. all } in
         let hold : WantsHold p (rest wants) = record { rise = rise.1; of_order = of.1; in_window = within.1 } in
-        same_true p (rest wants) s _ (goes_on_itself (instances s))
+        same_true p (rest wants) s (sends_want p now (λ object. repair_flags p object w) w (rest wants)).1 (goes_on_itself (instances s))
         (wanted_true p range (rest wants) now (λ object. repair_flags p object w) w (without p s (rest wants) keeps hold h) differ of.0
         (λ object. repair_few p object w))
 

@@ -18,21 +18,23 @@ use Rattle.norm_send_rules.specs.InWindow.{next_index, current_shapes}
 use Rattle.norm_send_rules.specs.Restarting.{is_used, begun_anew}
 use Rattle.norm_send_rules.specs.Enqueuing.{info_length, open_parts, open_stream, object_fault, joined, ids_spent}
 use Rattle.norm_send_rules.specs.Streaming.{parts_now, write_fault, close_fault, grown, with_parts, cut}
-use Rattle.norm_send_rules.specs.Marking.{most_open, requested, request_at}
-use Rattle.norm_send_rules.specs.Requests.{open_requests}
+use Rattle.norm_send_rules.specs.Marking.{is_no_quorum, most_open, with_watermark, watermark_at, cut_and_marked}
+use Rattle.norm_send_rules.specs.Striking.{strike_fault, struck_off}
+use Rattle.norm_send_rules.specs.Watermarks.{open_watermarks}
 use Rattle.norm_send_rules.specs.Commanding.{commanded, answered}
 use Rattle.norm_send_rules.specs.declared.fault.EnqueueFault.{EnqueueFault}
-use Rattle.norm_send_rules.specs.declared.fault.MarkFault.TheVariants.{TooMany}
+use Rattle.norm_send_rules.specs.declared.fault.MarkFault.TheVariants.{TooMany, Quorum}
+use Rattle.norm_send_rules.specs.declared.fault.StrikeFault.{StrikeFault}
 use Rattle.norm_send_rules.specs.declared.fault.SendFault.{SendFault}
-use Rattle.norm_send_rules.specs.declared.fault.SendFault.TheVariants.{Mark, IdUsed}
+use Rattle.norm_send_rules.specs.declared.fault.SendFault.TheVariants.{Mark, Strike, IdUsed}
 use Rattle.norm_send_rules.specs.declared.job.Job.{Job}
 use Rattle.norm_send_rules.specs.declared.job.Job.TheVariants as job
 use Rattle.norm_send_rules.specs.declared.job.Receipt.{Receipt}
 use Rattle.norm_send_rules.specs.declared.job.Receipt.TheVariants as receipt
 use Rattle.norm_safety.specs.Jobs.{IsJob, OpensNone}
-use Rattle.norm_safety.proofs.SenderKeeps.{Keeps, keeps_all, nodes_in, AllOpen}
+use Rattle.norm_safety.proofs.SenderKeeps.{Keeps, keeps_all, struck_keeps, FewNodes, AllOpen}
 use Rattle.norm_safety.proofs.EntryLemmas.{open_in, ends, clash}
-use Rattle.norm_safety.proofs.CommandSteps.{where_free, first_none, no_parts, requested_keeps}
+use Rattle.norm_safety.proofs.CommandSteps.{where_free, first_none, no_parts, marked_keeps}
 
 -- data or a file, of octets, and no larger than the profile lets it be
 abbrev pub IsSized : Settings → Object → Type 0
@@ -64,15 +66,15 @@ none_open p order all = go (ends order)
         let A : List Entry → Type 0 = λ xs. AreSized p xs in
         ap open_in is ∙ ap last_open (reverse-append front (last ∷ [])) ∙ not_open p last.object (last_sized p front last (subst A is all))
 
--- What stays but for requests: orders, instances, drop points, whom listings are of; and the sequence number has 16 bits.
--- A request is open where it was, or is of the last source symbol of the order.
+-- What stays but for watermarks: orders, instances, drop points, that members' ids have 32 bits; and the sequence number has
+-- 16 bits. -- A watermark is open where it was, or is of the last source symbol of the order.
 pub record Steady (p : Settings) (old new : SenderState) : Type 0 where
   pub earlier : new.earlier ≡ old.earlier
   pub current : new.current ≡ old.current
-  pub nodes : nodes_in new.listings ≡ nodes_in old.listings
+  pub nodes : FewNodes old.listings → FewNodes new.listings
   pub sequence : old.sequence < 65536 → new.sequence < 65536
   pub asked : (test : Position → Bool) → ((at : Position) → last_source (current_shapes p old) ≡ Some at → test at ≡ true)
-      → AllOpen test old.requests → AllOpen test new.requests
+      → AllOpen test old.watermarks → AllOpen test new.watermarks
 
 pub keeps_steady : (p : Settings) (old new : SenderState) → Keeps old new → Steady p old new
 keeps_steady p old new h = record {
@@ -88,7 +90,7 @@ pub data CommandCase (p : Settings) (s : SenderState) (by : Origin) : SenderStat
   Stays : {new : SenderState} → Steady p s new → CommandCase p s by new
   Joins : (kind : Kind) (info : Option (List ℕ)) (octets : List ℕ) → IsSized p (Whole kind info octets) → next_index s < 4294967295
       → CommandCase p s by (joined p by (Whole kind info octets) s)
-  Restarts : (id : ℕ) → is_used s id ≡ false → id < 65536 → CommandCase p s by (begun_anew p id s)
+  Restarts : (id : ℕ) → is_used s id ≡ false → id < 65536 → CommandCase p s by (begun_anew id s)
 
 -- the state of a step
 abbrev state_of : SenderState × Result Receipt SendFault → SenderState
@@ -153,36 +155,42 @@ cut_nothing p s none =
     cut_by : ℕ → SenderState
     cut_by n = elim n [ zero ↦ s | suc n ↦ with_parts (parts_now s ++ Cut ∷ []) s ]
 
--- one more request of a position that passes the test
-open_more : (test : Position → Bool) (requests : List Watermark) (w : Watermark) → test w.at ≡ true → AllOpen test requests → AllOpen test (requests ++ w ∷ [])
+-- one more watermark of a position that passes the test
+open_more : (test : Position → Bool) (watermarks : List Watermark) (w : Watermark) → test w.at ≡ true → AllOpen test watermarks → AllOpen test (watermarks ++ w ∷ [])
 open_more test [] w h all = (λ is. h, tt)
-open_more test (x ∷ requests) w h all = (all.0, open_more test requests w h all.1)
+open_more test (x ∷ watermarks) w h all = (all.0, open_more test watermarks w h all.1)
 
 -- a mark asks for the last source symbol, or changes nothing
-mark_case : (p : Settings) (by : Origin) (s between : SenderState) (found : Option Position) → found ≡ last_source (current_shapes p between)
-    → between ≡ s → CommandCase p s by (answered Mark (request_at between by found)).0
-mark_case p by s between found last same =
-    let C : SenderState → Type 0 = λ x. CommandCase p s by (answered Mark (request_at x by found)).0 in
+mark_case : (p : Settings) (by : Origin) (quorum : Option ℕ) (s between : SenderState) (found : Option Position)
+    → found ≡ last_source (current_shapes p between) → between ≡ s → CommandCase p s by (answered Mark (watermark_at between by quorum found)).0
+mark_case p by quorum s between found last same =
+    let C : SenderState → Type 0 = λ x. CommandCase p s by (answered Mark (watermark_at x by quorum found)).0 in
     subst C (sym same) (at found (last ∙ ap (λ (x : SenderState). last_source (current_shapes p x)) same))
   where
     few : (at : Position) → Some at ≡ last_source (current_shapes p s) → (many : Bool) → CommandCase p s by (state_of (answered Mark (elim many [
-      | true ↦ (s, Err (TooMany (length (open_requests s))))
-      | false ↦ (requested s by at, Ok (receipt.Mark (length s.requests + 1) at))
+      | true ↦ (s, Err (TooMany (length (open_watermarks s))))
+      | false ↦ (with_watermark s by quorum at, Ok (receipt.Mark (length s.watermarks + 1) at))
     ])))
     few at is true = Stays (keeps_steady p s s (keeps_all s))
     few at is false =
-        let kept = requested_keeps by s at in
+        let kept = marked_keeps by s quorum at in
         Stays (record {
           earlier = kept.earlier;
           current = kept.current;
           nodes = kept.nodes;
           sequence = kept.sequence;
-          asked = λ test last all. kept.asked test (open_more test s.requests _ (last at (sym is)) all);
+          asked = λ test last all. kept.asked test (open_more test s.watermarks _ (last at (sym is)) all);
         })
 
-    at : (found : Option Position) → found ≡ last_source (current_shapes p s) → CommandCase p s by (answered Mark (request_at s by found)).0
+    at : (found : Option Position) → found ≡ last_source (current_shapes p s) → CommandCase p s by (answered Mark (watermark_at s by quorum found)).0
     at None is = Stays (keeps_steady p s s (keeps_all s))
-    at (Some position) is = few position is (nat_le most_open (length (open_requests s)))
+    at (Some position) is = few position is (nat_le most_open (length (open_watermarks s)))
+
+-- where no stream is open nothing is cut
+cut_mark_case : (p : Settings) (s : SenderState) (by : Origin) (quorum : Option ℕ) → AreSized p s.current.order
+    → CommandCase p s by (answered Mark (cut_and_marked p s by quorum)).0
+cut_mark_case p s by quorum all =
+    mark_case p by quorum s (cut p s) (last_source (current_shapes p (cut p s))) refl (cut_nothing p s (none_open p s.current.order all))
 
 pub command_case : (p : Settings) (s : SenderState) (by : Origin) (job : Job) → AreSized p s.current.order → IsJob job → OpensNone job
     → CommandCase p s by (commanded p s by job).0
@@ -199,13 +207,25 @@ command_case p s by (job.Write bytes) all are none =
 command_case p s by job.Close all are none =
     let parts = parts_now s ++ End ∷ [] in
     closed_case p by s (none_open p s.current.order all) (close_fault p s parts) (λ e. (first_none _ _ _ e).0) (grown p s parts) _
-command_case p s by job.Mark all are none =
-    mark_case p by s (cut p s) (last_source (current_shapes p (cut p s))) refl (cut_nothing p s (none_open p s.current.order all))
+command_case p s by (job.Mark None) all are none = cut_mark_case p s by None all
+command_case p s by (job.Mark (Some q)) all are none = go (is_no_quorum p q)
+  where
+    go : (no : Bool) → CommandCase p s by (state_of (answered Mark (elim no [ true ↦ (s, Err (Quorum q)) | false ↦ cut_and_marked p s by (Some q) ])))
+    go true = Stays (keeps_steady p s s (keeps_all s))
+    go false = cut_mark_case p s by (Some q) all
 command_case p s by (job.Restart id) all are none = go (is_used s id) refl
   where
     go : (used : Bool) → is_used s id ≡ used → CommandCase p s by (state_of (elim used [
       | true ↦ (s, Err (IdUsed id))
-      | false ↦ (begun_anew p id s, Ok (receipt.Restarted id))
+      | false ↦ (begun_anew id s, Ok (receipt.Restarted id))
     ]))
     go true e = Stays (keeps_steady p s s (keeps_all s))
     go false e = Restarts id e are
+command_case p s by (job.Strike node) all are none = go (strike_fault s node)
+  where
+    go : (found : Option StrikeFault) → CommandCase p s by (state_of (answered Strike (elim found [
+      | Some fault ↦ (s, Err fault)
+      | None ↦ (struck_off node s, Ok (receipt.Struck node))
+    ])))
+    go (Some fault) = Stays (keeps_steady p s s (keeps_all s))
+    go None = Stays (keeps_steady p s (struck_off node s) (struck_keeps node s))

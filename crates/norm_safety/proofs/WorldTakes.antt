@@ -16,7 +16,7 @@ use Rattle.norm_send_rules.specs.Restarting.{instances}
 use Rattle.norm_safety.specs.Events.{UpTaken, Took}
 use Rattle.norm_safety.specs.World.{World, receiver_at, with_receiver}
 use Rattle.norm_safety.specs.History.{Happening}
-use Rattle.norm_safety.specs.Hands.{hands, taken_in, is_at, instance_at}
+use Rattle.norm_safety.specs.Hands.{hands, taken_in, is_at}
 use Rattle.norm_safety.specs.InOrder.{came_to, drop_of}
 use Rattle.norm_safety.specs.OnceEach.{order_of}
 use Rattle.norm_safety.proofs.EntryLemmas.{clash}

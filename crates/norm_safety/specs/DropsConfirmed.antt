@@ -1,4 +1,4 @@
--- Tied, part 7: in hold mode every receiver handed up all that was dropped.
+-- Tied, part 7: in hold mode every member handed up all that was dropped.
 use Rattle.std.specs.Prelude.{List, [], ◌∷◌, reverse, filter, Bool, true, Option, None, Some, IfSome, ⊤}
 use Rattle.std.specs.List.{list_all, AllByRecursion}
 use Rattle.norm_base.specs.Settings.{Settings}
@@ -11,6 +11,7 @@ use Rattle.norm_receive_rules.specs.ReceiverState.{ReceiverState}
 use Rattle.norm_send_rules.specs.Asking.{all_sources}
 use Rattle.norm_send_rules.specs.Restarting.{instances}
 use Rattle.norm_send_rules.specs.SenderState.{Instance}
+use Rattle.norm_send_rules.specs.Watermarks.{has_member}
 use Rattle.norm_safety.specs.Fronts.{IsFront, is_front}
 use Rattle.norm_safety.specs.Hands.{hands}
 use Rattle.norm_safety.specs.History.{History}
@@ -31,17 +32,21 @@ HandedDropped p h i r = IfSome (last_dropped p i) (λ at. IsFront (upto p i.orde
 abbrev pub InHold : Settings → Type 0 → Type 0
 InHold p Claim = elim p.mode as (λ m. Type 0) [ mode.Hold ↦ Claim | mode.Drop ↦ ⊤ ]
 
--- of each instance and each receiver
+-- the receivers that are members
+abbrev pub members_in : History → List ReceiverState
+members_in h = filter (λ (r : ReceiverState). has_member r.node h.now.sender) h.now.receivers
+
+-- of each instance and each member
 pub record DropsConfirmed (p : Settings) (h : History) : Type 0 where
-  pub each : InHold p (AllByRecursion (λ i. AllByRecursion (HandedDropped p h i) h.now.receivers) (instances h.now.sender))
+  pub each : InHold p (AllByRecursion (λ i. AllByRecursion (HandedDropped p h i) (members_in h)) (instances h.now.sender))
 
 -- The same as a test.
 abbrev pub handed_dropped : Settings → History → Instance → ReceiverState → Bool
 handed_dropped p h i r = elim (last_dropped p i) [ Some at ↦ is_front (upto p i.order at) (hands h.happened r.node i.id) | None ↦ true ]
 
--- of each instance and each receiver
+-- of each instance and each member
 abbrev pub drops_confirmed : Settings → History → Bool
 drops_confirmed p h = elim p.mode [
-  | mode.Hold ↦ list_all (λ i. list_all (handed_dropped p h i) h.now.receivers) (instances h.now.sender)
+  | mode.Hold ↦ list_all (λ i. list_all (handed_dropped p h i) (members_in h)) (instances h.now.sender)
   | mode.Drop ↦ true
 ]

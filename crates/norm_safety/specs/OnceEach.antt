@@ -19,11 +19,11 @@ origin_of_part _ = []
 abbrev pub origins_of : Entry → List Origin
 origins_of entry = entry.by ∷ elim entry.object [ Whole kind info octets ↦ [] | Stream parts ↦ flat_map origin_of_part parts ]
 
--- all origins among the entries, parts and requests of a sender
+-- all origins among the entries, parts and watermarks of a sender
 abbrev pub origins : SenderState → List Origin
 origins s =
     flat_map (λ (i : Instance). flat_map origins_of i.order) (instances s)
-    ++ map (λ (w : Watermark). w.by) s.requests
+    ++ map (λ (w : Watermark). w.by) s.watermarks
 
 -- the ids of all instances
 abbrev pub instance_ids : SenderState → List ℕ
@@ -43,7 +43,7 @@ has_its_place s h (Commanded by job now) (Gave (Ok (receipt.Object index len))) 
 has_its_place s h (Commanded by job now) (Gave (Ok (receipt.Opened index))) = is_entry_by s h.before.sender.current.id index by
 has_its_place s h _ _ = true
 
--- Each command stands at most once among all orders and requests, instances have different ids, and the index that an
+-- Each command stands at most once among all orders and watermarks, instances have different ids, and the index that an
 -- accepted object was answered is its place.
 pub record OnceEach (h : History) : Type 0 where
   pub origins : IsDistinct same_origin (origins h.now.sender)

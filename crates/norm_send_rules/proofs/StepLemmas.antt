@@ -1,6 +1,6 @@
 -- Each step of the sender keeps its wants in order, of the order, and in the window.
 use Rattle.std.proofs.Common.{◌≡◌, ℕ, zero, suc, ◌+◌, List, [], ◌∷◌, ◌++◌, length, map, Bool, true, false, Option, None, Some, Result, Ok, Err, refl, sym, subst, arith}
-use Rattle.std.specs.Prelude.{slice_get, filter, nat_lt, nat_le, unwrap_or, is_some, find, ◌==◌}
+use Rattle.std.specs.Prelude.{filter, nat_lt, nat_le, unwrap_or, ◌==◌}
 use Rattle.std.proofs.Math.Nat.{zero-mod}
 use Rattle.norm_base.specs.Settings.{Settings, InRange}
 use Rattle.norm_base.specs.declared.kinds.Kind.TheVariants as kind
@@ -11,7 +11,7 @@ use Rattle.norm_ext.specs.Asking.{item_named}
 use Rattle.norm_ext.specs.Reading.{decoded}
 use Rattle.norm_ext.specs.Written.{Written, writes}
 use Rattle.norm_ext.specs.Requests.{Request}
-use Rattle.norm_order.specs.Entries.{Part, Write, Cut, End, Object, Whole, Stream, Entry}
+use Rattle.norm_order.specs.Entries.{Part, Write, Cut, End, Object, Whole, Stream}
 use Rattle.norm_order.specs.Segments.{since_cut, unclosed}
 use Rattle.norm_order.specs.Shapes.{last_source, is_source}
 use Rattle.norm_order.specs.Sets.{with_member}
@@ -19,18 +19,18 @@ use Rattle.norm_send_rules.specs.SenderState.{SenderState, Watermark, Round}
 use Rattle.norm_send_rules.specs.SenderStep as events
 use Rattle.norm_send_rules.specs.SenderStep.{SenderEvent, sender_step}
 use Rattle.norm_send_rules.specs.InWindow.{stands_behind, last_index, current_shapes}
-use Rattle.norm_send_rules.specs.Wants.{want_index}
-use Rattle.norm_send_rules.specs.Requests.{counted_anew, settled, end_where, open_requests, pending}
+use Rattle.norm_send_rules.specs.Watermarks.{counted_anew, settled, end_where, open_watermarks, oldest, pending, watermark_of}
 use Rattle.norm_send_rules.specs.Enqueuing.{open_stream, object_fault, joined}
 use Rattle.norm_send_rules.specs.Streaming.{open_fault, with_parts, parts_now, write_fault, close_fault, grown, cut}
-use Rattle.norm_send_rules.specs.Marking.{most_open, request_at, requested}
+use Rattle.norm_send_rules.specs.Marking.{is_no_quorum, most_open, watermark_at, with_watermark, cut_and_marked}
 use Rattle.norm_send_rules.specs.Restarting.{is_used, begun_anew}
+use Rattle.norm_send_rules.specs.Striking.{strike_fault, without_node, struck_off}
 use Rattle.norm_send_rules.specs.Commanding.{commanded}
 use Rattle.norm_send_rules.specs.Closing.{asked_in, round_closed}
-use Rattle.norm_send_rules.specs.Hearing.{is_for, joined_round, listed_past, rises, credited, credited_at, credited_by, message_heard, heard}
+use Rattle.norm_send_rules.specs.Hearing.{nack_counts, ack_counts, joined_round, listed_past, rises, credited, credited_at, credited_by, message_heard, heard}
 use Rattle.norm_send_rules.specs.Messages.{squelch_message}
-use Rattle.norm_send_rules.specs.Sending.{next_new, behind, repair_flags, sends, noted, sends_want, repairs_next, sends_new, message_of}
-use Rattle.norm_send_rules.specs.Flushing.{most_flushes, may_flush, flushes_for, expired, flushed, flushes}
+use Rattle.norm_send_rules.specs.Sending.{next_new, behind, repair_flags, sends, noted, sends_want, repairs_next, sends_new}
+use Rattle.norm_send_rules.specs.Flushing.{most_flushes, may_flush, flushes_for, expired, flushes_oldest, flushes_no_more, flushed, flushes_in_turn, flushes}
 use Rattle.norm_send_rules.specs.Ticking.{closed_where_due, sends_further, sends_wanted, sends_first, sends_in_time}
 use Rattle.norm_send_rules.specs.Telling.{told, past_news, done_news, listing_of}
 use Rattle.norm_send_rules.specs.declared.job.Job.{Job}
@@ -66,12 +66,17 @@ cut_holds p blocks s h = go (open_stream s) refl
     go None e = subst (λ (n : ℕ). WantsHold p (cut_where n [])) (sym (zero-mod p.e)) h
     go (Some parts) e = some parts e (unclosed p.e parts)
 
-request_holds : (p : Settings) (s : SenderState) (by : Origin) (found : Option Position) → WantsHold p s → WantsHold p (request_at s by found).0
-request_holds p s by None h = h
-request_holds p s by (Some at) h =
-    let more = record s { requests = s.requests ++ record { mark = length s.requests + 1; by = by; at = at; ended = None } ∷ [] } in
-    hold_same p s (request_at s by (Some at)).0
-    (same_step (nat_le most_open (length (open_requests s))) s (s, _) (requested s by at, _) (refl, refl) (anew s s (settled more) (refl, refl))) h
+watermark_holds : (p : Settings) (s : SenderState) (by : Origin) (quorum : Option ℕ) (found : Option Position) → WantsHold p s
+    → WantsHold p (watermark_at s by quorum found).0
+watermark_holds p s by quorum None h = h
+watermark_holds p s by quorum (Some at) h =
+    let w : Watermark = record { mark = length s.watermarks + 1; by = by; at = at; quorum = quorum; ended = None } in
+    let more = record s { watermarks = s.watermarks ++ w ∷ [] } in
+    hold_same p s (watermark_at s by quorum (Some at)).0
+    (same_step (nat_le most_open (length (open_watermarks s))) s (s, _) (with_watermark s by quorum at, _) (refl, refl) (anew s s (settled more) (refl, refl))) h
+
+mark_holds : (p : Settings) → Blocks p → (s : SenderState) (by : Origin) (quorum : Option ℕ) → WantsHold p s → WantsHold p (cut_and_marked p s by quorum).0
+mark_holds p blocks s by quorum h = watermark_holds p (cut p s) by quorum (last_source (current_shapes p (cut p s))) (cut_holds p blocks s h)
 
 commands_hold : (p : Settings) → Blocks p → (s : SenderState) (by : Origin) (job : Job) → WantsHold p s → WantsHold p (commanded p s by job).0
 commands_hold p blocks s by (job.Data info bytes) h =
@@ -89,9 +94,13 @@ commands_hold p blocks s by (job.Write bytes) h =
 commands_hold p blocks s by job.Close h =
     let parts = parts_now s ++ End ∷ [] in
     unless p (close_fault p s parts) s (grown p s parts) Err (Ok _) h (λ e. grown_holds p blocks s (End ∷ []) (no_row _ _ _ e).0 h)
-commands_hold p blocks s by job.Mark h = request_holds p (cut p s) by (last_source (current_shapes p (cut p s))) (cut_holds p blocks s h)
+commands_hold p blocks s by (job.Mark None) h = mark_holds p blocks s by None h
+commands_hold p blocks s by (job.Mark (Some q)) h = either_holds p (is_no_quorum p q) (s, _) (cut_and_marked p s by (Some q)) h (mark_holds p blocks s by (Some q) h)
 commands_hold p blocks s by (job.Restart instance) h =
-    either_holds p (is_used s instance) (s, _) (begun_anew p instance s, _) h (record { rise = tt; of_order = tt; in_window = tt })
+    either_holds p (is_used s instance) (s, _) (begun_anew instance s, _) h (record { rise = tt; of_order = tt; in_window = tt })
+commands_hold p blocks s by (job.Strike node) h =
+    unless p (strike_fault s node) s (struck_off node s) Err (Ok _) h
+    (λ e. hold_same p s (struck_off node s) (anew s s (settled (without_node node s)) (refl, refl)) h)
 
 -- Datagrams.
 
@@ -113,8 +122,8 @@ credited_by_same p node (Some at) s = credited_at_same p node at s
 
 heard_same : {E : Type 0} (p : Settings) (s : SenderState) (now : ℕ) (read : Result Message E) → Same s (message_heard p s now read)
 heard_same p s now (Ok (Nack m)) =
-    same_by (is_for p s m.source m.sender m.instance) s (joined_round p s now m.requests) s (round_same p s now m.requests) (refl, refl)
-heard_same p s now (Ok (Ack m)) = same_by (is_for p s m.source m.sender m.instance) s _ s (go m.content) (refl, refl)
+    same_by (nack_counts p s m) s (joined_round p s now m.requests) s (round_same p s now m.requests) (refl, refl)
+heard_same p s now (Ok (Ack m)) = same_by (ack_counts p s m) s _ s (go m.content) (refl, refl)
   where
     go : (content : AckContent) → Same s (elim content [
       | Mark item ↦ credited_by p m.source (item_named p (last_index s) item) s
@@ -154,25 +163,38 @@ noted_same (Info index) s = (refl, refl)
 noted_same (Symbol at) s = (refl, refl)
 
 sends_same : (p : Settings) (now : ℕ) (repair : Object → ℕ) (w : Want) (s : SenderState) → Same s (sends_want p now repair w s).0
-sends_same p now repair w s = go (slice_get s.current.order _)
-  where
-    sent : Option Entry → SenderState × Option Written
-    sent found = elim found [ Some entry ↦ sends p now (writes (message_of p s w entry.object (repair entry.object)) (want_index w ∷ [])) (noted w s) | None ↦ (s, None) ]
+sends_same p now repair w s = noted_same w s
 
-    go : (found : Option Entry) → Same s (sent found).0
-    go (Some entry) = noted_same w s
-    go None = (refl, refl)
+-- the state that a step leaves
+abbrev given : SenderState × Option Written → SenderState
+given step = step.0
 
 expired_same : (mark : ℕ) (s : SenderState) → Same s (expired mark s)
 expired_same mark s = anew s s (end_where (λ w. w.mark == mark) (λ w. Expired (length (pending s w.at))) s) (refl, refl)
 
-flushed_same : (p : Settings) (now : ℕ) (requests : List Watermark) (s : SenderState) → Same s (flushed p now requests s).0
-unfolding flushed
-flushed_same p now [] s = (refl, refl)
-flushed_same p now (w ∷ requests) s = same_step (nat_lt s.flushes most_flushes) s (flushes_for p now w s)
-    (either (is_some s.round) (s, None) (flushed p now requests (expired w.mark s))) (refl, refl)
-    (same_step (is_some s.round) s (s, None) (flushed p now requests (expired w.mark s)) (refl, refl)
-    (same_both s (expired w.mark s) (flushed p now requests (expired w.mark s)).0 (expired_same w.mark s) (flushed_same p now requests (expired w.mark s))))
+oldest_same : (p : Settings) (now : ℕ) (s : SenderState) → Same s (flushes_oldest p now s).0
+oldest_same p now s = go (oldest s)
+  where
+    go : (found : Option Watermark) → Same s (given (elim found [ Some w ↦ flushes_for p now w s | None ↦ (s, None) ]))
+    go (Some w) = (refl, refl)
+    go None = (refl, refl)
+
+no_more_same : (p : Settings) (now : ℕ) (w : Watermark) (s : SenderState) → Same s (flushes_no_more p now w s).0
+no_more_same p now w s = go s.round
+  where
+    go : (round : Option Round) → Same s (given (elim round [ Some r ↦ (s, None) | None ↦ flushes_oldest p now (expired w.mark s) ]))
+    go (Some r) = (refl, refl)
+    go None = same_both s (expired w.mark s) (flushes_oldest p now (expired w.mark s)).0 (expired_same w.mark s) (oldest_same p now (expired w.mark s))
+
+flushed_same : (p : Settings) (now : ℕ) (w : Watermark) (s : SenderState) → Same s (flushed p now w s).0
+flushed_same p now w s = same_step (nat_lt s.flushes most_flushes) s (flushes_for p now w s) (flushes_no_more p now w s) (refl, refl) (no_more_same p now w s)
+
+in_turn_same : (p : Settings) (now : ℕ) (s : SenderState) → Same s (flushes_in_turn p now s).0
+in_turn_same p now s = go (oldest s)
+  where
+    go : (found : Option Watermark) → Same s (given (elim found [ Some w ↦ flushed p now w s | None ↦ (s, None) ]))
+    go (Some w) = flushed_same p now w s
+    go None = (refl, refl)
 
 further_same : (p : Settings) (now : ℕ) (s : SenderState) → Same s (sends_further p now s).0
 further_same p now s = go (next_new p s)
@@ -182,7 +204,7 @@ further_same p now s = go (next_new p s)
 
     go : (found : Option Want) → Same s (further found).0
     go (Some w) = sends_same p now (λ object. 0) w (record s { next = behind w })
-    go None = same_step (may_flush p s now) s (flushed p now (open_requests s) s) (s, None) (flushed_same p now (open_requests s) s) (refl, refl)
+    go None = same_step (may_flush p s now) s (flushes_in_turn p now s) (s, None) (in_turn_same p now s) (refl, refl)
 
 repairs_hold : (p : Settings) (now : ℕ) (w : Want) (wants : List Want) (s : SenderState) → s.wants ≡ w ∷ wants → WantsHold p s
     → WantsHold p (repairs_next p now w wants s).0
@@ -218,7 +240,7 @@ told_same s = go s.untold_nodes s.untold_marks
     news nodes marks = elim nodes [
       | node ∷ others ↦ (record s { untold_nodes = others }, past_news node (listing_of s node))
       | [] ↦ elim marks [
-        | mark ∷ others ↦ (record s { untold_marks = others }, done_news s mark (find (λ (w : Watermark). w.mark == mark) s.requests))
+        | mark ∷ others ↦ (record s { untold_marks = others }, done_news s mark (watermark_of s mark))
         | [] ↦ (s, None)
       ]
     ]

@@ -14,7 +14,7 @@ use Rattle.norm_send_rules.specs.SenderState.{SenderState, Instance}
 use Rattle.norm_send_rules.specs.Wants.{want_before}
 use Rattle.norm_send_rules.specs.InWindow.{stands_behind, last_index, current_shapes}
 use Rattle.norm_send_rules.specs.Dropping.{dropped_to}
-use Rattle.norm_send_rules.specs.Requests.{keeps_oldest, counted_anew}
+use Rattle.norm_send_rules.specs.Watermarks.{keeps_oldest, counted_anew}
 use Rattle.norm_send_rules.specs.Room.{size_of, window, has_to_go, drop_after, stream_drop}
 use Rattle.norm_send_rules.specs.Enqueuing.{open_parts, open_stream, joined}
 use Rattle.norm_send_rules.specs.Streaming.{with_last, with_parts, parts_now, used_segments, grown}

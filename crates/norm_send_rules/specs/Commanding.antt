@@ -8,11 +8,12 @@ use Rattle.norm_send_rules.specs.Enqueuing.{enqueued}
 use Rattle.norm_send_rules.specs.Streaming.{opened, wrote, closed}
 use Rattle.norm_send_rules.specs.Marking.{marked}
 use Rattle.norm_send_rules.specs.Restarting.{restarted}
+use Rattle.norm_send_rules.specs.Striking.{strikes}
 use Rattle.norm_send_rules.specs.declared.job.Job.{Job}
 use Rattle.norm_send_rules.specs.declared.job.Job.TheVariants as job
 use Rattle.norm_send_rules.specs.declared.job.Receipt.{Receipt}
 use Rattle.norm_send_rules.specs.declared.fault.SendFault.{SendFault}
-use Rattle.norm_send_rules.specs.declared.fault.SendFault.TheVariants.{Enqueue, Mark}
+use Rattle.norm_send_rules.specs.declared.fault.SendFault.TheVariants.{Enqueue, Mark, Strike}
 
 -- a fault of a part, as the sender's
 abbrev pub refused_as : {E : Type 0} → (E → SendFault) → Result Receipt E → Result Receipt SendFault
@@ -30,5 +31,6 @@ commanded p s by (job.File name bytes) = answered Enqueue (enqueued p s by kind.
 commanded p s by job.Open = answered Enqueue (opened p s by)
 commanded p s by (job.Write bytes) = answered Enqueue (wrote p s by bytes)
 commanded p s by job.Close = answered Enqueue (closed p s)
-commanded p s by job.Mark = answered Mark (marked p s by)
-commanded p s by (job.Restart instance) = restarted p s instance
+commanded p s by (job.Mark quorum) = answered Mark (marked p s by quorum)
+commanded p s by (job.Restart instance) = restarted s instance
+commanded p s by (job.Strike node) = answered Strike (strikes s node)

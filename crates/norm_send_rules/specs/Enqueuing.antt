@@ -1,5 +1,5 @@
 -- Enqueuing data and files (RFC 5740 section 5.1): an object joins the order at its end, and makes room for itself.
-use Rattle.std.specs.Prelude.{ℕ, ◌-◌, ◌==◌, List, [], ◌∷◌, ◌++◌, length, reverse, Bool, true, false, not, nat_lt, nat_le, Option, None, Some, is_some, Result, Ok, Err}
+use Rattle.std.specs.Prelude.{ℕ, ◌==◌, List, [], ◌∷◌, ◌++◌, length, reverse, Bool, true, false, not, nat_lt, Option, None, Some, is_some, Result, Ok, Err}
 use Rattle.norm_base.specs.Settings.{Settings}
 use Rattle.norm_base.specs.declared.kinds.Kind.{Kind}
 use Rattle.norm_base.specs.declared.node.Origin.{Origin}

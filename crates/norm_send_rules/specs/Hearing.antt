@@ -1,7 +1,9 @@
--- What a sender hears (RFC 5740 sections 5.4 and 5.5.3): NACKs and acknowledgements of its receivers.
+-- What a sender hears (RFC 5740 sections 5.4 and 5.5.3): NACKs of its receivers, and acknowledgements of those that were not
+-- struck.
 use Rattle.std.specs.Prelude.{ℕ, ◌+◌, ◌*◌, ◌==◌, ◌&&◌, List, [], ◌∷◌, ◌++◌, map, Bool, true, false, nat_lt, not, Option, None, Some, Result, Ok}
 use Rattle.std.specs.List.{list_any}
 use Rattle.norm_base.specs.Settings.{Settings}
+use Rattle.norm_base.specs.Members.{is_receiver}
 use Rattle.fec_plan.specs.declared.position.Position.{Position}
 use Rattle.norm_ext.specs.Asking.{named, item_named}
 use Rattle.norm_ext.specs.Message.{Message, Nack, Ack, NackMessage, AckMessage, Mark, Unread}
@@ -12,12 +14,19 @@ use Rattle.norm_order.specs.Sets.{with_member}
 use Rattle.norm_order.specs.Shapes.{is_source, last_source}
 use Rattle.norm_send_rules.specs.SenderState.{SenderState, Listing, Asked, Round}
 use Rattle.norm_send_rules.specs.InWindow.{next_index, last_index, current_shapes}
-use Rattle.norm_send_rules.specs.Requests.{is_past, counted_anew, settled}
+use Rattle.norm_send_rules.specs.Watermarks.{has_member, is_past, counted_anew, settled}
 
--- a NACK or an acknowledgement counts where it is a receiver's, to this sender and its current instance
-abbrev pub is_for : Settings → SenderState → ℕ → ℕ → ℕ → Bool
-is_for p s source sender instance =
-    list_any (λ (l : Listing). l.node == source) s.listings && sender == p.sender && instance == s.current.id
+-- a NACK or an acknowledgement is to this sender and its current instance
+abbrev pub is_for : Settings → SenderState → ℕ → ℕ → Bool
+is_for p s sender instance = sender == p.sender && instance == s.current.id
+
+-- A NACK counts where it is a receiver's, also of one that was struck: others that heard it hold theirs back.
+abbrev pub nack_counts : Settings → SenderState → NackMessage → Bool
+nack_counts p s m = is_receiver p m.source && is_for p s m.sender m.instance
+
+-- an acknowledgement counts where it is a member's
+abbrev pub ack_counts : Settings → SenderState → AckMessage → Bool
+ack_counts p s m = has_member m.source s && is_for p s m.sender m.instance
 
 -- a request by what its items name now, with how the order stands
 abbrev pub asked_now : Settings → SenderState → Request → Asked
@@ -44,11 +53,11 @@ listed_past node at l = elim (l.node == node && is_past at l) [
   | false ↦ elim (l.node == node) [ true ↦ record l { past = Some at } | false ↦ l ]
 ]
 
--- the node is listed, and not past this position
+-- the node is a member, and not listed past this position
 abbrev pub rises : ℕ → Position → SenderState → Bool
 rises node at s = list_any (λ l. l.node == node && not (is_past at l)) s.listings
 
--- a receiver confirms all through a position: its listing rises, that is to be told, and requests may be satisfied
+-- a member confirms all through a position: its listing rises, that is to be told, and watermarks may be satisfied
 abbrev pub credited : ℕ → Position → SenderState → SenderState
 credited node at s = elim (rises node at s) [
   | true ↦ counted_anew s (settled (record s {
@@ -64,7 +73,7 @@ credited_at p node at s = elim (is_source (current_shapes p s) at) [ true ↦ cr
 
 -- a NACK
 abbrev pub nack_heard : Settings → SenderState → ℕ → NackMessage → SenderState
-nack_heard p s now m = elim (is_for p s m.source m.sender m.instance) [ true ↦ joined_round p s now m.requests | false ↦ s ]
+nack_heard p s now m = elim (nack_counts p s m) [ true ↦ joined_round p s now m.requests | false ↦ s ]
 
 -- an acknowledgement of what its item names
 abbrev pub credited_by : Settings → ℕ → Option Position → SenderState → SenderState
@@ -72,7 +81,7 @@ credited_by p node at s = elim at [ Some at ↦ credited_at p node at s | None �
 
 -- an acknowledgement: of a flush the position counts, and others change nothing
 abbrev pub ack_heard : Settings → SenderState → AckMessage → SenderState
-ack_heard p s m = elim (is_for p s m.source m.sender m.instance) [
+ack_heard p s m = elim (ack_counts p s m) [
   | true ↦ elim m.content [
     | Mark item ↦ credited_by p m.source (item_named p (last_index s) item) s
     | Unread octets ↦ s

@@ -1,5 +1,5 @@
 -- What is promised of the sender's rules.
-use Rattle.std.specs.Prelude.{ℕ, ◌≡◌, List, [], ◌∷◌, ⊤, Bool, true, Err}
+use Rattle.std.specs.Prelude.{ℕ, ◌≡◌, List, [], ◌∷◌, ⊤, Bool, true, Err, None, Some, false}
 use Rattle.std.specs.List.{AllByRecursion}
 use Rattle.norm_base.specs.Settings.{Settings, InRange}
 use Rattle.norm_base.specs.declared.node.Origin.{Origin}
@@ -8,6 +8,7 @@ use Rattle.norm_send_rules.specs.Wants.{want_before}
 use Rattle.norm_send_rules.specs.SenderState.{SenderState, Round, sender_opening}
 use Rattle.norm_send_rules.specs.InWindow.{stands_behind, current_shapes}
 use Rattle.norm_send_rules.specs.Streaming.{cut}
+use Rattle.norm_send_rules.specs.Marking.{is_no_quorum}
 use Rattle.norm_send_rules.specs.Commanding.{commanded}
 use Rattle.norm_send_rules.specs.Closing.{round_closed}
 use Rattle.norm_send_rules.specs.SenderStep.{SenderEvent, sender_step}
@@ -17,15 +18,17 @@ use Rattle.norm_send_rules.specs.declared.job.Job.TheVariants as job
 use Rattle.norm_send_rules.specs.declared.want.Want.{Want}
 use Rattle.norm_send_rules.specs.declared.want.Want.TheVariants.{Info, Symbol}
 
--- the state that a refused command leaves: the old one, where a refused mark cuts the open stream
+-- the state that a refused command leaves: the old one, where a mark cuts the open stream unless its quorum is refused
 abbrev pub left_by : Settings → SenderState → Job → SenderState
 left_by p s (job.Data info bytes) = s
 left_by p s (job.File name bytes) = s
 left_by p s job.Open = s
 left_by p s (job.Write bytes) = s
 left_by p s job.Close = s
-left_by p s job.Mark = cut p s
+left_by p s (job.Mark None) = cut p s
+left_by p s (job.Mark (Some q)) = elim (is_no_quorum p q) [ true ↦ s | false ↦ cut p s ]
 left_by p s (job.Restart instance) = s
+left_by p s (job.Strike node) = s
 
 -- a refused command leaves the state but for the cut
 abbrev pub RefusedLeaves : Type 0

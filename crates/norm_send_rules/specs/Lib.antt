@@ -1,13 +1,15 @@
 pub mod Wants
 pub mod SenderState
 pub mod InWindow
-pub mod Requests
+pub mod Watermarks
 pub mod Dropping
 pub mod Room
+pub mod Repairable
 pub mod Enqueuing
 pub mod Streaming
 pub mod Marking
 pub mod Restarting
+pub mod Striking
 pub mod Commanding
 pub mod Asking
 pub mod Closing

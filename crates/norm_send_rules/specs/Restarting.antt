@@ -1,9 +1,8 @@
 -- A restart (RFC 5740 section 4.1 on instance_id): a new instance with an order of its own.
 use Rattle.std.specs.Prelude.{ℕ, ◌||◌, nat_le, nat_lt, List, [], ◌∷◌, ◌++◌, Bool, true, false, None, Result, Ok, Err}
-use Rattle.norm_base.specs.Settings.{Settings}
 use Rattle.norm_ext.specs.InstanceIds.{rise, most_rise}
 use Rattle.norm_send_rules.specs.SenderState.{SenderState, Instance, begun, unlisted}
-use Rattle.norm_send_rules.specs.Requests.{end_where}
+use Rattle.norm_send_rules.specs.Watermarks.{members, end_where}
 use Rattle.norm_send_rules.specs.declared.want.Want.TheVariants.{Info}
 use Rattle.norm_send_rules.specs.declared.news.Outcome.TheVariants.{Cut}
 use Rattle.norm_send_rules.specs.declared.fault.SendFault.{SendFault}
@@ -24,10 +23,11 @@ first_id s = elim s.earlier [ i ∷ earlier ↦ i.id | [] ↦ s.current.id ]
 abbrev pub is_used : SenderState → ℕ → Bool
 is_used s id = nat_le (rise (first_id s) id) (rise (first_id s) s.current.id) || nat_lt most_rise (rise (first_id s) id)
 
--- The new instance begins: window, wants, round and listings are empty, no squelch is due, nothing was flushed, and
--- every open request is cut. The next send moment, the sequence number and the numbers of requests go on.
-abbrev pub begun_anew : Settings → ℕ → SenderState → SenderState
-begun_anew p id s = end_where (λ w. true) (λ w. Cut) (record s {
+-- The new instance begins: window, wants and round are empty, members are listed past nothing, no squelch is due, nothing
+-- was flushed, and every open watermark is cut. The next send moment, the sequence number and the numbers of watermarks
+-- go on, and who was struck stays so.
+abbrev pub begun_anew : ℕ → SenderState → SenderState
+begun_anew id s = end_where (λ w. true) (λ w. Cut) (record s {
   earlier = instances s;
   current = begun id;
   next = Info 0;
@@ -36,15 +36,15 @@ begun_anew p id s = end_where (λ w. true) (λ w. Cut) (record s {
   sent_infos = [];
   round = None;
   squelch_due = false;
-  listings = unlisted p;
+  listings = unlisted (members s);
   flushes = 0;
   last_flush = None;
   untold_nodes = [];
 })
 
 -- Each id lies above the one before.
-abbrev pub restarted : Settings → SenderState → ℕ → SenderState × Result Receipt SendFault
-restarted p s id = elim (is_used s id) [
+abbrev pub restarted : SenderState → ℕ → SenderState × Result Receipt SendFault
+restarted s id = elim (is_used s id) [
   | true ↦ (s, Err (IdUsed id))
-  | false ↦ (begun_anew p id s, Ok (Restarted id))
+  | false ↦ (begun_anew id s, Ok (Restarted id))
 ]

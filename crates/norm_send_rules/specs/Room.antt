@@ -10,7 +10,7 @@ use Rattle.norm_order.specs.Sets.{is_member}
 use Rattle.norm_order.specs.Entries.{Object, Whole, Stream, Entry}
 use Rattle.norm_order.specs.Shapes.{Shape, shape_of, sources_in, symbols_of, last_in, is_full}
 use Rattle.norm_send_rules.specs.SenderState.{SenderState}
-use Rattle.norm_send_rules.specs.Requests.{all_past}
+use Rattle.norm_send_rules.specs.Watermarks.{all_past}
 
 -- how many octets of the window an object takes: its own, and of a stream those of its buffer
 abbrev pub size_of : Settings → Object → ℕ
@@ -21,14 +21,14 @@ size_of p (Stream parts) = p.blocks * p.b * p.e
 abbrev pub all_sent : SenderState → List Position → Bool
 all_sent s symbols = list_all (λ at. is_member position_before at s.sent) symbols
 
--- in `hold` mode every receiver has to be listed past this position
+-- in `hold` mode every member has to be listed past this position
 abbrev pub is_released : Settings → SenderState → Option Position → Bool
 is_released p s last = elim p.mode [
   | mode.Hold ↦ elim last [ Some at ↦ all_past s at | None ↦ true ]
   | mode.Drop ↦ true
 ]
 
--- An object may go once its source symbols and its info were sent, and in `hold` mode every receiver is listed past it.
+-- An object may go once its source symbols and its info were sent, and in `hold` mode every member is listed past it.
 abbrev pub may_go : Settings → SenderState → ℕ → Shape → Bool
 may_go p s index shape =
     all_sent s (sources_in index shape)

@@ -30,23 +30,25 @@ pub record Round : Type 0 where
   pub closes : ℕ
   pub asked : List Asked
 
--- a receiver, and the position that it is listed past: everything up to there was handed up
+-- a member, and the position that it is listed past: everything up to there was handed up
 pub record Listing : Type 0 where
   pub node : ℕ
   pub past : Option Position
 
--- a watermark request: its number, its command, its position, and its outcome where it ended
+-- a watermark: its number, its command, its position, how many members have to be listed past it (all, where that is not
+-- said), and its outcome where it ended
 pub record Watermark : Type 0 where
   pub mark : ℕ
   pub by : Origin
   pub at : Position
+  pub quorum : Option ℕ
   pub ended : Option Outcome
 
 -- The state: earlier instances and the current one; from where on symbols are new; the wants; the encoded symbols and
--- the infos that were sent in this instance; the open round; whether a squelch is due; what each receiver is listed
--- past; all watermark requests; the flushes counted, and the moment of this instance's last one; from when on a
--- datagram may be sent, and its sequence number; the receivers whose listing rose and the requests that ended, where
--- that was not told yet.
+-- the infos that were sent in this instance; the open round; whether a squelch is due; what each member is listed past,
+-- members being the receivers that were not struck; who was struck; all watermarks; the flushes counted, and the moment
+-- of this instance's last one; from when on a datagram may be sent, and its sequence number; the members whose listing
+-- rose and the watermarks that ended, where that was not told yet.
 pub record SenderState : Type 0 where
   pub earlier : List Instance
   pub current : Instance
@@ -57,7 +59,8 @@ pub record SenderState : Type 0 where
   pub round : Option Round
   pub squelch_due : Bool
   pub listings : List Listing
-  pub requests : List Watermark
+  pub struck : List ℕ
+  pub watermarks : List Watermark
   pub flushes : ℕ
   pub last_flush : Option ℕ
   pub next_send : ℕ
@@ -69,9 +72,9 @@ pub record SenderState : Type 0 where
 abbrev pub begun : ℕ → Instance
 begun id = record { id = id; order = []; drop = point 0 0 }
 
--- every receiver, listed past nothing
-abbrev pub unlisted : Settings → List Listing
-unlisted p = map (λ node. record { node = node; past = None }) (receivers_of p p.receivers)
+-- nodes that are listed past nothing
+abbrev pub unlisted : List ℕ → List Listing
+unlisted nodes = map (λ node. record { node = node; past = None }) nodes
 
 -- as a sender begins, in an instance
 abbrev pub sender_opening : Settings → ℕ → SenderState
@@ -84,8 +87,9 @@ sender_opening p instance = record {
   sent_infos = [];
   round = None;
   squelch_due = false;
-  listings = unlisted p;
-  requests = [];
+  listings = unlisted (receivers_of p p.receivers);
+  struck = [];
+  watermarks = [];
   flushes = 0;
   last_flush = None;
   next_send = 0;

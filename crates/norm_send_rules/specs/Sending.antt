@@ -8,7 +8,7 @@ use Rattle.norm_ext.specs.Written.{Written, writes}
 use Rattle.norm_order.specs.Moments.{moment_after}
 use Rattle.fec_plan.specs.Points.{position, position_before}
 use Rattle.norm_order.specs.Sets.{with_member}
-use Rattle.norm_order.specs.Entries.{Object, Whole}
+use Rattle.norm_order.specs.Entries.{Object, Whole, Stream}
 use Rattle.norm_order.specs.Shapes.{Shape, shape_of, shapes_of, symbols_of, closed_in, is_full, closed_blocks}
 use Rattle.norm_send_rules.specs.Wants.{want_before, want_index}
 use Rattle.norm_send_rules.specs.SenderState.{SenderState}
@@ -69,12 +69,15 @@ message_of p s (Info index) (Whole kind (Some info) octets) repair = info_messag
 message_of p s (Info index) object repair = info_message p s index object [] repair
 message_of p s (Symbol at) object repair = data_message p s at object repair
 
--- an info or symbol is sent, where its object is there
+-- the object of an info or symbol; what is sent always has one
+abbrev pub object_of : SenderState → Want → Object
+object_of s w = elim (slice_get s.current.order (want_index w)) [ Some entry ↦ entry.object | None ↦ Stream [] ]
+
+-- an info or symbol is sent
 abbrev pub sends_want : Settings → ℕ → (Object → ℕ) → Want → SenderState → SenderState × Option Written
-sends_want p now repair w s = elim (slice_get s.current.order (want_index w)) [
-  | Some entry ↦ sends p now (writes (message_of p s w entry.object (repair entry.object)) (want_index w ∷ [])) (noted w s)
-  | None ↦ (s, None)
-]
+sends_want p now repair w s =
+    let object = object_of s w in
+    sends p now (writes (message_of p s w object (repair object)) (want_index w ∷ [])) (noted w s)
 
 -- the lowest want is sent, and is a want no more
 abbrev pub repairs_next : Settings → ℕ → Want → List Want → SenderState → SenderState × Option Written

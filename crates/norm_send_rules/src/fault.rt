@@ -1,6 +1,6 @@
 //! Why a sender refuses a command. Where several faults apply, the first in the order of these lists counts.
 
-use norm_base::InstanceId;
+use norm_base::{InstanceId, NodeId};
 use thiserror::Error;
 
 /// Why a stream takes no more.
@@ -37,15 +37,26 @@ pub enum EnqueueFault {
     Memory,
 }
 
-/// Why no watermark request is made.
+/// Why no watermark is made.
 #[derive(Clone, Copy, Debug, PartialEq, Eq)]
 pub enum MarkFault {
+    /// The quorum is 0, or more than there are receivers.
+    Quorum { q: u32 },
     /// Nothing was sent or waits to be sent in this instance.
     NothingEnqueued,
-    /// So many requests are open.
+    /// So many watermarks are open.
     TooMany { count: u32 },
     /// There was no memory for it.
     Memory,
+}
+
+/// Why no node is struck.
+#[derive(Clone, Copy, Debug, PartialEq, Eq)]
+pub enum StrikeFault {
+    /// The node is no receiver, or was struck.
+    NotMember { node: NodeId },
+    /// The node is the only one that is left.
+    LastMember { node: NodeId },
 }
 
 /// Why a sender refuses a command.
@@ -53,6 +64,7 @@ pub enum MarkFault {
 pub enum SendFault {
     Enqueue(EnqueueFault),
     Mark(MarkFault),
+    Strike(StrikeFault),
     /// This id was an instance of this sender before, or is now.
     IdUsed { instance: InstanceId },
     /// There was no memory for it. Every want of memory is told by this word.

@@ -1,7 +1,7 @@
 //! What a sender is asked to do, and what it did.
 
 use fec_plan::Position;
-use norm_base::{InstanceId, Octets};
+use norm_base::{InstanceId, NodeId, Octets};
 
 /// What a sender is asked to do.
 #[derive(Clone, Debug, PartialEq, Eq, Drop)]
@@ -16,10 +16,12 @@ pub enum Job {
     Write { bytes: Octets },
     /// Ends the open stream.
     Close,
-    /// Asks that every receiver confirm all that was enqueued so far.
-    Mark,
+    /// Asks that so many members, or all of them, confirm everything that was enqueued so far.
+    Mark { quorum: Option<u32> },
     /// Begins a new instance.
     Restart { instance: InstanceId },
+    /// Takes a receiver from the members for good: nothing waits for it any more.
+    Strike { node: NodeId },
 }
 
 /// What a sender did.
@@ -33,8 +35,10 @@ pub enum Receipt {
     Wrote { index: u32, offset: u32, len: u64 },
     /// This stream ended.
     Closed { index: u32 },
-    /// The watermark request has this number, and asks for everything up to this position.
+    /// The watermark has this number, and asks for everything up to this position.
     Mark { mark: u32, at: Position },
     /// This instance began.
     Restarted { instance: InstanceId },
+    /// This node is no member any more.
+    Struck { node: NodeId },
 }
