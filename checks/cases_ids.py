@@ -12,7 +12,7 @@ NAMES = [(0, 0, 0), (0, 32767, 32767), (0, 32768, NONE), (0, 65535, NONE), (1, 3
 
 
 def known_by(r, gives):
-    return receiver_look(r, 'shown_option (λ i. i ∷ []) r.instance ++ r.known ∷ shown_option (λ (x : Point). x.index ∷ []) r.farthest', gives)
+    return receiver_look(r, 'shown_option (λ i. i ∷ []) r.instance ++ r.knows.known ∷ shown_option (λ (x : Point). x.index ∷ []) r.knows.farthest', gives)
 
 
 @small
@@ -56,7 +56,7 @@ def what_was_heard_is_named_as_it_is_heard():
     r.hears(2, nack(3, request('Items', 12, (40000, 0, 0), (0, 0, 0))))
     r.hears(2, nack(3, request('Ranges', 12, (0, 0, 0), (40000, 0, 0), (0, 0, 0), (1, 0, 0))))
     r.hears(2, data(32767, 0, 0, 'hx 1 0x41')).hears(2, data(65534, 0, 0, 'hx 1 0x41')).hears(2, nack(3, request('Items', 12, (1, 0, 0))))
-    return receiver_look(r, 'elim (r.node == 2) [ true ↦ named_indices r.heard | false ↦ [] ]', [0, 0, 0, 1, 65537, 65537])
+    return receiver_look(r, 'elim (r.node == 2) [ true ↦ span_indices r.knows.heard.symbols ++ span_indices r.knows.heard.infos | false ↦ [] ]', [0, 1, 65537, 65537, 0, 1, 65537, 65537])
 
 
 @small

@@ -85,6 +85,6 @@ def the_last_block_of_a_stream():
     r = Run(**STREAM).hears(2, stream_data(0, 0, 64)).hears(2, data(1, 0, 0, 'hx 1 0x41'))
     for held, point, gives in [('(record { at = position 0 16777215 0; octets = [] } ∷ [])', 16777216, []),
                                ('[]', 16777215, [4, 2, 2, 0, 16777215, 0, 0, 16777215, 0])]:
-        state = 'record r { seen = point 0 16777215 ∷ []; held = %s; point = position 0 %d 0 }' % (held, point)
+        state = 'record r { holding = record (r.holding) { plans = map (λ (x : Plan). record x { seen = 16777215 }) r.holding.plans; held = %s; point = position 0 %d 0 } }' % (held, point)
         r.look('brief (world_step PROFILE (record w { receivers = map (λ (r : ReceiverState). %s) w.receivers }) (Ticked 2 0)).1' % state, gives)
     return r

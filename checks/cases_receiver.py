@@ -14,7 +14,7 @@ def which_messages_a_receiver_hears():
     r = Run().hears(2, wrong).hears(2, '[]').take(2, [40])
     r.hears(2, data(0, 0, 0, 'hx 1 0x41', l=1)).take(2, [41, 0, 0, 0, 0x41]).hears(2, data(0, 0, 0, 'hx 1 0x42', l=1, instance=8)).take(2, [41, 0, 0, 0, 0x42])
     r.hears(2, data(1, 0, 0, 'hx 1 0x43', l=1)).take(2, [40])
-    return receiver_look(r, 'shown_option (λ i. i ∷ []) r.instance ++ r.known ∷ at_numbers r.point', [8, 0, 1, 0, 0])
+    return receiver_look(r, 'shown_option (λ i. i ∷ []) r.instance ++ r.knows.known ∷ at_numbers r.holding.point', [8, 0, 1, 0, 0])
 
 
 @small
@@ -72,13 +72,13 @@ def fitting_plans():
     r = Run(octets=256)
     for index, keys in ((256, {}), (255, {'l': 257}), (1, {'e': 128}), (1, {'b': 5}), (1, {'max_n': 7}), (1, {'l': 0})):
         r.hears(2, data(index, 0, 0, 'hx 1 0x41', **{'l': 1, **keys}))
-        receiver_look(r, 'map (λ (x : Plan). x.index) r.plans', [])
+        receiver_look(r, 'map (λ (x : Plan). x.index) r.holding.plans', [])
     r.hears(2, data(255, 0, 0, 'hx 64 0x%s' % ('41' * 64), l=200))
-    receiver_look(r, 'map (λ (x : Plan). x.index) r.plans', [255]).hears(2, data(254, 0, 0, 'hx 57 0x%s' % ('41' * 57), l=57))
-    receiver_look(r, 'map (λ (x : Plan). x.index) r.plans', [255]).hears(2, data(254, 0, 0, 'hx 56 0x%s' % ('41' * 56), l=56))
-    receiver_look(r, 'map (λ (x : Plan). x.index) r.plans', [254, 255]).hears(2, data(254, 0, 0, 'hx 55 0x%s' % ('41' * 55), l=55))
+    receiver_look(r, 'map (λ (x : Plan). x.index) r.holding.plans', [255]).hears(2, data(254, 0, 0, 'hx 57 0x%s' % ('41' * 57), l=57))
+    receiver_look(r, 'map (λ (x : Plan). x.index) r.holding.plans', [255]).hears(2, data(254, 0, 0, 'hx 56 0x%s' % ('41' * 56), l=56))
+    receiver_look(r, 'map (λ (x : Plan). x.index) r.holding.plans', [254, 255]).hears(2, data(254, 0, 0, 'hx 55 0x%s' % ('41' * 55), l=55))
     r.hears(2, data(254, 0, 0, segment(0, 1), l=56, flags=32))
-    return receiver_look(r, 'flat_map (λ (h : Held). at_numbers h.at) r.held', [254, 0, 0, 255, 0, 0])
+    return receiver_look(r, 'flat_map (λ (h : Held). at_numbers h.at) r.holding.held', [254, 0, 0, 255, 0, 0])
 
 
 @small
@@ -87,12 +87,12 @@ def symbols_that_do_not_fit():
     r = Run(b=2, max_n=3, blocks=2).hears(2, info(0, '[]', l=129, b=2, max_n=3))
     for block, symbol, size in ((2, 0, 64), (0, 3, 64), (0, 0, 63), (0, 2, 63), (1, 0, 64), (1, 1, 64)):
         r.hears(2, data(0, block, symbol, 'hx %d 0x%s' % (size, '41' * size), flags=4))
-    receiver_look(r, 'flat_map (λ (h : Held). at_numbers h.at) r.held', [])
+    receiver_look(r, 'flat_map (λ (h : Held). at_numbers h.at) r.holding.held', [])
     r.hears(2, data(0, 1, 0, 'hx 1 0x41', flags=4)).hears(2, data(0, 0, 2, 'hx 64 0x%s' % ('41' * 64), flags=4))
-    receiver_look(r, 'flat_map (λ (h : Held). at_numbers h.at) r.held', [0, 0, 2, 0, 1, 0])
+    receiver_look(r, 'flat_map (λ (h : Held). at_numbers h.at) r.holding.held', [0, 0, 2, 0, 1, 0])
     r.hears(2, data(1, 1, 0, segment(64, 64), l=256, flags=32, b=2, max_n=3)).hears(2, data(1, 2, 0, segment(0, 64), flags=32))
     r.hears(2, data(1, 0, 0, '(%s ++ 0 ∷ [])' % segment(0, 3), flags=32)).hears(2, data(1, 0, 2, segment(0, 63), flags=32))
-    return receiver_look(r, 'flat_map (λ (h : Held). at_numbers h.at) r.held', [0, 0, 2, 0, 1, 0, 1, 1, 0])
+    return receiver_look(r, 'flat_map (λ (h : Held). at_numbers h.at) r.holding.held', [0, 0, 2, 0, 1, 0, 1, 1, 0])
 
 
 @small
@@ -107,7 +107,7 @@ def another_plan_than_the_known_one():
 def the_room_of_a_stream():
     """Whatever length it says, it takes its buffer of 512 octets, for which there is no room beside an object that waits."""
     r = Run(octets=512, blocks=2).hears(2, data(1, 0, 0, 'hx 1 0x41', l=1)).hears(2, data(0, 0, 0, segment(0, 1), l=1, flags=32))
-    return receiver_look(r, 'map (λ (x : Plan). x.index) r.plans', [1])
+    return receiver_look(r, 'map (λ (x : Plan). x.index) r.holding.plans', [1])
 
 
 @small
@@ -115,7 +115,7 @@ def the_length_of_a_stream():
     """It is not looked at: another one is the same plan, and the stream has room for its buffer."""
     r = Run(octets=513, blocks=2).hears(2, data(1, 0, 0, 'hx 1 0x41', l=1)).hears(2, data(0, 0, 0, segment(0, 1), l=1, flags=32))
     r.hears(2, data(0, 0, 1, segment(1, 1), l=600, flags=32)).take(2, [42, 0]).take(2, [43, 0, 0, 0x5a]).take(2, [43, 0, 1, 0x5a])
-    return receiver_look(r, 'map (λ (x : Plan). x.index) r.plans', [0, 1])
+    return receiver_look(r, 'map (λ (x : Plan). x.index) r.holding.plans', [0, 1])
 
 
 @small
@@ -123,13 +123,13 @@ def symbols_behind_the_last():
     """Of 129 octets in blocks of 2 and 1: a third block's parity symbol, and a third symbol of a block that is done."""
     octets = 'hx 64 0x%s' % ('41' * 64)
     r = Run(b=2, max_n=4).hears(2, data(0, 0, 0, octets, l=129, b=2, max_n=4)).hears(2, data(0, 2, 1, octets)).hears(2, data(0, 0, 1, octets))
-    return receiver_look(r.hears(2, data(0, 0, 2, octets)), 'flat_map (λ (h : Held). at_numbers h.at) r.held', [0, 0, 0, 0, 0, 1])
+    return receiver_look(r.hears(2, data(0, 0, 2, octets)), 'flat_map (λ (h : Held). at_numbers h.at) r.holding.held', [0, 0, 0, 0, 0, 1])
 
 
 @small
 def infos_that_do_not_fit():
     """Of an object whose flags have no INFO, or of more than e octets."""
-    octets, infos = 'hx 64 0x%s' % ('41' * 64), 'map (λ (h : HeldInfo). h.index) r.infos'
+    octets, infos = 'hx 64 0x%s' % ('41' * 64), 'map (λ (h : HeldInfo). h.index) r.holding.infos'
     r = Run().hears(2, data(0, 0, 0, octets, l=128)).hears(2, info(0, '(1 ∷ [])')).hears(2, data(1, 0, 0, octets, l=128, flags=4))
     receiver_look(r.hears(2, info(1, 'hx 65 0x%s' % ('42' * 65))), infos, [])
     return receiver_look(r.hears(2, info(1, 'hx 64 0x%s' % ('42' * 64))), infos, [1])

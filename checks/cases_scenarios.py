@@ -27,7 +27,7 @@ def what_is_sent_before_a_drop():
 @small
 def the_farthest_point():
     """It is raised whether the symbol is kept or not."""
-    r = Run().hears(2, data(3, 0, 0, 'hx 1 0x41')).look('flat_map (λ (r : ReceiverState). length r.held ∷ shown_option (λ (x : Point). x.index ∷ x.block ∷ []) r.farthest) w.receivers', [0, 3, 0])
+    r = Run().hears(2, data(3, 0, 0, 'hx 1 0x41')).look('flat_map (λ (r : ReceiverState). length r.holding.held ∷ shown_option (λ (x : Point). x.index ∷ x.block ∷ []) r.knows.farthest) w.receivers', [0, 3, 0])
     return r.tick(2, 0, [4, 1, 12, 0, 0, 0, 1, 0, 0, 2, 0, 0])
 
 

@@ -21,7 +21,7 @@ NAMES = {
     'Rattle.norm_order.specs.Shapes': ['is_encoded'],
     'Rattle.norm_send_rules.specs.SenderState': ['Listing'],
     'Rattle.norm_send_rules.specs.Watermarks': ['open_watermarks'],
-    'Rattle.norm_receive_rules.specs.ReceiverState': ['Held'],
+    'Rattle.norm_receive_rules.specs.Holding': ['Held'],
     'Rattle.norm_receive_rules.specs.Lazy': ['all_of'],
     'Rattle.norm_order.specs.Segments': ['written'],
 }

@@ -410,7 +410,7 @@ abbrev are_none : List Up → Bool
 are_none ups = elim ups [ [] ↦ true | up ∷ more ↦ false ]
 
 taken_same : (o : Option ReceiverState) → all_taken o ≡ true → AllTaken o
-taken_same (Some r) e = none_left r.ups e
+taken_same (Some r) e = none_left r.holding.ups e
 taken_same None e = tt
 
 taken_there : (o : Option ReceiverState) → AllTaken o → all_taken o ≡ true

@@ -11,6 +11,7 @@ use Rattle.norm_base.specs.declared.kinds.Sent.TheVariants as sent
 use Rattle.norm_base.specs.declared.node.Origin.{Origin}
 use Rattle.norm_ext.specs.Written.{Written}
 use Rattle.norm_order.specs.declared.up.Up.{Up}
+use Rattle.norm_receive_rules.specs.Holding.{Holding}
 use Rattle.norm_receive_rules.specs.ReceiverState.{ReceiverState}
 use Rattle.norm_receive_rules.specs.Taking.{took}
 use Rattle.norm_script.specs.declared.script.Verb.{Verb}
@@ -71,7 +72,7 @@ hands_due j node instance (up ∷ ups) = hand_up_of node instance up
 
 abbrev receiver_part : Judged → ℕ → Option ReceiverState → Option Event
 receiver_part j node None = Some (tick_due j node)
-receiver_part j node (Some r) = hands_due j node r.instance r.ups
+receiver_part j node (Some r) = hands_due j node r.instance r.holding.ups
 
 abbrev turn_at : Bool → Judged → Option Event
 turn_at clock j = elim clock [ true ↦ None | false ↦ Some (event.Turn (j.turn + 1) ((j.turn + 1) * j.profile.step)) ]
@@ -175,13 +176,13 @@ tick_decided j node said after datagram quiet taken gives is (inl s) =
 tick_decided j node said after datagram quiet taken gives is (inr r) =
     quiet_due j (Handing node r.nodes) quiet r.place ∙ part_ticks j node (receiver_at j.world node) taken ∙ ap Some (tick_is j node said datagram gives is)
 
-abbrev taken_of : ReceiverState → List Up → ReceiverState × Option Up
+abbrev taken_of : Holding → List Up → Holding × Option Up
 taken_of s ups = elim ups [ up ∷ more ↦ (record s { ups = more }, Some up) | [] ↦ (s, None) ]
 
 same_took : (a b : Option Up) → Took a ≡ Took b → a ≡ b
 same_took a b e = cc
 
-hands_up : (j : Judged) (node instance : ℕ) (up : Up) (s : ReceiverState) (within : Option ℕ) (ups : List Up) → within ≡ Some instance
+hands_up : (j : Judged) (node instance : ℕ) (up : Up) (s : Holding) (within : Option ℕ) (ups : List Up) → within ≡ Some instance
     → (taken_of s ups).1 ≡ Some up → hands_due j node within ups ≡ Some (event.Up node instance up)
 hands_up j node instance up s within [] is e = absurd (none-some up e)
 hands_up j node instance up s within (x ∷ ups) is e =
@@ -200,7 +201,7 @@ part_hands : (j : Judged) (node instance : ℕ) (up : Up) (o : Option ReceiverSt
     → receiver_part j node o ≡ Some (event.Up node instance up)
 part_hands j node instance up None within gives = absurd (none-some instance within)
 part_hands j node instance up (Some r) within gives =
-    hands_up j node instance up r r.instance r.ups within (same_took (took r).1 (Some up) gives)
+    hands_up j node instance up r.holding r.instance r.holding.ups within (same_took (took r).1 (Some up) gives)
 
 decided : (j next : Judged) (e : Event) → Follows j e next → IsDecided j e
 decided j next event.Start f = inl (quiet_due j Starting f.0 f.1.place)

@@ -237,7 +237,7 @@ jobs_lead accepted place j by job gave s = no_event accepted j (command place j 
 
 all_were_taken : (o : Option ReceiverState) → all_taken o ≡ true → AllTaken o
 all_were_taken None e = tt
-all_were_taken (Some r) e = none_left r.ups e where
+all_were_taken (Some r) e = none_left r.holding.ups e where
   none_left : (ups : List Up) → elim ups [ [] ↦ true | up ∷ more ↦ false ] ≡ true → ups ≡ []
   none_left [] e = refl
   none_left (up ∷ ups) e = absurd (cc)

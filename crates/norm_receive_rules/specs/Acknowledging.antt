@@ -3,24 +3,29 @@ use Rattle.std.specs.Prelude.{ℕ, ◌==◌, ◌&&◌, List, [], ◌∷◌, Bool
 use Rattle.std.specs.List.{list_any}
 use Rattle.fec_plan.specs.Points.{position_before, further}
 use Rattle.fec_plan.specs.declared.position.Position.{Position}
-use Rattle.norm_receive_rules.specs.ReceiverState.{ReceiverState}
+use Rattle.norm_receive_rules.specs.Holding.{Holding}
+use Rattle.norm_receive_rules.specs.ReceiverState.{ReceiverState, Knowledge}
 
 -- nothing was lost in this instance
-abbrev pub lost_nothing : ReceiverState → Bool
+abbrev pub lost_nothing : Holding → Bool
 lost_nothing s = elim s.lost [ [] ↦ true | index ∷ lost ↦ false ]
 
 -- all through a position was handed up; what was lost never was
-abbrev pub has_handed_up : ReceiverState → Position → Bool
+abbrev pub has_handed_up : Holding → Position → Bool
 has_handed_up s at = position_before at s.point && lost_nothing s
 
 -- the nodes that a flush asks have this one
 abbrev pub names_this : ReceiverState → List ℕ → Bool
 names_this s nodes = list_any (λ node. node == s.node) nodes
 
--- The greatest flush position is raised. Where the flush asks this node and all through its position was handed up, an
--- acknowledgement of it is due; of two that are due the further stays.
-abbrev pub flushed : Position → List ℕ → ReceiverState → ReceiverState
-flushed at nodes s = record s {
-  flush = further at s.flush;
-  due = elim (names_this s nodes && has_handed_up s at) [ true ↦ further at s.due | false ↦ s.due ];
+-- The greatest flush position is raised. Where the flush is to be acknowledged that is due; of two that are due the further
+-- stays.
+abbrev pub flushed : Position → Bool → Knowledge → Knowledge
+flushed at acknowledged k = record k {
+  flush = further at k.flush;
+  due = elim acknowledged [ true ↦ further at k.due | false ↦ k.due ];
 }
+
+-- a flush is to be acknowledged: it asks this node, and all through its position was handed up
+abbrev pub acknowledges : ReceiverState → Position → List ℕ → Bool
+acknowledges s at nodes = names_this s nodes && has_handed_up s.holding at

@@ -2,7 +2,7 @@
 use Rattle.std.specs.Prelude.{ℕ, ◌==◌, List, map, find, true, false, Option, None, Some}
 use Rattle.fec_plan.specs.Partition.{coded_octets}
 use Rattle.gf_field.specs.Symbol.{solved_symbol}
-use Rattle.norm_receive_rules.specs.ReceiverState.{ReceiverState, Plan, Held}
+use Rattle.norm_receive_rules.specs.Holding.{Holding, Plan, Held}
 use Rattle.norm_receive_rules.specs.Plans.{cut_of_plan, says_stream, held_of, is_done}
 
 -- the ids of held symbols
@@ -19,7 +19,7 @@ held_symbol held symbol = elim (find (λ (h : Held). h.at.symbol == symbol) held
 
 -- A source symbol of a block: where as many symbols are held as the block has source symbols, that of the one codeword
 -- through them; else of a stream the symbol itself, where it is held.
-abbrev pub block_value : ReceiverState → Plan → ℕ → ℕ → Option (List ℕ)
+abbrev pub block_value : Holding → Plan → ℕ → ℕ → Option (List ℕ)
 block_value s plan block symbol =
     let held = held_of s plan.index block in
     elim (is_done s plan block) [

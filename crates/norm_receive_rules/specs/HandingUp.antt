@@ -10,7 +10,7 @@ use Rattle.fec_plan.specs.declared.position.Position.{Position}
 use Rattle.norm_ext.specs.Numbers.{number}
 use Rattle.norm_order.specs.declared.up.Up.{Up}
 use Rattle.norm_order.specs.declared.up.Up.TheVariants as up
-use Rattle.norm_receive_rules.specs.ReceiverState.{ReceiverState, Plan}
+use Rattle.norm_receive_rules.specs.Holding.{Holding, Plan}
 use Rattle.norm_receive_rules.specs.Plans.{cut_of_plan, says_stream, says_file, says_info, plan_of, is_done, has_its_info, info_of}
 use Rattle.norm_receive_rules.specs.BlockValue.{block_value}
 
@@ -19,21 +19,21 @@ abbrev pub after_object : ℕ → Position
 after_object index = position (index + 1) 0 0
 
 -- these are handed up, and the hand-up point is there
-abbrev pub handed : List Up → Position → ReceiverState → ReceiverState
+abbrev pub handed : List Up → Position → Holding → Holding
 handed ups point s = record s { ups = s.ups ++ ups; point = point }
 
 -- an object is whole: its info is there where it has one, and all its blocks are done
-abbrev pub is_whole : ReceiverState → Plan → Bool
+abbrev pub is_whole : Holding → Plan → Bool
 is_whole s plan = has_its_info s plan && list_all (is_done s plan) (range_with_len 0 (blocks (cut_of_plan plan)))
 
 -- the octets of a block's source symbols in a row
-abbrev pub block_octets : ReceiverState → Plan → ℕ → List ℕ
+abbrev pub block_octets : Holding → Plan → ℕ → List ℕ
 block_octets s plan block = flat_map
     (λ symbol. elim (block_value s plan block symbol) [ Some octets ↦ octets | None ↦ [] ])
     (range_with_len 0 (source_symbols (cut_of_plan plan) block))
 
 -- an object's octets: those of its blocks, without the padding of the last symbol
-abbrev pub object_octets : ReceiverState → Plan → List ℕ
+abbrev pub object_octets : Holding → Plan → List ℕ
 object_octets s plan = take plan.fti.l (flat_map (block_octets s plan) (range_with_len 0 (blocks (cut_of_plan plan))))
 
 -- the kind that flags say
@@ -41,11 +41,11 @@ abbrev pub kind_of : ℕ → Kind
 kind_of flags = if says_file flags then kind.File else kind.Data
 
 -- the info of an object that has one
-abbrev pub told_info : ReceiverState → Plan → Option (List ℕ)
+abbrev pub told_info : Holding → Plan → Option (List ℕ)
 told_info s plan = elim (says_info plan.flags) [ true ↦ info_of s plan.index | false ↦ None ]
 
 -- an object that is whole is handed up
-abbrev pub hands_object : ReceiverState → Plan → Option ReceiverState
+abbrev pub hands_object : Holding → Plan → Option Holding
 hands_object s plan = elim (is_whole s plan) [
   | true ↦ Some (handed (up.Object plan.index (kind_of plan.flags) (told_info s plan) (object_octets s plan) ∷ []) (after_object plan.index) s)
   | false ↦ None
@@ -77,33 +77,33 @@ abbrev pub open_before : Position → List Up
 open_before at = elim (at.block == 0 && at.symbol == 0) [ true ↦ up.StreamOpen at.index ∷ [] | false ↦ [] ]
 
 -- the next segment of a stream, where it is there
-abbrev pub next_segment : ReceiverState → Plan → Option (List ℕ)
+abbrev pub next_segment : Holding → Plan → Option (List ℕ)
 next_segment s plan = block_value s plan s.point.block s.point.symbol
 
 -- a segment is handed up
-abbrev pub hands_segment : Settings → ReceiverState → Plan → List ℕ → ReceiverState
+abbrev pub hands_segment : Settings → Holding → Plan → List ℕ → Holding
 hands_segment p s plan symbol =
     handed (open_before s.point ++ segment_up p s.point.index symbol ∷ []) (after_segment p plan s.point symbol) s
 
 -- the next segment of a stream is handed up, where it and the stream's info are there
-abbrev pub hands_next : Settings → ReceiverState → Plan → Option ReceiverState
+abbrev pub hands_next : Settings → Holding → Plan → Option Holding
 hands_next p s plan = elim (has_its_info s plan) [
   | true ↦ elim (next_segment s plan) [ Some symbol ↦ Some (hands_segment p s plan symbol) | None ↦ None ]
   | false ↦ None
 ]
 
 -- one hand-up at the hand-up point, where there is one
-abbrev pub hands_one : Settings → ReceiverState → Option ReceiverState
+abbrev pub hands_one : Settings → Holding → Option Holding
 hands_one p s = elim (plan_of s s.point.index) [
   | Some plan ↦ elim (says_stream plan.flags) [ true ↦ hands_next p s plan | false ↦ hands_object s plan ]
   | None ↦ None
 ]
 
 -- at most so many hand-ups
-unfoldable pub hands_most : ℕ → Settings → ReceiverState → ReceiverState
+unfoldable pub hands_most : ℕ → Settings → Holding → Holding
 hands_most zero p s = s
 hands_most (suc n) p s = elim (hands_one p s) [ Some after ↦ hands_most n p after | None ↦ s ]
 
 -- All that can be is handed up. Each hand-up takes a held symbol at least.
-abbrev pub handed_up : Settings → ReceiverState → ReceiverState
+abbrev pub handed_up : Settings → Holding → Holding
 handed_up p s = hands_most (length s.held) p s

@@ -1,6 +1,7 @@
 -- Instances (RFC 5740 section 4.1): a receiver follows the sender to one whose id lies above its own, and never goes back.
 use Rattle.std.specs.Prelude.{ℕ, ◌==◌, Bool, true, false, Option, None, Some}
 use Rattle.norm_ext.specs.InstanceIds.{is_above}
+use Rattle.norm_receive_rules.specs.Holding.{holding_nothing}
 use Rattle.norm_receive_rules.specs.ReceiverState.{ReceiverState, knowing_nothing}
 
 -- the receiver is in this instance
@@ -9,7 +10,7 @@ is_in s instance = elim s.instance [ Some current ↦ current == instance | None
 
 -- The current instance is left and all of it forgotten, hand-ups that were not taken included.
 abbrev pub enters : ℕ → ReceiverState → ReceiverState
-enters instance s = knowing_nothing s.node (Some instance) s.sequence
+enters instance s = record s { instance = Some instance; holding = holding_nothing; knows = knowing_nothing }
 
 -- the receiver goes on to this instance: it is in none, or this one lies above its own
 abbrev pub goes_to : ReceiverState → ℕ → Bool

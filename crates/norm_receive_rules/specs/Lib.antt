@@ -1,4 +1,6 @@
 pub mod Lazy
+pub mod Holding
+pub mod Heard
 pub mod ReceiverState
 pub mod Plans
 pub mod BlockValue

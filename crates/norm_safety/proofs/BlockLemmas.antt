@@ -9,7 +9,7 @@ use Rattle.gf_field.specs.Power.{power}
 use Rattle.gf_field.specs.Symbol.{octets_at, symbol_at, given, solved_symbol}
 use Rattle.gf_field.proofs.Powers.{same_from_power}
 use Rattle.gf_field.proofs.Symbols.{length-symbol_at}
-use Rattle.norm_receive_rules.specs.ReceiverState.{Held}
+use Rattle.norm_receive_rules.specs.Holding.{Held}
 use Rattle.norm_receive_rules.specs.BlockValue.{ids_of, octets_of_held}
 use Rattle.norm_safety.proofs.SolvedLemmas.{coded_at, own_octet, solved_octet}
 

@@ -18,9 +18,8 @@ use Rattle.norm_ext.specs.declared.refusal.Refusal.{Refusal}
 use Rattle.norm_receive_rules.specs.ReceiverState.{ReceiverState}
 use Rattle.norm_receive_rules.specs.Needs.{Need}
 use Rattle.norm_receive_rules.specs.AllNeeds.{needs, needs_nothing}
-use Rattle.norm_receive_rules.specs.HeardNeeds.{is_heard}
 use Rattle.norm_receive_rules.specs.Nack.{asked_of, indices_of, fitting, item_of, instance_id, nack_message, ack_message}
-use Rattle.norm_receive_rules.specs.Ticking.{sends, holds_off, asks, asks_where_needed, ends_back_off, ticked}
+use Rattle.norm_receive_rules.specs.Ticking.{are_heard, sends, holds_off, asks, asks_where_needed, ends_back_off, ticked}
 
 -- it says nothing of objects and of positions: a refusal, or a message of another kind
 abbrev pub SaysNothing : Result Message Refusal → Type 0
@@ -133,14 +132,14 @@ SendsNothingOf None = ⊤
 
 -- A receiver's tick says nothing of objects.
 pub receiver_says_nothing : (p : Settings) (s : ReceiverState) (now : ℕ) → SendsNothingOf (ticked p s now).1
-receiver_says_nothing p s now = due s.due
+receiver_says_nothing p s now = due s.knows.due
   where
     sent : ReceiverState × Option Written → Option Written
     sent step = step.1
 
     asked : (wanted : List Need) (r : ReceiverState) (all : Bool) → SendsNothingOf (sent (elim all [
-      | true ↦ (holds_off p now r, None)
-      | false ↦ sends (writes (nack_message p r wanted) (flat_map indices_of wanted)) (holds_off p now r)
+      | true ↦ (record r { knows = holds_off p now r.knows }, None)
+      | false ↦ sends (writes (nack_message p r wanted) (flat_map indices_of wanted)) (record r { knows = holds_off p now r.knows })
     ]))
     asked wanted r true = tt
     asked wanted r false = (nack_said (nack_of p r wanted), tt)
@@ -150,22 +149,22 @@ receiver_says_nothing p s now = due s.due
       | false ↦ asks p now (fitting p (needs p r) None p.e) r
     ]))
     needed r true = tt
-    needed r false = asked (fitting p (needs p r) None p.e) r (list_all (is_heard r) (fitting p (needs p r) None p.e))
+    needed r false = asked (fitting p (needs p r) None p.e) r (are_heard r (fitting p (needs p r) None p.e))
 
     ended : (r : ReceiverState) (reached : Bool) → SendsNothingOf (sent (elim reached [ true ↦ asks_where_needed p now r | false ↦ (s, None) ]))
     ended r true = needed r (needs_nothing p r)
     ended r false = tt
 
     backed : (backoff : Option ℕ) → SendsNothingOf (sent (elim backoff [
-      | Some ends ↦ elim (nat_le ends now) [ true ↦ asks_where_needed p now (record s { backoff = None }) | false ↦ (s, None) ]
+      | Some ends ↦ elim (nat_le ends now) [ true ↦ asks_where_needed p now (record s { knows = record (s.knows) { backoff = None } }) | false ↦ (s, None) ]
       | None ↦ (s, None)
     ]))
     backed None = tt
-    backed (Some ends) = ended (record s { backoff = None }) (nat_le ends now)
+    backed (Some ends) = ended (record s { knows = record (s.knows) { backoff = None } }) (nat_le ends now)
 
     due : (at : Option Position) → SendsNothingOf (sent (elim at [
-      | Some at ↦ sends (writes (ack_message p s at) (at.index ∷ [])) (record s { due = None })
+      | Some at ↦ sends (writes (ack_message p s at) (at.index ∷ [])) (record s { knows = record (s.knows) { due = None } })
       | None ↦ ends_back_off p now s
     ]))
-    due None = backed s.backoff
+    due None = backed s.knows.backoff
     due (Some at) = (ack_said (ack_of p s at), tt)

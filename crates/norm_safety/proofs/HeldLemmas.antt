@@ -16,7 +16,7 @@ use Rattle.norm_order.specs.Entries.{Object, Whole}
 use Rattle.norm_order.specs.Shapes.{Shape, shape_of, closed_in, encoded_in}
 use Rattle.norm_order.specs.Symbols.{symbol_octets, source_octets, block_sources}
 use Rattle.fec_plan.proofs.PositionLemmas.{before_decides}
-use Rattle.norm_receive_rules.specs.ReceiverState.{Held}
+use Rattle.norm_receive_rules.specs.Holding.{Held}
 use Rattle.norm_receive_rules.specs.Putting.{held_before}
 use Rattle.norm_receive_rules.specs.BlockValue.{ids_of}
 use Rattle.norm_safety.proofs.Cuts.{CutRange, is_sound, few_encoding}

@@ -20,7 +20,8 @@ use Rattle.norm_order.specs.Upto.{parts_of}
 use Rattle.norm_order.specs.declared.up.Up.{Up}
 use Rattle.norm_order.specs.declared.up.Up.TheVariants as up
 use Rattle.norm_send_rules.specs.Messages.{fti_of_object, object_flags}
-use Rattle.norm_receive_rules.specs.ReceiverState.{ReceiverState, Plan, Held, HeldInfo}
+use Rattle.norm_receive_rules.specs.Holding.{Holding, Plan, Held, HeldInfo}
+use Rattle.norm_receive_rules.specs.ReceiverState.{ReceiverState}
 use Rattle.norm_receive_rules.specs.Plans.{cut_of_plan, says_stream, says_info, plan_of, is_done, has_its_info, info_of}
 use Rattle.norm_receive_rules.specs.Putting.{held_before}
 use Rattle.norm_receive_rules.specs.HandingUp.{after_object, handed, is_whole, object_octets, kind_of, told_info, hands_object, hands_next, hands_one}
@@ -49,7 +50,7 @@ abbrev pub IsInfoOf : List Entry → HeldInfo → Type 0
 IsInfoOf order h = IsSomeAnd (slice_get order h.index) (λ (x : Entry). info_of_object x.object ≡ Some h.info)
 
 -- what a receiver holds of an order that is dropped below an index, with what it handed up before
-pub record Holding (p : Settings) (order : List Entry) (d : ℕ) (taken : List Up) (r : ReceiverState) : Type 0 where
+pub record HoldsOf (p : Settings) (order : List Entry) (d : ℕ) (taken : List Up) (r : Holding) : Type 0 where
   pub plans : AllByRecursion (IsPlanOf p order) r.plans
   pub symbols : AllByRecursion (IsSymbolOf p order) r.held
   pub rising : Rising r.held
@@ -58,6 +59,10 @@ pub record Holding (p : Settings) (order : List Entry) (d : ℕ) (taken : List U
   pub symbol : r.point.symbol ≡ 0
   pub within : r.point.index ≤ length order
   pub gone : Exactly p d 0 (take r.point.index order) (taken ++ r.ups)
+
+-- the same of a receiver
+abbrev pub ReceiverHolds : Settings → List Entry → ℕ → List Up → ReceiverState → Type 0
+ReceiverHolds p order d taken r = HoldsOf p order d taken r.holding
 
 -- ---- members of sorted lists
 
@@ -211,7 +216,7 @@ and_parts true b e = (refl, e)
 and_parts false b e = absurd (clash e)
 
 -- an object that is whole is handed up as its part
-whole_up : (p : Settings) → InRange p → (order : List Entry) (r : ReceiverState) (plan : Plan) (x : Entry) (object : Object) → x.object ≡ object → IsSized p object
+whole_up : (p : Settings) → InRange p → (order : List Entry) (r : Holding) (plan : Plan) (x : Entry) (object : Object) → x.object ≡ object → IsSized p object
     → slice_get order plan.index ≡ Some x → plan.fti ≡ fti_of_object p object → 4 * (plan.flags / 4) ≡ object_flags object
     → AllByRecursion (IsSymbolOf p order) r.held → AllByRecursion (IsInfoOf order) r.infos → Rising r.held → is_whole r plan ≡ true
     → (up.Object plan.index (kind_of plan.flags) (told_info r plan) (object_octets r plan) ∷ []) ≡ parts_of p plan.index object
@@ -250,20 +255,20 @@ whole_up p range order r plan x (Whole kind info octets) is sized found fti flag
         ∙ found_some (info_of r plan.index) i refl (sym (ap has_info says) ∙ has) (ap info_of_object is ∙ e)
 
 -- what is handed up next, with the order
-pub hands_holding : (p : Settings) → InRange p → (order : List Entry) (d : ℕ) (taken : List Up) (r after : ReceiverState) → AreSized p order
-    → Holding p order d taken r → hands_one p r ≡ Some after → Holding p order d taken after
+pub hands_holding : (p : Settings) → InRange p → (order : List Entry) (d : ℕ) (taken : List Up) (r after : Holding) → AreSized p order
+    → HoldsOf p order d taken r → hands_one p r ≡ Some after → HoldsOf p order d taken after
 hands_holding p range order d taken r after sized h e = go (plan_of r r.point.index) refl e
   where
-    same_state : (a b : ReceiverState) → Some a ≡ Some b → a ≡ b
+    same_state : (a b : Holding) → Some a ≡ Some b → a ≡ b
     same_state a b e = cc
 
-    none_state : (a : ReceiverState) → None ≡ Some a → ⊥
+    none_state : (a : Holding) → None ≡ Some a → ⊥
     none_state a e = cc
 
-    next : Plan → ReceiverState
+    next : Plan → Holding
     next plan = handed (up.Object plan.index (kind_of plan.flags) (told_info r plan) (object_octets r plan) ∷ []) (after_object plan.index) r
 
-    whole : (plan : Plan) → plan_of r r.point.index ≡ Some plan → is_whole r plan ≡ true → Holding p order d taken (next plan)
+    whole : (plan : Plan) → plan_of r r.point.index ≡ Some plan → is_whole r plan ≡ true → HoldsOf p order d taken (next plan)
     whole plan is done =
         let found = found_plan (IsPlanOf p order) r.plans r.point.index plan h.plans is in
         let entry = some_and _ (slice_get order plan.index) found.0 in
@@ -293,8 +298,8 @@ hands_holding p range order d taken r after sized h e = go (plan_of r r.point.in
         }
 
     object : (plan : Plan) → plan_of r r.point.index ≡ Some plan → (b : Bool) → is_whole r plan ≡ b
-        → (elim b [ true ↦ Some (next plan) | false ↦ None ]) ≡ Some after → Holding p order d taken after
-    object plan is true done e = let K : ReceiverState → Type 0 = λ s. Holding p order d taken s in subst K (same_state (next plan) after e) (whole plan is done)
+        → (elim b [ true ↦ Some (next plan) | false ↦ None ]) ≡ Some after → HoldsOf p order d taken after
+    object plan is true done e = let K : Holding → Type 0 = λ s. HoldsOf p order d taken s in subst K (same_state (next plan) after e) (whole plan is done)
     object plan is false done e = absurd (none_state after e)
 
     not_stream : (plan : Plan) → plan_of r r.point.index ≡ Some plan → says_stream plan.flags ≡ false
@@ -308,13 +313,13 @@ hands_holding p range order d taken r after sized h e = go (plan_of r r.point.in
         of_kind (Stream parts) s f = absurd s
 
     plain : (plan : Plan) → plan_of r r.point.index ≡ Some plan → (b : Bool) → b ≡ false
-        → (elim b [ true ↦ hands_next p r plan | false ↦ hands_object r plan ]) ≡ Some after → Holding p order d taken after
+        → (elim b [ true ↦ hands_next p r plan | false ↦ hands_object r plan ]) ≡ Some after → HoldsOf p order d taken after
     plain plan is true never e = absurd (clash (sym never))
     plain plan is false never e = object plan is (is_whole r plan) refl e
 
     go : (found : Option Plan) → plan_of r r.point.index ≡ found → (elim found [
       | Some plan ↦ elim (says_stream plan.flags) [ true ↦ hands_next p r plan | false ↦ hands_object r plan ]
       | None ↦ None
-    ]) ≡ Some after → Holding p order d taken after
+    ]) ≡ Some after → HoldsOf p order d taken after
     go None is e = absurd (none_state after e)
     go (Some plan) is e = plain plan is (says_stream plan.flags) (not_stream plan is) e

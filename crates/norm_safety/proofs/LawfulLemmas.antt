@@ -106,7 +106,7 @@ given_decides w node octets = (
 
 taken_decides : (found : Option ReceiverState) → Decides (all_taken found) (AllTaken found)
 taken_decides None = (λ e. tt, λ h. refl)
-taken_decides (Some r) = go r.ups
+taken_decides (Some r) = go r.holding.ups
   where
     never : (up : Up) (ups : List Up) → up ∷ ups ≡ [] → ⊥
     never up ups e = cc

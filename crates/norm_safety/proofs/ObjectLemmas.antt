@@ -16,7 +16,7 @@ use Rattle.fec_plan.proofs.CoverLemmas.{before_step, all_before, none_before}
 use Rattle.norm_order.specs.Entries.{Object, Whole}
 use Rattle.norm_order.specs.Symbols.{block_sources}
 use Rattle.norm_send_rules.specs.Messages.{fti_of_object}
-use Rattle.norm_receive_rules.specs.ReceiverState.{ReceiverState, Plan, Held}
+use Rattle.norm_receive_rules.specs.Holding.{Holding, Plan, Held}
 use Rattle.norm_receive_rules.specs.Plans.{cut_of_plan, says_stream, held_of, is_done}
 use Rattle.norm_receive_rules.specs.BlockValue.{ids_of, octets_of_held, block_value}
 use Rattle.norm_receive_rules.specs.HandingUp.{block_octets, object_octets}
@@ -27,7 +27,7 @@ use Rattle.norm_safety.proofs.HeldLemmas.{held_coded, climbs, sources-octets, le
 pub use Rattle.norm_safety.proofs.HeldLemmas.{Rising, IsOfObject}
 
 -- an object of which as many symbols are held as each block has source symbols
-pub record ObjectHeld (p : Settings) (object : Object) (s : ReceiverState) (plan : Plan) : Type 0 where
+pub record ObjectHeld (p : Settings) (object : Object) (s : Holding) (plan : Plan) : Type 0 where
   pub fti : plan.fti ≡ fti_of_object p object
   pub stream : says_stream plan.flags ≡ false
   pub symbols : AllByRecursion (IsOfObject p object plan.index) s.held
@@ -42,7 +42,7 @@ cut_for p octets = cut_of (length octets) p.e p.b p.max_n
 abbrev before_in : Settings → List ℕ → ℕ → ℕ
 before_in p octets block = symbols_before (symbols_in (length octets) p.e) (blocks_in (symbols_in (length octets) p.e) p.b) block
 
-plan_cut : (p : Settings) (kind : Kind) (info : Option (List ℕ)) (octets : List ℕ) (s : ReceiverState) (plan : Plan)
+plan_cut : (p : Settings) (kind : Kind) (info : Option (List ℕ)) (octets : List ℕ) (s : Holding) (plan : Plan)
     → ObjectHeld p (Whole kind info octets) s plan → cut_of_plan plan ≡ cut_for p octets
 plan_cut p kind info octets s plan h =
     ap (λ (b : Bool). elim b [ true ↦ stream_cut plan.fti.e plan.fti.b plan.fti.max_n | false ↦ cut_of plan.fti.l plan.fti.e plan.fti.b plan.fti.max_n ]) h.stream
@@ -50,7 +50,7 @@ plan_cut p kind info octets s plan h =
 
 -- a source symbol that is solved is its piece of the object, but for zeros behind it
 symbol_front : (p : Settings) → CutRange p → (kind : Kind) (info : Option (List ℕ)) (octets : List ℕ) → 0 < length octets
-    → length octets ≤ p.octets → AreOctets octets → (s : ReceiverState) (plan : Plan) → ObjectHeld p (Whole kind info octets) s plan
+    → length octets ≤ p.octets → AreOctets octets → (s : Holding) (plan : Plan) → ObjectHeld p (Whole kind info octets) s plan
     → (block symbol : ℕ) → symbol < source_symbols (cut_for p octets) block → is_done s plan block ≡ true
     → take (length octets - (before_in p octets block + symbol) * p.e)
     (elim (block_value s plan block symbol) [ Some found ↦ found | None ↦ [] ])
@@ -84,7 +84,7 @@ symbol_front p range kind info octets some most are s plan h block symbol lt don
 
 -- the octets of a block stand behind those of the blocks before it
 block_front : (p : Settings) → CutRange p → (kind : Kind) (info : Option (List ℕ)) (octets : List ℕ) → 0 < length octets
-    → length octets ≤ p.octets → AreOctets octets → (s : ReceiverState) (plan : Plan) → ObjectHeld p (Whole kind info octets) s plan
+    → length octets ≤ p.octets → AreOctets octets → (s : Holding) (plan : Plan) → ObjectHeld p (Whole kind info octets) s plan
     → (block : ℕ) (front : List ℕ) → block < blocks (cut_for p octets) → is_done s plan block ≡ true → IsFront p.e octets (before_in p octets block) front
     → IsFront p.e octets (before_in p octets (block + 1)) (front ++ block_octets s plan block)
 block_front p range kind info octets some most are s plan h block front lt done start =
@@ -107,7 +107,7 @@ block_front p range kind info octets some most are s plan h block front lt done 
 
 -- Its octets are the object's.
 pub object_again : (p : Settings) → CutRange p → (kind : Kind) (info : Option (List ℕ)) (octets : List ℕ) → 0 < length octets
-    → length octets ≤ p.octets → AreOctets octets → (s : ReceiverState) (plan : Plan) → ObjectHeld p (Whole kind info octets) s plan
+    → length octets ≤ p.octets → AreOctets octets → (s : Holding) (plan : Plan) → ObjectHeld p (Whole kind info octets) s plan
     → object_octets s plan ≡ octets
 object_again p range kind info octets some most are s plan h =
     let t : ℕ = symbols_in (length octets) p.e in

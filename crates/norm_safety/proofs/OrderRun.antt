@@ -9,6 +9,7 @@ use Rattle.norm_base.specs.Members.{receivers_of}
 use Rattle.norm_base.specs.declared.node.Origin.{Origin}
 use Rattle.norm_ext.specs.Written.{Written}
 use Rattle.norm_order.specs.declared.up.Up.{Up}
+use Rattle.norm_receive_rules.specs.Holding.{Holding}
 use Rattle.norm_receive_rules.specs.ReceiverState.{ReceiverState, receiver_opening}
 use Rattle.norm_receive_rules.specs.Receiving.{received}
 use Rattle.norm_receive_rules.specs.Ticking.{ticked as receiver_ticked}
@@ -45,7 +46,7 @@ use Rattle.norm_safety.proofs.Exact.{exactly_through}
 use Rattle.norm_safety.proofs.ReceiverMoves.{Moved, Remains, Enters, received_moves, same_moves, tick_same, held_same}
 use Rattle.norm_safety.proofs.WorldHolds.{AtNode, WorldHolds, instance_of, said_later, all_filter, all_end, all_contains, quiet_world}
 use Rattle.norm_safety.proofs.WorldMoves.{moved_world}
-use Rattle.norm_safety.proofs.WorldTakes.{taken_world}
+use Rattle.norm_safety.proofs.WorldTakes.{behind_up, taken_world}
 
 -- what happened, an event and what it left
 abbrev happening : World → Event → World × Answer → Happening
@@ -227,21 +228,21 @@ offer_holds p past accepted w node octets h = go (find (is_of node octets) w.giv
         (all_filter (λ (o : ℕ × Written). SaysTrue p w.sender o.1) _ w.given h.given) (λ other. refl) h
 
 -- a world and the answer after a receiver's next hand-up was asked for
-abbrev taken_by : World → ReceiverState × Option Up → World × Answer
-taken_by w step = (with_receiver step.0 w, Took step.1)
+abbrev taken_by : World → ReceiverState → Holding × Option Up → World × Answer
+taken_by w r step = (with_receiver (record r { holding = step.0 }) w, Took step.1)
 
 taking_holds : (p : Settings) (past : List Happening) (accepted : List Origin) (w : World) (node : ℕ) → WorldHolds p past accepted w
     → HoldsAfter p past accepted w (UpTaken node) (world_step p w (UpTaken node))
 taking_holds p past accepted w node h = go (receiver_at w node) refl
   where
-    ups : (r : ReceiverState) → receiver_at w node ≡ Some r → (waiting : List Up) → r.ups ≡ waiting → HoldsAfter p past accepted w (UpTaken node)
-        (taken_by w (elim waiting [ up ∷ more ↦ (record r { ups = more }, Some up) | [] ↦ (r, None) ]))
+    ups : (r : ReceiverState) → receiver_at w node ≡ Some r → (waiting : List Up) → r.holding.ups ≡ waiting → HoldsAfter p past accepted w (UpTaken node)
+        (taken_by w r (elim waiting [ up ∷ more ↦ (record (r.holding) { ups = more }, Some up) | [] ↦ (r.holding, None) ]))
     ups r found [] e = receiver_holds p past accepted w node r r (UpTaken node) (Took None) found (same_moves p w.sender r r (held_same r)) (λ other. refl) h
-    ups r found (up ∷ more) e = taken_world p past accepted w (with_receiver (record r { ups = more }) w) node r up more found e refl refl refl refl h
+    ups r found (up ∷ more) e = taken_world p past accepted w (with_receiver (behind_up more r) w) node r up more found e refl refl refl refl h
 
     go : (found : Option ReceiverState) → receiver_at w node ≡ found → HoldsAfter p past accepted w (UpTaken node) (moved p w (receiver_move found receiver.UpTaken))
     go None e = nothing_holds p past accepted w (UpTaken node) Silent (λ other. refl) h
-    go (Some r) e = ups r e r.ups refl
+    go (Some r) e = ups r e r.holding.ups refl
 
 event_holds : (p : Settings) → InRange p → (past : List Happening) (accepted : List Origin) (w : World) (e : Event) → MayCome p w accepted e → IsEvent e → IsOfObjects e
     → WorldHolds p past accepted w → HoldsAfter p past accepted w e (world_step p w e)

@@ -1,6 +1,7 @@
 -- What a receiver does with a message that is true of an order keeps what it holds of it.
 use Rattle.std.proofs.Common.{◌≡◌, ℕ, zero, suc, ◌+◌, ◌-◌, ◌*◌, ◌/◌, ◌<◌, ◌≤◌, List, [], ◌∷◌, ◌++◌, length, take, Bool, true, false, Option, None, Some, refl, sym, ap, ◌∙◌, subst, append_assoc, arith}
-use Rattle.std.specs.Prelude.{slice_get, ◌==◌, ◌&&◌, nat_lt, is_none, IsSomeAnd}
+use Rattle.std.specs.Prelude.{slice_get, map, max, ◌==◌, ◌&&◌, nat_lt, is_none, IsSomeAnd}
+use Rattle.std.specs.List.{AllByRecursion}
 use Rattle.std.proofs.lemmas.Bool.Decides.{Decides-ltb}
 use Rattle.std.proofs.lemmas.List.{length-take}
 use Rattle.norm_base.specs.Settings.{Settings, InRange}
@@ -15,14 +16,14 @@ use Rattle.norm_order.specs.Symbols.{symbol_octets}
 use Rattle.norm_order.specs.declared.up.Up.{Up}
 use Rattle.norm_order.specs.declared.up.Up.TheVariants as up
 use Rattle.norm_send_rules.specs.Messages.{fti_of_object, object_flags}
-use Rattle.norm_receive_rules.specs.ReceiverState.{ReceiverState, Plan}
+use Rattle.norm_receive_rules.specs.Holding.{Holding, Plan, new_plan}
 use Rattle.norm_receive_rules.specs.Plans.{plan_of, says_stream}
 use Rattle.norm_receive_rules.specs.Fitting.{fit_of, fitted, lets_put, plan_before}
 use Rattle.norm_receive_rules.specs.Putting.{put_of, put_symbol, with_symbol, held_before, put_info_of, put_info, with_info, info_before}
 use Rattle.norm_receive_rules.specs.HandingUp.{next_segment, hands_one, hands_most, handed_up}
-use Rattle.norm_receive_rules.specs.Losing.{loses_one, loses_before, is_cut_off}
-use Rattle.norm_receive_rules.specs.Seeing.{sees}
-use Rattle.norm_receive_rules.specs.Receiving.{object_received, info_received, data_received, squelch_received}
+use Rattle.norm_receive_rules.specs.Losing.{loses_one, loses_before, is_cut_off, squelched}
+use Rattle.norm_receive_rules.specs.Seeing.{plan_seen, sees_block}
+use Rattle.norm_receive_rules.specs.Receiving.{object_held}
 use Rattle.norm_receive_rules.specs.declared.words.Fit.{Fit}
 use Rattle.norm_receive_rules.specs.declared.words.Fit.TheVariants as fit
 use Rattle.norm_receive_rules.specs.declared.words.Put.{Put}
@@ -32,38 +33,34 @@ use Rattle.norm_safety.proofs.EntryLemmas.{clash}
 use Rattle.norm_safety.proofs.WholeOrders.{AreSized}
 use Rattle.norm_safety.proofs.Onward.{not_true}
 use Rattle.norm_safety.proofs.Exact.{Exactly, exactly_loses, take_next}
-use Rattle.norm_safety.proofs.Holding.{Holding, IsPlanOf, IsSymbolOf, IsInfoOf, all_with, rising_with, some_and, hands_holding}
+use Rattle.norm_safety.proofs.Holding.{HoldsOf, IsPlanOf, IsSymbolOf, IsInfoOf, all_with, rising_with, some_and, hands_holding}
 
--- what the lemmas below are about: a receiver's state that holds what holds of an order
-abbrev pub Holds : Settings → List Entry → ℕ → List Up → ReceiverState → Type 0
-Holds p order d taken r = Holding p order d taken r
-
-most_holding : (p : Settings) → InRange p → (order : List Entry) (d : ℕ) (taken : List Up) (n : ℕ) (r : ReceiverState) → AreSized p order
-    → Holding p order d taken r → Holding p order d taken (hands_most n p r)
+most_holding : (p : Settings) → InRange p → (order : List Entry) (d : ℕ) (taken : List Up) (n : ℕ) (r : Holding) → AreSized p order
+    → HoldsOf p order d taken r → HoldsOf p order d taken (hands_most n p r)
 unfolding hands_most
 most_holding p range order d taken zero r sized h = h
 most_holding p range order d taken (suc n) r sized h =
     go (hands_one p r) refl (λ after e. most_holding p range order d taken n after sized (hands_holding p range order d taken r after sized h e))
   where
-    go : (next : Option ReceiverState) → hands_one p r ≡ next
-        → ((after : ReceiverState) → hands_one p r ≡ Some after → Holding p order d taken (hands_most n p after))
-        → Holding p order d taken (elim next [ Some after ↦ hands_most n p after | None ↦ r ])
+    go : (next : Option Holding) → hands_one p r ≡ next
+        → ((after : Holding) → hands_one p r ≡ Some after → HoldsOf p order d taken (hands_most n p after))
+        → HoldsOf p order d taken (elim next [ Some after ↦ hands_most n p after | None ↦ r ])
     go None e more = h
     go (Some after) e more = more after e
 
-pub up_holding : (p : Settings) → InRange p → (order : List Entry) (d : ℕ) (taken : List Up) (r : ReceiverState) → AreSized p order
-    → Holding p order d taken r → Holding p order d taken (handed_up p r)
+pub up_holding : (p : Settings) → InRange p → (order : List Entry) (d : ℕ) (taken : List Up) (r : Holding) → AreSized p order
+    → HoldsOf p order d taken r → HoldsOf p order d taken (handed_up p r)
 up_holding p range order d taken r sized h = most_holding p range order d taken _ r sized h
 
 -- ---- what a message brings
 
-fitted_holding : (p : Settings) (order : List Entry) (d : ℕ) (taken : List Up) (word : Fit) (index : ℕ) (f : Fti) (flags : ℕ) (r : ReceiverState)
-    → IsPlanOf p order (record { index = index; fti = f; flags = flags }) → Holding p order d taken r → Holding p order d taken (fitted word index f flags r)
+fitted_holding : (p : Settings) (order : List Entry) (d : ℕ) (taken : List Up) (word : Fit) (index : ℕ) (f : Fti) (flags : ℕ) (r : Holding)
+    → IsPlanOf p order (new_plan index f flags) → HoldsOf p order d taken r → HoldsOf p order d taken (fitted word index f flags r)
 fitted_holding p order d taken fit.Known index f flags r plan h = h
 fitted_holding p order d taken fit.Away index f flags r plan h = h
 fitted_holding p order d taken fit.Unfit index f flags r plan h = h
 fitted_holding p order d taken fit.Taken index f flags r plan h = record {
-  plans = all_with (IsPlanOf p order) plan_before (record { index = index; fti = f; flags = flags }) r.plans plan h.plans;
+  plans = all_with (IsPlanOf p order) plan_before (new_plan index f flags) r.plans plan h.plans;
   symbols = h.symbols;
   rising = h.rising;
   infos = h.infos;
@@ -73,10 +70,22 @@ fitted_holding p order d taken fit.Taken index f flags r plan h = record {
   gone = h.gone;
 }
 
-seen_holding : (p : Settings) (order : List Entry) (d : ℕ) (taken : List Up) (at : Point) (r : ReceiverState) → Holding p order d taken r
-    → Holding p order d taken (sees at r)
+plan_seen_is : (p : Settings) (order : List Entry) (at : Point) (plan : Plan) → IsPlanOf p order plan → IsPlanOf p order (plan_seen at plan)
+plan_seen_is p order at plan is = go (plan.index == at.index && says_stream plan.flags)
+  where
+    go : (b : Bool) → IsPlanOf p order (elim b [ true ↦ record plan { seen = max plan.seen at.block } | false ↦ plan ])
+    go true = is
+    go false = is
+
+plans_seen : (p : Settings) (order : List Entry) (at : Point) (plans : List Plan) → AllByRecursion (IsPlanOf p order) plans
+    → AllByRecursion (IsPlanOf p order) (map (plan_seen at) plans)
+plans_seen p order at [] all = tt
+plans_seen p order at (plan ∷ plans) all = (plan_seen_is p order at plan all.0, plans_seen p order at plans all.1)
+
+seen_holding : (p : Settings) (order : List Entry) (d : ℕ) (taken : List Up) (at : Point) (r : Holding) → HoldsOf p order d taken r
+    → HoldsOf p order d taken (sees_block at r)
 seen_holding p order d taken at r h = record {
-  plans = h.plans;
+  plans = plans_seen p order at r.plans h.plans;
   symbols = h.symbols;
   rising = h.rising;
   infos = h.infos;
@@ -86,8 +95,8 @@ seen_holding p order d taken at r h = record {
   gone = h.gone;
 }
 
-symbol_holding : (p : Settings) (order : List Entry) (d : ℕ) (taken : List Up) (word : Put) (at : Position) (payload : List ℕ) (r : ReceiverState)
-    → IsSymbolOf p order (record { at = at; octets = payload }) → Holding p order d taken r → Holding p order d taken (with_symbol word at payload r)
+symbol_holding : (p : Settings) (order : List Entry) (d : ℕ) (taken : List Up) (word : Put) (at : Position) (payload : List ℕ) (r : Holding)
+    → IsSymbolOf p order (record { at = at; octets = payload }) → HoldsOf p order d taken r → HoldsOf p order d taken (with_symbol word at payload r)
 symbol_holding p order d taken put.Had at payload r is h = h
 symbol_holding p order d taken put.Away at payload r is h = h
 symbol_holding p order d taken put.Unfit at payload r is h = h
@@ -102,8 +111,8 @@ symbol_holding p order d taken put.Kept at payload r is h = record {
   gone = h.gone;
 }
 
-info_holding : (p : Settings) (order : List Entry) (d : ℕ) (taken : List Up) (word : Put) (index : ℕ) (info : List ℕ) (r : ReceiverState)
-    → IsInfoOf order (record { index = index; info = info }) → Holding p order d taken r → Holding p order d taken (with_info word index info r)
+info_holding : (p : Settings) (order : List Entry) (d : ℕ) (taken : List Up) (word : Put) (index : ℕ) (info : List ℕ) (r : Holding)
+    → IsInfoOf order (record { index = index; info = info }) → HoldsOf p order d taken r → HoldsOf p order d taken (with_info word index info r)
 info_holding p order d taken put.Had index info r is h = h
 info_holding p order d taken put.Away index info r is h = h
 info_holding p order d taken put.Unfit index info r is h = h
@@ -120,17 +129,17 @@ info_holding p order d taken put.Kept index info r is h = record {
 
 -- a message of an object whose transmission information is that of an entry
 object_holding : (p : Settings) → InRange p → (order : List Entry) (d : ℕ) (taken : List Up) (at : Position) (extensions : List Extension) (flags : ℕ) (x : Entry)
-    (brings : ReceiverState → ReceiverState) (r : ReceiverState) → AreSized p order → slice_get order at.index ≡ Some x → SaysObject p x.object extensions flags
-    → ((s : ReceiverState) → Holding p order d taken s → Holding p order d taken (brings s)) → Holding p order d taken r
-    → Holding p order d taken (object_received p at extensions flags brings r)
+    (brings : Holding → Holding) (r : Holding) → AreSized p order → slice_get order at.index ≡ Some x → SaysObject p x.object extensions flags
+    → ((s : Holding) → HoldsOf p order d taken s → HoldsOf p order d taken (brings s)) → HoldsOf p order d taken r
+    → HoldsOf p order d taken (object_held p at extensions flags brings r)
 object_holding p range order d taken at extensions flags x brings r sized found says kept h =
-    let R : Option Fti → Type 0 = λ o. Holding p order d taken (elim o [
+    let R : Option Fti → Type 0 = λ o. HoldsOf p order d taken (elim o [
       | Some f ↦ (
           let word = fit_of p r at.index f flags in
-          let s' = sees (point_of at) (fitted word at.index f flags r) in
+          let s' = sees_block (point_of at) (fitted word at.index f flags r) in
           elim (lets_put word) [ true ↦ handed_up p (brings s') | false ↦ s' ]
           )
-      | None ↦ handed_up p (brings (sees (point_of at) r))
+      | None ↦ handed_up p (brings (sees_block (point_of at) r))
     ]) in
     subst R (sym says.0) (put (lets_put word) between)
   where
@@ -140,27 +149,27 @@ object_holding p range order d taken at extensions flags x brings r sized found 
     word : Fit
     word = fit_of p r at.index (fti_of_object p x.object) flags
 
-    plan : IsPlanOf p order (record { index = at.index; fti = fti_of_object p x.object; flags = flags })
+    plan : IsPlanOf p order (new_plan at.index (fti_of_object p x.object) flags)
     plan =
         let S : Option Entry → Type 0 = λ o. IsSomeAnd o (λ (y : Entry). (fti_of_object p x.object ≡ fti_of_object p y.object) × (4 * (flags / 4) ≡ object_flags y.object)) in
         subst S (sym found) (refl, says.1)
 
-    between : Holding p order d taken (sees (point_of at) (fitted (fit_of p r at.index (fti_of_object p x.object) flags) at.index (fti_of_object p x.object) flags r))
+    between : HoldsOf p order d taken (sees_block (point_of at) (fitted (fit_of p r at.index (fti_of_object p x.object) flags) at.index (fti_of_object p x.object) flags r))
     between = seen_holding p order d taken (point_of at) _ (fitted_holding p order d taken (fit_of p r at.index (fti_of_object p x.object) flags) at.index _ flags r plan h)
 
-    put : (b : Bool) → (Holding p order d taken (sees (point_of at) (fitted (fit_of p r at.index (fti_of_object p x.object) flags) at.index (fti_of_object p x.object) flags r)))
-        → Holding p order d taken (elim b [
-          | true ↦ handed_up p (brings (sees (point_of at) (fitted (fit_of p r at.index (fti_of_object p x.object) flags) at.index (fti_of_object p x.object) flags r)))
-          | false ↦ sees (point_of at) (fitted (fit_of p r at.index (fti_of_object p x.object) flags) at.index (fti_of_object p x.object) flags r)
+    put : (b : Bool) → (HoldsOf p order d taken (sees_block (point_of at) (fitted (fit_of p r at.index (fti_of_object p x.object) flags) at.index (fti_of_object p x.object) flags r)))
+        → HoldsOf p order d taken (elim b [
+          | true ↦ handed_up p (brings (sees_block (point_of at) (fitted (fit_of p r at.index (fti_of_object p x.object) flags) at.index (fti_of_object p x.object) flags r)))
+          | false ↦ sees_block (point_of at) (fitted (fit_of p r at.index (fti_of_object p x.object) flags) at.index (fti_of_object p x.object) flags r)
         ])
     put true s = up_holding p range order d taken _ sized (kept _ s)
     put false s = s
 
-pub data_holding : (p : Settings) → InRange p → (order : List Entry) (d : ℕ) (taken : List Up) (m : DataMessage) (index : ℕ) (r : ReceiverState) → AreSized p order
+pub data_holding : (p : Settings) → InRange p → (order : List Entry) (d : ℕ) (taken : List Up) (m : DataMessage) (index : ℕ) (r : Holding) → AreSized p order
     → IsSomeAnd (slice_get order index) (λ (x : Entry).
     (nat_lt m.id.symbol (encoded_in (shape_of p x.object) m.id.block) ≡ true)
     × (m.payload ≡ symbol_octets p x.object m.id.block m.id.symbol) × SaysObject p x.object m.extensions m.head.flags)
-    → Holding p order d taken r → Holding p order d taken (data_received p m index r)
+    → HoldsOf p order d taken r → HoldsOf p order d taken (object_held p (position index m.id.block m.id.symbol) m.extensions m.head.flags (put_symbol p (position index m.id.block m.id.symbol) m.payload) r)
 data_holding p range order d taken m index r sized says h =
     let at : Position = position index m.id.block m.id.symbol in
     let entry = some_and _ (slice_get order index) says in
@@ -169,10 +178,10 @@ data_holding p range order d taken m index r sized says h =
     object_holding p range order d taken at m.extensions m.head.flags entry.0 (put_symbol p at m.payload) r sized entry.1 entry.2.2
     (λ s held. symbol_holding p order d taken (put_of p s at m.payload) at m.payload s (subst S (sym entry.1) (entry.2.0, entry.2.1)) held) h
 
-pub info_is_holding : (p : Settings) → InRange p → (order : List Entry) (d : ℕ) (taken : List Up) (m : InfoMessage) (index : ℕ) (r : ReceiverState) → AreSized p order
+pub info_is_holding : (p : Settings) → InRange p → (order : List Entry) (d : ℕ) (taken : List Up) (m : InfoMessage) (index : ℕ) (r : Holding) → AreSized p order
     → IsSomeAnd (slice_get order index) (λ (x : Entry).
     (info_of_object x.object ≡ Some m.info) × SaysObject p x.object m.extensions m.head.flags)
-    → Holding p order d taken r → Holding p order d taken (info_received p m index r)
+    → HoldsOf p order d taken r → HoldsOf p order d taken (object_held p (position index 0 0) m.extensions m.head.flags (put_info p index m.info) r)
 info_is_holding p range order d taken m index r sized says h =
     let entry = some_and _ (slice_get order index) says in
     let S : Option Entry → Type 0 = λ o. IsSomeAnd o (λ (y : Entry). info_of_object y.object ≡ Some m.info) in
@@ -188,8 +197,8 @@ there (x ∷ order) zero lt = (x, refl)
 there (x ∷ order) (suc n) lt = there order n (omega arith)
 
 -- the object at the hand-up point is lost, where it was dropped
-lost_holding : (p : Settings) (order : List Entry) (d : ℕ) (taken : List Up) (r : ReceiverState) → d ≤ length order → r.point.index < d
-    → Holding p order d taken r → Holding p order d taken (loses_one r)
+lost_holding : (p : Settings) (order : List Entry) (d : ℕ) (taken : List Up) (r : Holding) → d ≤ length order → r.point.index < d
+    → HoldsOf p order d taken r → HoldsOf p order d taken (loses_one r)
 lost_holding p order d taken r most lt h =
     let n : ℕ = r.point.index in
     let entry = there order n (omega arith) in
@@ -211,23 +220,23 @@ lost_holding p order d taken r most lt h =
           (exactly_loses p d 0 (take n order) (taken ++ r.ups) entry.0 n (let w = h.within in omega arith) lt h.gone)));
     }
 
-before_holding : (p : Settings) → InRange p → (order : List Entry) (d : ℕ) (taken : List Up) (n index : ℕ) (r : ReceiverState) → AreSized p order
-    → d ≤ length order → index ≤ d → Holding p order d taken r → Holding p order d taken (loses_before n p index r)
+before_holding : (p : Settings) → InRange p → (order : List Entry) (d : ℕ) (taken : List Up) (n index : ℕ) (r : Holding) → AreSized p order
+    → d ≤ length order → index ≤ d → HoldsOf p order d taken r → HoldsOf p order d taken (loses_before n p index r)
 unfolding loses_before
 before_holding p range order d taken zero index r sized most le h = up_holding p range order d taken r sized h
 before_holding p range order d taken (suc n) index r sized most le h =
     go (nat_lt (handed_up p r).point.index index) refl (λ s held. before_holding p range order d taken n index s sized most le held)
   where
     go : (b : Bool) → nat_lt (handed_up p r).point.index index ≡ b
-        → ((s : ReceiverState) → Holding p order d taken s → Holding p order d taken (loses_before n p index s))
-        → Holding p order d taken (elim b [ true ↦ loses_before n p index (loses_one (handed_up p r)) | false ↦ handed_up p r ])
+        → ((s : Holding) → HoldsOf p order d taken s → HoldsOf p order d taken (loses_before n p index s))
+        → HoldsOf p order d taken (elim b [ true ↦ loses_before n p index (loses_one (handed_up p r)) | false ↦ handed_up p r ])
     go true e more =
         let lt = (Decides-ltb (handed_up p r).point.index index).0 e in
         more (loses_one (handed_up p r)) (lost_holding p order d taken (handed_up p r) most (omega arith) (up_holding p range order d taken r sized h))
     go false e more = up_holding p range order d taken r sized h
 
 -- nothing is cut off where the window begins at a block 0
-not_cut_off : (p : Settings) (order : List Entry) (d : ℕ) (taken : List Up) (r : ReceiverState) (first : Point) → first.block ≡ 0
+not_cut_off : (p : Settings) (order : List Entry) (d : ℕ) (taken : List Up) (r : Holding) (first : Point) → first.block ≡ 0
     → is_cut_off r first ≡ false
 not_cut_off p order d taken r first none = go (plan_of r r.point.index)
   where
@@ -253,16 +262,16 @@ not_cut_off p order d taken r first none = go (plan_of r r.point.index)
         last true false c e = refl
         last false b c e = refl
 
-pub squelch_holding : (p : Settings) → InRange p → (order : List Entry) (d : ℕ) (taken : List Up) (m : SquelchCommand) (index : ℕ) (r : ReceiverState) → AreSized p order
-    → d ≤ length order → index ≤ d → m.id.block ≡ 0 → Holding p order d taken r → Holding p order d taken (squelch_received p m index r)
+pub squelch_holding : (p : Settings) → InRange p → (order : List Entry) (d : ℕ) (taken : List Up) (m : SquelchCommand) (index : ℕ) (r : Holding) → AreSized p order
+    → d ≤ length order → index ≤ d → m.id.block ≡ 0 → HoldsOf p order d taken r → HoldsOf p order d taken (squelched p (point index m.id.block) r)
 squelch_holding p range order d taken m index r sized most le none h =
     let first : Point = point index m.id.block in
-    let s : ReceiverState = loses_before (first.index - r.point.index) p first.index r in
+    let s : Holding = loses_before (first.index - r.point.index) p first.index r in
     go s (s.point.index == first.index) (is_cut_off s first) (not_cut_off p order d taken s first none)
     (before_holding p range order d taken (first.index - r.point.index) first.index r sized most le h)
   where
-    go : (s : ReceiverState) (a b : Bool) → b ≡ false → Holding p order d taken s
-        → Holding p order d taken (elim (a && b) [ true ↦ handed_up p (loses_one s) | false ↦ s ])
+    go : (s : Holding) (a b : Bool) → b ≡ false → HoldsOf p order d taken s
+        → HoldsOf p order d taken (elim (a && b) [ true ↦ handed_up p (loses_one s) | false ↦ s ])
     go s true true e held = absurd (clash (sym e))
     go s true false e held = held
     go s false b e held = held

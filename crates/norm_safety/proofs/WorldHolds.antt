@@ -27,7 +27,7 @@ use Rattle.norm_safety.proofs.OnceLemmas.{OnceSoFar}
 use Rattle.norm_safety.proofs.Spoken.{IsBegun, SaysTrue}
 use Rattle.norm_safety.proofs.TickTrue.{true_later}
 use Rattle.norm_safety.proofs.Exact.{Exactly, exactly_later}
-use Rattle.norm_safety.proofs.Holding.{Holding, IsPlanOf, IsSymbolOf, IsInfoOf, some_and}
+use Rattle.norm_safety.proofs.Holding.{ReceiverHolds, IsPlanOf, IsSymbolOf, IsInfoOf, some_and}
 use Rattle.norm_safety.proofs.ReceiverMoves.{Standing, StandingIn}
 
 -- hand-ups went exactly through a front of an instance's order
@@ -149,28 +149,28 @@ all_later : {X : Type 0} (P Q : X → Type 0) (xs : List X) → ((x : X) → P x
 all_later P Q [] f all = tt
 all_later P Q (x ∷ xs) f all = (f x all.0, all_later P Q xs f all.1)
 
-holding_more : (p : Settings) (order more : List Entry) (d e : ℕ) (taken : List Up) (r : ReceiverState) → d ≤ e → Holding p order d taken r
-    → Holding p (order ++ more) e taken r
+holding_more : (p : Settings) (order more : List Entry) (d e : ℕ) (taken : List Up) (r : ReceiverState) → d ≤ e → ReceiverHolds p order d taken r
+    → ReceiverHolds p (order ++ more) e taken r
 holding_more p order more d e taken r le h =
-    let E : List Entry → Type 0 = λ entries. Exactly p e 0 entries (taken ++ r.ups) in
+    let E : List Entry → Type 0 = λ entries. Exactly p e 0 entries (taken ++ r.holding.ups) in
     let many = length-append order more in
     let within = h.within in
     record {
-      plans = all_later (IsPlanOf p order) (IsPlanOf p (order ++ more)) r.plans (λ plan is. some_later _ order more plan.index is) h.plans;
-      symbols = all_later (IsSymbolOf p order) (IsSymbolOf p (order ++ more)) r.held (λ x is. some_later _ order more x.at.index is) h.symbols;
+      plans = all_later (IsPlanOf p order) (IsPlanOf p (order ++ more)) r.holding.plans (λ plan is. some_later _ order more plan.index is) h.plans;
+      symbols = all_later (IsSymbolOf p order) (IsSymbolOf p (order ++ more)) r.holding.held (λ x is. some_later _ order more x.at.index is) h.symbols;
       rising = h.rising;
-      infos = all_later (IsInfoOf order) (IsInfoOf (order ++ more)) r.infos (λ x is. some_later _ order more x.index is) h.infos;
+      infos = all_later (IsInfoOf order) (IsInfoOf (order ++ more)) r.holding.infos (λ x is. some_later _ order more x.index is) h.infos;
       block = h.block;
       symbol = h.symbol;
       within = omega arith;
-      gone = subst E (sym (take_longer r.point.index order more within)) (exactly_later p d e 0 _ (taken ++ r.ups) le h.gone);
+      gone = subst E (sym (take_longer r.holding.point.index order more within)) (exactly_later p d e 0 _ (taken ++ r.holding.ups) le h.gone);
     }
 
 pub holding_later : (p : Settings) (s t : SenderState) (id : ℕ) (taken : List Up) (r : ReceiverState) → Onward s t
-    → Holding p (order_of s id) (drop_of s id).index taken r → Holding p (order_of t id) (drop_of t id).index taken r
+    → ReceiverHolds p (order_of s id) (drop_of s id).index taken r → ReceiverHolds p (order_of t id) (drop_of t id).index taken r
 holding_later p s t id taken r onward h =
     let later = order_later s t onward id in
-    let H : List Entry → Type 0 = λ order. Holding p order (drop_of t id).index taken r in
+    let H : List Entry → Type 0 = λ order. ReceiverHolds p order (drop_of t id).index taken r in
     subst H (sym later.order) (holding_more p (order_of s id) later.more (drop_of s id).index (drop_of t id).index taken r later.drop h)
 
 standing_later : (p : Settings) (s t : SenderState) (taken : ℕ → List Up) (r : ReceiverState) → Onward s t → Standing p s taken r → Standing p t taken r
@@ -186,7 +186,7 @@ same_taken p s taken other r same h = go r.instance h
   where
     go : (instance : Option ℕ) → StandingIn p s taken r instance → StandingIn p s other r instance
     go None h = h
-    go (Some id) h = let H : List Up → Type 0 = λ ups. Holding p (order_of s id) (drop_of s id).index ups r in subst H (sym (same id)) h
+    go (Some id) h = let H : List Up → Type 0 = λ ups. ReceiverHolds p (order_of s id) (drop_of s id).index ups r in subst H (sym (same id)) h
 
 -- ---- an event that leaves the receivers
 

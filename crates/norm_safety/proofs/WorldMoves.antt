@@ -23,7 +23,7 @@ use Rattle.norm_safety.specs.OnceEach.{order_of}
 use Rattle.norm_safety.proofs.EntryLemmas.{clash}
 use Rattle.norm_safety.proofs.Onward.{goes_on_itself}
 use Rattle.norm_safety.proofs.Spoken.{IsBegun, SaysTrue}
-use Rattle.norm_safety.proofs.Holding.{Holding}
+use Rattle.norm_safety.proofs.Holding.{ReceiverHolds}
 use Rattle.norm_safety.proofs.ReceiverMoves.{StandingIn, Moved, Remains, Enters, le_true}
 use Rattle.norm_safety.proofs.WorldHolds.{Through, IsAbove, CameLast, CameTo, AtReceiver, AtNode, WorldHolds, last_in, last_more, came_more, hands_same, newly_none, new_id, same_taken, node_later, instance_of}
 
@@ -166,7 +166,7 @@ moved_node p s past x node r t moved none latest now h = go moved
         let C : Option ℕ → Type 0 = λ is. CameTo p (came_to node None (past ++ x ∷ [])) is in
         let D : List ℕ → Type 0 = λ xs. IsDistinct nat_eq xs in
         let S : Option ℕ → Type 0 = λ is. StandingIn p s (hands (past ++ x ∷ []) node) t is in
-        let H : List Up → Type 0 = λ ups. Holding p (order_of s id) (drop_of s id).index ups t in
+        let H : List Up → Type 0 = λ ups. ReceiverHolds p (order_of s id) (drop_of s id).index ups t in
         let last : CameLast p (came_to node None (past ++ x ∷ [])) id =
         record { before = came_to node None past; is = joined; lower = above; begun = begun } in
         record {

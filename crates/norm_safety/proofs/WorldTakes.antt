@@ -26,7 +26,7 @@ use Rattle.norm_safety.proofs.OnceLemmas.{OnceSoFar}
 use Rattle.norm_safety.proofs.Spoken.{SaysTrue}
 use Rattle.norm_safety.proofs.Exact.{Exactly, front_exactly}
 use Rattle.norm_safety.proofs.SenderHolds.{SenderHolds, orders_hold}
-use Rattle.norm_safety.proofs.Holding.{Holding}
+use Rattle.norm_safety.proofs.Holding.{ReceiverHolds}
 use Rattle.norm_safety.proofs.ReceiverMoves.{StandingIn, in_instance_is}
 use Rattle.norm_safety.proofs.WorldHolds.{Through, IsAbove, CameTo, AtReceiver, AtNode, WorldHolds, last_more, hands_more, hands_same, same_came, node_later, instance_of}
 use Rattle.norm_safety.proofs.WorldMoves.{at_node, put_in, found_put, found_other, same_self, above_is_out}
@@ -45,27 +45,27 @@ sized_take p (suc n) (x ∷ order) all = (all.0, sized_take p n order all.1)
 
 -- what was taken went through a front of the order
 taken_through : (p : Settings) (s : SenderState) (id : ℕ) (taken : List Up) (r : ReceiverState) → AreSized p (order_of s id)
-    → Holding p (order_of s id) (drop_of s id).index taken r → Through p s id taken
+    → ReceiverHolds p (order_of s id) (drop_of s id).index taken r → Through p s id taken
 taken_through p s id taken r sized h =
-    let front = front_exactly p (drop_of s id).index 0 (take r.point.index (order_of s id)) taken r.ups (sized_take p r.point.index (order_of s id) sized) h.gone in
-    let many = length-take r.point.index (order_of s id) in
+    let front = front_exactly p (drop_of s id).index 0 (take r.holding.point.index (order_of s id)) taken r.holding.ups (sized_take p r.holding.point.index (order_of s id) sized) h.gone in
+    let many = length-take r.holding.point.index (order_of s id) in
     let few = front.within in
     let E : List Entry → Type 0 = λ entries. Exactly p (drop_of s id).index 0 entries taken in
     record {
       count = front.count;
       within = omega arith;
-      exactly = subst E (take_of_take front.count r.point.index (order_of s id) (omega arith)) front.exactly;
+      exactly = subst E (take_of_take front.count r.holding.point.index (order_of s id) (omega arith)) front.exactly;
     }
 
 -- the receiver behind its next hand-up
 abbrev pub behind_up : List Up → ReceiverState → ReceiverState
-behind_up ups r = record r { ups = ups }
+behind_up ups r = record r { holding = record (r.holding) { ups = ups } }
 
 -- what a holding is with one hand-up more that was taken
-pub take_holding : (p : Settings) (order : List Entry) (d : ℕ) (taken : List Up) (up : Up) (ups : List Up) (r : ReceiverState) → r.ups ≡ up ∷ ups
-    → Holding p order d taken r → Holding p order d (taken ++ up ∷ []) (behind_up ups r)
+pub take_holding : (p : Settings) (order : List Entry) (d : ℕ) (taken : List Up) (up : Up) (ups : List Up) (r : ReceiverState) → r.holding.ups ≡ up ∷ ups
+    → ReceiverHolds p order d taken r → ReceiverHolds p order d (taken ++ up ∷ []) (behind_up ups r)
 take_holding p order d taken up ups r is h =
-    let E : List Up → Type 0 = λ us. Exactly p d 0 (take r.point.index order) us in
+    let E : List Up → Type 0 = λ us. Exactly p d 0 (take r.holding.point.index order) us in
     record {
       plans = h.plans;
       symbols = h.symbols;
@@ -89,7 +89,7 @@ some_up : {up : Up} {ups : List Up} → (up ∷ ups) ≡ [] → ⊥
 some_up e = cc
 
 pub taken_world : (p : Settings) (past : List Happening) (accepted : List Origin) (w v : World) (node : ℕ) (r : ReceiverState) (up : Up) (ups : List Up)
-    → receiver_at w node ≡ Some r → r.ups ≡ up ∷ ups → v.sender ≡ w.sender → v.receivers ≡ (with_receiver (behind_up ups r) w).receivers
+    → receiver_at w node ≡ Some r → r.holding.ups ≡ up ∷ ups → v.sender ≡ w.sender → v.receivers ≡ (with_receiver (behind_up ups r) w).receivers
     → v.offered ≡ w.offered → v.given ≡ w.given → WorldHolds p past accepted w
     → WorldHolds p (past ++ record { before = w; event = UpTaken node; answer = Took (Some up); after = v } ∷ []) accepted v
 taken_world p past accepted w v node r up ups found is sender receivers offered given h = record {
@@ -106,7 +106,7 @@ taken_world p past accepted w v node r up ups found is sender receivers offered 
     x = record { before = w; event = UpTaken node; answer = Took (Some up); after = v }
 
     t : ReceiverState
-    t = record r { ups = ups }
+    t = behind_up ups r
 
     HoldsOf : SenderState → Type 0
     HoldsOf s = SenderHolds p s
@@ -158,7 +158,7 @@ taken_world p past accepted w v node r up ups found is sender receivers offered 
     at_v : (other : ℕ) → receiver_at v other ≡ at_node (map (put_in (behind_up ups r)) w.receivers) other
     at_v other = ap (λ (rs : List ReceiverState). at_node rs other) receivers
 
-    holds_in : (id : ℕ) → r.instance ≡ Some id → Holding p (order_of w.sender id) (drop_of w.sender id).index (hands past node id) r
+    holds_in : (id : ℕ) → r.instance ≡ Some id → ReceiverHolds p (order_of w.sender id) (drop_of w.sender id).index (hands past node id) r
     holds_in id e = let S : Option ℕ → Type 0 = λ instance. StandingIn p w.sender (hands past node) r instance in subst S e here.stands
 
     stands : (instance : Option ℕ) → r.instance ≡ instance → StandingIn p w.sender (hands (past ++ record { before = w; event = UpTaken node; answer = Took (Some up); after = v } ∷ []) node) (behind_up ups r) instance
@@ -168,7 +168,7 @@ taken_world p past accepted w v node r up ups found is sender receivers offered 
     stands (Some id) e =
         let inside_it : is_in r id ≡ true =
         ap (λ (instance : Option ℕ). elim instance [ Some current ↦ current == id | None ↦ false ]) e ∙ same_self id in
-        let H : List Up → Type 0 = λ us. Holding p (order_of w.sender id) (drop_of w.sender id).index us (behind_up ups r) in
+        let H : List Up → Type 0 = λ us. ReceiverHolds p (order_of w.sender id) (drop_of w.sender id).index us (behind_up ups r) in
         subst H (sym (within id inside_it)) (take_holding p (order_of w.sender id) (drop_of w.sender id).index (hands past node id) up ups r is (holds_in id e))
 
     own_there : at_node w.receivers r.node ≡ Some r

@@ -28,7 +28,7 @@ acknowledged x = elim x.message.content [
 
 -- everything before the acknowledgement that is due was handed up, taken or not
 abbrev pub DueIsHanded : Settings → History → ReceiverState → Type 0
-DueIsHanded p h r = IfSome r.instance (λ id. IfSome r.due (λ at. IsFront (upto_in p h id at) (handed_by h r id)))
+DueIsHanded p h r = IfSome r.instance (λ id. IfSome r.knows.due (λ at. IsFront (upto_in p h id at) (handed_by h r id)))
 
 -- everything before an acknowledgement that was said was taken
 abbrev pub SaidIsHanded : Settings → History → About AckMessage → Type 0
@@ -43,7 +43,7 @@ pub record AcknowledgesHanded (p : Settings) (h : History) : Type 0 where
 -- The same as a test.
 abbrev pub due_is_handed : Settings → History → ReceiverState → Bool
 due_is_handed p h r = elim r.instance [
-  | Some id ↦ elim r.due [ Some at ↦ is_front (upto_in p h id at) (handed_by h r id) | None ↦ true ]
+  | Some id ↦ elim r.knows.due [ Some at ↦ is_front (upto_in p h id at) (handed_by h r id) | None ↦ true ]
   | None ↦ true
 ]
 

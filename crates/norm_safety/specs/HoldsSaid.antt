@@ -10,7 +10,8 @@ use Rattle.norm_ext.specs.Message.{InfoMessage, DataMessage}
 use Rattle.norm_ext.specs.declared.head.ObjHead.{ObjHead}
 use Rattle.norm_order.specs.declared.up.Up.{Up}
 use Rattle.norm_order.specs.declared.up.Up.TheVariants as up
-use Rattle.norm_receive_rules.specs.ReceiverState.{ReceiverState, Plan, Held, HeldInfo}
+use Rattle.norm_receive_rules.specs.ReceiverState.{ReceiverState}
+use Rattle.norm_receive_rules.specs.Holding.{Plan, Held, HeldInfo}
 use Rattle.norm_safety.specs.Hands.{hands}
 use Rattle.norm_safety.specs.History.{History}
 use Rattle.norm_safety.specs.InOrder.{GoesThrough, goes_through, drop_of}
@@ -45,7 +46,7 @@ info_said_of w id held = list_any
 
 -- what a node handed up in an instance, with what it handed up and was not taken yet
 abbrev pub handed_by : History → ReceiverState → ℕ → List Up
-handed_by h r id = hands h.happened r.node id ++ r.ups
+handed_by h r id = hands h.happened r.node id ++ r.holding.ups
 
 -- the objects that hand-ups report lost
 abbrev pub losses_in : List Up → List ℕ
@@ -56,11 +57,11 @@ losses_in (_ ∷ ups) = losses_in ups
 -- a receiver in an instance: its plans, symbols and infos were said there; its hand-ups go through the order, and what
 -- it counts as lost is what they report
 pub record HoldsIn (p : Settings) (h : History) (r : ReceiverState) (id : ℕ) : Type 0 where
-  pub plans : AllByRecursion (λ plan. IsTrue (plan_said h.now id plan)) r.plans
-  pub symbols : AllByRecursion (λ held. IsTrue (symbol_said h.now id held)) r.held
-  pub infos : AllByRecursion (λ held. IsTrue (info_said_of h.now id held)) r.infos
+  pub plans : AllByRecursion (λ plan. IsTrue (plan_said h.now id plan)) r.holding.plans
+  pub symbols : AllByRecursion (λ held. IsTrue (symbol_said h.now id held)) r.holding.held
+  pub infos : AllByRecursion (λ held. IsTrue (info_said_of h.now id held)) r.holding.infos
   pub order : GoesThrough p (drop_of h.now.sender id) 0 (order_of h.now.sender id) (handed_by h r id)
-  pub lost : r.lost ≡ losses_in (handed_by h r id)
+  pub lost : r.holding.lost ≡ losses_in (handed_by h r id)
 
 -- of each receiver that is in an instance
 pub record HoldsSaid (p : Settings) (h : History) : Type 0 where
@@ -69,9 +70,9 @@ pub record HoldsSaid (p : Settings) (h : History) : Type 0 where
 -- The same as a test.
 abbrev pub holds_in : Settings → History → ReceiverState → ℕ → Bool
 holds_in p h r id =
-    list_all (plan_said h.now id) r.plans && list_all (symbol_said h.now id) r.held && list_all (info_said_of h.now id) r.infos
+    list_all (plan_said h.now id) r.holding.plans && list_all (symbol_said h.now id) r.holding.held && list_all (info_said_of h.now id) r.holding.infos
     && goes_through p (drop_of h.now.sender id) 0 (order_of h.now.sender id) (handed_by h r id)
-    && pointwise nat_eq r.lost (losses_in (handed_by h r id))
+    && pointwise nat_eq r.holding.lost (losses_in (handed_by h r id))
 
 -- of each receiver that is in an instance
 abbrev pub holds_said : Settings → History → Bool

@@ -21,16 +21,16 @@ accepted_with accepted _ _ = accepted
 
 -- all that was handed up to a node was taken
 abbrev pub AllTaken : Option ReceiverState → Type 0
-AllTaken (Some r) = r.ups ≡ []
+AllTaken (Some r) = r.holding.ups ≡ []
 AllTaken None = ⊤
 
 -- what a receiver knows of an instance that it is in, or goes on to with a message
 abbrev pub knows_with : ReceiverState → ℕ → Option ℕ
-knows_with r instance = option_map (λ (s : ReceiverState). s.known) (entered r instance)
+knows_with r instance = option_map (λ (s : ReceiverState). s.knows.known) (entered r instance)
 
 -- what a receiver knows of the instance that it is in
 abbrev pub knows_in : ReceiverState → ℕ → Option ℕ
-knows_in r instance = elim (is_in r instance) [ true ↦ Some r.known | false ↦ None ]
+knows_in r instance = elim (is_in r instance) [ true ↦ Some r.knows.known | false ↦ None ]
 
 -- The greatest index that a receiver knows of a message's instance: of the one that it is in, and of one that the message
 -- begins.
@@ -120,7 +120,7 @@ same_origin a b = a.producer == b.producer && a.number == b.number
 
 -- all that was handed up to a node was taken
 abbrev pub all_taken : Option ReceiverState → Bool
-all_taken (Some r) = elim r.ups [ [] ↦ true | up ∷ ups ↦ false ]
+all_taken (Some r) = elim r.holding.ups [ [] ↦ true | up ∷ ups ↦ false ]
 all_taken None = true
 
 -- another node offered a datagram of these octets before, whose indices lie near what the node knows

@@ -8,7 +8,7 @@ use Rattle.std.proofs.lemmas.List.{append-nil}
 use Rattle.std.proofs.lemmas.List.Folds.{list_any-append}
 use Rattle.std.proofs.lemmas.List.Elements.{filter-append}
 use Rattle.fec_plan.specs.Partition.{Cut, blocks, sent_octets}
-use Rattle.norm_receive_rules.specs.ReceiverState.{Held}
+use Rattle.norm_receive_rules.specs.Holding.{Held}
 use Rattle.gf_field.specs.Symbol.{given, encoded_symbol}
 use Rattle.rx_hold.specs.BlockState.{held_at}
 use Rattle.rx_hold.specs.Places.{pieces, has_id, free_places, symbol_in}

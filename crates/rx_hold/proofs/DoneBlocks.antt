@@ -8,7 +8,7 @@ use Rattle.std.proofs.lemmas.List.Concat.{flat_map-cons}
 use Rattle.fec_plan.specs.Partition.{Cut, source_symbols, sent_octets, coded_octets}
 use Rattle.gf_field.specs.Symbol.{AreIds, given, encoded_symbol, solved_symbol, solved_sources, symbol_at}
 use Rattle.gf_field.specs.Power.{power}
-use Rattle.norm_receive_rules.specs.ReceiverState.{ReceiverState, Plan, Held}
+use Rattle.norm_receive_rules.specs.Holding.{Holding, Plan, Held}
 use Rattle.norm_receive_rules.specs.Plans.{cut_of_plan, held_of, is_done}
 use Rattle.norm_receive_rules.specs.BlockValue.{ids_of, octets_of_held, block_value}
 use Rattle.norm_receive_rules.specs.HandingUp.{block_octets}
@@ -36,7 +36,7 @@ when_done : (done : Bool) (octets : List ℕ) (other : Option (List ℕ)) → do
 when_done true octets other e = refl
 when_done false octets other e = absurd (cc e)
 
-pub handed_block : (s : ReceiverState) (plan : Plan) (block size : ℕ) (hs : List Held) → held_of s plan.index block ≡ hs → is_done s plan block ≡ true → coded_octets (cut_of_plan plan) ≡ size
+pub handed_block : (s : Holding) (plan : Plan) (block size : ℕ) (hs : List Held) → held_of s plan.index block ≡ hs → is_done s plan block ≡ true → coded_octets (cut_of_plan plan) ≡ size
     → source_symbols (cut_of_plan plan) block ≡ length hs → block_octets s plan block ≡ concat (solved_sources size (ids_of hs) (octets_of_held hs))
 unfolding solved_sources
 handed_block s plan block size hs held done wide count =

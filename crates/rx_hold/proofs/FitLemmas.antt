@@ -10,7 +10,7 @@ use Rattle.fec_plan.specs.declared.plan.PlanFault.{PlanFault}
 use Rattle.fec_plan.specs.declared.position.Position.{Position}
 use Rattle.norm_ext.specs.declared.fti.Fti.{Fti}
 use Rattle.norm_order.specs.First.{first_where}
-use Rattle.norm_receive_rules.specs.ReceiverState.{ReceiverState, Plan}
+use Rattle.norm_receive_rules.specs.Holding.{Holding, Plan}
 use Rattle.norm_receive_rules.specs.Plans.{plan_of, is_over, says_stream, cut_by}
 use Rattle.norm_receive_rules.specs.Fitting.{most_ahead, room_of, room_taken, same_plan, is_known_plan, is_away, is_unfit, fit_of}
 use Rattle.norm_receive_rules.specs.declared.words.Fit.{Fit}
@@ -73,7 +73,7 @@ or_true : (a b : Bool) → (a || true || b) ≡ true
 or_true true b = refl
 or_true false b = refl
 
-module _ (f : Front) (h : HoldState) (s : ReceiverState) (index : ℕ) (g : Fti) (flags : ℕ) (front : IsFront f) (is : front_view f ≡ h) (stands : Stands h s)
+module _ (f : Front) (h : HoldState) (s : Holding) (index : ℕ) (g : Fti) (flags : ℕ) (front : IsFront f) (is : front_view f ≡ h) (stands : Stands h s)
     (object : says_stream flags ≡ false) where
   at_point : s.point.index ≡ h.point
   at_point = ap (λ (at : Position). at.index) stands.point

@@ -6,7 +6,7 @@ use Rattle.norm_base.specs.Settings.{Settings}
 use Rattle.fec_plan.specs.declared.position.Position.{Position}
 use Rattle.norm_order.specs.declared.up.Up.{Up}
 use Rattle.norm_order.specs.declared.up.Up.TheVariants as up
-use Rattle.norm_receive_rules.specs.ReceiverState.{ReceiverState}
+use Rattle.norm_receive_rules.specs.Holding.{Holding}
 use Rattle.norm_receive_rules.specs.Acknowledging.{lost_nothing}
 use Rattle.norm_receive_rules.specs.Losing.{loses_one}
 use Rattle.rx_hold.specs.ObjectState.{ObjectState}
@@ -81,7 +81,7 @@ room_handed f g o is e n room =
 
 -- ---- what it stands for
 
-pub stands_shifted : (p : Settings) (m : ℕ) (ring after : List (Option ObjectState)) (ups later_ups : List Up) (lost later : Bool) (s : ReceiverState) (up : Up) (indexes : List ℕ)
+pub stands_shifted : (p : Settings) (m : ℕ) (ring after : List (Option ObjectState)) (ups later_ups : List Up) (lost later : Bool) (s : Holding) (up : Up) (indexes : List ℕ)
     → 0 < length ring → Placed p m ring → Stands (view_of p m ring ups lost) s → after ≡ shifted ring → later_ups ≡ ups ++ up ∷ []
     → lost_nothing (record s { lost = indexes }) ≡ not later
     → Stands (view_of p (m + 1) after later_ups later) (moved up indexes s)
@@ -95,7 +95,7 @@ lost_some : (xs : List ℕ) (n : ℕ) → (elim (xs ++ n ∷ []) as (λ _. Bool)
 lost_some [] n = refl
 lost_some (x ∷ xs) n = refl
 
-pub stands_lost : (p : Settings) (m : ℕ) (ring after : List (Option ObjectState)) (ups later_ups : List Up) (lost : Bool) (s : ReceiverState)
+pub stands_lost : (p : Settings) (m : ℕ) (ring after : List (Option ObjectState)) (ups later_ups : List Up) (lost : Bool) (s : Holding)
     → 0 < length ring → Placed p m ring → Stands (view_of p m ring ups lost) s → after ≡ shifted ring → later_ups ≡ ups ++ up.Lost m ∷ []
     → Stands (view_of p (m + 1) after later_ups true) (loses_one s)
 stands_lost p m ring after ups later_ups lost s some placed stands ring_is ups_is =

@@ -10,7 +10,7 @@ use Rattle.fec_plan.proofs.CutLemmas.{some_blocks}
 use Rattle.fec_plan.proofs.CoverLemmas.{few_blocks, small_some, between}
 use Rattle.norm_order.specs.declared.up.Up.{Up}
 use Rattle.norm_order.specs.declared.up.Up.TheVariants as up
-use Rattle.norm_receive_rules.specs.ReceiverState.{ReceiverState, Plan, Held}
+use Rattle.norm_receive_rules.specs.Holding.{Holding, Plan, Held}
 use Rattle.norm_receive_rules.specs.Plans.{cut_of_plan, says_stream, is_done, lacking, held_of, is_over, has_its_info}
 use Rattle.norm_receive_rules.specs.HandingUp.{is_whole, kind_of, told_info, object_octets, after_object, handed, hands_object, hands_next, hands_one, hands_most, handed_up}
 use Rattle.rx_hold.specs.ObjectState.{ObjectState, alone}
@@ -28,19 +28,19 @@ use Rattle.rx_hold.proofs.MoveLemmas.{moved}
 abbrev pub up_of : ObjectState → Up
 up_of o = up.Object o.plan.index (kind_of o.plan.flags) (told_info (alone o) o.plan) (object_octets (alone o) o.plan)
 
-abbrev by_stream : Settings → ReceiverState → Plan → Bool → Option ReceiverState
-by_stream p s plan stream = elim stream as (λ _. Option ReceiverState) [ true ↦ hands_next p s plan | false ↦ hands_object s plan ]
+abbrev by_stream : Settings → Holding → Plan → Bool → Option Holding
+by_stream p s plan stream = elim stream as (λ _. Option Holding) [ true ↦ hands_next p s plan | false ↦ hands_object s plan ]
 
-abbrev by_plan : Settings → ReceiverState → Option Plan → Option ReceiverState
-by_plan p s found = elim found as (λ _. Option ReceiverState) [ Some plan ↦ by_stream p s plan (says_stream plan.flags) | None ↦ None ]
+abbrev by_plan : Settings → Holding → Option Plan → Option Holding
+by_plan p s found = elim found as (λ _. Option Holding) [ Some plan ↦ by_stream p s plan (says_stream plan.flags) | None ↦ None ]
 
-abbrev by_whole : ReceiverState → Plan → Bool → Option ReceiverState
-by_whole s plan whole = elim whole as (λ _. Option ReceiverState) [
+abbrev by_whole : Holding → Plan → Bool → Option Holding
+by_whole s plan whole = elim whole as (λ _. Option Holding) [
   | true ↦ Some (handed (up.Object plan.index (kind_of plan.flags) (told_info s plan) (object_octets s plan) ∷ []) (after_object plan.index) s)
   | false ↦ None
 ]
 
-module _ (p : Settings) (m : ℕ) (ring : List (Option ObjectState)) (ups : List Up) (lost : Bool) (s : ReceiverState)
+module _ (p : Settings) (m : ℕ) (ring : List (Option ObjectState)) (ups : List Up) (lost : Bool) (s : Holding)
     (placed : Placed p m ring) (stands : Stands (view_of p m ring ups lost) s) where
   point_is : s.point.index ≡ m
   point_is = ap (λ (at : Position). at.index) stands.point
@@ -128,47 +128,47 @@ holds_some p n o is whole =
 
 -- ---- all hand-ups
 
-hands_none_more : (k : ℕ) (p : Settings) (s : ReceiverState) → hands_one p s ≡ None → hands_most k p s ≡ s
+hands_none_more : (k : ℕ) (p : Settings) (s : Holding) → hands_one p s ≡ None → hands_most k p s ≡ s
 unfolding hands_most
 hands_none_more zero p s e = refl
-hands_none_more (suc k) p s e = ap (λ (found : Option ReceiverState). elim found as (λ _. ReceiverState) [ Some after ↦ hands_most k p after | None ↦ s ]) e
+hands_none_more (suc k) p s e = ap (λ (found : Option Holding). elim found as (λ _. Holding) [ Some after ↦ hands_most k p after | None ↦ s ]) e
 
 -- n hand-ups lead from one state to the other
-pub record Leads (p : Settings) (s : ReceiverState) (n : ℕ) (after : ReceiverState) : Type 0 where
+pub record Leads (p : Settings) (s : Holding) (n : ℕ) (after : Holding) : Type 0 where
   pub on : (k : ℕ) → hands_most (n + k) p s ≡ hands_most k p after
 
-one_more : (k : ℕ) (p : Settings) (s after : ReceiverState) → hands_one p s ≡ Some after → hands_most (suc k) p s ≡ hands_most k p after
+one_more : (k : ℕ) (p : Settings) (s after : Holding) → hands_one p s ≡ Some after → hands_most (suc k) p s ≡ hands_most k p after
 unfolding hands_most
-one_more k p s after e = ap (λ (found : Option ReceiverState). elim found as (λ _. ReceiverState) [ Some t ↦ hands_most k p t | None ↦ s ]) e
+one_more k p s after e = ap (λ (found : Option Holding). elim found as (λ _. Holding) [ Some t ↦ hands_most k p t | None ↦ s ]) e
 
-pub leads_on : (p : Settings) (s : ReceiverState) (n : ℕ) (middle after : ReceiverState) → Leads p s n middle → hands_one p middle ≡ Some after → Leads p s (n + 1) after
+pub leads_on : (p : Settings) (s : Holding) (n : ℕ) (middle after : Holding) → Leads p s n middle → hands_one p middle ≡ Some after → Leads p s (n + 1) after
 leads_on p s n middle after leads e = record {
   on = λ k.
       ap (λ j. hands_most j p s) (let j : n + 1 + k ≡ n + suc k = omega arith in j)
       ∙ leads.on (suc k) ∙ one_more k p middle after e;
 }
 
-pub leads_to_end : (p : Settings) (s : ReceiverState) (n : ℕ) (after : ReceiverState) → Leads p s n after → hands_one p after ≡ None → n ≤ length s.held → handed_up p s ≡ after
+pub leads_to_end : (p : Settings) (s : Holding) (n : ℕ) (after : Holding) → Leads p s n after → hands_one p after ≡ None → n ≤ length s.held → handed_up p s ≡ after
 leads_to_end p s n after leads e le =
     ap (λ k. hands_most k p s) (let k : length s.held ≡ n + (length s.held - n) = omega arith in k)
     ∙ leads.on (length s.held - n) ∙ hands_none_more (length s.held - n) p after e
 
 -- a state holds no fewer symbols than a hold that stands for it
-pub no_fewer : (h : HoldState) (s : ReceiverState) → Stands h s → symbols_held h ≤ length s.held
+pub no_fewer : (h : HoldState) (s : Holding) → Stands h s → symbols_held h ≤ length s.held
 no_fewer h s stands =
     let same = ap (λ (xs : List Held). length xs) stands.held in
     omega (arith, same, filter_fewer Held (λ x. not (is_over s x.at.index)) s.held)
 
 -- what a hold stands for after some hand-ups
-pub record HandsOn (first now : HoldState) (s : ReceiverState) : Type 0 where
-  pub after : ReceiverState
+pub record HandsOn (first now : HoldState) (s : Holding) : Type 0 where
+  pub after : Holding
   pub count : ℕ
   pub leads : Leads first.p s count after
   pub few : count + symbols_held now ≤ symbols_held first
   pub stands : Stands now after
 
-pub hands_on_more : (first middle now : HoldState) (s : ReceiverState) → middle.p ≡ first.p → HandsOn first middle s
-    → ((t : ReceiverState) → Stands middle t → HandsFirst true middle now t) → symbols_held now < symbols_held middle → HandsOn first now s
+pub hands_on_more : (first middle now : HoldState) (s : Holding) → middle.p ≡ first.p → HandsOn first middle s
+    → ((t : Holding) → Stands middle t → HandsFirst true middle now t) → symbols_held now < symbols_held middle → HandsOn first now s
 hands_on_more first middle now s same so_far next fewer =
     let step = next so_far.after so_far.stands in
     record {
@@ -179,18 +179,18 @@ hands_on_more first middle now s same so_far next fewer =
       stands = step.2;
     }
 
-pub hands_on_end : (first middle now : HoldState) (s : ReceiverState) → middle.p ≡ first.p → HandsOn first middle s
-    → ((t : ReceiverState) → Stands middle t → HandsFirst false middle now t) → Stands first s → Stands now (handed_up first.p s)
+pub hands_on_end : (first middle now : HoldState) (s : Holding) → middle.p ≡ first.p → HandsOn first middle s
+    → ((t : Holding) → Stands middle t → HandsFirst false middle now t) → Stands first s → Stands now (handed_up first.p s)
 hands_on_end first middle now s same so_far last stands =
     let step = last so_far.after so_far.stands in
-    subst (λ (t : ReceiverState). Stands now t)
+    subst (λ (t : Holding). Stands now t)
     (sym (leads_to_end first.p s so_far.count so_far.after so_far.leads (ap (λ (p : Settings). hands_one p so_far.after) (sym same) ∙ step.0)
     (omega (arith, so_far.few, no_fewer first s stands))))
     step.1
 
 -- ---- the first place
 
-pub hands_stop : (p : Settings) (m : ℕ) (ring : List (Option ObjectState)) (ups : List Up) (lost : Bool) (s : ReceiverState)
+pub hands_stop : (p : Settings) (m : ℕ) (ring : List (Option ObjectState)) (ups : List Up) (lost : Bool) (s : Holding)
     → Placed p m ring → Stands (view_of p m ring ups lost) s → MatchOption (at_place ring 0) ⊤ (λ o. is_whole (alone o) o.plan ≡ false) → hands_one p s ≡ None
 hands_stop p m ring ups lost s placed stands short = go (at_place ring 0) refl short
   where

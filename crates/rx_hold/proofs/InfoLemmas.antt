@@ -4,7 +4,7 @@ use Rattle.std.specs.Prelude.{slice_set, MatchOption, ⊤, nat_lt, is_some, not,
 use Rattle.std.proofs.lemmas.Bool.{le-ltb}
 use Rattle.norm_base.specs.Settings.{Settings}
 use Rattle.fec_plan.specs.declared.position.Position.{Position}
-use Rattle.norm_receive_rules.specs.ReceiverState.{ReceiverState, Plan}
+use Rattle.norm_receive_rules.specs.Holding.{Holding, Plan}
 use Rattle.norm_receive_rules.specs.Plans.{plan_of, is_over, says_info, info_of}
 use Rattle.norm_receive_rules.specs.Putting.{put_info_by, put_info_of, with_info}
 use Rattle.norm_receive_rules.specs.declared.words.Put.{Put}
@@ -24,13 +24,13 @@ use Rattle.rx_hold.proofs.ReadLemmas.{read_some, read_none, read_at, read_info, 
 abbrev info_by : Bool → Bool → Put
 info_by had bad = elim had as (λ _. Put) [ true ↦ put.Had | false ↦ elim bad as (λ _. Put) [ true ↦ put.Unfit | false ↦ put.Kept ] ]
 
-abbrev by_over : Settings → ReceiverState → List ℕ → Bool → Option Plan → Put
+abbrev by_over : Settings → Holding → List ℕ → Bool → Option Plan → Put
 by_over p s info over found = elim over as (λ _. Put) [
   | true ↦ put.Had
   | false ↦ elim found as (λ _. Put) [ Some plan ↦ put_info_by p s plan info | None ↦ put.Away ]
 ]
 
-module _ (f : Front) (h : HoldState) (s : ReceiverState) (index : ℕ) (front : IsFront f) (is : front_view f ≡ h) (le : h.point ≤ index) (stands : Stands h s) where
+module _ (f : Front) (h : HoldState) (s : Holding) (index : ℕ) (front : IsFront f) (is : front_view f ≡ h) (le : h.point ≤ index) (stands : Stands h s) where
   open_still : is_over s index ≡ false
   open_still = le-ltb index s.point.index (let at = ap (λ (at : Position). at.index) stands.point in omega arith)
 
@@ -67,7 +67,7 @@ informs_there f h index front is may = go (object_of h index) refl may
         inside (y ∷ ring) zero x same = omega arith
         inside (y ∷ ring) (suc i) x same = let rest = inside ring i x same in omega arith
 
-pub stands_told : (f : Front) (index : ℕ) (info : List ℕ) (after : List (Option ObjectState)) (s : ReceiverState) → IsFront f → f.point ≤ index
+pub stands_told : (f : Front) (index : ℕ) (info : List ℕ) (after : List (Option ObjectState)) (s : Holding) → IsFront f → f.point ≤ index
     → index - f.point < length f.ring.items → MatchOption (at_place f.ring.items (index - f.point)) ⊥ (λ o. o.info ≡ None)
     → MatchOption (at_place f.ring.items (index - f.point)) (after ≡ f.ring.items) (λ o. after ≡ slice_set f.ring.items (index - f.point) (Some (record o { info = Some info })))
     → Stands (front_view f) s → Stands (view_of f.profile f.point after f.ups.items f.lost) (with_info put.Kept index info s)

@@ -7,7 +7,7 @@ use Rattle.std.proofs.lemmas.List.Concat.{flat_map-cons}
 use Rattle.fec_plan.specs.Partition.{Cut, blocks, sent_octets}
 use Rattle.norm_order.specs.Sets.{with_member}
 use Rattle.fec_plan.proofs.PositionLemmas.{Before, before_decides, not_both}
-use Rattle.norm_receive_rules.specs.ReceiverState.{Held}
+use Rattle.norm_receive_rules.specs.Holding.{Held}
 use Rattle.norm_receive_rules.specs.Putting.{held_before}
 use Rattle.rx_hold.specs.BlockState.{held_at}
 use Rattle.rx_hold.specs.Places.{with_one}

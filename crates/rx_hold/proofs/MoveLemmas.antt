@@ -10,7 +10,7 @@ use Rattle.fec_plan.specs.declared.position.Position.{Position}
 use Rattle.norm_ext.specs.declared.fti.Fti.{Fti}
 use Rattle.norm_order.specs.declared.up.Up.{Up}
 use Rattle.norm_order.specs.Sets.{with_member}
-use Rattle.norm_receive_rules.specs.ReceiverState.{ReceiverState, Plan, Held, HeldInfo}
+use Rattle.norm_receive_rules.specs.Holding.{Holding, Plan, Held, HeldInfo, new_plan}
 use Rattle.norm_receive_rules.specs.Plans.{is_over}
 use Rattle.norm_receive_rules.specs.Acknowledging.{lost_nothing}
 use Rattle.norm_receive_rules.specs.Fitting.{plan_before, with_plan}
@@ -49,19 +49,19 @@ held_by_index x y lt =
     )
 
 -- what is over is before what is not
-over_less : (s : ReceiverState) (m n index : ℕ) → s.point ≡ position m 0 0 → m ≤ index → not (is_over s n) ≡ false → n < index
+over_less : (s : Holding) (m n index : ℕ) → s.point ≡ position m 0 0 → m ≤ index → not (is_over s n) ≡ false → n < index
 over_less s m n index at le out = go (nat_lt n m) refl (ap (λ (point : Position). not (nat_lt n point.index)) (sym at) ∙ out)
   where
     go : (b : Bool) → nat_lt n m ≡ b → not b ≡ false → n < index
     go true e h = let lt = ltb-true n m e in omega arith
     go false e h = absurd (cc)
 
-open_here : (s : ReceiverState) (m index : ℕ) → s.point ≡ position m 0 0 → m ≤ index → not (is_over s index) ≡ true
+open_here : (s : Holding) (m index : ℕ) → s.point ≡ position m 0 0 → m ≤ index → not (is_over s index) ≡ true
 open_here s m index at le = ap (λ (point : Position). not (nat_lt index point.index)) at ∙ ap not (le-ltb index m le)
 
 -- ---- one more of something
 
-module _ (p : Settings) (m : ℕ) (ring : List (Option ObjectState)) (ups : List Up) (lost : Bool) (s : ReceiverState)
+module _ (p : Settings) (m : ℕ) (ring : List (Option ObjectState)) (ups : List Up) (lost : Bool) (s : Holding)
     (placed : Placed p m ring) (stands : Stands (view_of p m ring ups lost) s) where
   plans_kept : (i : ℕ) (x o : ObjectState) → i < length ring → at_place ring i ≡ Some x → o.plan ≡ x.plan
       → filter (λ (plan : Plan). not (is_over s plan.index)) s.plans ≡ map (λ (o : ObjectState). o.plan) (those_there (slice_set ring i (Some o)))
@@ -72,9 +72,9 @@ module _ (p : Settings) (m : ℕ) (ring : List (Option ObjectState)) (ups : List
       ∙ plans_joined (those_there (slice_set ring i (Some o)))
 
   pub stands_planned : (index i : ℕ) (f : Fti) (flags : ℕ) → m + i ≡ index → i < length ring → at_place ring i ≡ None
-      → Stands (view_of p m (slice_set ring i (Some (empty_object (record { index = index; fti = f; flags = flags })))) ups lost) (with_plan index f flags s)
+      → Stands (view_of p m (slice_set ring i (Some (empty_object (new_plan index f flags)))) ups lost) (with_plan index f flags s)
   stands_planned index i f flags at lt e =
-      let plan : Plan = record { index = index; fti = f; flags = flags } in
+      let plan : Plan = new_plan index f flags in
       let o : ObjectState = empty_object plan in
       record {
         point = stands.point;
@@ -150,10 +150,10 @@ module _ (p : Settings) (m : ℕ) (ring : List (Option ObjectState)) (ups : List
 -- ---- the point moves on
 
 -- an object's hand-up, or its loss, is over
-abbrev pub moved : Up → List ℕ → ReceiverState → ReceiverState
+abbrev pub moved : Up → List ℕ → Holding → Holding
 moved up lost s = record s { ups = s.ups ++ up ∷ []; point = after_object s.point.index; lost = lost }
 
-moved_on : (X : Type 0) (key : X → ℕ) (s : ReceiverState) (m : ℕ) → s.point ≡ position m 0 0 → (xs : List X)
+moved_on : (X : Type 0) (key : X → ℕ) (s : Holding) (m : ℕ) → s.point ≡ position m 0 0 → (xs : List X)
     → filter (λ x. not (nat_lt (key x) (s.point.index + 1))) (filter (λ x. not (is_over s (key x))) xs) ≡ filter (λ x. not (nat_lt (key x) (s.point.index + 1))) xs
 moved_on X key s m at xs = filter_twice X (λ x. not (nat_lt (key x) (s.point.index + 1))) (λ x. not (is_over s (key x))) stricter xs
   where
@@ -165,7 +165,7 @@ moved_on X key s m at xs = filter_twice X (λ x. not (nat_lt (key x) (s.point.in
         go (Rattle.std.proofs.Common.inr le) = ap not (le-ltb (key x) s.point.index le)
 
 pub stands_moved : (p : Settings) (m next : ℕ) (first : Option ObjectState) (rest : List (Option ObjectState)) (ups : List Up) (lost later : Bool)
-    (s : ReceiverState) (up : Up) (indexes : List ℕ) → Placed p m (first ∷ rest) → Stands (view_of p m (first ∷ rest) ups lost) s → next ≡ suc m
+    (s : Holding) (up : Up) (indexes : List ℕ) → Placed p m (first ∷ rest) → Stands (view_of p m (first ∷ rest) ups lost) s → next ≡ suc m
     → lost_nothing (record s { lost = indexes }) ≡ not later
     → Stands (view_of p next (rest ++ None ∷ []) (ups ++ up ∷ []) later) (moved up indexes s)
 stands_moved p m next first rest ups lost later s up indexes placed stands on none =
@@ -195,8 +195,8 @@ stands_moved p m next first rest ups lost later s up indexes placed stands on no
       lost = none;
     }
   where
-    out : (s : ReceiverState) (n : ℕ) → n < s.point.index + 1 → not (nat_lt n (s.point.index + 1)) ≡ false
+    out : (s : Holding) (n : ℕ) → n < s.point.index + 1 → not (nat_lt n (s.point.index + 1)) ≡ false
     out s n lt = ap not (lt-ltb n (s.point.index + 1) lt)
 
-    kept : (s : ReceiverState) (n : ℕ) → s.point.index + 1 ≤ n → not (nat_lt n (s.point.index + 1)) ≡ true
+    kept : (s : Holding) (n : ℕ) → s.point.index + 1 ≤ n → not (nat_lt n (s.point.index + 1)) ≡ true
     kept s n le = ap not (le-ltb n (s.point.index + 1) le)

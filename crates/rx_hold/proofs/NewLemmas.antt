@@ -7,7 +7,7 @@ use Rattle.std.proofs.lemmas.List.{take-replicate, drop-replicate, length-replic
 use Rattle.std.proofs.lemmas.List.Concat.{flat_map-cons}
 use Rattle.std.proofs.lemmas.List.Sums.{length-filter}
 use Rattle.fec_plan.specs.Partition.{Cut, IsSound, blocks, source_symbols, all_symbols, sent_octets}
-use Rattle.norm_receive_rules.specs.ReceiverState.{Held}
+use Rattle.norm_receive_rules.specs.Holding.{Held}
 use Rattle.rx_hold.specs.BlockState.{held_at}
 use Rattle.rx_hold.specs.Places.{AreApart, free_places, has_id}
 use Rattle.rx_hold.specs.Rows.{start_of, end_of, block_ids, coded_symbol, held_under, held_in, all_held}

@@ -5,7 +5,7 @@ use Rattle.std.specs.List.{list_all, list_any, range_with_len}
 use Rattle.std.proofs.lemmas.Bool.{cases_lt, cases_order, eq-eqb, ne_eqb}
 use Rattle.fec_plan.specs.Partition.{Cut, blocks, source_symbols}
 use Rattle.fec_plan.specs.Points.{position}
-use Rattle.norm_receive_rules.specs.ReceiverState.{Held}
+use Rattle.norm_receive_rules.specs.Holding.{Held}
 use Rattle.norm_receive_rules.specs.Plans.{cut_of_plan, held_of, holds, lacking, is_done}
 use Rattle.rx_hold.specs.ObjectState.{ObjectState, alone, short_blocks}
 use Rattle.rx_hold.specs.ObjectSound.{IsObject, IsBlock, object_view, plan_inside, symbols_inside}

@@ -8,7 +8,7 @@ use Rattle.std.proofs.lemmas.List.Concat.{flat_map-cons}
 use Rattle.fec_plan.specs.Partition.{Cut, blocks, sent_octets}
 use Rattle.gf_field.specs.Octet.{AreOctets}
 use Rattle.norm_order.specs.Symbols.{padded}
-use Rattle.norm_receive_rules.specs.ReceiverState.{Held}
+use Rattle.norm_receive_rules.specs.Holding.{Held}
 use Rattle.rx_hold.specs.BlockState.{held_at}
 use Rattle.rx_hold.specs.Places.{AreApart, free_places, has_id, with_one}
 use Rattle.rx_hold.specs.Rows.{block_ids, block_row, coded_symbol, with_coded, held_under, held_in}

@@ -5,7 +5,7 @@ use Rattle.std.proofs.lemmas.List.{set-get_or}
 use Rattle.std.proofs.lemmas.Option.{slice_get_read}
 use Rattle.std.proofs.lemmas.List.Sums.{sum_by-cons}
 use Rattle.norm_base.specs.Settings.{Settings}
-use Rattle.norm_receive_rules.specs.ReceiverState.{Plan}
+use Rattle.norm_receive_rules.specs.Holding.{Plan}
 use Rattle.rx_hold.specs.ObjectState.{ObjectState}
 use Rattle.rx_hold.specs.HoldSound.{IsAt, Placed, at_place, those_there, octets_in}
 

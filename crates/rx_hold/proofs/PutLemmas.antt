@@ -9,7 +9,7 @@ use Rattle.norm_base.specs.Settings.{Settings}
 use Rattle.fec_plan.specs.Points.{position}
 use Rattle.fec_plan.specs.declared.position.Position.{Position}
 use Rattle.norm_order.specs.Sets.{with_member}
-use Rattle.norm_receive_rules.specs.ReceiverState.{ReceiverState, Plan, Held}
+use Rattle.norm_receive_rules.specs.Holding.{Holding, Plan, Held}
 use Rattle.norm_receive_rules.specs.Plans.{plan_of, is_over}
 use Rattle.norm_receive_rules.specs.Putting.{put_by, put_of, held_before, with_symbol}
 use Rattle.norm_receive_rules.specs.declared.words.Put.{Put}
@@ -128,13 +128,13 @@ sound_same f g front is ring_is =
 
 -- ---- symbols
 
-abbrev by_over : Settings → ReceiverState → Position → List ℕ → Bool → Option Plan → Put
+abbrev by_over : Settings → Holding → Position → List ℕ → Bool → Option Plan → Put
 by_over p s at payload over found = elim over as (λ _. Put) [
   | true ↦ put.Had
   | false ↦ elim found as (λ _. Put) [ Some plan ↦ put_by p s plan at payload | None ↦ put.Away ]
 ]
 
-module _ (f : Front) (h : HoldState) (s : ReceiverState) (index : ℕ) (front : IsFront f) (is : front_view f ≡ h) (le : h.point ≤ index) (stands : Stands h s) where
+module _ (f : Front) (h : HoldState) (s : Holding) (index : ℕ) (front : IsFront f) (is : front_view f ≡ h) (le : h.point ≤ index) (stands : Stands h s) where
   open_still : is_over s index ≡ false
   open_still = le-ltb index s.point.index (let at = ap (λ (at : Position). at.index) stands.point in omega arith)
 
@@ -163,7 +163,7 @@ module _ (f : Front) (h : HoldState) (s : ReceiverState) (index : ℕ) (front : 
       × Stands (view_of f.profile f.point after f.ups.items f.lost) (with_symbol word (position index block symbol) payload s)
   put_stands block symbol payload word after within = go (at_place f.ring.items (index - f.point)) refl
     where
-      same : (w : Put) → ReceiverState → Type 0
+      same : (w : Put) → Holding → Type 0
       same w t = Stands (view_of f.profile f.point f.ring.items f.ups.items f.lost) t
 
       kept_or : (o : ObjectState) → at_place f.ring.items (index - f.point) ≡ Some o → (w : Put)

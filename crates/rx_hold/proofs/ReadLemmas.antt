@@ -4,7 +4,7 @@ use Rattle.std.specs.Prelude.{option_map, find, ◌==◌, cond, slice_get, is_so
 use Rattle.std.proofs.lemmas.Bool.{eq-eqb, ne_eqb}
 use Rattle.norm_base.specs.Settings.{Settings}
 use Rattle.fec_plan.specs.Points.{position}
-use Rattle.norm_receive_rules.specs.ReceiverState.{ReceiverState, Plan, Held, HeldInfo}
+use Rattle.norm_receive_rules.specs.Holding.{Holding, Plan, Held, HeldInfo}
 use Rattle.norm_receive_rules.specs.Plans.{plan_of, holds, info_of, lacking}
 use Rattle.norm_receive_rules.specs.declared.words.Missing.{Missing}
 use Rattle.norm_receive_rules.specs.declared.words.Missing.TheVariants as missing
@@ -24,7 +24,7 @@ told_alone plan (Some info) held =
     ap (λ b. elim (cond {A = Option HeldInfo} b (Some (record { index = plan.index; info = info })) None) as (λ _. Option (List ℕ)) [ Some x ↦ Some x.info | None ↦ None ])
     (eq-eqb plan.index plan.index refl)
 
-module _ (f : Front) (h : HoldState) (s : ReceiverState) (index : ℕ) (front : IsFront f) (is : front_view f ≡ h) (le : h.point ≤ index) (stands : Stands h s) where
+module _ (f : Front) (h : HoldState) (s : Holding) (index : ℕ) (front : IsFront f) (is : front_view f ≡ h) (le : h.point ≤ index) (stands : Stands h s) where
   here : Stands (front_view f) s
   here = subst (λ (v : HoldState). Stands v s) (sym is) stands
 

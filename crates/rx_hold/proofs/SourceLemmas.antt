@@ -19,7 +19,7 @@ use Rattle.rs_block.proofs.Formula.{length-column}
 use Rattle.rs_block.proofs.Words.{column-octets, codeword_exists, codeword_laws}
 use Rattle.rs_block.proofs.Functions.{function_laws}
 use Rattle.norm_order.specs.Symbols.{padded}
-use Rattle.norm_receive_rules.specs.ReceiverState.{Held}
+use Rattle.norm_receive_rules.specs.Holding.{Held}
 use Rattle.norm_receive_rules.specs.BlockValue.{ids_of, octets_of_held}
 use Rattle.rx_hold.specs.Places.{pieces}
 use Rattle.rx_hold.proofs.FreePlaces.{length-padded, concat_pieces}

@@ -7,7 +7,7 @@ use Rattle.std.proofs.lemmas.List.Concat.{flat_map_single}
 use Rattle.norm_base.specs.Settings.{Settings}
 use Rattle.fec_plan.specs.declared.position.Position.{Position}
 use Rattle.norm_order.specs.declared.up.Up.{Up}
-use Rattle.norm_receive_rules.specs.ReceiverState.{ReceiverState, Plan, Held, HeldInfo}
+use Rattle.norm_receive_rules.specs.Holding.{Holding, Plan, Held, HeldInfo}
 use Rattle.norm_receive_rules.specs.Plans.{plan_of, is_over, held_of, info_of}
 use Rattle.rx_hold.specs.ObjectState.{ObjectState, infos_of, alone}
 use Rattle.rx_hold.specs.HoldState.{HoldState, Stands}
@@ -50,7 +50,7 @@ plans_joined os = flat_map_single (λ (o : ObjectState). o.plan) os
 
 -- ---- what is not over
 
-pub not_over : (s : ReceiverState) (m : ℕ) (index : ℕ) → s.point ≡ Rattle.fec_plan.specs.Points.position m 0 0 → m ≤ index → is_over s index ≡ false
+pub not_over : (s : Holding) (m : ℕ) (index : ℕ) → s.point ≡ Rattle.fec_plan.specs.Points.position m 0 0 → m ≤ index → is_over s index ≡ false
 not_over s m index at le = ap (λ (point : Position). nat_lt index point.index) at ∙ le-ltb index m le
 
 -- the first that passes a test is the first that a filter keeps
@@ -69,7 +69,7 @@ both_left : (a b : Bool) → (a && b) ≡ true → a ≡ true
 both_left true b e = refl
 both_left false b e = e
 
-module _ (p : Settings) (m : ℕ) (ring : List (Option ObjectState)) (ups : List Up) (lost : Bool) (s : ReceiverState)
+module _ (p : Settings) (m : ℕ) (ring : List (Option ObjectState)) (ups : List Up) (lost : Bool) (s : Holding)
     (placed : Placed p m ring) (stands : Stands (view_of p m ring ups lost) s) where
   -- what is asked of an index from the point on is asked of what is not over
   open_test : (X : Type 0) (key : X → ℕ) (q : X → Bool) (index : ℕ) → m ≤ index → ((x : X) → q x ≡ true → key x ≡ index) → (xs : List X)

@@ -5,7 +5,7 @@ use Rattle.norm_base.specs.Settings.{Settings}
 use Rattle.fec_plan.specs.Partition.{Cut, IsSound}
 use Rattle.norm_ext.specs.declared.fti.Fti.{Fti}
 use Rattle.norm_order.specs.declared.up.Up.{Up}
-use Rattle.norm_receive_rules.specs.ReceiverState.{ReceiverState, Plan}
+use Rattle.norm_receive_rules.specs.Holding.{Holding, Plan, new_plan}
 use Rattle.norm_receive_rules.specs.Plans.{cut_by, says_stream}
 use Rattle.norm_receive_rules.specs.Fitting.{with_plan}
 use Rattle.rx_hold.specs.ObjectState.{ObjectState, empty_object}
@@ -20,7 +20,7 @@ use Rattle.rx_hold.proofs.ReadLemmas.{object_at_place}
 pub place_empty : (f : Front) (index : ℕ) (g : Fti) (cut : Cut) → IsFront f → MayTake (front_view f) index g cut → at_place f.ring.items (index - f.point) ≡ None
 place_empty f index g cut front may = sym (object_at_place f (front_view f) index front refl may.reached) ∙ may.new
 
-pub new_at : (p : Settings) (n index : ℕ) (g : Fti) (flags : ℕ) (cut : Cut) (o : ObjectState) → o ≡ empty_object (record { index = index; fti = g; flags = flags }) → index ≡ n
+pub new_at : (p : Settings) (n index : ℕ) (g : Fti) (flags : ℕ) (cut : Cut) (o : ObjectState) → o ≡ empty_object (new_plan index g flags) → index ≡ n
     → says_stream flags ≡ false → cut ≡ cut_by g flags → IsSound cut → g.e ≡ p.e → g.b ≡ p.b → index < 4294967295 → IsAt p n o
 new_at p n index g flags cut o is same object cut_is sound e b last =
     subst (λ (x : ObjectState). IsAt p n x) (sym is) (record {
@@ -33,8 +33,8 @@ new_at p n index g flags cut o is same object cut_is sound e b last =
       last = subst (λ m. m < 4294967295) same last;
     })
 
-pub stands_taken : (f : Front) (index : ℕ) (g : Fti) (flags : ℕ) (cut : Cut) (o : ObjectState) (ups : List Up) (s : ReceiverState) → IsFront f → MayTake (front_view f) index g cut
-    → o ≡ empty_object (record { index = index; fti = g; flags = flags }) → ups ≡ f.ups.items → Stands (front_view f) s
+pub stands_taken : (f : Front) (index : ℕ) (g : Fti) (flags : ℕ) (cut : Cut) (o : ObjectState) (ups : List Up) (s : Holding) → IsFront f → MayTake (front_view f) index g cut
+    → o ≡ empty_object (new_plan index g flags) → ups ≡ f.ups.items → Stands (front_view f) s
     → Stands (view_of f.profile f.point (slice_set f.ring.items (index - f.point) (Some o)) ups f.lost) (with_plan index g flags s)
 stands_taken f index g flags cut o ups s front may is same stands =
     subst (λ (us : List Up). Stands (view_of f.profile f.point (slice_set f.ring.items (index - f.point) (Some o)) us f.lost) (with_plan index g flags s)) (sym same)

@@ -8,7 +8,7 @@ use Rattle.fec_plan.specs.Points.{position}
 use Rattle.gf_field.specs.Octet.{AreOctets}
 use Rattle.norm_order.specs.Sets.{with_member}
 use Rattle.norm_order.specs.Symbols.{padded}
-use Rattle.norm_receive_rules.specs.ReceiverState.{Held}
+use Rattle.norm_receive_rules.specs.Holding.{Held}
 use Rattle.norm_receive_rules.specs.Plans.{cut_of_plan, holds, is_done}
 use Rattle.norm_receive_rules.specs.Putting.{held_before}
 use Rattle.rx_hold.specs.BlockState.{held_at}

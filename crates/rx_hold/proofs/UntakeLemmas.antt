@@ -6,7 +6,7 @@ use Rattle.norm_base.specs.Settings.{Settings}
 use Rattle.norm_ext.specs.declared.fti.Fti.{Fti}
 use Rattle.norm_order.specs.declared.up.Up.{Up}
 use Rattle.norm_order.specs.Sets.{with_member}
-use Rattle.norm_receive_rules.specs.ReceiverState.{ReceiverState, Plan, Held, HeldInfo}
+use Rattle.norm_receive_rules.specs.Holding.{Holding, Plan, Held, HeldInfo, new_plan}
 use Rattle.norm_receive_rules.specs.Plans.{plan_of, is_over}
 use Rattle.norm_receive_rules.specs.Fitting.{plan_before, with_plan}
 use Rattle.rx_hold.specs.ObjectState.{ObjectState, infos_of, empty_object}
@@ -84,11 +84,11 @@ cleared p index m (suc i) (Some o ∷ ring) x placed at e =
     filter_step (keeps index) o.plan (map (λ (y : ObjectState). y.plan) (those_there ring)) true (ap not (ne_eqb o.plan.index index (λ d. let here = placed.0.index in omega arith)))
     ∙ ap (λ zs. o.plan ∷ zs) (cleared p index (suc m) i ring x placed.1 (omega arith) e)
 
-pub stands_untaken : (p : Settings) (m : ℕ) (ring : List (Option ObjectState)) (ups : List Up) (lost : Bool) (s : ReceiverState) (index i : ℕ) (f : Fti) (flags : ℕ) (x : ObjectState)
+pub stands_untaken : (p : Settings) (m : ℕ) (ring : List (Option ObjectState)) (ups : List Up) (lost : Bool) (s : Holding) (index i : ℕ) (f : Fti) (flags : ℕ) (x : ObjectState)
     → Placed p m ring → i < length ring → m + i ≡ index → at_place ring i ≡ Some x → x ≡ empty_object x.plan → plan_of s index ≡ None
     → Stands (view_of p m ring ups lost) (with_plan index f flags s) → Stands (view_of p m (slice_set ring i None) ups lost) s
 stands_untaken p m ring ups lost s index i f flags x placed lt at e empty none stands =
-    let plan : Plan = record { index = index; fti = f; flags = flags } in
+    let plan : Plan = new_plan index f flags in
     let open_test : Plan → Bool = λ y. not (is_over s y.index) in
     record {
       point = stands.point;

@@ -9,7 +9,7 @@ use Rattle.fec_plan.specs.Partition.{Cut, cut_of, blocks, source_symbols, all_sy
 use Rattle.gf_field.specs.Symbol.{encoded_symbol, solved_symbol, solved_sources}
 use Rattle.gf_field.specs.Octet.{AreOctets}
 use Rattle.norm_order.specs.Symbols.{padded}
-use Rattle.norm_receive_rules.specs.ReceiverState.{Held, HeldInfo}
+use Rattle.norm_receive_rules.specs.Holding.{Held, HeldInfo}
 use Rattle.norm_receive_rules.specs.Plans.{cut_of_plan, info_of}
 use Rattle.norm_receive_rules.specs.BlockValue.{ids_of, octets_of_held}
 use Rattle.norm_receive_rules.specs.HandingUp.{block_octets, object_octets, is_whole}

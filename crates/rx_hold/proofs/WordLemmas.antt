@@ -8,7 +8,7 @@ use Rattle.fec_plan.specs.Partition.{Cut, cut_of, stream_cut, blocks, encoding_s
 use Rattle.fec_plan.specs.Points.{position}
 use Rattle.norm_ext.specs.declared.fti.Fti.{Fti}
 use Rattle.norm_order.specs.First.{first_where}
-use Rattle.norm_receive_rules.specs.ReceiverState.{ReceiverState, Plan}
+use Rattle.norm_receive_rules.specs.Holding.{Holding, Plan}
 use Rattle.norm_receive_rules.specs.Plans.{cut_of_plan, holds, is_done, says_stream, first_block}
 use Rattle.norm_receive_rules.specs.Putting.{put_by, is_far, is_misfit, fits_stream}
 use Rattle.norm_receive_rules.specs.declared.words.Put.{Put}
@@ -74,15 +74,15 @@ neither_set : (a b : Bool) → a ≡ false → b ≡ false → (a || b) ≡ fals
 neither_set true b e f = e
 neither_set false b e f = f
 
-pub word_held : (p : Settings) (s : ReceiverState) (q : Plan) (block symbol : ℕ) (payload : List ℕ) → holds s (position q.index block symbol) ≡ true
+pub word_held : (p : Settings) (s : Holding) (q : Plan) (block symbol : ℕ) (payload : List ℕ) → holds s (position q.index block symbol) ≡ true
     → put.Had ≡ put_by p s q (position q.index block symbol) payload
 word_held p s q block symbol payload here = had_word _ _ _ (ap (λ h. h || is_done s q block) here)
 
-pub word_done : (p : Settings) (s : ReceiverState) (q : Plan) (block symbol : ℕ) (payload : List ℕ) → is_done s q block ≡ true
+pub word_done : (p : Settings) (s : Holding) (q : Plan) (block symbol : ℕ) (payload : List ℕ) → is_done s q block ≡ true
     → put.Had ≡ put_by p s q (position q.index block symbol) payload
 word_done p s q block symbol payload done = had_word _ _ _ (either_set (holds s (position q.index block symbol)) (is_done s q block) done)
 
-word_new : (p : Settings) (s : ReceiverState) (q : Plan) (block symbol : ℕ) (payload : List ℕ) (fits : Bool) → says_stream q.flags ≡ false
+word_new : (p : Settings) (s : Holding) (q : Plan) (block symbol : ℕ) (payload : List ℕ) (fits : Bool) → says_stream q.flags ≡ false
     → holds s (position q.index block symbol) ≡ false → is_done s q block ≡ false → is_payload (cut_of_plan q) block symbol payload ≡ fits
     → (elim (not fits) as (λ _. Put) [ true ↦ put.Unfit | false ↦ put.Kept ]) ≡ put_by p s q (position q.index block symbol) payload
 word_new p s q block symbol payload fits none new lacks is =
@@ -94,12 +94,12 @@ word_new p s q block symbol payload fits none new lacks is =
     word_of : Bool → Put
     word_of d = elim d [ true ↦ put.Unfit | false ↦ put.Kept ]
 
-pub word_unfit : (p : Settings) (s : ReceiverState) (q : Plan) (block symbol : ℕ) (payload : List ℕ) → says_stream q.flags ≡ false
+pub word_unfit : (p : Settings) (s : Holding) (q : Plan) (block symbol : ℕ) (payload : List ℕ) → says_stream q.flags ≡ false
     → holds s (position q.index block symbol) ≡ false → is_done s q block ≡ false → is_payload (cut_of_plan q) block symbol payload ≡ false
     → put.Unfit ≡ put_by p s q (position q.index block symbol) payload
 word_unfit p s q block symbol payload none new lacks is = word_new p s q block symbol payload false none new lacks is
 
-pub word_kept : (p : Settings) (s : ReceiverState) (q : Plan) (block symbol : ℕ) (payload : List ℕ) → says_stream q.flags ≡ false
+pub word_kept : (p : Settings) (s : Holding) (q : Plan) (block symbol : ℕ) (payload : List ℕ) → says_stream q.flags ≡ false
     → holds s (position q.index block symbol) ≡ false → is_done s q block ≡ false → is_payload (cut_of_plan q) block symbol payload ≡ true
     → put.Kept ≡ put_by p s q (position q.index block symbol) payload
 word_kept p s q block symbol payload none new lacks is = word_new p s q block symbol payload true none new lacks is

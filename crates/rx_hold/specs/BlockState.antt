@@ -1,7 +1,7 @@
 -- A symbol as it is held.
 use Rattle.std.specs.Prelude.{ℕ, List}
 use Rattle.fec_plan.specs.Points.{position}
-use Rattle.norm_receive_rules.specs.ReceiverState.{Held}
+use Rattle.norm_receive_rules.specs.Holding.{Held}
 
 -- a symbol of a block, as it is held
 abbrev pub held_at : ℕ → ℕ → ℕ → List ℕ → Held

@@ -5,7 +5,7 @@ use Rattle.std.specs.List.{AllByRecursion}
 use Rattle.norm_base.specs.Settings.{Settings}
 use Rattle.fec_plan.specs.Partition.{Cut, IsSound}
 use Rattle.norm_ext.specs.declared.fti.Fti.{Fti}
-use Rattle.norm_receive_rules.specs.ReceiverState.{Held}
+use Rattle.norm_receive_rules.specs.Holding.{Held}
 use Rattle.norm_receive_rules.specs.Plans.{cut_of_plan, says_stream}
 use Rattle.norm_receive_rules.specs.Fitting.{most_ahead}
 use Rattle.rx_hold.specs.ObjectState.{ObjectState}

@@ -6,7 +6,7 @@ use Rattle.norm_base.specs.Settings.{Settings}
 use Rattle.fec_plan.specs.Partition.{Cut, blocks}
 use Rattle.fec_plan.specs.Points.{position}
 use Rattle.norm_order.specs.declared.up.Up.{Up}
-use Rattle.norm_receive_rules.specs.ReceiverState.{ReceiverState, Plan, Held, HeldInfo}
+use Rattle.norm_receive_rules.specs.Holding.{Holding, Plan, Held, HeldInfo}
 use Rattle.norm_receive_rules.specs.Plans.{cut_of_plan, plan_of, is_over, lacking, is_done}
 use Rattle.norm_receive_rules.specs.Acknowledging.{lost_nothing}
 use Rattle.norm_receive_rules.specs.declared.words.Missing.{Missing}
@@ -40,7 +40,7 @@ IsUnused h index = MatchOption (object_of h index) ⊥ (λ (o : ObjectState). (h
 
 -- What is held stands for a state of the rules: it has all that the state has of objects that were not handed up or lost.
 -- Of objects that are over the state may have more, which no rule looks at again.
-pub record Stands (h : HoldState) (s : ReceiverState) : Type 0 where
+pub record Stands (h : HoldState) (s : Holding) : Type 0 where
   pub point : s.point ≡ position h.point 0 0
   pub plans : filter (λ (plan : Plan). not (is_over s plan.index)) s.plans ≡ map (λ (o : ObjectState). o.plan) h.objects
   pub held : filter (λ (x : Held). not (is_over s x.at.index)) s.held ≡ flat_map (λ (o : ObjectState). o.held) h.objects
@@ -51,11 +51,11 @@ pub record Stands (h : HoldState) (s : ReceiverState) : Type 0 where
 -- ---- what is asked, in the words of the rules
 
 -- an object's partition
-abbrev pub plan_at : ReceiverState → ℕ → Option Cut
+abbrev pub plan_at : Holding → ℕ → Option Cut
 plan_at s index = option_map cut_of_plan (plan_of s index)
 
 -- the flags that an object's plan has
-abbrev pub flags_at : ReceiverState → ℕ → Option ℕ
+abbrev pub flags_at : Holding → ℕ → Option ℕ
 flags_at s index = option_map (λ (plan : Plan). plan.flags) (plan_of s index)
 
 -- what is lacking of a block that is so many symbols short
@@ -64,13 +64,13 @@ missing_by zero = missing.Done
 missing_by (suc less) = missing.Short (suc less)
 
 -- what is lacking of a block
-abbrev pub missing_at : ReceiverState → ℕ → ℕ → Missing
+abbrev pub missing_at : Holding → ℕ → ℕ → Missing
 missing_at s index block = elim (plan_of s index) [ Some plan ↦ missing_by (lacking s plan block) | None ↦ missing.Unseen ]
 
 -- the blocks that are not done, of an object with this plan
-abbrev pub short_of : ReceiverState → Plan → List ℕ
+abbrev pub short_of : Holding → Plan → List ℕ
 short_of s plan = filter (λ block. not (is_done s plan block)) (range_with_len 0 (blocks (cut_of_plan plan)))
 
 -- the first block of an object that is not done
-abbrev pub first_short_at : ReceiverState → ℕ → Option ℕ
+abbrev pub first_short_at : Holding → ℕ → Option ℕ
 first_short_at s index = elim (plan_of s index) [ Some plan ↦ slice_get (short_of s plan) 0 | None ↦ None ]

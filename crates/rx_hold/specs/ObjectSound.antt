@@ -1,7 +1,7 @@
 -- What an object keeps, and what it is seen as.
 use Rattle.std.specs.Prelude.{ℕ, ◌≡◌, ◌<◌, ◌≤◌, ◌+◌, List, length, false, Option, Some, slice_index}
 use Rattle.fec_plan.specs.Partition.{Cut, blocks, source_symbols}
-use Rattle.norm_receive_rules.specs.ReceiverState.{Plan}
+use Rattle.norm_receive_rules.specs.Holding.{Plan, new_plan}
 use Rattle.norm_receive_rules.specs.Plans.{cut_of_plan, says_stream}
 use Rattle.rx_hold.specs.ObjectState.{ObjectState}
 use Rattle.rx_hold.specs.Places.{AreApart, free_places}
@@ -10,7 +10,7 @@ use Rattle.rx_hold.specs.RowsSound.{AreRows, IsCoded}
 use Rattle.rx_hold.specs.declared.object.Object.TheInside.{Inside}
 
 abbrev pub plan_inside : Inside → Plan
-plan_inside o = record { index = o.index; fti = o.fti; flags = o.flags }
+plan_inside o = new_plan o.index o.fti o.flags
 
 abbrev pub symbols_inside : Inside → ℕ → ℕ → Option (List ℕ)
 symbols_inside o = coded_symbol o.rows.plan o.rows.ids.items o.rows.octets.items

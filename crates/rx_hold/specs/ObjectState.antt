@@ -3,7 +3,7 @@ use Rattle.std.specs.Prelude.{ℕ, List, [], ◌∷◌, filter, not, Option, Som
 use Rattle.std.specs.List.{range_with_len}
 use Rattle.fec_plan.specs.Partition.{blocks}
 use Rattle.norm_order.specs.Sets.{with_member}
-use Rattle.norm_receive_rules.specs.ReceiverState.{ReceiverState, Plan, Held, HeldInfo, receiver_opening}
+use Rattle.norm_receive_rules.specs.Holding.{Holding, Plan, Held, HeldInfo, holding_nothing}
 use Rattle.norm_receive_rules.specs.Plans.{cut_of_plan, is_done}
 use Rattle.norm_receive_rules.specs.Putting.{held_before}
 use Rattle.norm_receive_rules.specs.declared.words.Put.{Put}
@@ -25,8 +25,8 @@ abbrev pub infos_of : ObjectState → List HeldInfo
 infos_of o = elim o.info [ Some info ↦ record { index = o.plan.index; info = info } ∷ [] | None ↦ [] ]
 
 -- the state of a receiver that knows of this object alone
-abbrev pub alone : ObjectState → ReceiverState
-alone o = record (receiver_opening 0) { plans = o.plan ∷ []; held = o.held; infos = infos_of o }
+abbrev pub alone : ObjectState → Holding
+alone o = record holding_nothing { plans = o.plan ∷ []; held = o.held; infos = infos_of o }
 
 -- an object after a symbol came that got this word
 abbrev pub offered_to : Put → ℕ → ℕ → List ℕ → ObjectState → ObjectState

@@ -2,7 +2,7 @@
 use Rattle.std.specs.Prelude.{ℕ, ◌+◌, ◌*◌, ◌==◌, List, [], ◌∷◌, take, flat_map, true, false, Option, Some, None}
 use Rattle.std.specs.List.{range_with_len, slice_range}
 use Rattle.fec_plan.specs.Partition.{Cut, blocks, source_symbols, symbol_number, sent_octets}
-use Rattle.norm_receive_rules.specs.ReceiverState.{Held}
+use Rattle.norm_receive_rules.specs.Holding.{Held}
 use Rattle.rx_hold.specs.BlockState.{held_at}
 use Rattle.rx_hold.specs.Places.{symbol_in, with_one}
 

@@ -4,7 +4,7 @@ ghost use Rattle.std.specs.Prelude.{ℕ, ◌≡◌, ◌==◌, ◌&&◌, ◌+◌,
 ghost use Rattle.std.specs.VecDeque.{deque_capacity};
 ghost use Rattle.norm_base.specs.Settings.{Settings};
 ghost use Rattle.fec_plan.specs.Points.{point as point_at, position};
-ghost use Rattle.norm_receive_rules.specs.ReceiverState.{ReceiverState};
+ghost use Rattle.norm_receive_rules.specs.Holding.{Holding};
 ghost use Rattle.norm_receive_rules.specs.Putting.{put_by};
 ghost use Rattle.norm_receive_rules.specs.HandingUp.{is_whole, handed_up};
 ghost use Rattle.norm_receive_rules.specs.Losing.{loses_one, loses_before, is_cut_off, squelched};
@@ -169,7 +169,7 @@ impl Front {
         ensures profile { self.new.profile ≡ self.old.profile }
         ensures forward { self.old.point ≤ self.new.point }
         ensures fewer { IsTrue result → symbols_held (front_view self.new) < symbols_held (front_view self.old) }
-        ensures state { (s : ReceiverState) → Stands (front_view self.old) s → HandsFirst result (front_view self.old) (front_view self.new) s }
+        ensures state { (s : Holding) → Stands (front_view self.old) s → HandsFirst result (front_view self.old) (front_view self.new) s }
     {
         let Some(object) = take_whole(&mut self.ring) else {
             return false;
@@ -187,7 +187,7 @@ impl Front {
         ensures room { (n : ℕ) → HasRoom n self.old → HasRoom n self.new }
         ensures profile { self.new.profile ≡ self.old.profile }
         ensures forward { self.old.point ≤ self.new.point }
-        ensures state { (s : ReceiverState) → Stands (front_view self.old) s → Stands (front_view self.new) (handed_up self.old.profile s) }
+        ensures state { (s : Holding) → Stands (front_view self.old) s → Stands (front_view self.new) (handed_up self.old.profile s) }
     {
         while self.hand_up_first() {}
     }
@@ -201,7 +201,7 @@ impl Front {
         ensures room { (n : ℕ) → HasRoom (n + 1) self.old → HasRoom n self.new }
         ensures profile { self.new.profile ≡ self.old.profile }
         ensures point { self.new.point ≡ self.old.point + 1 }
-        ensures state { (s : ReceiverState) → Stands (front_view self.old) s → Stands (front_view self.new) (loses_one s) }
+        ensures state { (s : Holding) → Stands (front_view self.old) s → Stands (front_view self.new) (loses_one s) }
     {
         let first = shift(&mut self.ring);
         self.taken -= octets_of(&first);
@@ -217,7 +217,7 @@ impl Front {
         ensures sound { IsFront self.new }
         ensures room { HasRoom 1 self.new }
         ensures profile { self.new.profile ≡ self.old.profile }
-        ensures state { (s : ReceiverState) → Stands (front_view self.old) s
+        ensures state { (s : Holding) → Stands (front_view self.old) s
             → Stands (front_view self.new) (loses_before (index - s.point.index) self.old.profile index s) }
     {
         self.advance();
@@ -230,7 +230,7 @@ impl Front {
     /// Whether the window begins within the object at the hand-up point, and that has no plan.
     fn is_cut_off(&self, index: u32, block: u32) -> bool
         requires { IsFront self.now }
-        ensures exact { (s : ReceiverState) → Stands (front_view self.now) s
+        ensures exact { (s : Holding) → Stands (front_view self.now) s
             → result ≡ (s.point.index == index && is_cut_off s (point_at index block)) }
         ensures here { IsTrue result → self.now.point ≡ index }
     {
@@ -244,7 +244,7 @@ impl Front {
         requires last { index < 4294967295 }
         ensures sound { IsFront self.new }
         ensures profile { self.new.profile ≡ self.old.profile }
-        ensures state { (s : ReceiverState) → Stands (front_view self.old) s
+        ensures state { (s : Holding) → Stands (front_view self.old) s
             → Stands (front_view self.new) (squelched self.old.profile (point_at index block) s) }
     {
         self.lose_all_before(index);

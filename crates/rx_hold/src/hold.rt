@@ -3,14 +3,14 @@
 ghost use Rattle.std.specs.Prelude.{ℕ, List, ◌≡◌, ◌==◌, ◌&&◌, ◌||◌, nat_le, nat_lt, if◌then◌else◌, ◌+◌, ◌<◌, ◌≤◌, ◌^◌, not, length, IfOk, IfErr, OnErr, MatchOption, MatchResult, Option, None, Some, is_ok, is_some, false, true, ⊤};
 ghost use Rattle.fec_plan.specs.Partition.{blocks};
 ghost use Rattle.fec_plan.specs.Points.{point as point_at, position};
-ghost use Rattle.norm_receive_rules.specs.ReceiverState.{ReceiverState, knowing_nothing};
+ghost use Rattle.norm_receive_rules.specs.Holding.{Holding, holding_nothing};
 ghost use Rattle.norm_receive_rules.specs.Plans.{cut_of_plan, cut_by, says_info, says_stream, plan_of, holds, info_of};
 ghost use Rattle.norm_receive_rules.specs.Acknowledging.{lost_nothing};
 ghost use Rattle.norm_receive_rules.specs.Fitting.{most_ahead, fit_of, fitted, with_plan};
 ghost use Rattle.norm_receive_rules.specs.Putting.{put_of, with_symbol, put_info_of, with_info};
 ghost use Rattle.norm_receive_rules.specs.HandingUp.{handed_up};
 ghost use Rattle.norm_receive_rules.specs.Losing.{squelched};
-ghost use Rattle.norm_receive_rules.specs.Taking.{took};
+ghost use Rattle.norm_receive_rules.specs.Taking.{up_taken};
 ghost use Rattle.norm_receive_rules.specs.declared.words.Fit.TheVariants as fit_word;
 ghost use Rattle.norm_receive_rules.specs.declared.words.Put.TheVariants as put_word;
 ghost use Rattle.norm_ext.specs.declared.fti.Fti.{Fti as FtiValue};
@@ -86,7 +86,7 @@ impl Hold {
     /// `Memory` where memory runs out.
     pub fn new(alloc: Global, profile: &Profile) -> Result<Hold, Memory>
         ensures empty { IfOk result (λ hold. hold ≡ empty_hold profile.now) }
-        ensures begun { IfOk result (λ hold. (node : ℕ) (instance : Option ℕ) (sequence : ℕ) → Stands hold (knowing_nothing node instance sequence)) }
+        ensures begun { IfOk result (λ hold. Stands hold holding_nothing) }
     {
         let mut ring = VecDeque::with_capacity(alloc, PLACES)?;
         fill(&mut ring);
@@ -108,7 +108,7 @@ impl Hold {
     /// All is forgotten, as the receiver enters another instance. It takes no memory.
     pub fn clear(&mut self)
         ensures empty { self.new ≡ empty_hold self.old.p }
-        ensures begun { (node : ℕ) (instance : Option ℕ) (sequence : ℕ) → Stands self.new (knowing_nothing node instance sequence) }
+        ensures begun { Stands self.new holding_nothing }
     {
         self.front.ring.clear();
         fill(&mut self.front.ring);
@@ -121,7 +121,7 @@ impl Hold {
     /// The next source symbol that is to be handed up.
     pub fn hand_up(&self) -> Position
         ensures exact { result ≡ position self.now.point 0 0 }
-        ensures state { (s : ReceiverState) → Stands self.now s → result ≡ s.point }
+        ensures state { (s : Holding) → Stands self.now s → result ≡ s.point }
     {
         Position {
             index: self.front.point,
@@ -134,7 +134,7 @@ impl Hold {
     pub fn plan(&self, index: u32) -> Option<Plan>
         requires { self.now.point ≤ index }
         ensures exact { result ≡ plan_in self.now index }
-        ensures state { (s : ReceiverState) → Stands self.now s → result ≡ plan_at s index }
+        ensures state { (s : Holding) → Stands self.now s → result ≡ plan_at s index }
     {
         match object_at(&self.front.ring, self.front.point, index) {
             Some(object) => Some(object.plan()),
@@ -145,7 +145,7 @@ impl Hold {
     /// The flags of an object. `None` exactly where it has no plan.
     pub fn flags(&self, index: u32) -> Option<u8>
         requires { self.now.point ≤ index }
-        ensures { (s : ReceiverState) → Stands self.now s → result ≡ flags_at s index }
+        ensures { (s : Holding) → Stands self.now s → result ≡ flags_at s index }
     {
         match object_at(&self.front.ring, self.front.point, index) {
             Some(object) => Some(object.flags()),
@@ -156,7 +156,7 @@ impl Hold {
     /// Whether the info of an object is held.
     pub fn has_info(&self, index: u32) -> bool
         requires { self.now.point ≤ index }
-        ensures { (s : ReceiverState) → Stands self.now s → result ≡ is_some (info_of s index) }
+        ensures { (s : Holding) → Stands self.now s → result ≡ is_some (info_of s index) }
     {
         match object_at(&self.front.ring, self.front.point, index) {
             Some(object) => object.has_info(),
@@ -167,7 +167,7 @@ impl Hold {
     /// Whether a symbol is held.
     pub fn holds(&self, at: Position) -> bool
         requires { self.now.point ≤ at.index }
-        ensures { (s : ReceiverState) → Stands self.now s → result ≡ holds s at }
+        ensures { (s : Holding) → Stands self.now s → result ≡ holds s at }
     {
         match object_at(&self.front.ring, self.front.point, at.index) {
             Some(object) => object.holds(at.block, at.symbol),
@@ -179,7 +179,7 @@ impl Hold {
     pub fn missing(&self, index: u32, block: u32) -> Missing
         requires reached { self.now.point ≤ index }
         requires block { MatchOption (plan_in self.now index) ⊤ (λ cut. block < blocks cut) }
-        ensures { (s : ReceiverState) → Stands self.now s → result ≡ missing_at s index block }
+        ensures { (s : Holding) → Stands self.now s → result ≡ missing_at s index block }
     {
         let Some(object) = object_at(&self.front.ring, self.front.point, index) else {
             return Missing::Unseen;
@@ -195,7 +195,7 @@ impl Hold {
     /// constant time.
     pub fn first_short(&self, index: u32) -> Option<u32>
         requires { self.now.point ≤ index }
-        ensures { (s : ReceiverState) → Stands self.now s → result ≡ first_short_at s index }
+        ensures { (s : Holding) → Stands self.now s → result ≡ first_short_at s index }
     {
         match object_at(&self.front.ring, self.front.point, index) {
             Some(object) => object.first_short(),
@@ -205,7 +205,7 @@ impl Hold {
 
     /// Whether an object was lost in this instance.
     pub fn has_lost(&self) -> bool
-        ensures { (s : ReceiverState) → Stands self.now s → lost_nothing s ≡ not result }
+        ensures { (s : Holding) → Stands self.now s → lost_nothing s ≡ not result }
     {
         self.front.lost
     }
@@ -213,7 +213,7 @@ impl Hold {
     /// Takes the next hand-up, where one is left.
     pub fn next_up(&mut self) -> Option<Up>
         ensures profile { self.new.p ≡ self.old.p }
-        ensures state { (s : ReceiverState) → Stands self.old s → (result ≡ (took s).1) × Stands self.new (took s).0 }
+        ensures state { (s : Holding) → Stands self.old s → (result ≡ (up_taken s).1) × Stands self.new (up_taken s).0 }
     {
         self.front.ups.pop_front()
     }
@@ -222,7 +222,7 @@ impl Hold {
     fn plan_for(&self, index: u32, fti: &Fti, flags: u8) -> Result<Plan, Fit>
         requires length { fti.now.l < 2 ^ 48 }
         requires object { says_stream flags ≡ false }
-        ensures word { (s : ReceiverState) → Stands self.now s → MatchResult result (λ _. fit_of self.now.p s index fti.now flags ≡ fit_word.Taken)
+        ensures word { (s : Holding) → Stands self.now s → MatchResult result (λ _. fit_of self.now.p s index fti.now flags ≡ fit_word.Taken)
             (λ word. (word ≡ fit_of self.now.p s index fti.now flags) × (fitted word index fti.now flags s ≡ s)) }
         ensures other { IfErr result (λ word. word ≡ fit_word.Taken → ⊥) }
         ensures plan { IfOk result (λ plan. plan ≡ cut_by fti.now flags) }
@@ -263,7 +263,7 @@ impl Hold {
         requires object { says_stream flags ≡ false }
         requires last { index < 4294967295 }
         ensures profile { self.new.p ≡ self.old.p }
-        ensures state { IfOk result (λ _. (s : ReceiverState) → Stands self.old s → Stands self.new (with_plan index fti.now flags s)) }
+        ensures state { IfOk result (λ _. (s : Holding) → Stands self.old s → Stands self.new (with_plan index fti.now flags s)) }
         ensures unused { IfOk result (λ _. IsUnused self.new index) }
         ensures refused { OnErr result (self.new ≡ self.old) }
     {
@@ -290,7 +290,7 @@ impl Hold {
         requires last { index < 4294967295 }
         requires object { says_stream flags ≡ false }
         ensures profile { self.new.p ≡ self.old.p }
-        ensures state { IfOk result (λ word. (s : ReceiverState) → Stands self.old s
+        ensures state { IfOk result (λ word. (s : Holding) → Stands self.old s
             → (word ≡ fit_of self.old.p s index fti.now flags) × Stands self.new (fitted word index fti.now flags s)) }
         ensures unused { IfOk result (λ word. word ≡ fit_word.Taken → IsUnused self.new index) }
         ensures refused { OnErr result (self.new ≡ self.old) }
@@ -308,7 +308,7 @@ impl Hold {
     pub fn untake(&mut self, index: u32)
         requires { IsUnused self.old index }
         ensures profile { self.new.p ≡ self.old.p }
-        ensures state { (s : ReceiverState) (f : FtiValue) (flags : ℕ) → plan_of s index ≡ None → Stands self.old (with_plan index f flags s) → Stands self.new s }
+        ensures state { (s : Holding) (f : FtiValue) (flags : ℕ) → plan_of s index ≡ None → Stands self.old (with_plan index f flags s) → Stands self.new s }
     {
         let place = (index - self.front.point) as usize;
         let object = take_at(&mut self.front.ring, place);
@@ -326,7 +326,7 @@ impl Hold {
     /// `Memory` where memory runs out; then nothing changes. Symbols of data and files take none, so it never does yet.
     pub fn put(&mut self, index: u32, id: PayloadId, payload: &[u8]) -> Result<Put, Memory>
         ensures profile { self.new.p ≡ self.old.p }
-        ensures state { IfOk result (λ word. (s : ReceiverState) → Stands self.old s
+        ensures state { IfOk result (λ word. (s : Holding) → Stands self.old s
             → (word ≡ put_of self.old.p s (position index id.block id.symbol) payload.now)
             × Stands self.new (with_symbol word (position index id.block id.symbol) payload.now s)) }
         ensures none { is_ok result ≡ true }
@@ -345,7 +345,7 @@ impl Hold {
 
     /// The word that an info gets.
     fn info_word(&self, index: u32, info: &[u8]) -> Put
-        ensures word { (s : ReceiverState) → Stands self.now s → result ≡ put_info_of self.now.p s index info.now }
+        ensures word { (s : Holding) → Stands self.now s → result ≡ put_info_of self.now.p s index info.now }
         ensures kept { result ≡ put_word.Kept → MayInform self.now index }
     {
         if index < self.front.point {
@@ -373,7 +373,7 @@ impl Hold {
     /// `Memory` where memory runs out; then nothing changes.
     pub fn put_info(&mut self, index: u32, info: &[u8]) -> Result<Put, Memory>
         ensures profile { self.new.p ≡ self.old.p }
-        ensures state { IfOk result (λ word. (s : ReceiverState) → Stands self.old s
+        ensures state { IfOk result (λ word. (s : Holding) → Stands self.old s
             → (word ≡ put_info_of self.old.p s index info.now) × Stands self.new (with_info word index info.now s)) }
         ensures refused { OnErr result (self.new ≡ self.old) }
     {
@@ -389,7 +389,7 @@ impl Hold {
     fn keep_info(&mut self, index: u32, info: Octets)
         requires { MayInform self.old index }
         ensures profile { self.new.p ≡ self.old.p }
-        ensures state { (s : ReceiverState) → Stands self.old s → Stands self.new (with_info put_word.Kept index info s) }
+        ensures state { (s : Holding) → Stands self.old s → Stands self.new (with_info put_word.Kept index info s) }
     {
         let place = (index - self.front.point) as usize;
         put_info_at(&mut self.front.ring, place, info);
@@ -398,7 +398,7 @@ impl Hold {
     /// Hands up all that became whole. It takes no memory.
     pub fn advance(&mut self)
         ensures profile { self.new.p ≡ self.old.p }
-        ensures state { (s : ReceiverState) → Stands self.old s → Stands self.new (handed_up self.old.p s) }
+        ensures state { (s : Holding) → Stands self.old s → Stands self.new (handed_up self.old.p s) }
     {
         self.front.advance();
     }
@@ -412,7 +412,7 @@ impl Hold {
     pub fn lose_before(&mut self, index: u32, block: u32) -> Result<(), Memory>
         requires { index < 4294967295 }
         ensures profile { self.new.p ≡ self.old.p }
-        ensures state { IfOk result (λ _. (s : ReceiverState) → Stands self.old s → Stands self.new (squelched self.old.p (point_at index block) s)) }
+        ensures state { IfOk result (λ _. (s : Holding) → Stands self.old s → Stands self.new (squelched self.old.p (point_at index block) s)) }
         ensures refused { OnErr result (self.new ≡ self.old) }
     {
         let gap = index.saturating_sub(self.front.point) as usize;

@@ -5,6 +5,7 @@ ghost use Rattle.norm_base.specs.Settings.{Settings};
 ghost use Rattle.fec_plan.specs.Partition.{blocks, source_symbols, all_symbols};
 ghost use Rattle.fec_plan.specs.Points.{position};
 ghost use Rattle.norm_order.specs.declared.up.Up.TheVariants.{Object as ObjectUp};
+ghost use Rattle.norm_receive_rules.specs.Holding.{new_plan};
 ghost use Rattle.norm_receive_rules.specs.Plans.{says_info, says_stream, cut_of_plan, holds, lacking, is_done, has_its_info};
 ghost use Rattle.norm_receive_rules.specs.Putting.{put_by};
 ghost use Rattle.norm_receive_rules.specs.HandingUp.{is_whole, kind_of, told_info, object_octets};
@@ -130,10 +131,10 @@ impl Object {
         flags: u8,
         plan: &Plan,
     ) -> Result<Object, Memory>
-        requires cut { plan.now ≡ cut_of_plan (record { index = index; fti = fti.now; flags = flags }) }
+        requires cut { plan.now ≡ cut_of_plan (new_plan index fti.now flags) }
         requires kind { says_stream flags ≡ false }
         requires length { fti.now.l ≤ 16777216 }
-        ensures { IfOk result (λ o. o ≡ empty_object (record { index = index; fti = fti.now; flags = flags })) }
+        ensures { IfOk result (λ o. o ≡ empty_object (new_plan index fti.now flags)) }
     {
         let rows = Rows::new(alloc, plan)?;
         let counts = vec![in alloc; 0; plan.blocks() as usize]?;

@@ -1,5 +1,5 @@
 use Rattle.std.proofs.Common.{◌≡◌, ◌≤◌, ℕ}
-use Rattle.norm_receive_rules.specs.ReceiverState.{ReceiverState}
+use Rattle.norm_receive_rules.specs.Holding.{Holding}
 use Rattle.rx_hold.specs.HoldState.{Stands}
 use Rattle.rx_hold.specs.HoldSound.{IsFront, HasRoom, front_view}
 use Rattle.rx_hold.specs.HoldMoves.{symbols_held}
@@ -12,7 +12,7 @@ invariant-loop l = record {
   room : (n : ℕ) → HasRoom n l.fn.self → HasRoom n l.self;
   profile : l.self.profile ≡ l.fn.self.profile;
   forward : l.fn.self.point ≤ l.self.point;
-  state : (s : ReceiverState) → Stands (front_view l.fn.self) s → HandsOn (front_view l.fn.self) (front_view l.self) s;
+  state : (s : Holding) → Stands (front_view l.fn.self) s → HandsOn (front_view l.fn.self) (front_view l.self) s;
 }
 
 abbrev pub decreases-loop : goal.decreases-loop

@@ -1,5 +1,5 @@
 use Rattle.std.proofs.Common.{◌≡◌, ◌+◌, ◌-◌}
-use Rattle.norm_receive_rules.specs.ReceiverState.{ReceiverState}
+use Rattle.norm_receive_rules.specs.Holding.{Holding}
 use Rattle.rx_hold.specs.HoldState.{Stands}
 use Rattle.rx_hold.specs.HoldSound.{IsFront, HasRoom, front_view}
 use Rattle.rx_hold.proofs.LoseLemmas.{LosesOn}
@@ -10,7 +10,7 @@ invariant-loop-self l = record {
   sound : IsFront l.self;
   room : HasRoom (l.index - l.self.point + 1) l.self;
   profile : l.self.profile ≡ l.fn.self.profile;
-  state : (s : ReceiverState) → Stands (front_view l.fn.self) s → LosesOn l.index (front_view l.fn.self) (front_view l.self) s;
+  state : (s : Holding) → Stands (front_view l.fn.self) s → LosesOn l.index (front_view l.fn.self) (front_view l.self) s;
 }
 
 abbrev pub decreases-loop-self : goal.decreases-loop-self

@@ -1,6 +1,6 @@
 use Rattle.std.proofs.Common.{ap, sym, ◌∙◌, Option, Some}
 use Rattle.std.specs.Prelude.{option_map}
-use Rattle.norm_receive_rules.specs.ReceiverState.{Plan}
+use Rattle.norm_receive_rules.specs.Holding.{Plan}
 use Rattle.rx_hold.proofs.ReadLemmas.{read_some, read_none}
 use Rattle.rx_hold.proofs.hold.Hold.flags.Goals as goal
 

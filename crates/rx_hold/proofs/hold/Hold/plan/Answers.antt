@@ -1,7 +1,7 @@
 use Rattle.std.proofs.Common.{ap, sym, ◌∙◌, Option, Some}
 use Rattle.std.specs.Prelude.{option_map}
 use Rattle.fec_plan.specs.Partition.{Cut}
-use Rattle.norm_receive_rules.specs.ReceiverState.{Plan}
+use Rattle.norm_receive_rules.specs.Holding.{Plan}
 use Rattle.norm_receive_rules.specs.Plans.{cut_of_plan}
 use Rattle.rx_hold.specs.ObjectState.{ObjectState}
 use Rattle.rx_hold.proofs.ReadLemmas.{read_some, read_none, object_at_place}

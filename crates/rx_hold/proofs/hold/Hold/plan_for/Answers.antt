@@ -2,7 +2,7 @@ use Rattle.std.proofs.Common.{◌≡◌, ◌<◌, Bool, true, false, refl, sym, 
 use Rattle.std.specs.Prelude.{if◌then◌else◌, ◌==◌, ◌&&◌, is_some}
 use Rattle.fec_plan.specs.Partition.{Cut, first_fault}
 use Rattle.norm_ext.specs.declared.fti.Fti.{Fti}
-use Rattle.norm_receive_rules.specs.ReceiverState.{ReceiverState}
+use Rattle.norm_receive_rules.specs.Holding.{Holding}
 use Rattle.norm_receive_rules.specs.Plans.{cut_by}
 use Rattle.norm_receive_rules.specs.Fitting.{fit_of, fitted}
 use Rattle.norm_receive_rules.specs.declared.words.Fit.{Fit}
@@ -29,7 +29,7 @@ returns-in-Some-clause-word c = λ s stands.
     (λ e. fit_known f h s c.args.index c.args.fti.now c.args.flags c.self.invariant.front c.self.view_is stands c.requires.object le c.in-Some.object.now c.in-Some.ensures e)
     (λ e. fit_other f h s c.args.index c.args.fti.now c.args.flags c.self.invariant.front c.self.view_is stands c.requires.object le c.in-Some.object.now c.in-Some.ensures e)
   where
-    by : (s : ReceiverState) (b : Bool) → c.known_word.result ≡ (if b then fit.Known else fit.Unfit)
+    by : (s : Holding) (b : Bool) → c.known_word.result ≡ (if b then fit.Known else fit.Unfit)
         → (b ≡ true → fit.Known ≡ fit_of c.args.self.now.p s c.args.index c.args.fti.now c.args.flags)
         → (b ≡ false → fit.Unfit ≡ fit_of c.args.self.now.p s c.args.index c.args.fti.now c.args.flags)
         → (c.known_word.result ≡ fit_of c.args.self.now.p s c.args.index c.args.fti.now c.args.flags) × (fitted c.known_word.result c.args.index c.args.fti.now c.args.flags s ≡ s)

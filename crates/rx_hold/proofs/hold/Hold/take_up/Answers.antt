@@ -1,5 +1,6 @@
 use Rattle.std.proofs.Common.{◌≡◌, refl, ◌+◌, ◌-◌, ◌<◌, sym, subst, ap, ◌∙◌, arith, length-set, Some}
 use Rattle.std.specs.Prelude.{slice_set}
+use Rattle.norm_receive_rules.specs.Holding.{new_plan}
 use Rattle.rx_hold.specs.ObjectState.{ObjectState}
 use Rattle.rx_hold.specs.HoldState.{HoldState, Stands}
 use Rattle.rx_hold.specs.HoldSound.{MayTake}
@@ -50,5 +51,5 @@ pub returns-clause-unused : goal.returns-clause-unused
 returns-clause-unused c =
     let f = c.self.inside.front in
     let may = subst (λ (h : HoldState). MayTake h c.args.index c.args.fti.now c.args.plan.now) (sym c.self.view_is) c.requires.may in
-    unused_now _ f.ring.items c.args.index (record { index = c.args.index; fti = c.args.fti.now; flags = c.args.flags }) c.in_ok-object.object (invariant_of-self-2 c).front
+    unused_now _ f.ring.items c.args.index (new_plan c.args.index c.args.fti.now c.args.flags) c.in_ok-object.object (invariant_of-self-2 c).front
     may.reached (omega (arith, may.near, may.reached, c.self.invariant.front.places)) refl c.in_ok-object.ensures

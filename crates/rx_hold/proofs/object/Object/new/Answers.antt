@@ -2,7 +2,7 @@ use Rattle.std.proofs.Common.{◌≡◌, ◌≤◌, ℕ, List, Some, None, get_o
 use Rattle.std.specs.Prelude.{is_some}
 use Rattle.std.proofs.lemmas.List.{length-replicate}
 use Rattle.fec_plan.specs.Partition.{Cut, blocks, all_symbols}
-use Rattle.norm_receive_rules.specs.ReceiverState.{Held}
+use Rattle.norm_receive_rules.specs.Holding.{Held, new_plan}
 use Rattle.norm_ext.specs.declared.fti.Fti.{Fti}
 use Rattle.rx_hold.specs.ObjectState.{ObjectState}
 use Rattle.rx_hold.proofs.Cuts.{some_sources}
@@ -12,12 +12,12 @@ use Rattle.rx_hold.proofs.object.Object.new.Goals as goal
 
 pub new-requires-clause-object : goal.new-requires-clause-object
 new-requires-clause-object c =
-    ap (λ (d : Cut). is_some d.l) (c.requires.cut ∙ object_cut (record { index = c.args.index; fti = c.args.fti.now; flags = c.args.flags }) c.requires.kind)
+    ap (λ (d : Cut). is_some d.l) (c.requires.cut ∙ object_cut (new_plan c.args.index c.args.fti.now c.args.flags) c.requires.kind)
 
 pub new-requires-clause-most : goal.new-requires-clause-most
 new-requires-clause-most c = λ l is.
     subst (λ n. n ≤ 16777216)
-    (some_same (sym (ap (λ (d : Cut). d.l) (c.requires.cut ∙ object_cut (record { index = c.args.index; fti = c.args.fti.now; flags = c.args.flags }) c.requires.kind)) ∙ is))
+    (some_same (sym (ap (λ (d : Cut). d.l) (c.requires.cut ∙ object_cut (new_plan c.args.index c.args.fti.now c.args.flags) c.requires.kind)) ∙ is))
     c.requires.length
   where
     some_same : {u v : ℕ} → Some u ≡ Some v → u ≡ v
@@ -52,4 +52,4 @@ returns c =
     (c.in_ok-rows.ensures.free ∙ ap (λ (d : Cut). frees (all_symbols d)) (sym plan)))
   where
     seen : ℕ → Fti → ℕ → List Held → ObjectState
-    seen index fti flags hs = record { plan = record { index = index; fti = fti; flags = flags }; info = None; held = hs }
+    seen index fti flags hs = record { plan = new_plan index fti flags; info = None; held = hs }
