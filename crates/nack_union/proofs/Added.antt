@@ -22,7 +22,7 @@ use Rattle.norm_send_rules.specs.Wants.{want_before}
 use Rattle.norm_send_rules.specs.declared.want.Want.{Want}
 use Rattle.norm_send_rules.proofs.ClosingLemmas.{rise_more}
 use Rattle.nack_union.specs.Slots.{want_at, slot_of_want}
-use Rattle.nack_union.specs.Kept.{Marked, Kept, Stands, listed, shape_of_marked, admitted}
+use Rattle.nack_union.specs.Kept.{Marked, Kept, Holds, listed, shape_of_marked, admitted}
 use Rattle.nack_union.specs.Earliest.{lesser, earliest, earliest_with}
 use Rattle.nack_union.specs.Collected.{Collects, asked_of}
 use Rattle.nack_union.specs.Adding.{IsPlanned, HasAsked, HasAdded, asks_slot, is_asked_slot}
@@ -60,7 +60,7 @@ some_object : Marked
 some_object = admitted (stream_cut 0 0 0) false
 
 -- what is asked for changes nothing else
-pub stands_added : (p : Settings) (s : SenderState) (old new : Kept) (requests : List Named) → Stands p old s → HasAdded requests old new → Stands p new s
+pub stands_added : (p : Settings) (s : SenderState) (old new : Kept) (requests : List Named) → Holds p old s → HasAdded requests old new → Holds p new s
 stands_added p s old new requests st h = record {
   first = h.first ∙ st.first;
   whole = st.whole;
@@ -96,7 +96,7 @@ later p s found (a ∷ asked) requests = later p s (lesser found (earliest a.req
 
 -- A union that collected what was asked, to which requests were added.
 module _ (p : Settings) (s : SenderState) (old new : Kept) (asked : List Asked) (requests : List Named)
-    (st : Stands p old s) (planned : AllByRecursion IsPlanned old.objects) (col : Collects p old s asked) (h : HasAdded requests old new) where
+    (st : Holds p old s) (planned : AllByRecursion IsPlanned old.objects) (col : Collects p old s asked) (h : HasAdded requests old new) where
   abbrev more : List Asked
   more = map (asked_of p s) requests
 

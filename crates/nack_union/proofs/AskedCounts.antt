@@ -16,7 +16,7 @@ use Rattle.norm_send_rules.specs.Closing.{greatest}
 use Rattle.nack_union.specs.Collected.{asked_of}
 use Rattle.norm_send_rules.specs.declared.want.Want.TheVariants.{Symbol}
 use Rattle.fec_plan.proofs.PartitionLemmas.{some_sources}
-use Rattle.nack_union.specs.Kept.{Marked, Kept, Stands, shape_of_marked}
+use Rattle.nack_union.specs.Kept.{Marked, Kept, Holds, shape_of_marked}
 use Rattle.nack_union.specs.Adding.{IsPlanned}
 use Rattle.nack_union.proofs.AskedSlots.{test_at}
 use Rattle.nack_union.proofs.Came.{all_at}
@@ -73,7 +73,7 @@ kept_there kept at (c ∷ counts) e = go (kept c.of) (same_point c.of at) refl r
     go false false f g rest = rest
 
 -- A union that stands for a state, at whose moment requests come.
-module _ (p : Settings) (s : SenderState) (u : Kept) (d : Marked) (st : Stands p u s) (planned : AllByRecursion IsPlanned u.objects) where
+module _ (p : Settings) (s : SenderState) (u : Kept) (d : Marked) (st : Holds p u s) (planned : AllByRecursion IsPlanned u.objects) where
   abbrev kept_at : Named → Point → Bool
   kept_at r at = is_kept (as_it_came (asked_of p s r) (current_shapes p s)) s.current.drop at
 

@@ -18,7 +18,7 @@ use Rattle.norm_send_rules.specs.declared.want.Want.{Want}
 use Rattle.norm_send_rules.specs.declared.want.Want.TheVariants.{Info, Symbol}
 use Rattle.fec_plan.proofs.PartitionLemmas.{sources_fit}
 use Rattle.nack_union.specs.Slots.{want_at, slot_of_want, IsNamed}
-use Rattle.nack_union.specs.Kept.{Marked, Kept, Stands, shape_of_marked}
+use Rattle.nack_union.specs.Kept.{Marked, Kept, Holds, shape_of_marked}
 use Rattle.nack_union.specs.Adding.{IsPlanned, names_symbol, asks_symbol, asks_slot}
 use Rattle.nack_union.proofs.Collecting.{past_end}
 use Rattle.nack_union.proofs.Counted.{closed_is, encoded_is}
@@ -39,7 +39,7 @@ pub record AsksAt (u : Kept) (r : Named) (d : Marked) (w : Want) : Type 0 where
   pub asks : asks_slot r (u.first + place) (get_or u.objects place d) (slot_of_want w) ≡ true
 
 -- A union that stands for a state, at whose moment a request comes.
-module _ (p : Settings) (s : SenderState) (u : Kept) (r : Named) (d : Marked) (st : Stands p u s) (planned : AllByRecursion IsPlanned u.objects) where
+module _ (p : Settings) (s : SenderState) (u : Kept) (r : Named) (d : Marked) (st : Holds p u s) (planned : AllByRecursion IsPlanned u.objects) where
   abbrev came : List Shape
   came = as_it_came (asked_of p s r) (current_shapes p s)
 

@@ -17,10 +17,10 @@ use Rattle.norm_send_rules.specs.Asking.{wants_of, counts_of}
 use Rattle.norm_send_rules.specs.Closing.{greatest, counted, repairs, wants_after, round_closed}
 use Rattle.norm_send_rules.specs.Wants.{want_before, want_index}
 use Rattle.norm_send_rules.specs.declared.want.Want.{Want}
-use Rattle.nack_union.specs.Kept.{Marked, Kept, Stands, shape_of_marked, admitted}
+use Rattle.nack_union.specs.Kept.{Marked, Kept, Holds, shape_of_marked, admitted}
 use Rattle.nack_union.specs.Rounds.{wants_closed}
 use Rattle.nack_union.specs.Collected.{Collects}
-use Rattle.nack_union.specs.SoundUnion.{IsIdle}
+use Rattle.nack_union.specs.CollectionSound.{IsIdle}
 use Rattle.nack_union.proofs.Orders.{none_at}
 use Rattle.nack_union.proofs.Idle.{zeros}
 use Rattle.nack_union.proofs.Unions.{rounds_are_collected}
@@ -41,7 +41,7 @@ abbrev count_at : Kept → ℕ → Marked → ℕ → ℕ
 count_at u k d block = get_or (get_or u.objects k d).counts block 0
 
 -- of a block of the window the rules ask for what its count asks for
-at_window : (p : Settings) (s : SenderState) (u : Kept) (asked : List Asked) (k block : ℕ) (d : Marked) → Stands p u s → Collects p u s asked → k < length u.objects
+at_window : (p : Settings) (s : SenderState) (u : Kept) (asked : List Asked) (k block : ℕ) (d : Marked) → Holds p u s → Collects p u s asked → k < length u.objects
     → counted s (current_shapes p s) (kept_counts p s asked) (point (u.first + k) block) ≡ block_repairs s (u.first + k) (get_or u.objects k d) block (count_at u k d block)
 at_window p s u asked k block d st col lt =
     ap (λ (o : Option Shape). elim o as (λ _. List Want) [
@@ -58,7 +58,7 @@ none_in s index block count m w here none =
 clash : false ≡ true → ⊥
 clash h = cc
 
-there_at : (p : Settings) (s : SenderState) (u : Kept) (asked : List Asked) (d : Marked) → Stands p u s → Collects p u s asked
+there_at : (p : Settings) (s : SenderState) (u : Kept) (asked : List Asked) (d : Marked) → Holds p u s → Collects p u s asked
     → (w : Want) (k block : ℕ) → k < length u.objects → In w (block_repairs s (u.first + k) (get_or u.objects k d) block (count_at u k d block))
     → In w (filter (stands_behind s.current.drop) (all_repairs p s asked))
 there_at p s u asked d st col w k block lt r = by (cases_lt 0 (count_at u k d block))
@@ -78,13 +78,13 @@ there_at p s u asked d st col w k block lt r = by (cases_lt 0 (count_at u k d bl
         (behind_start s.current.drop w st.whole (let f = st.first in omega (arith, f, index)))
     by (inr none) = absurd (none_in s (u.first + k) block (count_at u k d block) (get_or u.objects k d) w r none)
 
-there : (p : Settings) (s : SenderState) (u : Kept) (asked : List Asked) (d : Marked) → Stands p u s → Collects p u s asked
+there : (p : Settings) (s : SenderState) (u : Kept) (asked : List Asked) (d : Marked) → Holds p u s → Collects p u s asked
     → (w : Want) → In w (counted_from s u.first u.objects) → In w (filter (stands_behind s.current.drop) (all_repairs p s asked))
 there p s u asked d st col w here =
     let found = in_all s u.first u.objects d w here in
     there_at p s u asked d st col w found.0 found.1 found.2 found.3
 
-back : (p : Settings) (s : SenderState) (u : Kept) (asked : List Asked) (d : Marked) → Stands p u s → Collects p u s asked
+back : (p : Settings) (s : SenderState) (u : Kept) (asked : List Asked) (d : Marked) → Holds p u s → Collects p u s asked
     → (w : Want) → In w (filter (stands_behind s.current.drop) (all_repairs p s asked)) → In w (counted_from s u.first u.objects)
 back p s u asked d st col w here = go (in_filter (stands_behind s.current.drop) w (all_repairs p s asked) here)
   where
@@ -135,7 +135,7 @@ back p s u asked d st col w here = go (in_filter (stands_behind s.current.drop) 
         at c.0 behind c.2
 
 -- what a union collected becomes wants as the rules say
-pub by_rules : (p : Settings) (s : SenderState) (u : Kept) (asked : List Asked) → Stands p u s → Collects p u s asked
+pub by_rules : (p : Settings) (s : SenderState) (u : Kept) (asked : List Asked) → Holds p u s → Collects p u s asked
     → wants_closed u s ≡ wants_after p s asked
 by_rules p s u asked st col =
     named_first s u.first u.objects s.wants
@@ -155,8 +155,8 @@ by_rules p s u asked st col =
     counts : List Want
     counts = filter (stands_behind s.current.drop) (all_repairs p s asked)
 
-pub stands_by_rules : (p : Settings) (s : SenderState) (r : Round) (u new : Kept) → Stands p u s → Collects p u s r.asked
-    → Stands p new (record s { wants = wants_closed u s }) → Stands p new (round_closed p r s)
+pub stands_by_rules : (p : Settings) (s : SenderState) (r : Round) (u new : Kept) → Holds p u s → Collects p u s r.asked
+    → Holds p new (record s { wants = wants_closed u s }) → Holds p new (round_closed p r s)
 stands_by_rules p s r u new st col after = record {
   first = after.first;
   whole = after.whole;

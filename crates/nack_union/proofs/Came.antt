@@ -17,7 +17,7 @@ use Rattle.norm_send_rules.specs.InWindow.{current_shapes, next_index}
 use Rattle.norm_send_rules.specs.Asking.{closed_at, shapes_at, as_it_came}
 use Rattle.nack_union.specs.Collected.{asked_of}
 use Rattle.fec_plan.proofs.PartitionLemmas.{some_sources, number_from_first, some_blocks_of}
-use Rattle.nack_union.specs.Kept.{Marked, Kept, Stands, shape_of_marked}
+use Rattle.nack_union.specs.Kept.{Marked, Kept, Holds, shape_of_marked}
 use Rattle.nack_union.specs.Adding.{IsPlanned}
 use Rattle.nack_union.proofs.Counted.{closed_is}
 use Rattle.nack_union.proofs.Collecting.{window_shape}
@@ -93,7 +93,7 @@ own_last m sound =
     whole all last first size is some le = omega (arith, is, some, le)
 
 -- each object of the window stands as it is
-pub came_at : (p : Settings) (s : SenderState) (u : Kept) (r : Named) (k : ℕ) (d : Marked) → Stands p u s → AllByRecursion IsPlanned u.objects → k < length u.objects
+pub came_at : (p : Settings) (s : SenderState) (u : Kept) (r : Named) (k : ℕ) (d : Marked) → Holds p u s → AllByRecursion IsPlanned u.objects → k < length u.objects
     → slice_get (as_it_came (asked_of p s r) (current_shapes p s)) (u.first + k) ≡ Some (shape_of_marked (get_or u.objects k d))
 came_at p s u r k d st planned lt =
     ap (λ shapes. slice_get (shapes_at (last_source (current_shapes p s)) 0 shapes) (u.first + k))

@@ -17,7 +17,7 @@ use Rattle.norm_send_rules.specs.Wants.{want_before, want_index}
 use Rattle.norm_send_rules.specs.declared.want.Want.{Want}
 use Rattle.norm_send_rules.specs.declared.want.Want.TheVariants.{Symbol}
 use Rattle.nack_union.specs.Slots.{want_at}
-use Rattle.nack_union.specs.Kept.{Marked, Kept, Stands, listed, shape_of_marked}
+use Rattle.nack_union.specs.Kept.{Marked, Kept, Holds, listed, shape_of_marked}
 use Rattle.nack_union.specs.Rounds.{counted_of, asked_from}
 use Rattle.nack_union.proofs.Unions.{put_swap}
 use Rattle.nack_union.proofs.Freshness.{put_both}
@@ -172,7 +172,7 @@ get_behind zero shapes k = ap (slice_get shapes) (let e : k ≡ 0 + k = omega ar
 get_behind (suc n) [] k = refl
 get_behind (suc n) (x ∷ shapes) k = get_behind n shapes k ∙ ap (slice_get (x ∷ shapes)) (let e : suc (n + k) ≡ suc n + k = omega arith in e)
 
-pub window_shape : (p : Settings) (s : SenderState) (u : Kept) (k : ℕ) (d : Marked) → Stands p u s → k < length u.objects
+pub window_shape : (p : Settings) (s : SenderState) (u : Kept) (k : ℕ) (d : Marked) → Holds p u s → k < length u.objects
     → slice_get (current_shapes p s) (u.first + k) ≡ Some (shape_of_marked (get_or u.objects k d))
 window_shape p s u k d st lt =
     sym (get_behind u.first (current_shapes p s) k) ∙ ap (λ shapes. slice_get shapes k) (sym st.shapes) ∙ shape_at u.objects k d lt

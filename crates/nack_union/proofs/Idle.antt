@@ -6,7 +6,7 @@ use Rattle.std.proofs.lemmas.Bool.{cases_lt}
 use Rattle.std.proofs.lemmas.List.{length-append, length-replicate}
 use Rattle.nack_union.specs.Kept.{Marked, closed_marks, IsCounted}
 use Rattle.nack_union.specs.Rounds.{new_wants}
-use Rattle.nack_union.specs.SoundUnion.{IsIdle, AreIdle}
+use Rattle.nack_union.specs.CollectionSound.{IsIdle, AreIdle}
 use Rattle.nack_union.proofs.Closings.{idle_stays}
 
 pub at_front : (ms : List Marked) (m : Marked) (k : ℕ) (d : Marked) → k < length ms → get_or (ms ++ m ∷ []) k d ≡ get_or ms k d

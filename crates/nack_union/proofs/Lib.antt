@@ -38,3 +38,4 @@ pub mod Least
 pub mod Requested
 pub mod Summed
 pub mod Rising
+pub mod Heard

@@ -13,7 +13,7 @@ use Rattle.norm_send_rules.specs.declared.want.Want.{Want}
 use Rattle.norm_send_rules.specs.declared.want.Want.TheVariants.{Symbol}
 use Rattle.norm_send_rules.proofs.ClosingLemmas.{Each}
 use Rattle.nack_union.specs.Slots.{want_at, symbol_slot}
-use Rattle.nack_union.specs.Kept.{Marked, Kept, Stands, listed}
+use Rattle.nack_union.specs.Kept.{Marked, Kept, Holds, listed}
 use Rattle.nack_union.proofs.Orders.{same_order, earlier, later, symbol_at}
 use Rattle.nack_union.proofs.Unions.{Side, side, not_itself}
 use Rattle.nack_union.proofs.Dropped.{first_of, behind_start}
@@ -103,7 +103,7 @@ member_symbols at [] = refl
 member_symbols at (x ∷ all) = by_first (position_before x at) (position_before at x) _ _ _ _ refl refl (member_symbols at all)
 
 -- the slot of a symbol is among those that were sent where the symbol is
-pub sent_is : (p : Settings) (s : SenderState) (u : Kept) (k block symbol : ℕ) (d : Marked) → k < length u.objects → symbol < 256 → Stands p u s
+pub sent_is : (p : Settings) (s : SenderState) (u : Kept) (k block symbol : ℕ) (d : Marked) → k < length u.objects → symbol < 256 → Holds p u s
     → is_member nat_lt (symbol_slot block symbol) (get_or u.objects k d).sent ≡ is_member position_before (position (u.first + k) block symbol) s.sent
 sent_is p s u k block symbol d lt few st =
     sym (member_at (λ m. m.sent) u.first k (symbol_slot block symbol) u.objects d lt)

@@ -7,7 +7,7 @@ use Rattle.fec_plan.specs.Partition.{Cut}
 use Rattle.fec_plan.specs.Points.{position}
 use Rattle.norm_ext.specs.Asking.{Span, span, lies_in, has_flag, segment_flag, block_flag, object_flag, info_flag}
 use Rattle.nack_union.specs.Kept.{Marked}
-use Rattle.nack_union.specs.SoundUnion.{IsIdle, AreIdle}
+use Rattle.nack_union.specs.CollectionSound.{IsIdle, AreIdle}
 use Rattle.nack_union.specs.More.{MoreOf, is_source_slot, slot_in, asks_by, named_part}
 use Rattle.nack_union.proofs.Mores.{none_more}
 

@@ -10,7 +10,7 @@ use Rattle.norm_send_rules.specs.SenderState.{SenderState}
 use Rattle.norm_send_rules.specs.Wants.{want_before}
 use Rattle.nack_union.specs.Slots.{want_at}
 use Rattle.nack_union.specs.Repairs.{counted_slots}
-use Rattle.nack_union.specs.Kept.{Marked, Kept, Stands, listed, closed_marks, closed_union, admitted, shape_of_marked, IsCounted}
+use Rattle.nack_union.specs.Kept.{Marked, Kept, Holds, listed, closed_marks, closed_union, admitted, shape_of_marked, IsCounted}
 use Rattle.nack_union.specs.Rounds.{asked_of, wants_closed, new_wants}
 use Rattle.nack_union.proofs.Closings.{all_closed}
 use Rattle.nack_union.proofs.Counted.{asked_are}
@@ -26,7 +26,7 @@ same_sent index [] = refl
 same_sent index (m ∷ ms) = ap (λ ws. map (want_at index) m.sent ++ ws) (same_sent (suc index) ms)
 
 -- the wants of a union whose round closes
-pub closed_wants : (p : Settings) (s : SenderState) (u : Kept) → AllByRecursion IsCounted u.objects → Stands p u s
+pub closed_wants : (p : Settings) (s : SenderState) (u : Kept) → AllByRecursion IsCounted u.objects → Holds p u s
     → listed (λ m. m.wants) u.first (map closed_marks u.objects) ≡ wants_closed u s
 closed_wants p s u counted st =
     all_closed u.first u.objects
@@ -34,8 +34,8 @@ closed_wants p s u counted st =
     (asked_are s u.first u.objects (admitted (stream_cut 0 0 0) false) (λ k lt block symbol few. sent_is p s u k block symbol (admitted (stream_cut 0 0 0) false) lt few st) counted)
     ∙ ap (with_members want_before (asked_of s u)) st.wants
 
-pub stands_closed : (p : Settings) (s : SenderState) (u : Kept) → AllByRecursion IsCounted u.objects → Stands p u s
-    → Stands p (closed_union u) (record s { wants = wants_closed u s })
+pub stands_closed : (p : Settings) (s : SenderState) (u : Kept) → AllByRecursion IsCounted u.objects → Holds p u s
+    → Holds p (closed_union u) (record s { wants = wants_closed u s })
 stands_closed p s u counted st = record {
   first = st.first;
   whole = st.whole;
@@ -72,7 +72,7 @@ grown index (m ∷ ms) =
     let here = no_fewer (with_members nat_lt (counted_slots m.cut m.sent 0 m.counts) m.asked) m.wants in
     omega (arith, new, old, new_here, old_here, rest, here)
 
-pub all_queued : (p : Settings) (s : SenderState) (u : Kept) → AllByRecursion IsCounted u.objects → Stands p u s
+pub all_queued : (p : Settings) (s : SenderState) (u : Kept) → AllByRecursion IsCounted u.objects → Holds p u s
     → new_wants u.objects ≡ length (wants_closed u s) - length s.wants
 all_queued p s u counted st =
     let grown_by = grown u.first u.objects in

@@ -1,10 +1,11 @@
 -- What a union stands for after a step.
 use Rattle.std.proofs.Common.{◌≡◌, ℕ, ◌+◌, ◌<◌, ◌≤◌, ◌⊎◌, inl, inr, List, [], ◌∷◌, ◌++◌, map, length, set, get_or, drop, true, refl, sym, ap, ◌∙◌, arith, subst}
-use Rattle.std.specs.Prelude.{nat_lt, filter}
+use Rattle.std.specs.Prelude.{nat_lt, filter, suc, ◌||◌}
+use Rattle.std.specs.List.{list_any}
 use Rattle.std.proofs.lemmas.List.{map-append, length-append, length-map, length-set, length-drop, drop-append-le, drop-drop}
 use Rattle.std.specs.List.{drop-map}
 use Rattle.std.proofs.Math.Seq.{map-set_same}
-use Rattle.std.proofs.lemmas.Bool.{cases_lt}
+use Rattle.std.proofs.lemmas.Bool.{cases_lt, lt-ltb}
 use Rattle.norm_base.specs.Settings.{Settings}
 use Rattle.fec_plan.specs.Points.{point, position}
 use Rattle.fec_plan.specs.declared.position.Position.{Position}
@@ -22,7 +23,7 @@ use Rattle.norm_send_rules.specs.declared.want.Want.{Want}
 use Rattle.norm_send_rules.specs.declared.want.Want.TheVariants.{Symbol}
 use Rattle.norm_send_rules.proofs.ClosingLemmas.{rise_more}
 use Rattle.nack_union.specs.Slots.{want_at, symbol_slot}
-use Rattle.nack_union.specs.Kept.{Marked, Kept, Stands, with_object, listed, shape_of_marked}
+use Rattle.nack_union.specs.Kept.{Marked, Kept, Holds, with_object, listed, shape_of_marked}
 use Rattle.nack_union.proofs.Orders.{put_at, same_at, lowest_at, none_at, joined_at, symbol_at}
 use Rattle.nack_union.proofs.Dropped.{filter_with_want, symbols_with, behind_start, filter_twice, listed_dropped, not_behind_start}
 
@@ -35,7 +36,7 @@ same_shapes ms k new d e = map-set_same shape_of_marked ms k new d e
 pub stands_noted : (p : Settings) (s : SenderState) (u : Kept) (k : ℕ) (at : Position) (new d : Marked)
     → k < length u.objects → at.index ≡ u.first + k → at.symbol < 256
     → new ≡ record (get_or u.objects k d) { sent = with_member nat_lt (symbol_slot at.block at.symbol) (get_or u.objects k d).sent }
-    → Stands p u s → Stands p (record u { objects = set u.objects k new }) (noted (Symbol at) s)
+    → Holds p u s → Holds p (record u { objects = set u.objects k new }) (noted (Symbol at) s)
 stands_noted p s u k at new d lt index few is st = record {
   first = st.first;
   whole = st.whole;
@@ -57,8 +58,8 @@ stands_noted p s u k at new d lt index few is st = record {
 -- the lowest want is taken out
 pub stands_next : (p : Settings) (s : SenderState) (u : Kept) (k slot : ℕ) (new d : Marked)
     → k < length u.objects → ((j : ℕ) → j < k → (get_or u.objects j d).wants ≡ [])
-    → get_or u.objects k d ≡ record new { wants = slot ∷ new.wants } → Stands p u s
-    → (rest : List Want) × (s.wants ≡ want_at (u.first + k) slot ∷ rest) × Stands p (record u { objects = set u.objects k new }) (record s { wants = rest })
+    → get_or u.objects k d ≡ record new { wants = slot ∷ new.wants } → Holds p u s
+    → (rest : List Want) × (s.wants ≡ want_at (u.first + k) slot ∷ rest) × Holds p (record u { objects = set u.objects k new }) (record s { wants = rest })
 stands_next p s u k slot new d lt none is st = (
   listed (λ m. m.wants) u.first (set u.objects k new),
   sym st.wants ∙ lowest_at (λ m. m.wants) u.first k slot u.objects new d lt none (ap (λ (m : Marked). m.wants) is),
@@ -75,12 +76,12 @@ stands_next p s u k slot new d lt none is st = (
 
 -- nothing is wanted
 pub stands_idle : (p : Settings) (s : SenderState) (u : Kept) (d : Marked) → ((j : ℕ) → j < length u.objects → (get_or u.objects j d).wants ≡ [])
-    → Stands p u s → s.wants ≡ []
+    → Holds p u s → s.wants ≡ []
 stands_idle p s u d none st = sym st.wants ∙ none_at (λ m. m.wants) u.first u.objects d none
 
 -- one more object
-pub stands_admitted : (p : Settings) (s : SenderState) (u : Kept) (entry : Entry) (m : Marked) → m.wants ≡ [] → m.sent ≡ [] → Stands p u s
-    → shape_of p entry.object ≡ shape_of_marked m → Stands p (with_object m u) (with_entry entry s)
+pub stands_admitted : (p : Settings) (s : SenderState) (u : Kept) (entry : Entry) (m : Marked) → m.wants ≡ [] → m.sent ≡ [] → Holds p u s
+    → shape_of p entry.object ≡ shape_of_marked m → Holds p (with_object m u) (with_entry entry s)
 stands_admitted p s u entry m unwanted unsent st shape = record {
   first = st.first;
   whole = st.whole;
@@ -102,8 +103,8 @@ stands_admitted p s u entry m unwanted unsent st shape = record {
     within = let next = st.next in omega (arith, next, length-map s.current.order (λ (e : Entry). shape_of p e.object))
 
 -- the first n objects are dropped
-pub stands_retired : (p : Settings) (s : SenderState) (u : Kept) (n : ℕ) → n ≤ length u.objects → Stands p u s
-    → Stands p (record u { first = u.first + n; objects = drop n u.objects }) (dropped_to (point (u.first + n) 0) s)
+pub stands_retired : (p : Settings) (s : SenderState) (u : Kept) (n : ℕ) → n ≤ length u.objects → Holds p u s
+    → Holds p (record u { first = u.first + n; objects = drop n u.objects }) (dropped_to (point (u.first + n) 0) s)
 stands_retired p s u n le st = record {
   first = refl;
   whole = refl;
@@ -130,7 +131,7 @@ stands_retired p s u n le st = record {
 -- what a round asks for changes nothing else
 pub stands_asked : (p : Settings) (s : SenderState) (u : Kept) (k : ℕ) (new d : Marked) → k < length u.objects
     → shape_of_marked new ≡ shape_of_marked (get_or u.objects k d) → new.wants ≡ (get_or u.objects k d).wants → new.sent ≡ (get_or u.objects k d).sent
-    → Stands p u s → Stands p (record u { objects = set u.objects k new }) s
+    → Holds p u s → Holds p (record u { objects = set u.objects k new }) s
 stands_asked p s u k new d lt shape wants sent st = record {
   first = st.first;
   whole = st.whole;
@@ -140,3 +141,16 @@ stands_asked p s u k new d lt shape wants sent st = record {
   rise = st.rise;
   sent = same_at (λ m. m.sent) u.first k u.objects new d lt sent ∙ st.sent;
 }
+
+-- something is wanted of an object exactly where there is a want
+pub any_wanted : (index : ℕ) (ms : List Marked) → list_any (λ m. nat_lt 0 (length m.wants)) ms ≡ nat_lt 0 (length (listed (λ m. m.wants) index ms))
+any_wanted index [] = refl
+any_wanted index (m ∷ ms) = go m.wants (any_wanted (suc index) ms)
+  where
+    go : (slots : List ℕ) → list_any (λ (n : Marked). nat_lt 0 (length n.wants)) ms ≡ nat_lt 0 (length (listed (λ n. n.wants) (suc index) ms))
+        → (nat_lt 0 (length slots) || list_any (λ (n : Marked). nat_lt 0 (length n.wants)) ms)
+        ≡ nat_lt 0 (length (map (want_at index) slots ++ listed (λ n. n.wants) (suc index) ms))
+    go [] rest = rest
+    go (slot ∷ slots) rest =
+        ap (λ b. b || list_any (λ (n : Marked). nat_lt 0 (length n.wants)) ms) (lt-ltb 0 (length (slot ∷ slots)) (omega arith))
+        ∙ sym (lt-ltb 0 (length (map (want_at index) (slot ∷ slots) ++ listed (λ n. n.wants) (suc index) ms)) (omega arith))

@@ -11,6 +11,7 @@ use Rattle.fec_plan.specs.Partition.{Cut, IsSound, symbols_in, blocks_in, large_
 use Rattle.fec_plan.proofs.CutLemmas.{some_blocks, large_most}
 use Rattle.norm_order.specs.Shapes.{closed_in, encoded_in, closed_blocks}
 use Rattle.fec_plan.proofs.PartitionLemmas.{some_sources}
+use Rattle.nack_union.specs.Slots.{slots, symbol_slot}
 use Rattle.nack_union.specs.Kept.{Marked, shape_of_marked}
 
 -- all blocks together have all symbols
@@ -143,3 +144,11 @@ few_encoded c block sound few =
     let down = div-mul-le_self (source_symbols c block * c.max_n) c.b in
     let most = le-div (encoding_symbols c block) (source_symbols c 0 * c.max_n) c.b some (omega (arith, le, down)) in
     omega (arith, most, few)
+
+-- an encoded symbol has a slot
+pub slot_there : (m : Marked) (block symbol : ℕ) → IsSound m.cut → symbol < encoded_in (shape_of_marked m) block → symbol < 256 → symbol_slot block symbol < slots (blocks m.cut)
+slot_there m block symbol sound lt named = go (cases_lt block (blocks m.cut))
+  where
+    go : (block < blocks m.cut) ⊎ (blocks m.cut ≤ block) → symbol_slot block symbol < slots (blocks m.cut)
+    go (inl less) = omega arith
+    go (inr past) = absurd (let none = encoded_past m block sound past in omega (arith, none))

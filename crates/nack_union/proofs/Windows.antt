@@ -21,7 +21,7 @@ use Rattle.norm_send_rules.specs.Laws.{Rise}
 use Rattle.norm_send_rules.specs.Wants.{want_before, want_index}
 use Rattle.norm_send_rules.specs.declared.want.Want.{Want}
 use Rattle.norm_send_rules.proofs.ClosingLemmas.{rise_more}
-use Rattle.nack_union.specs.Kept.{Marked, Kept, Stands, with_object}
+use Rattle.nack_union.specs.Kept.{Marked, Kept, Holds, with_object}
 use Rattle.nack_union.specs.Collected.{Collects}
 use Rattle.nack_union.proofs.Collecting.{some_greatest, past_end}
 use Rattle.nack_union.proofs.Dropped.{behind_start, not_behind_start, filter_with_want, filter_twice, listed_dropped}
@@ -76,7 +76,7 @@ get_drop (suc n) [] k d lt = absurd (omega arith)
 get_drop (suc n) (m ∷ ms) k d lt = get_drop n ms k d (omega arith) ∙ ap (λ i. get_or (m ∷ ms) i d) (let e : suc (n + k) ≡ suc n + k = omega arith in e)
 
 -- the first n objects are dropped
-pub collects_retired : (p : Settings) (s : SenderState) (u : Kept) (asked : List Asked) (n : ℕ) → n ≤ length u.objects → Stands p u s → Collects p u s asked
+pub collects_retired : (p : Settings) (s : SenderState) (u : Kept) (asked : List Asked) (n : ℕ) → n ≤ length u.objects → Holds p u s → Collects p u s asked
     → Collects p (record u { first = u.first + n; objects = drop n u.objects }) (dropped_to (point (u.first + n) 0) s) asked
 collects_retired p s u asked n le st col = record {
   earliest = col.earliest;
@@ -148,7 +148,7 @@ none_kept p shapes asked at past = go (cases_lt 0 (greatest (flat_map (counts_of
 
 -- one more object, of which nothing is asked
 pub collects_admitted : (p : Settings) (s : SenderState) (u : Kept) (asked : List Asked) (entry : Entry) (m : Marked) (n : ℕ) → m.asked ≡ [] → m.counts ≡ replicate n 0
-    → Stands p u s → Collects p u s asked → Collects p (with_object m u) (with_entry entry s) asked
+    → Holds p u s → Collects p u s asked → Collects p (with_object m u) (with_entry entry s) asked
 collects_admitted p s u asked entry m n unasked uncounted st col = record {
   earliest = col.earliest;
   known = more asked col.known;

@@ -5,14 +5,14 @@ use Rattle.norm_base.specs.Settings.{Settings}
 use Rattle.fec_plan.specs.Points.{point}
 use Rattle.norm_ext.specs.Asking.{Named}
 use Rattle.norm_order.specs.Sets.{with_members}
-use Rattle.norm_order.specs.Shapes.{last_source}
+use Rattle.norm_order.specs.Shapes.{last_source, shapes_of}
 use Rattle.norm_send_rules.specs.SenderState.{SenderState, Asked}
 use Rattle.norm_send_rules.specs.InWindow.{stands_behind, current_shapes, next_index}
 use Rattle.norm_send_rules.specs.Asking.{wants_of, counts_of}
 use Rattle.norm_send_rules.specs.Closing.{greatest}
 use Rattle.norm_send_rules.specs.Wants.{want_before}
 use Rattle.nack_union.specs.Earliest.{earliest_with}
-use Rattle.nack_union.specs.Kept.{Marked, Kept, listed}
+use Rattle.nack_union.specs.Kept.{Marked, Kept, UnionReads, reads, listed}
 
 -- a request by what it names, with how the order stands
 abbrev pub asked_of : Settings → SenderState → Named → Asked
@@ -20,10 +20,13 @@ asked_of p s r = record { request = r; first = s.current.drop; next = next_index
 
 -- A union collected requests as each came, none before the order was as it stood then: the infos and symbols of the window
 -- that they ask for by name, and of each block of the window the greatest count that is kept. The least index is the one from which they count.
-pub record Collects (p : Settings) (u : Kept) (s : SenderState) (asked : List Asked) : Type 0 where
-  pub known : AllByRecursion (λ (a : Asked). a.next ≤ next_index s) asked
+pub record CollectsFor (p : Settings) (u : Kept) (r : UnionReads) (asked : List Asked) : Type 0 where
+  pub known : AllByRecursion (λ (a : Asked). a.next ≤ length r.order) asked
   pub named : listed (λ m. m.asked) u.first u.objects
-      ≡ with_members want_before (filter (stands_behind s.current.drop) (flat_map (wants_of (current_shapes p s)) asked)) []
+      ≡ with_members want_before (filter (stands_behind r.drop) (flat_map (wants_of (shapes_of p r.order)) asked)) []
   pub counts : (k : ℕ) (d : Marked) → k < length u.objects → (block : ℕ)
-      → slice_index (get_or u.objects k d).counts block ≡ greatest (flat_map (counts_of (current_shapes p s)) asked) (point (u.first + k) block)
+      → slice_index (get_or u.objects k d).counts block ≡ greatest (flat_map (counts_of (shapes_of p r.order)) asked) (point (u.first + k) block)
   pub earliest : u.earliest ≡ earliest_with None (map (λ (a : Asked). a.request) asked)
+
+abbrev pub Collects : Settings → Kept → SenderState → List Asked → Type 0
+Collects p u s asked = CollectsFor p u (reads s) asked

@@ -1,11 +1,14 @@
 -- What a union keeps of a sender's state, and which states it stands for: objects of data and files.
-use Rattle.std.specs.Prelude.{◌≡◌, ◌<◌, ◌≤◌, ℕ, suc, ◌+◌, ◌-◌, List, [], ◌∷◌, ◌++◌, length, map, filter, drop, replicate, Bool, nat_lt, slice_index, set, Option, None}
+use Rattle.std.specs.Prelude.{◌≡◌, ◌<◌, ◌≤◌, ℕ, suc, ◌+◌, ◌-◌, List, [], ◌∷◌, ◌++◌, length, map, filter, drop, replicate, Bool, nat_lt, slice_index, set, Option, None, Some, slice_get}
 use Rattle.norm_base.specs.Settings.{Settings}
 use Rattle.fec_plan.specs.Partition.{Cut, IsSound, blocks, all_symbols, encoding_symbols}
-use Rattle.norm_order.specs.Shapes.{Shape}
-use Rattle.norm_send_rules.specs.SenderState.{SenderState}
+use Rattle.fec_plan.specs.Points.{Point}
+use Rattle.fec_plan.specs.declared.position.Position.{Position}
+use Rattle.norm_order.specs.Entries.{Entry}
+use Rattle.norm_order.specs.Shapes.{Shape, shapes_of, encoded_in}
+use Rattle.norm_send_rules.specs.SenderState.{SenderState, Asked, Round}
 use Rattle.norm_send_rules.specs.Laws.{Rise}
-use Rattle.norm_send_rules.specs.InWindow.{stands_behind, next_index, current_shapes}
+use Rattle.norm_send_rules.specs.InWindow.{stands_behind}
 use Rattle.norm_send_rules.specs.declared.want.Want.{Want}
 use Rattle.norm_send_rules.specs.declared.want.Want.TheVariants.{Symbol}
 use Rattle.norm_order.specs.Sets.{with_members}
@@ -80,13 +83,38 @@ listed slots index (m ∷ ms) = map (want_at index) (slots m) ++ listed slots (s
 abbrev pub shape_of_marked : Marked → Shape
 shape_of_marked m = record { cut = m.cut; closed = all_symbols m.cut; info = m.info }
 
--- A union stands for a sender's state: it has the objects of the window, the wants, and of the window's symbols those
--- that were sent, which the state has in their order.
-pub record Stands (p : Settings) (u : Kept) (s : SenderState) : Type 0 where
-  pub first : u.first ≡ s.current.drop.index
-  pub whole : s.current.drop.block ≡ 0
-  pub next : u.first + length u.objects ≡ next_index s
-  pub shapes : map shape_of_marked u.objects ≡ drop u.first (current_shapes p s)
-  pub wants : listed (λ m. m.wants) u.first u.objects ≡ s.wants
-  pub rise : Rise (map Symbol s.sent)
-  pub sent : listed (λ m. m.sent) u.first u.objects ≡ filter (stands_behind s.current.drop) (map Symbol s.sent)
+-- what is read of a sender's state: the order and its drop point, the wants, which symbols were sent, and what the open round was
+-- asked for
+pub record UnionReads : Type 0 where
+  pub order : List Entry
+  pub drop : Point
+  pub wants : List Want
+  pub sent : List Position
+  pub asked : List Asked
+
+-- what the open round was asked for
+abbrev pub asked_so_far : SenderState → List Asked
+asked_so_far s = elim s.round [ Some round ↦ round.asked | None ↦ [] ]
+
+abbrev pub reads : SenderState → UnionReads
+reads s = record { order = s.current.order; drop = s.current.drop; wants = s.wants; sent = s.sent; asked = asked_so_far s }
+
+-- A collection holds what was read: the objects of the window, the wants, and of the window's symbols those that were sent,
+-- which the state has in their order.
+pub record HoldsFor (p : Settings) (u : Kept) (r : UnionReads) : Type 0 where
+  pub first : u.first ≡ r.drop.index
+  pub whole : r.drop.block ≡ 0
+  pub next : u.first + length u.objects ≡ length r.order
+  pub shapes : map shape_of_marked u.objects ≡ drop u.first (shapes_of p r.order)
+  pub wants : listed (λ m. m.wants) u.first u.objects ≡ r.wants
+  pub rise : Rise (map Symbol r.sent)
+  pub sent : listed (λ m. m.sent) u.first u.objects ≡ filter (stands_behind r.drop) (map Symbol r.sent)
+
+abbrev pub Holds : Settings → Kept → SenderState → Type 0
+Holds p u s = HoldsFor p u (reads s)
+
+-- an encoded symbol of an object of the window
+pub record IsEncodedIn (u : Kept) (at : Position) : Type 0 where
+  pub first : u.first ≤ at.index
+  pub object : at.index < u.first + length u.objects
+  pub symbol : (m : Marked) → slice_get u.objects (at.index - u.first) ≡ Some m → at.symbol < encoded_in (shape_of_marked m) at.block

@@ -1,5 +1,12 @@
--- What is promised of the sets that a union keeps.
-use Rattle.std.specs.Prelude.{◌≡◌, List, []}
+-- What is promised of the sets that a union keeps, and of the states for which it stands.
+use Rattle.std.specs.Prelude.{◌≡◌, List, [], true}
+use Rattle.fec_plan.specs.declared.position.Position.{Position}
+use Rattle.norm_order.specs.Shapes.{is_encoded}
+use Rattle.norm_send_rules.specs.SenderState.{SenderState}
+use Rattle.norm_send_rules.specs.InWindow.{stands_behind, current_shapes}
+use Rattle.norm_send_rules.specs.declared.want.Want.TheVariants.{Symbol}
+use Rattle.nack_union.specs.Kept.{IsEncodedIn}
+use Rattle.nack_union.specs.UnionState.{UnionState, Stands}
 use Rattle.norm_order.specs.Sets.{with_members}
 use Rattle.norm_send_rules.specs.Wants.{want_before}
 use Rattle.norm_send_rules.specs.declared.want.Want.{Want}
@@ -8,3 +15,9 @@ use Rattle.norm_send_rules.specs.declared.want.Want.{Want}
 abbrev pub RoundsAreCollected : Type 0
 RoundsAreCollected = (asked wants : List Want)
     → with_members want_before (with_members want_before asked []) wants ≡ with_members want_before asked wants
+
+-- an encoded symbol of the order that was not dropped may be noted as sent
+abbrev pub MayBeNoted : Type 0
+MayBeNoted =
+    (u : UnionState) (s : SenderState) (at : Position) → Stands u s → is_encoded (current_shapes u.p s) at ≡ true
+    → stands_behind s.current.drop (Symbol at) ≡ true → IsEncodedIn u.kept at

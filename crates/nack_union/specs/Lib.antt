@@ -9,5 +9,7 @@ pub mod Collected
 pub mod More
 pub mod Adding
 pub mod Sound
-pub mod SoundUnion
+pub mod CollectionSound
+pub mod UnionState
+pub mod UnionMoves
 pub mod Laws

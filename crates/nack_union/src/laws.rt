@@ -1,10 +1,17 @@
-//! What is promised of the sets that a union keeps. The law is the contract of a function that does nothing.
+//! What is promised of the sets that a union keeps, and of the states for which it stands. Each law is the contract of a
+//! function that does nothing.
 
-ghost use Rattle.nack_union.specs.Laws.{RoundsAreCollected};
+ghost use Rattle.nack_union.specs.Laws.{MayBeNoted, RoundsAreCollected};
 
 /// What the requests of a round ask for may be kept as a set until the round closes: the wants are then the same as if
 /// each had been put in as the round closes, in the order in which it was asked for.
 #[tactic(auto, using(crate::proofs::Unions::rounds_are_collected))]
 pub fn rounds_are_collected()
     ensures { RoundsAreCollected }
+{}
+
+/// An encoded symbol of the order that was not dropped may be noted as sent.
+#[tactic(auto, using(crate::proofs::Heard::may_be_noted))]
+pub fn may_be_noted()
+    ensures { MayBeNoted }
 {}

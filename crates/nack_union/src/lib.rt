@@ -1,8 +1,10 @@
 //! What receivers asked a NORM sender to send again (RFC 5740 section 5.4). A sender tells its [`Union`] which objects enter
-//! and leave the window and which symbols it sent, and takes the lowest want out of it. A [`Mask`] is the set that it keeps them in.
+//! and leave the window and which symbols it sent, and takes the lowest want out of it. Within, a `Collection` has all that but the
+//! profile, and a [`Mask`] is the set that it keeps places in.
 #![tactic(auto)]
 
 mod asking;
+mod collection;
 mod earliest;
 pub mod laws;
 mod marks;
@@ -10,6 +12,7 @@ mod mask;
 mod repairs;
 mod union;
 
+pub use crate::collection::Closed;
 pub use crate::mask::Mask;
-pub use crate::union::{Closed, Union};
+pub use crate::union::Union;
 pub use norm_send_rules::Want;

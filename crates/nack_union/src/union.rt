@@ -1,411 +1,153 @@
-//! What is wanted of a sender's window, and what was sent of it.
+//! What is wanted of a sender's window, and what was sent of it, by the sender's rules.
 
-ghost use Rattle.std.specs.Prelude.{◌≡◌, ◌<◌, ◌≤◌, ◌+◌, ◌-◌, ◌∷◌, ◌++◌, [], length, IfOk, IsErr, MatchOption, Some, ℕ, List, nat_lt, position, slice_get, drop, not, map, min, max};
-ghost use Rattle.norm_base.specs.Settings.{Settings};
-ghost use Rattle.fec_plan.specs.Partition.{blocks};
+ghost use Rattle.std.specs.Prelude.{◌≡◌, ◌<◌, ◌≤◌, ◌+◌, ◌-◌, ◌∷◌, [], length, IfOk, IsErr, MatchOption, Some, ℕ, List, slice_get, not, min, nat_lt};
+ghost use Rattle.std.specs.List.{list_any};
+ghost use Rattle.fec_plan.specs.Points.{point};
 ghost use Rattle.norm_order.specs.Entries.{Entry};
 ghost use Rattle.norm_order.specs.Shapes.{shape_of};
-ghost use Rattle.norm_send_rules.specs.SenderState.{SenderState, Asked, Round, sender_opening};
+ghost use Rattle.norm_send_rules.specs.SenderState.{SenderState, Round, sender_opening};
+ghost use Rattle.norm_send_rules.specs.InWindow.{stands_behind, last_index};
 ghost use Rattle.norm_send_rules.specs.Enqueuing.{with_entry};
 ghost use Rattle.norm_send_rules.specs.Restarting.{begun_anew};
-ghost use Rattle.norm_send_rules.specs.Hearing.{asked_now};
+ghost use Rattle.norm_send_rules.specs.Hearing.{joined_round};
 ghost use Rattle.norm_send_rules.specs.Sending.{noted};
 ghost use Rattle.norm_send_rules.specs.Dropping.{dropped_to};
 ghost use Rattle.norm_send_rules.specs.Closing.{round_closed, asks_early};
-ghost use Rattle.norm_send_rules.specs.InWindow.{stands_behind};
-ghost use Rattle.fec_plan.specs.Points.{point};
-ghost use Rattle.std.specs.List.{list_any, AllByRecursion};
 ghost use Rattle.norm_send_rules.specs.declared.want.Want.{Want as Wanted};
 ghost use Rattle.norm_send_rules.specs.declared.want.Want.TheVariants.{Symbol};
-ghost use Rattle.norm_order.specs.Sets.{with_member};
-ghost use Rattle.nack_union.specs.Slots.{symbol_slot};
-ghost use Rattle.nack_union.specs.Kept.{Kept, Marked, Stands, known_of, begun_union, admitted, with_object, shape_of_marked, closed_marks, closed_union, IsCounted, with_marks};
-ghost use Rattle.nack_union.specs.More.{HasPart, named_part, symbol_part, count_part, part_where, item_part, items_part, ranges_part, counts_part, request_part, requests_part};
-ghost use Rattle.nack_union.specs.Adding.{HasAdded, IsPlanned};
-ghost use Rattle.norm_ext.specs.Requests.{items_named};
-ghost use Rattle.norm_ext.specs.RequestView.{request_of};
-ghost use Rattle.norm_ext.specs.Asking.{span, is_proper, named};
-ghost use Rattle.std.specs.Bool.{MatchBool};
-ghost use Rattle.nack_union.specs.Rounds.{new_wants, wants_closed};
-ghost use Rattle.nack_union.specs.Earliest.{is_below_first, earliest_with, items_spans, pairs_spans};
-ghost use Rattle.nack_union.specs.Collected.{Collects};
+ghost use Rattle.nack_union.specs.Kept.{Marked, IsEncodedIn, admitted, with_object, shape_of_marked};
+ghost use Rattle.nack_union.specs.UnionState.{UnionState, Stands, empty_union};
+ghost use Rattle.nack_union.specs.UnionMoves.{UnionMoves};
 
-use crate::asking::{ask_range, hold_all};
-use crate::earliest::{earliest_of, is_below, lesser};
-use crate::marks::{Marks, Named, slot_of, want_of};
+use crate::collection::{Closed, Collection};
 use fec_plan::{Plan, Position};
 use norm_base::{Memory, Profile};
-use norm_ext::flags::{WANT_BLOCK, WANT_SEGMENT};
-use norm_ext::items::{ends_of, has_flag, position_of, split_item, split_pair};
-use norm_ext::{Form, Request, Requests};
+use norm_ext::Requests;
 use norm_send_rules::Want;
 use std::alloc::Global;
 use std::marker::Model;
 
 /// The wants and the sent symbols of the objects of a window, and what the open round asks for. Objects are admitted at its
-/// end and retired from its front. Outside of the places from `low` up to `high` the round asks for nothing. `earliest` is
-/// the least index from which its requests count.
+/// end and retired from its front.
 #[derive(Debug, Drop)]
 pub struct Union {
-    alloc: Global,
-    first: u32,
-    objects: Vec<Marks>,
-    low: usize,
-    high: usize,
-    earliest: Option<u32>,
-}
-
-/// What the closing of a round says.
-#[derive(Clone, Copy, Debug, PartialEq, Eq)]
-pub struct Closed {
-    /// How many wants are new, or the greatest number where there are more.
-    pub queued: u32,
-    /// Whether the round asked for what lies before the window, so that a squelch is due.
-    pub early: bool,
+    profile: Profile,
+    collection: Collection,
 }
 
 impl Model for Union {
-    ghost use Rattle.nack_union.specs.Kept.{Kept};
+    ghost use Rattle.nack_union.specs.UnionState.{UnionState};
 
-    ghost Value = { Kept };
+    ghost Value = { UnionState };
 
-    ghost use Rattle.nack_union.specs.SoundUnion.{IsSoundUnion, union_view};
-
-    ghost view = { union_view };
-
-    ghost invariant = { IsSoundUnion };
-}
-
-/// The place of the first object of which something is wanted.
-fn first_wanted(objects: &[Marks]) -> Option<usize>
-    ensures { result ≡ position (λ m. nat_lt 0 (length m.wants)) objects.now }
-{
-    objects.iter().position(|object| object.is_wanted())
-}
-
-/// Whether something of some object is wanted.
-fn is_some_wanted(objects: &[Marks]) -> bool
-    ensures { result ≡ list_any (λ m. nat_lt 0 (length m.wants)) objects.now }
-{
-    objects.iter().any(|object| object.is_wanted())
-}
-
-/// Drops so many objects from the front.
-fn drop_front(objects: &mut Vec<Marks>, count: usize)
-    requires { count ≤ length objects.old.items }
-    ensures { objects.new.items ≡ drop count objects.old.items }
-{
-    objects.drain(..count);
-}
-
-/// Closes the round of each object, and says how many wants are new, or the greatest number where there are more.
-fn close_all(objects: &mut [Marks]) -> u32
-    ensures closed { objects.new ≡ map closed_marks objects.old }
-    ensures counted { AllByRecursion IsCounted objects.old }
-    ensures queued { result ≡ min (new_wants objects.old) 4294967295 }
-{
-    let mut queued = 0u64;
-    'objects: for object in objects.iter_mut() {
-        queued = queued.saturating_add(object.close() as u64);
-    }
-    queued.min(u32::MAX as u64) as u32
+    ghost view = { λ u. record { p = u.profile; kept = u.collection } };
 }
 
 impl Union {
     /// A union as an instance begins: nothing is in the window.
-    pub fn new(alloc: Global) -> Union
-        ensures begun { result ≡ begun_union }
-        ensures stands { (p : Settings) (instance : ℕ) → Stands p result (sender_opening p instance) }
-        ensures collects { (p : Settings) (s : SenderState) → Collects p result s [] }
+    pub fn new(alloc: Global, profile: &Profile) -> Union
+        ensures empty { result ≡ empty_union profile.now }
+        ensures begun { (instance : ℕ) → Stands result (sender_opening profile.now instance) }
     {
+        let collection = Collection::new(alloc);
         Union {
-            alloc,
-            first: 0,
-            objects: Vec::new(alloc),
-            low: 0,
-            high: 0,
-            earliest: None,
+            profile: *profile,
+            collection,
         }
     }
 
     /// Takes one more object into the window, of which nothing is wanted and nothing was sent, and makes all the room
     /// that it needs. Its index is the one behind the last object's. Want of memory leaves the union as it was.
     pub fn admit(&mut self, index: u32, plan: &Plan, info: bool) -> Result<(), Memory>
-        requires { index ≡ self.old.first + length self.old.objects }
-        ensures exact { IfOk result (λ _. self.new ≡ with_object (admitted plan.now info) self.old) }
-        ensures stands { IfOk result (λ _. (p : Settings) (s : SenderState) (entry : Entry) → Stands p self.old s
-            → shape_of p entry.object ≡ shape_of_marked (admitted plan.now info) → Stands p self.new (with_entry entry s)) }
-        ensures collects { IfOk result (λ _. (p : Settings) (s : SenderState) (asked : List Asked) (entry : Entry) → Stands p self.old s
-            → Collects p self.old s asked → Collects p self.new (with_entry entry s) asked) }
+        requires { index ≡ self.old.kept.first + length self.old.kept.objects }
+        ensures exact { IfOk result (λ _. self.new ≡ record self.old { kept = with_object (admitted plan.now info) self.old.kept }) }
+        ensures stands { IfOk result (λ _. (entry : Entry) → shape_of self.old.p entry.object ≡ shape_of_marked (admitted plan.now info)
+            → UnionMoves self.old self.new (with_entry entry)) }
         ensures memory { IsErr result → self.new ≡ self.old }
     {
-        let marks = Marks::new(self.alloc, plan, info)?;
-        self.objects.push(marks)?;
+        self.collection.admit(index, plan, info)?;
         Ok(())
     }
 
     /// Takes back the last `admit`, where nothing was called since.
     pub fn withdraw(&mut self)
-        requires { 0 < length self.old.objects }
-        ensures { (m : Marked) (u : Kept) → self.old ≡ with_object m u → self.new ≡ u }
+        requires { 0 < length self.old.kept.objects }
+        ensures { (m : Marked) (u : UnionState) → self.old ≡ record u { kept = with_object m u.kept } → self.new ≡ u }
     {
-        self.objects.pop();
+        self.collection.withdraw();
     }
 
-    /// Begins anew for another instance: nothing is in the window.
+    /// Begins anew for another instance: nothing is in the window. It takes no memory.
     pub fn clear(&mut self)
-        ensures begun { self.new ≡ begun_union }
-        ensures stands { (p : Settings) (s : SenderState) (id : ℕ) → Stands p self.new (begun_anew p id s) }
-        ensures collects { (p : Settings) (s : SenderState) → Collects p self.new s [] }
+        ensures begun { (id : ℕ) → UnionMoves self.old self.new (begun_anew id) }
+        ensures profile { self.new.p ≡ self.old.p }
     {
-        self.first = 0;
-        self.objects.clear();
-        self.low = 0;
-        self.high = 0;
-        self.earliest = None;
+        self.collection.clear();
     }
 
-    /// Drops all objects before an index, and says whether that took away a want.
-    pub fn retire(&mut self, index: u32) -> bool
-        requires not_back { self.old.first ≤ index }
-        requires within { index ≤ self.old.first + length self.old.objects }
-        ensures collects { (p : Settings) (s : SenderState) (asked : List Asked) → Stands p self.old s → Collects p self.old s asked
-            → Collects p self.new (dropped_to (point index 0) s) asked }
-        ensures stands { (p : Settings) (s : SenderState) → Stands p self.old s
-            → Stands p self.new (dropped_to (point index 0) s)
-            × (result ≡ list_any (λ want. not (stands_behind (point index 0) want)) s.wants) }
+    /// Drops all before a point, and says whether that took away a want.
+    pub fn retire(&mut self, index: u32, block: u32) -> bool
+        requires not_back { self.old.kept.first ≤ index }
+        requires within { index ≤ self.old.kept.first + length self.old.kept.objects }
+        requires whole { block ≡ 0 }
+        ensures stands { UnionMoves self.old self.new (dropped_to (point index block)) }
+        ensures wanted { (s : SenderState) → Stands self.old s → result ≡ list_any (λ want. not (stands_behind (point index block) want)) s.wants }
+        ensures profile { self.new.p ≡ self.old.p }
     {
-        let count = (index - self.first) as usize;
-        let dropped = is_some_wanted(&self.objects[..count]);
-        drop_front(&mut self.objects, count);
-        self.first = index;
-        self.low = self.low.saturating_sub(count);
-        self.high = self.high.saturating_sub(count);
-        dropped
+        self.collection.retire(index)
     }
 
-    /// Notes that a symbol of an object of the window was sent.
+    /// Notes that an encoded symbol of an object of the window was sent.
     pub fn note_sent(&mut self, at: Position)
-        requires first { self.old.first ≤ at.index }
-        requires object { at.index < self.old.first + length self.old.objects }
-        requires block { (m : Marked) → slice_get self.old.objects (at.index - self.old.first) ≡ Some m → at.block < blocks m.cut }
-        ensures exact { (m : Marked) → slice_get self.old.objects (at.index - self.old.first) ≡ Some m
-            → self.new ≡ with_marks at.index (record m { sent = with_member nat_lt (symbol_slot at.block at.symbol) m.sent }) self.old }
-        ensures stands { (p : Settings) (s : SenderState) → Stands p self.old s → Stands p self.new (noted (Symbol at) s) }
-        ensures collects { (p : Settings) (s : SenderState) (asked : List Asked) → Collects p self.old s asked → Collects p self.new (noted (Symbol at) s) asked }
+        requires { IsEncodedIn self.old.kept at }
+        ensures stands { UnionMoves self.old self.new (noted (Symbol at)) }
+        ensures profile { self.new.p ≡ self.old.p }
     {
-        let object = &mut self.objects[(at.index - self.first) as usize];
-        object.note_sent(slot_of(at.block, at.symbol));
-    }
-
-    /// The open round asks for what is named, as far as the window has it.
-    fn ask_named(&mut self, named: Named)
-        ensures { HasPart (named_part named.flags (span named.first named.last)) self.old self.new }
-    {
-        let from = named.first.index.saturating_sub(self.first) as usize;
-        let behind = named.last.index as usize + 1;
-        let to = behind
-            .saturating_sub(self.first as usize)
-            .min(self.objects.len());
-        self.low = self.low.min(from);
-        self.high = self.high.max(to);
-        ask_range(&mut self.objects, self.first, from, to, named);
-    }
-
-    /// The open round asks for an encoded symbol, where the window has it.
-    fn ask_symbol(&mut self, at: Position)
-        ensures { HasPart (symbol_part at) self.old self.new }
-    {
-        if self.has(at.index) {
-            let place = (at.index - self.first) as usize;
-            self.low = self.low.min(place);
-            self.high = self.high.max(place + 1);
-            self.objects[place].ask_symbol(at.block, at.symbol);
-        }
-    }
-
-    /// The open round counts a block for as many symbols as a position says, where the window has it.
-    fn count_block(&mut self, at: Position)
-        ensures { HasPart (count_part at) self.old self.new }
-    {
-        if self.has(at.index) {
-            let place = (at.index - self.first) as usize;
-            self.low = self.low.min(place);
-            self.high = self.high.max(place + 1);
-            self.objects[place].count_block(at.block, at.symbol);
-        }
-    }
-
-    /// Asks for an encoded symbol, where that is wanted.
-    fn ask_symbol_where(&mut self, wanted: bool, at: Position)
-        ensures { HasPart (part_where wanted (symbol_part at)) self.old self.new }
-    {
-        if wanted {
-            self.ask_symbol(at);
-        }
-    }
-
-    /// The open round asks for what an item names.
-    fn ask_item(&mut self, flags: u8, at: Position)
-        ensures { HasPart (item_part flags (span at at)) self.old self.new }
-    {
-        let (first, last) = (at, at);
-        self.ask_named(Named { first, last, flags });
-        self.ask_symbol_where(has_flag(flags, WANT_SEGMENT), at);
-    }
-
-    /// The open round asks for what a range names, where it is not empty.
-    fn ask_pair(&mut self, flags: u8, first: Position, last: Position)
-        ensures { HasPart (part_where (is_proper (span first last)) (named_part flags (span first last))) self.old self.new }
-    {
-        if !last.is_before(&first) {
-            self.ask_named(Named { first, last, flags });
-        }
-    }
-
-    /// The open round asks for what items name.
-    fn ask_items(&mut self, profile: &Profile, known: u32, flags: u8, items: &[u8])
-        ensures { HasPart (items_part flags (items_spans profile.now known (items_named items.now))) self.old self.new }
-    {
-        let _ = &self.objects;
-        let mut rest = items;
-        'items: while let Some((item, behind)) = split_item(rest) {
-            if let Some(at) = position_of(profile, known, item) {
-                self.ask_item(flags, at);
-            }
-            rest = behind;
-        }
-    }
-
-    /// The open round asks for what pairs of items name.
-    fn ask_ranges(&mut self, profile: &Profile, known: u32, flags: u8, items: &[u8])
-        ensures { HasPart (ranges_part flags (pairs_spans profile.now known (items_named items.now))) self.old self.new }
-    {
-        let _ = &self.objects;
-        let mut rest = items;
-        'pairs: while let Some((first, last, behind)) = split_pair(rest) {
-            if let Some((from, to)) = ends_of(profile, known, first, last) {
-                self.ask_pair(flags, from, to);
-            }
-            rest = behind;
-        }
-    }
-
-    /// The open round counts blocks for as many symbols as items say.
-    fn ask_counts(&mut self, profile: &Profile, known: u32, items: &[u8])
-        ensures { HasPart (counts_part (items_spans profile.now known (items_named items.now))) self.old self.new }
-    {
-        let _ = &self.objects;
-        let mut rest = items;
-        'items: while let Some((item, behind)) = split_item(rest) {
-            if let Some(at) = position_of(profile, known, item) {
-                self.count_block(at);
-            }
-            rest = behind;
-        }
-    }
-
-    /// The open round asks for what a request asks for.
-    fn ask_request(&mut self, profile: &Profile, known: u32, request: &Request<'_>)
-        ensures { HasPart (request_part (named profile.now known (request_of request.now))) self.old self.new }
-    {
-        let flags = request.flags;
-        match request.form {
-            Form::Items => self.ask_items(profile, known, flags, request.items),
-            Form::Ranges => self.ask_ranges(profile, known, flags, request.items),
-            Form::Erasures => {
-                if has_flag(flags, WANT_SEGMENT) || has_flag(flags, WANT_BLOCK) {
-                    self.ask_counts(profile, known, request.items);
-                }
-            }
-        }
-    }
-
-    /// The open round asks for what requests ask for.
-    fn ask_requests(&mut self, profile: &Profile, known: u32, requests: Requests<'_>)
-        ensures asked { HasPart (requests_part (map (named profile.now known) requests.entry)) self.old self.new }
-        ensures earliest { self.new.earliest ≡ earliest_with self.old.earliest (map (named profile.now known) requests.entry) }
-    {
-        let mut earliest = self.earliest;
-        'requests: for request in requests {
-            self.ask_request(profile, known, &request);
-            earliest = lesser(earliest, earliest_of(profile, known, &request));
-        }
-        self.count_from(earliest);
-    }
-
-    /// The requests of the open round count from this index.
-    fn count_from(&mut self, earliest: Option<u32>)
-        ensures { self.new ≡ record self.old { earliest = earliest } }
-    {
-        self.earliest = earliest;
-    }
-
-    /// Whether the window has the object with an index.
-    fn has(&self, index: u32) -> bool
-        ensures { MatchBool result ((self.now.first ≤ index) × (index < self.now.first + length self.now.objects))
-            ((self.now.first ≤ index → self.now.first + length self.now.objects ≤ index)) }
-    {
-        self.first <= index && ((index - self.first) as usize) < self.objects.len()
+        self.collection.note_sent(at);
     }
 
     /// The greatest index that the window's sender knows: that of the window's last object.
-    fn known(&self) -> u32
-        ensures { result ≡ known_of self.now }
+    pub fn known(&self) -> u32
+        ensures { (s : SenderState) → Stands self.now s → result ≡ last_index s }
     {
-        (u64::from(self.first) + self.objects.len() as u64).saturating_sub(1) as u32
+        self.collection.known()
     }
 
-    /// Takes the requests of a NACK, as far as the window has what they ask for, into what the open round asks for. What
-    /// names no index to the window's sender asks for nothing.
-    pub fn add(&mut self, profile: &Profile, requests: Requests<'_>)
-        ensures added { HasAdded (map (named profile.now (known_of self.old)) requests.entry) self.old self.new }
-        ensures planned { AllByRecursion IsPlanned self.old.objects }
-        ensures stands { (s : SenderState) → Stands profile.now self.old s → Stands profile.now self.new s }
-        ensures collects { (s : SenderState) (asked : List Asked) → Stands profile.now self.old s → Collects profile.now self.old s asked
-            → Collects profile.now self.new s (asked ++ map (asked_now profile.now s) requests.entry) }
+    /// The requests of a NACK join the open round, or a new one, as far as the window has what they ask for. What names no
+    /// index to the window's sender asks for nothing.
+    pub fn add(&mut self, requests: Requests<'_>)
+        ensures stands { (s : SenderState) (now : ℕ) → Stands self.old s → Stands self.new (joined_round self.old.p s now requests.entry) }
+        ensures profile { self.new.p ≡ self.old.p }
     {
-        let known = self.known();
-        hold_all(&self.objects);
-        self.ask_requests(profile, known, requests);
-        hold_all(&self.objects);
+        self.collection.add(&self.profile, requests);
+    }
+
+    /// Whether anything is wanted.
+    pub fn is_wanted(&self) -> bool
+        ensures { (s : SenderState) → Stands self.now s → result ≡ nat_lt 0 (length s.wants) }
+    {
+        self.collection.is_wanted()
     }
 
     /// Takes out the lowest want. `None` exactly where there is none.
     pub fn next(&mut self) -> Option<Want>
-        ensures collects { (p : Settings) (s : SenderState) (asked : List Asked) (rest : List Wanted) → Collects p self.old s asked
-            → Collects p self.new (record s { wants = rest }) asked }
-        ensures first { (p : Settings) (s : SenderState) → Stands p self.old s
-            → MatchOption result ((s.wants ≡ []) × Stands p self.new s)
-            (λ want. (rest : List Wanted) × (s.wants ≡ want ∷ rest) × Stands p self.new (record s { wants = rest })) }
+        ensures first { (s : SenderState) → Stands self.old s → MatchOption result ((s.wants ≡ []) × Stands self.new s)
+            (λ want. (rest : List Wanted) × (s.wants ≡ want ∷ rest) × Stands self.new (record s { wants = rest })) }
+        ensures profile { self.new.p ≡ self.old.p }
     {
-        let place = first_wanted(&self.objects)?;
-        let object = &mut self.objects[place];
-        let slot = object.take_lowest()?;
-        Some(want_of(self.first + place as u32, slot))
+        self.collection.next()
     }
 
     /// Closes the open round: what it asked for is wanted, of a counted block the lowest parity symbols that were never
     /// sent, or all its source symbols where fewer are left. Says how many wants are new, and whether the round asked for what
     /// lies before the window (RFC 5740 section 5.4). The next round begins empty.
     pub fn close_round(&mut self) -> Closed
-        ensures exact { self.new ≡ closed_union self.old }
-        ensures closed { (p : Settings) (s : SenderState) → Stands p self.old s → Stands p self.new (record s { wants = wants_closed self.old s }) }
-        ensures queued { (p : Settings) (s : SenderState) → Stands p self.old s
-            → result.queued ≡ min (length (wants_closed self.old s) - length s.wants) 4294967295 }
-        ensures early { result.early ≡ is_below_first self.old.earliest self.old.first }
-        ensures rules { (p : Settings) (s : SenderState) (r : Round) → Stands p self.old s → Collects p self.old s r.asked
-            → Stands p self.new (round_closed p r s) × (result.queued ≡ min (length (round_closed p r s).wants - length s.wants) 4294967295)
-            × (result.early ≡ list_any (λ (a : Asked). asks_early s.current.drop a.request) r.asked) }
-        ensures begun { (p : Settings) (s : SenderState) → Collects p self.new s [] }
+        ensures stands { (r : Round) (s : SenderState) → s.round ≡ Some r → Stands self.old s → Stands self.new (round_closed self.old.p r s) }
+        ensures answer { (r : Round) (s : SenderState) → s.round ≡ Some r → Stands self.old s
+            → (result.queued ≡ min (length (round_closed self.old.p r s).wants - length s.wants) 4294967295)
+            × (result.early ≡ list_any (λ a. asks_early s.current.drop a.request) r.asked) }
+        ensures profile { self.new.p ≡ self.old.p }
     {
-        let high = self.high.min(self.objects.len());
-        let low = self.low.min(high);
-        let queued = close_all(&mut self.objects[low..high]);
-        self.low = high;
-        self.high = high;
-        let early = is_below(self.earliest, self.first);
-        self.earliest = None;
-        Closed { queued, early }
+        self.collection.close_round()
     }
 }

@@ -9,14 +9,10 @@ use Rattle.fec_plan.specs.Points.{position}
 use Rattle.fec_plan.specs.declared.position.Position.{Position}
 use Rattle.norm_order.specs.Entries.{Object, Whole, Stream, Entry}
 use Rattle.norm_order.specs.Shapes.{Shape, shape_of, shapes_of, closed_in, closed_blocks, at_index, is_source, last_in, last_from, last_source}
+use Rattle.norm_send_rules.proofs.NewLemmas.{found_behind}
 use Rattle.norm_safety.proofs.EntryLemmas.{clash}
 use Rattle.norm_safety.proofs.WholeOrders.{IsSized, AreSized}
 use Rattle.norm_safety.proofs.Cuts.{CutRange, ends_closed}
-
--- a shape behind others is found by its index
-pub found_behind : (front : List Shape) (s : Shape) (rest : List Shape) (test : Shape → Bool) → at_index (front ++ s ∷ rest) (length front) false test ≡ test s
-found_behind [] s rest test = refl
-found_behind (x ∷ front) s rest test = found_behind front s rest test
 
 -- the last block of each shape has a closed source symbol
 abbrev EndClosed : List Shape → Type 0

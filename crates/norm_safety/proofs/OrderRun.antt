@@ -22,7 +22,8 @@ use Rattle.norm_send_rules.specs.Hearing.{heard}
 use Rattle.norm_send_rules.specs.Ticking.{ticked as sender_ticked}
 use Rattle.norm_send_rules.specs.Telling.{told}
 use Rattle.norm_send_rules.specs.declared.job.Job.{Job}
-use Rattle.norm_send_rules.proofs.StepLemmas.{step_holds as wants_step, blocks_of}
+use Rattle.norm_send_rules.proofs.StepLemmas.{step_holds as wants_step}
+use Rattle.norm_send_rules.proofs.ShapeLemmas.{blocks_of}
 use Rattle.norm_safety.specs.Events.{Event, Commanded, Delivered, Ticked, Offered, UpTaken, NewsAsked, Answer, Sent, Took, Told, Silent}
 use Rattle.norm_safety.specs.Jobs.{IsJob, OpensNone, IsEvent, IsOfObjects, AreEvents, AreOfObjects}
 use Rattle.norm_safety.specs.World.{World, world_opening, receiver_at, with_receiver, with_given, given_others, is_of, offers}

@@ -22,7 +22,8 @@ use Rattle.norm_send_rules.specs.Enqueuing.{joined}
 use Rattle.norm_send_rules.specs.Commanding.{commanded}
 use Rattle.norm_send_rules.specs.Laws.{WantsHold}
 use Rattle.norm_send_rules.specs.declared.job.Job.{Job}
-use Rattle.norm_send_rules.proofs.StepLemmas.{step_holds as wants_step, blocks_of}
+use Rattle.norm_send_rules.proofs.StepLemmas.{step_holds as wants_step}
+use Rattle.norm_send_rules.proofs.ShapeLemmas.{blocks_of}
 use Rattle.norm_safety.specs.OnceEach.{order_of}
 use Rattle.norm_safety.specs.InOrder.{drop_of}
 use Rattle.norm_safety.specs.Jobs.{IsJob, OpensNone}

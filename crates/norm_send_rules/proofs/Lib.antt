@@ -3,4 +3,8 @@ pub mod ClosingLemmas
 pub mod ShapeLemmas
 pub mod AskingLemmas
 pub mod WantLemmas
+pub mod NewLemmas
+pub mod TickLemmas
 pub mod StepLemmas
+pub mod BookLemmas
+pub mod ReachedLemmas

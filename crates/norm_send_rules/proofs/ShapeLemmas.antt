@@ -4,7 +4,7 @@ use Rattle.std.specs.Prelude.{min, nat_lt, ◌==◌, ⊤}
 use Rattle.std.proofs.lemmas.Bool.Decides.{Decides-ltb, Decides-eqb}
 use Rattle.std.proofs.lemmas.Nat.{le-div}
 use Rattle.std.proofs.Math.Nat.{mul-le-mul_left}
-use Rattle.norm_base.specs.Settings.{Settings}
+use Rattle.norm_base.specs.Settings.{Settings, InRange}
 use Rattle.fec_plan.specs.Partition.{Cut, source_symbols, encoding_symbols, symbol_number}
 use Rattle.fec_plan.specs.declared.position.Position.{Position}
 use Rattle.norm_order.specs.Entries.{Part, Object, Whole, Stream, Entry}
@@ -17,6 +17,9 @@ pub record Blocks (p : Settings) : Type 0 where
   pub e_pos : 0 < p.e
   pub b_pos : 0 < p.b
   pub most : p.b ≤ p.max_n
+
+pub blocks_of : (p : Settings) → InRange p → Blocks p
+blocks_of p range = record { e_pos = omega (arith, range.e.0); b_pos = omega (arith, range.b.0); most = range.longest }
 
 -- each block of a cut has as many encoding symbols as source symbols
 abbrev pub HasParity : Cut → Type 0

@@ -1,5 +1,5 @@
 -- Each step of the sender keeps its wants in order, of the order, and in the window.
-use Rattle.std.proofs.Common.{◌≡◌, ℕ, zero, suc, ◌+◌, List, [], ◌∷◌, ◌++◌, length, map, Bool, true, false, Option, None, Some, Result, Ok, Err, refl, sym, subst, arith}
+use Rattle.std.proofs.Common.{◌≡◌, ℕ, zero, suc, ◌+◌, ◌%◌, List, [], ◌∷◌, ◌++◌, length, map, Bool, true, false, Option, None, Some, Result, Ok, Err, refl, sym, subst, arith}
 use Rattle.std.specs.Prelude.{filter, nat_lt, nat_le, unwrap_or, ◌==◌}
 use Rattle.std.proofs.Math.Nat.{zero-mod}
 use Rattle.norm_base.specs.Settings.{Settings, InRange}
@@ -41,8 +41,9 @@ use Rattle.norm_send_rules.specs.declared.want.Want.{Want}
 use Rattle.norm_send_rules.specs.declared.want.Want.TheVariants.{Info, Symbol}
 use Rattle.norm_send_rules.specs.Laws.{Rise, is_of_order, WantsHold, WantLaws}
 use Rattle.norm_send_rules.proofs.ClosingLemmas.{Each, rise_more, each_more, kept_passes}
-use Rattle.norm_send_rules.proofs.ShapeLemmas.{Blocks, shapes_parity}
+use Rattle.norm_send_rules.proofs.ShapeLemmas.{Blocks, blocks_of, shapes_parity}
 use Rattle.norm_send_rules.proofs.AskingLemmas.{all_filtered, asked_in_order}
+use Rattle.norm_send_rules.proofs.TickLemmas.{TickKeeps, closed_keep, tick_keeps}
 use Rattle.norm_send_rules.proofs.WantLemmas.{Same, same_both, same_by, either, same_step, anew, hold_same, joins, unless, goes_on, grown_holds, no_row}
 
 either_holds : {A : Type 0} (p : Settings) (b : Bool) (t u : SenderState × A) → WantsHold p t.0 → WantsHold p u.0 → WantsHold p (either b t u).0
@@ -120,7 +121,7 @@ credited_by_same : (p : Settings) (node : ℕ) (at : Option Position) (s : Sende
 credited_by_same p node None s = (refl, refl)
 credited_by_same p node (Some at) s = credited_at_same p node at s
 
-heard_same : {E : Type 0} (p : Settings) (s : SenderState) (now : ℕ) (read : Result Message E) → Same s (message_heard p s now read)
+pub heard_same : {E : Type 0} (p : Settings) (s : SenderState) (now : ℕ) (read : Result Message E) → Same s (message_heard p s now read)
 heard_same p s now (Ok (Nack m)) =
     same_by (nack_counts p s m) s (joined_round p s now m.requests) s (round_same p s now m.requests) (refl, refl)
 heard_same p s now (Ok (Ack m)) = same_by (ack_counts p s m) s _ s (go m.content) (refl, refl)
@@ -147,93 +148,38 @@ closed_holds p blocks r s h =
       in_window = each_more (stands_behind s.current.drop) kept s.wants (kept_passes (stands_behind s.current.drop) asked) h.in_window;
     }
 
-pub due_holds : (p : Settings) → Blocks p → (now : ℕ) (s : SenderState) → WantsHold p s → WantsHold p (closed_where_due p now s)
-due_holds p blocks now s h = go s.round
-  where
-    by : (b : Bool) (r : Round) → WantsHold p (elim b [ true ↦ round_closed p r s | false ↦ s ])
-    by true r = closed_holds p blocks r s h
-    by false r = h
-
-    go : (round : Option Round) → WantsHold p (elim round [ Some r ↦ elim (nat_le r.closes now) [ true ↦ round_closed p r s | false ↦ s ] | None ↦ s ])
-    go (Some r) = by (nat_le r.closes now) r
-    go None = h
-
-noted_same : (w : Want) (s : SenderState) → Same s (noted w s)
+pub noted_same : (w : Want) (s : SenderState) → Same s (noted w s)
 noted_same (Info index) s = (refl, refl)
 noted_same (Symbol at) s = (refl, refl)
 
-sends_same : (p : Settings) (now : ℕ) (repair : Object → ℕ) (w : Want) (s : SenderState) → Same s (sends_want p now repair w s).0
-sends_same p now repair w s = noted_same w s
-
--- the state that a step leaves
-abbrev given : SenderState × Option Written → SenderState
-given step = step.0
-
-expired_same : (mark : ℕ) (s : SenderState) → Same s (expired mark s)
+pub expired_same : (mark : ℕ) (s : SenderState) → Same s (expired mark s)
 expired_same mark s = anew s s (end_where (λ w. w.mark == mark) (λ w. Expired (length (pending s w.at))) s) (refl, refl)
 
-oldest_same : (p : Settings) (now : ℕ) (s : SenderState) → Same s (flushes_oldest p now s).0
-oldest_same p now s = go (oldest s)
-  where
-    go : (found : Option Watermark) → Same s (given (elim found [ Some w ↦ flushes_for p now w s | None ↦ (s, None) ]))
-    go (Some w) = (refl, refl)
-    go None = (refl, refl)
-
-no_more_same : (p : Settings) (now : ℕ) (w : Watermark) (s : SenderState) → Same s (flushes_no_more p now w s).0
-no_more_same p now w s = go s.round
-  where
-    go : (round : Option Round) → Same s (given (elim round [ Some r ↦ (s, None) | None ↦ flushes_oldest p now (expired w.mark s) ]))
-    go (Some r) = (refl, refl)
-    go None = same_both s (expired w.mark s) (flushes_oldest p now (expired w.mark s)).0 (expired_same w.mark s) (oldest_same p now (expired w.mark s))
-
-flushed_same : (p : Settings) (now : ℕ) (w : Watermark) (s : SenderState) → Same s (flushed p now w s).0
-flushed_same p now w s = same_step (nat_lt s.flushes most_flushes) s (flushes_for p now w s) (flushes_no_more p now w s) (refl, refl) (no_more_same p now w s)
-
-in_turn_same : (p : Settings) (now : ℕ) (s : SenderState) → Same s (flushes_in_turn p now s).0
-in_turn_same p now s = go (oldest s)
-  where
-    go : (found : Option Watermark) → Same s (given (elim found [ Some w ↦ flushed p now w s | None ↦ (s, None) ]))
-    go (Some w) = flushed_same p now w s
-    go None = (refl, refl)
-
-further_same : (p : Settings) (now : ℕ) (s : SenderState) → Same s (sends_further p now s).0
-further_same p now s = go (next_new p s)
-  where
-    further : Option Want → SenderState × Option Written
-    further found = elim found [ Some w ↦ sends_new p now w s | None ↦ flushes p now s ]
-
-    go : (found : Option Want) → Same s (further found).0
-    go (Some w) = sends_same p now (λ object. 0) w (record s { next = behind w })
-    go None = same_step (may_flush p s now) s (flushes_in_turn p now s) (s, None) (in_turn_same p now s) (refl, refl)
-
-repairs_hold : (p : Settings) (now : ℕ) (w : Want) (wants : List Want) (s : SenderState) → s.wants ≡ w ∷ wants → WantsHold p s
-    → WantsHold p (repairs_next p now w wants s).0
-repairs_hold p now w wants s e h =
+repaired_holds : (p : Settings) (s : SenderState) (w : Want) (wants : List Want) → s.wants ≡ w ∷ wants → WantsHold p s → WantsHold p (record s { wants = wants })
+repaired_holds p s w wants e h =
     let rise = subst Rise e h.rise in
     let of_order = subst (Each (is_of_order (current_shapes p s))) e h.of_order in
     let in_window = subst (Each (stands_behind s.current.drop)) e h.in_window in
-    hold_same p (record s { wants = wants }) (repairs_next p now w wants s).0
-    (sends_same p now (λ object. repair_flags p object w) w (record s { wants = wants }))
-    (record { rise = rise.1; of_order = of_order.1; in_window = in_window.1 })
+    record { rise = rise.1; of_order = of_order.1; in_window = in_window.1 }
 
-wanted_holds : (p : Settings) (now : ℕ) (s : SenderState) → WantsHold p s → WantsHold p (sends_wanted p now s).0
-wanted_holds p now s h = go s.wants refl
-  where
-    sent : List Want → SenderState × Option Written
-    sent found = elim found [ [] ↦ sends_further p now s | w ∷ wants ↦ repairs_next p now w wants s ]
+ticks_hold : (p : Settings) → Blocks p → TickKeeps p (WantsHold p)
+ticks_hold p blocks = record {
+  closes = λ s r h. closed_holds p blocks r s h;
+  squelched = λ s h. hold_same p s (record s { squelch_due = false }) (refl, refl) h;
+  repaired = λ s w wants e h. repaired_holds p s w wants e h;
+  goes_on = λ s w e h. hold_same p s (record s { next = behind w }) (refl, refl) h;
+  notes = λ s w h. hold_same p s (noted w s) (noted_same w s) h;
+  flushes = λ s now h. hold_same p s (record s { flushes = s.flushes + 1; last_flush = Some now }) (refl, refl) h;
+  expires = λ s w e h. hold_same p s (expired w.mark s) (expired_same w.mark s) h;
+  spends = λ s moment h. hold_same p s (record s { next_send = moment; sequence = (s.sequence + 1) % 65536 }) (refl, refl) h;
+}
 
-    go : (found : List Want) → s.wants ≡ found → WantsHold p (sent found).0
-    go [] e = hold_same p s (sends_further p now s).0 (further_same p now s) h
-    go (w ∷ wants) e = repairs_hold p now w wants s e h
-
-in_time_holds : (p : Settings) (now : ℕ) (s : SenderState) → WantsHold p s → WantsHold p (sends_in_time p now s).0
-in_time_holds p now s h = either_holds p (nat_lt now s.next_send) (s, None) (sends_first p now s) h
-    (either_holds p s.squelch_due (sends p now (writes (squelch_message p s s.current.drop) (s.current.drop.index ∷ [])) (record s { squelch_due = false })) (sends_wanted p now s)
-    (hold_same p s _ (refl, refl) h) (wanted_holds p now s h))
+pub due_holds : (p : Settings) → Blocks p → (now : ℕ) (s : SenderState) → WantsHold p s → WantsHold p (closed_where_due p now s)
+due_holds p blocks now s h = closed_keep p (WantsHold p) (ticks_hold p blocks) now s h
 
 -- News.
 
-told_same : (s : SenderState) → Same s (told s).0
+pub told_same : (s : SenderState) → Same s (told s).0
 told_same s = go s.untold_nodes s.untold_marks
   where
     news : List ℕ → List ℕ → SenderState × Option News
@@ -253,11 +199,8 @@ told_same s = go s.untold_nodes s.untold_marks
 pub step_holds : (p : Settings) → Blocks p → (s : SenderState) (event : SenderEvent) → WantsHold p s → WantsHold p (sender_step p s event).0
 step_holds p blocks s (events.Commanded by job now) h = commands_hold p blocks s by job h
 step_holds p blocks s (events.Delivered datagram now) h = hold_same p s (heard p s datagram now) (heard_same p s now (decoded datagram)) h
-step_holds p blocks s (events.Ticked now) h = in_time_holds p now (closed_where_due p now s) (due_holds p blocks now s h)
+step_holds p blocks s (events.Ticked now) h = tick_keeps p (WantsHold p) (ticks_hold p blocks) s now h
 step_holds p blocks s events.NewsAsked h = hold_same p s (told s).0 (told_same s) h
-
-pub blocks_of : (p : Settings) → InRange p → Blocks p
-blocks_of p range = record { e_pos = omega (arith, range.e.0); b_pos = omega (arith, range.b.0); most = range.longest }
 
 pub want_laws : WantLaws
 want_laws = record {

@@ -106,7 +106,7 @@ unless p (Some fault) s after refused given h k = h
 
 -- The last entry's stream goes on.
 
-with_last_is : (object : Object) (front : List Entry) (last : Entry)
+pub with_last_is : (object : Object) (front : List Entry) (last : Entry)
     → with_last object (front ++ last ∷ []) ≡ front ++ record last { object = object } ∷ []
 with_last_is object [] last = refl
 with_last_is object (x ∷ []) last = refl
@@ -128,10 +128,10 @@ is_stream (Stream now) parts e = go (has_end now) refl e
     go false is found = let same = same_parts now parts found in (ap Stream same, subst (λ (x : List Part). has_end x ≡ false) same is)
 
 -- the order ends with an open stream of these parts
-abbrev EndsOpen : List Entry → List Part → Type 0
+abbrev pub EndsOpen : List Entry → List Part → Type 0
 EndsOpen order parts = (front : List Entry) × (last : Entry) × (order ≡ front ++ last ∷ []) × (last.object ≡ Stream parts) × (has_end parts ≡ false)
 
-ends_open : (order : List Entry) (parts : List Part)
+pub ends_open : (order : List Entry) (parts : List Part)
     → elim (reverse order) [ [] ↦ None | entry ∷ entries ↦ open_parts entry.object ] ≡ Some parts → EndsOpen order parts
 ends_open order parts e = go (reverse order) refl e
   where

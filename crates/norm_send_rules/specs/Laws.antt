@@ -11,6 +11,7 @@ use Rattle.norm_send_rules.specs.Streaming.{cut}
 use Rattle.norm_send_rules.specs.Marking.{is_no_quorum}
 use Rattle.norm_send_rules.specs.Commanding.{commanded}
 use Rattle.norm_send_rules.specs.Closing.{round_closed}
+use Rattle.norm_send_rules.specs.Sending.{next_new, behind}
 use Rattle.norm_send_rules.specs.SenderStep.{SenderEvent, sender_step}
 use Rattle.norm_send_rules.specs.declared.fault.SendFault.{SendFault}
 use Rattle.norm_send_rules.specs.declared.job.Job.{Job}
@@ -65,3 +66,10 @@ pub record WantsHold (p : Settings) (s : SenderState) : Type 0 where
 pub record WantLaws : Type 0 where
   pub at_first : (p : Settings) (instance : ℕ) → WantsHold p (sender_opening p instance)
   pub always : (p : Settings) (s : SenderState) (event : SenderEvent) → InRange p → WantsHold p s → WantsHold p (sender_step p s event).0
+
+-- What is sent next by itself is an info or an encoded symbol of the order that was not dropped, and stands behind the last
+-- one: so each is new once.
+pub record NewLaws : Type 0 where
+  pub of_order : (p : Settings) (s : SenderState) (w : Want) → InRange p → next_new p s ≡ Some w → is_of_order (current_shapes p s) w ≡ true
+  pub in_window : (p : Settings) (s : SenderState) (w : Want) → next_new p s ≡ Some w → stands_behind s.current.drop w ≡ true
+  pub rises : (p : Settings) (s : SenderState) (last w : Want) → s.next ≡ behind last → next_new p s ≡ Some w → want_before last w ≡ true

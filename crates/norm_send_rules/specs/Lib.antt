@@ -21,3 +21,4 @@ pub mod Ticking
 pub mod Telling
 pub mod SenderStep
 pub mod Laws
+pub mod Reached

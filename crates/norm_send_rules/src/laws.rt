@@ -1,6 +1,7 @@
 //! What is promised of the sender's rules. Each law is the contract of a function that does nothing.
 
-ghost use Rattle.norm_send_rules.specs.Laws.{RefusedLeaves, ClosingLaws, WantLaws};
+ghost use Rattle.norm_send_rules.specs.Laws.{RefusedLeaves, ClosingLaws, WantLaws, NewLaws};
+ghost use Rattle.norm_send_rules.specs.Reached.{ReachedLaws};
 
 /// A refused command leaves the state but for the cut of the open stream, which a refused mark makes too.
 #[tactic(auto, using(crate::proofs::RefusedLemmas::refused_leaves))]
@@ -18,4 +19,17 @@ pub fn closings()
 #[tactic(auto, using(crate::proofs::StepLemmas::want_laws))]
 pub fn wants()
     ensures { WantLaws }
+{}
+
+/// What holds of every state that a sender comes to: its wants are of its window, its objects fit the profile, watermarks are
+/// numbered from 1 on, and there is something to tell where it says so. Where nothing new is told, the sender is as it was.
+#[tactic(auto, using(crate::proofs::ReachedLemmas::reached_laws))]
+pub fn reached()
+    ensures { ReachedLaws }
+{}
+
+/// What is sent next by itself is an info or an encoded symbol of the order that was not dropped, and is new once.
+#[tactic(auto, using(crate::proofs::NewLemmas::new_laws))]
+pub fn what_is_new()
+    ensures { NewLaws }
 {}

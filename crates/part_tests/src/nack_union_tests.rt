@@ -36,6 +36,8 @@ enum Call {
     Gives(At),
     GivesInfo(u16),
     GivesNothing,
+    /// Whether anything is wanted.
+    IsWanted(bool),
     /// All wants are taken: so many.
     GivesAll(u32),
 }
@@ -67,7 +69,7 @@ fn range_of(flags: u8, from: At, to: At) -> [u8; 20] {
 fn add(union: &mut Union, list: &[u8]) -> bool {
     match check_requests(list, 0) {
         Ok(()) => {
-            union.add(&Profile::default(), requests_of(list));
+            union.add(requests_of(list));
             true
         }
         Err(_) => false,
@@ -120,6 +122,7 @@ fn does(union: &mut Union, call: Call) -> bool {
             next(union) == Some(Want::Info { index })
         }
         Call::GivesNothing => next(union).is_none(),
+        Call::IsWanted(answer) => union.is_wanted() == answer,
         Call::GivesAll(count) => take_all(union) == count,
     }
 }
@@ -134,10 +137,10 @@ fn play(rt: &impl Abort, mut union: Union, calls: &[Call]) {
 
 /// A union with an object of 1,000 octets in blocks of 6, 5 and 5 source symbols, with 2, 1 and 1 of parity, and with info.
 fn three_blocks(rt: &impl Abort, alloc: Global) -> Union
-    ensures first { result.first ≡ 0 }
-    ensures objects { result.objects ≡ admitted (cut_of 1000 64 6 8) true ∷ [] }
+    ensures first { result.kept.first ≡ 0 }
+    ensures objects { result.kept.objects ≡ admitted (cut_of 1000 64 6 8) true ∷ [] }
 {
-    let mut union = Union::new(alloc);
+    let mut union = Union::new(alloc, &Profile::default());
     let plan = Plan::of(1000, 64, 6, 8).expect(rt, "a plan");
     match union.admit(0, &plan, true) {
         Ok(()) => union,
@@ -186,10 +189,10 @@ fn what_is_named_is_wanted_once_and_in_order(rt: HostRuntime) {
 
 /// A union with an object of one block, of 4 source and 2 parity symbols, without info.
 fn one_block(rt: &impl Abort, alloc: Global) -> Union
-    ensures first { result.first ≡ 0 }
-    ensures objects { result.objects ≡ admitted (cut_of 256 64 4 6) false ∷ [] }
+    ensures first { result.kept.first ≡ 0 }
+    ensures objects { result.kept.objects ≡ admitted (cut_of 256 64 4 6) false ∷ [] }
 {
-    let mut union = Union::new(alloc);
+    let mut union = Union::new(alloc, &Profile::default());
     let plan = Plan::of(256, 64, 4, 6).expect(rt, "a plan");
     match union.admit(0, &plan, false) {
         Ok(()) => union,
@@ -271,7 +274,7 @@ fn what_was_sent_is_not_fresh(rt: HostRuntime) {
 /// A union whose first object was dropped, and whether that took a want.
 fn dropped(rt: &impl Abort, alloc: Global) -> (Union, bool) {
     let mut union = three_blocks(rt, alloc);
-    let took = union.retire(1);
+    let took = union.retire(1, 0);
     (union, took)
 }
 
@@ -306,9 +309,10 @@ fn cleared(rt: &impl Abort, alloc: Global) -> Union {
 }
 
 /// Nothing is in the window.
-const EMPTY: [Call; 3] = [
+const EMPTY: [Call; 4] = [
     Call::Item(WANT_SEGMENT, (0, 0, 0)),
     Call::Closes(0, false),
+    Call::IsWanted(false),
     Call::GivesNothing,
 ];
 
@@ -321,7 +325,7 @@ fn nothing_of_an_empty_window_is_wanted(rt: HostRuntime) {
 
 /// A union with an object of 16 MiB in symbols of 64 octets, each block one source symbol of 255 encoded ones.
 fn largest(rt: &impl Abort, alloc: Global) -> Union {
-    let mut union = Union::new(alloc);
+    let mut union = Union::new(alloc, &Profile::default());
     let plan = Plan::of(16_777_216, 64, 1, 255).expect(rt, "a plan");
     match union.admit(0, &plan, false) {
         Ok(()) => union,
@@ -330,9 +334,11 @@ fn largest(rt: &impl Abort, alloc: Global) -> Union {
 }
 
 /// Its last symbol.
-const LAST: [Call; 4] = [
+const LAST: [Call; 6] = [
     Call::Item(WANT_SEGMENT, (0, 262_143, 254)),
+    Call::IsWanted(false),
     Call::Closes(1, false),
+    Call::IsWanted(true),
     Call::Gives((0, 262_143, 254)),
     Call::GivesNothing,
 ];

@@ -2,12 +2,12 @@
 
 use fec_plan::Position;
 use norm_base::{Datagram, Given, Key, Kind, Memory, Mode, Octets, Profile};
-use norm_send_rules::EnqueueFault;
+use norm_send_rules::{EnqueueFault, Want};
 use std::alloc::Global;
 use std::marker::Model;
 use std::process::Abort;
 use std::test::Fail;
-use tx_window::Window;
+use tx_window::{About, Window};
 
 /// A window that stands for some state of a sender, so that what it answers can be noted as sent.
 #[derive(Drop)]
@@ -17,10 +17,10 @@ struct Standing {
 }
 
 impl Model for Standing {
-    ghost use Rattle.tx_window.specs.Windowed.{Windowed};
+    ghost use Rattle.tx_window.specs.WindowState.{WindowState};
     ghost use Rattle.tx_window.specs.Standing.{IsStanding};
 
-    ghost Value = { Windowed };
+    ghost Value = { WindowState };
 
     ghost view = { λ s. s.window };
 
@@ -79,6 +79,29 @@ impl Standing {
         self.window.first()
     }
 
+    fn about(&self, index: u32) -> Option<About> {
+        self.window.about(index)
+    }
+
+    fn blocks(&self, index: u32) -> Option<u32> {
+        match self.window.plan(index) {
+            Some(plan) => Some(plan.blocks()),
+            None => None,
+        }
+    }
+
+    fn next_new(&self, from: Want) -> Option<Want> {
+        self.window.next_new(from)
+    }
+
+    fn object_fault(&self, info: usize, len: u64) -> Option<EnqueueFault> {
+        self.window.object_fault(info, len)
+    }
+
+    fn clear(&mut self) {
+        self.window.clear();
+    }
+
     fn end(&self) -> Option<Position> {
         self.window.end()
     }
@@ -110,6 +133,30 @@ enum Step {
     IsSource(At, bool),
     First(u32),
     End(Option<At>),
+    /// The length and the flags that messages say of an object, and its blocks.
+    About(u32, Option<(u64, u8, u32)>),
+    /// What is new next from an object's info on, or from a symbol on.
+    NextFrom(u32, Option<Next>),
+    NextAt(At, Option<Next>),
+    /// The fault of an offer that is not made.
+    Fault(usize, u64, Option<EnqueueFault>),
+    Clear,
+    /// So many objects of one octet are taken in and sent, one after the other.
+    Many(u32),
+}
+
+/// What is new next: an info, or a symbol.
+#[derive(Clone, Copy)]
+enum Next {
+    InfoOf(u32),
+    SymbolAt(At),
+}
+
+fn want_of(next: Next) -> Want {
+    match next {
+        Next::InfoOf(index) => Want::Info { index },
+        Next::SymbolAt(at) => Want::Symbol { at: position(at) },
+    }
 }
 
 /// The octets of an object: 1 in all of its first symbol, 2 in the next, and so on up to 128, and again.
@@ -170,6 +217,25 @@ fn send_all(alloc: Global, window: &mut Standing, index: u32) -> Result<(), Memo
     Ok(())
 }
 
+/// The length, the flags and the blocks of an object.
+fn says(window: &Standing, index: u32) -> Option<(u64, u8, u32)> {
+    match (window.about(index), window.blocks(index)) {
+        (Some(about), Some(blocks)) => Some((about.fti.l, about.flags, blocks)),
+        _ => None,
+    }
+}
+
+/// Takes in objects of one octet, and sends each.
+fn send_many(alloc: Global, window: &mut Standing, count: u32) -> Result<(), Memory> {
+    let mut out = Datagram::new(alloc)?;
+    for _ in 0..count {
+        if let Ok(index) = offer(alloc, window, (0, 1))? {
+            window.send(position((index, 0, 0)), &mut out);
+        }
+    }
+    Ok(())
+}
+
 /// Makes a call, and says whether it was answered so.
 fn does(alloc: Global, window: &mut Standing, step: Step) -> Result<bool, Memory> {
     match step {
@@ -187,6 +253,22 @@ fn does(alloc: Global, window: &mut Standing, step: Step) -> Result<bool, Memory
         Step::IsSource(at, answer) => Ok(window.is_source(position(at)) == answer),
         Step::First(index) => Ok(window.first() == (index, 0)),
         Step::End(at) => Ok(window.end() == at.map(position)),
+        Step::About(index, answer) => Ok(says(window, index) == answer),
+        Step::NextFrom(index, answer) => {
+            Ok(window.next_new(Want::Info { index }) == answer.map(want_of))
+        }
+        Step::NextAt(at, answer) => {
+            Ok(window.next_new(want_of(Next::SymbolAt(at))) == answer.map(want_of))
+        }
+        Step::Fault(info, len, answer) => Ok(window.object_fault(info, len) == answer),
+        Step::Clear => {
+            window.clear();
+            Ok(true)
+        }
+        Step::Many(count) => {
+            send_many(alloc, window, count)?;
+            Ok(true)
+        }
     }
 }
 
@@ -405,6 +487,70 @@ fn a_third_file_goes_round_the_end_of_the_ring(rt: HostRuntime) -> Result<(), Fa
         (2, 2_097_152),
         &steps,
     )?;
+    Ok(())
+}
+
+/// What messages say of objects, and what is new next: infos and symbols in order, one of parity behind each block's sources.
+const NEXT: [Step; 17] = [
+    Step::About(0, None),
+    Step::NextFrom(0, None),
+    Step::Enqueue(3, 257, Ok(0)),
+    Step::Enqueue(0, 64, Ok(1)),
+    Step::About(0, Some((257, 20, 2))),
+    Step::About(1, Some((64, 16, 1))),
+    Step::About(2, None),
+    Step::NextFrom(0, Some(Next::InfoOf(0))),
+    Step::NextAt((0, 0, 0), Some(Next::SymbolAt((0, 0, 0)))),
+    Step::NextAt((0, 0, 3), Some(Next::SymbolAt((0, 1, 0)))),
+    Step::NextAt((0, 1, 1), Some(Next::SymbolAt((0, 1, 1)))),
+    Step::NextAt((0, 1, 2), Some(Next::SymbolAt((1, 0, 0)))),
+    Step::NextFrom(1, Some(Next::SymbolAt((1, 0, 0)))),
+    Step::NextAt((1, 0, 1), None),
+    Step::Fault(65, 0, Some(EnqueueFault::Empty)),
+    Step::Fault(0, 64, Some(EnqueueFault::WindowFull { first: 0 })),
+    Step::First(0),
+];
+
+#[test]
+fn what_is_new_comes_in_order(rt: HostRuntime) -> Result<(), Fail> {
+    let steps = NEXT;
+    play(&rt, rt.alloc(), Mode::Hold, (64, 4, 6), (2, 321), &steps)?;
+    Ok(())
+}
+
+/// A restart: nothing is there, and the next object has index 0.
+const RESTART: [Step; 9] = [
+    Step::Enqueue(0, 128, Ok(0)),
+    Step::SendAll(0),
+    Step::Clear,
+    Step::End(None),
+    Step::IsSource((0, 0, 0), false),
+    Step::Fault(0, 128, None),
+    Step::Enqueue(0, 128, Ok(0)),
+    Step::Fault(0, 1, Some(EnqueueFault::WindowFull { first: 0 })),
+    Step::Send((0, 0, 1), Some((64, 2))),
+];
+
+#[test]
+fn a_restart_leaves_nothing(rt: HostRuntime) -> Result<(), Fail> {
+    let steps = RESTART;
+    play(&rt, rt.alloc(), Mode::Drop, (64, 4, 6), (1, 128), &steps)?;
+    Ok(())
+}
+
+/// The extents of the last 32,769 objects are kept.
+const LONG: [Step; 5] = [
+    Step::Many(70_000),
+    Step::First(69_999),
+    Step::IsSource((37_231, 0, 0), true),
+    Step::IsSource((69_999, 0, 0), true),
+    Step::End(Some((69_999, 0, 0))),
+];
+
+#[test]
+fn an_instance_may_be_long(rt: HostRuntime) -> Result<(), Fail> {
+    let steps = LONG;
+    play(&rt, rt.alloc(), Mode::Drop, (64, 4, 6), (1, 65_536), &steps)?;
     Ok(())
 }
 

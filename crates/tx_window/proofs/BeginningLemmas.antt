@@ -9,9 +9,10 @@ use Rattle.std.proofs.Math.Nat.{mul-mod_left}
 use Rattle.norm_base.specs.Settings.{Settings}
 use Rattle.norm_base.specs.declared.kinds.Kind.{Kind}
 use Rattle.fec_plan.specs.Partition.{Cut, IsSound, cut_of, all_symbols}
+use Rattle.norm_send_rules.specs.Enqueuing.{info_length}
 use Rattle.tx_window.specs.Held.{HeldObject, octets_of, begun_at}
 use Rattle.tx_window.specs.Round.{IsAround}
-use Rattle.tx_window.specs.Sound.{IsPlaced, IsFilling, IsRow, LieInRow, taken_by, all_octets}
+use Rattle.tx_window.specs.WindowSound.{IsPlaced, IsFilling, IsRow, LieInRow, taken_by, all_octets}
 use Rattle.tx_window.proofs.WindowLemmas.{slice_get-drop}
 use Rattle.tx_window.proofs.SourcesLemmas.{get_front, get_back}
 use Rattle.tx_window.proofs.RowLemmas.{IsCutBy, AreCutBy, RowFrom, all_taken, taken_append, taken_cons, octets_append, octets_cons, all_fit, row_more, row_last, row_dropped, symbols_taken}
@@ -88,8 +89,8 @@ row_begun ring p hs n h free next some long row cut one at fit few after =
 -- the object that was begun
 pub filling_begun : (ring : List ℕ) (p : Settings) (hs : List HeldObject) (h : HeldObject) (kind : Kind) (info : Option (List ℕ)) (len free : ℕ)
     → length ring ≡ (p.octets / p.e + p.window) * p.e → IsRow ring p hs free → IsSound h.cut → 1 ≤ p.window
-    → h ≡ begun_at (cut_of len p.e p.b p.max_n) kind info free → 1 ≤ len → len ≤ p.octets → len ≤ 16777216 → IsFilling ring p 0 h
-filling_begun ring p hs h kind info len free long row sound window is least most small =
+    → h ≡ begun_at (cut_of len p.e p.b p.max_n) kind info free → 1 ≤ len → len ≤ p.octets → len ≤ 16777216 → info_length info ≤ p.e → IsFilling ring p 0 h
+filling_begun ring p hs h kind info len free long row sound window is least most small short =
     let cut : h.cut ≡ cut_of len p.e p.b p.max_n = ap (λ (k : HeldObject). k.cut) is in
     let e-is : h.cut.e ≡ p.e = ap (λ (k : Cut). k.e) cut in
     let some : 0 < p.e = omega (arith, e-is, sound.least_e) in
@@ -109,6 +110,7 @@ filling_begun ring p hs h kind info len free long row sound window is least most
       cut = one;
       some = omega (arith, octets);
       most = omega (arith, octets, small);
+      short = subst (λ (i : Option (List ℕ)). info_length i ≤ p.e) (sym (ap (λ (k : HeldObject). k.info) is)) short;
       fresh = is ∙ (sym (again is));
       within = omega arith;
     }
@@ -153,3 +155,7 @@ sized_more [] l sized one zero k e = subst (λ n. (1 ≤ n) × (n ≤ 16777216))
 sized_more [] l sized one (suc i) k e = absurd (cc)
 sized_more (x ∷ xs) l sized one zero k e = sized 0 k e
 sized_more (x ∷ xs) l sized one (suc i) k e = sized_more xs l (λ j m f. sized (suc j) m f) one i k e
+
+pub sized_behind : (n : ℕ) (ls : List ℕ) → ((i k : ℕ) → slice_get ls i ≡ Some k → (1 ≤ k) × (k ≤ 16777216))
+    → (i k : ℕ) → slice_get (drop n ls) i ≡ Some k → (1 ≤ k) × (k ≤ 16777216)
+sized_behind n ls sized i k e = sized (n + i) k (sym (slice_get-drop n ls i) ∙ e)

@@ -1,7 +1,8 @@
 -- Why one more object is refused: the first fault that applies.
-use Rattle.std.proofs.Common.{◌≡◌, ℕ, Bool, true, false, refl, sym, ap, ◌∙◌, Option, Some, None, List, [], ◌∷◌, ◌++◌, length, map, ◌==◌}
+use Rattle.std.proofs.Common.{◌≡◌, ℕ, ◌<◌, ◌≤◌, ◌⊎◌, inl, inr, arith, take, drop, Bool, true, false, refl, sym, ap, ◌∙◌, Option, Some, None, List, [], ◌∷◌, ◌++◌, length, map, ◌==◌}
 use Rattle.std.specs.Prelude.{nat_lt, not, reverse, is_some}
-use Rattle.std.proofs.lemmas.List.{reverse-append, map-append}
+use Rattle.std.proofs.lemmas.Bool.{cases_lt}
+use Rattle.std.proofs.lemmas.List.{reverse-append, map-append, length-drop, length-reverse, take-append-drop}
 use Rattle.norm_base.specs.Settings.{Settings}
 use Rattle.norm_order.specs.First.{first_where}
 use Rattle.norm_order.specs.Entries.{Part, Object, Whole, Stream, Entry}
@@ -13,7 +14,8 @@ use Rattle.norm_send_rules.specs.Enqueuing.{object_fault, open_stream, open_part
 use Rattle.norm_send_rules.specs.declared.fault.EnqueueFault.{EnqueueFault}
 use Rattle.norm_send_rules.specs.declared.fault.EnqueueFault.TheVariants.{Empty, TooBig, InfoTooBig, StreamOpen, IdsSpent, WindowFull}
 use Rattle.tx_window.specs.Taking.{size_fault}
-use Rattle.tx_window.specs.Windowed.{Windowed, Stands, without_info, shape_of_length}
+use Rattle.tx_window.proofs.RoomLemmas.{map_drop}
+use Rattle.tx_window.specs.WindowState.{WindowState, Stands, without_info, shape_of_length}
 
 -- the rules' table, by what each test says
 abbrev pub table : ℕ → ℕ → ℕ → ℕ → Bool → Bool → Bool → Bool → Bool → Bool → Option EnqueueFault
@@ -40,9 +42,20 @@ map_reverse f [] = refl
 map_reverse f (x ∷ xs) =
     ap (map f) (reverse-append (x ∷ []) xs) ∙ map-append f (reverse xs) (x ∷ []) ∙ ap (λ ys. ys ++ f x ∷ []) (map_reverse f xs) ∙ sym (reverse-append (f x ∷ []) (map f xs))
 
-pub none_open : (w : Windowed) (s : SenderState) → Stands w s → open_stream s ≡ None
-none_open w s stands = go (reverse s.current.order) (reverse w.lengths) refl same
+-- behind a front that leaves something the first open one is that of what is left
+open_behind : (front back : List Entry) → 0 < length back → first_open (reverse (front ++ back)) ≡ first_open (reverse back)
+open_behind front back some = ap first_open (reverse-append front back) ∙ go (reverse back) (omega (arith, length-reverse back))
   where
+    go : (xs : List Entry) → 0 < length xs → first_open (xs ++ reverse front) ≡ first_open xs
+    go [] none = absurd (omega arith)
+    go (x ∷ xs) more = refl
+
+pub none_open : (w : WindowState) (s : SenderState) → Stands w s → open_stream s ≡ None
+none_open w s stands = by (cases_lt 0 (length s.current.order))
+  where
+    left : List Entry
+    left = drop w.forgotten s.current.order
+
     shape : Entry → Shape
     shape entry = without_info (shape_of w.p entry.object)
 
@@ -50,24 +63,34 @@ none_open w s stands = go (reverse s.current.order) (reverse w.lengths) refl sam
     twice [] = refl
     twice (x ∷ xs) = ap (λ ys. shape x ∷ ys) (twice xs)
 
-    same : map shape (reverse s.current.order) ≡ map (shape_of_length w.p) (reverse w.lengths)
+    same : map shape (reverse left) ≡ map (shape_of_length w.p) (reverse w.extents)
     same =
-        map_reverse shape s.current.order
-        ∙ ap reverse (twice s.current.order ∙ stands.shapes)
-        ∙ sym (map_reverse (shape_of_length w.p) w.lengths)
+        map_reverse shape left
+        ∙ ap reverse (twice left ∙ ap (map without_info) (map_drop (λ (entry : Entry). shape_of w.p entry.object) w.forgotten s.current.order) ∙ stands.shapes)
+        ∙ sym (map_reverse (shape_of_length w.p) w.extents)
 
-    go : (es : List Entry) (ls : List ℕ) → reverse s.current.order ≡ es → map shape es ≡ map (shape_of_length w.p) ls
-        → first_open es ≡ None
-    go [] ls is e = refl
-    go (x ∷ xs) [] is e = absurd (cc)
-    go (x ∷ xs) (l ∷ ls) is e = no_stream x w.p l (head e)
+    go : (es : List Entry) (ls : List ℕ) → map shape es ≡ map (shape_of_length w.p) ls → first_open es ≡ None
+    go [] ls e = refl
+    go (x ∷ xs) [] e = absurd (cc)
+    go (x ∷ xs) (l ∷ ls) e = no_stream x w.p l (head e)
       where
         head : shape x ∷ map shape xs ≡ shape_of_length w.p l ∷ map (shape_of_length w.p) ls → shape x ≡ shape_of_length w.p l
         head f = cc
 
+    by : (0 < length s.current.order) ⊎ (length s.current.order ≤ 0) → open_stream s ≡ None
+    by (inl some) =
+        ap (λ (es : List Entry). first_open (reverse es)) (sym (take-append-drop w.forgotten s.current.order))
+        ∙ open_behind (take w.forgotten s.current.order) left (omega (arith, some, stands.kept, length-drop w.forgotten s.current.order))
+        ∙ go (reverse left) (reverse w.extents) same
+    by (inr none) = empty s.current.order none
+      where
+        empty : (es : List Entry) → length es ≤ 0 → first_open (reverse es) ≡ None
+        empty [] le = refl
+        empty (x ∷ xs) le = absurd (omega arith)
+
 -- ---- the table by its tests
 
-pub table_is : (w : Windowed) (s : SenderState) (info : Option (List ℕ)) (octets : List ℕ) (i n : ℕ) → Stands w s → info_length info ≡ i → length octets ≡ n
+pub table_is : (w : WindowState) (s : SenderState) (info : Option (List ℕ)) (octets : List ℕ) (i n : ℕ) → Stands w s → info_length info ≡ i → length octets ≡ n
     → object_fault w.p s info octets
     ≡ table n i (last_index s) s.current.drop.index (n == 0) (nat_lt w.p.octets n) (nat_lt w.p.e i) false (ids_spent s) (not (can_make_room w.p s n))
 table_is w s info octets i n stands i-is n-is =
@@ -100,7 +123,7 @@ twice true = refl
 twice false = refl
 
 -- by what was found of the sizes, and then by the two tests
-pub fault_is : (w : Windowed) (s : SenderState) (info : Option (List ℕ)) (octets : List ℕ) (i n : ℕ) (sizes : Option EnqueueFault) (spent full : Bool)
+pub fault_is : (w : WindowState) (s : SenderState) (info : Option (List ℕ)) (octets : List ℕ) (i n : ℕ) (sizes : Option EnqueueFault) (spent full : Bool)
     → Stands w s → info_length info ≡ i → length octets ≡ n → sizes ≡ size_fault w.p i n → ids_spent s ≡ spent → can_make_room w.p s n ≡ not full
     → object_fault w.p s info octets ≡ (elim sizes as (λ v. Option EnqueueFault) [
       | Some fault ↦ Some fault
@@ -115,7 +138,7 @@ fault_is w s info octets i n sizes spent full stands i-is n-is sizes-is spent-is
     ∙ ap (λ b. after sizes spent b s.current.drop.index) (twice full)
 
 -- a fault of the sizes is the first one
-pub found_is : (w : Windowed) (s : SenderState) (info : Option (List ℕ)) (octets : List ℕ) (i n : ℕ) (fault : EnqueueFault)
+pub found_is : (w : WindowState) (s : SenderState) (info : Option (List ℕ)) (octets : List ℕ) (i n : ℕ) (fault : EnqueueFault)
     → Stands w s → info_length info ≡ i → length octets ≡ n → Some fault ≡ size_fault w.p i n → object_fault w.p s info octets ≡ Some fault
 found_is w s info octets i n fault stands i-is n-is found =
     fault_is w s info octets i n (Some fault) (ids_spent s) (not (can_make_room w.p s n)) stands i-is n-is found refl (sym (twice (can_make_room w.p s n)))

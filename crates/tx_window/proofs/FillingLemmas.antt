@@ -9,7 +9,7 @@ use Rattle.fec_plan.specs.Partition.{Cut, cut_of, all_symbols, symbols_in}
 use Rattle.obj_buffer.specs.Pieces.{HoldsObject}
 use Rattle.tx_window.specs.Held.{HeldObject, octets_of, octets_in, LiesIn}
 use Rattle.tx_window.specs.Round.{round, IsAround, IsClear}
-use Rattle.tx_window.specs.Sound.{IsPlaced, IsFilling, IsRow, LieInRow, window_object, taken_by}
+use Rattle.tx_window.specs.WindowSound.{IsPlaced, IsFilling, IsRow, LieInRow, window_object, taken_by}
 use Rattle.tx_window.proofs.RoundLemmas.{first_lap, second_lap, length-round}
 use Rattle.tx_window.proofs.RowLemmas.{AreCutBy, all_fit, taken_append, taken_cons, clear_behind, row_clear}
 
@@ -103,6 +103,8 @@ placed_kept ring new p h size same placed = record {
   lies = lies_kept ring new h size placed.lies;
   sound = placed.sound;
   holds = subst (λ (xs : List ℕ). HoldsObject h.cut xs p (take (octets_of h.cut) xs)) (sym same) placed.holds;
+  most = placed.most;
+  short = placed.short;
 }
 
 pub row_kept : (ring new : List ℕ) (p : Settings) (hs : List HeldObject) (next : ℕ) → length new ≡ length ring → IsRow ring p hs next → IsRow new p hs next
@@ -123,6 +125,7 @@ filling_kept ring new p count more h size le filling = record {
   cut = filling.cut;
   some = filling.some;
   most = filling.most;
+  short = filling.short;
   fresh = filling.fresh;
   within = le;
 }
@@ -148,6 +151,8 @@ whole_placed new octets p count pad h filling long taken is =
         cut = cut;
         padded = is ∙ ap (λ n. octets ++ replicate n 0) padding;
       });
+      most = filling.most;
+      short = filling.short;
     }
 
 pub put_zeros : (ring new : List ℕ) (start k at pad : ℕ) → length new ≡ length ring → IsAround (length ring) (start + k) at → round new at pad ≡ replicate pad 0

@@ -16,11 +16,11 @@ use Rattle.norm_send_rules.specs.SenderState.{SenderState}
 use Rattle.norm_send_rules.specs.Room.{window, size_of, may_go, all_sent, is_released}
 use Rattle.tx_window.specs.Held.{HeldObject, octets_of}
 use Rattle.tx_window.proofs.RoomLemmas.{AreSizes}
-use Rattle.tx_window.specs.Windowed.{Windowed, WindowObject, Stands}
-use Rattle.tx_window.specs.Sound.{IsPlaced, window_object, object_in}
+use Rattle.tx_window.specs.WindowState.{WindowState, WindowObject, Stands}
+use Rattle.tx_window.specs.WindowSound.{IsPlaced, window_object, object_in}
 
 -- the entry at a place of the window is the object there
-pub entry_is : (w : Windowed) (s : SenderState) (n : ℕ) (entry : Entry) (o : WindowObject) → Stands w s → slice_get (window s) n ≡ Some entry
+pub entry_is : (w : WindowState) (s : SenderState) (n : ℕ) (entry : Entry) (o : WindowObject) → Stands w s → slice_get (window s) n ≡ Some entry
     → slice_get w.objects n ≡ Some o → entry.object ≡ o.object
 entry_is w s n entry o stands found there =
     by (sym (slice_get-map (λ (x : Entry). x.object) (window s) n ∙ ap (option_map (λ (x : Entry). x.object)) found)
@@ -32,36 +32,36 @@ entry_is w s n entry o stands found there =
     by e = cc
 
 -- what a mode asks for of the last position, by what the window knows
-abbrev pub asked_of : Windowed → Position → Bool
+abbrev pub asked_of : WindowState → Position → Bool
 asked_of w last = elim w.p.mode [ Hold ↦ reached_by w.past last | Drop ↦ true ]
 
-released : (w : Windowed) (s : SenderState) (last : Position) → Stands w s → is_released w.p s (Some last) ≡ asked_of w last
+released : (w : WindowState) (s : SenderState) (last : Position) → Stands w s → is_released w.p s (Some last) ≡ asked_of w last
 released w s last stands = ap (λ b. elim w.p.mode as (λ v. Bool) [ Hold ↦ b | Drop ↦ true ]) (stands.past last)
 
-sent_is : (w : Windowed) (s : SenderState) (n : ℕ) (o : WindowObject) → Stands w s → slice_get w.objects n ≡ Some o
-    → all_sent s (sources_in (w.dropped + n) (shape_of w.p o.object)) ≡ list_all (λ b. b) o.sent
+sent_is : (w : WindowState) (s : SenderState) (n : ℕ) (o : WindowObject) → Stands w s → slice_get w.objects n ≡ Some o
+    → all_sent s (sources_in (w.drop.index + n) (shape_of w.p o.object)) ≡ list_all (λ b. b) o.sent
 sent_is w s n o stands there =
-    sym (list_all-map (λ b. b) (λ at. is_member position_before at s.sent) (sources_in (w.dropped + n) (shape_of w.p o.object)))
+    sym (list_all-map (λ b. b) (λ at. is_member position_before at s.sent) (sources_in (w.drop.index + n) (shape_of w.p o.object)))
     ∙ ap (list_all (λ b. b)) (sym (stands.sent n o there).symbols)
 
 not_some : (info : Option (List ℕ)) → not (is_some info) ≡ is_none info
 not_some None = refl
 not_some (Some octets) = refl
 
-pub may_is : (w : Windowed) (s : SenderState) (ring : List ℕ) (n : ℕ) (entry : Entry) (h : HeldObject) (last : Position) → Stands w s
+pub may_is : (w : WindowState) (s : SenderState) (ring : List ℕ) (n : ℕ) (entry : Entry) (h : HeldObject) (last : Position) → Stands w s
     → slice_get (window s) n ≡ Some entry → slice_get w.objects n ≡ Some (window_object ring h) → IsPlaced ring w.p h
-    → ((info : Bool) → last_in (w.dropped + n) (record { cut = h.cut; closed = all_symbols h.cut; info = info }) ≡ Some last)
-    → may_go w.p s (w.dropped + n) (shape_of w.p entry.object) ≡ ((list_all (λ b. b) h.sent && (is_none h.info || h.info_sent)) && asked_of w last)
+    → ((info : Bool) → last_in (w.drop.index + n) (record { cut = h.cut; closed = all_symbols h.cut; info = info }) ≡ Some last)
+    → may_go w.p s (w.drop.index + n) (shape_of w.p entry.object) ≡ ((list_all (λ b. b) h.sent && (is_none h.info || h.info_sent)) && asked_of w last)
 may_is w s ring n entry h last stands found there placed last-is =
-    ap (λ (x : Object). may_go w.p s (w.dropped + n) (shape_of w.p x)) (entry_is w s n entry (window_object ring h) stands found there)
-    ∙ ap (λ b. (b && (not (is_some h.info) || is_member nat_lt (w.dropped + n) s.sent_infos)) && is_released w.p s (last_in (w.dropped + n) (shape_of w.p (object_in ring h))))
+    ap (λ (x : Object). may_go w.p s (w.drop.index + n) (shape_of w.p x)) (entry_is w s n entry (window_object ring h) stands found there)
+    ∙ ap (λ b. (b && (not (is_some h.info) || is_member nat_lt (w.drop.index + n) s.sent_infos)) && is_released w.p s (last_in (w.drop.index + n) (shape_of w.p (object_in ring h))))
     (sent_is w s n (window_object ring h) stands there)
-    ∙ ap (λ b. (list_all (λ x. x) h.sent && (b || is_member nat_lt (w.dropped + n) s.sent_infos)) && is_released w.p s (last_in (w.dropped + n) (shape_of w.p (object_in ring h))))
+    ∙ ap (λ b. (list_all (λ x. x) h.sent && (b || is_member nat_lt (w.drop.index + n) s.sent_infos)) && is_released w.p s (last_in (w.drop.index + n) (shape_of w.p (object_in ring h))))
     (not_some h.info)
-    ∙ ap (λ b. (list_all (λ x. x) h.sent && (is_none h.info || b)) && is_released w.p s (last_in (w.dropped + n) (shape_of w.p (object_in ring h))))
+    ∙ ap (λ b. (list_all (λ x. x) h.sent && (is_none h.info || b)) && is_released w.p s (last_in (w.drop.index + n) (shape_of w.p (object_in ring h))))
     (sym (stands.sent n (window_object ring h) there).info)
     ∙ ap (λ (at : Option Position). (list_all (λ x. x) h.sent && (is_none h.info || h.info_sent)) && is_released w.p s at)
-    (ap (λ (k : Cut). last_in (w.dropped + n) (record { cut = k; closed = all_symbols k; info = is_some h.info })) (sym placed.holds.cut) ∙ last-is (is_some h.info))
+    (ap (λ (k : Cut). last_in (w.drop.index + n) (record { cut = k; closed = all_symbols k; info = is_some h.info })) (sym placed.holds.cut) ∙ last-is (is_some h.info))
     ∙ ap (λ b. (list_all (λ x. x) h.sent && (is_none h.info || h.info_sent)) && b) (released w s last stands)
 
 pub both_sent : (a b c : Bool) → (b && a) ≡ true → ((a && b) && c) ≡ c
@@ -88,11 +88,11 @@ sizes_of ring p (h ∷ hs) placed =
     ap (λ n. n ∷ map (λ (x : WindowObject). size_of p x.object) (map (window_object ring) hs)) (placed_long ring p h (placed 0 h refl))
     ∙ ap (λ ns. octets_of h.cut ∷ ns) (sizes_of ring p hs (λ i k e. placed (suc i) k e))
 
-pub sizes_held : (w : Windowed) (s : SenderState) (ring : List ℕ) (hs : List HeldObject) → w.objects ≡ map (window_object ring) hs
+pub sizes_held : (w : WindowState) (s : SenderState) (ring : List ℕ) (hs : List HeldObject) → w.objects ≡ map (window_object ring) hs
     → ((i : ℕ) (h : HeldObject) → slice_get hs i ≡ Some h → IsPlaced ring w.p h) → Stands w s → AreSizes w.p (window s) hs
 sizes_held w s ring hs are placed stands =
     ap (λ (d : Point). map (λ (x : Entry). size_of w.p x.object) (drop d.index s.current.order)) stands.dropped
-    ∙ twice (drop w.dropped s.current.order)
+    ∙ twice (drop w.drop.index s.current.order)
     ∙ ap (map (size_of w.p)) stands.objects
     ∙ sym (thrice w.objects)
     ∙ ap (map (λ (x : WindowObject). size_of w.p x.object)) are

@@ -13,3 +13,6 @@ pub mod WindowLemmas
 pub mod NotingLemmas
 pub mod SentLemmas
 pub mod StandingLemmas
+pub mod AboutLemmas
+pub mod NextLemmas
+pub mod NewLemmas

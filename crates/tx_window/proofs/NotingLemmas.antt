@@ -1,5 +1,5 @@
 -- A window one of whose objects is marked as sent.
-use Rattle.std.proofs.Common.{◌≡◌, ℕ, zero, suc, ◌+◌, ◌*◌, ◌<◌, ◌⊎◌, inl, inr, true, refl, sym, ap, ◌∙◌, subst, arith, Some, List, [], ◌∷◌, ◌++◌, length, length-append, map, get_or}
+use Rattle.std.proofs.Common.{◌≡◌, ℕ, zero, suc, ◌+◌, ◌*◌, ◌<◌, ◌≤◌, ◌⊎◌, inl, inr, true, refl, sym, ap, ◌∙◌, subst, arith, Some, Option, List, [], ◌∷◌, ◌++◌, length, length-append, map, get_or}
 use Rattle.std.specs.Prelude.{nat_lt, slice_get, sum}
 use Rattle.std.proofs.Math.ListN.{set}
 use Rattle.std.proofs.lemmas.List.{length-set}
@@ -10,9 +10,10 @@ use Rattle.norm_order.specs.Sets.{with_member, is_member}
 use Rattle.norm_send_rules.specs.InWindow.{next_index}
 use Rattle.norm_base.specs.Settings.{Settings}
 use Rattle.norm_send_rules.specs.SenderState.{SenderState}
+use Rattle.norm_send_rules.specs.Enqueuing.{info_length}
 use Rattle.tx_window.specs.Held.{HeldObject, octets_of, begun_at}
-use Rattle.tx_window.specs.Windowed.{WindowObject, Windowed, Stands, KnowsSent}
-use Rattle.tx_window.specs.Sound.{IsPlaced, all_octets, IsRow, LieInRow, taken_by}
+use Rattle.tx_window.specs.WindowState.{WindowObject, WindowState, Stands, KnowsSent, reads}
+use Rattle.tx_window.specs.WindowSound.{IsPlaced, all_octets, IsRow, LieInRow, taken_by}
 use Rattle.tx_window.proofs.RowLemmas.{octets_append}
 use Rattle.norm_order.proofs.SetLemmas.{self_in, others_in, numbers}
 use Rattle.tx_window.specs.Round.{IsAround}
@@ -53,17 +54,19 @@ maps_set f (x ∷ xs) (suc i) v = ap (λ ys. f x ∷ ys) (maps_set f xs i v)
 abbrev pub with_marks : List Position → List ℕ → SenderState → SenderState
 with_marks symbols infos s = record s { sent = symbols; sent_infos = infos }
 
-pub stands_marked : (w : Windowed) (s : SenderState) (symbols : List Position) (infos : List ℕ) (i : ℕ) (o v : WindowObject)
+pub stands_marked : (w : WindowState) (s : SenderState) (symbols : List Position) (infos : List ℕ) (i : ℕ) (o v : WindowObject)
     → slice_get w.objects i ≡ Some o → v.object ≡ o.object
-    → KnowsSent (with_marks symbols infos s) (w.dropped + i) w.p v
-    → ((n : ℕ) (x : WindowObject) → (n ≡ i → ⊥) → KnowsSent s (w.dropped + n) w.p x → KnowsSent (with_marks symbols infos s) (w.dropped + n) w.p x)
+    → KnowsSent (reads (with_marks symbols infos s)) (w.drop.index + i) w.p v
+    → ((n : ℕ) (x : WindowObject) → (n ≡ i → ⊥) → KnowsSent (reads s) (w.drop.index + n) w.p x → KnowsSent (reads (with_marks symbols infos s)) (w.drop.index + n) w.p x)
     → ((at : Position) → is_member position_before at symbols ≡ true → at.index < next_index s)
     → ((index : ℕ) → is_member nat_lt index infos ≡ true → index < next_index s)
     → Stands w s → Stands (record w { objects = set w.objects i v }) (with_marks symbols infos s)
 stands_marked w s symbols infos i o v found same here others sent_before infos_before stands = record {
   dropped = stands.dropped;
+  whole = stands.whole;
   objects = stands.objects ∙ sym (map_set_same (λ (x : WindowObject). x.object) w.objects i o v found same);
-  next = stands.next ∙ ap (λ n. w.dropped + n) (sym (length-set w.objects i v));
+  next = stands.next ∙ ap (λ n. w.drop.index + n) (sym (length-set w.objects i v));
+  kept = stands.kept;
   shapes = stands.shapes;
   last = stands.last;
   sent = λ n x e. known n x (set_get w.objects i n v x e);
@@ -72,10 +75,10 @@ stands_marked w s symbols infos i o v found same here others sent_before infos_b
   infos_before = infos_before;
 }
   where
-    known : (n : ℕ) (x : WindowObject) → ((n ≡ i) × (x ≡ v)) ⊎ ((n ≡ i → ⊥) × (slice_get w.objects n ≡ Some x)) → KnowsSent (with_marks symbols infos s) (w.dropped + n) w.p x
+    known : (n : ℕ) (x : WindowObject) → ((n ≡ i) × (x ≡ v)) ⊎ ((n ≡ i → ⊥) × (slice_get w.objects n ≡ Some x)) → KnowsSent (reads (with_marks symbols infos s)) (w.drop.index + n) w.p x
     known n x (inl is) =
-        subst (λ (m : ℕ). KnowsSent (with_marks symbols infos s) (w.dropped + m) w.p x) (sym is.0)
-        (subst (KnowsSent (with_marks symbols infos s) (w.dropped + i) w.p) (sym is.1) here)
+        subst (λ (m : ℕ). KnowsSent (reads (with_marks symbols infos s)) (w.drop.index + m) w.p x) (sym is.0)
+        (subst (KnowsSent (reads (with_marks symbols infos s)) (w.drop.index + i) w.p) (sym is.1) here)
     known n x (inr other) = others n x other.0 (stands.sent n x other.1)
 
 -- ---- an object's info was sent
@@ -83,7 +86,7 @@ stands_marked w s symbols infos i o v found same here others sent_before infos_b
 abbrev pub with_info_sent : WindowObject → WindowObject
 with_info_sent o = record o { info_sent = true }
 
-pub stands_noted : (w : Windowed) (s : SenderState) (o : WindowObject) (i index : ℕ) → slice_get w.objects i ≡ Some o → index ≡ w.dropped + i → index < next_index s
+pub stands_noted : (w : WindowState) (s : SenderState) (o : WindowObject) (i index : ℕ) → slice_get w.objects i ≡ Some o → index ≡ w.drop.index + i → index < next_index s
     → Stands w s → Stands (record w { objects = set w.objects i (with_info_sent o) }) (record s { sent_infos = with_member nat_lt index s.sent_infos })
 stands_noted w s o i index found index-is before stands =
     stands_marked w s s.sent (with_member nat_lt index s.sent_infos) i o (with_info_sent o) found refl
@@ -93,7 +96,7 @@ stands_noted w s o i index found index-is before stands =
     })
     (λ n x apart known. record {
       symbols = known.symbols;
-      info = known.info ∙ sym (others_in nat_lt (w.dropped + n) index s.sent_infos numbers (λ same. apart (omega arith)));
+      info = known.info ∙ sym (others_in nat_lt (w.drop.index + n) index s.sent_infos numbers (λ same. apart (omega arith)));
     })
     stands.sent_before
     (λ q there. go q there (cases_eq q index))
@@ -111,13 +114,15 @@ stands_noted w s o i index found index-is before stands =
 
 -- ---- what the ring's objects keep
 
-pub placed_as : (ring : List ℕ) (p : Settings) (h k : HeldObject) → k.cut ≡ h.cut → k.start ≡ h.start → IsPlaced ring p h → IsPlaced ring p k
-placed_as ring p h k cut start placed =
+pub placed_as : (ring : List ℕ) (p : Settings) (h k : HeldObject) → k.cut ≡ h.cut → k.start ≡ h.start → k.info ≡ h.info → IsPlaced ring p h → IsPlaced ring p k
+placed_as ring p h k cut start info placed =
     again (subst (λ at. IsPlaced ring p (begun_at k.cut h.kind h.info at)) (sym start)
     (subst (λ c. IsPlaced ring p (begun_at c h.kind h.info h.start)) (sym cut) (record {
       lies = record { object = placed.lies.object; start = placed.lies.start; room = placed.lies.room; ring_whole = placed.lies.ring_whole; start_whole = placed.lies.start_whole };
       sound = placed.sound;
       holds = placed.holds;
+      most = placed.most;
+      short = placed.short;
     })))
   where
     again : IsPlaced ring p (begun_at k.cut h.kind h.info k.start) → IsPlaced ring p k
@@ -125,15 +130,17 @@ placed_as ring p h k cut start placed =
       lies = record { object = is.lies.object; start = is.lies.start; room = is.lies.room; ring_whole = is.lies.ring_whole; start_whole = is.lies.start_whole };
       sound = is.sound;
       holds = is.holds;
+      most = is.most;
+      short = subst (λ (i : Option (List ℕ)). info_length i ≤ p.e) (sym info) placed.short;
     }
 
-pub placed_noted : (p : Settings) (ring : List ℕ) (items : List HeldObject) (h k : HeldObject) (i : ℕ) → slice_get items i ≡ Some h → k.cut ≡ h.cut → k.start ≡ h.start
+pub placed_noted : (p : Settings) (ring : List ℕ) (items : List HeldObject) (h k : HeldObject) (i : ℕ) → slice_get items i ≡ Some h → k.cut ≡ h.cut → k.start ≡ h.start → k.info ≡ h.info
     → ((n : ℕ) (x : HeldObject) → slice_get items n ≡ Some x → IsPlaced ring p x)
     → (n : ℕ) (x : HeldObject) → slice_get (set items i k) n ≡ Some x → IsPlaced ring p x
-placed_noted p ring items h k i found cut start placed n x e = by (set_get items i n k x e)
+placed_noted p ring items h k i found cut start info placed n x e = by (set_get items i n k x e)
   where
     by : ((n ≡ i) × (x ≡ k)) ⊎ ((n ≡ i → ⊥) × (slice_get items n ≡ Some x)) → IsPlaced ring p x
-    by (inl is) = subst (IsPlaced ring p) (sym is.1) (placed_as ring p h k cut start (placed i h found))
+    by (inl is) = subst (IsPlaced ring p) (sym is.1) (placed_as ring p h k cut start info (placed i h found))
     by (inr other) = placed n x other.1
 
 -- the row is the same

@@ -11,8 +11,8 @@ use Rattle.norm_send_rules.specs.Room.{size_of, has_room, has_to_go, may_go, may
 use Rattle.tx_window.specs.Held.{HeldObject, octets_of}
 use Rattle.fec_plan.specs.Points.{Point}
 use Rattle.norm_send_rules.specs.Room.{window}
-use Rattle.tx_window.specs.Windowed.{Windowed, WindowObject, Stands}
-use Rattle.tx_window.specs.Sound.{all_octets}
+use Rattle.tx_window.specs.WindowState.{WindowState, WindowObject, Stands}
+use Rattle.tx_window.specs.WindowSound.{all_octets}
 use Rattle.tx_window.proofs.RowLemmas.{octets_cons}
 
 -- the sizes of entries are those of held objects
@@ -128,9 +128,9 @@ get_taken zero n (y ∷ ys) x lt e = absurd (omega arith)
 get_taken (suc m) zero (y ∷ ys) x lt e = e
 get_taken (suc m) (suc n) (y ∷ ys) x lt e = get_taken m n ys x (omega arith) e
 
-pub window_long : (w : Windowed) (s : SenderState) → Stands w s → length (window s) ≡ length w.objects
+pub window_long : (w : WindowState) (s : SenderState) → Stands w s → length (window s) ≡ length w.objects
 window_long w s stands =
     ap (λ (d : Point). length (drop d.index s.current.order)) stands.dropped
-    ∙ sym (length-map (drop w.dropped s.current.order) (λ (entry : Entry). entry.object))
+    ∙ sym (length-map (drop w.drop.index s.current.order) (λ (entry : Entry). entry.object))
     ∙ ap length stands.objects
     ∙ length-map w.objects (λ (o : WindowObject). o.object)

@@ -10,7 +10,7 @@ use Rattle.norm_base.specs.Settings.{Settings}
 use Rattle.fec_plan.specs.Partition.{Cut, cut_of, all_symbols}
 use Rattle.tx_window.specs.Held.{HeldObject, octets_of}
 use Rattle.tx_window.specs.Round.{IsAround, IsClear}
-use Rattle.tx_window.specs.Sound.{taken_by, all_octets, LieInRow, IsRow}
+use Rattle.tx_window.specs.WindowSound.{taken_by, all_octets, LieInRow, IsRow}
 
 -- ---- how much of the ring objects take
 

@@ -14,8 +14,8 @@ use Rattle.norm_send_rules.specs.InWindow.{next_index}
 use Rattle.norm_send_rules.specs.Sending.{noted}
 use Rattle.norm_send_rules.specs.declared.want.Want.TheVariants.{Symbol}
 use Rattle.tx_window.specs.Held.{HeldObject, octets_of, octets_in, with_sent}
-use Rattle.tx_window.specs.Windowed.{Windowed, WindowObject, Stands, KnowsSent}
-use Rattle.tx_window.specs.Sound.{IsPlaced, window_object, object_in}
+use Rattle.tx_window.specs.WindowState.{WindowState, WindowObject, Stands, KnowsSent, reads}
+use Rattle.tx_window.specs.WindowSound.{IsPlaced, window_object, object_in}
 use Rattle.tx_window.proofs.HeldLemmas.{taken, refused, encoded_none}
 use Rattle.norm_order.proofs.SetLemmas.{self_in, others_in, positions}
 use Rattle.tx_window.proofs.NotingLemmas.{with_marks, stands_marked}
@@ -47,7 +47,7 @@ abbrev after : SenderState → Position → SenderState
 after s at = with_marks (with_member position_before at s.sent) s.sent_infos s
 
 -- what was sent of the other objects is as it was
-others_known : (p : Settings) (s : SenderState) (at : Position) (index : ℕ) (x : WindowObject) → (at.index ≡ index → ⊥) → KnowsSent s index p x → KnowsSent (after s at) index p x
+others_known : (p : Settings) (s : SenderState) (at : Position) (index : ℕ) (x : WindowObject) → (at.index ≡ index → ⊥) → KnowsSent (reads s) index p x → KnowsSent (reads (after s at)) index p x
 others_known p s at index x apart known = record {
   symbols = known.symbols ∙ sym (map_same (sent_in s) (sent_with s at) (sources_in index (shape_of p x.object))
       (λ k q e. other_same s at q (λ same. apart (sym (ap (λ (y : Position). y.index) same) ∙ source_index index (shape_of p x.object) k q e))));
@@ -63,8 +63,8 @@ sent_next s at q lt before there = elim (cases_lt q.index (next_index s)) [
     far : q.index ≡ at.index → next_index s ≤ q.index → ⊥
     far e le = omega arith
 
-pub stands_sent : (w : Windowed) (s : SenderState) (ring : List ℕ) (h : HeldObject) (i : ℕ) (at : Position) → slice_get w.objects i ≡ Some (window_object ring h)
-    → IsPlaced ring w.p h → at.index ≡ w.dropped + i → at.index < next_index s → at.block < blocks h.cut → Stands w s
+pub stands_sent : (w : WindowState) (s : SenderState) (ring : List ℕ) (h : HeldObject) (i : ℕ) (at : Position) → slice_get w.objects i ≡ Some (window_object ring h)
+    → IsPlaced ring w.p h → at.index ≡ w.drop.index + i → at.index < next_index s → at.block < blocks h.cut → Stands w s
     → Stands (record w { objects = set w.objects i (window_object ring (with_sent h at.block at.symbol)) }) (noted (Symbol at) s)
 stands_sent w s ring h i at found placed index-is before block stands = go (cases_lt at.symbol (source_symbols h.cut at.block))
   where
@@ -77,33 +77,33 @@ stands_sent w s ring h i at found placed index-is before block stands = go (case
     sound : IsSound (cut_of l w.p.e w.p.b w.p.max_n)
     sound = subst IsSound cut placed.sound
 
-    known : KnowsSent s (w.dropped + i) w.p (window_object ring h)
+    known : KnowsSent (reads s) (w.drop.index + i) w.p (window_object ring h)
     known = stands.sent i (window_object ring h) found
 
-    with_object : (v : WindowObject) → v.object ≡ object_in ring h → KnowsSent (after s at) (w.dropped + i) w.p v
+    with_object : (v : WindowObject) → v.object ≡ object_in ring h → KnowsSent (reads (after s at)) (w.drop.index + i) w.p v
         → Stands (record w { objects = set w.objects i v }) (noted (Symbol at) s)
     with_object v same here =
         stands_marked w s (with_member position_before at s.sent) s.sent_infos i (window_object ring h) v found same here
-        (λ n x apart old. others_known w.p s at (w.dropped + n) x (λ e. apart (omega (arith, e, index-is))) old)
+        (λ n x apart old. others_known w.p s at (w.drop.index + n) x (λ e. apart (omega (arith, e, index-is))) old)
         (λ q there. sent_next s at q before stands.sent_before there) stands.infos_before stands
 
     source : at.symbol < source_symbols h.cut at.block
-        → slice_set h.sent (symbol_number h.cut at.block at.symbol) true ≡ map (sent_with s at) (sources_in (w.dropped + i) (shape_of w.p (object_in ring h)))
+        → slice_set h.sent (symbol_number h.cut at.block at.symbol) true ≡ map (sent_with s at) (sources_in (w.drop.index + i) (shape_of w.p (object_in ring h)))
     source lt =
         ap (λ (k : Cut). slice_set h.sent (symbol_number k at.block at.symbol) true) cut
         ∙ ap (λ bs. slice_set bs (symbol_number (cut_of l w.p.e w.p.b w.p.max_n) at.block at.symbol) true) known.symbols
-        ∙ sym (map_one (sent_in s) (sent_with s at) (sources_in (w.dropped + i) (shape_of w.p (object_in ring h))) (symbol_number (cut_of l w.p.e w.p.b w.p.max_n) at.block at.symbol) at
-        (source_found (w.dropped + i) l w.p.e w.p.b w.p.max_n (is_some h.info) at.block at.symbol sound
+        ∙ sym (map_one (sent_in s) (sent_with s at) (sources_in (w.drop.index + i) (shape_of w.p (object_in ring h))) (symbol_number (cut_of l w.p.e w.p.b w.p.max_n) at.block at.symbol) at
+        (source_found (w.drop.index + i) l w.p.e w.p.b w.p.max_n (is_some h.info) at.block at.symbol sound
         (subst (λ (k : Cut). at.block < blocks k) cut block) (subst (λ (k : Cut). at.symbol < source_symbols k at.block) cut lt)
         ∙ ap (λ n. Some (position n at.block at.symbol)) (sym index-is))
         (self_in position_before at s.sent positions)
-        (λ k q e apart. other_same s at q (λ same. apart (sym (source_at (w.dropped + i) l w.p.e w.p.b w.p.max_n (is_some h.info) k q sound e).0.1
+        (λ k q e apart. other_same s at q (λ same. apart (sym (source_at (w.drop.index + i) l w.p.e w.p.b w.p.max_n (is_some h.info) k q sound e).0.1
         ∙ ap (λ (y : Position). symbol_number (cut_of l w.p.e w.p.b w.p.max_n) y.block y.symbol) same))))
 
     parity : source_symbols h.cut at.block ≤ at.symbol
-        → h.sent ≡ map (sent_with s at) (sources_in (w.dropped + i) (shape_of w.p (object_in ring h)))
-    parity le = known.symbols ∙ sym (map_same (sent_in s) (sent_with s at) (sources_in (w.dropped + i) (shape_of w.p (object_in ring h)))
-        (λ k q e. other_same s at q (λ same. far q same (source_at (w.dropped + i) l w.p.e w.p.b w.p.max_n (is_some h.info) k q sound e).1 (ap (λ (c : Cut). source_symbols c at.block) cut) le)))
+        → h.sent ≡ map (sent_with s at) (sources_in (w.drop.index + i) (shape_of w.p (object_in ring h)))
+    parity le = known.symbols ∙ sym (map_same (sent_in s) (sent_with s at) (sources_in (w.drop.index + i) (shape_of w.p (object_in ring h)))
+        (λ k q e. other_same s at q (λ same. far q same (source_at (w.drop.index + i) l w.p.e w.p.b w.p.max_n (is_some h.info) k q sound e).1 (ap (λ (c : Cut). source_symbols c at.block) cut) le)))
       where
         far : (q : Position) → q ≡ at → q.symbol < source_symbols (cut_of l w.p.e w.p.b w.p.max_n) q.block
             → source_symbols h.cut at.block ≡ source_symbols (cut_of l w.p.e w.p.b w.p.max_n) at.block → source_symbols h.cut at.block ≤ at.symbol → ⊥
@@ -145,5 +145,12 @@ pub same_start : (h : HeldObject) (block symbol : ℕ) → (with_sent h block sy
 same_start h block symbol = go (nat_lt symbol (source_symbols h.cut block))
   where
     go : (b : Bool) → (elim b as (λ v. HeldObject) [ true ↦ record h { sent = slice_set h.sent (symbol_number h.cut block symbol) true } | false ↦ h ]).start ≡ h.start
+    go true = refl
+    go false = refl
+
+pub same_info : (h : HeldObject) (block symbol : ℕ) → (with_sent h block symbol).info ≡ h.info
+same_info h block symbol = go (nat_lt symbol (source_symbols h.cut block))
+  where
+    go : (b : Bool) → (elim b as (λ v. HeldObject) [ true ↦ record h { sent = slice_set h.sent (symbol_number h.cut block symbol) true } | false ↦ h ]).info ≡ h.info
     go true = refl
     go false = refl

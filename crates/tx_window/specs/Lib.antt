@@ -1,7 +1,10 @@
 pub mod Round
 pub mod Held
-pub mod Windowed
-pub mod Sound
+pub mod WindowState
+pub mod WindowMoves
+pub mod WindowSound
 pub mod Asked
 pub mod Taking
+pub mod Next
 pub mod Standing
+pub mod Laws

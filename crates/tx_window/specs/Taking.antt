@@ -12,7 +12,7 @@ use Rattle.norm_send_rules.specs.Enqueuing.{object_fault, enqueued}
 use Rattle.norm_send_rules.specs.declared.fault.EnqueueFault.{EnqueueFault}
 use Rattle.norm_send_rules.specs.declared.fault.EnqueueFault.TheVariants.{Memory, Empty, TooBig, InfoTooBig}
 use Rattle.norm_send_rules.specs.declared.job.Receipt.TheVariants.{Object as EnqueuedObject}
-use Rattle.tx_window.specs.Windowed.{Windowed, Filling, Stands}
+use Rattle.tx_window.specs.WindowState.{WindowState, Filling, Stands}
 
 -- as many objects are dropped as have to go for one of so many octets
 abbrev pub room_made : Settings → ℕ → SenderState → SenderState
@@ -39,6 +39,6 @@ abbrev pub IsRefusal : Settings → SenderState → Option (List ℕ) → List �
 IsRefusal p s info octets fault = (fault ≡ Memory) ⊎ (object_fault p s info octets ≡ Some fault)
 
 -- An object was enqueued under this index, and the window stands for the state after it.
-pub record IsEnqueued (p : Settings) (s : SenderState) (by : Origin) (kind : Kind) (info : Option (List ℕ)) (octets : List ℕ) (index : ℕ) (w : Windowed) : Type 0 where
+pub record IsEnqueued (p : Settings) (s : SenderState) (by : Origin) (kind : Kind) (info : Option (List ℕ)) (octets : List ℕ) (index : ℕ) (w : WindowState) : Type 0 where
   pub answer : (enqueued p s by kind info octets).1 ≡ Ok (EnqueuedObject index (length octets))
   pub stands : Stands w (enqueued p s by kind info octets).0

@@ -1,6 +1,6 @@
 //! An object of the window: what it is, where it lies in the ring, and what of it was sent.
 
-ghost use Rattle.std.specs.Prelude.{ℕ, ◌≡◌, ◌+◌, ◌<◌, ◌≤◌, List, Option, Bool, true, ◌||◌, ◌&&◌, is_none, option_copied, IfOk, IsSome, Some, ◌*◌, length};
+ghost use Rattle.std.specs.Prelude.{ℕ, ◌≡◌, ◌+◌, ◌<◌, ◌≤◌, List, Option, Bool, true, ◌||◌, ◌&&◌, is_none, option_copied, IfOk, IsSome, Some, ◌*◌, length, MatchOption, ⊤, is_some};
 ghost use Rattle.std.specs.List.{list_all};
 ghost use Rattle.norm_base.specs.Sizes.{datagram_room};
 ghost use Rattle.norm_base.specs.Settings.{Settings};
@@ -10,11 +10,14 @@ ghost use Rattle.tx_window.specs.Held.{octets_of};
 ghost use Rattle.norm_order.specs.Entries.{Whole};
 ghost use Rattle.norm_order.specs.Shapes.{last_in};
 ghost use Rattle.obj_buffer.specs.Pieces.{HoldsObject};
+ghost use Rattle.tx_window.specs.Next.{once, IsNextIn};
+ghost use Rattle.norm_send_rules.specs.Messages.{object_flags};
 ghost use Rattle.tx_window.specs.Held.{HeldObject, begun_at, with_sent, octets_in, LiesIn, AnswersSymbol};
 
 use crate::ring::Ring;
 use fec_plan::{Plan, Position};
 use norm_base::{Datagram, Kind, Memory, Octets, Profile};
+use norm_ext::flags;
 use obj_buffer::{Codes, symbol_of};
 use std::alloc::Global;
 use std::marker::Model;
@@ -92,6 +95,63 @@ impl Held {
             sent,
             info_sent: false,
         })
+    }
+
+    /// How it is cut.
+    pub fn plan(&self) -> Plan
+        ensures { result ≡ self.now.cut }
+    {
+        self.plan
+    }
+
+    /// The flags of each of its messages: FILE of a file, and INFO where it has info (RFC 5740 section 4.2.1).
+    pub fn flags(&self) -> u8
+        ensures { (octets : List ℕ) → result ≡ object_flags (Whole self.now.kind self.now.info octets) }
+    {
+        let info = if self.info.is_some() { flags::INFO } else { 0 };
+        match self.kind {
+            Kind::Data => info,
+            Kind::File => flags::FILE + info,
+        }
+    }
+
+    /// How many symbols of a block are sent by themselves, with so much parity.
+    fn once(&self, auto: u8, block: u32) -> u8
+        ensures { result ≡ once auto self.now.cut block }
+    {
+        let sources = self.plan.source_len(block);
+        sources
+            .saturating_add(auto)
+            .min(self.plan.encoded_len(block))
+    }
+
+    /// The first symbol from a place on that is sent by itself, with so much parity of each block.
+    pub fn next_in(&self, auto: u8, at: Position) -> Option<Position>
+        ensures next { IsNextIn auto self.now.cut at result }
+        ensures id { MatchOption result ⊤ (λ next. next.symbol < 255) }
+    {
+        let blocks = self.plan.blocks();
+        if at.block >= blocks {
+            return None;
+        }
+        if at.symbol < self.once(auto, at.block) {
+            return Some(at);
+        }
+        if at.block + 1 == blocks {
+            return None;
+        }
+        Some(Position {
+            index: at.index,
+            block: at.block + 1,
+            symbol: 0,
+        })
+    }
+
+    /// Whether it has info.
+    pub fn has_info(&self) -> bool
+        ensures { result ≡ is_some self.now.info }
+    {
+        self.info.is_some()
     }
 
     /// How many octets it has.

@@ -5,7 +5,8 @@
 #![tactic(auto)]
 
 mod held;
+pub mod laws;
 mod ring;
 mod window;
 
-pub use crate::window::Window;
+pub use crate::window::{About, Window};

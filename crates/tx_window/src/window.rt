@@ -1,37 +1,48 @@
 //! The objects that a sender may still repair, in the order of their indexes.
 
-ghost use Rattle.std.specs.Prelude.{ℕ, ⊤, true, ◌≡◌, ◌+◌, ◌-◌, ◌<◌, ◌≤◌, ◌++◌, List, [], Option, IfOk, IsErr, MatchOption, MatchResult, None, Some, length, map, take, drop, option_copied, slice_get, nat_lt, vec_capacity};
+ghost use Rattle.std.specs.Prelude.{ℕ, ⊤, true, Bool, find, option_map, ◌^◌, ◌≡◌, ◌+◌, ◌-◌, ◌<◌, ◌≤◌, ◌++◌, List, [], Option, IfOk, IsErr, MatchOption, MatchResult, None, Some, length, map, take, drop, option_copied, slice_get, nat_lt, ◌⊎◌, ◌∷◌};
 ghost use Rattle.std.specs.VecDeque.{deque_capacity};
 ghost use Rattle.norm_base.specs.Sizes.{datagram_room, symbol_room};
 ghost use Rattle.norm_base.specs.declared.node.Origin.{Origin};
 ghost use Rattle.norm_base.specs.declared.kinds.Mode.TheVariants.{Hold, Drop as Dropping};
 ghost use Rattle.fec_plan.specs.Points.{reached_by};
 ghost use Rattle.fec_plan.specs.Partition.{cut_of};
-ghost use Rattle.norm_order.specs.Entries.{Entry};
+ghost use Rattle.norm_order.specs.Entries.{Entry, Object};
 ghost use Rattle.norm_order.specs.Sets.{with_member};
-ghost use Rattle.norm_order.specs.Shapes.{shape_of, last_source, encoded_in, is_source};
+ghost use Rattle.norm_order.specs.Shapes.{shape_of, shapes_of, last_source, is_source};
 ghost use Rattle.norm_send_rules.specs.Sending.{noted};
-ghost use Rattle.norm_send_rules.specs.declared.want.Want.TheVariants.{Symbol};
+ghost use Rattle.norm_send_rules.specs.declared.want.Want.TheVariants.{Symbol, Info as InfoOf};
 ghost use Rattle.norm_send_rules.specs.SenderState.{SenderState, sender_opening};
-ghost use Rattle.norm_send_rules.specs.InWindow.{current_shapes, next_index as next_index_of};
+ghost use Rattle.norm_send_rules.specs.InWindow.{current_shapes, last_index, next_index as next_index_of};
+ghost use Rattle.norm_ext.specs.Laws.{IsNear};
 ghost use Rattle.norm_send_rules.specs.Room.{window, size_of, has_to_go, may_go, may_all_go, can_make_room};
 ghost use Rattle.norm_send_rules.specs.Enqueuing.{object_fault, info_length, with_entry};
 ghost use Rattle.norm_send_rules.specs.declared.fault.EnqueueFault.TheVariants.{Memory as EnqueueMemory};
 ghost use Rattle.tx_window.specs.Held.{HeldObject, octets_of};
-ghost use Rattle.tx_window.specs.Windowed.{Windowed, WindowObject, Filling, Stands, empty_window, IsInWindow};
-ghost use Rattle.tx_window.specs.Sound.{all_octets};
-ghost use Rattle.tx_window.specs.Asked.{from_first, info_at, AnswersAt};
+ghost use Rattle.tx_window.specs.WindowState.{WindowState, WindowObject, Filling, Stands, empty_window, IsInWindow, most_kept, reads};
+ghost use Rattle.tx_window.specs.WindowMoves.{WindowMoves};
+ghost use Rattle.norm_send_rules.specs.Watermarks.{all_past};
+ghost use Rattle.norm_send_rules.specs.Restarting.{begun_anew};
+ghost use Rattle.fec_plan.specs.declared.position.Position.{Position as Place};
+ghost use Rattle.tx_window.specs.WindowSound.{all_octets};
+ghost use Rattle.tx_window.specs.Asked.{from_first, kept_at, info_at, about_of, AnswersAt, IsWhole, IsEncodedIn};
+ghost use Rattle.tx_window.specs.Next.{AllOf, HasNext};
+ghost use Rattle.norm_send_rules.specs.Sending.{new_from, next_new};
+ghost use Rattle.norm_send_rules.specs.declared.want.Want.{Want as Wanted};
 ghost use Rattle.tx_window.specs.Taking.{room_made, filled_entry, with_piece, size_fault, GivesBack, IsRefusal, IsEnqueued};
 
 use crate::held::{Held, plan_of};
 use crate::ring::Ring;
-use fec_plan::{Position, reached_by};
+use fec_plan::{Plan, Position, reached_by};
 use norm_base::{Datagram, Kind, Memory, Mode, Octets, Profile};
-use norm_ext::LAST_INDEX;
-use norm_send_rules::EnqueueFault;
+use norm_ext::{Fti, LAST_INDEX};
+use norm_send_rules::{EnqueueFault, Want};
 use std::alloc::Global;
 use std::collections::VecDeque;
 use std::marker::Model;
+
+/// The extents of so many objects are kept, the last ones: an id names no object before them.
+const MOST_KEPT: usize = 32_769;
 
 /// The window of a sender. All its octets lie in one ring, made once.
 ///
@@ -44,8 +55,10 @@ pub struct Window {
     profile: Profile,
     ring: Ring,
     held: VecDeque<Held>,
-    /// How many octets each object has, dropped or not.
-    lengths: Vec<u32>,
+    /// How many of the first objects were forgotten: no id names one of them.
+    forgotten: u32,
+    /// How many octets each of the others has, dropped or not.
+    extents: VecDeque<u32>,
     /// How many octets all objects of the window have, with the one that is being filled.
     octets: u32,
     /// The octet of the ring behind them.
@@ -63,14 +76,40 @@ pub struct Window {
 }
 
 impl Model for Window {
-    ghost use Rattle.tx_window.specs.Windowed.{Windowed};
-    ghost use Rattle.tx_window.specs.Sound.{window_view, IsSoundWindow};
+    ghost use Rattle.tx_window.specs.WindowState.{WindowState};
+    ghost use Rattle.tx_window.specs.WindowSound.{window_view, WindowSound};
 
-    ghost Value = { Windowed };
+    ghost Value = { WindowState };
 
     ghost view = { window_view };
 
-    ghost invariant = { IsSoundWindow };
+    ghost invariant = { WindowSound };
+}
+
+/// What each INFO and DATA of an object says of it: its transmission information and its flags.
+#[derive(Clone, Copy, Debug, PartialEq, Eq)]
+pub struct About {
+    pub fti: Fti,
+    pub flags: u8,
+}
+
+/// The transmission information of an object of so many octets.
+fn fti_of(profile: &Profile, len: u32) -> Fti
+    ensures { result ≡ record { l = len; e = profile.now.e; b = profile.now.b; max_n = profile.now.max_n } }
+{
+    Fti {
+        l: u64::from(len),
+        e: profile.e,
+        b: profile.b,
+        max_n: profile.max_n,
+    }
+}
+
+/// How many parity symbols of a block are sent by themselves.
+fn auto_of(profile: &Profile) -> u8
+    ensures { result ≡ profile.now.auto }
+{
+    profile.auto
 }
 
 /// The object with an index, where so many objects were dropped.
@@ -108,13 +147,38 @@ fn room_for(profile: &Profile, held: &VecDeque<Held>, octets: u32, len: u32) -> 
 }
 
 /// Makes room for one more, and says whether there was memory for it.
-fn reserve(held: &mut VecDeque<Held>, lengths: &mut Vec<u32>) -> bool
+fn reserve(held: &mut VecDeque<Held>, extents: &mut VecDeque<u32>) -> bool
     ensures held { held.new.items ≡ held.old.items }
-    ensures lengths { lengths.new.items ≡ lengths.old.items }
+    ensures extents { extents.new.items ≡ extents.old.items }
     ensures held_room { result ≡ true → length held.new.items < deque_capacity held.new }
-    ensures lengths_room { result ≡ true → length lengths.new.items < vec_capacity lengths.new }
+    ensures extents_room { result ≡ true → length extents.new.items < deque_capacity extents.new }
 {
-    held.reserve(1).is_ok() && lengths.reserve(1).is_ok()
+    held.reserve(1).is_ok() && extents.reserve(1).is_ok()
+}
+
+/// The extent of the object with an index, where so many were forgotten.
+fn extent_at(extents: &VecDeque<u32>, forgotten: u32, index: u32) -> Option<u32>
+    ensures { result ≡ from_first forgotten extents.now.items index }
+{
+    if index < forgotten {
+        return None;
+    }
+    extents.get((index - forgotten) as usize).copied()
+}
+
+/// Keeps one more extent, and forgets the first one where there are more than ids can name. Says how many are forgotten.
+fn keep_extent(extents: &mut VecDeque<u32>, forgotten: u32, len: u32) -> u32
+    requires room { length extents.old.items < deque_capacity extents.old }
+    requires number { forgotten < 4294967295 }
+    ensures items { extents.new.items ≡ drop (result - forgotten) (extents.old.items ++ len ∷ []) }
+    ensures kept { (result ≡ forgotten) ⊎ ((result ≡ forgotten + 1) × (most_kept ≤ length extents.old.items)) }
+{
+    extents.push_back(len).unwrap();
+    if extents.len() <= MOST_KEPT {
+        return forgotten;
+    }
+    extents.pop_front();
+    forgotten + 1
 }
 
 /// Drops so many objects from the front.
@@ -141,7 +205,7 @@ fn is_released(profile: &Profile, past: &Option<Position>, last: Position) -> bo
 fn size_fault(profile: &Profile, info: usize, len: u64) -> Option<EnqueueFault>
     ensures exact { result ≡ size_fault profile.now info len }
     ensures memory { result ≡ Some EnqueueMemory → ⊥ }
-    ensures free { result ≡ None → (1 ≤ len) × (len ≤ profile.now.octets) × (len ≤ 16777216) }
+    ensures free { result ≡ None → (1 ≤ len) × (len ≤ profile.now.octets) × (len ≤ 16777216) × (info ≤ profile.now.e) }
 {
     if len == 0 {
         return Some(EnqueueFault::Empty);
@@ -184,7 +248,8 @@ impl Window {
             profile: *profile,
             ring,
             held,
-            lengths: Vec::new(alloc),
+            forgotten: 0,
+            extents: VecDeque::new(alloc),
             octets: 0,
             free: 0,
             begun: None,
@@ -197,7 +262,8 @@ impl Window {
 
     /// The object and the block of it before which all was dropped.
     pub fn first(&self) -> (u32, u32)
-        ensures { (s : SenderState) → Stands self.now s → (result.0 ≡ s.current.drop.index) × (result.1 ≡ s.current.drop.block) }
+        ensures exact { (s : SenderState) → Stands self.now s → (result.0 ≡ s.current.drop.index) × (result.1 ≡ s.current.drop.block) }
+        ensures number { (result.0 ≡ self.now.drop.index) × (result.1 ≡ self.now.drop.block) }
     {
         (self.dropped, 0)
     }
@@ -212,7 +278,7 @@ impl Window {
     /// The index of the next object.
     pub fn next_index(&self) -> u32
         ensures exact { (s : SenderState) → Stands self.now s → result ≡ next_index_of s }
-        ensures number { result ≡ self.now.dropped + length self.now.objects }
+        ensures number { result ≡ self.now.drop.index + length self.now.objects }
     {
         self.dropped + self.held.len() as u32
     }
@@ -231,7 +297,8 @@ impl Window {
 
     /// The info of an object; of a file its name. `None` where it was dropped or not enqueued, or has none.
     pub fn info(&self, index: u32) -> Option<&[u8]>
-        ensures { (s : SenderState) → Stands self.now s → option_copied result ≡ info_at s index }
+        ensures exact { (s : SenderState) → Stands self.now s → option_copied result ≡ info_at s index }
+        ensures short { MatchOption (option_copied result) ⊤ (λ info. length info ≤ self.now.p.e) }
     {
         let Some(held) = held_at(&self.held, self.dropped, index) else {
             return None;
@@ -239,11 +306,86 @@ impl Window {
         held.info()
     }
 
+    /// What each message of an object says of it. `None` exactly where it was dropped or not enqueued.
+    pub fn about(&self, index: u32) -> Option<About>
+        ensures exact { (s : SenderState) → Stands self.now s → result ≡ option_map (about_of self.now.p) (kept_at s index) }
+        ensures long { MatchOption result ⊤ (λ about. about.fti.l < 2 ^ 48) }
+        ensures whole { (s : SenderState) (object : Object) → Stands self.now s → kept_at s index ≡ Some object → IsWhole self.now.p object }
+    {
+        let Some(held) = held_at(&self.held, self.dropped, index) else {
+            return None;
+        };
+        let fti = fti_of(&self.profile, held.len());
+        let flags = held.flags();
+        Some(About { fti, flags })
+    }
+
+    /// How an object is cut. `None` exactly where it was dropped or not enqueued.
+    pub fn plan(&self, index: u32) -> Option<Plan>
+        ensures { (s : SenderState) → Stands self.now s → result ≡ option_map (λ object. (shape_of self.now.p object).cut) (kept_at s index) }
+    {
+        let Some(held) = held_at(&self.held, self.dropped, index) else {
+            return None;
+        };
+        Some(held.plan())
+    }
+
+    /// The first info or symbol of an object that is sent by itself. `None` where it was not enqueued.
+    fn first_new(&self, index: u32) -> Option<Want>
+        requires { self.now.drop.index ≤ index }
+        ensures exact { (s : SenderState) (test : Wanted → Bool) → Stands self.now s → AllOf true test index
+            → result ≡ find test (new_from self.now.p index (shapes_of self.now.p (drop index s.current.order))) }
+        ensures id { MatchOption result ⊤ HasNext }
+    {
+        let Some(held) = held_at(&self.held, self.dropped, index) else {
+            return None;
+        };
+        if held.has_info() {
+            return Some(Want::Info { index });
+        }
+        Some(Want::Symbol {
+            at: Position {
+                index,
+                block: 0,
+                symbol: 0,
+            },
+        })
+    }
+
+    /// What is new next, where that is no earlier than a symbol.
+    fn next_symbol(&self, from: Position) -> Option<Want>
+        ensures exact { (s : SenderState) → Stands self.now s → s.next ≡ Symbol from → result ≡ next_new self.now.p s }
+        ensures id { MatchOption result ⊤ HasNext }
+    {
+        if from.index < self.dropped {
+            return self.first_new(self.dropped);
+        }
+        let Some(held) = held_at(&self.held, self.dropped, from.index) else {
+            return None;
+        };
+        match held.next_in(auto_of(&self.profile), from) {
+            Some(at) => Some(Want::Symbol { at }),
+            None => self.first_new(from.index + 1),
+        }
+    }
+
+    /// The next new info or symbol, where none before this one is: the first from there on that was not dropped. A symbol
+    /// that is answered has another id behind it.
+    pub fn next_new(&self, from: Want) -> Option<Want>
+        ensures exact { (s : SenderState) → Stands self.now s → s.next ≡ from → result ≡ next_new self.now.p s }
+        ensures id { MatchOption result ⊤ HasNext }
+    {
+        match from {
+            Want::Info { index } => self.first_new(index.max(self.dropped)),
+            Want::Symbol { at } => self.next_symbol(at),
+        }
+    }
+
     /// Whether an object may go.
     fn may_go(&self, place: usize) -> bool
         requires { place < length self.now.objects }
         ensures { (s : SenderState) (entry : Entry) → Stands self.now s → slice_get (window s) place ≡ Some entry
-            → result ≡ may_go self.now.p s (self.now.dropped + place) (shape_of self.now.p entry.object) }
+            → result ≡ may_go self.now.p s (self.now.drop.index + place) (shape_of self.now.p entry.object) }
     {
         let held = &self.held[place];
         let last = held.last(self.dropped + place as u32);
@@ -254,7 +396,7 @@ impl Window {
     fn may_all_go(&self, count: usize) -> bool
         requires { count ≤ length self.now.objects }
         ensures { (s : SenderState) → Stands self.now s
-            → result ≡ may_all_go self.now.p s self.now.dropped (take count (window s)) }
+            → result ≡ may_all_go self.now.p s self.now.drop.index (take count (window s)) }
     {
         for place in 0..count {
             if !self.may_go(place) {
@@ -274,13 +416,14 @@ impl Window {
         self.may_all_go(count)
     }
 
-    /// Why an object with so many octets, and an info of so many, is refused: the first fault that applies.
-    fn fault(&self, info: usize, len: u64) -> Option<EnqueueFault>
+    /// Why an object with so many octets, and an info of so many, would be refused now: the first fault that applies, want of
+    /// memory left out. Nothing is done.
+    pub fn object_fault(&self, info: usize, len: u64) -> Option<EnqueueFault>
         requires begun { self.now.filling ≡ None }
         ensures exact { (s : SenderState) (name : Option (List ℕ)) (octets : List ℕ) → Stands self.now s → info_length name ≡ info
             → length octets ≡ len → result ≡ object_fault self.now.p s name octets }
         ensures memory { result ≡ Some EnqueueMemory → ⊥ }
-        ensures free { result ≡ None → (1 ≤ len) × (len ≤ self.now.p.octets) × (len ≤ 16777216) × (self.now.dropped + length self.now.objects < 4294967295) }
+        ensures free { result ≡ None → (1 ≤ len) × (len ≤ self.now.p.octets) × (len ≤ 16777216) × (info ≤ self.now.p.e) × (self.now.drop.index + length self.now.objects < 4294967295) }
     {
         if let Some(fault) = size_fault(&self.profile, info, len) {
             return Some(fault);
@@ -311,7 +454,7 @@ impl Window {
     ) -> Result<(), (Option<Option<Octets>>, EnqueueFault)>
         requires { self.old.filling ≡ None }
         ensures begun { IfOk result (λ _. self.new.filling ≡ Some (record { kind = kind; info = info; len = len; octets = [] })) }
-        ensures stands { IfOk result (λ _. (s : SenderState) → Stands self.old s → Stands self.new (room_made self.old.p len s)) }
+        ensures stands { IfOk result (λ _. WindowMoves self.old self.new (room_made self.old.p len)) }
         ensures free { IfOk result (λ _. (s : SenderState) (octets : List ℕ) → Stands self.old s → length octets ≡ len
             → object_fault self.old.p s info octets ≡ None) }
         ensures profile { self.new.p ≡ self.old.p }
@@ -320,14 +463,14 @@ impl Window {
         ensures back { MatchResult result (λ _. ⊤) (λ refusal. GivesBack info refusal) }
         ensures same { IsErr result → self.new ≡ self.old }
     {
-        if let Some(fault) = self.fault(info_len(&info), len) {
+        if let Some(fault) = self.object_fault(info_len(&info), len) {
             return Err((Some(info), fault));
         }
         let len = len as u32;
         let Ok(begun) = Held::new(self.alloc, &self.profile, kind, info, len, self.free) else {
             return Err((None, EnqueueFault::Memory));
         };
-        if !reserve(&mut self.held, &mut self.lengths) {
+        if !reserve(&mut self.held, &mut self.extents) {
             return Err((None, EnqueueFault::Memory));
         }
         let (count, left) = room_for(&self.profile, &self.held, self.octets, len);
@@ -343,7 +486,8 @@ impl Window {
     /// Puts the next octets of the object that was begun into the window.
     pub fn fill(&mut self, piece: &[u8])
         requires { MatchOption self.old.filling ⊥ (λ f. length f.octets + length piece.now ≤ f.len) }
-        ensures { (f : Filling) → self.old.filling ≡ Some f → self.new ≡ record self.old { filling = Some (with_piece piece.now f) } }
+        ensures exact { (f : Filling) → self.old.filling ≡ Some f → self.new ≡ record self.old { filling = Some (with_piece piece.now f) } }
+        ensures stands { WindowMoves self.old self.new (λ s. s) }
     {
         let Some(begun) = &self.begun else {
             return;
@@ -368,7 +512,8 @@ impl Window {
         };
         let at = self.ring.behind(begun.start(), self.filled);
         self.ring.clear(at, begun.taken() - self.filled);
-        self.lengths.push(begun.len()).unwrap();
+        let forgotten = keep_extent(&mut self.extents, self.forgotten, begun.len());
+        self.forgotten = forgotten;
         self.last = Some(begun.last(index));
         self.held.push_back(begun).unwrap();
         index
@@ -376,12 +521,30 @@ impl Window {
 
     /// Gives up the object that was begun. What was dropped for it stays dropped.
     pub fn leave(&mut self)
-        ensures { self.new ≡ record self.old { filling = None } }
+        ensures exact { self.new ≡ record self.old { filling = None } }
+        ensures stands { WindowMoves self.old self.new (λ s. s) }
     {
         if let Some(begun) = self.begun.take() {
             self.free = begun.start();
             self.octets -= begun.len();
         }
+    }
+
+    /// Begins anew for another instance: no object is there. It takes no memory.
+    pub fn clear(&mut self)
+        ensures begun { (id : ℕ) → WindowMoves self.old self.new (begun_anew id) }
+        ensures empty { self.new ≡ empty_window self.old.p }
+    {
+        self.held.clear();
+        self.extents.clear();
+        self.begun = None;
+        self.octets = 0;
+        self.free = 0;
+        self.filled = 0;
+        self.dropped = 0;
+        self.forgotten = 0;
+        self.last = None;
+        self.past = None;
     }
 
     /// Takes an object in at the end of the order, after what has to go for it was dropped, and answers its index.
@@ -418,23 +581,24 @@ impl Window {
         }
     }
 
-    /// Whether a position is a closed source symbol of the order, also where its object was dropped.
+    /// Whether a position, of an object that an id can name, is a closed source symbol of the order, also where its object
+    /// was dropped.
     pub fn is_source(&self, at: Position) -> bool
-        ensures { (s : SenderState) → Stands self.now s → result ≡ is_source (current_shapes self.now.p s) at }
+        ensures { (s : SenderState) → Stands self.now s → IsNear (last_index s) at.index
+            → result ≡ is_source (current_shapes self.now.p s) at }
     {
-        if at.index as usize >= self.lengths.len() {
+        let Some(len) = extent_at(&self.extents, self.forgotten, at.index) else {
             return false;
-        }
-        let plan = plan_of(&self.profile, self.lengths[at.index as usize]);
+        };
+        let plan = plan_of(&self.profile, len);
         at.block < plan.blocks() && at.symbol < plan.source_len(at.block)
     }
 
     /// Marks an encoded symbol of the window as sent.
     pub fn note_sent(&mut self, at: Position)
-        requires window { IsInWindow self.old at.index }
-        requires block { (o : WindowObject) → slice_get self.old.objects (at.index - self.old.dropped) ≡ Some o
-            → at.symbol < encoded_in (shape_of self.old.p o.object) at.block }
-        ensures stands { (s : SenderState) → Stands self.old s → Stands self.new (noted (Symbol at) s) }
+        requires { IsEncodedIn self.old at }
+        ensures stands { WindowMoves self.old self.new (noted (Symbol at)) }
+        ensures whole { (s : SenderState) (object : Object) → Stands self.old s → kept_at s at.index ≡ Some object → IsWhole self.old.p object }
         ensures filling { self.new.filling ≡ self.old.filling }
         ensures profile { self.new.p ≡ self.old.p }
     {
@@ -445,7 +609,7 @@ impl Window {
     /// Marks the info of an object of the window as sent.
     pub fn note_info(&mut self, index: u32)
         requires { IsInWindow self.old index }
-        ensures stands { (s : SenderState) → Stands self.old s → Stands self.new (record s { sent_infos = with_member nat_lt index s.sent_infos }) }
+        ensures stands { WindowMoves self.old self.new (noted (InfoOf index)) }
         ensures filling { self.new.filling ≡ self.old.filling }
         ensures profile { self.new.p ≡ self.old.p }
     {
@@ -453,9 +617,11 @@ impl Window {
         self.held[place].note_info();
     }
 
-    /// The least position that all receivers are listed past, as it is now.
+    /// The least position that all members are listed past, as it is now.
     pub fn note_past(&mut self, through: Option<Position>)
-        ensures { self.new ≡ record self.old { past = through } }
+        ensures exact { self.new ≡ record self.old { past = through } }
+        ensures stands { (s t : SenderState) → Stands self.old s → reads t ≡ record (reads s) { past = all_past t }
+            → ((at : Place) → all_past t at ≡ reached_by through at) → Stands self.new t }
     {
         self.past = through;
     }

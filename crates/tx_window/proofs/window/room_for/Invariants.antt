@@ -1,7 +1,7 @@
 use Rattle.std.proofs.Common.{◌≡◌, ◌+◌, ◌≤◌, List, drop}
 use Rattle.norm_order.specs.Entries.{Entry}
 use Rattle.norm_send_rules.specs.Room.{has_to_go}
-use Rattle.tx_window.specs.Sound.{all_octets}
+use Rattle.tx_window.specs.WindowSound.{all_octets}
 use Rattle.tx_window.proofs.RoomLemmas.{AreSizes}
 use Rattle.tx_window.proofs.window.room_for.Given as goal
 

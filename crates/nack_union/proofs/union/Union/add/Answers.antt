@@ -1,34 +1,15 @@
-use Rattle.std.proofs.Common.{◌≡◌, ℕ, ◌∙◌, ◌-◌, map, ap, sym, subst, List, ◌++◌}
-use Rattle.std.specs.List.{AllByRecursion}
-use Rattle.norm_ext.specs.Asking.{named}
-use Rattle.norm_ext.specs.Requests.{Request}
-use Rattle.norm_send_rules.specs.SenderState.{SenderState, Asked}
-use Rattle.norm_send_rules.specs.InWindow.{last_index}
-use Rattle.norm_order.specs.Sets.{Rises}
-use Rattle.nack_union.specs.Kept.{Kept, Marked, Stands, known_of}
+use Rattle.std.proofs.Common.{◌≡◌, ◌∙◌, ap, sym, subst, List, Option, Some}
+use Rattle.norm_send_rules.specs.SenderState.{SenderState, Asked, Round}
+use Rattle.nack_union.specs.Kept.{Kept, asked_so_far}
 use Rattle.nack_union.specs.Collected.{Collects}
-use Rattle.nack_union.specs.Adding.{IsPlanned, HasAdded}
-use Rattle.nack_union.proofs.Added.{stands_added, collects_more, named_then_asked}
-use Rattle.nack_union.proofs.Summed.{added_parts}
-use Rattle.nack_union.proofs.Rising.{listed_rise}
+use Rattle.nack_union.specs.UnionState.{UnionState, Stands}
+use Rattle.norm_send_rules.specs.Hearing.{joined_round}
+use Rattle.nack_union.proofs.Heard.{stands_heard}
 use Rattle.nack_union.proofs.union.Union.add.Goals as goal
 
-pub returns-clause-added : goal.returns-clause-added
-returns-clause-added c =
-    subst (λ (known : ℕ). HasAdded (map (named c.args.profile.now known) c.args.requests) c.args.self.now c.ask_requests.new.self) c.known-known.ensures
-    (added_parts (map (named c.args.profile.now c.known-known.result) c.args.requests) c.args.self.now c.ask_requests.new.self c.ask_requests.ensures.asked
-    (listed_rise c.ask_requests.new.self.first c.ask_requests.new.self.objects
-    (subst (λ (ms : List Marked). AllByRecursion (λ (m : Marked). Rises m.asked) ms)
-    (c.deref-2.ensures.value ∙ ap (λ (u : Kept). u.objects) c.self-2.view_is) c.hold_all-2.ensures.rise))
-    c.ask_requests.ensures.earliest)
-
-planned : (c : goal.After-hold_all-2) → AllByRecursion IsPlanned c.args.self.now.objects
-planned c = subst (λ (ms : List Marked). AllByRecursion IsPlanned ms) (c.deref.ensures.value ∙ ap (λ (u : Kept). u.objects) c.self.view_is) c.hold_all.ensures.planned
-
 pub returns-clause-stands : goal.returns-clause-stands
-returns-clause-stands c = λ s st. stands_added c.args.profile.now s c.args.self.now c.ask_requests.new.self _ st (returns-clause-added c)
-
-pub returns-clause-collects : goal.returns-clause-collects
-returns-clause-collects c = λ s asked st col.
-    subst (λ (more : List Asked). Collects c.args.profile.now c.ask_requests.new.self s (asked ++ more)) (named_then_asked c.args.profile.now s (known_of c.args.self.now) c.args.requests (ap (λ (n : ℕ). n - 1) st.next))
-    (collects_more c.args.profile.now s c.args.self.now c.ask_requests.new.self asked _ st (planned c) col (returns-clause-added c))
+returns-clause-stands c = λ s now stands.
+    let u = c.self.inside in
+    let here = subst (λ (v : UnionState). Stands v s) (sym c.self.view_is) stands in
+    subst (λ (v : UnionState). Stands (record { p = u.profile; kept = c.add.new.self }) (joined_round v.p s now c.args.requests)) c.self.view_is
+    (stands_heard u.profile c.add.new.self s now c.args.requests (c.add.ensures.stands s here.holds) (c.add.ensures.collects s (asked_so_far s) here.holds here.collects))

@@ -1,35 +1,17 @@
-use Rattle.std.proofs.Common.{subst, sym, ap, ◌∙◌, List, [], ◌∷◌, ◌+◌, length, arith}
-use Rattle.std.proofs.lemmas.List.{length-append}
-use Rattle.nack_union.specs.Kept.{Kept, Marked, Stands, shape_of_marked}
-use Rattle.norm_send_rules.specs.Enqueuing.{with_entry}
-use Rattle.fec_plan.specs.Partition.{blocks}
-use Rattle.nack_union.specs.SoundUnion.{AreIdle}
-use Rattle.nack_union.proofs.Idle.{idle_new, idle_pushed}
+use Rattle.std.proofs.Common.{◌≡◌, ◌∙◌, ap, sym, subst, List, Option, Some}
+use Rattle.norm_send_rules.specs.SenderState.{SenderState, Asked, Round}
+use Rattle.nack_union.specs.Kept.{Kept, asked_so_far}
 use Rattle.nack_union.specs.Collected.{Collects}
-use Rattle.nack_union.proofs.Windows.{collects_admitted}
-use Rattle.nack_union.proofs.Standing.{stands_admitted}
+use Rattle.nack_union.specs.UnionState.{UnionState, Stands}
+use Rattle.norm_order.specs.Shapes.{shape_of}
+use Rattle.nack_union.specs.Kept.{admitted, shape_of_marked}
 use Rattle.nack_union.proofs.union.Union.admit.Goals as goal
 
 pub returns-clause-stands : goal.returns-clause-stands
-returns-clause-stands c = λ p s entry st shape.
-    let marks = c.in_ok-marks.ensures in
-    subst (λ (ms : List Marked). Stands p (record { first = c.self.inside.first; objects = ms; earliest = c.self.inside.earliest }) (with_entry entry s)) (sym c.in_ok-push.ensures.items)
-    (stands_admitted p s _ entry c.in_ok-marks.marks (ap (λ (m : Marked). m.wants) marks) (ap (λ (m : Marked). m.sent) marks)
-    (subst (λ (u : Kept). Stands p u s) (sym c.self.view_is) st) (shape ∙ ap shape_of_marked (sym marks)))
-
-pub invariant_of-self-2 : goal.invariant_of-self-2
-invariant_of-self-2 c =
-    let marks = c.in_ok-marks.ensures in
-    let new = idle_new c.in_ok-marks.marks (blocks c.args.plan.now) (ap (λ (m : Marked). m.asked) marks) (ap (λ (m : Marked). m.counts) marks) in
-    let pushed = idle_pushed c.self.inside.low c.self.inside.high c.self.inside.objects.items c.in_ok-marks.marks c.self.invariant.idle new in
+returns-clause-stands c = λ entry shape s stands.
+    let u = c.self.inside in
+    let here = subst (λ (v : UnionState). Stands v s) (sym c.self.view_is) stands in
     record {
-      few = let few = c.ranges.index.fits in let index = c.requires in let first = ap (λ (u : Kept). u.first + length u.objects) c.self.view_is in let items = ap length c.in_ok-push.ensures.items in omega (arith, few, index, first, items, length-append c.self.inside.objects.items (c.in_ok-marks.marks ∷ []));
-      idle = subst (AreIdle c.self.inside.low c.self.inside.high) (sym c.in_ok-push.ensures.items) pushed;
+      holds = c.in_ok-admit.ensures.stands u.profile s entry here.holds (subst (λ (v : UnionState). shape_of v.p entry.object ≡ shape_of_marked (admitted c.args.plan.now c.args.info)) (sym c.self.view_is) shape);
+      collects = c.in_ok-admit.ensures.collects u.profile s (asked_so_far s) entry here.holds here.collects;
     }
-
-pub returns-clause-collects : goal.returns-clause-collects
-returns-clause-collects c = λ p s asked entry st col.
-    let marks = c.in_ok-marks.ensures in
-    subst (λ (ms : List Marked). Collects p (record { first = c.self.inside.first; objects = ms; earliest = c.self.inside.earliest }) (with_entry entry s) asked) (sym c.in_ok-push.ensures.items)
-    (collects_admitted p s _ asked entry c.in_ok-marks.marks (blocks c.args.plan.now) (ap (λ (m : Marked). m.asked) marks) (ap (λ (m : Marked). m.counts) marks)
-    (subst (λ (u : Kept). Stands p u s) (sym c.self.view_is) st) (subst (λ (u : Kept). Collects p u s asked) (sym c.self.view_is) col))

@@ -1,92 +1,30 @@
-use Rattle.std.proofs.Common.{◌≡◌, ℕ, ◌+◌, ◌-◌, List, ◌++◌, length, map, take, subst, refl, sym, ap, ◌∙◌, arith}
-use Rattle.std.specs.Prelude.{min, None, Option}
-use Rattle.std.specs.List.{AllByRecursion}
-use Rattle.std.specs.Vec.{with_items}
-use Rattle.std.proofs.lemmas.List.{with_items_is, length-map}
-use borrow.Rule.Slice.PartMut.{mid_of, post_of}
-use Rattle.nack_union.specs.Kept.{Kept, Marked, Stands, IsCounted, closed_marks, closed_union}
-use Rattle.nack_union.specs.Rounds.{wants_closed, new_wants}
-use Rattle.nack_union.specs.SoundUnion.{AreIdle}
-use Rattle.nack_union.proofs.Idle.{idle_outside, closed_range, counted_range, new_range, closed_are_idle}
-use Rattle.nack_union.proofs.Rounding.{stands_closed, all_queued}
-use Rattle.norm_send_rules.specs.declared.want.Want.{Want}
-use Rattle.norm_send_rules.specs.SenderState.{Asked}
-use Rattle.nack_union.specs.Earliest.{is_below_first, earliest_with}
-use Rattle.nack_union.proofs.Early.{early_is}
-use Rattle.nack_union.proofs.ByRules.{by_rules, stands_by_rules, nothing_collected}
-use Rattle.std.proofs.lemmas.Bool.{cases_lt as in_or_out}
+use Rattle.std.proofs.Common.{◌≡◌, ◌∙◌, ap, sym, subst, List, Option, Some}
+use Rattle.norm_send_rules.specs.SenderState.{SenderState, Asked, Round}
+use Rattle.nack_union.specs.Kept.{Kept, asked_so_far}
+use Rattle.nack_union.specs.Collected.{Collects}
+use Rattle.nack_union.specs.UnionState.{UnionState, Stands}
+use Rattle.std.specs.Prelude.{min, length, ◌-◌, None, []}
+use Rattle.norm_send_rules.specs.Closing.{round_closed}
 use Rattle.nack_union.proofs.union.Union.close_round.Goals as goal
 
--- the union as it was, by its fields
-abbrev before : (c : goal.After-self-4-1) → Kept
-before c = record { first = c.self.inside.first; objects = c.self.inside.objects.items; earliest = c.self.inside.earliest }
+-- what was collected is what the round was asked
+pub collected : (c : goal.After-close_round) (r : Round) (s : SenderState) → s.round ≡ Some r → Stands (record { p = c.self.inside.profile; kept = c.self.inside.collection }) s
+    → Collects c.self.inside.profile c.self.inside.collection s r.asked
+collected c r s is here =
+    subst (λ (asked : List Asked). Collects c.self.inside.profile c.self.inside.collection s asked) (ap (λ (o : Option Round). elim o [ Some round ↦ round.asked | None ↦ [] ]) is) here.collects
 
--- the round asks for nothing outside of the range that is closed
-outside : (c : goal.After-self-4-1) → AreIdle c.min-low.result (c.min-low.result + (c.min-high.result - c.min-low.result)) c.self.inside.objects.items
-outside c =
-    idle_outside c.self.inside.low c.self.inside.high c.min-low.result c.min-high.result c.self.inside.objects.items c.min-low.ensures
-    (c.min-high.ensures ∙ ap (min c.self.inside.high) (c.len.ensures ∙ sym c.deref_mut.ensures.len ∙ ap length c.deref_mut.ensures.value)) c.self.invariant.idle
+pub returns-clause-stands : goal.returns-clause-stands
+returns-clause-stands c = λ r s is stands.
+    let u = c.self.inside in
+    let here = subst (λ (v : UnionState). Stands v s) (sym c.self.view_is) stands in
+    subst (λ (v : UnionState). Stands (record { p = u.profile; kept = c.close_round.new.self }) (round_closed v.p r s)) c.self.view_is (record {
+      holds = (c.close_round.ensures.rules u.profile s r here.holds (collected c r s is here)).0;
+      collects = c.close_round.ensures.begun u.profile (round_closed u.profile r s);
+    })
 
-counted : (c : goal.After-self-4-1) → AllByRecursion IsCounted c.self.inside.objects.items
-counted c =
-    counted_range c.min-low.result (c.min-high.result - c.min-low.result) c.self.inside.objects.items (outside c)
-    (subst (λ (ms : List Marked). AllByRecursion IsCounted (mid_of c.min-low.result (c.min-high.result - c.min-low.result) ms)) c.deref_mut.ensures.value c.close_all-queued.ensures.counted)
-
--- what is written back
-written : (c : goal.After-self-4-1)
-    → take c.min-low.result c.deref_mut.result.now ++ (c.close_all-queued.new.objects ++ post_of c.min-low.result (c.min-high.result - c.min-low.result) c.deref_mut.result.now)
-    ≡ map closed_marks c.self.inside.objects.items
-written c =
-    ap (λ (ms : List Marked). take c.min-low.result c.deref_mut.result.now ++ (ms ++ post_of c.min-low.result (c.min-high.result - c.min-low.result) c.deref_mut.result.now)) c.close_all-queued.ensures.closed
-    ∙ ap (λ (ms : List Marked). take c.min-low.result ms ++ (map closed_marks (mid_of c.min-low.result (c.min-high.result - c.min-low.result) ms) ++ post_of c.min-low.result (c.min-high.result - c.min-low.result) ms)) c.deref_mut.ensures.value
-    ∙ closed_range c.min-low.result (c.min-high.result - c.min-low.result) c.self.inside.objects.items (outside c)
-
-abbrev items : (c : goal.After-self-4-1) → List Marked
-items c =
-    (with_items c.self.inside.objects (take c.min-low.result c.deref_mut.result.now ++ (c.close_all-queued.new.objects ++ post_of c.min-low.result (c.min-high.result - c.min-low.result) c.deref_mut.result.now))).items
-
-now : (c : goal.After-self-4-1) → items c ≡ map closed_marks c.self.inside.objects.items
-now c =
-    with_items_is c.self.inside.objects _ (ap length (written c) ∙ length-map c.self.inside.objects.items closed_marks ∙ ap length (sym c.deref_mut.ensures.value) ∙ c.deref_mut.ensures.len)
-    ∙ written c
-
-pub invariant_of-self : goal.invariant_of-self
-invariant_of-self c = record {
-  few = let few = c.self.invariant.few in let same = ap length (now c) in omega (arith, few, same, length-map c.self.inside.objects.items closed_marks);
-  idle = λ k d lt out. subst (λ (ms : List Marked). AreIdle c.min-high.result c.min-high.result ms) (sym (now c)) (λ k d lt out. closed_are_idle c.self.inside.objects.items k d lt) k d lt out;
-}
-
-pub returns-clause-closed : goal.returns-clause-closed
-returns-clause-closed c = λ p s st.
-    subst (λ (u : Kept). Stands p (record { first = c.self.inside.first; objects = items c; earliest = None }) (record s { wants = wants_closed u s })) c.self.view_is
-    (subst (λ (ms : List Marked). Stands p (record { first = c.self.inside.first; objects = ms; earliest = None }) (record s { wants = wants_closed (before c) s })) (sym (now c))
-    (stands_closed p s (before c) (counted c) (subst (λ (u : Kept). Stands p u s) (sym c.self.view_is) st)))
-
-pub returns-clause-queued : goal.returns-clause-queued
-returns-clause-queued c = λ p s st.
-    c.close_all-queued.ensures.queued
-    ∙ ap (λ (ms : List Marked). min (new_wants (mid_of c.min-low.result (c.min-high.result - c.min-low.result) ms)) 4294967295) c.deref_mut.ensures.value
-    ∙ ap (λ (n : ℕ). min n 4294967295) (new_range c.min-low.result (c.min-high.result - c.min-low.result) c.self.inside.objects.items (outside c))
-    ∙ ap (λ (n : ℕ). min n 4294967295) (all_queued p s (before c) (counted c) (subst (λ (u : Kept). Stands p u s) (sym c.self.view_is) st))
-    ∙ ap (λ (u : Kept). min (length (wants_closed u s) - length s.wants) 4294967295) c.self.view_is
-
-pub returns-clause-rules : goal.returns-clause-rules
-returns-clause-rules c = λ p s r st col. (
-  stands_by_rules p s r c.args.self.now (record { first = c.self.inside.first; objects = items c; earliest = None }) st col (returns-clause-closed c p s st),
-  returns-clause-queued c p s st ∙ ap (λ (ws : List Want). min (length ws - length s.wants) 4294967295) (by_rules p s c.args.self.now r.asked st col),
-  c.is_below-early.ensures
-      ∙ ap (λ (u : Kept). is_below_first u.earliest u.first) c.self.view_is
-      ∙ ap (λ (o : Option ℕ). is_below_first o c.args.self.now.first) col.earliest
-      ∙ ap (is_below_first (earliest_with None (map (λ (a : Asked). a.request) r.asked))) st.first
-      ∙ early_is s.current.drop r.asked st.whole,
-)
-
-pub returns-clause-begun : goal.returns-clause-begun
-returns-clause-begun c = λ p s.
-    nothing_collected p s (record { first = c.self.inside.first; objects = items c; earliest = None })
-    (λ k d lt. subst (λ (ms : List Marked). AreIdle c.min-high.result c.min-high.result ms) (sym (now c)) (λ k d lt out. closed_are_idle c.self.inside.objects.items k d lt) k d lt
-    (in_or_out k c.min-high.result)) refl
-
-pub returns-clause-exact : goal.returns-clause-exact
-returns-clause-exact c =
-    ap (λ (ms : List Marked). record { first = c.self.inside.first; objects = ms; earliest = None }) (now c) ∙ ap closed_union c.self.view_is
+pub returns-clause-answer : goal.returns-clause-answer
+returns-clause-answer c = λ r s is stands.
+    let u = c.self.inside in
+    let here = subst (λ (v : UnionState). Stands v s) (sym c.self.view_is) stands in
+    let rules = c.close_round.ensures.rules u.profile s r here.holds (collected c r s is here) in
+    (rules.1 ∙ ap (λ (v : UnionState). min (length (round_closed v.p r s).wants - length s.wants) 4294967295) c.self.view_is, rules.2)

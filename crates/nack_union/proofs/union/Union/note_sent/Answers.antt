@@ -1,37 +1,12 @@
-use Rattle.std.proofs.Common.{◌-◌, length, subst, sym, ap, ◌∙◌, arith, ℕ}
-use Rattle.std.specs.Prelude.{nat_lt}
-use Rattle.norm_order.specs.Sets.{with_member}
-use Rattle.nack_union.specs.Slots.{symbol_slot}
-use Rattle.nack_union.specs.Kept.{Kept, Marked, Stands}
+use Rattle.std.proofs.Common.{◌≡◌, ◌∙◌, ap, sym, subst, List, Option, Some}
+use Rattle.norm_send_rules.specs.SenderState.{SenderState, Asked, Round}
+use Rattle.nack_union.specs.Kept.{Kept, asked_so_far}
 use Rattle.nack_union.specs.Collected.{Collects}
-use Rattle.nack_union.proofs.Collections.{collects_kept}
-use Rattle.nack_union.proofs.Standing.{stands_noted}
+use Rattle.nack_union.specs.UnionState.{UnionState, Stands}
 use Rattle.nack_union.proofs.union.Union.note_sent.Goals as goal
 
 pub returns-clause-stands : goal.returns-clause-stands
-returns-clause-stands c = λ p s st.
-    let view = c.self.view_is in
-    let first = ap (λ (u : Kept). u.first) view in
-    let many = ap (λ (u : Kept). length u.objects) view in
-    let from = c.requires.first in
-    let to = c.requires.object in
-    stands_noted p s _ (c.args.at.index - c.self.inside.first) c.args.at c.note_sent.new.self c.index_mut-object.result.now
-    (omega (arith, first, many, from, to)) (omega (arith, first, from)) (omega arith)
-    (c.note_sent.ensures
-    ∙ ap (λ (n : ℕ). record (c.index_mut-object.result.now) { sent = with_member nat_lt n c.index_mut-object.result.now.sent }) c.slot_of.ensures.slot
-    ∙ ap (λ (m : Marked). record m { sent = with_member nat_lt (symbol_slot c.args.at.block c.args.at.symbol) m.sent }) c.index_mut-object.ensures.value)
-    (subst (λ (u : Kept). Stands p u s) (sym view) st)
-
-pub returns-clause-collects : goal.returns-clause-collects
-returns-clause-collects c = λ p s asked col.
-    let view = c.self.view_is in
-    let first = ap (λ (u : Kept). u.first) view in
-    let many = ap (λ (u : Kept). length u.objects) view in
-    let from = c.requires.first in
-    let to = c.requires.object in
-    let there = c.index_mut-object.ensures.value in
-    let kept = collects_kept p s (record { first = c.self.inside.first; objects = c.self.inside.objects.items; earliest = c.self.inside.earliest }) asked (c.args.at.index - c.self.inside.first) c.note_sent.new.self c.index_mut-object.result.now
-    (omega (arith, first, many, from, to))
-    (ap (λ (m : Marked). m.asked) c.note_sent.ensures ∙ ap (λ (m : Marked). m.asked) there) (ap (λ (m : Marked). m.counts) c.note_sent.ensures ∙ ap (λ (m : Marked). m.counts) there)
-    (subst (λ (u : Kept). Collects p u s asked) (sym view) col) in
-    record { known = kept.known; named = kept.named; counts = kept.counts; earliest = kept.earliest }
+returns-clause-stands c = λ s stands.
+    let u = c.self.inside in
+    let here = subst (λ (v : UnionState). Stands v s) (sym c.self.view_is) stands in
+    record { holds = c.note_sent.ensures.stands u.profile s here.holds; collects = c.note_sent.ensures.collects u.profile s (asked_so_far s) here.collects }

@@ -5,12 +5,12 @@ use Rattle.tx_window.specs.Asked.{AnswersAt}
 use Rattle.tx_window.proofs.StandingLemmas.{may_note}
 use Rattle.part_tests.proofs.tx_window_tests.Standing.send.Goals as goal
 
-pub note_sent-requires-clause-block : goal.note_sent-requires-clause-block
-note_sent-requires-clause-block c =
+pub note_sent-requires : goal.note_sent-requires
+note_sent-requires c =
     let w = c.self.inside.window in
     let s = c.self.invariant.state in
-    (may_note w s c.args.at c.clear.new.self c.symbol.new.out c.in-Some.octets c.self.invariant.stands
-    (subst (λ (r : Option ℕ). AnswersAt w.p s c.args.at c.clear.new.self c.symbol.new.out r) c.in-Some.is (c.symbol.ensures s c.self.invariant.stands))).1
+    may_note w s c.args.at c.clear.new.self c.symbol.new.out c.in-Some.octets c.self.invariant.stands
+    (subst (λ (r : Option ℕ). AnswersAt w.p s c.args.at c.clear.new.self c.symbol.new.out r) c.in-Some.is (c.symbol.ensures s c.self.invariant.stands))
 
 pub invariant_of-self : goal.invariant_of-self
 invariant_of-self c = record {

@@ -6,8 +6,8 @@ use Rattle.fec_plan.specs.Points.{Point, point}
 use Rattle.norm_send_rules.specs.Dropping.{dropped_to}
 use Rattle.norm_send_rules.specs.Room.{window, has_to_go, drop_after}
 use Rattle.tx_window.specs.Held.{HeldObject, octets_of}
-use Rattle.tx_window.specs.Windowed.{Windowed, WindowObject, Filling, Stands}
-use Rattle.tx_window.specs.Sound.{window_view, window_object, filling_in, IsRow, IsPlaced, IsFilling, all_octets, all_kept}
+use Rattle.tx_window.specs.WindowState.{WindowState, WindowObject, Filling, Stands}
+use Rattle.tx_window.specs.WindowSound.{window_view, window_object, filling_in, IsRow, IsPlaced, IsFilling, all_octets, all_kept}
 use Rattle.tx_window.proofs.RowLemmas.{octets_append, octets_cons}
 use Rattle.tx_window.proofs.RoomLemmas.{map_drop}
 use Rattle.tx_window.proofs.WindowLemmas.{slice_get-drop}
@@ -26,7 +26,7 @@ invariant_of-self c =
     let old = c.self.invariant in
     let w = c.self.inside in
     let same = c.reserve.ensures.held in
-    let none = none_begun w.ring w.filled w.begun (ap (λ (v : Windowed). v.filling) c.self.view_is ∙ c.requires) in
+    let none = none_begun w.ring w.filled w.begun (ap (λ (v : WindowState). v.filling) c.self.view_is ∙ c.requires) in
     record {
       ring_long = old.ring_long;
       octets = old.octets ∙ ap (λ hs. all_octets (hs ++ option_to_list w.begun)) (sym same);
@@ -34,9 +34,9 @@ invariant_of-self c =
       placed = subst (λ (hs : List HeldObject). (i : ℕ) (h : HeldObject) → slice_get hs i ≡ Some h → IsPlaced w.ring w.profile h) (sym same) old.placed;
       filling = old.filling;
       room = λ h e. absurd (never h (sym none ∙ e));
-      sized = subst (λ (ls : List ℕ). (i l : ℕ) → slice_get ls i ≡ Some l → (1 ≤ l) × (l ≤ 16777216)) (sym c.reserve.ensures.lengths) old.sized;
+      sized = subst (λ (ls : List ℕ). (i l : ℕ) → slice_get ls i ≡ Some l → (1 ≤ l) × (l ≤ 16777216)) (sym c.reserve.ensures.extents) old.sized;
       counted = omega (arith, old.counted, ap (λ hs. length (hs ++ option_to_list w.begun)) same);
-      numbered = omega (arith, old.numbered, ap length same, ap length c.reserve.ensures.lengths);
+      numbered = omega (arith, old.numbered, ap length same, ap length c.reserve.ensures.extents);
     }
   where
     never : (h : HeldObject) → ◌≡◌ {A = Option HeldObject} None (Some h) → ⊥
@@ -48,9 +48,9 @@ behind-self-inside-requires-clause-at c = row_within _ c.self.invariant.row.head
 pub behind-self-inside-requires-clause-count : goal.behind-self-inside-requires-clause-count
 behind-self-inside-requires-clause-count c =
     let w = c.self.inside in
-    let free = c.fault.ensures.free c.in_default.is in
+    let free = c.object_fault.ensures.free c.in_default.is in
     let filling = filling_begun w.ring w.profile (all_kept w) c.in-Ok.begun c.args.kind c.args.info c.args.len w.free c.self.invariant.ring_long c.self.invariant.row c.taken.ensures.sound
-    (omega (arith, c.room_for-count.ensures.few)) c.in-Ok.ensures free.0 (omega (arith, free.1, ap (λ (v : Windowed). v.p.octets) c.self.view_is)) free.2 in
+    (omega (arith, c.room_for-count.ensures.few)) c.in-Ok.ensures free.0 (omega (arith, free.1, ap (λ (v : WindowState). v.p.octets) c.self.view_is)) free.2 (omega (arith, free.3, c.info_len.ensures, ap (λ (v : WindowState). v.p.e) c.self.view_is)) in
     omega (arith, c.taken.ensures.exact, filling.lies.room)
 
 pub invariant_of-self-2 : goal.invariant_of-self-2
@@ -61,8 +61,8 @@ invariant_of-self-2 c =
     let p : Settings = w.profile in
     let n = c.room_for-count.result.0 in
     let hs = w.held.items in
-    let free = c.fault.ensures.free c.in_default.is in
-    let none = none_begun w.ring w.filled w.begun (ap (λ (v : Windowed). v.filling) c.self.view_is ∙ c.requires) in
+    let free = c.object_fault.ensures.free c.in_default.is in
+    let none = none_begun w.ring w.filled w.begun (ap (λ (v : WindowState). v.filling) c.self.view_is ∙ c.requires) in
     let all : all_kept w ≡ hs = ap (λ b. hs ++ option_to_list b) none ∙ append-nil hs in
     let same : c.drop_front.new.held.items ≡ drop n hs = c.drop_front.ensures.items ∙ ap (drop n) c.reserve.ensures.held in
     let octets : octets_of h.cut ≡ c.args.len = ap (λ (k : HeldObject). octets_of k.cut) c.in-Ok.ensures in
@@ -70,7 +70,7 @@ invariant_of-self-2 c =
     let few : length hs - n < p.window = omega (arith, c.room_for-count.ensures.few, ap length c.reserve.ensures.held) in
     let row : IsRow w.ring p hs w.free = subst (λ ks. IsRow w.ring p ks w.free) all old.row in
     let filling = filling_begun w.ring p hs h c.args.kind c.args.info c.args.len w.free old.ring_long row c.taken.ensures.sound
-    (omega (arith, few)) c.in-Ok.ensures free.0 (omega (arith, free.1, ap (λ (v : Windowed). v.p.octets) c.self.view_is)) free.2 in
+    (omega (arith, few)) c.in-Ok.ensures free.0 (omega (arith, free.1, ap (λ (v : WindowState). v.p.octets) c.self.view_is)) free.2 (omega (arith, free.3, c.info_len.ensures, ap (λ (v : WindowState). v.p.e) c.self.view_is)) in
     let e-is : h.cut.e ≡ p.e = ap (λ (k : HeldObject). k.cut.e) c.in-Ok.ensures in
     let le : n ≤ length hs = omega (arith, c.room_for-count.ensures.count, ap length c.reserve.ensures.held) in
     record {
@@ -85,11 +85,11 @@ invariant_of-self-2 c =
           (omega (arith, left, octets, c.room_for-count.ensures.fit)) few
           (subst (λ m. Rattle.tx_window.specs.Round.IsAround (length w.ring) (w.free + m) c.behind-self-inside.result) c.taken.ensures.exact c.behind-self-inside.ensures));
       placed = λ i k e. old.placed (n + i) k (sym (slice_get-drop n hs i) ∙ ap (λ ks. slice_get ks i) (sym same) ∙ e);
-      sized = subst (λ (ls : List ℕ). (i l : ℕ) → slice_get ls i ≡ Some l → (1 ≤ l) × (l ≤ 16777216)) (sym c.reserve.ensures.lengths) old.sized;
+      sized = subst (λ (ls : List ℕ). (i l : ℕ) → slice_get ls i ≡ Some l → (1 ≤ l) × (l ≤ 16777216)) (sym c.reserve.ensures.extents) old.sized;
       filling = λ k e. subst (IsFilling w.ring p 0) (is k e) filling;
       room = λ k e. (
         omega (arith, c.reserve.ensures.held_room c.if-not-reserve.false, c.drop_front.ensures.capacity, ap length same, length-drop n hs, ap length c.reserve.ensures.held),
-        c.reserve.ensures.lengths_room c.if-not-reserve.false,
+        c.reserve.ensures.extents_room c.if-not-reserve.false,
       );
       counted = omega (
         arith,
@@ -97,12 +97,12 @@ invariant_of-self-2 c =
         length-append (drop n hs) (h ∷ []),
         length-drop n hs,
         le,
-        free.3,
-        ap (λ (v : Windowed). v.dropped) c.self.view_is,
-        ap (λ (v : Windowed). length v.objects) c.self.view_is,
+        free.4,
+        ap (λ (v : WindowState). v.drop.index) c.self.view_is,
+        ap (λ (v : WindowState). length v.objects) c.self.view_is,
         length-map hs (window_object w.ring),
       );
-      numbered = omega (arith, ap length same, length-drop n hs, le, old.numbered, ap length c.reserve.ensures.lengths);
+      numbered = omega (arith, ap length same, length-drop n hs, le, old.numbered, ap length c.reserve.ensures.extents);
     }
   where
     is : (k : HeldObject) → Some c.in-Ok.begun ≡ Some k → c.in-Ok.begun ≡ k
@@ -113,7 +113,7 @@ returns-clause-stands c = λ s stands.
     let w = c.self.inside in
     let n = c.room_for-count.result.0 in
     let hs = w.held.items in
-    let here = subst (λ (v : Windowed). Stands v s) (sym c.self.view_is) stands in
+    let here = subst (λ (v : WindowState). Stands v s) (sym c.self.view_is) stands in
     let same : c.drop_front.new.held.items ≡ drop n hs = c.drop_front.ensures.items ∙ ap (drop n) c.reserve.ensures.held in
     let le : n ≤ length (map (window_object w.ring) hs) = omega (arith, c.room_for-count.ensures.count, ap length c.reserve.ensures.held, length-map hs (window_object w.ring)) in
     let count : n ≡ has_to_go w.profile c.args.len (window s) =
@@ -123,11 +123,11 @@ returns-clause-stands c = λ s stands.
     let objects : drop n (map (window_object w.ring) hs) ≡ map (window_object w.ring) c.drop_front.new.held.items =
     sym (map_drop (window_object w.ring) n hs) ∙ ap (map (window_object w.ring)) (sym same) in
     let point-is : point (w.dropped + n) 0 ≡ drop_after s.current.drop (has_to_go c.args.self.now.p c.args.len (window s)) =
-    sym (drop_is s.current.drop w.dropped n here.dropped) ∙ ap (drop_after s.current.drop) (count ∙ ap (λ (v : Windowed). has_to_go v.p c.args.len (window s)) c.self.view_is) in
-    subst (λ (d : Point). Stands (record (after_drop (window_view w) n f) { objects = map (window_object w.ring) c.drop_front.new.held.items; lengths = c.reserve.new.lengths.items }) (dropped_to d s)) point-is
-    (subst (λ (ls : List ℕ). Stands (record (after_drop (window_view w) n f) { objects = map (window_object w.ring) c.drop_front.new.held.items; lengths = ls }) (dropped_to (point (w.dropped + n) 0) s)) (sym c.reserve.ensures.lengths)
+    sym (drop_is s.current.drop w.dropped n here.dropped) ∙ ap (drop_after s.current.drop) (count ∙ ap (λ (v : WindowState). has_to_go v.p c.args.len (window s)) c.self.view_is) in
+    subst (λ (d : Point). Stands (record (after_drop (window_view w) n f) { objects = map (window_object w.ring) c.drop_front.new.held.items; extents = c.reserve.new.extents.items }) (dropped_to d s)) point-is
+    (subst (λ (ls : List ℕ). Stands (record (after_drop (window_view w) n f) { objects = map (window_object w.ring) c.drop_front.new.held.items; extents = ls }) (dropped_to (point (w.dropped + n) 0) s)) (sym c.reserve.ensures.extents)
     (subst (λ (os : List WindowObject). Stands (record (after_drop (window_view w) n f) { objects = os }) (dropped_to (point (w.dropped + n) 0) s)) objects dropped))
 
 pub returns-clause-free : goal.returns-clause-free
 returns-clause-free c = λ s octets stands long.
-    sym (c.fault.ensures.exact s c.args.info octets stands (sym c.info_len.ensures) long) ∙ c.in_default.is
+    sym (c.object_fault.ensures.exact s c.args.info octets stands (sym c.info_len.ensures) long) ∙ c.in_default.is

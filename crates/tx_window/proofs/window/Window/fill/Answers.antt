@@ -4,17 +4,19 @@ use Rattle.norm_base.specs.Settings.{Settings}
 use Rattle.fec_plan.specs.Partition.{Cut}
 use Rattle.tx_window.specs.Held.{HeldObject, octets_of, octets_in}
 use Rattle.tx_window.specs.Round.{round, IsAround}
-use Rattle.tx_window.specs.Windowed.{Windowed, WindowObject, Filling}
-use Rattle.tx_window.specs.Sound.{window_view, filling_in, IsRow, IsFilling, all_kept, taken_by}
+use Rattle.tx_window.specs.WindowState.{WindowState, WindowObject, Filling, Stands}
+use Rattle.tx_window.specs.WindowSound.{window_view, filling_in, IsRow, IsFilling, all_kept, taken_by}
 use Rattle.tx_window.proofs.RoundLemmas.{length-round}
 use Rattle.tx_window.proofs.RowLemmas.{symbols_taken}
+use Rattle.tx_window.specs.Taking.{with_piece}
 use Rattle.tx_window.proofs.BeginningLemmas.{placed_cut, cut_more}
+use Rattle.tx_window.proofs.JoiningLemmas.{stands_filling}
 use Rattle.tx_window.proofs.FillingLemmas.{IsPut, filled_more, kept_octets, kept_objects, placed_kept, row_kept, filling_kept}
 use Rattle.tx_window.proofs.window.Window.fill.Goals as goal
 
 -- the object that is being filled, as the caller knows it
 seen : (c : goal.After-self-2-1) → c.args.self.now.filling ≡ Some (filling_in c.self.inside.ring c.self.inside.filled c.in-Some.begun)
-seen c = ap (λ (v : Windowed). v.filling) (sym c.self.view_is) ∙ ap (option_map (filling_in c.self.inside.ring c.self.inside.filled)) c.in-Some.is
+seen c = ap (λ (v : WindowState). v.filling) (sym c.self.view_is) ∙ ap (option_map (filling_in c.self.inside.ring c.self.inside.filled)) c.in-Some.is
 
 begun : (c : goal.After-self-2-1) → IsFilling c.self.inside.ring c.self.inside.profile c.self.inside.filled c.in-Some.begun
 begun c = c.self.invariant.filling c.in-Some.begun c.in-Some.is
@@ -72,8 +74,8 @@ invariant_of-self c =
     is : (k : HeldObject) → Some c.in-Some.begun ≡ Some k → c.in-Some.begun ≡ k
     is k e = cc
 
-pub returns : goal.returns
-returns c = λ f f-is.
+pub returns-clause-exact : goal.returns-clause-exact
+returns-clause-exact c = λ f f-is.
     let w = c.self.inside in
     let h = c.in-Some.begun in
     let new = c.write.new.self in
@@ -85,7 +87,12 @@ returns c = λ f f-is.
     ∙ ap (λ (b : Option HeldObject). record (window_view w) { filling = option_map (filling_in new (w.filled + length c.args.piece.now)) b }) c.in-Some.is
     ∙ ap (λ (xs : List ℕ). record (window_view w) { filling = Some (record { kind = h.kind; info = h.info; len = octets_of h.cut; octets = xs }) }) octets
     ∙ ap (λ (g : Filling). record (window_view w) { filling = Some (record g { octets = g.octets ++ c.args.piece.now }) }) same
-    ∙ ap (λ (v : Windowed). record v { filling = Some (record f { octets = f.octets ++ c.args.piece.now }) }) c.self.view_is
+    ∙ ap (λ (v : WindowState). record v { filling = Some (record f { octets = f.octets ++ c.args.piece.now }) }) c.self.view_is
   where
     is : (f : Filling) → Some (filling_in c.self.inside.ring c.self.inside.filled c.in-Some.begun) ≡ Some f → filling_in c.self.inside.ring c.self.inside.filled c.in-Some.begun ≡ f
     is f e = cc
+
+pub returns-clause-stands : goal.returns-clause-stands
+returns-clause-stands c = λ s stands.
+    subst (λ (w : WindowState). Stands w s) (sym (returns-clause-exact c (filling_in c.self.inside.ring c.self.inside.filled c.in-Some.begun) (seen c)))
+    (stands_filling c.args.self.now s (Some (with_piece c.args.piece.now (filling_in c.self.inside.ring c.self.inside.filled c.in-Some.begun))) stands)

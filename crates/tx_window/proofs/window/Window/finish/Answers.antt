@@ -1,41 +1,42 @@
-use Rattle.std.proofs.Common.{◌≡◌, ◌+◌, ◌-◌, ◌≤◌, ◌++◌, ap, sym, subst, ◌∙◌, arith, None, Some, ℕ, Option, List, [], ◌∷◌, length, length-append, map, take}
+use Rattle.std.proofs.Common.{◌≡◌, ◌+◌, ◌-◌, ◌≤◌, ◌++◌, ap, sym, subst, ◌∙◌, arith, None, Some, ℕ, Option, List, [], ◌∷◌, length, length-append, map, take, drop, ◌⊎◌, inl, inr}
 use Rattle.std.specs.Prelude.{slice_get, option_to_list, option_map, MatchOption, replicate, is_some, if◌then◌else◌}
-use Rattle.std.proofs.lemmas.List.{append-nil, map-append, length-replicate}
+use Rattle.std.proofs.lemmas.List.{append-nil, map-append, length-replicate, length-drop, length-map}
 use Rattle.norm_base.specs.Settings.{Settings}
 use Rattle.fec_plan.specs.Partition.{Cut, IsSound, cut_of, all_symbols}
 use Rattle.norm_order.specs.Entries.{Whole}
 use Rattle.norm_order.specs.Shapes.{last_in}
 use Rattle.norm_send_rules.specs.Enqueuing.{with_entry}
+use Rattle.norm_send_rules.specs.InWindow.{next_index}
 use Rattle.tx_window.specs.Held.{HeldObject, octets_of, octets_in}
 use Rattle.tx_window.specs.Round.{round, IsAround}
-use Rattle.tx_window.specs.Windowed.{Windowed, WindowObject, Filling, Stands}
+use Rattle.tx_window.specs.WindowState.{WindowState, WindowObject, Filling, Stands, most_kept}
 use Rattle.tx_window.specs.Taking.{filled_entry}
-use Rattle.tx_window.specs.Sound.{window_view, window_object, filling_in, IsRow, IsPlaced, IsFilling, all_kept, taken_by, all_octets}
+use Rattle.tx_window.specs.WindowSound.{window_view, window_object, filling_in, IsRow, IsPlaced, IsFilling, all_kept, taken_by, all_octets}
 use Rattle.tx_window.proofs.RoundLemmas.{length-round}
 use Rattle.tx_window.proofs.RowLemmas.{symbols_taken}
-use Rattle.tx_window.proofs.BeginningLemmas.{placed_cut, cut_more, placed_more, sized_more}
+use Rattle.tx_window.proofs.BeginningLemmas.{placed_cut, cut_more, placed_more, sized_more, sized_behind}
 use Rattle.tx_window.proofs.JoiningLemmas.{stands_joined}
 use Rattle.tx_window.proofs.FillingLemmas.{IsPut, put_zeros, filled_more, kept_octets, kept_objects, placed_kept, row_kept, filling_kept, octets_taken, whole_placed}
 use Rattle.tx_window.proofs.window.Window.finish.Goals as goal
 
-was : (c : goal.After-unwrap-2) → c.self.inside.begun ≡ Some c.in-Some.begun
+was : (c : goal.After-unwrap) → c.self.inside.begun ≡ Some c.in-Some.begun
 was c = sym c.take.ensures.value ∙ c.in-Some.is
 
-begun : (c : goal.After-unwrap-2) → IsFilling c.self.inside.ring c.self.inside.profile c.self.inside.filled c.in-Some.begun
+begun : (c : goal.After-unwrap) → IsFilling c.self.inside.ring c.self.inside.profile c.self.inside.filled c.in-Some.begun
 begun c = c.self.invariant.filling c.in-Some.begun (was c)
 
-seen : (c : goal.After-unwrap-2) → c.args.self.now.filling ≡ Some (filling_in c.self.inside.ring c.self.inside.filled c.in-Some.begun)
-seen c = ap (λ (v : Windowed). v.filling) (sym c.self.view_is) ∙ ap (option_map (filling_in c.self.inside.ring c.self.inside.filled)) (was c)
+seen : (c : goal.After-unwrap) → c.args.self.now.filling ≡ Some (filling_in c.self.inside.ring c.self.inside.filled c.in-Some.begun)
+seen c = ap (λ (v : WindowState). v.filling) (sym c.self.view_is) ∙ ap (option_map (filling_in c.self.inside.ring c.self.inside.filled)) (was c)
 
 -- all octets are there, and zeros are behind them
-pub record Facts (c : goal.After-unwrap-2) : Type 0 where
+pub record Facts (c : goal.After-unwrap) : Type 0 where
   pub some : 64 ≤ c.self.inside.profile.e
   pub within : c.self.inside.filled ≤ taken_by c.in-Some.begun
   pub long : length (round c.self.inside.ring c.in-Some.begun.start c.self.inside.filled) ≡ c.self.inside.filled
   pub all : c.self.inside.filled ≡ octets_of c.in-Some.begun.cut
   pub pad : c.taken.result - c.self.inside.filled ≡ taken_by c.in-Some.begun - c.self.inside.filled
 
-facts : (c : goal.After-unwrap-2) → Facts c
+facts : (c : goal.After-unwrap) → Facts c
 facts c =
     let w = c.self.inside in
     let h = c.in-Some.begun in
@@ -53,12 +54,12 @@ facts c =
       pad = ap (λ n. n - w.filled) c.taken.ensures.exact;
     }
 
-put : (c : goal.After-unwrap-2) → IsPut c.self.inside.ring c.clear.new.self (replicate (c.taken.result - c.self.inside.filled) 0) c.in-Some.begun.start c.self.inside.filled c.behind-at.result
+put : (c : goal.After-unwrap) → IsPut c.self.inside.ring c.clear.new.self (replicate (c.taken.result - c.self.inside.filled) 0) c.in-Some.begun.start c.self.inside.filled c.behind-at.result
 put c =
     put_zeros c.self.inside.ring c.clear.new.self c.in-Some.begun.start c.self.inside.filled c.behind-at.result (c.taken.result - c.self.inside.filled) c.clear.ensures.size
     (subst (λ n. IsAround (length c.self.inside.ring) (n + c.self.inside.filled) c.behind-at.result) c.start.ensures c.behind-at.ensures) c.clear.ensures.cleared c.clear.ensures.others
 
-kept : (c : goal.After-unwrap-2) (i : ℕ) (o : HeldObject) → slice_get c.self.inside.held.items i ≡ Some o → octets_in c.clear.new.self o ≡ octets_in c.self.inside.ring o
+kept : (c : goal.After-unwrap) (i : ℕ) (o : HeldObject) → slice_get c.self.inside.held.items i ≡ Some o → octets_in c.clear.new.self o ≡ octets_in c.self.inside.ring o
 kept c =
     let w = c.self.inside in
     let h = c.in-Some.begun in
@@ -70,7 +71,7 @@ kept c =
     (omega (arith, length-replicate {A = ℕ} (c.taken.result - w.filled) 0, (facts c).pad, (facts c).within))
 
 -- the object's octets, as they lie in the ring
-whole : (c : goal.After-unwrap-2) → octets_in c.clear.new.self c.in-Some.begun
+whole : (c : goal.After-unwrap) → octets_in c.clear.new.self c.in-Some.begun
     ≡ round c.self.inside.ring c.in-Some.begun.start c.self.inside.filled ++ replicate (c.taken.result - c.self.inside.filled) 0
 whole c =
     let w = c.self.inside in
@@ -80,7 +81,7 @@ whole c =
     ∙ filled_more w.ring c.clear.new.self (replicate (c.taken.result - w.filled) 0) h.start w.filled c.behind-at.result (put c) (begun c).lies.start
     (omega (arith, pad, (facts c).pad, (facts c).within, (begun c).lies.room))
 
-placed : (c : goal.After-unwrap-2) → IsPlaced c.clear.new.self c.self.inside.profile c.in-Some.begun
+placed : (c : goal.After-unwrap) → IsPlaced c.clear.new.self c.self.inside.profile c.in-Some.begun
 placed c =
     let w = c.self.inside in
     let h = c.in-Some.begun in
@@ -89,17 +90,22 @@ placed c =
     ((facts c).long ∙ (facts c).all) (omega (arith, (facts c).pad, (facts c).within, (facts c).all)) (whole c)
 
 -- the lists after one more was put behind them
-held_is : (c : goal.After-unwrap-2) → c.push_back.new.self.items ≡ c.self.inside.held.items ++ c.in-Some.begun ∷ []
+held_is : (c : goal.After-unwrap) → c.push_back.new.self.items ≡ c.self.inside.held.items ++ c.in-Some.begun ∷ []
 held_is c =
     c.push_back.ensures.items
     ∙ ap (λ b. if b then c.self.inside.held.items ++ c.in-Some.begun ∷ [] else c.self.inside.held.items) (c.push_back.ensures.succeeds (let room = (c.self.invariant.room c.in-Some.begun (was c)).0 in omega (arith, room)))
 
-lengths_is : (c : goal.After-unwrap-2) → c.push.new.self.items ≡ c.self.inside.lengths.items ++ c.len.result ∷ []
-lengths_is c =
-    c.push.ensures.items
-    ∙ ap (λ b. if b then c.self.inside.lengths.items ++ c.len.result ∷ [] else c.self.inside.lengths.items) (c.push.ensures.succeeds (let room = (c.self.invariant.room c.in-Some.begun (was c)).1 in omega (arith, room, c.self.inside.lengths.ok.0)))
+-- how many are forgotten, by the length of the order
+counted_is : (c : goal.After-unwrap) (n : ℕ) → n ≡ c.self.inside.dropped + length c.self.inside.held.items
+    → (c.keep_extent-forgotten.result ≡ c.self.inside.forgotten) ⊎ ((c.keep_extent-forgotten.result ≡ c.self.inside.forgotten + 1) × (c.self.inside.forgotten + most_kept ≤ n))
+counted_is c n is = by c.keep_extent-forgotten.ensures.kept
+  where
+    by : (c.keep_extent-forgotten.result ≡ c.self.inside.forgotten) ⊎ ((c.keep_extent-forgotten.result ≡ c.self.inside.forgotten + 1) × (most_kept ≤ length c.self.inside.extents.items))
+        → (c.keep_extent-forgotten.result ≡ c.self.inside.forgotten) ⊎ ((c.keep_extent-forgotten.result ≡ c.self.inside.forgotten + 1) × (c.self.inside.forgotten + most_kept ≤ n))
+    by (inl same) = inl same
+    by (inr more) = inr (more.0, omega (arith, more.1, is, c.self.invariant.numbered))
 
-all_is : (c : goal.After-unwrap-2) → c.push_back.new.self.items ++ option_to_list c.take.new.self ≡ all_kept c.self.inside
+all_is : (c : goal.After-unwrap) → c.push_back.new.self.items ++ option_to_list c.take.new.self ≡ all_kept c.self.inside
 all_is c =
     ap (λ b. c.push_back.new.self.items ++ option_to_list b) c.take.ensures.after ∙ append-nil c.push_back.new.self.items ∙ held_is c
     ∙ ap (λ b. c.self.inside.held.items ++ option_to_list b) (sym (was c))
@@ -119,13 +125,26 @@ invariant_of-self-2 c =
       filling = λ k e. absurd (never k (sym c.take.ensures.after ∙ e));
       room = λ k e. absurd (never k (sym c.take.ensures.after ∙ e));
       counted = omega (arith, old.counted, ap length (all_is c));
-      sized = subst (λ (ls : List ℕ). (i l : ℕ) → slice_get ls i ≡ Some l → (1 ≤ l) × (l ≤ 16777216)) (sym (lengths_is c))
-          (sized_more w.lengths.items c.len.result old.sized (omega (arith, c.len.ensures.exact, (begun c).some), omega (arith, c.len.ensures.exact, (begun c).most)));
-      numbered = omega (arith, old.numbered, ap length (held_is c), ap length (lengths_is c), length-append w.held.items (c.in-Some.begun ∷ []), length-append w.lengths.items (c.len.result ∷ []));
+      sized = subst (λ (ls : List ℕ). (i l : ℕ) → slice_get ls i ≡ Some l → (1 ≤ l) × (l ≤ 16777216)) (sym c.keep_extent-forgotten.ensures.items)
+          (sized_behind (c.keep_extent-forgotten.result - w.forgotten) (w.extents.items ++ c.len.result ∷ []) (sized_more w.extents.items c.len.result old.sized (omega (arith, c.len.ensures.exact, (begun c).some), omega (arith, c.len.ensures.exact, (begun c).most))));
+      numbered = numbered_is c.keep_extent-forgotten.ensures.kept;
     }
   where
     never : (k : HeldObject) → ◌≡◌ {A = Option HeldObject} None (Some k) → ⊥
     never k e = cc
+
+    long : length c.keep_extent-forgotten.new.extents.items ≡ length c.self.inside.extents.items + 1 - (c.keep_extent-forgotten.result - c.self.inside.forgotten)
+    long = omega (
+      arith,
+      ap length c.keep_extent-forgotten.ensures.items,
+      length-drop (c.keep_extent-forgotten.result - c.self.inside.forgotten) (c.self.inside.extents.items ++ c.len.result ∷ []),
+      length-append c.self.inside.extents.items (c.len.result ∷ []),
+    )
+
+    numbered_is : (c.keep_extent-forgotten.result ≡ c.self.inside.forgotten) ⊎ ((c.keep_extent-forgotten.result ≡ c.self.inside.forgotten + 1) × (most_kept ≤ length c.self.inside.extents.items))
+        → c.keep_extent-forgotten.result + length c.keep_extent-forgotten.new.extents.items ≡ c.self.inside.dropped + length c.push_back.new.self.items
+    numbered_is (inl same) = omega (arith, same, long, c.self.invariant.numbered, ap length (held_is c), length-append c.self.inside.held.items (c.in-Some.begun ∷ []))
+    numbered_is (inr more) = omega (arith, more, long, c.self.invariant.numbered, ap length (held_is c), length-append c.self.inside.held.items (c.in-Some.begun ∷ []))
 
 pub returns-clause-stands : goal.returns-clause-stands
 returns-clause-stands c = λ s by f stands f-is.
@@ -134,12 +153,13 @@ returns-clause-stands c = λ s by f stands f-is.
     let p : Settings = w.profile in
     let new = c.clear.new.self in
     let octets = round w.ring h.start w.filled in
-    let here = subst (λ (v : Windowed). Stands v s) (sym c.self.view_is) stands in
+    let here = subst (λ (v : WindowState). Stands v s) (sym c.self.view_is) stands in
     let long : length octets ≡ octets_of h.cut = (facts c).long ∙ (facts c).all in
     let cut : h.cut ≡ cut_of (length octets) p.e p.b p.max_n = (begun c).cut ∙ ap (λ n. cut_of n p.e p.b p.max_n) (sym long) in
     let same : filling_in w.ring w.filled h ≡ f = is f (sym (seen c) ∙ f-is) in
     let object = ap (Whole h.kind h.info) (ap (take (octets_of h.cut)) (whole c) ∙ octets_taken octets (replicate (c.taken.result - w.filled) 0) (octets_of h.cut) long) in
-    let joined = stands_joined (window_view w) s by h.kind h.info octets (window_object new h) c.last.result object (subst IsSound cut (begun c).sound)
+    let joined = stands_joined (window_view w) s by h.kind h.info octets (window_object new h) c.keep_extent-forgotten.result c.last.result
+    (counted_is c (next_index s) (omega (arith, here.next, length-map w.held.items (window_object w.ring)))) object (subst IsSound cut (begun c).sound)
     (ap (λ (k : HeldObject). k.sent) (begun c).fresh ∙ ap (λ (k : Cut). replicate (all_symbols k) Rattle.std.specs.Prelude.false) cut)
     (ap (λ (k : HeldObject). k.info_sent) (begun c).fresh)
     (ap (λ i. last_in i (record { cut = cut_of (length octets) p.e p.b p.max_n; closed = all_symbols (cut_of (length octets) p.e p.b p.max_n); info = is_some h.info })) (sym (c.next_index-index.ensures.exact s stands))
@@ -148,29 +168,34 @@ returns-clause-stands c = λ s by f stands f-is.
     let objects : map (window_object w.ring) w.held.items ++ window_object new h ∷ [] ≡ map (window_object new) c.push_back.new.self.items =
     ap (λ os. os ++ window_object new h ∷ []) (sym (kept_objects w.ring new w.held.items (kept c)))
     ∙ sym (map-append (window_object new) w.held.items (h ∷ [])) ∙ ap (map (window_object new)) (sym (held_is c)) in
-    let lengths : w.lengths.items ++ length octets ∷ [] ≡ c.push.new.self.items = ap (λ n. w.lengths.items ++ n ∷ []) (long ∙ sym c.len.ensures.exact) ∙ sym (lengths_is c) in
+    let extents : drop (c.keep_extent-forgotten.result - w.forgotten) (w.extents.items ++ length octets ∷ []) ≡ c.keep_extent-forgotten.new.extents.items =
+    ap (λ n. drop (c.keep_extent-forgotten.result - w.forgotten) (w.extents.items ++ n ∷ [])) (long ∙ sym c.len.ensures.exact) ∙ sym c.keep_extent-forgotten.ensures.items in
     let t = with_entry (record { by = by; object = Whole h.kind h.info octets }) s in
     subst (λ (g : Filling). Stands (record (window_view w) {
       objects = map (window_object new) c.push_back.new.self.items;
-      lengths = c.push.new.self.items;
+      forgotten = c.keep_extent-forgotten.result;
+      extents = c.keep_extent-forgotten.new.extents.items;
       filling = option_map (filling_in new w.filled) c.take.new.self;
       last = Some c.last.result;
     }) (with_entry (filled_entry by g) s)) same
     (subst (λ (b : Option HeldObject). Stands (record (window_view w) {
       objects = map (window_object new) c.push_back.new.self.items;
-      lengths = c.push.new.self.items;
+      forgotten = c.keep_extent-forgotten.result;
+      extents = c.keep_extent-forgotten.new.extents.items;
       filling = option_map (filling_in new w.filled) b;
       last = Some c.last.result;
     }) t) (sym c.take.ensures.after)
     (subst (λ (ls : List ℕ). Stands (record (window_view w) {
       objects = map (window_object new) c.push_back.new.self.items;
-      lengths = ls;
+      forgotten = c.keep_extent-forgotten.result;
+      extents = ls;
       filling = None;
       last = Some c.last.result;
-    }) t) lengths
+    }) t) extents
     (subst (λ (os : List WindowObject). Stands (record (window_view w) {
       objects = os;
-      lengths = w.lengths.items ++ length octets ∷ [];
+      forgotten = c.keep_extent-forgotten.result;
+      extents = drop (c.keep_extent-forgotten.result - w.forgotten) (w.extents.items ++ length octets ∷ []);
       filling = None;
       last = Some c.last.result;
     }) t) objects joined)))

@@ -1,41 +1,39 @@
 use Rattle.std.proofs.Common.{◌≡◌, ◌<◌, ◌≤◌, ap, sym, subst, ◌∙◌, arith}
-use Rattle.std.specs.Prelude.{slice_get, Some, nat_lt}
+use Rattle.std.specs.Prelude.{slice_get, Some, None, nat_lt}
 use Rattle.std.proofs.lemmas.Bool.{le-ltb}
 use Rattle.fec_plan.specs.Partition.{Cut, IsSound, blocks, source_symbols}
 use Rattle.norm_base.specs.Settings.{Settings}
 use Rattle.norm_order.specs.Shapes.{is_source}
 use Rattle.norm_send_rules.specs.InWindow.{current_shapes}
-use Rattle.tx_window.specs.Windowed.{Windowed, Stands}
-use Rattle.tx_window.specs.Sound.{window_view}
-use Rattle.tx_window.proofs.NotingLemmas.{get_there}
-use Rattle.tx_window.proofs.SourceLemmas.{source_of, closed_here, closed_past}
+use Rattle.tx_window.specs.WindowState.{WindowState, Stands}
+use Rattle.tx_window.specs.WindowSound.{window_view}
+use Rattle.tx_window.proofs.WindowLemmas.{found_at}
+use Rattle.tx_window.proofs.SourceLemmas.{source_of, source_none, closed_here, closed_past}
 use Rattle.tx_window.proofs.window.Window.is_source.Goals as goal
 
 pub returns-then-at-blocks : goal.returns-then-at-blocks
-returns-then-at-blocks c = λ s stands.
+returns-then-at-blocks c = λ s stands near.
     let w = c.self.inside in
-    let l = c.index.result.now in
+    let l = c.in-Some.len in
     let p : Settings = w.profile in
     let plan = c.plan_of-plan.ensures in
-    let here = subst (λ (v : Windowed). Stands v s) (sym c.self.view_is) stands in
-    let found : slice_get w.lengths.items c.args.at.index ≡ Some l = get_there w.lengths.items c.args.at.index l (omega (arith, c.if-at-len.false, c.len.ensures, w.lengths.ok.0)) c.index.ensures in
+    let here = subst (λ (v : WindowState). Stands v s) (sym c.self.view_is) stands in
     ap (nat_lt c.args.at.symbol) (c.source_len.ensures.exact ∙ ap (λ (k : Cut). source_symbols k c.args.at.block) plan
     ∙ sym (closed_here p l c.args.at.block (subst IsSound plan c.blocks-2.ensures.sound)
     (subst (λ (k : Cut). c.args.at.block < blocks k) plan (omega (arith, c.if-at-blocks.true, c.blocks-2.ensures.exact)))))
-    ∙ sym (source_of (window_view w) s c.args.at l here found)
-    ∙ ap (λ (v : Windowed). is_source (current_shapes v.p s) c.args.at) c.self.view_is
+    ∙ sym (source_of (window_view w) s c.args.at l here (sym c.in-Some.is ∙ c.extent_at.ensures))
+    ∙ ap (λ (v : WindowState). is_source (current_shapes v.p s) c.args.at) c.self.view_is
 
 pub returns-else-at-blocks : goal.returns-else-at-blocks
-returns-else-at-blocks c = λ s stands.
+returns-else-at-blocks c = λ s stands near.
     let w = c.self.inside in
-    let l = c.index.result.now in
+    let l = c.in-Some.len in
     let p : Settings = w.profile in
     let plan = c.plan_of-plan.ensures in
-    let here = subst (λ (v : Windowed). Stands v s) (sym c.self.view_is) stands in
-    let found : slice_get w.lengths.items c.args.at.index ≡ Some l = get_there w.lengths.items c.args.at.index l (omega (arith, c.if-at-len.false, c.len.ensures, w.lengths.ok.0)) c.index.ensures in
+    let here = subst (λ (v : WindowState). Stands v s) (sym c.self.view_is) stands in
     le-ltb c.args.at.block c.blocks-2.result c.if-at-blocks.false
     ∙ sym (le-ltb c.args.at.symbol 0 (omega arith))
     ∙ ap (nat_lt c.args.at.symbol) (sym (closed_past p l c.args.at.block (subst IsSound plan c.blocks-2.ensures.sound)
     (subst (λ (k : Cut). blocks k ≤ c.args.at.block) plan (omega (arith, c.if-at-blocks.false, c.blocks-2.ensures.exact)))))
-    ∙ sym (source_of (window_view w) s c.args.at l here found)
-    ∙ ap (λ (v : Windowed). is_source (current_shapes v.p s) c.args.at) c.self.view_is
+    ∙ sym (source_of (window_view w) s c.args.at l here (sym c.in-Some.is ∙ c.extent_at.ensures))
+    ∙ ap (λ (v : WindowState). is_source (current_shapes v.p s) c.args.at) c.self.view_is

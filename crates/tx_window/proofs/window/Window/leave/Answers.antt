@@ -1,9 +1,11 @@
 use Rattle.std.proofs.Common.{◌≡◌, ◌++◌, ap, sym, subst, ◌∙◌, arith, None, Some, Option, [], ◌∷◌, length, length-append}
-use Rattle.std.specs.Prelude.{option_to_list}
+use Rattle.std.specs.Prelude.{option_to_list, option_map}
 use Rattle.std.proofs.lemmas.List.{append-nil}
 use Rattle.fec_plan.specs.Partition.{Cut}
 use Rattle.tx_window.specs.Held.{HeldObject}
-use Rattle.tx_window.specs.Sound.{IsRow, IsFilling, all_octets, all_kept}
+use Rattle.tx_window.specs.WindowState.{WindowState, Stands}
+use Rattle.tx_window.specs.WindowSound.{IsRow, IsFilling, all_octets, all_kept, window_view, filling_in}
+use Rattle.tx_window.proofs.JoiningLemmas.{stands_filling}
 use Rattle.tx_window.proofs.RowLemmas.{octets_append, octets_cons}
 use Rattle.tx_window.proofs.BeginningLemmas.{row_left}
 use Rattle.tx_window.proofs.window.Window.leave.Goals as goal
@@ -36,3 +38,9 @@ invariant_of-self c =
   where
     never : (k : HeldObject) → ◌≡◌ {A = Option HeldObject} None (Some k) → ⊥
     never k e = cc
+
+pub returns-in-Some-clause-stands : goal.returns-in-Some-clause-stands
+returns-in-Some-clause-stands c = λ s stands.
+    let w = c.self.inside in
+    subst (λ (b : Option HeldObject). Stands (record (window_view w) { filling = option_map (filling_in w.ring w.filled) b }) s) (sym c.take.ensures.after)
+    (stands_filling (window_view w) s None (subst (λ (v : WindowState). Stands v s) (sym c.self.view_is) stands))

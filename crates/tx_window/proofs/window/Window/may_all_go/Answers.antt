@@ -7,7 +7,7 @@ use Rattle.tx_window.proofs.window.Window.may_all_go.Goals as goal
 pub loop-place-init : goal.loop-place-init
 loop-place-init c = record {
   so_far = λ s stands.
-      ap (λ i. may_all_go c.args.self.now.p s i (take c.args.count (window s))) (let e : c.args.self.now.dropped ≡ c.args.self.now.dropped + 0 = omega arith in e);
+      ap (λ i. may_all_go c.args.self.now.p s i (take c.args.count (window s))) (let e : c.args.self.now.drop.index ≡ c.args.self.now.drop.index + 0 = omega arith in e);
 }
 
 pub returns-then-not-may_go : goal.returns-then-not-may_go
@@ -16,7 +16,7 @@ returns-then-not-may_go c = λ s stands.
     let n = c.loop-place.place in
     let there = get_some n (window s) (omega (arith, window_long w s stands, c.loop-place-test.true, c.requires)) in
     sym (c.loop-place.invariant.so_far s stands
-    ∙ stay w.p s w.dropped (take c.args.count (window s)) n there.0 (get_taken c.args.count n (window s) there.0 c.loop-place-test.true there.1)
+    ∙ stay w.p s w.drop.index (take c.args.count (window s)) n there.0 (get_taken c.args.count n (window s) there.0 c.loop-place-test.true there.1)
     (sym (c.may_go.ensures s there.0 stands there.1) ∙ c.if-not-may_go.true))
 
 pub loop-place-preserved : goal.loop-place-preserved
@@ -26,7 +26,7 @@ loop-place-preserved c = record {
       let n = c.loop-place.place in
       let there = get_some n (window s) (omega (arith, window_long w s stands, c.loop-place-test.true, c.requires)) in
       c.loop-place.invariant.so_far s stands
-      ∙ go_on w.p s w.dropped (take c.args.count (window s)) n there.0 (get_taken c.args.count n (window s) there.0 c.loop-place-test.true there.1)
+      ∙ go_on w.p s w.drop.index (take c.args.count (window s)) n there.0 (get_taken c.args.count n (window s) there.0 c.loop-place-test.true there.1)
       (sym (c.may_go.ensures s there.0 stands there.1) ∙ c.if-not-may_go.false);
 }
 
@@ -34,6 +34,6 @@ pub returns : goal.returns
 returns c = λ s stands.
     let w = c.args.self.now in
     sym (c.loop-place.invariant.so_far s stands
-    ∙ ap (may_all_go w.p s (w.dropped + c.loop-place.place))
+    ∙ ap (may_all_go w.p s (w.drop.index + c.loop-place.place))
     (drop_all c.loop-place.place (take c.args.count (window s)) (omega (arith, length-take c.args.count (window s), c.loop-place-test.false)))
-    ∙ may_none w.p s (w.dropped + c.loop-place.place))
+    ∙ may_none w.p s (w.drop.index + c.loop-place.place))

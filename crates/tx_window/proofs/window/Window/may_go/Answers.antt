@@ -5,8 +5,8 @@ use Rattle.std.proofs.lemmas.List.{length-map}
 use Rattle.std.proofs.lemmas.Option.{slice_get-map}
 use Rattle.norm_send_rules.specs.Room.{may_go}
 use Rattle.norm_order.specs.Shapes.{shape_of}
-use Rattle.tx_window.specs.Windowed.{Windowed, Stands}
-use Rattle.tx_window.specs.Sound.{window_object, window_view}
+use Rattle.tx_window.specs.WindowState.{WindowState, Stands}
+use Rattle.tx_window.specs.WindowSound.{window_object, window_view}
 use Rattle.tx_window.proofs.NotingLemmas.{get_there}
 use Rattle.tx_window.proofs.GoingLemmas.{may_is, asked_of, both_sent, not_sent}
 use Rattle.tx_window.proofs.window.Window.may_go.Goals as goal
@@ -16,25 +16,25 @@ returns-then-is_sent c = λ s entry stands found.
     let w = c.self.inside in
     let h = c.index-held.result.now in
     let n = c.args.place in
-    let long : n < length w.held.items = omega (arith, c.requires, length-map w.held.items (window_object w.ring), ap (λ (v : Windowed). length v.objects) c.self.view_is) in
+    let long : n < length w.held.items = omega (arith, c.requires, length-map w.held.items (window_object w.ring), ap (λ (v : WindowState). length v.objects) c.self.view_is) in
     let there : slice_get w.held.items n ≡ Some h = get_there w.held.items n h long c.index-held.ensures in
-    let here = subst (λ (v : Windowed). Stands v s) (sym c.self.view_is) stands in
+    let here = subst (λ (v : WindowState). Stands v s) (sym c.self.view_is) stands in
     c.is_released.ensures
     ∙ sym (both_sent (list_all (λ b. b) h.sent) (is_none h.info || h.info_sent) (asked_of (window_view w) c.last-last.result) (sym c.is_sent.ensures ∙ c.if-is_sent.true))
     ∙ sym (may_is (window_view w) s w.ring n entry h c.last-last.result here found
     (slice_get-map (window_object w.ring) w.held.items n ∙ ap (option_map (window_object w.ring)) there) (c.self.invariant.placed n h there) c.last-last.ensures)
-    ∙ ap (λ (v : Windowed). may_go v.p s (v.dropped + n) (shape_of v.p entry.object)) c.self.view_is
+    ∙ ap (λ (v : WindowState). may_go v.p s (v.drop.index + n) (shape_of v.p entry.object)) c.self.view_is
 
 pub returns-else-is_sent : goal.returns-else-is_sent
 returns-else-is_sent c = λ s entry stands found.
     let w = c.self.inside in
     let h = c.index-held.result.now in
     let n = c.args.place in
-    let long : n < length w.held.items = omega (arith, c.requires, length-map w.held.items (window_object w.ring), ap (λ (v : Windowed). length v.objects) c.self.view_is) in
+    let long : n < length w.held.items = omega (arith, c.requires, length-map w.held.items (window_object w.ring), ap (λ (v : WindowState). length v.objects) c.self.view_is) in
     let there : slice_get w.held.items n ≡ Some h = get_there w.held.items n h long c.index-held.ensures in
-    let here = subst (λ (v : Windowed). Stands v s) (sym c.self.view_is) stands in
+    let here = subst (λ (v : WindowState). Stands v s) (sym c.self.view_is) stands in
     c.if-is_sent.false
     ∙ sym (not_sent (list_all (λ b. b) h.sent) (is_none h.info || h.info_sent) (asked_of (window_view w) c.last-last.result) (sym c.is_sent.ensures ∙ c.if-is_sent.false))
     ∙ sym (may_is (window_view w) s w.ring n entry h c.last-last.result here found
     (slice_get-map (window_object w.ring) w.held.items n ∙ ap (option_map (window_object w.ring)) there) (c.self.invariant.placed n h there) c.last-last.ensures)
-    ∙ ap (λ (v : Windowed). may_go v.p s (v.dropped + n) (shape_of v.p entry.object)) c.self.view_is
+    ∙ ap (λ (v : WindowState). may_go v.p s (v.drop.index + n) (shape_of v.p entry.object)) c.self.view_is

@@ -1,23 +1,24 @@
 use Rattle.std.proofs.Common.{◌≡◌, ◌+◌, ◌*◌, ◌/◌, ◌++◌, Some, length, length-append, ◌≤◌, ap, sym, subst, ◌∙◌, ℕ, List, map, arith}
 use Rattle.std.specs.Prelude.{None, [], slice_get}
 use Rattle.norm_base.specs.Settings.{Settings}
+use Rattle.fec_plan.specs.Points.{point}
 use Rattle.norm_send_rules.specs.SenderState.{sender_opening}
 use Rattle.tx_window.specs.Held.{HeldObject}
-use Rattle.tx_window.specs.Windowed.{Windowed, WindowObject, Stands}
-use Rattle.tx_window.specs.Sound.{window_object, all_octets}
+use Rattle.tx_window.specs.WindowState.{WindowState, WindowObject, Stands}
+use Rattle.tx_window.specs.WindowSound.{window_object, all_octets}
 use Rattle.std.proofs.Math.Nat.{mul-le-mul_right}
 use Rattle.std.proofs.lemmas.List.{length-replicate}
 use Rattle.tx_window.proofs.RowLemmas.{row_empty}
 use Rattle.tx_window.proofs.WindowLemmas.{begins}
 use Rattle.tx_window.proofs.window.Window.new.Goals as goal
 
--- a window of these objects and lengths, none of which was dropped
-abbrev with_objects : Settings → List WindowObject → List ℕ → Windowed
-with_objects p os ls = record { p = p; dropped = 0; objects = os; lengths = ls; filling = None; last = None; past = None }
+-- a window of these objects and extents, none of which was dropped
+abbrev with_objects : Settings → List WindowObject → List ℕ → WindowState
+with_objects p os ls = record { p = p; drop = point 0 0; objects = os; forgotten = 0; extents = ls; filling = None; last = None; past = None }
 
 pub returns-clause-begun : goal.returns-clause-begun
 returns-clause-begun c = λ instance.
-    subst (λ (w : Windowed). Stands w (sender_opening c.args.profile.now instance))
+    subst (λ (w : WindowState). Stands w (sender_opening c.args.profile.now instance))
     (sym (ap (λ (p : Settings). with_objects p (map (window_object c.in_ok-ring.ring) c.in_ok-held.held.items) c.new-2.result.items) c.profile.view_is
     ∙ ap (λ (hs : List HeldObject). with_objects c.args.profile.now (map (window_object c.in_ok-ring.ring) hs) c.new-2.result.items) c.in_ok-held.ensures.items
     ∙ ap (λ (ls : List ℕ). with_objects c.args.profile.now [] ls) c.new-2.ensures.items))

@@ -1,8 +1,8 @@
 use Rattle.std.proofs.Common.{◌≤◌, sym, subst, arith, refl, take}
 use Rattle.tx_window.specs.Held.{octets_in}
-use Rattle.tx_window.specs.Windowed.{Windowed, Stands}
+use Rattle.tx_window.specs.WindowState.{WindowState, Stands}
 use Rattle.tx_window.specs.Held.{octets_of}
-use Rattle.tx_window.specs.Sound.{object_in}
+use Rattle.tx_window.specs.WindowSound.{object_in}
 use Rattle.tx_window.specs.Asked.{AnswersAt}
 use Rattle.tx_window.proofs.WindowLemmas.{found_at, kept_held, answers_kept}
 use Rattle.tx_window.proofs.window.Window.symbol.Goals as goal
@@ -22,8 +22,8 @@ returns c = λ s stands.
     let h = c.in-Some.held.now in
     let ring = c.self.inside.ring in
     let placed = c.self.invariant.placed _ h (found_at c.self.inside.dropped c.args.at.index c.self.inside.held.items h c.in-Some.ensures) in
-    let here = subst (λ (w : Windowed). Stands w s) (sym c.self.view_is) stands in
-    subst (λ (w : Windowed). AnswersAt w.p s c.args.at c.args.out.now c.symbol.new.out c.symbol.result) c.self.view_is
+    let here = subst (λ (w : WindowState). Stands w s) (sym c.self.view_is) stands in
+    subst (λ (w : WindowState). AnswersAt w.p s c.args.at c.args.out.now c.symbol.new.out c.symbol.result) c.self.view_is
     (answers_kept c.self.inside.profile s c.args.at (object_in ring h) c.args.out.now c.symbol.new.out c.symbol.result
     (kept_held _ ring c.self.inside.held.items h s c.args.at.index refl c.in-Some.ensures here)
     (c.symbol.ensures c.self.inside.profile (take (octets_of h.cut) (octets_in ring h)) placed.holds))

@@ -1,0 +1,49 @@
+use Rattle.std.proofs.Common.{◌≡◌, ℕ, List, [], ◌∷◌, length, false, Bool, subst, sym, ap, ◌∙◌}
+use Rattle.std.specs.Prelude.{nat_lt, position, Option, MatchOption}
+use Rattle.std.proofs.lemmas.List.Quantifiers.{position-Some}
+use Rattle.fec_plan.specs.Partition.{stream_cut}
+use Rattle.norm_send_rules.specs.declared.want.Want.{Want}
+use Rattle.nack_union.specs.Kept.{Kept, Marked, Holds, admitted}
+use Rattle.nack_union.proofs.Counting.{not_wanted, position-None}
+use Rattle.nack_union.specs.Collected.{Collects}
+use Rattle.nack_union.proofs.Collections.{collects_kept}
+use Rattle.nack_union.proofs.Standing.{stands_next, stands_idle}
+use Rattle.nack_union.proofs.collection.Collection.next.Goals as goal
+
+abbrev wanted : Marked → Bool
+wanted m = nat_lt 0 (length m.wants)
+
+pub returns-in_err-place-clause-first : goal.returns-in_err-place-clause-first
+returns-in_err-place-clause-first c = λ p s st.
+    let at = ap (position wanted) (sym c.deref.ensures.value) ∙ sym c.first_wanted.ensures ∙ c.in_err-place.was in
+    let d : Marked = admitted (stream_cut 0 0 0) false in
+    let idle : s.wants ≡ [] = stands_idle p s _ d (λ j lt. not_wanted _ (position-None wanted c.self.inside.objects.items d at j lt))
+    (subst (λ (u : Kept). Holds p u s) (sym c.self.view_is) st) in
+    subst (λ (r : Option Want). MatchOption r ((s.wants ≡ []) × Holds p c.args.self.now s)
+    (λ want. (rest : List Want) × (s.wants ≡ want ∷ rest) × Holds p c.args.self.now (record s { wants = rest })))
+    (sym c.from_residual.ensures) (idle, st)
+
+pub returns-in_err-slot-clause-first : goal.returns-in_err-slot-clause-first
+returns-in_err-slot-clause-first c = λ p s st.
+    let at = ap (position wanted) (sym c.deref.ensures.value) ∙ sym c.first_wanted.ensures ∙ c.in_ok-place.was in
+    let there = (position-Some wanted c.self.inside.objects.items c.in_ok-place.place c.index_mut-object.result.now at).1 in
+    let none = ap (λ (xs : List ℕ). nat_lt 0 (length xs)) (sym c.in_err-slot.ensures.0 ∙ ap (λ (m : Marked). m.wants) c.index_mut-object.ensures.value) in
+    absurd (cc)
+
+pub returns-clause-first : goal.returns-clause-first
+returns-clause-first c = λ p s st.
+    let at = ap (position wanted) (sym c.deref.ensures.value) ∙ sym c.first_wanted.ensures ∙ c.in_ok-place.was in
+    let there = position-Some wanted c.self.inside.objects.items c.in_ok-place.place c.index_mut-object.result.now at in
+    let after = stands_next p s _ c.in_ok-place.place c.in_ok-slot.slot c.take_lowest.new.self c.index_mut-object.result.now
+    there.0 (λ j lt. not_wanted _ (there.2 j lt)) (sym c.index_mut-object.ensures.value ∙ c.in_ok-slot.ensures.0)
+    (subst (λ (u : Kept). Holds p u s) (sym c.self.view_is) st) in
+    (after.0, after.1 ∙ ap (λ w. w ∷ after.0) (sym c.want_of.ensures), after.2)
+
+pub returns-clause-collects : goal.returns-clause-collects
+returns-clause-collects c = λ p s asked rest col.
+    let at = ap (position wanted) (sym c.deref.ensures.value) ∙ sym c.first_wanted.ensures ∙ c.in_ok-place.was in
+    let there = position-Some wanted c.self.inside.objects.items c.in_ok-place.place c.index_mut-object.result.now at in
+    let same = sym c.index_mut-object.ensures.value ∙ c.in_ok-slot.ensures.0 in
+    let kept = collects_kept p s (record { first = c.self.inside.first; objects = c.self.inside.objects.items; earliest = c.self.inside.earliest }) asked c.in_ok-place.place c.take_lowest.new.self c.index_mut-object.result.now
+    there.0 (sym (ap (λ (m : Marked). m.asked) same)) (sym (ap (λ (m : Marked). m.counts) same)) (subst (λ (u : Kept). Collects p u s asked) (sym c.self.view_is) col) in
+    record { known = kept.known; named = kept.named; counts = kept.counts; earliest = kept.earliest }

@@ -1,0 +1,20 @@
+-- What holds of each union.
+use Rattle.std.specs.Prelude.{◌≡◌, ℕ, ◌+◌, ◌<◌, ◌≤◌, ◌^◌, ◌⊎◌, List, [], length, get_or, replicate}
+use Rattle.nack_union.specs.Kept.{Kept, Marked}
+use Rattle.nack_union.specs.declared.collection.Collection.TheInside.{Inside}
+
+-- the open round asks for nothing of an object
+abbrev pub IsIdle : Marked → Type 0
+IsIdle m = (m.asked ≡ []) × (m.counts ≡ replicate (length m.counts) 0)
+
+-- it asks for nothing of the objects before one place, and of those from another on
+abbrev pub AreIdle : ℕ → ℕ → List Marked → Type 0
+AreIdle low high ms = (k : ℕ) (d : Marked) → k < length ms → (k < low) ⊎ (high ≤ k) → IsIdle (get_or ms k d)
+
+-- The indexes of all objects are numbers of 32 bits, and the round asks for nothing outside of a range of places.
+pub record CollectionSound (u : Inside) : Type 0 where
+  pub few : u.first + length u.objects.items ≤ 2 ^ 32
+  pub idle : AreIdle u.low u.high u.objects.items
+
+abbrev pub collection_view : Inside → Kept
+collection_view u = record { first = u.first; objects = u.objects.items; earliest = u.earliest }

@@ -1,0 +1,75 @@
+use Rattle.std.proofs.Common.{◌≡◌, ℕ, ◌+◌, ◌-◌, ◌<◌, ◌≤◌, ◌⊎◌, inl, inr, ap, sym, subst, ◌∙◌, arith, refl, Some, None, Option, List, drop, length, length-append}
+use Rattle.std.specs.Prelude.{find, slice_get, option_to_list, if◌then◌else◌}
+use Rattle.std.proofs.lemmas.Bool.{cases_lt}
+use Rattle.std.proofs.lemmas.Option.{slice_get_within}
+use Rattle.fec_plan.specs.Points.{Point, position}
+use Rattle.fec_plan.specs.declared.position.Position.{Position}
+use Rattle.norm_order.specs.Shapes.{shapes_of}
+use Rattle.norm_send_rules.specs.Sending.{new_from, next_new}
+use Rattle.norm_send_rules.specs.declared.want.Want.{Want}
+use Rattle.norm_send_rules.specs.declared.want.Want.TheVariants.{Info, Symbol}
+use Rattle.tx_window.specs.WindowState.{WindowState, Stands}
+use Rattle.tx_window.specs.WindowSound.{window_view}
+use Rattle.tx_window.specs.Next.{is_next, once, IsNextIn}
+use Rattle.tx_window.proofs.WindowLemmas.{found_at, kept_held}
+use Rattle.tx_window.proofs.NextLemmas.{passes_later, splits_at}
+use Rattle.tx_window.proofs.NewLemmas.{none_kept, nothing_new, itself_here, block_here, over_here, from_drop, from_here, found}
+use Rattle.tx_window.proofs.window.Window.next_symbol.Goals as goal
+
+pub returns-then-from-self-clause-exact : goal.returns-then-from-self-clause-exact
+returns-then-from-self-clause-exact c = λ s stands is.
+    let v = c.args.self.now in
+    let first = ap (λ (x : WindowState). x.drop.index) c.self.view_is in
+    c.first_new.ensures.exact s (is_next (Symbol c.args.from) s.current.drop) stands
+    (passes_later (Symbol c.args.from) s.current.drop c.self.inside.dropped (ap (λ (d : Point). d.block) stands.dropped ∙ stands.whole) c.if-from-self.true
+    (omega (arith, ap (λ (d : Point). d.index) stands.dropped, first)))
+    ∙ ap (λ n. find (is_next (Symbol c.args.from) s.current.drop) (new_from v.p n (shapes_of v.p (drop n s.current.order)))) first
+    ∙ sym (from_drop v s (Symbol c.args.from) stands is (omega (arith, c.if-from-self.true, first)))
+
+pub returns-in_default-clause-exact : goal.returns-in_default-clause-exact
+returns-in_default-clause-exact c = λ s stands is.
+    let w = c.self.inside in
+    let here = subst (λ (v : WindowState). Stands v s) (sym c.self.view_is) stands in
+    sym (from_here c.args.self.now s (Symbol c.args.from) is
+    ∙ nothing_new c.args.self.now.p s (is_next (Symbol c.args.from) s.current.drop) c.args.from.index
+    (none_kept (window_view w) s w.ring w.held.items c.args.from.index refl here c.if-from-self.false c.in_default.ensures))
+
+pub overflow_add-from : goal.overflow_add-from
+overflow_add-from c =
+    let w = c.self.inside in
+    let within = slice_get_within w.held.items (c.args.from.index - w.dropped) c.in-Some.held.now (found_at w.dropped c.args.from.index w.held.items c.in-Some.held.now c.in-Some.ensures) in
+    omega (arith, within, c.if-from-self.false, c.self.invariant.counted, length-append w.held.items (option_to_list w.begun))
+
+pub returns-in-Some-next_in-clause-exact : goal.returns-in-Some-next_in-clause-exact
+returns-in-Some-next_in-clause-exact c = λ s stands is.
+    let w = c.self.inside in
+    let h = c.in-Some.held.now in
+    let from = c.args.from in
+    let test = is_next (Symbol from) s.current.drop in
+    let here = subst (λ (v : WindowState). Stands v s) (sym c.self.view_is) stands in
+    let placed = c.self.invariant.placed _ h (found_at w.dropped from.index w.held.items h c.in-Some.ensures) in
+    let kept = kept_held (window_view w) w.ring w.held.items h s from.index refl c.in-Some.ensures here in
+    let low : s.current.drop.index ≤ from.index = omega (arith, c.if-from-self.false, ap (λ (d : Point). d.index) here.dropped) in
+    let splits = splits_at s.current.drop from (ap (λ (d : Point). d.block) here.dropped ∙ here.whole) low in
+    sym (from_here (window_view w) s (Symbol from) is
+    ∙ found w.ring w.profile s test from h placed kept splits c.in-Some-next_in.at
+    (subst (λ n. IsNextIn n h.cut from (Some c.in-Some-next_in.at)) c.auto_of.ensures c.in-Some-next_in.ensures.next))
+    ∙ ap (λ (v : WindowState). next_new v.p s) c.self.view_is
+
+pub returns-in-None-clause-exact : goal.returns-in-None-clause-exact
+returns-in-None-clause-exact c = λ s stands is.
+    let w = c.self.inside in
+    let h = c.in-Some.held.now in
+    let from = c.args.from in
+    let test = is_next (Symbol from) s.current.drop in
+    let here = subst (λ (v : WindowState). Stands v s) (sym c.self.view_is) stands in
+    let placed = c.self.invariant.placed _ h (found_at w.dropped from.index w.held.items h c.in-Some.ensures) in
+    let kept = kept_held (window_view w) w.ring w.held.items h s from.index refl c.in-Some.ensures here in
+    let low : s.current.drop.index ≤ from.index = omega (arith, c.if-from-self.false, ap (λ (d : Point). d.index) here.dropped) in
+    let whole = ap (λ (d : Point). d.block) here.dropped ∙ here.whole in
+    let over = subst (λ n. IsNextIn n h.cut from None) c.auto_of.ensures c.in-None.ensures.next in
+    c.first_new-in-None.ensures.exact s test stands (passes_later (Symbol from) s.current.drop (from.index + 1) whole (omega arith) (omega (arith, low)))
+    ∙ sym (ap (λ (v : WindowState). find test (new_from v.p (from.index + 1) (shapes_of v.p (drop (from.index + 1) s.current.order)))) c.self.view_is)
+    ∙ sym (from_here (window_view w) s (Symbol from) is
+    ∙ over_here w.ring w.profile s test from h placed kept (splits_at s.current.drop from whole low) over.0 over.1)
+    ∙ ap (λ (v : WindowState). next_new v.p s) c.self.view_is
