@@ -11,10 +11,10 @@ def octets(text):
 
 
 def receipt(word, v):
-    fields = {'object': 'Object', 'opened': 'Opened', 'wrote': 'Wrote', 'closed': 'Closed', 'restarted': 'Restarted'}
+    fields = {'object': 'Object', 'opened': 'Opened', 'wrote': 'Wrote', 'closed': 'Closed', 'restarted': 'Restarted', 'struck': 'Struck'}
     if word == 'mark':
         return '(receipt.Mark %d (position %d %d %d))' % (v['mark'], *v['at'])
-    named = {'object': ['index', 'len'], 'wrote': ['index', 'offset', 'len'], 'restarted': ['instance']}.get(word, ['index'])
+    named = {'object': ['index', 'len'], 'wrote': ['index', 'offset', 'len'], 'restarted': ['instance'], 'struck': ['node']}.get(word, ['index'])
     return '(receipt.%s %s)' % (fields[word], ' '.join(str(v[n]) for n in named))
 
 
@@ -22,13 +22,18 @@ FAULTS = {'empty': 'send.Enqueue enqueue.Empty', 'too-big': 'send.Enqueue (enque
           'stream-open': 'send.Enqueue (enqueue.StreamOpen %d)', 'no-stream': 'send.Enqueue enqueue.NoStream', 'ids-spent': 'send.Enqueue enqueue.IdsSpent',
           'spent': 'send.Enqueue (enqueue.Stream (stream.Spent %d))', 'stream-full': 'send.Enqueue (enqueue.Stream (stream.Full %d))',
           'window-full': 'send.Enqueue (enqueue.WindowFull %d)', 'nothing-enqueued': 'send.Mark mark.NothingEnqueued',
-          'too-many': 'send.Mark (mark.TooMany %d)', 'id-used': 'send.IdUsed %d'}
+          'too-many': 'send.Mark (mark.TooMany %d)', 'quorum': 'send.Mark (mark.Quorum %d)', 'id-used': 'send.IdUsed %d',
+          'not-member': 'send.Strike (strike.NotMember %d)', 'last-member': 'send.Strike (strike.LastMember %d)'}
+
+
+def fault(v):
+    return '(%s)' % (FAULTS[v['reason']] % tuple(v['args']))
 
 
 def gave(g):
     (word, v), = g.items()
     if word == 'refused':
-        return '(Err (%s))' % (FAULTS[v['reason']] % tuple(v['args']))
+        return '(Err %s)' % fault(v)
     return '(Ok %s)' % receipt(word, v)
 
 
@@ -47,6 +52,7 @@ def event(e):
             'turn': lambda: '(journal.Turn %d %d)' % (v['t'], v['now']),
             'pull': lambda: '(journal.Pull %s)' % origin(v),
             'job': lambda: '(journal.Job %s %s %s)' % (origin(v['by']), terms.opt(v['job'] and terms.job(v['job'])), gave(v['gave'])),
+            'length': lambda: '(journal.Length %s %s %d %s)' % (origin(v['by']), octets(v['name']), v['len'], fault(v['fault'])),
             'tick': lambda: '(journal.Tick %d sent.%s)' % (v['node'], 'Datagram' if v['sent'] else 'Nothing'),
             'offer': lambda: '(journal.Offer %d %s)' % (v['from'], octets(v['bytes'])),
             'took': lambda: '(journal.Took %d %s)' % (v['to'], octets(v['bytes'])),
@@ -72,8 +78,20 @@ def jobs_of(script, files):
             made.update(info=more[0].encode().hex(), bytes=files.get(more[0]))
         elif verb == 'restart':
             made['instance'] = int(more[0])
+        elif verb == 'mark':
+            made['quorum'] = int(more[0]) if more else None
+        elif verb == 'strike':
+            made['node'] = int(more[0])
         jobs[producer, counts[producer]] = made
     return jobs
+
+
+def offered(e, job):
+    """An offer of a command. A file that is refused is told by its name and its length; the one that is accepted has the octets."""
+    refused = e['gave'].get('refused')
+    if job['verb'] == 'file' and refused:
+        return {'length': {'by': e['job'], 'name': job['info'], 'len': len(job['bytes']) // 2, 'fault': refused}}
+    return {'job': {'by': e['job'], 'job': job if e['first'] or job['verb'] == 'file' else None, 'gave': e['gave']}}
 
 
 def journal_of(run):
@@ -84,10 +102,9 @@ def journal_of(run):
             out.append(e)
             continue
         word = next(iter(e))
-        out.append({word: {
+        out.append(offered(e, jobs[tuple(e['job'])]) if word == 'job' else {word: {
             'turn': lambda: {'t': e['turn'], 'now': e['now']},
             'pull': lambda: e['pull'],
-            'job': lambda: {'by': e['job'], 'job': jobs[tuple(e['job'])] if e['first'] else None, 'gave': e['gave']},
             'tick': lambda: {'node': e['tick'], 'sent': e['sent']},
             'offer': lambda: {'from': e['offer'], 'bytes': e['bytes']},
             'took': lambda: {'to': e['took'], 'bytes': e['bytes']},

@@ -12,6 +12,7 @@ ENDINGS = {'whole': 1, 'spent': 2, 'absent': 3}
 terms.USES += '''use Rattle.norm_script.specs.Commands.{Commands}
 use Rattle.norm_script.specs.Reading.{script_of as read_script}
 use Rattle.norm_script.specs.declared.refusal.Extent.TheVariants as extent
+use Rattle.norm_base.specs.Members.{receivers_of}
 use Rattle.norm_base.specs.declared.kinds.Sent.TheVariants as sent
 use Rattle.norm_journal.specs.declared.event.Event.{Event as JournalEvent}
 use Rattle.norm_journal.specs.declared.event.Event.TheVariants as journal
@@ -79,7 +80,7 @@ def off_by_one(v, name=None):
         yield name, not v
     elif isinstance(v, int):
         yield from ((name, n) for n in (v - 1, v + 1) if n >= 0)
-    elif isinstance(v, str) and name in ('bytes', 'info') and v:
+    elif isinstance(v, str) and name in ('bytes', 'info', 'name') and v:
         octets = bytes.fromhex(v)
         for i in sorted({0, len(octets) - 1}):
             yield name, (octets[:i] + bytes([(octets[i] + 1) % 256]) + octets[i + 1:]).hex()

@@ -64,6 +64,8 @@ script '# a comment\n\n1 data 61\n\n# \0303\0251' "$one"
 script 'set instance 7\nset e 64\nset b 4\n1 data 68656c6c6f\n' 'enq 1 1 7 0 data 5\nup 2 7 0 data 5 - 68656c6c6f\nend objects 1 octets 5 handed 1 lost 0 satisfied 0 expired 0 cut 0\n'
 refused 2 "set e 64\n1 data $(digits 130)\n"
 refused 1 '1 mark\n'
+refused 1 '1 mark 1\n'
+refused 1 '1 strike 2\n'
 refused 1 'set e 63\n'
 refused 3 '#\nset e 64\nset e 64\n'
 refused 2 '1 data 61\nset e 64\n1 mark\n'

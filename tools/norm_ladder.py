@@ -145,15 +145,16 @@ def kind_and_words(octets: bytes, first: int) -> tuple[str, str]:
     return kind, ' '.join([name] + says + again)
 
 
-def answer_words(gave: dict[str, Any]) -> str:
-    """What became of a command."""
+def answer_words(gave: dict[str, Any], quorum: int | None) -> str:
+    """What became of a command, which gave this quorum if it gave one."""
     (what, given), = gave.items()
+    of = f' for {quorum} of the members' if quorum else ''
     return {
         'object': lambda: f'object {given["index"]} accepted, {given["len"]} octets',
         'opened': lambda: f'stream {given["index"]} opened',
         'wrote': lambda: f'stream {given["index"]}: {given["len"]} octets accepted at {given["offset"]}',
         'closed': lambda: f'stream {given["index"]} closed',
-        'mark': lambda: f'watermark {given["mark"]} at {".".join(map(str, given["at"]))}',
+        'mark': lambda: f'watermark {given["mark"]} at {".".join(map(str, given["at"]))}{of}',
         'restarted': lambda: f'instance {given["instance"]} begins',
         'struck': lambda: f'receiver {given["node"]} is struck',
         'refused': lambda: ' '.join(['refused:', given['reason']] + [str(a) for a in given.get('args', [])]),
@@ -222,7 +223,7 @@ class Chart:
     def see_job(self, step: Step) -> None:
         refused = step.event['gave'].get('refused')
         if not refused or refused['reason'] not in WAITING:
-            self.row(step.now, True).add(Mark(self.run.profile['sender'], 'command', ''), answer_words(step.event['gave']))
+            self.row(step.now, True).add(Mark(self.run.profile['sender'], 'command', ''), answer_words(step.event['gave'], self.run.quorum(step.event)))
 
     def see_up(self, step: Step) -> None:
         node = step.event['node'] if step.what == 'up' else step.event['take']

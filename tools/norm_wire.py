@@ -398,6 +398,17 @@ class Run:
     profile: dict[str, Any]
     steps: tuple[Step, ...]
     is_session: bool
+    script: str = ''
+
+    def quorum(self, event: dict[str, Any]) -> int | None:
+        """The quorum that a command gave: an event of a sender has it, and one of a session its script."""
+        job = event['job']
+        if isinstance(job, dict):
+            return job.get('quorum')
+        lines = [line.split(' ') for line in self.script.split('\n')]
+        own = [words[1:] for words in lines if words[0] == str(job[0]) and len(words) > 1]
+        words = own[job[1] - 1] if own and 0 < job[1] <= len(own) else []
+        return int(words[1]) if words[:1] == ['mark'] and len(words) == 2 and words[1].isdigit() else None
 
     def members(self) -> list[int]:
         """The sender and then the receivers, by node id."""
@@ -444,4 +455,5 @@ def run_of(path: str, octets: bytes) -> Run:
     for place, event in enumerate(events if isinstance(events, list) else [events]):
         steps.append(step_of(path, place, event, now))
         now = steps[-1].now
-    return Run(profile, tuple(steps), any(step.what == 'turn' for step in steps))
+    script = made.get('script')
+    return Run(profile, tuple(steps), any(step.what == 'turn' for step in steps), script if isinstance(script, str) else '')

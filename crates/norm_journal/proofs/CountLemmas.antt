@@ -42,6 +42,7 @@ follows_counts j next event.Start f = ap totals_of f.1.then
 follows_counts j next (event.Turn turn now) f = ap totals_of f.1.then
 follows_counts j next (event.Pull by) f = ap totals_of f.1.then
 follows_counts j next (event.Job by job gave) f = ap totals_of f.1.then
+follows_counts j next (event.Length by name len fault) f = ap totals_of f.1.then
 follows_counts j next (event.Tick node sent) f = ap totals_of f.1.then
 follows_counts j next (event.Offer from octets) f = ap totals_of f.1.then
 follows_counts j next (event.Took to octets) f =

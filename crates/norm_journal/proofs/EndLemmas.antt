@@ -15,7 +15,9 @@ over_next : (j : Judged) (e : Event) → accepts_next (at Over j) e ≡ None
 over_next j event.Start = refl
 over_next j (event.Turn turn now) = refl
 over_next j (event.Pull by) = refl
-over_next j (event.Job by job gave) = refl
+over_next j (event.Job by (Some job) gave) = refl
+over_next j (event.Job by None gave) = refl
+over_next j (event.Length by name len fault) = refl
 over_next j (event.Tick node sent) = refl
 over_next j (event.Offer from octets) = refl
 over_next j (event.Took to octets) = refl

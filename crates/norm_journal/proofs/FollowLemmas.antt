@@ -1,6 +1,6 @@
 -- The judge accepts exactly what follows.
-use Rattle.std.proofs.Common.{◌≡◌, ℕ, ◌+◌, ◌*◌, ◌≤◌, List, [], ◌∷◌, ◌++◌, Bool, true, false, Option, None, Some, Result, refl, sym, ap, subst, ◌∙◌, arith, inl, inr}
-use Rattle.std.specs.Prelude.{◌==◌, ◌&&◌, ◌≢◌, ◌⊎◌, nat_le, not, All, nat_eq}
+use Rattle.std.proofs.Common.{◌≡◌, ℕ, ◌+◌, ◌*◌, ◌≤◌, List, [], ◌∷◌, ◌++◌, Bool, true, false, Option, None, Some, Result, Err, refl, sym, ap, subst, ◌∙◌, arith, inl, inr}
+use Rattle.std.specs.Prelude.{◌==◌, ◌&&◌, ◌≢◌, ◌⊎◌, nat_le, not, All, nat_eq, length, option_and_then}
 use Rattle.std.specs.Option.{option_map, option_eq}
 use Rattle.std.specs.Cmp.Lexicographic.{pointwise}
 use Rattle.std.proofs.lemmas.Option.{none-some, same_Some, some_pair_parts}
@@ -30,12 +30,12 @@ use Rattle.norm_safety.proofs.FrontLemmas.{same_list, list_itself}
 use Rattle.norm_journal.specs.declared.event.Event.{Event}
 use Rattle.norm_journal.specs.declared.event.Event.TheVariants as event
 use Rattle.norm_journal.specs.Accepting.{accepts_news, accepts_next, told_of}
-use Rattle.norm_journal.specs.Commands.{offered, offers, line_pulled, pulls_at, jobs_at}
-use Rattle.norm_journal.specs.Follows.{Follows, IsMoment, IsFirstLeft, IsContent, IsJobOf, OfferedFirst, OfferedAgain, SendersTick, ReceiversTick, sent_of, NetworkStarts, TurnBegins, CommandPulled, CommandOffered, NodeTicks, DatagramOffered, DatagramTaken, NoneReady, HandedUp, SummaryMade, IsQuiet, JudgesWhatFollows}
+use Rattle.norm_journal.specs.Commands.{offered, offers, line_pulled, pulls_at, telling, repeating, gives, repeats, jobs_at, refuses, lengths_at}
+use Rattle.norm_journal.specs.Follows.{Follows, IsMoment, IsFirstLeft, IsContent, IsLength, IsJobOf, OfferedAndTold, OfferedAgain, SendersTick, ReceiversTick, sent_of, NetworkStarts, TurnBegins, CommandPulled, CommandOffered, FileRefused, NodeTicks, DatagramOffered, DatagramTaken, NoneReady, HandedUp, SummaryMade, IsQuiet, JudgesWhatFollows}
 use Rattle.norm_journal.specs.InWorld.{world_after, answer_to, at, comes}
-use Rattle.norm_journal.specs.Jobs.{Told as Files, is_content, is_job_of}
+use Rattle.norm_journal.specs.Jobs.{Told as Files, is_content, is_length, is_job_of, is_read, is_file_of, file_of_length}
 use Rattle.norm_journal.specs.Judged.{Judged, is_done, news_due}
-use Rattle.norm_journal.specs.Places.{Place, Starting, Between, Pulling, Giving, Again, Sending, Offering, Taking, Handing, Over, Waiting, handing, after_tick}
+use Rattle.norm_journal.specs.Places.{Place, Starting, Between, Pulling, Giving, Again, Sending, Offering, Taking, Handing, Over, handing, after_tick}
 use Rattle.norm_journal.specs.Pulling.{origin_of, first_line, pulled}
 use Rattle.norm_journal.specs.Same.{same_answer, same_sent}
 use Rattle.norm_journal.specs.Takes.{delivered, after_take, receivers_due, takes_at, finds_none_at}
@@ -80,7 +80,7 @@ rank Starting = 0
 rank Between = 1
 rank Pulling = 2
 rank (Giving line) = 3
-rank (Again command) = 4
+rank (Again line) = 4
 rank Sending = 5
 rank (Offering node datagram next) = 6
 rank (Taking taken) = 7
@@ -277,6 +277,30 @@ same_there xs ys is = ap (λ zs. same_octets xs zs) (sym is) ∙ list_itself xs
 info_there : (a b : Option (List ℕ)) → a ≡ b → option_eq same_octets a b ≡ true
 info_there a b is = ap (λ o. option_eq same_octets a o) (sym is) ∙ maybe_itself (pointwise nat_eq) list_itself a
 
+number_there : (a b : Option ℕ) → a ≡ b → option_eq nat_eq a b ≡ true
+number_there a b is = ap (λ o. option_eq nat_eq a o) (sym is) ∙ maybe_itself nat_eq (λ x. eq-eqb x x refl) a
+
+length_same : (files : Files) (name : List ℕ) (len : ℕ) → is_length files name len ≡ true → IsLength files name len
+length_same None name len e = tt
+length_same (Some files) name len e = maybe_same nat_eq (λ x y same. eqb-true x y same) (option_map length (content_of files name)) (Some len) e
+
+length_there : (files : Files) (name : List ℕ) (len : ℕ) → IsLength files name len → is_length files name len ≡ true
+length_there None name len is = refl
+length_there (Some files) name len is = number_there (option_map length (content_of files name)) (Some len) is
+
+file_same : (v : Verb) (name : List ℕ) → is_file_of v name ≡ true → v ≡ verb.File name
+file_same (verb.File other) name e = ap verb.File (same_list other name e)
+file_same (verb.Data info octets) name e = absurd (clash e)
+file_same verb.Open name e = absurd (clash e)
+file_same (verb.Write octets) name e = absurd (clash e)
+file_same verb.Close name e = absurd (clash e)
+file_same (verb.Mark quorum) name e = absurd (clash e)
+file_same (verb.Restart instance) name e = absurd (clash e)
+file_same (verb.Strike node) name e = absurd (clash e)
+
+file_there : (v : Verb) (name : List ℕ) → v ≡ verb.File name → is_file_of v name ≡ true
+file_there v name is = ap (λ x. is_file_of x name) is ∙ list_itself name
+
 job_same : (files : Files) (v : Verb) (job : Job) → is_job_of files v job ≡ true → IsJobOf files v job
 job_same files (verb.Data info octets) (job.Data other bytes) e =
     let two = both (option_eq same_octets info other) (same_octets octets bytes) e in
@@ -287,8 +311,9 @@ job_same files (verb.File name) (job.File other octets) e =
 job_same files verb.Open job.Open e = tt
 job_same files (verb.Write octets) (job.Write bytes) e = same_list octets bytes e
 job_same files verb.Close job.Close e = tt
-job_same files verb.Mark job.Mark e = tt
+job_same files (verb.Mark quorum) (job.Mark other) e = maybe_same nat_eq (λ x y same. eqb-true x y same) quorum other e
 job_same files (verb.Restart instance) (job.Restart other) e = eqb-true instance other e
+job_same files (verb.Strike node) (job.Strike other) e = eqb-true node other e
 job_same files _ _ e = clash e
 
 job_there : (files : Files) (v : Verb) (job : Job) → IsJobOf files v job → is_job_of files v job ≡ true
@@ -299,8 +324,9 @@ job_there files (verb.File name) (job.File other octets) is =
 job_there files verb.Open job.Open is = refl
 job_there files (verb.Write octets) (job.Write bytes) is = same_there octets bytes is
 job_there files verb.Close job.Close is = refl
-job_there files verb.Mark job.Mark is = refl
+job_there files (verb.Mark quorum) (job.Mark other) is = number_there quorum other is
 job_there files (verb.Restart instance) (job.Restart other) is = eq-eqb instance other is
+job_there files (verb.Strike node) (job.Strike other) is = eq-eqb node other is
 job_there files _ _ is = absurd is
 
 name_there : (a b : Origin) → a ≡ b → same_origin a b ≡ true
@@ -308,99 +334,145 @@ name_there a b is =
     both_true (a.producer == b.producer) (a.number == b.number)
     (eq-eqb a.producer b.producer (ap (λ (o : Origin). o.producer) is)) (eq-eqb a.number b.number (ap (λ (o : Origin). o.number) is))
 
--- what is due at a first offer
-record First (j : Judged) (by : Origin) (line : Line) (job other : Job) : Type 0 where
+-- behind a search, where what follows says that it finds something
+through : {X : Type 0} {P : Judged → Type 0} (f : X → Option Judged) (found : Option X) → ((next : Judged) → P next → (x : X) × (found ≡ Some x))
+    → ((x : X) → found ≡ Some x → Exactly (f x) P) → Exactly (option_and_then f found) P
+through f None some each = nothing (λ next p. let there = some next p in none-some there.0 there.1)
+through f (Some x) some each = each x refl
+
+-- what is due where an offer tells its job
+record First (j : Judged) (by : Origin) (line its : Line) (job other : Job) (gave : Result Receipt SendFault) : Type 0 where
   named : origin_of line ≡ by
   its_job : IsJobOf j.files line.verb job
+  read : is_read job gave ≡ true
+  one_line : its ≡ line
   one : other ≡ job
 
-same_job : (a b : Job) → Some a ≡ Some b → a ≡ b
-same_job a b e = same_Some a b e
-
-first_due : (j : Judged) (by : Origin) (line : Line) (job other : Job) → j.place ≡ Giving line
-    → OfferedFirst j by (Some job) other ⊎ OfferedAgain j by (Some job) other → First j by line job other
-first_due j by line job other is (inl f) =
-    let same : Giving line ≡ Giving f.line = sym is ∙ f.place in
-    let lines : f.line ≡ line = cc in
-    let jobs = same_job job other f.told_is in
+first_due : (j : Judged) (by : Origin) (line its : Line) (job other : Job) (gave : Result Receipt SendFault) → telling j.place ≡ Some line
+    → origin_of its ≡ by → OfferedAndTold j its (Some job) other gave ⊎ OfferedAgain j its (Some job) other → First j by line its job other gave
+first_due j by line its job other gave is named (inl f) =
+    let lines = same_Some its line (sym f.place ∙ is) in
+    let jobs = same_Some job other f.told_is in
     record {
-      named = subst (λ (x : Line). origin_of x ≡ by) lines f.named;
-      its_job = subst (λ (x : Line). IsJobOf j.files x.verb job) lines (subst (λ x. IsJobOf j.files f.line.verb x) (sym jobs) f.its_job);
+      named = subst (λ (x : Line). origin_of x ≡ by) lines named;
+      its_job = subst (λ (x : Line). IsJobOf j.files x.verb job) lines (subst (λ x. IsJobOf j.files its.verb x) (sym jobs) f.its_job);
+      read = subst (λ x. is_read x gave ≡ true) (sym jobs) f.read;
+      one_line = lines;
       one = sym jobs;
     }
-first_due j by line job other is (inr a) = absurd (none-some job (sym a.told_is))
+first_due j by line its job other gave is named (inr a) = absurd (none-some job (sym a.told_is))
 
-no_first : (j : Judged) (by : Origin) (line : Line) (other : Job) → j.place ≡ Giving line → OfferedFirst j by None other ⊎ OfferedAgain j by None other → ⊥
-no_first j by line other is (inl f) = none-some other f.told_is
-no_first j by line other is (inr a) = apart (Giving line) (Again a.command) j.place refl is a.place
+some_first : (j : Judged) (its : Line) (job other : Job) (gave : Result Receipt SendFault)
+    → OfferedAndTold j its (Some job) other gave ⊎ OfferedAgain j its (Some job) other → (line : Line) × (telling j.place ≡ Some line)
+some_first j its job other gave (inl f) = (its, f.place)
+some_first j its job other gave (inr a) = absurd (none-some job (sym a.told_is))
 
 -- what is due at another offer
-record Another (j : Judged) (by : Origin) (command : Waiting) (other : Job) : Type 0 where
-  named : command.by ≡ by
-  one : other ≡ command.job
+record Another (known : Line × Job) (its : Line) (other : Job) : Type 0 where
+  one_line : its ≡ known.0
+  one : other ≡ known.1
 
-again_due : (j : Judged) (by : Origin) (command : Waiting) (other : Job) → j.place ≡ Again command
-    → OfferedFirst j by None other ⊎ OfferedAgain j by None other → Another j by command other
-again_due j by command other is (inl f) = absurd (none-some other f.told_is)
-again_due j by command other is (inr a) =
-    let same : Again command ≡ Again a.command = sym is ∙ a.place in
-    let commands : a.command ≡ command = cc in
-    record { named = subst (λ (x : Waiting). x.by ≡ by) commands a.named; one = sym a.its_job ∙ ap (λ (x : Waiting). x.job) commands }
+again_due : (j : Judged) (known : Line × Job) (its : Line) (other : Job) (gave : Result Receipt SendFault)
+    → ◌≡◌ {A = Option (Line × Job)} (repeating j.place) (Some (known.0, known.1))
+    → OfferedAndTold j its None other gave ⊎ OfferedAgain j its None other → Another known its other
+again_due j known its other gave is (inl f) = absurd (none-some other f.told_is)
+again_due j known its other gave is (inr a) =
+    let two = some_pair_parts its known.0 other known.1 (sym a.place ∙ is) in record { one_line = two.0; one = two.1 }
 
-no_again : (j : Judged) (by : Origin) (command : Waiting) (job other : Job) → j.place ≡ Again command
-    → OfferedFirst j by (Some job) other ⊎ OfferedAgain j by (Some job) other → ⊥
-no_again j by command job other is (inl f) = apart (Again command) (Giving f.line) j.place refl is f.place
-no_again j by command job other is (inr a) = none-some job (sym a.told_is)
-
-no_offer : (place : Place) (j : Judged) (by : Origin) (told : Option Job) (other : Job) → (rank place == 3) ≡ false → (rank place == 4) ≡ false
-    → j.place ≡ place → OfferedFirst j by told other ⊎ OfferedAgain j by told other → ⊥
-no_offer place j by told other three four is (inl f) = apart place (Giving f.line) j.place three is f.place
-no_offer place j by told other three four is (inr a) = apart place (Again a.command) j.place four is a.place
+some_again : (j : Judged) (its : Line) (other : Job) (gave : Result Receipt SendFault)
+    → OfferedAndTold j its None other gave ⊎ OfferedAgain j its None other → (known : Line × Job) × (repeating j.place ≡ Some known)
+some_again j its other gave (inl f) = absurd (none-some other f.told_is)
+some_again j its other gave (inr a) = ((its, other), a.place)
 
 -- what an offer of this job gave, and leads to
-gave_so : (j : Judged) (by : Origin) (job other : Job) (gave : Result Receipt SendFault) (next : Judged) → other ≡ job
-    → answer_to (Commanded by other j.now) j ≡ Gave gave → next ≡ offered by other gave (world_after (Commanded by other j.now) j)
-    → (answer_to (Commanded by job j.now) j ≡ Gave gave) × (next ≡ offered by job gave (world_after (Commanded by job j.now) j))
-gave_so j by job other gave next one gives then = (
+gave_so : (j : Judged) (by : Origin) (line its : Line) (job other : Job) (gave : Result Receipt SendFault) (next : Judged) → its ≡ line → other ≡ job
+    → answer_to (Commanded by other j.now) j ≡ Gave gave → next ≡ offered its gave (world_after (Commanded by other j.now) j)
+    → (answer_to (Commanded by job j.now) j ≡ Gave gave) × (next ≡ offered line gave (world_after (Commanded by job j.now) j))
+gave_so j by line its job other gave next lines one gives then = (
   subst (λ x. answer_to (Commanded by x j.now) j ≡ Gave gave) one gives,
-  subst (λ x. next ≡ offered by x gave (world_after (Commanded by x j.now) j)) one then,
+  subst (λ x. next ≡ offered x gave (world_after (Commanded by job j.now) j)) lines
+      (subst (λ x. next ≡ offered its gave (world_after (Commanded by x j.now) j)) one then),
 )
 
-jobs_exactly : (place : Place) (j : Judged) (by : Origin) (told : Option Job) (gave : Result Receipt SendFault) → j.place ≡ place
-    → Exactly (jobs_at place j by told gave) (CommandOffered j by told gave)
-jobs_exactly (Giving line) j by None gave is = nothing (λ next p. no_first j by line p.job is p.due)
-jobs_exactly (Giving line) j by (Some job) gave is =
-    when (same_origin (origin_of line) by && is_job_of j.files line.verb job) (offers by job gave j)
-    (λ next p. let f = first_due j by line job p.job is p.due in
-    both_true (same_origin (origin_of line) by) (is_job_of j.files line.verb job) (name_there (origin_of line) by f.named) (job_there j.files line.verb job f.its_job))
-    (λ e. let two = both (same_origin (origin_of line) by) (is_job_of j.files line.verb job) e in
-    answered (offered by job gave) (Commanded by job j.now) (Gave gave) j tt
+told_exactly : (j : Judged) (by : Origin) (line : Line) (job : Job) (gave : Result Receipt SendFault) → telling j.place ≡ Some line
+    → Exactly (gives line by job gave j) (CommandOffered j by (Some job) gave)
+told_exactly j by line job gave is =
+    when (same_origin (origin_of line) by && is_job_of j.files line.verb job && is_read job gave) (offers line by job gave j)
+    (λ next p. let f = first_due j by line p.line job p.job gave is p.named p.due in
+    both_true (same_origin (origin_of line) by && is_job_of j.files line.verb job) (is_read job gave)
+    (both_true (same_origin (origin_of line) by) (is_job_of j.files line.verb job) (name_there (origin_of line) by f.named) (job_there j.files line.verb job f.its_job))
+    f.read)
+    (λ e. let two = both (same_origin (origin_of line) by && is_job_of j.files line.verb job) (is_read job gave) e in
+    let one = both (same_origin (origin_of line) by) (is_job_of j.files line.verb job) two.0 in
+    answered (offered line gave) (Commanded by job j.now) (Gave gave) j tt
     (λ gives. record {
+      line = line;
       job = job;
-      due = inl (record {
-        line = line;
-        place = is;
-        named = one_name (origin_of line) by two.0;
-        told_is = refl;
-        its_job = job_same j.files line.verb job two.1;
-      });
+      named = one_name (origin_of line) by one.0;
+      due = inl (record { place = is; told_is = refl; its_job = job_same j.files line.verb job one.1; read = two.1 });
       gives = gives;
       then = refl;
     })
-    (λ next p. gave_so j by job p.job gave next (first_due j by line job p.job is p.due).one p.gives p.then))
-jobs_exactly (Again command) j by None gave is =
-    when (same_origin command.by by) (offers by command.job gave j)
-    (λ next p. name_there command.by by (again_due j by command p.job is p.due).named)
-    (λ e. answered (offered by command.job gave) (Commanded by command.job j.now) (Gave gave) j tt
+    (λ next p. let f = first_due j by line p.line job p.job gave is p.named p.due in
+    gave_so j by line p.line job p.job gave next f.one_line f.one p.gives p.then))
+
+known_exactly : (j : Judged) (by : Origin) (known : Line × Job) (gave : Result Receipt SendFault)
+    → ◌≡◌ {A = Option (Line × Job)} (repeating j.place) (Some (known.0, known.1)) → Exactly (repeats known by gave j) (CommandOffered j by None gave)
+known_exactly j by known gave is =
+    when (same_origin (origin_of known.0) by) (offers known.0 by known.1 gave j)
+    (λ next p. name_there (origin_of known.0) by
+    (subst (λ (x : Line). origin_of x ≡ by) (again_due j known p.line p.job gave is p.due).one_line p.named))
+    (λ e. answered (offered known.0 gave) (Commanded by known.1 j.now) (Gave gave) j tt
     (λ gives. record {
-      job = command.job;
-      due = inr (record { command = command; place = is; named = one_name command.by by e; told_is = refl; its_job = refl });
+      line = known.0;
+      job = known.1;
+      named = one_name (origin_of known.0) by e;
+      due = inr (record { place = is; told_is = refl });
       gives = gives;
       then = refl;
     })
-    (λ next p. gave_so j by command.job p.job gave next (again_due j by command p.job is p.due).one p.gives p.then))
-jobs_exactly (Again command) j by (Some job) gave is = nothing (λ next p. no_again j by command job p.job is p.due)
-jobs_exactly place j by told gave is = nothing (λ next p. no_offer place j by told p.job refl refl is p.due)
+    (λ next p. let a = again_due j known p.line p.job gave is p.due in
+    gave_so j by known.0 p.line known.1 p.job gave next a.one_line a.one p.gives p.then))
+
+jobs_exactly : (j : Judged) (by : Origin) (told : Option Job) (gave : Result Receipt SendFault) → Exactly (jobs_at j.place j by told gave) (CommandOffered j by told gave)
+jobs_exactly j by (Some job) gave =
+    through (λ line. gives line by job gave j) (telling j.place) (λ next p. some_first j p.line job p.job gave p.due) (λ line is. told_exactly j by line job gave is)
+jobs_exactly j by None gave =
+    through (λ (known : Line × Job). repeats known by gave j) (repeating j.place) (λ next p. some_again j p.line p.job gave p.due)
+    (λ known is. known_exactly j by known gave is)
+
+refusal_exactly : (j : Judged) (by : Origin) (line : Line) (name : List ℕ) (len : ℕ) (fault : SendFault) → telling j.place ≡ Some line
+    → Exactly (refuses line by name len fault j) (FileRefused j by name len fault)
+refusal_exactly j by line name len fault is =
+    when (same_origin (origin_of line) by && is_file_of line.verb name && is_length j.files name len) (offers line by (file_of_length name len) (Err fault) j)
+    (λ next p. let lines = same_Some p.line line (sym p.place ∙ is) in
+    both_true (same_origin (origin_of line) by && is_file_of line.verb name) (is_length j.files name len)
+    (both_true (same_origin (origin_of line) by) (is_file_of line.verb name)
+    (name_there (origin_of line) by (subst (λ (x : Line). origin_of x ≡ by) lines p.named))
+    (file_there line.verb name (subst (λ (x : Line). x.verb ≡ verb.File name) lines p.its_name)))
+    (length_there j.files name len p.its_length))
+    (λ e. let two = both (same_origin (origin_of line) by && is_file_of line.verb name) (is_length j.files name len) e in
+    let one = both (same_origin (origin_of line) by) (is_file_of line.verb name) two.0 in
+    answered (offered line (Err fault)) (Commanded by (file_of_length name len) j.now) (Gave (Err fault)) j tt
+    (λ gives. record {
+      line = line;
+      place = is;
+      named = one_name (origin_of line) by one.0;
+      its_name = file_same line.verb name one.1;
+      its_length = length_same j.files name len two.1;
+      gives = gives;
+      then = refl;
+    })
+    (λ next p. (
+      p.gives,
+      subst (λ x. next ≡ offered x (Err fault) (world_after (Commanded by (file_of_length name len) j.now) j))
+          (same_Some p.line line (sym p.place ∙ is)) p.then,
+    )))
+
+lengths_exactly : (j : Judged) (by : Origin) (name : List ℕ) (len : ℕ) (fault : SendFault)
+    → Exactly (lengths_at j.place j by name len fault) (FileRefused j by name len fault)
+lengths_exactly j by name len fault =
+    through (λ line. refuses line by name len fault j) (telling j.place) (λ next p. (p.line, p.place)) (λ line is. refusal_exactly j by line name len fault is)
 
 none_left : (ups : List Up) → elim ups [ [] ↦ true | up ∷ more ↦ false ] ≡ true → ups ≡ []
 none_left [] e = refl
@@ -584,7 +656,8 @@ next_exactly : (j : Judged) (e : Event) → IsQuiet j → Exactly (accepts_next 
 next_exactly j event.Start quiet = quietly j _ quiet (starts_exactly j.place j refl)
 next_exactly j (event.Turn turn now) quiet = quietly j _ quiet (turns_exactly j.place j turn now refl)
 next_exactly j (event.Pull by) quiet = quietly j _ quiet (pulls_exactly j.place j by refl)
-next_exactly j (event.Job by job gave) quiet = quietly j _ quiet (jobs_exactly j.place j by job gave refl)
+next_exactly j (event.Job by job gave) quiet = quietly j _ quiet (jobs_exactly j by job gave)
+next_exactly j (event.Length by name len fault) quiet = quietly j _ quiet (lengths_exactly j by name len fault)
 next_exactly j (event.Tick node said) quiet = quietly j _ quiet (ticks_exactly j.place j node said refl)
 next_exactly j (event.Offer from octets) quiet = quietly j _ quiet (offers_exactly j.place j from octets refl)
 next_exactly j (event.Took to octets) quiet = quietly j _ quiet (takes_exactly j.place j to octets refl)
@@ -608,6 +681,7 @@ news_exactly j event.Start due is = not_quiet j due is
 news_exactly j (event.Turn turn now) due is = not_quiet j due is
 news_exactly j (event.Pull by) due is = not_quiet j due is
 news_exactly j (event.Job by job gave) due is = not_quiet j due is
+news_exactly j (event.Length by name len fault) due is = not_quiet j due is
 news_exactly j (event.Tick node said) due is = not_quiet j due is
 news_exactly j (event.Offer from octets) due is = not_quiet j due is
 news_exactly j (event.Took to octets) due is = not_quiet j due is

@@ -1,6 +1,8 @@
 -- What may come next is decided, but for what is free.
-use Rattle.std.proofs.Common.{◌≡◌, ℕ, ◌+◌, ◌*◌, List, [], ◌∷◌, Bool, true, false, Option, None, Some, Result, Err, refl, sym, ap, subst, ◌∙◌, inl, inr}
+use Rattle.std.proofs.Common.{◌≡◌, ℕ, ◌+◌, ◌*◌, List, [], ◌∷◌, Bool, true, false, Option, None, Some, Result, Ok, Err, length, refl, sym, ap, subst, ◌∙◌, inl, inr}
 use Rattle.std.specs.Prelude.{◌==◌, ◌⊎◌}
+use Rattle.norm_script.specs.declared.script.Line.{Line}
+use Rattle.norm_send_rules.specs.Commanding.{commanded}
 use Rattle.std.specs.Option.{option_map}
 use Rattle.std.proofs.lemmas.Option.{none-some, same_Some}
 use Rattle.std.proofs.lemmas.Bool.{eqb-true, eq-eqb}
@@ -29,13 +31,16 @@ use Rattle.norm_safety.specs.WorldStep.{moved, receiver_move}
 use Rattle.norm_receive_rules.specs.ReceiverStep as receiver
 use Rattle.norm_journal.specs.declared.event.Event.{Event}
 use Rattle.norm_journal.specs.declared.event.Event.TheVariants as event
-use Rattle.norm_journal.specs.Follows.{Follows, IsJobOf, OfferedFirst, OfferedAgain, SendersTick, ReceiversTick, TurnBegins, IsQuiet, sent_of}
+use Rattle.norm_journal.specs.Follows.{Follows, IsLength, IsJobOf, OfferedAndTold, OfferedAgain, FileRefused, SendersTick, ReceiversTick, TurnBegins, IsQuiet, sent_of}
 use Rattle.norm_journal.specs.Free.{IsFile, IsFree, OnlyTheseAreFree}
 use Rattle.norm_journal.specs.InWorld.{answer_to}
-use Rattle.norm_journal.specs.Jobs.{Told as Files}
+use Rattle.norm_journal.specs.Commands.{telling}
+use Rattle.norm_journal.specs.Jobs.{Told as Files, job_of, is_read, file_of_length}
 use Rattle.norm_journal.specs.Judged.{Judged, is_done, news_due}
 use Rattle.norm_journal.specs.Places.{Place, Starting, Between, Pulling, Giving, Again, Sending, Offering, Taking, Handing, Over}
 use Rattle.norm_journal.specs.Pulling.{origin_of}
+use Rattle.norm_journal.proofs.LengthLemmas.{files_by_length}
+use Rattle.norm_journal.proofs.OfferLemmas.{told_at, repeated_at}
 
 -- what was said to be given, and whether a datagram was
 abbrev gave_in : Answer → Result Receipt SendFault
@@ -47,18 +52,34 @@ sent_in (Gives datagram) = sent_of datagram
 sent_in _ = sent.Nothing
 
 -- the job of a command, where it is decided
-abbrev job_of : Files → Verb → Option Job
-job_of files (verb.Data info octets) = Some (job.Data info octets)
-job_of None (verb.File name) = None
-job_of (Some files) (verb.File name) = option_map (λ (octets : List ℕ). job.File name octets) (content_of files name)
-job_of files verb.Open = Some job.Open
-job_of files (verb.Write octets) = Some (job.Write octets)
-job_of files verb.Close = Some job.Close
-job_of files verb.Mark = Some job.Mark
-job_of files (verb.Restart instance) = Some (job.Restart instance)
+abbrev job_in : Files → Verb → Option Job
+job_in files (verb.Data info octets) = Some (job.Data info octets)
+job_in None (verb.File name) = None
+job_in (Some files) (verb.File name) = option_map (λ (octets : List ℕ). job.File name octets) (content_of files name)
+job_in files verb.Open = Some job.Open
+job_in files (verb.Write octets) = Some (job.Write octets)
+job_in files verb.Close = Some job.Close
+job_in files (verb.Mark quorum) = Some (job.Mark quorum)
+job_in files (verb.Restart instance) = Some (job.Restart instance)
+job_in files (verb.Strike node) = Some (job.Strike node)
 
-abbrev offer_of : Judged → Origin → Option Job → Job → Event
-offer_of j by told job = event.Job by told (gave_in (answer_to (Commanded by job j.now) j))
+-- what an offer that tells a job is, by what it gave
+abbrev told_event : Origin → Job → Result Receipt SendFault → Event
+told_event by (job.File name octets) (Err fault) = event.Length by name (length octets) fault
+told_event by (job.File name octets) (Ok receipt) = event.Job by (Some (job.File name octets)) (Ok receipt)
+told_event by other gave = event.Job by (Some other) gave
+
+abbrev gives_to : Judged → Origin → Job → Result Receipt SendFault
+gives_to j by job = gave_in (answer_to (Commanded by job j.now) j)
+
+abbrev telling_due : Judged → Line → Option Event
+telling_due j line = option_map (λ (job : Job). told_event (origin_of line) job (gives_to j (origin_of line) job)) (job_in j.files line.verb)
+
+abbrev again_due : Judged → Line → Option Job → Option Event
+again_due j line known = elim known [
+  | Some job ↦ Some (event.Job (origin_of line) None (gives_to j (origin_of line) job))
+  | None ↦ telling_due j line
+]
 
 abbrev tick_due : Judged → ℕ → Event
 tick_due j node = event.Tick node (sent_in (answer_to (Ticked node j.now) j))
@@ -85,8 +106,8 @@ abbrev due_at : Place → Judged → Option Event
 due_at Starting j = Some event.Start
 due_at Between j = turn_or_end (is_done j) j
 due_at Pulling j = None
-due_at (Giving line) j = option_map (λ (job : Job). offer_of j (origin_of line) (Some job) job) (job_of j.files line.verb)
-due_at (Again command) j = Some (offer_of j command.by None command.job)
+due_at (Giving line) j = telling_due j line
+due_at (Again line) j = again_due j line (job_of line.verb)
 due_at Sending j = Some (tick_due j j.profile.sender)
 due_at (Offering node datagram next) j = Some (event.Offer node datagram)
 due_at (Taking taken) j = None
@@ -127,7 +148,7 @@ turn_decided j turn now next quiet t =
     either (turn_is (j.profile.step == 0) j turn now next refl t) (λ e. at_due ∙ e) (λ e. (at_due ∙ e.0, e.1))
 
 -- the job of a command is decided, or is a file's where nothing is told of files
-job_is : (files : Files) (v : Verb) (job : Job) → IsJobOf files v job → (job_of files v ≡ Some job) ⊎ ((job_of files v ≡ None) × ((files ≡ None) × IsFile (Some job)))
+job_is : (files : Files) (v : Verb) (job : Job) → IsJobOf files v job → (job_in files v ≡ Some job) ⊎ ((job_in files v ≡ None) × ((files ≡ None) × IsFile (Some job)))
 job_is files (verb.Data info octets) (job.Data other bytes) is =
     inl (ap (λ i. Some (job.Data i octets)) is.0 ∙ ap (λ o. Some (job.Data other o)) is.1)
 job_is None (verb.File name) (job.File other octets) is = inr (refl, (refl, tt))
@@ -136,29 +157,83 @@ job_is (Some files) (verb.File name) (job.File other octets) is =
 job_is files verb.Open job.Open is = inl refl
 job_is files (verb.Write octets) (job.Write bytes) is = inl (ap (λ o. Some (job.Write o)) is)
 job_is files verb.Close job.Close is = inl refl
-job_is files verb.Mark job.Mark is = inl refl
+job_is files (verb.Mark quorum) (job.Mark other) is = inl (ap (λ q. Some (job.Mark q)) is)
 job_is files (verb.Restart instance) (job.Restart other) is = inl (ap (λ i. Some (job.Restart i)) is)
+job_is files (verb.Strike node) (job.Strike other) is = inl (ap (λ n. Some (job.Strike n)) is)
 job_is files _ _ is = absurd is
 
-offer_is : (j : Judged) (by name : Origin) (told : Option Job) (job : Job) (gave : Result Receipt SendFault) → name ≡ by
-    → answer_to (Commanded by job j.now) j ≡ Gave gave → offer_of j name told job ≡ event.Job by told gave
-offer_is j by name told job gave is gives = ap (λ n. offer_of j n told job) is ∙ ap (λ a. event.Job by told (gave_in a)) gives
+-- the event that is due where an offer tells its job
+telling_is : (place : Place) (j : Judged) (line : Line) → telling place ≡ Some line → due_at place j ≡ telling_due j line
+telling_is place j line is = by_place (told_at place line is) where
+  by_place : (place ≡ Giving line) ⊎ ((place ≡ Again line) × (job_of line.verb ≡ None)) → due_at place j ≡ telling_due j line
+  by_place (inl giving) = ap (λ p. due_at p j) giving
+  by_place (inr again) = ap (λ p. due_at p j) again.0 ∙ ap (again_due j line) again.1
 
-job_decided : (j : Judged) (by : Origin) (told : Option Job) (gave : Result Receipt SendFault) (other : Job) → IsQuiet j
-    → answer_to (Commanded by other j.now) j ≡ Gave gave → OfferedFirst j by told other ⊎ OfferedAgain j by told other
+clashing : false ≡ true → ⊥
+clashing e = cc
+
+told_job : (by : Origin) (job : Job) (gave : Result Receipt SendFault) → is_read job gave ≡ true → told_event by job gave ≡ event.Job by (Some job) gave
+told_job by (job.File name octets) (Ok receipt) read = refl
+told_job by (job.File name octets) (Err fault) read = absurd (clashing read)
+told_job by (job.Data info octets) gave read = refl
+told_job by job.Open gave read = refl
+told_job by (job.Write octets) gave read = refl
+told_job by job.Close gave read = refl
+told_job by (job.Mark quorum) gave read = refl
+told_job by (job.Restart instance) gave read = refl
+told_job by (job.Strike node) gave read = refl
+
+quiet_telling : (j : Judged) (line : Line) → IsQuiet j → telling j.place ≡ Some line → due j ≡ telling_due j line
+quiet_telling j line quiet is = quiet_due j j.place quiet refl ∙ telling_is j.place j line is
+
+abbrev event_for : Judged → Origin → Job → Event
+event_for j by job = told_event by job (gives_to j by job)
+
+job_decided : (j : Judged) (by : Origin) (line : Line) (told : Option Job) (gave : Result Receipt SendFault) (other : Job) → IsQuiet j → origin_of line ≡ by
+    → answer_to (Commanded by other j.now) j ≡ Gave gave → OfferedAndTold j line told other gave ⊎ OfferedAgain j line told other
     → IsDecided j (event.Job by told gave)
-job_decided j by told gave other quiet gives (inl f) =
-    let at_due = quiet_due j (Giving f.line) quiet f.place in
+job_decided j by line told gave other quiet named gives (inl f) =
+    let at_due = quiet_telling j line quiet f.place in
     subst (λ t. IsDecided j (event.Job by t gave)) (sym f.told_is)
-    (either (job_is j.files f.line.verb other f.its_job)
-    (λ e. at_due ∙ ap (option_map (λ (job : Job). offer_of j (origin_of f.line) (Some job) job)) e
-    ∙ ap Some (offer_is j by (origin_of f.line) (Some other) other gave f.named gives))
-    (λ e. (at_due ∙ ap (option_map (λ (job : Job). offer_of j (origin_of f.line) (Some job) job)) e.0, e.1)))
-job_decided j by told gave other quiet gives (inr a) =
+    (either (job_is j.files line.verb other f.its_job)
+    (λ e. at_due ∙ ap (option_map (λ (job : Job). event_for j (origin_of line) job)) e
+    ∙ ap (λ n. Some (event_for j n other)) named
+    ∙ ap (λ a. Some (told_event by other (gave_in a))) gives
+    ∙ ap Some (told_job by other gave f.read))
+    (λ e. (at_due ∙ ap (option_map (λ (job : Job). event_for j (origin_of line) job)) e.0, e.1)))
+job_decided j by line told gave other quiet named gives (inr a) =
+    let known = repeated_at j.place line other a.place in
     subst (λ t. IsDecided j (event.Job by t gave)) (sym a.told_is)
-    (inl (quiet_due j (Again a.command) quiet a.place
-    ∙ ap (λ job. Some (offer_of j a.command.by None job)) a.its_job
-    ∙ ap Some (offer_is j by a.command.by None other gave a.named gives)))
+    (inl (quiet_due j (Again line) quiet known.0
+    ∙ ap (again_due j line) known.1
+    ∙ ap (λ n. Some (event.Job n None (gives_to j n other))) named
+    ∙ ap (λ x. Some (event.Job by None (gave_in x))) gives))
+
+-- a file that is refused is the one that is told, or free
+length_decided : (j : Judged) (by : Origin) (name : List ℕ) (len : ℕ) (fault : SendFault) (next : Judged) → IsQuiet j → FileRefused j by name len fault next
+    → IsDecided j (event.Length by name len fault)
+length_decided j by name len fault next quiet f = by_files j.files refl f.its_length where
+  at_due : due j ≡ option_map (λ (job : Job). event_for j by job) (job_in j.files (verb.File name))
+  at_due =
+      quiet_telling j f.line quiet f.place
+      ∙ ap (λ n. option_map (λ (job : Job). event_for j n job) (job_in j.files f.line.verb)) f.named
+      ∙ ap (λ v. option_map (λ (job : Job). event_for j by job) (job_in j.files v)) f.its_name
+
+  of_octets : (octets : List ℕ) → length octets ≡ len → event_for j by (job.File name octets) ≡ event.Length by name len fault
+  of_octets octets same =
+      ap (λ gave. told_event by (job.File name octets) gave)
+      (files_by_length j.profile j.world.sender by name octets ∙ ap (λ n. (commanded j.profile j.world.sender by (file_of_length name n)).1) same ∙ ap gave_in f.gives)
+      ∙ ap (λ n. event.Length by name n fault) same
+
+  by_content : (o : Option (List ℕ)) → option_map length o ≡ Some len
+      → option_map (λ (job : Job). event_for j by job) (option_map (λ (octets : List ℕ). job.File name octets) o) ≡ Some (event.Length by name len fault)
+  by_content None is = absurd (none-some len is)
+  by_content (Some octets) is = ap Some (of_octets octets (same_Some (length octets) len is))
+
+  by_files : (files : Files) → j.files ≡ files → IsLength files name len → IsDecided j (event.Length by name len fault)
+  by_files None is its = inr (at_due ∙ ap (λ x. option_map (λ (job : Job). event_for j by job) (job_in x (verb.File name))) is, is)
+  by_files (Some files) is its =
+      inl (at_due ∙ ap (λ x. option_map (λ (job : Job). event_for j by job) (job_in x (verb.File name))) is ∙ by_content (content_of files name) its)
 
 tick_is : (j : Judged) (node : ℕ) (said : Sent) (datagram : Option Written) → answer_to (Ticked node j.now) j ≡ Gives datagram → said ≡ sent_of datagram
     → tick_due j node ≡ event.Tick node said
@@ -207,7 +282,8 @@ decided : (j next : Judged) (e : Event) → Follows j e next → IsDecided j e
 decided j next event.Start f = inl (quiet_due j Starting f.0 f.1.place)
 decided j next (event.Turn turn now) f = turn_decided j turn now next f.0 f.1
 decided j next (event.Pull by) f = inr (quiet_due j Pulling f.0 f.1.place, tt)
-decided j next (event.Job by told gave) f = job_decided j by told gave f.1.job f.0 f.1.gives f.1.due
+decided j next (event.Job by told gave) f = job_decided j by f.1.line told gave f.1.job f.0 f.1.named f.1.gives f.1.due
+decided j next (event.Length by name len fault) f = length_decided j by name len fault next f.0 f.1
 decided j next (event.Tick node said) f = inl (tick_decided j node said f.1.after f.1.datagram f.0 f.1.taken f.1.gives f.1.said_is f.1.due)
 decided j next (event.Offer from octets) f = inl (quiet_due j (Offering from octets f.1.after) f.0 f.1.place)
 decided j next (event.Took to octets) f = inr (quiet_due j (Taking f.1.count) f.0 f.1.place, tt)

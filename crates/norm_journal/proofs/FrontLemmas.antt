@@ -1,12 +1,14 @@
 -- Journals event by event: fronts, what they print, and how a run ends.
-use Rattle.std.proofs.Common.{◌≡◌, List, [], ◌∷◌, ◌++◌, length, Bool, true, false, Option, None, Some, refl, sym, ap, ◌∙◌, arith, append_assoc}
-use Rattle.std.specs.Prelude.{◌==◌, ◌&&◌, option_and_then, IsSome, is_none, ℕ}
+use Rattle.std.proofs.Common.{◌≡◌, List, [], ◌∷◌, ◌++◌, length, Bool, true, false, Option, None, Some, refl, sym, ap, subst, ◌∙◌, arith, append_assoc}
+use Rattle.std.specs.Prelude.{◌==◌, ◌&&◌, option_and_then, IsSome, is_none, IfSome, ℕ}
 use Rattle.std.specs.Option.{option_to_list}
 use Rattle.std.proofs.lemmas.Option.{none-some, same_Some}
-use Rattle.norm_send_rules.specs.Requests.{open_requests}
+use Rattle.norm_send_rules.specs.Watermarks.{open_watermarks}
 use Rattle.norm_send_rules.specs.Ticking.{is_idle}
 use Rattle.norm_journal.specs.declared.event.Event.{Event}
 use Rattle.norm_journal.specs.Accepting.{accepts, judged_from}
+use Rattle.norm_journal.specs.Honest.{IsHonest}
+use Rattle.norm_journal.specs.WorldEvents.{TakesHonestly}
 use Rattle.norm_journal.specs.Judged.{Judged, is_whole}
 use Rattle.norm_journal.specs.Places.{Place, Giving, Over}
 use Rattle.norm_journal.specs.Printed.{line_of, lines_from}
@@ -14,7 +16,7 @@ use Rattle.norm_script.specs.declared.script.Verb.{Verb}
 use Rattle.norm_script.specs.declared.script.Verb.TheVariants as verb
 use Rattle.norm_journal.specs.Jobs.{Told, may_be_absent}
 use Rattle.norm_journal.specs.SessionRun.{Ending, Whole, Spent, Absent, absent_of, ends_in}
-use Rattle.norm_journal.specs.Laws.{FrontsAreAccepted, FrontsArePrinted, LeavesNothing, WholeIsDone}
+use Rattle.norm_journal.specs.Laws.{FrontsAreAccepted, FrontsArePrinted, TakesStayHonest, LeavesNothing, WholeIsDone}
 
 clash : false ≡ true → ⊥
 clash e = cc
@@ -68,6 +70,25 @@ fronts_print j last (e ∷ front) rest is =
 pub fronts_printed : FrontsArePrinted
 fronts_printed j next front rest is = fronts_print j next front rest is
 
+-- whatever may come after the last event, there is nothing more to ask of it
+nothing_more : (o : Option Judged) → IfSome o (λ next. TakesHonestly next [])
+unfolding TakesHonestly
+nothing_more None = tt
+nothing_more (Some next) = tt
+
+honest_on : (o : Option Judged) (front : List Event) (last : Judged) (e : Event) → option_and_then (λ next. judged_from next front) o ≡ Some last
+    → IfSome o (λ next. TakesHonestly next front)
+    → ((next : Judged) → judged_from next front ≡ Some last → TakesHonestly next front → TakesHonestly next (front ++ e ∷ []))
+    → IfSome o (λ next. TakesHonestly next (front ++ e ∷ []))
+honest_on None front last e is honest each = absurd (none-some last is)
+honest_on (Some next) front last e is honest each = each next is honest
+
+pub takes_stay_honest : TakesStayHonest
+unfolding judged_from TakesHonestly
+takes_stay_honest j last [] e is honest more = (subst (λ (x : Judged). IsHonest x e) (sym (same_Some j last is)) more, nothing_more (accepts j e))
+takes_stay_honest j last (x ∷ front) e is honest more =
+    (honest.0, honest_on (accepts j x) front last e is honest.1 (λ next so here. takes_stay_honest next last front e so here more))
+
 no_items : {X : Type 0} (xs : List X) → (length xs == 0) ≡ true → xs ≡ []
 no_items [] e = refl
 no_items (x ∷ xs) e = absurd (grind arith)
@@ -78,13 +99,13 @@ is_no (Some x) e = absurd (clash e)
 
 leaves_nothing : (j : Judged) → is_whole j ≡ true → LeavesNothing j
 leaves_nothing j e =
-    let last = both (length j.left == 0 && is_none j.waiting && length (open_requests j.world.sender) == 0) (is_idle j.profile j.world.sender) e in
-    let requests = both (length j.left == 0 && is_none j.waiting) (length (open_requests j.world.sender) == 0) last.0 in
-    let pulled = both (length j.left == 0) (is_none j.waiting) requests.0 in
+    let last = both (length j.left == 0 && is_none j.waiting && length (open_watermarks j.world.sender) == 0) (is_idle j.profile j.world.sender) e in
+    let watermarks = both (length j.left == 0 && is_none j.waiting) (length (open_watermarks j.world.sender) == 0) last.0 in
+    let pulled = both (length j.left == 0) (is_none j.waiting) watermarks.0 in
     record {
       pulled = no_items j.left pulled.0;
       waiting = is_no j.waiting pulled.1;
-      requests = no_items (open_requests j.world.sender) requests.1;
+      watermarks = no_items (open_watermarks j.world.sender) watermarks.1;
       idle = last.1;
     }
 

@@ -1,6 +1,6 @@
 -- The world's events of a journal are lawful, where its takes are honest.
-use Rattle.std.proofs.Common.{◌≡◌, ℕ, ◌+◌, ◌≤◌, List, [], ◌∷◌, ◌++◌, Bool, true, false, cond, Option, None, Some, Result, refl, sym, ap, subst, ◌∙◌, arith}
-use Rattle.std.specs.Prelude.{◌==◌, ◌&&◌, map, find, Contains, IsSome, IfSome, ⊤}
+use Rattle.std.proofs.Common.{◌≡◌, ℕ, ◌+◌, ◌≤◌, List, [], ◌∷◌, ◌++◌, Bool, true, false, cond, Option, None, Some, Result, Err, refl, sym, ap, subst, ◌∙◌, arith, inl, inr}
+use Rattle.std.specs.Prelude.{◌==◌, ◌&&◌, map, find, Contains, IsSome, IfSome, option_and_then, ◌⊎◌, ⊤}
 use Rattle.std.specs.Option.{option_map, option_to_list}
 use Rattle.std.proofs.lemmas.Option.{none-some, same_Some, option_and_then_some}
 use Rattle.std.proofs.lemmas.Bool.{eqb-true}
@@ -27,13 +27,14 @@ use Rattle.norm_receive_rules.specs.ReceiverStep as receiver
 use Rattle.norm_journal.specs.declared.event.Event.{Event}
 use Rattle.norm_journal.specs.declared.event.Event.TheVariants as event
 use Rattle.norm_journal.specs.Accepting.{accepts, accepts_news, accepts_next, told_of, judged_from}
-use Rattle.norm_journal.specs.Commands.{offered, offers, line_pulled, pulls_at, jobs_at}
+use Rattle.norm_journal.specs.Commands.{offered, offers, line_pulled, pulls_at, telling, repeating, gives, repeats, jobs_at, refuses, lengths_at}
 use Rattle.norm_journal.specs.Draws.{next_draw, draws_after}
 use Rattle.norm_journal.specs.Honest.{IsHonest}
 use Rattle.norm_journal.specs.InWorld.{world_after, answer_to, at, comes}
+use Rattle.norm_journal.specs.Jobs.{job_of, file_of_length}
 use Rattle.norm_journal.specs.Judged.{Judged, judged_opening, news_due}
 use Rattle.norm_journal.specs.Laws.{BeginsLawfully}
-use Rattle.norm_journal.specs.Places.{Place, Starting, Between, Pulling, Giving, Again, Sending, Offering, Taking, Handing, Over, Waiting, handing, after_tick, command_due}
+use Rattle.norm_journal.specs.Places.{Place, Starting, Between, Pulling, Giving, Again, Sending, Offering, Taking, Handing, Over, handing, after_tick, command_due}
 use Rattle.norm_journal.specs.Pulling.{origin_of, first_line, pulled}
 use Rattle.norm_journal.specs.Same.{same_answer}
 use Rattle.norm_journal.specs.Takes.{takes_at, finds_none_at, is_receiver, receivers_due, after_take}
@@ -43,6 +44,7 @@ use Rattle.norm_journal.specs.SessionRun.{judged}
 use Rattle.norm_journal.specs.WorldEvents.{job_at, delivery, world_event, world_events, TakesHonestly}
 use Rattle.norm_journal.proofs.PullLemmas.{from_map, numbered}
 use Rattle.norm_journal.proofs.NameLemmas.{both, one_name, count, count_itself, counted_at, count_found, names_waiting, given_once}
+use Rattle.norm_journal.proofs.OfferLemmas.{told_at, repeated_at}
 use Rattle.norm_journal.proofs.WorldLemmas.{event_moves}
 
 -- the name of the command that a place has
@@ -53,14 +55,14 @@ names_in _ = []
 -- a place that needs nothing of the state
 abbrev IsCalm : Place → Type 0
 IsCalm (Giving line) = ⊥
-IsCalm (Again command) = ⊥
+IsCalm (Again line) = ⊥
 IsCalm (Offering node datagram next) = ⊥
 IsCalm _ = ⊤
 
 -- a datagram that is to be offered is the node's last tick's, and a command that is to be offered again is the one that waits
 abbrev IsReady : Place → Judged → Type 0
 IsReady (Offering node octets next) j = WasGiven j.world node octets × IsCalm next
-IsReady (Again command) j = j.waiting ≡ Some command
+IsReady (Again line) j = j.waiting ≡ Some line
 IsReady _ j = ⊤
 
 -- a command's name stands once among those that were accepted and those that are to come
@@ -101,13 +103,13 @@ when false accepted j o after leads = no_event accepted j o
 
 calm_names : (place : Place) (q : Origin) → IsCalm place → count q (names_in place) ≡ 0
 calm_names (Giving line) q calm = absurd calm
-calm_names (Again command) q calm = absurd calm
+calm_names (Again line) q calm = absurd calm
 calm_names (Offering node datagram next) q calm = absurd calm
 calm_names _ q calm = refl
 
 calm_ready : (place : Place) (j : Judged) → IsCalm place → IsReady place j
 calm_ready (Giving line) j calm = absurd calm
-calm_ready (Again command) j calm = absurd calm
+calm_ready (Again line) j calm = absurd calm
 calm_ready (Offering node datagram next) j calm = absurd calm
 calm_ready _ j calm = tt
 
@@ -129,15 +131,15 @@ starts_lead : (accepted : List Origin) (place : Place) (j : Judged) → Sound ac
 starts_lead accepted Starting j s = this accepted j _ None (record { may = tt; sound = record { once = s.once; ready = tt } })
 starts_lead accepted _ j s = no_event accepted j None
 
-due_names : (q : Origin) (w : Option Waiting) (lines : List Line) → count q (names_in (command_due w lines)) ≡ 0
+due_names : (q : Origin) (w : Option Line) (lines : List Line) → count q (names_in (command_due w lines)) ≡ 0
 due_names q None [] = refl
 due_names q None (line ∷ lines) = refl
-due_names q (Some command) lines = refl
+due_names q (Some line) lines = refl
 
-due_ready : (w : Option Waiting) (lines : List Line) (x : Judged) → x.waiting ≡ w → IsReady (command_due w lines) x
+due_ready : (w : Option Line) (lines : List Line) (x : Judged) → x.waiting ≡ w → IsReady (command_due w lines) x
 due_ready None [] x is = tt
 due_ready None (line ∷ lines) x is = tt
-due_ready (Some command) lines x is = is
+due_ready (Some line) lines x is = is
 
 turns_lead : (accepted : List Origin) (place : Place) (j : Judged) (turn now : ℕ) → Sound accepted place j
     → Leading accepted j None (turns_at place j turn now)
@@ -185,19 +187,19 @@ not_yet : (a b l : ℕ) → 1 ≤ a → b ≡ 1 → a + (b + l) ≤ 1 → ⊥
 not_yet a b l some one most = omega (arith, some, one, most)
 
 -- an offer of a command whose name stands once
-offers_lead : (accepted : List Origin) (j : Judged) (by : Origin) (job : Job) (gave : Result Receipt SendFault)
+offers_lead : (accepted : List Origin) (j : Judged) (line : Line) (by : Origin) (job : Job) (gave : Result Receipt SendFault) → origin_of line ≡ by
     → ((q : Origin) → count q accepted + (count q (by ∷ []) + count q (map origin_of j.left)) ≤ 1)
-    → Leading accepted j (Some (Commanded by job j.now)) (offers by job gave j)
-offers_lead accepted j by job gave once next is =
+    → Leading accepted j (Some (Commanded by job j.now)) (offers line by job gave j)
+offers_lead accepted j line by job gave named once next is =
     let e = Commanded by job j.now in
-    from_map (offered by job gave) (comes e (Gave gave) j) next is (λ x comes_so same.
+    from_map (offered line gave) (comes e (Gave gave) j) next is (λ x comes_so same.
     let two = came e (Gave gave) j x comes_so in
-    subst (λ y. Leads accepted j (Some e) y) (ap (offered by job gave) two.1 ∙ same) (record {
+    subst (λ y. Leads accepted j (Some e) y) (ap (offered line gave) two.1 ∙ same) (record {
       may = λ there. not_yet (count by accepted) (count by (by ∷ [])) (count by (map origin_of j.left)) (counted_at accepted by there.0 there.1 there.2)
           (count_itself by) (once by);
       sound = record {
         once = λ q. given_fits _ _ (count q accepted) (count q (by ∷ [])) (count q (map origin_of j.left))
-            (given_once q by job j.now accepted (commanded j.profile j.world.sender by job).1 gave two.0) (once q);
+            (given_once q by line job j.now accepted (commanded j.profile j.world.sender by job).1 gave named two.0) (once q);
         ready = tt;
       };
     }))
@@ -218,22 +220,50 @@ once_given accepted line by j same s q =
     subst (λ x. count q accepted + (count q (x ∷ []) + count q (map origin_of j.left)) ≤ 1) same
     (without_waiting (count q accepted) (count q (origin_of line ∷ [])) (count q (names_waiting j.waiting)) (count q (map origin_of j.left)) (s.once q))
 
-once_again : (accepted : List Origin) (command : Waiting) (by : Origin) (j : Judged) → command.by ≡ by → Sound accepted (Again command) j
+once_again : (accepted : List Origin) (line : Line) (by : Origin) (j : Judged) → origin_of line ≡ by → Sound accepted (Again line) j
     → (q : Origin) → count q accepted + (count q (by ∷ []) + count q (map origin_of j.left)) ≤ 1
-once_again accepted command by j same s q =
+once_again accepted line by j same s q =
     subst (λ x. count q accepted + (count q (x ∷ []) + count q (map origin_of j.left)) ≤ 1) same
-    (as_waiting (count q accepted) (count q (names_waiting j.waiting)) (count q (command.by ∷ [])) (count q (map origin_of j.left))
+    (as_waiting (count q accepted) (count q (names_waiting j.waiting)) (count q (origin_of line ∷ [])) (count q (map origin_of j.left))
     (ap (λ w. count q (names_waiting w)) s.ready) (s.once q))
+
+once_told : (accepted : List Origin) (place : Place) (line : Line) (by : Origin) (j : Judged) → origin_of line ≡ by → Sound accepted place j
+    → (place ≡ Giving line) ⊎ ((place ≡ Again line) × (job_of line.verb ≡ None))
+    → (q : Origin) → count q accepted + (count q (by ∷ []) + count q (map origin_of j.left)) ≤ 1
+once_told accepted place line by j same s (inl is) = once_given accepted line by j same (subst (λ p. Sound accepted p j) is s)
+once_told accepted place line by j same s (inr is) = once_again accepted line by j same (subst (λ p. Sound accepted p j) is.0 s)
+
+through : {X : Type 0} (f : X → Option Judged) (accepted : List Origin) (j : Judged) (o : Option WorldEvent) (found : Option X)
+    → ((x : X) → found ≡ Some x → Leading accepted j o (f x)) → Leading accepted j o (option_and_then f found)
+through f accepted j o None leads = no_event accepted j o
+through f accepted j o (Some x) leads = leads x refl
+
+-- what another offer of a known command is in the world
+abbrev known_command : Judged → Origin → Option (Line × Job) → Option WorldEvent
+known_command j by found = option_map (λ (job : Job). Commanded by job j.now) (option_map (λ (known : Line × Job). known.1) found)
 
 jobs_lead : (accepted : List Origin) (place : Place) (j : Judged) (by : Origin) (job : Option Job) (gave : Result Receipt SendFault)
     → Sound accepted place j → Leading accepted j (command place j by job) (jobs_at place j by job gave)
-jobs_lead accepted (Giving line) j by None gave s = no_event accepted j None
-jobs_lead accepted (Giving line) j by (Some job) gave s = when _ accepted j (Some (Commanded by job j.now)) _ (λ test.
-    offers_lead accepted j by job gave (once_given accepted line by j (one_name (origin_of line) by (both _ _ test).0) s))
-jobs_lead accepted (Again waiting) j by None gave s = when _ accepted j (Some (Commanded by waiting.job j.now)) _ (λ test.
-    offers_lead accepted j by waiting.job gave (once_again accepted waiting by j (one_name waiting.by by test) s))
-jobs_lead accepted (Again waiting) j by (Some job) gave s = no_event accepted j (Some (Commanded by job j.now))
-jobs_lead accepted place j by job gave s = no_event accepted j (command place j by job)
+jobs_lead accepted place j by (Some job) gave s =
+    through (λ line. gives line by job gave j) accepted j (Some (Commanded by job j.now)) (telling place) (λ line is.
+    when _ accepted j (Some (Commanded by job j.now)) _ (λ test.
+    let named = one_name (origin_of line) by (both _ _ (both _ _ test).0).0 in
+    offers_lead accepted j line by job gave named (once_told accepted place line by j named s (told_at place line is))))
+jobs_lead accepted place j by None gave s =
+    through (λ (known : Line × Job). repeats known by gave j) accepted j (known_command j by (repeating place)) (repeating place) (λ known is.
+    subst (λ found. Leading accepted j (known_command j by found) (repeats known by gave j)) (sym is)
+    (when _ accepted j (Some (Commanded by known.1 j.now)) _ (λ test.
+    let named = one_name (origin_of known.0) by test in
+    offers_lead accepted j known.0 by known.1 gave named
+    (once_again accepted known.0 by j named (subst (λ p. Sound accepted p j) (repeated_at place known.0 known.1 is).0 s)))))
+
+lengths_lead : (accepted : List Origin) (place : Place) (j : Judged) (by : Origin) (name : List ℕ) (len : ℕ) (fault : SendFault) → Sound accepted place j
+    → Leading accepted j (Some (Commanded by (file_of_length name len) j.now)) (lengths_at place j by name len fault)
+lengths_lead accepted place j by name len fault s =
+    through (λ line. refuses line by name len fault j) accepted j (Some (Commanded by (file_of_length name len) j.now)) (telling place) (λ line is.
+    when _ accepted j (Some (Commanded by (file_of_length name len) j.now)) _ (λ test.
+    let named = one_name (origin_of line) by (both _ _ (both _ _ test).0).0 in
+    offers_lead accepted j line by (file_of_length name len) (Err fault) named (once_told accepted place line by j named s (told_at place line is))))
 
 all_were_taken : (o : Option ReceiverState) → all_taken o ≡ true → AllTaken o
 all_were_taken None e = tt
@@ -273,7 +303,7 @@ tick_gives_by true p w node now is datagram e =
     subst (λ n. Contains (moved p w (OfSender (sender.Ticked now))).0.given (n, datagram)) (sym (eqb-true node p.sender is)) (given_there p.sender _ _ datagram e)
 tick_gives_by false p w node now is datagram e = receiver_gives p w node now (receiver_at w node) refl datagram e
 
-tick_gives : (j : Judged) (node : ℕ) (datagram : Written) → answer_to (Ticked node j.now) j ≡ Gives (Some datagram)
+pub tick_gives : (j : Judged) (node : ℕ) (datagram : Written) → answer_to (Ticked node j.now) j ≡ Gives (Some datagram)
     → Contains (world_after (Ticked node j.now) j).world.given (node, datagram)
 tick_gives j node datagram e = tick_gives_by (node == j.profile.sender) j.profile j.world node j.now refl datagram e
 
@@ -366,7 +396,7 @@ none_leads accepted _ j s = no_event accepted j None
 ready_stays : (place : Place) (j x : Judged) → x.world.given ≡ j.world.given → x.waiting ≡ j.waiting → IsReady place j → IsReady place x
 ready_stays (Offering node datagram next) j x given waiting ready =
     ((ready.0.0, subst (λ g. Contains g (node, ready.0.0)) (sym given) ready.0.1, ready.0.2), ready.1)
-ready_stays (Again command) j x given waiting ready = waiting ∙ ready
+ready_stays (Again line) j x given waiting ready = waiting ∙ ready
 ready_stays Starting j x given waiting ready = tt
 ready_stays Between j x given waiting ready = tt
 ready_stays Pulling j x given waiting ready = tt
@@ -394,6 +424,7 @@ next_leads accepted j event.Start s honest = starts_lead accepted j.place j s
 next_leads accepted j (event.Turn turn now) s honest = turns_lead accepted j.place j turn now s
 next_leads accepted j (event.Pull by) s honest = pulls_lead accepted j.place j by s
 next_leads accepted j (event.Job by job gave) s honest = jobs_lead accepted j.place j by job gave s
+next_leads accepted j (event.Length by name len fault) s honest = lengths_lead accepted j.place j by name len fault s
 next_leads accepted j (event.Tick node sent) s honest = ticks_lead accepted j.place j node sent s
 next_leads accepted j (event.Offer from octets) s honest = offers_at_lead accepted j.place j from octets s
 next_leads accepted j (event.Took to octets) s honest = takes_lead accepted j.place j to octets s honest
@@ -414,6 +445,7 @@ news_lead accepted j event.Start s next is = no_event accepted j (world_event j 
 news_lead accepted j (event.Turn turn now) s next is = no_event accepted j None next is
 news_lead accepted j (event.Pull by) s next is = no_event accepted j None next is
 news_lead accepted j (event.Job by job gave) s next is = no_event accepted j (world_event j (event.Job by job gave)) next is
+news_lead accepted j (event.Length by name len fault) s next is = no_event accepted j (world_event j (event.Length by name len fault)) next is
 news_lead accepted j (event.Tick node sent) s next is = no_event accepted j (world_event j (event.Tick node sent)) next is
 news_lead accepted j (event.Offer from octets) s next is = no_event accepted j (world_event j (event.Offer from octets)) next is
 news_lead accepted j (event.Took to octets) s next is = no_event accepted j (world_event j (event.Took to octets)) next is
@@ -463,9 +495,9 @@ some_of None e = absurd (cc)
 some_of (Some x) e = (x, refl)
 
 pub begins_lawfully : BeginsLawfully
-begins_lawfully script files events once begun honest =
-    let last = some_of (judged script files events) begun in
-    lawful_from events [] (judged_opening script files) last.0 (record {
+begins_lawfully script files nodes events once begun honest =
+    let last = some_of (judged script files nodes events) begun in
+    lawful_from events [] (judged_opening script files nodes) last.0 (record {
       once = λ q. let most = once q in omega (arith, most);
       ready = tt;
     }) last.1 honest

@@ -1,5 +1,7 @@
 pub mod FrontLemmas
 pub mod SameLemmas
+pub mod OfferLemmas
+pub mod LengthLemmas
 pub mod FollowLemmas
 pub mod FreeLemmas
 pub mod WordsLemmas
@@ -9,5 +11,8 @@ pub mod PullLemmas
 pub mod WorldLemmas
 pub mod NameLemmas
 pub mod LawfulLemmas
+pub mod OfferedLemmas
+pub mod CallLemmas
+pub mod OctetLemmas
 pub mod ScriptLemmas
 pub mod EndLemmas

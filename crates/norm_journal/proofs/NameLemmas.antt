@@ -13,7 +13,6 @@ use Rattle.norm_send_rules.specs.declared.fault.SendFault.{SendFault}
 use Rattle.norm_safety.specs.Events.{Commanded, Gave}
 use Rattle.norm_safety.specs.Lawful.{same_origin, accepted_with}
 use Rattle.norm_journal.specs.Commands.{waits, waiting_after}
-use Rattle.norm_journal.specs.Places.{Waiting}
 use Rattle.norm_journal.specs.Pulling.{origin_of, first_line}
 use Rattle.norm_journal.specs.Same.{same_gave}
 use Rattle.norm_journal.proofs.PullLemmas.{same_name}
@@ -115,20 +114,21 @@ count_found q producer (l ∷ lines) line rest e =
       at_head false o each is = later o each is
 
 -- the name of a command that waits
-abbrev pub names_waiting : Option Waiting → List Origin
+abbrev pub names_waiting : Option Line → List Origin
 names_waiting None = []
-names_waiting (Some command) = command.by ∷ []
+names_waiting (Some line) = origin_of line ∷ []
 
-if_waits : (b : Bool) (q by : Origin) (job : Job)
-    → count q (names_waiting (elim b [ true ↦ Some (record { by = by; job = job }) | false ↦ None ])) ≤ count q (by ∷ [])
-if_waits true q by job = omega arith
-if_waits false q by job = omega arith
+if_waits : (b : Bool) (q by : Origin) (line : Line) → origin_of line ≡ by
+    → count q (names_waiting (elim b [ true ↦ Some line | false ↦ None ])) ≤ count q (by ∷ [])
+if_waits true q by line named = let same = ap (λ o. count q (o ∷ [])) named in omega (arith, same)
+if_waits false q by line named = omega arith
 
 -- a command that was given is accepted, or waits, or is done with
-pub given_once : (q by : Origin) (job : Job) (now : ℕ) (accepted : List Origin) (r gave : Result Receipt SendFault) → same_gave r gave ≡ true
-    → count q (accepted_with accepted (Commanded by job now) (Gave r)) + count q (names_waiting (waiting_after by job gave))
+pub given_once : (q by : Origin) (line : Line) (job : Job) (now : ℕ) (accepted : List Origin) (r gave : Result Receipt SendFault)
+    → origin_of line ≡ by → same_gave r gave ≡ true
+    → count q (accepted_with accepted (Commanded by job now) (Gave r)) + count q (names_waiting (waiting_after line gave))
     ≤ count q accepted + count q (by ∷ [])
-given_once q by job now accepted (Ok a) (Ok b) same = let more = count_push q by accepted in omega (arith, more)
-given_once q by job now accepted (Ok a) (Err b) same = absurd (clash same)
-given_once q by job now accepted (Err a) (Ok b) same = absurd (clash same)
-given_once q by job now accepted (Err a) (Err b) same = let w = if_waits (waits (Err b)) q by job in omega (arith, w)
+given_once q by line job now accepted (Ok a) (Ok b) named same = let more = count_push q by accepted in omega (arith, more)
+given_once q by line job now accepted (Ok a) (Err b) named same = absurd (clash same)
+given_once q by line job now accepted (Err a) (Ok b) named same = absurd (clash same)
+given_once q by line job now accepted (Err a) (Err b) named same = let w = if_waits (waits (Err b)) q by line named in omega (arith, w)

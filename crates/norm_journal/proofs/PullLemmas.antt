@@ -1,6 +1,6 @@
 -- Pulls: an event other than a pull leaves the lines as they are.
-use Rattle.std.proofs.Common.{◌≡◌, ℕ, List, [], ◌∷◌, ◌++◌, Bool, true, false, cond, Option, None, Some, Result, refl, sym, ap, subst, ◌∙◌, arith, append_assoc}
-use Rattle.std.specs.Prelude.{◌==◌, map, filter}
+use Rattle.std.proofs.Common.{◌≡◌, ℕ, List, [], ◌∷◌, ◌++◌, Bool, true, false, cond, Option, None, Some, Result, Err, refl, sym, ap, subst, ◌∙◌, arith, append_assoc}
+use Rattle.std.specs.Prelude.{◌==◌, ◌&&◌, map, filter, option_and_then}
 use Rattle.std.specs.List.{flat_map}
 use Rattle.std.specs.Option.{option_map}
 use Rattle.std.proofs.lemmas.Option.{none-some, same_Some, some_pair_parts, option_and_then_some}
@@ -13,15 +13,17 @@ use Rattle.norm_send_rules.specs.declared.job.Job.{Job}
 use Rattle.norm_send_rules.specs.declared.job.Receipt.{Receipt}
 use Rattle.norm_send_rules.specs.declared.fault.SendFault.{SendFault}
 use Rattle.norm_send_rules.specs.declared.news.News.{News}
+use Rattle.norm_safety.specs.Lawful.{same_origin}
 use Rattle.norm_safety.specs.Events.{Event as WorldEvent, Commanded, Offered, UpTaken, NewsAsked, Answer, Gave, Sent as Gives, Took, Told, Silent}
 use Rattle.norm_journal.specs.declared.event.Event.{Event}
 use Rattle.norm_journal.specs.declared.event.Event.TheVariants as event
 use Rattle.norm_journal.specs.Accepting.{accepts, accepts_news, accepts_next, told_of, judged_from}
-use Rattle.norm_journal.specs.Commands.{offered, offers, line_pulled, pulls_at, gives, gives_again, jobs_at}
+use Rattle.norm_journal.specs.Commands.{offered, offers, line_pulled, pulls_at, telling, repeating, gives, repeats, jobs_at, refuses, lengths_at}
 use Rattle.norm_journal.specs.InWorld.{world_after, answer_to, at, comes}
+use Rattle.norm_journal.specs.Jobs.{is_file_of, is_length, file_of_length}
 use Rattle.norm_journal.specs.Judged.{Judged, news_due, is_done}
 use Rattle.norm_journal.specs.Laws.{commands_by, pull_by, PullsInOrder}
-use Rattle.norm_journal.specs.Places.{Place, Starting, Between, Pulling, Giving, Again, Sending, Offering, Taking, Handing, Waiting}
+use Rattle.norm_journal.specs.Places.{Place, Starting, Between, Pulling, Sending, Offering, Taking, Handing}
 use Rattle.norm_journal.specs.Pulling.{origin_of, first_line, pulled}
 use Rattle.norm_journal.specs.Same.{same_answer}
 use Rattle.norm_journal.specs.Takes.{takes_at, finds_none_at, is_receiver}
@@ -61,22 +63,24 @@ ends_keeps : (place : Place) (j : Judged) → Keeps j (ends_at place j)
 ends_keeps Between j = when (is_done j) j _ (this j _ refl)
 ends_keeps _ j = no_event j
 
-offers_keep : (by : Origin) (job : Job) (gave : Result Receipt SendFault) (j : Judged) → Keeps j (offers by job gave j)
-offers_keep by job gave j = then (offered by job gave) j _ (λ x. refl) (comes_keeps (Commanded by job j.now) (Gave gave) j)
+through : {X : Type 0} (f : X → Option Judged) (j : Judged) (found : Option X) → ((x : X) → Keeps j (f x)) → Keeps j (option_and_then f found)
+through f j None keeps = no_event j
+through f j (Some x) keeps = keeps x
 
-gives_keeps : (line : Line) (by : Origin) (job : Option Job) (gave : Result Receipt SendFault) (j : Judged) → Keeps j (gives line by job gave j)
-gives_keeps line by None gave j = no_event j
-gives_keeps line by (Some job) gave j = when _ j _ (offers_keep by job gave j)
-
-gives_again_keeps : (command : Waiting) (by : Origin) (job : Option Job) (gave : Result Receipt SendFault) (j : Judged)
-    → Keeps j (gives_again command by job gave j)
-gives_again_keeps command by (Some job) gave j = no_event j
-gives_again_keeps command by None gave j = when _ j _ (offers_keep by command.job gave j)
+offers_keep : (line : Line) (by : Origin) (job : Job) (gave : Result Receipt SendFault) (j : Judged) → Keeps j (offers line by job gave j)
+offers_keep line by job gave j = then (offered line gave) j _ (λ x. refl) (comes_keeps (Commanded by job j.now) (Gave gave) j)
 
 jobs_keep : (place : Place) (j : Judged) (by : Origin) (job : Option Job) (gave : Result Receipt SendFault) → Keeps j (jobs_at place j by job gave)
-jobs_keep (Giving line) j by job gave = gives_keeps line by job gave j
-jobs_keep (Again command) j by job gave = gives_again_keeps command by job gave j
-jobs_keep _ j by job gave = no_event j
+jobs_keep place j by (Some job) gave =
+    through (λ line. gives line by job gave j) j (telling place) (λ line. when _ j _ (offers_keep line by job gave j))
+jobs_keep place j by None gave =
+    through (λ (known : Line × Job). repeats known by gave j) j (repeating place) (λ known. when _ j _ (offers_keep known.0 by known.1 gave j))
+
+lengths_keep : (place : Place) (j : Judged) (by : Origin) (name : List ℕ) (len : ℕ) (fault : SendFault) → Keeps j (lengths_at place j by name len fault)
+lengths_keep place j by name len fault =
+    through (λ line. refuses line by name len fault j) j (telling place) (λ line.
+    when (same_origin (origin_of line) by && is_file_of line.verb name && is_length j.files name len) j _
+    (offers_keep line by (file_of_length name len) (Err fault) j))
 
 gave_keeps : (node : ℕ) (sent : Sent) (next : Place) (answer : Answer) (j : Judged) → Keeps j (gave_datagram node sent next answer j)
 gave_keeps node sent next (Gives datagram) j = when _ j _ (this j _ refl)
@@ -241,6 +245,7 @@ next_pulls q j event.Start = kept q j event.Start _ refl (starts_keeps j.place j
 next_pulls q j (event.Turn turn now) = kept q j (event.Turn turn now) _ refl (turns_keeps j.place j turn now)
 next_pulls q j (event.Pull by) = pulls_keep q j.place j by
 next_pulls q j (event.Job by job gave) = kept q j (event.Job by job gave) _ refl (jobs_keep j.place j by job gave)
+next_pulls q j (event.Length by name len fault) = kept q j (event.Length by name len fault) _ refl (lengths_keep j.place j by name len fault)
 next_pulls q j (event.Tick node sent) = kept q j (event.Tick node sent) _ refl (ticks_keep j.place j node sent)
 next_pulls q j (event.Offer from octets) = kept q j (event.Offer from octets) _ refl (offers_at_keep j.place j from octets)
 next_pulls q j (event.Took to octets) = kept q j (event.Took to octets) _ refl (takes_keep j.place j to octets)
@@ -257,6 +262,7 @@ news_pulls q j event.Start next is = absurd (none-some next is)
 news_pulls q j (event.Turn turn now) next is = absurd (none-some next is)
 news_pulls q j (event.Pull by) next is = absurd (none-some next is)
 news_pulls q j (event.Job by job gave) next is = absurd (none-some next is)
+news_pulls q j (event.Length by name len fault) next is = absurd (none-some next is)
 news_pulls q j (event.Tick node sent) next is = absurd (none-some next is)
 news_pulls q j (event.Offer from octets) next is = absurd (none-some next is)
 news_pulls q j (event.Took to octets) next is = absurd (none-some next is)

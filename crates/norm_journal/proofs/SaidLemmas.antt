@@ -1,6 +1,6 @@
 -- Lines read back.
 use Rattle.std.proofs.Common.{◌≡◌, ℕ, ◌<◌, ◌*◌, ◌^◌, List, [], ◌∷◌, length, map, codes, Bool, true, false, Option, None, Some, Result, Ok, Err, refl, sym, ap, ◌∙◌, arith, decimal}
-use Rattle.std.specs.Prelude.{All, IfSome, ⊤, is_some}
+use Rattle.std.specs.Prelude.{All, IfSome, ⊤, is_some, option_and_then}
 use Rattle.std.specs.Option.{option_map}
 use Rattle.std.proofs.lemmas.Option.{none-some, same_Some}
 use Rattle.std.proofs.lemmas.List.Elements.{All-head, All-tail}
@@ -15,6 +15,7 @@ use Rattle.norm_order.specs.declared.up.Up.TheVariants as up
 use Rattle.norm_script.specs.Words.{is_text, value_of}
 use Rattle.norm_safety.proofs.FrontLemmas.{same_list}
 use Rattle.norm_script.proofs.WordLemmas.{is_word, value-written, decimal-word, hex-word, hex-length}
+use Rattle.norm_script.specs.declared.script.Verb.{Verb}
 use Rattle.norm_send_rules.specs.declared.job.Receipt.{Receipt}
 use Rattle.norm_send_rules.specs.declared.job.Receipt.TheVariants as receipt
 use Rattle.norm_send_rules.specs.declared.fault.SendFault.{SendFault}
@@ -22,6 +23,7 @@ use Rattle.norm_send_rules.specs.declared.fault.SendFault.TheVariants as send
 use Rattle.norm_send_rules.specs.declared.fault.EnqueueFault.TheVariants as enqueue
 use Rattle.norm_send_rules.specs.declared.fault.StreamFault.TheVariants as stream
 use Rattle.norm_send_rules.specs.declared.fault.MarkFault.TheVariants as mark
+use Rattle.norm_send_rules.specs.declared.fault.StrikeFault.TheVariants as strike
 use Rattle.norm_send_rules.specs.declared.news.News.{News}
 use Rattle.norm_send_rules.specs.declared.news.News.TheVariants as news
 use Rattle.norm_send_rules.specs.declared.news.Outcome.TheVariants as outcome
@@ -29,8 +31,8 @@ use Rattle.norm_journal.specs.declared.event.Event.{Event}
 use Rattle.norm_journal.specs.declared.event.Event.TheVariants as event
 use Rattle.norm_journal.specs.Judged.{Judged}
 use Rattle.norm_journal.specs.Lines.{Reason, reason_of, number_words, gave_line, up_line, news_line, no_line}
-use Rattle.norm_journal.specs.Printed.{instance_now, kind_offered, left_in, line_of}
-use Rattle.norm_journal.specs.Said.{Said, Enqueued, Opened, Wrote, Closed, Marked, Restarted, Refused, HandedUp, Listed, Satisfied, Expired, Cut, Summary, gave_said, news_said, said_of, Is64, OriginInRange, PositionInRange, OctetsInRange, UpInRange, FaultInRange, InRange, LinesReadBack}
+use Rattle.norm_journal.specs.Printed.{instance_now, command_at, left_in, line_of}
+use Rattle.norm_journal.specs.Said.{Said, Enqueued, Opened, Wrote, Closed, Marked, Restarted, Struck, Refused, HandedUp, Listed, Satisfied, Expired, Cut, Summary, gave_said, news_said, said_of, Is64, OriginInRange, PositionInRange, OctetsInRange, UpInRange, FaultInRange, InRange, LinesReadBack}
 use Rattle.norm_text.specs.Words.{line, kind_word, info_word}
 use Rattle.norm_journal.specs.Words.{position_words, node_words}
 use Rattle.norm_journal.proofs.WordsLemmas.{AreWords, line-back}
@@ -106,8 +108,9 @@ first (Enqueued by instance index what len) = codes "enq"
 first (Opened by instance index) = codes "enq"
 first (Wrote by instance index offset len) = codes "enq"
 first (Closed by instance index) = codes "enq"
-first (Marked by instance mark at) = codes "mark"
+first (Marked by instance mark at quorum) = codes "mark"
 first (Restarted by instance) = codes "restart"
+first (Struck by node) = codes "strike"
 first (Refused by fault) = codes "no"
 first (HandedUp node instance up) = codes "up"
 first (Listed node instance at) = codes "past"
@@ -141,9 +144,10 @@ spell (Enqueued by instance index what len) = enq_words by instance index (kind_
 spell (Opened by instance index) = enq_words by instance index (codes "open" ∷ [])
 spell (Wrote by instance index offset len) = enq_words by instance index (codes "write" ∷ decimal len ∷ decimal offset ∷ [])
 spell (Closed by instance index) = enq_words by instance index (codes "close" ∷ [])
-spell (Marked by instance mark at) =
-    decimal by.producer ∷ decimal by.number ∷ decimal instance ∷ decimal mark ∷ decimal at.index ∷ decimal at.block ∷ decimal at.symbol ∷ []
+spell (Marked by instance mark at quorum) =
+    decimal by.producer ∷ decimal by.number ∷ decimal instance ∷ decimal mark ∷ decimal at.index ∷ decimal at.block ∷ decimal at.symbol ∷ number_words quorum
 spell (Restarted by instance) = decimal by.producer ∷ decimal by.number ∷ decimal instance ∷ []
+spell (Struck by node) = decimal by.producer ∷ decimal by.number ∷ decimal node ∷ []
 spell (Refused by fault) = decimal by.producer ∷ decimal by.number ∷ why (reason_of fault)
 spell (HandedUp node instance up) = spell_up node instance up
 spell (Listed node instance at) = decimal node ∷ decimal instance ∷ decimal at.index ∷ decimal at.block ∷ decimal at.symbol ∷ []
@@ -166,12 +170,19 @@ enq_says (p ∷ n ∷ instance ∷ index ∷ what ∷ len ∷ offset ∷ []) = S
 enq_says _ = None
 
 mark_says : List (List ℕ) → Option Said
-mark_says (p ∷ n ∷ instance ∷ mark ∷ index ∷ block ∷ symbol ∷ []) = Some (Marked (origin p n) (number instance) (number mark) (position index block symbol))
+mark_says (p ∷ n ∷ instance ∷ mark ∷ index ∷ block ∷ symbol ∷ []) =
+    Some (Marked (origin p n) (number instance) (number mark) (position index block symbol) None)
+mark_says (p ∷ n ∷ instance ∷ mark ∷ index ∷ block ∷ symbol ∷ quorum ∷ []) =
+    Some (Marked (origin p n) (number instance) (number mark) (position index block symbol) (Some (number quorum)))
 mark_says _ = None
 
 restart_says : List (List ℕ) → Option Said
 restart_says (p ∷ n ∷ instance ∷ []) = Some (Restarted (origin p n) (number instance))
 restart_says _ = None
+
+strike_says : List (List ℕ) → Option Said
+strike_says (p ∷ n ∷ node ∷ []) = Some (Struck (origin p n) (number node))
+strike_says _ = None
 
 plain_fault : List ℕ → SendFault
 plain_fault word = elim (is_text word (codes "empty")) [
@@ -182,6 +193,15 @@ plain_fault word = elim (is_text word (codes "empty")) [
   ]
 ]
 
+other_fault : List ℕ → ℕ → SendFault
+other_fault word n = elim (is_text word (codes "quorum")) [
+  | true ↦ send.Mark (mark.Quorum n)
+  | false ↦ elim (is_text word (codes "not-member")) [
+    | true ↦ send.Strike (strike.NotMember n)
+    | false ↦ elim (is_text word (codes "last-member")) [ true ↦ send.Strike (strike.LastMember n) | false ↦ send.IdUsed n ]
+  ]
+]
+
 number_fault : List ℕ → ℕ → SendFault
 number_fault word n = elim (is_text word (codes "too-big")) [
   | true ↦ send.Enqueue (enqueue.TooBig n)
@@ -189,7 +209,7 @@ number_fault word n = elim (is_text word (codes "too-big")) [
     | true ↦ send.Enqueue (enqueue.InfoTooBig n)
     | false ↦ elim (is_text word (codes "stream-open")) [
       | true ↦ send.Enqueue (enqueue.StreamOpen n)
-      | false ↦ elim (is_text word (codes "spent")) [ true ↦ send.Enqueue (enqueue.Stream (stream.Spent n)) | false ↦ send.IdUsed n ]
+      | false ↦ elim (is_text word (codes "spent")) [ true ↦ send.Enqueue (enqueue.Stream (stream.Spent n)) | false ↦ other_fault word n ]
     ]
   ]
 ]
@@ -248,11 +268,12 @@ says (w ∷ words) =
     one_of w (codes "enq") (enq_says words)
     (one_of w (codes "mark") (mark_says words)
     (one_of w (codes "restart") (restart_says words)
+    (one_of w (codes "strike") (strike_says words)
     (one_of w (codes "no") (no_says words)
     (one_of w (codes "up") (up_says words)
     (one_of w (codes "past") (past_says words)
     (one_of w (codes "done") (done_says words)
-    (one_of w (codes "end") (end_says words) None)))))))
+    (one_of w (codes "end") (end_says words) None))))))))
 
 -- each is a word
 kind_is_word : (k : Kind) → is_word (kind_word k) ≡ true
@@ -279,9 +300,12 @@ why_are_words (send.Enqueue (enqueue.Stream stream.Closed)) h = tt
 why_are_words (send.Enqueue (enqueue.Stream (stream.Full n))) h = tt
 why_are_words (send.Enqueue (enqueue.WindowFull n)) h = tt
 why_are_words (send.Enqueue enqueue.Memory) h = tt
+why_are_words (send.Mark (mark.Quorum q)) h = (refl, (decimal-word q h, tt))
 why_are_words (send.Mark mark.NothingEnqueued) h = (refl, tt)
 why_are_words (send.Mark (mark.TooMany n)) h = tt
 why_are_words (send.Mark mark.Memory) h = tt
+why_are_words (send.Strike (strike.NotMember node)) h = (refl, (decimal-word node h, tt))
+why_are_words (send.Strike (strike.LastMember node)) h = (refl, (decimal-word node h, tt))
 why_are_words (send.IdUsed n) h = (refl, (decimal-word n h, tt))
 why_are_words send.Memory h = tt
 
@@ -292,6 +316,14 @@ enq_are_words by instance index words o a b rest =
 
 at_are_words : (at : Position) → PositionInRange at → AreWords (position_words at)
 at_are_words at h = (decimal-word at.index h.index, (decimal-word at.block h.block, (decimal-word at.symbol h.symbol, tt)))
+
+number_are_words : (o : Option ℕ) → IfSome o Is64 → AreWords (number_words o)
+number_are_words None h = tt
+number_are_words (Some n) h = (decimal-word n h, tt)
+
+mark_are_words : (at : Position) (quorum : Option ℕ) → PositionInRange at → IfSome quorum Is64
+    → AreWords (decimal at.index ∷ decimal at.block ∷ decimal at.symbol ∷ number_words quorum)
+mark_are_words at quorum h q = (decimal-word at.index h.index, (decimal-word at.block h.block, (decimal-word at.symbol h.symbol, number_are_words quorum q)))
 
 up_are_words : (node instance : ℕ) (u : Up) → UpInRange u → Is64 node → Is64 instance → AreWords (spell_up node instance u)
 up_are_words node instance (up.Object index what its contents) h a b = (decimal-word node a, (decimal-word instance b, (decimal-word index h.0, (kind_is_word what, (decimal-word (length contents) h.2.count, (info_is_word its h.1, (hex-word contents h.2.each, tt)))))))
@@ -307,9 +339,11 @@ are_words (Opened by instance index) h = (refl, enq_are_words by instance index 
 are_words (Wrote by instance index offset len) h =
     (refl, enq_are_words by instance index (codes "write" ∷ decimal len ∷ decimal offset ∷ []) h.0 h.1 h.2 (refl, (decimal-word len h.4, (decimal-word offset h.3, tt))))
 are_words (Closed by instance index) h = (refl, enq_are_words by instance index (codes "close" ∷ []) h.0 h.1 h.2 (refl, tt))
-are_words (Marked by instance mark at) h = (refl, enq_are_words by instance mark (position_words at) h.0 h.1 h.2 (at_are_words at h.3))
+are_words (Marked by instance mark at quorum) h =
+    (refl, enq_are_words by instance mark (decimal at.index ∷ decimal at.block ∷ decimal at.symbol ∷ number_words quorum) h.0 h.1 h.2 (mark_are_words at quorum h.3 h.4))
 are_words (Restarted by instance) h =
     (refl, (decimal-word by.producer h.0.producer, (decimal-word by.number h.0.number, (decimal-word instance h.1, tt))))
+are_words (Struck by node) h = (refl, (decimal-word by.producer h.0.producer, (decimal-word by.number h.0.number, (decimal-word node h.1, tt))))
 are_words (Refused by fault) h = (refl, (decimal-word by.producer h.0.producer, (decimal-word by.number h.0.number, why_are_words fault h.1)))
 are_words (HandedUp node instance u) h = (refl, up_are_words node instance u h.0 h.1 h.2)
 are_words (Listed node instance at) h = (refl, (decimal-word node h.0, (decimal-word instance h.1, at_are_words at h.2)))
@@ -329,7 +363,7 @@ abbrev IsToldOf : SendFault → Type 0
 IsToldOf fault = (reason : Reason) × (reason_of fault ≡ Some reason)
 
 no_back : (p n : List ℕ) (fault : SendFault) → FaultInRange fault → IsToldOf fault → no_says (p ∷ n ∷ why (reason_of fault)) ≡ Some (Refused (origin p n) fault)
-unfolding no_says plain_fault number_fault
+unfolding no_says plain_fault number_fault other_fault
 no_back p n (send.Enqueue enqueue.Empty) h told = refl
 no_back p n (send.Enqueue (enqueue.TooBig len)) h told = rw (number_back len h) refl
 no_back p n (send.Enqueue (enqueue.InfoTooBig len)) h told = rw (number_back len h) refl
@@ -341,9 +375,12 @@ no_back p n (send.Enqueue (enqueue.Stream stream.Closed)) h told = absurd (none-
 no_back p n (send.Enqueue (enqueue.Stream (stream.Full k))) h told = absurd (none-some _ told.1)
 no_back p n (send.Enqueue (enqueue.WindowFull k)) h told = absurd (none-some _ told.1)
 no_back p n (send.Enqueue enqueue.Memory) h told = absurd (none-some _ told.1)
+no_back p n (send.Mark (mark.Quorum q)) h told = rw (number_back q h) refl
 no_back p n (send.Mark mark.NothingEnqueued) h told = refl
 no_back p n (send.Mark (mark.TooMany k)) h told = absurd (none-some _ told.1)
 no_back p n (send.Mark mark.Memory) h told = absurd (none-some _ told.1)
+no_back p n (send.Strike (strike.NotMember node)) h told = rw (number_back node h) refl
+no_back p n (send.Strike (strike.LastMember node)) h told = rw (number_back node h) refl
 no_back p n (send.IdUsed k) h told = rw (number_back k h) refl
 no_back p n send.Memory h told = absurd (none-some _ told.1)
 
@@ -365,16 +402,19 @@ IsTold (Refused by fault) = IsToldOf fault
 IsTold _ = ⊤
 
 back : (s : Said) → InRange s → IsTold s → says (first s ∷ spell s) ≡ Some s
-unfolding says enq_says mark_says restart_says past_says done_says end_says
+unfolding says enq_says mark_says restart_says strike_says past_says done_says end_says
 back (Enqueued by instance index what len) h told =
     rw (origin_back by h.0, number_back instance h.1, number_back index h.2, kind_back what, number_back len h.3) refl
 back (Opened by instance index) h told = rw (origin_back by h.0, number_back instance h.1, number_back index h.2) refl
 back (Wrote by instance index offset len) h told =
     rw (origin_back by h.0, number_back instance h.1, number_back index h.2, number_back offset h.3, number_back len h.4) refl
 back (Closed by instance index) h told = rw (origin_back by h.0, number_back instance h.1, number_back index h.2) refl
-back (Marked by instance mark at) h told =
+back (Marked by instance mark at None) h told =
     rw (origin_back by h.0, number_back instance h.1, number_back mark h.2, position_back at h.3) refl
+back (Marked by instance mark at (Some quorum)) h told =
+    rw (origin_back by h.0, number_back instance h.1, number_back mark h.2, position_back at h.3, number_back quorum h.4) refl
 back (Restarted by instance) h told = rw (origin_back by h.0, number_back instance h.1) refl
+back (Struck by node) h told = rw (origin_back by h.0, number_back node h.1) refl
 back (Refused by fault) h told =
     no_back (decimal by.producer) (decimal by.number) fault h.1 told ∙ ap (λ o. Some (Refused o fault)) (origin_back by h.0)
 back (HandedUp node instance u) h told = up_back node instance u h.0 h.1 h.2
@@ -403,7 +443,7 @@ no_lines : (by : Origin) (fault : SendFault) (o : Option Reason) → reason_of f
 no_lines by fault None is = refl
 no_lines by fault (Some reason) is = ap (λ r. Some (line (codes "no") (decimal by.producer ∷ decimal by.number ∷ why r))) (sym is)
 
-gave_lines : (by : Origin) (instance : ℕ) (what : Kind) (gave : Result Receipt SendFault)
+gave_lines : (by : Origin) (instance : ℕ) (what : Verb) (gave : Result Receipt SendFault)
     → gave_line by instance what gave ≡ option_map line_said (gave_said by instance what gave)
 gave_lines by instance what (Ok (receipt.Object index len)) = refl
 gave_lines by instance what (Ok (receipt.Opened index)) = refl
@@ -411,6 +451,7 @@ gave_lines by instance what (Ok (receipt.Wrote index offset len)) = refl
 gave_lines by instance what (Ok (receipt.Closed index)) = refl
 gave_lines by instance what (Ok (receipt.Mark mark at)) = refl
 gave_lines by instance what (Ok (receipt.Restarted next)) = refl
+gave_lines by instance what (Ok (receipt.Struck node)) = refl
 gave_lines by instance what (Err fault) = no_lines by fault (reason_of fault) refl
 
 up_lines : (node instance : ℕ) (u : Up) → up_line node instance u ≡ line_said (HandedUp node instance u)
@@ -427,8 +468,14 @@ news_lines instance left (news.Done mark outcome.Satisfied) = refl
 news_lines instance left (news.Done mark (outcome.Expired many)) = refl
 news_lines instance left (news.Done mark outcome.Cut) = refl
 
+offer_lines : (by : Origin) (instance : ℕ) (found : Option Verb) (gave : Result Receipt SendFault)
+    → option_and_then (λ v. gave_line by instance v gave) found ≡ option_map line_said (option_and_then (λ v. gave_said by instance v gave) found)
+offer_lines by instance None gave = refl
+offer_lines by instance (Some v) gave = gave_lines by instance v gave
+
 lines_said : (j : Judged) (e : Event) → line_of j e ≡ option_map line_said (said_of j e)
-lines_said j (event.Job by job gave) = gave_lines by (instance_now j) (kind_offered j job) gave
+lines_said j (event.Job by job gave) = offer_lines by (instance_now j) (command_at j.place) gave
+lines_said j (event.Length by name len fault) = no_lines by fault (reason_of fault) refl
 lines_said j (event.Up node instance u) = ap Some (up_lines node instance u)
 lines_said j (event.News n) = news_lines (instance_now j) (left_in j n) n
 lines_said j event.End = refl
@@ -446,13 +493,14 @@ refused_told : (by : Origin) (fault : SendFault) (o : Option Reason) → reason_
 refused_told by fault None is = tt
 refused_told by fault (Some reason) is = (reason, is)
 
-gave_told : (by : Origin) (instance : ℕ) (what : Kind) (gave : Result Receipt SendFault) → IfSome (gave_said by instance what gave) IsTold
+gave_told : (by : Origin) (instance : ℕ) (what : Verb) (gave : Result Receipt SendFault) → IfSome (gave_said by instance what gave) IsTold
 gave_told by instance what (Ok (receipt.Object index len)) = tt
 gave_told by instance what (Ok (receipt.Opened index)) = tt
 gave_told by instance what (Ok (receipt.Wrote index offset len)) = tt
 gave_told by instance what (Ok (receipt.Closed index)) = tt
 gave_told by instance what (Ok (receipt.Mark mark at)) = tt
 gave_told by instance what (Ok (receipt.Restarted next)) = tt
+gave_told by instance what (Ok (receipt.Struck node)) = tt
 gave_told by instance what (Err fault) = refused_told by fault (reason_of fault) refl
 
 news_told : (instance : ℕ) (left : List ℕ) (n : News) → IfSome (news_said instance left n) IsTold
@@ -462,8 +510,14 @@ news_told instance left (news.Done mark outcome.Satisfied) = tt
 news_told instance left (news.Done mark (outcome.Expired many)) = tt
 news_told instance left (news.Done mark outcome.Cut) = tt
 
+offer_told : (by : Origin) (instance : ℕ) (found : Option Verb) (gave : Result Receipt SendFault)
+    → IfSome (option_and_then (λ v. gave_said by instance v gave) found) IsTold
+offer_told by instance None gave = tt
+offer_told by instance (Some v) gave = gave_told by instance v gave
+
 is_told : (j : Judged) (e : Event) → IfSome (said_of j e) IsTold
-is_told j (event.Job by job gave) = gave_told by (instance_now j) (kind_offered j job) gave
+is_told j (event.Job by job gave) = offer_told by (instance_now j) (command_at j.place) gave
+is_told j (event.Length by name len fault) = refused_told by fault (reason_of fault) refl
 is_told j (event.Up node instance u) = tt
 is_told j (event.News n) = news_told (instance_now j) (left_in j n) n
 is_told j event.End = tt

@@ -13,6 +13,8 @@ use Rattle.norm_send_rules.specs.declared.fault.MarkFault.{MarkFault}
 use Rattle.norm_send_rules.specs.declared.fault.MarkFault.TheVariants as mark
 use Rattle.norm_send_rules.specs.declared.fault.StreamFault.{StreamFault}
 use Rattle.norm_send_rules.specs.declared.fault.StreamFault.TheVariants as stream
+use Rattle.norm_send_rules.specs.declared.fault.StrikeFault.{StrikeFault}
+use Rattle.norm_send_rules.specs.declared.fault.StrikeFault.TheVariants as strike
 use Rattle.norm_send_rules.specs.declared.fault.SendFault.{SendFault}
 use Rattle.norm_send_rules.specs.declared.fault.SendFault.TheVariants as send
 use Rattle.norm_send_rules.specs.declared.news.News.{News}
@@ -22,7 +24,7 @@ use Rattle.norm_send_rules.specs.declared.news.Outcome.TheVariants as outcome
 use Rattle.norm_safety.specs.Events.{Answer, Gave, Sent, Took, Told, Silent}
 use Rattle.norm_safety.specs.Fronts.{same_up}
 use Rattle.norm_safety.proofs.FrontLemmas.{ups_same, up_itself}
-use Rattle.norm_journal.specs.Same.{same_receipt, same_stream, same_enqueue, same_mark, same_fault, same_gave, same_outcome, same_news, same_answer}
+use Rattle.norm_journal.specs.Same.{same_receipt, same_stream, same_enqueue, same_mark, same_strike, same_fault, same_gave, same_outcome, same_news, same_answer}
 use Rattle.norm_journal.proofs.NameLemmas.{both, both_true}
 
 clash : false ≡ true → ⊥
@@ -49,6 +51,7 @@ receipts_same (receipt.Mark m at) (receipt.Mark n there) e =
     let two = both (m == n) (same_position at there) e in
     ap (λ x. receipt.Mark x at) (one m n two.0) ∙ ap (λ x. receipt.Mark n x) (positions_same at there two.1)
 receipts_same (receipt.Restarted i) (receipt.Restarted j) e = ap receipt.Restarted (one i j e)
+receipts_same (receipt.Struck a) (receipt.Struck b) e = ap receipt.Struck (one a b e)
 receipts_same _ _ e = absurd (clash e)
 
 receipt_itself : (a : Receipt) → same_receipt a a ≡ true
@@ -59,6 +62,7 @@ receipt_itself (receipt.Wrote i offset len) =
 receipt_itself (receipt.Closed i) = itself i
 receipt_itself (receipt.Mark m at) = both_true (m == m) (same_position at at) (itself m) (position_itself at)
 receipt_itself (receipt.Restarted i) = itself i
+receipt_itself (receipt.Struck a) = itself a
 
 streams_same : (a b : StreamFault) → same_stream a b ≡ true → a ≡ b
 streams_same stream.Closed stream.Closed e = refl
@@ -95,19 +99,31 @@ enqueue_itself (enqueue.WindowFull a) = itself a
 enqueue_itself enqueue.Memory = refl
 
 marks_same : (a b : MarkFault) → same_mark a b ≡ true → a ≡ b
+marks_same (mark.Quorum a) (mark.Quorum b) e = ap mark.Quorum (one a b e)
 marks_same mark.NothingEnqueued mark.NothingEnqueued e = refl
 marks_same (mark.TooMany a) (mark.TooMany b) e = ap mark.TooMany (one a b e)
 marks_same mark.Memory mark.Memory e = refl
 marks_same _ _ e = absurd (clash e)
 
 mark_itself : (a : MarkFault) → same_mark a a ≡ true
+mark_itself (mark.Quorum a) = itself a
 mark_itself mark.NothingEnqueued = refl
 mark_itself (mark.TooMany a) = itself a
 mark_itself mark.Memory = refl
 
+strikes_same : (a b : StrikeFault) → same_strike a b ≡ true → a ≡ b
+strikes_same (strike.NotMember a) (strike.NotMember b) e = ap strike.NotMember (one a b e)
+strikes_same (strike.LastMember a) (strike.LastMember b) e = ap strike.LastMember (one a b e)
+strikes_same _ _ e = absurd (clash e)
+
+strike_itself : (a : StrikeFault) → same_strike a a ≡ true
+strike_itself (strike.NotMember a) = itself a
+strike_itself (strike.LastMember a) = itself a
+
 faults_same : (a b : SendFault) → same_fault a b ≡ true → a ≡ b
 faults_same (send.Enqueue a) (send.Enqueue b) e = ap send.Enqueue (enqueues_same a b e)
 faults_same (send.Mark a) (send.Mark b) e = ap send.Mark (marks_same a b e)
+faults_same (send.Strike a) (send.Strike b) e = ap send.Strike (strikes_same a b e)
 faults_same (send.IdUsed a) (send.IdUsed b) e = ap send.IdUsed (one a b e)
 faults_same send.Memory send.Memory e = refl
 faults_same _ _ e = absurd (clash e)
@@ -115,6 +131,7 @@ faults_same _ _ e = absurd (clash e)
 fault_itself : (a : SendFault) → same_fault a a ≡ true
 fault_itself (send.Enqueue a) = enqueue_itself a
 fault_itself (send.Mark a) = mark_itself a
+fault_itself (send.Strike a) = strike_itself a
 fault_itself (send.IdUsed a) = itself a
 fault_itself send.Memory = refl
 

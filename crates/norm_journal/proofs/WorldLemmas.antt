@@ -1,6 +1,6 @@
 -- An accepted event is what it is in the world.
-use Rattle.std.proofs.Common.{◌≡◌, ℕ, List, [], ◌∷◌, Bool, true, false, Option, None, Some, Result, refl, ap, subst, ◌∙◌}
-use Rattle.std.specs.Prelude.{◌==◌}
+use Rattle.std.proofs.Common.{◌≡◌, ℕ, List, [], ◌∷◌, Bool, true, false, Option, None, Some, Result, Err, refl, sym, ap, subst, ◌∙◌}
+use Rattle.std.specs.Prelude.{◌==◌, option_and_then}
 use Rattle.std.specs.Option.{option_map, option_to_list}
 use Rattle.std.proofs.lemmas.Option.{none-some, same_Some, option_and_then_some}
 use Rattle.std.proofs.lemmas.List.Sums.{fold-append}
@@ -19,12 +19,13 @@ use Rattle.norm_safety.specs.WorldStep.{world_step, run_from}
 use Rattle.norm_journal.specs.declared.event.Event.{Event}
 use Rattle.norm_journal.specs.declared.event.Event.TheVariants as event
 use Rattle.norm_journal.specs.Accepting.{accepts, accepts_news, accepts_next, told_of, judged_from}
-use Rattle.norm_journal.specs.Commands.{offered, offers, line_pulled, pulls_at, jobs_at}
+use Rattle.norm_journal.specs.Commands.{offered, offers, line_pulled, pulls_at, telling, repeating, gives, repeats, jobs_at, refuses, lengths_at}
 use Rattle.norm_journal.specs.Draws.{next_draw, draws_after}
 use Rattle.norm_journal.specs.InWorld.{world_after, answer_to, at, comes}
+use Rattle.norm_journal.specs.Jobs.{file_of_length}
 use Rattle.norm_journal.specs.Judged.{Judged, news_due, is_done}
 use Rattle.norm_journal.specs.Laws.{MovesTheWorld}
-use Rattle.norm_journal.specs.Places.{Place, Starting, Between, Pulling, Giving, Again, Sending, Offering, Taking, Handing}
+use Rattle.norm_journal.specs.Places.{Place, Starting, Between, Pulling, Sending, Offering, Taking, Handing}
 use Rattle.norm_journal.specs.Pulling.{pulled}
 use Rattle.norm_journal.specs.Same.{same_answer, same_sent}
 use Rattle.norm_journal.specs.Takes.{takes_at, finds_none_at, is_receiver}
@@ -96,22 +97,40 @@ pulls_move : (place : Place) (j : Judged) (by : Origin) → Moves j None (pulls_
 pulls_move Pulling j by = pulled_moves j (pulled by j.left)
 pulls_move _ j by = no_event j None
 
-offers_move : (by : Origin) (job : Job) (gave : Result Receipt SendFault) (j : Judged) → Moves j (Some (Commanded by job j.now)) (offers by job gave j)
-offers_move by job gave j =
-    then (offered by job gave) j (Some (Commanded by job j.now)) (comes (Commanded by job j.now) (Gave gave) j) (λ x. same x _ refl refl)
+through : {X : Type 0} (f : X → Option Judged) (j : Judged) (o : Option WorldEvent) (found : Option X) → ((x : X) → found ≡ Some x → Moves j o (f x))
+    → Moves j o (option_and_then f found)
+through f j o None moves = no_event j o
+through f j o (Some x) moves = moves x refl
+
+offers_move : (line : Line) (by : Origin) (job : Job) (gave : Result Receipt SendFault) (j : Judged)
+    → Moves j (Some (Commanded by job j.now)) (offers line by job gave j)
+offers_move line by job gave j =
+    then (offered line gave) j (Some (Commanded by job j.now)) (comes (Commanded by job j.now) (Gave gave) j) (λ x. same x _ refl refl)
     (comes_moves (Commanded by job j.now) (Gave gave) j)
 
 -- what an offer of a command is in the world
 abbrev command : Place → Judged → Origin → Option Job → Option WorldEvent
 command place j by job = option_map (λ (job : Job). Commanded by job j.now) (job_at place job)
 
+-- what another offer of a known command is there
+abbrev known_command : Judged → Origin → Option (Line × Job) → Option WorldEvent
+known_command j by found = option_map (λ (job : Job). Commanded by job j.now) (option_map (λ (known : Line × Job). known.1) found)
+
 jobs_move : (place : Place) (j : Judged) (by : Origin) (job : Option Job) (gave : Result Receipt SendFault)
     → Moves j (command place j by job) (jobs_at place j by job gave)
-jobs_move (Giving line) j by None gave = no_event j None
-jobs_move (Giving line) j by (Some job) gave = when _ j (Some (Commanded by job j.now)) _ (offers_move by job gave j)
-jobs_move (Again waiting) j by None gave = when _ j (Some (Commanded by waiting.job j.now)) _ (offers_move by waiting.job gave j)
-jobs_move (Again waiting) j by (Some job) gave = no_event j (Some (Commanded by job j.now))
-jobs_move place j by job gave = no_event j (command place j by job)
+jobs_move place j by (Some job) gave =
+    through (λ line. gives line by job gave j) j (Some (Commanded by job j.now)) (telling place) (λ line is.
+    when _ j (Some (Commanded by job j.now)) _ (offers_move line by job gave j))
+jobs_move place j by None gave =
+    through (λ (known : Line × Job). repeats known by gave j) j (known_command j by (repeating place)) (repeating place) (λ known is.
+    subst (λ found. Moves j (known_command j by found) (repeats known by gave j)) (sym is)
+    (when _ j (Some (Commanded by known.1 j.now)) _ (offers_move known.0 by known.1 gave j)))
+
+lengths_move : (place : Place) (j : Judged) (by : Origin) (name : List ℕ) (len : ℕ) (fault : SendFault)
+    → Moves j (Some (Commanded by (file_of_length name len) j.now)) (lengths_at place j by name len fault)
+lengths_move place j by name len fault =
+    through (λ line. refuses line by name len fault j) j (Some (Commanded by (file_of_length name len) j.now)) (telling place) (λ line is.
+    when _ j (Some (Commanded by (file_of_length name len) j.now)) _ (offers_move line by (file_of_length name len) (Err fault) j))
 
 gave_moves : (node : ℕ) (sent : Sent) (next : Place) (answer : Answer) (e : WorldEvent) (j : Judged)
     → Moves j (Some e) (gave_datagram node sent next answer (world_after e j))
@@ -173,6 +192,7 @@ next_moves j event.Start = starts_move j.place j
 next_moves j (event.Turn turn now) = turns_move j.place j turn now
 next_moves j (event.Pull by) = pulls_move j.place j by
 next_moves j (event.Job by job gave) = jobs_move j.place j by job gave
+next_moves j (event.Length by name len fault) = lengths_move j.place j by name len fault
 next_moves j (event.Tick node sent) = ticks_move j.place j node sent
 next_moves j (event.Offer from octets) = offers_at_move j.place j from octets
 next_moves j (event.Took to octets) = takes_move j.place j to octets
@@ -188,6 +208,7 @@ news_moves j event.Start = no_event j (world_event j event.Start)
 news_moves j (event.Turn turn now) = no_event j (world_event j (event.Turn turn now))
 news_moves j (event.Pull by) = no_event j (world_event j (event.Pull by))
 news_moves j (event.Job by job gave) = no_event j (world_event j (event.Job by job gave))
+news_moves j (event.Length by name len fault) = no_event j (world_event j (event.Length by name len fault))
 news_moves j (event.Tick node sent) = no_event j (world_event j (event.Tick node sent))
 news_moves j (event.Offer from octets) = no_event j (world_event j (event.Offer from octets))
 news_moves j (event.Took to octets) = no_event j (world_event j (event.Took to octets))

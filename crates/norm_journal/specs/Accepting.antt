@@ -5,7 +5,7 @@ use Rattle.norm_send_rules.specs.declared.news.News.{News}
 use Rattle.norm_safety.specs.Events.{NewsAsked, Told}
 use Rattle.norm_journal.specs.declared.event.Event.{Event}
 use Rattle.norm_journal.specs.declared.event.Event.TheVariants as event
-use Rattle.norm_journal.specs.Commands.{pulls_at, jobs_at}
+use Rattle.norm_journal.specs.Commands.{pulls_at, jobs_at, lengths_at}
 use Rattle.norm_journal.specs.InWorld.{comes}
 use Rattle.norm_journal.specs.Judged.{Judged, news_due}
 use Rattle.norm_journal.specs.Takes.{takes_at, finds_none_at}
@@ -28,6 +28,7 @@ accepts_next j event.Start = starts_at j.place j
 accepts_next j (event.Turn turn now) = turns_at j.place j turn now
 accepts_next j (event.Pull by) = pulls_at j.place j by
 accepts_next j (event.Job by job gave) = jobs_at j.place j by job gave
+accepts_next j (event.Length by name len fault) = lengths_at j.place j by name len fault
 accepts_next j (event.Tick node sent) = ticks_at j.place j node sent
 accepts_next j (event.Offer from octets) = offers_at j.place j from octets
 accepts_next j (event.Took to octets) = takes_at j.place j to octets

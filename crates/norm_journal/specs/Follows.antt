@@ -1,5 +1,6 @@
 -- What may come next in a session, and the state after it: one sentence for each kind of event.
-use Rattle.std.specs.Prelude.{◌≡◌, ◌≢◌, ℕ, ◌+◌, ◌*◌, ◌≤◌, ◌⊎◌, List, ◌∷◌, ◌++◌, All, true, false, Option, None, Some, Result, ⊤}
+use Rattle.std.specs.Prelude.{◌≡◌, ◌≢◌, ℕ, ◌+◌, ◌*◌, ◌≤◌, ◌⊎◌, List, ◌∷◌, ◌++◌, length, All, true, false, Option, None, Some, Result, Err, ⊤}
+use Rattle.std.specs.Option.{option_map}
 use Rattle.norm_base.specs.Contents.{content_of}
 use Rattle.norm_base.specs.declared.kinds.Sent.{Sent}
 use Rattle.norm_base.specs.declared.kinds.Sent.TheVariants as sent
@@ -19,11 +20,11 @@ use Rattle.norm_safety.specs.Hands.{instance_at}
 use Rattle.norm_safety.specs.Lawful.{AllTaken}
 use Rattle.norm_safety.specs.World.{receiver_at}
 use Rattle.norm_journal.specs.Accepting.{accepts, told_of}
-use Rattle.norm_journal.specs.Commands.{offered}
+use Rattle.norm_journal.specs.Commands.{offered, telling, repeating}
 use Rattle.norm_journal.specs.InWorld.{world_after, answer_to, at}
-use Rattle.norm_journal.specs.Jobs.{Told}
+use Rattle.norm_journal.specs.Jobs.{Told, is_read, file_of_length}
 use Rattle.norm_journal.specs.Judged.{Judged, is_done, news_due}
-use Rattle.norm_journal.specs.Places.{Place, Starting, Between, Pulling, Giving, Again, Sending, Offering, Taking, Handing, Over, Waiting, handing, after_tick}
+use Rattle.norm_journal.specs.Places.{Place, Starting, Between, Pulling, Giving, Sending, Offering, Taking, Handing, Over, handing, after_tick}
 use Rattle.norm_journal.specs.Pulling.{origin_of}
 use Rattle.norm_journal.specs.Takes.{delivered, after_take, receivers_due}
 use Rattle.norm_journal.specs.Ticks.{handed}
@@ -71,6 +72,11 @@ abbrev pub IsContent : Told → List ℕ → List ℕ → Type 0
 IsContent None name octets = ⊤
 IsContent (Some files) name octets = content_of files name ≡ Some octets
 
+-- the file of a name has so many octets, where it is told which files are there
+abbrev pub IsLength : Told → List ℕ → ℕ → Type 0
+IsLength None name len = ⊤
+IsLength (Some files) name len = option_map length (content_of files name) ≡ Some len
+
 -- A job is its command's: with the same info and octets; a file's with the octets of the file that has its name.
 abbrev pub IsJobOf : Told → Verb → Job → Type 0
 IsJobOf files (verb.Data info octets) (job.Data other bytes) = (info ≡ other) × (octets ≡ bytes)
@@ -78,32 +84,42 @@ IsJobOf files (verb.File name) (job.File other octets) = (name ≡ other) × IsC
 IsJobOf files verb.Open job.Open = ⊤
 IsJobOf files (verb.Write octets) (job.Write bytes) = octets ≡ bytes
 IsJobOf files verb.Close job.Close = ⊤
-IsJobOf files verb.Mark job.Mark = ⊤
+IsJobOf files (verb.Mark quorum) (job.Mark other) = quorum ≡ other
 IsJobOf files (verb.Restart instance) (job.Restart other) = instance ≡ other
+IsJobOf files (verb.Strike node) (job.Strike other) = node ≡ other
 IsJobOf files _ _ = ⊥
 
--- the command that was pulled just now is offered, and its job is told
-pub record OfferedFirst (j : Judged) (by : Origin) (told : Option Job) (job : Job) : Type 0 where
-  pub line : Line
-  pub place : j.place ≡ Giving line
-  pub named : origin_of line ≡ by
+-- A command is offered for the first time, or a file again, and its job is told: a file's where it is accepted.
+pub record OfferedAndTold (j : Judged) (line : Line) (told : Option Job) (job : Job) (gave : Result Receipt SendFault) : Type 0 where
+  pub place : telling j.place ≡ Some line
   pub told_is : told ≡ Some job
   pub its_job : IsJobOf j.files line.verb job
+  pub read : is_read job gave ≡ true
 
--- the command that waits is offered again, and its job is not told again
-pub record OfferedAgain (j : Judged) (by : Origin) (told : Option Job) (job : Job) : Type 0 where
-  pub command : Waiting
-  pub place : j.place ≡ Again command
-  pub named : command.by ≡ by
+-- A command that waits is offered again, and its job is not told again.
+pub record OfferedAgain (j : Judged) (line : Line) (told : Option Job) (job : Job) : Type 0 where
+  pub place : repeating j.place ≡ Some (line, job)
   pub told_is : told ≡ None
-  pub its_job : command.job ≡ job
 
 -- A command is offered to the sender, for the first time or again, and the sender gives this.
 pub record CommandOffered (j : Judged) (by : Origin) (told : Option Job) (gave : Result Receipt SendFault) (next : Judged) : Type 0 where
+  pub line : Line
   pub job : Job
-  pub due : OfferedFirst j by told job ⊎ OfferedAgain j by told job
+  pub named : origin_of line ≡ by
+  pub due : OfferedAndTold j line told job gave ⊎ OfferedAgain j line told job
   pub gives : answer_to (Commanded by job j.now) j ≡ Gave gave
-  pub then : next ≡ offered by job gave (world_after (Commanded by job j.now) j)
+  pub then : next ≡ offered line gave (world_after (Commanded by job j.now) j)
+
+-- A file is offered, for the first time or again, and the sender refuses it, as it refuses each file of this name and length.
+-- Its octets are not read.
+pub record FileRefused (j : Judged) (by : Origin) (name : List ℕ) (len : ℕ) (fault : SendFault) (next : Judged) : Type 0 where
+  pub line : Line
+  pub place : telling j.place ≡ Some line
+  pub named : origin_of line ≡ by
+  pub its_name : line.verb ≡ verb.File name
+  pub its_length : IsLength j.files name len
+  pub gives : answer_to (Commanded by (file_of_length name len) j.now) j ≡ Gave (Err fault)
+  pub then : next ≡ offered line (Err fault) (world_after (Commanded by (file_of_length name len) j.now) j)
 
 -- the sender's tick is due, and then the takes
 pub record SendersTick (j : Judged) (node : ℕ) (after : Place) : Type 0 where
@@ -180,6 +196,7 @@ Follows j event.Start next = IsQuiet j × NetworkStarts j next
 Follows j (event.Turn turn now) next = IsQuiet j × TurnBegins j turn now next
 Follows j (event.Pull by) next = IsQuiet j × CommandPulled j by next
 Follows j (event.Job by job gave) next = IsQuiet j × CommandOffered j by job gave next
+Follows j (event.Length by name len fault) next = IsQuiet j × FileRefused j by name len fault next
 Follows j (event.Tick node sent) next = IsQuiet j × NodeTicks j node sent next
 Follows j (event.Offer from octets) next = IsQuiet j × DatagramOffered j from octets next
 Follows j (event.Took to octets) next = IsQuiet j × DatagramTaken j to octets next

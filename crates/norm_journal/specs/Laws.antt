@@ -1,22 +1,31 @@
 -- What is promised of the judge.
-use Rattle.std.specs.Prelude.{◌≡◌, ℕ, ◌==◌, List, [], ◌∷◌, ◌++◌, map, filter, true, false, None, Some, IsSome}
-use Rattle.std.specs.List.{flat_map}
+use Rattle.std.specs.Prelude.{◌≡◌, ℕ, ◌==◌, List, [], ◌∷◌, ◌++◌, length, map, filter, true, false, None, Some, IsSome, ⊤}
+use Rattle.std.specs.List.{flat_map, AllByRecursion}
+use Rattle.gf_field.specs.Octet.{AreOctets}
+use Rattle.norm_base.specs.Settings.{Settings}
 use Rattle.norm_base.specs.declared.node.Origin.{Origin}
+use Rattle.norm_ext.specs.Written.{Written}
 use Rattle.norm_script.specs.Commands.{Commands}
 use Rattle.norm_script.specs.Scripts.{IsScript}
 use Rattle.norm_script.specs.declared.script.Line.{Line}
-use Rattle.norm_send_rules.specs.Requests.{open_requests}
+use Rattle.norm_send_rules.specs.Watermarks.{open_watermarks}
+use Rattle.norm_send_rules.specs.Commanding.{commanded}
+use Rattle.norm_send_rules.specs.SenderState.{SenderState}
 use Rattle.norm_send_rules.specs.Ticking.{is_idle}
+use Rattle.norm_send_rules.specs.declared.job.Job.TheVariants as job
+use Rattle.norm_safety.specs.Jobs.{AreEvents}
 use Rattle.norm_safety.specs.Lawful.{Lawful}
 use Rattle.norm_safety.specs.WorldStep.{run_from}
 use Rattle.norm_journal.specs.declared.event.Event.{Event}
 use Rattle.norm_journal.specs.declared.event.Event.TheVariants as event
 use Rattle.norm_journal.specs.Accepting.{accepts, judged_from}
-use Rattle.norm_journal.specs.Jobs.{Told}
+use Rattle.norm_journal.specs.Honest.{IsHonest}
+use Rattle.norm_journal.specs.Jobs.{Told, file_of_length}
 use Rattle.norm_journal.specs.Judged.{Judged, judged_opening, is_done}
 use Rattle.norm_journal.specs.Printed.{lines_from}
 use Rattle.norm_journal.specs.Pulling.{origin_of}
-use Rattle.norm_journal.specs.SessionRun.{Begun, ending_of, Whole}
+use Rattle.norm_journal.specs.Projections.{offers_in}
+use Rattle.norm_journal.specs.SessionRun.{judged, Begun, ending_of, Whole}
 use Rattle.norm_journal.specs.WorldEvents.{world_events, TakesHonestly, NamedOnce}
 
 -- Each front of a journal that is accepted is accepted.
@@ -46,10 +55,10 @@ PullsInOrder = (producer : ℕ) (j last : Judged) (events : List Event) → judg
 pub record LeavesNothing (j : Judged) : Type 0 where
   pub pulled : j.left ≡ []
   pub waiting : j.waiting ≡ None
-  pub requests : open_requests j.world.sender ≡ []
+  pub watermarks : open_watermarks j.world.sender ≡ []
   pub idle : is_idle j.profile j.world.sender ≡ true
 
--- In a run that ended whole all commands were pulled, none waits, no request is open, and the sender is idle.
+-- In a run that ended whole all commands were pulled, none waits, no watermark is open, and the sender is idle.
 abbrev pub WholeIsDone : Type 0
 WholeIsDone = (j : Judged) → ending_of j ≡ Some Whole → LeavesNothing j
 
@@ -60,9 +69,40 @@ MovesTheWorld = (j last : Judged) (events : List Event) → judged_from j events
 
 -- From the opening on, the world's events of a journal are a lawful run where its takes are honest.
 abbrev pub BeginsLawfully : Type 0
-BeginsLawfully = (script : Commands) (files : Told) (events : List Event) → NamedOnce script.lines
-    → Begun script files events → TakesHonestly (judged_opening script files) events
-    → Lawful script.profile (world_events (judged_opening script files) events)
+BeginsLawfully = (script : Commands) (files : Told) (nodes : List ℕ) (events : List Event) → NamedOnce script.lines
+    → Begun script files nodes events → TakesHonestly (judged_opening script files nodes) events
+    → Lawful script.profile (world_events (judged_opening script files nodes) events)
+
+-- A sender goes by a file's name and its length alone: it refuses files of one length alike, and accepts them alike.
+abbrev pub FilesGoByLength : Type 0
+FilesGoByLength = (p : Settings) (s : SenderState) (by : Origin) (name octets : List ℕ)
+    → (commanded p s by (job.File name octets)).1 ≡ (commanded p s by (file_of_length name (length octets))).1
+
+-- a datagram's octets, with the node that it is of
+abbrev pub octets_given : ℕ × Written → ℕ × List ℕ
+octets_given g = (g.0, g.1.octets)
+
+-- What the nodes offered in their world is what the journal says was offered.
+abbrev pub OffersAreTheWorlds : Type 0
+OffersAreTheWorlds = (script : Commands) (files : Told) (nodes : List ℕ) (events : List Event) (last : Judged)
+    → judged script files nodes events ≡ Some last → map octets_given last.world.offered ≡ offers_in events
+
+-- Takes stay honest with one more event that is.
+abbrev pub TakesStayHonest : Type 0
+TakesStayHonest = (j next : Judged) (front : List Event) (e : Event) → judged_from j front ≡ Some next → TakesHonestly j front
+    → IsHonest next e → TakesHonestly j (front ++ e ∷ [])
+
+-- a file that an event read has octets
+abbrev pub HasOctets : Event → Type 0
+HasOctets (event.Job by (Some (job.File name octets)) gave) = AreOctets octets
+HasOctets _ = ⊤
+
+-- Every command that a script gives comes to the sender as one that a program can make: its octets are octets, and an
+-- instance id has 16 bits.
+abbrev pub CommandsAreEvents : Type 0
+CommandsAreEvents = (script : Commands) (files : Told) (nodes : List ℕ) (events : List Event) → IsScript script
+    → Begun script files nodes events → AllByRecursion HasOctets events
+    → AreEvents (world_events (judged_opening script files nodes) events)
 
 -- In a script each command has a name of its own.
 abbrev pub ScriptsNameOnce : Type 0

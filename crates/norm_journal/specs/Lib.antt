@@ -14,6 +14,8 @@ pub mod Accepting
 pub mod Follows
 pub mod Free
 pub mod SessionRun
+pub mod Projections
+pub mod Calls
 pub mod Honest
 pub mod Words
 pub mod Lines

@@ -8,8 +8,8 @@ use Rattle.norm_base.specs.declared.kinds.Kind.TheVariants as kind
 use Rattle.norm_base.specs.declared.node.Origin.{Origin}
 use Rattle.norm_order.specs.declared.up.Up.{Up}
 use Rattle.norm_order.specs.declared.up.Up.TheVariants as up
-use Rattle.norm_send_rules.specs.declared.job.Job.{Job}
-use Rattle.norm_send_rules.specs.declared.job.Job.TheVariants as job
+use Rattle.norm_script.specs.declared.script.Verb.{Verb}
+use Rattle.norm_script.specs.declared.script.Verb.TheVariants as verb
 use Rattle.norm_send_rules.specs.declared.job.Receipt.{Receipt}
 use Rattle.norm_send_rules.specs.declared.job.Receipt.TheVariants as receipt
 use Rattle.norm_send_rules.specs.declared.fault.SendFault.{SendFault}
@@ -18,6 +18,7 @@ use Rattle.norm_send_rules.specs.declared.fault.EnqueueFault.{EnqueueFault}
 use Rattle.norm_send_rules.specs.declared.fault.EnqueueFault.TheVariants as enqueue
 use Rattle.norm_send_rules.specs.declared.fault.StreamFault.TheVariants as stream
 use Rattle.norm_send_rules.specs.declared.fault.MarkFault.TheVariants as mark
+use Rattle.norm_send_rules.specs.declared.fault.StrikeFault.TheVariants as strike
 use Rattle.norm_send_rules.specs.declared.news.News.{News}
 use Rattle.norm_send_rules.specs.declared.news.News.TheVariants as news
 use Rattle.norm_send_rules.specs.declared.news.Outcome.{Outcome}
@@ -30,21 +31,32 @@ use Rattle.norm_journal.specs.Words.{origin_words, position_words, node_words}
 abbrev pub enq_line : Origin → ℕ → ℕ → List (List ℕ) → List ℕ
 enq_line by instance index words = line (codes "enq") (origin_words by ++ decimal instance ∷ decimal index ∷ words)
 
--- what an object's command enqueued
-abbrev pub kind_of : Job → Kind
-kind_of (job.File name octets) = kind.File
+-- what an object's command enqueues
+abbrev pub kind_of : Verb → Kind
+kind_of (verb.File name) = kind.File
 kind_of _ = kind.Data
 
+-- the quorum that a command gives, if it gives one
+abbrev pub quorum_of : Verb → Option ℕ
+quorum_of (verb.Mark quorum) = quorum
+quorum_of _ = None
+
+-- a number that may be there
+abbrev pub number_words : Option ℕ → List (List ℕ)
+number_words None = []
+number_words (Some n) = decimal n ∷ []
+
 -- what a command did, in the instance in which it came
-abbrev pub receipt_line : Origin → ℕ → Kind → Receipt → List ℕ
-receipt_line by instance what (receipt.Object index len) = enq_line by instance index (kind_word what ∷ decimal len ∷ [])
-receipt_line by instance what (receipt.Opened index) = enq_line by instance index (codes "open" ∷ [])
-receipt_line by instance what (receipt.Wrote index offset len) =
+abbrev pub receipt_line : Origin → ℕ → Verb → Receipt → List ℕ
+receipt_line by instance v (receipt.Object index len) = enq_line by instance index (kind_word (kind_of v) ∷ decimal len ∷ [])
+receipt_line by instance v (receipt.Opened index) = enq_line by instance index (codes "open" ∷ [])
+receipt_line by instance v (receipt.Wrote index offset len) =
     enq_line by instance index (codes "write" ∷ decimal len ∷ decimal offset ∷ [])
-receipt_line by instance what (receipt.Closed index) = enq_line by instance index (codes "close" ∷ [])
-receipt_line by instance what (receipt.Mark number at) =
-    line (codes "mark") (origin_words by ++ decimal instance ∷ decimal number ∷ position_words at)
-receipt_line by instance what (receipt.Restarted next) = line (codes "restart") (origin_words by ++ decimal next ∷ [])
+receipt_line by instance v (receipt.Closed index) = enq_line by instance index (codes "close" ∷ [])
+receipt_line by instance v (receipt.Mark number at) =
+    line (codes "mark") (origin_words by ++ decimal instance ∷ decimal number ∷ position_words at ++ number_words (quorum_of v))
+receipt_line by instance v (receipt.Restarted next) = line (codes "restart") (origin_words by ++ decimal next ∷ [])
+receipt_line by instance v (receipt.Struck node) = line (codes "strike") (origin_words by ++ decimal node ∷ [])
 
 -- a reason: its word, and the number that it tells
 abbrev pub Reason : Type 0
@@ -64,23 +76,21 @@ enqueue_reason _ = None
 -- why a command was refused for good
 abbrev pub reason_of : SendFault → Option Reason
 reason_of (send.Enqueue fault) = enqueue_reason fault
+reason_of (send.Mark (mark.Quorum q)) = Some (codes "quorum", Some q)
 reason_of (send.Mark mark.NothingEnqueued) = Some (codes "nothing-enqueued", None)
+reason_of (send.Strike (strike.NotMember node)) = Some (codes "not-member", Some node)
+reason_of (send.Strike (strike.LastMember node)) = Some (codes "last-member", Some node)
 reason_of (send.IdUsed instance) = Some (codes "id-used", Some instance)
 reason_of _ = None
-
--- the number that a reason tells
-abbrev pub number_words : Option ℕ → List (List ℕ)
-number_words None = []
-number_words (Some n) = decimal n ∷ []
 
 -- the line of a command that was refused for good
 abbrev pub no_line : Origin → Reason → List ℕ
 no_line by reason = line (codes "no") (origin_words by ++ reason.0 ∷ number_words reason.1)
 
 -- the line of what a command gave
-abbrev pub gave_line : Origin → ℕ → Kind → Result Receipt SendFault → Option (List ℕ)
-gave_line by instance what (Ok receipt) = Some (receipt_line by instance what receipt)
-gave_line by instance what (Err fault) = option_map (no_line by) (reason_of fault)
+abbrev pub gave_line : Origin → ℕ → Verb → Result Receipt SendFault → Option (List ℕ)
+gave_line by instance v (Ok receipt) = Some (receipt_line by instance v receipt)
+gave_line by instance v (Err fault) = option_map (no_line by) (reason_of fault)
 
 -- a node's hand-up, in the instance that it is in
 abbrev pub part_line : ℕ → ℕ → ℕ → List (List ℕ) → List ℕ
@@ -96,7 +106,7 @@ up_line node instance (up.StreamBytes index offset octets) =
 up_line node instance (up.StreamEnd index) = part_line node instance index (codes "end" ∷ [])
 up_line node instance (up.Lost index) = part_line node instance index (codes "lost" ∷ [])
 
--- a request's outcome, with the nodes that are left; an open request has no line
+-- a watermark's outcome, with the nodes that are left; an open one has no line
 abbrev pub done_line : ℕ → List ℕ → Outcome → Option (List ℕ)
 done_line number left (outcome.Open many) = None
 done_line number left outcome.Satisfied = Some (line (codes "done") (decimal number ∷ codes "satisfied" ∷ []))

@@ -1,44 +1,41 @@
 -- What a journal prints: the line of each event that has one, which the state before it decides.
-use Rattle.std.specs.Prelude.{ℕ, ◌==◌, List, [], ◌∷◌, ◌++◌, find, Option, None, Some}
-use Rattle.std.specs.Option.{option_to_list}
+use Rattle.std.specs.Prelude.{ℕ, List, [], ◌∷◌, ◌++◌, Option, None, Some, option_and_then}
+use Rattle.std.specs.Option.{option_map, option_to_list}
 use Rattle.std.specs.List.{concat}
-use Rattle.norm_base.specs.declared.kinds.Kind.{Kind}
-use Rattle.norm_base.specs.declared.kinds.Kind.TheVariants as kind
-use Rattle.norm_send_rules.specs.SenderState.{Watermark}
-use Rattle.norm_send_rules.specs.Requests.{pending}
-use Rattle.norm_send_rules.specs.declared.job.Job.{Job}
+use Rattle.norm_script.specs.declared.script.Verb.{Verb}
+use Rattle.norm_send_rules.specs.Watermarks.{pending, watermark_of}
 use Rattle.norm_send_rules.specs.declared.news.News.{News}
 use Rattle.norm_send_rules.specs.declared.news.News.TheVariants as news
 use Rattle.norm_journal.specs.declared.event.Event.{Event}
 use Rattle.norm_journal.specs.declared.event.Event.TheVariants as event
 use Rattle.norm_journal.specs.Accepting.{accepts}
 use Rattle.norm_journal.specs.Judged.{Judged}
-use Rattle.norm_journal.specs.Lines.{kind_of, gave_line, up_line, news_line, end_line}
+use Rattle.norm_journal.specs.Places.{Place, Giving, Again}
+use Rattle.norm_journal.specs.Lines.{no_line, reason_of, gave_line, up_line, news_line, end_line}
 
 -- the sender's instance
 abbrev pub instance_now : Judged → ℕ
 instance_now j = j.world.sender.current.id
 
--- what a command enqueues: its job came with the event, or waited
-abbrev pub kind_offered : Judged → Option Job → Kind
-kind_offered j (Some job) = kind_of job
-kind_offered j None = elim j.waiting [ Some command ↦ kind_of command.job | None ↦ kind.Data ]
+-- the command that is offered at a place
+abbrev pub command_at : Place → Option Verb
+command_at (Giving line) = Some line.verb
+command_at (Again line) = Some line.verb
+command_at _ = None
 
--- the receivers that are not listed past a request's position
+-- the members that are not listed past a watermark
 abbrev pub left_of : Judged → ℕ → List ℕ
-left_of j number = elim (find (λ (w : Watermark). w.mark == number) j.world.sender.requests) [
-  | Some w ↦ pending j.world.sender w.at
-  | None ↦ []
-]
+left_of j number = elim (watermark_of j.world.sender number) [ Some w ↦ pending j.world.sender w.at | None ↦ [] ]
 
--- the receivers that a change speaks of as left
+-- the members that a change speaks of as left
 abbrev pub left_in : Judged → News → List ℕ
 left_in j (news.Done number outcome) = left_of j number
 left_in j (news.Past node at) = []
 
 -- The line that is printed for an event, with its line feed, if any is.
 abbrev pub line_of : Judged → Event → Option (List ℕ)
-line_of j (event.Job by job gave) = gave_line by (instance_now j) (kind_offered j job) gave
+line_of j (event.Job by job gave) = option_and_then (λ v. gave_line by (instance_now j) v gave) (command_at j.place)
+line_of j (event.Length by name len fault) = option_map (no_line by) (reason_of fault)
 line_of j (event.Up node instance up) = Some (up_line node instance up)
 line_of j (event.News news) = news_line (instance_now j) (left_in j news) news
 line_of j event.End = Some (end_line j.totals)

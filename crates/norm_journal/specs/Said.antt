@@ -1,5 +1,5 @@
 -- What a printed line says: all that stands in it, as the event had it.
-use Rattle.std.specs.Prelude.{◌≡◌, ℕ, ◌<◌, ◌^◌, List, length, All, Option, None, Some, Result, Ok, Err, IfSome, is_some, ⊤}
+use Rattle.std.specs.Prelude.{◌≡◌, ℕ, ◌<◌, ◌^◌, List, length, All, Option, None, Some, Result, Ok, Err, IfSome, is_some, option_and_then, ⊤}
 use Rattle.std.specs.Option.{option_map}
 use Rattle.hex.specs.Hex.{IsBytes}
 use Rattle.fec_plan.specs.declared.position.Position.{Position}
@@ -7,12 +7,15 @@ use Rattle.norm_base.specs.declared.kinds.Kind.{Kind}
 use Rattle.norm_base.specs.declared.node.Origin.{Origin}
 use Rattle.norm_order.specs.declared.up.Up.{Up}
 use Rattle.norm_order.specs.declared.up.Up.TheVariants as up
+use Rattle.norm_script.specs.declared.script.Verb.{Verb}
 use Rattle.norm_send_rules.specs.declared.job.Receipt.{Receipt}
 use Rattle.norm_send_rules.specs.declared.job.Receipt.TheVariants as receipt
 use Rattle.norm_send_rules.specs.declared.fault.SendFault.{SendFault}
 use Rattle.norm_send_rules.specs.declared.fault.SendFault.TheVariants as send
 use Rattle.norm_send_rules.specs.declared.fault.EnqueueFault.TheVariants as enqueue
 use Rattle.norm_send_rules.specs.declared.fault.StreamFault.TheVariants as stream
+use Rattle.norm_send_rules.specs.declared.fault.MarkFault.TheVariants as mark
+use Rattle.norm_send_rules.specs.declared.fault.StrikeFault.TheVariants as strike
 use Rattle.norm_send_rules.specs.declared.news.News.{News}
 use Rattle.norm_send_rules.specs.declared.news.News.TheVariants as news
 use Rattle.norm_send_rules.specs.declared.news.Outcome.{Outcome}
@@ -22,19 +25,20 @@ use Rattle.norm_journal.specs.declared.event.Event.TheVariants as event
 use Rattle.norm_journal.specs.declared.totals.Totals.{Totals}
 use Rattle.norm_journal.specs.Judged.{Judged}
 use Rattle.norm_journal.specs.Totals.{CountsFit}
-use Rattle.norm_journal.specs.Lines.{reason_of}
-use Rattle.norm_journal.specs.Printed.{instance_now, kind_offered, left_in, line_of}
+use Rattle.norm_journal.specs.Lines.{kind_of, quorum_of, reason_of}
+use Rattle.norm_journal.specs.Printed.{instance_now, command_at, left_in, line_of}
 
--- A command enqueued an object, opened, wrote to or closed a stream, made a request, or began an instance; it was refused
--- for good. A receiver handed something up. A receiver is newly listed; a request was satisfied, expired while these were
--- left, or was cut. The summary.
+-- A command enqueued an object, opened, wrote to or closed a stream, made a watermark with a quorum or without, began an
+-- instance, or struck a receiver; it was refused for good. A receiver handed something up. A receiver is newly listed; a
+-- watermark was satisfied, expired while these were left, or was cut. The summary.
 pub data Said : Type 0 where
   Enqueued : (by : Origin) (instance index : ℕ) (kind : Kind) (len : ℕ) → Said
   Opened : (by : Origin) (instance index : ℕ) → Said
   Wrote : (by : Origin) (instance index offset len : ℕ) → Said
   Closed : (by : Origin) (instance index : ℕ) → Said
-  Marked : (by : Origin) (instance number : ℕ) (at : Position) → Said
+  Marked : (by : Origin) (instance number : ℕ) (at : Position) (quorum : Option ℕ) → Said
   Restarted : (by : Origin) (instance : ℕ) → Said
+  Struck : (by : Origin) (node : ℕ) → Said
   Refused : (by : Origin) (fault : SendFault) → Said
   HandedUp : (node instance : ℕ) (up : Up) → Said
   Listed : (node instance : ℕ) (at : Position) → Said
@@ -44,20 +48,25 @@ pub data Said : Type 0 where
   Summary : (totals : Totals) → Said
 
 -- what a command's receipt says
-abbrev pub receipt_said : Origin → ℕ → Kind → Receipt → Said
-receipt_said by instance kind (receipt.Object index len) = Enqueued by instance index kind len
-receipt_said by instance kind (receipt.Opened index) = Opened by instance index
-receipt_said by instance kind (receipt.Wrote index offset len) = Wrote by instance index offset len
-receipt_said by instance kind (receipt.Closed index) = Closed by instance index
-receipt_said by instance kind (receipt.Mark number at) = Marked by instance number at
-receipt_said by instance kind (receipt.Restarted next) = Restarted by next
+abbrev pub receipt_said : Origin → ℕ → Verb → Receipt → Said
+receipt_said by instance v (receipt.Object index len) = Enqueued by instance index (kind_of v) len
+receipt_said by instance v (receipt.Opened index) = Opened by instance index
+receipt_said by instance v (receipt.Wrote index offset len) = Wrote by instance index offset len
+receipt_said by instance v (receipt.Closed index) = Closed by instance index
+receipt_said by instance v (receipt.Mark number at) = Marked by instance number at (quorum_of v)
+receipt_said by instance v (receipt.Restarted next) = Restarted by next
+receipt_said by instance v (receipt.Struck node) = Struck by node
 
--- what is said of what a command gave; of one that waits nothing is
-abbrev pub gave_said : Origin → ℕ → Kind → Result Receipt SendFault → Option Said
-gave_said by instance kind (Ok receipt) = Some (receipt_said by instance kind receipt)
-gave_said by instance kind (Err fault) = option_map (λ reason. Refused by fault) (reason_of fault)
+-- what is said of a command that was refused; of one that waits nothing is
+abbrev pub refusal_said : Origin → SendFault → Option Said
+refusal_said by fault = option_map (λ reason. Refused by fault) (reason_of fault)
 
--- what is said of a request's outcome; of an open one nothing is
+-- what is said of what a command gave
+abbrev pub gave_said : Origin → ℕ → Verb → Result Receipt SendFault → Option Said
+gave_said by instance v (Ok receipt) = Some (receipt_said by instance v receipt)
+gave_said by instance v (Err fault) = refusal_said by fault
+
+-- what is said of a watermark's outcome; of an open one nothing is
 abbrev pub done_said : ℕ → List ℕ → Outcome → Option Said
 done_said number left (outcome.Open many) = None
 done_said number left outcome.Satisfied = Some (Satisfied number)
@@ -71,7 +80,8 @@ news_said instance left (news.Done number outcome) = done_said number left outco
 
 -- what is said of an event, if anything is
 abbrev pub said_of : Judged → Event → Option Said
-said_of j (event.Job by job gave) = gave_said by (instance_now j) (kind_offered j job) gave
+said_of j (event.Job by job gave) = option_and_then (λ v. gave_said by (instance_now j) v gave) (command_at j.place)
+said_of j (event.Length by name len fault) = refusal_said by fault
 said_of j (event.Up node instance up) = Some (HandedUp node instance up)
 said_of j (event.News news) = news_said (instance_now j) (left_in j news) news
 said_of j event.End = Some (Summary j.totals)
@@ -111,6 +121,9 @@ FaultInRange (send.Enqueue (enqueue.TooBig len)) = Is64 len
 FaultInRange (send.Enqueue (enqueue.InfoTooBig len)) = Is64 len
 FaultInRange (send.Enqueue (enqueue.StreamOpen index)) = Is64 index
 FaultInRange (send.Enqueue (enqueue.Stream (stream.Spent octets))) = Is64 octets
+FaultInRange (send.Mark (mark.Quorum q)) = Is64 q
+FaultInRange (send.Strike (strike.NotMember node)) = Is64 node
+FaultInRange (send.Strike (strike.LastMember node)) = Is64 node
 FaultInRange (send.IdUsed instance) = Is64 instance
 FaultInRange _ = ⊤
 
@@ -120,8 +133,9 @@ InRange (Enqueued by instance index kind len) = OriginInRange by × Is64 instanc
 InRange (Opened by instance index) = OriginInRange by × Is64 instance × Is64 index
 InRange (Wrote by instance index offset len) = OriginInRange by × Is64 instance × Is64 index × Is64 offset × Is64 len
 InRange (Closed by instance index) = OriginInRange by × Is64 instance × Is64 index
-InRange (Marked by instance number at) = OriginInRange by × Is64 instance × Is64 number × PositionInRange at
+InRange (Marked by instance number at quorum) = OriginInRange by × Is64 instance × Is64 number × PositionInRange at × IfSome quorum Is64
 InRange (Restarted by instance) = OriginInRange by × Is64 instance
+InRange (Struck by node) = OriginInRange by × Is64 node
 InRange (Refused by fault) = OriginInRange by × FaultInRange fault
 InRange (HandedUp node instance up) = UpInRange up × Is64 node × Is64 instance
 InRange (Listed node instance at) = Is64 node × Is64 instance × PositionInRange at

@@ -1,5 +1,5 @@
 -- Answers that are equal, as tests that compute.
-use Rattle.std.specs.Prelude.{ℕ, ◌==◌, ◌&&◌, List, Bool, true, false, Option, None, Some, Result, Ok, Err}
+use Rattle.std.specs.Prelude.{◌==◌, ◌&&◌, Bool, true, false, Option, None, Some, Result, Ok, Err}
 use Rattle.std.specs.Option.{option_eq}
 use Rattle.norm_base.specs.declared.kinds.Sent.{Sent}
 use Rattle.norm_base.specs.declared.kinds.Sent.TheVariants as sent
@@ -13,6 +13,8 @@ use Rattle.norm_send_rules.specs.declared.fault.MarkFault.{MarkFault}
 use Rattle.norm_send_rules.specs.declared.fault.MarkFault.TheVariants as mark
 use Rattle.norm_send_rules.specs.declared.fault.StreamFault.{StreamFault}
 use Rattle.norm_send_rules.specs.declared.fault.StreamFault.TheVariants as stream
+use Rattle.norm_send_rules.specs.declared.fault.StrikeFault.{StrikeFault}
+use Rattle.norm_send_rules.specs.declared.fault.StrikeFault.TheVariants as strike
 use Rattle.norm_send_rules.specs.declared.fault.SendFault.{SendFault}
 use Rattle.norm_send_rules.specs.declared.fault.SendFault.TheVariants as send
 use Rattle.norm_send_rules.specs.declared.news.News.{News}
@@ -30,6 +32,7 @@ same_receipt (receipt.Wrote i offset len) (receipt.Wrote j other octets) = i == 
 same_receipt (receipt.Closed i) (receipt.Closed j) = i == j
 same_receipt (receipt.Mark m at) (receipt.Mark n there) = m == n && same_position at there
 same_receipt (receipt.Restarted i) (receipt.Restarted j) = i == j
+same_receipt (receipt.Struck a) (receipt.Struck b) = a == b
 same_receipt _ _ = false
 
 -- two faults of a stream
@@ -52,17 +55,25 @@ same_enqueue (enqueue.WindowFull a) (enqueue.WindowFull b) = a == b
 same_enqueue enqueue.Memory enqueue.Memory = true
 same_enqueue _ _ = false
 
--- two faults of a request
+-- two faults of a mark
 abbrev pub same_mark : MarkFault → MarkFault → Bool
+same_mark (mark.Quorum a) (mark.Quorum b) = a == b
 same_mark mark.NothingEnqueued mark.NothingEnqueued = true
 same_mark (mark.TooMany a) (mark.TooMany b) = a == b
 same_mark mark.Memory mark.Memory = true
 same_mark _ _ = false
 
+-- two faults of a strike
+abbrev pub same_strike : StrikeFault → StrikeFault → Bool
+same_strike (strike.NotMember a) (strike.NotMember b) = a == b
+same_strike (strike.LastMember a) (strike.LastMember b) = a == b
+same_strike _ _ = false
+
 -- two faults of a sender
 abbrev pub same_fault : SendFault → SendFault → Bool
 same_fault (send.Enqueue a) (send.Enqueue b) = same_enqueue a b
 same_fault (send.Mark a) (send.Mark b) = same_mark a b
+same_fault (send.Strike a) (send.Strike b) = same_strike a b
 same_fault (send.IdUsed a) (send.IdUsed b) = a == b
 same_fault send.Memory send.Memory = true
 same_fault _ _ = false

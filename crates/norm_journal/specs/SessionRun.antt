@@ -1,5 +1,6 @@
 -- What a session may do: its journal is one that the judge accepts event by event, from the opening on.
-use Rattle.std.specs.Prelude.{◌≡◌, ℕ, List, true, false, Option, None, Some, IsSome}
+use Rattle.std.specs.Prelude.{◌≡◌, ℕ, List, [], true, false, Option, None, Some, IsSome}
+use Rattle.norm_base.specs.Members.{receivers_of}
 use Rattle.norm_script.specs.Commands.{Commands}
 use Rattle.norm_script.specs.declared.script.Verb.{Verb}
 use Rattle.norm_script.specs.declared.script.Verb.TheVariants as verb
@@ -10,12 +11,12 @@ use Rattle.norm_journal.specs.Judged.{Judged, judged_opening, is_whole}
 use Rattle.norm_journal.specs.Places.{Place, Giving, Over}
 
 -- the judge's state after a journal
-abbrev pub judged : Commands → Told → List Event → Option Judged
-judged script files journal = judged_from (judged_opening script files) journal
+abbrev pub judged : Commands → Told → List ℕ → List Event → Option Judged
+judged script files nodes journal = judged_from (judged_opening script files nodes) journal
 
--- a journal is the beginning of a run
-abbrev pub Begun : Commands → Told → List Event → Type 0
-Begun script files journal = IsSome (judged script files journal)
+-- a journal is the beginning of a run with these receivers
+abbrev pub Begun : Commands → Told → List ℕ → List Event → Type 0
+Begun script files nodes journal = IsSome (judged script files nodes journal)
 
 -- how a run ended: whole; with its turns spent; or at a file that is not there
 pub data Ending : Type 0 where
@@ -38,8 +39,16 @@ ends_in _ j = None
 abbrev pub ending_of : Judged → Option Ending
 ending_of j = ends_in j.place j
 
--- A journal is a whole run of a script with this ending.
-pub record SessionRun (script : Commands) (files : Told) (journal : List Event) (ending : Ending) : Type 0 where
+-- A journal is a whole run of a script with these receivers, and has this ending.
+pub record IsRun (script : Commands) (files : Told) (nodes : List ℕ) (journal : List Event) (ending : Ending) : Type 0 where
   pub last : Judged
-  pub begun : judged script files journal ≡ Some last
+  pub begun : judged script files nodes journal ≡ Some last
   pub ended : ending_of last ≡ Some ending
+
+-- A session has every receiver of its profile.
+abbrev pub SessionRun : Commands → Told → List Event → Ending → Type 0
+SessionRun script files journal ending = IsRun script files (receivers_of script.profile script.profile.receivers) journal ending
+
+-- A sender may also run alone: its receivers are elsewhere, and it hears of them by what it takes.
+abbrev pub SenderRun : Commands → Told → List Event → Ending → Type 0
+SenderRun script files journal ending = IsRun script files [] journal ending

@@ -1,8 +1,7 @@
 -- Takes in a turn: what the network gives is delivered, until there is none, or 512 were taken.
-use Rattle.std.specs.Prelude.{ℕ, ◌+◌, ◌==◌, List, Bool, true, false, Option, None, Some, is_some}
-use Rattle.norm_base.specs.Members.{receivers_of}
+use Rattle.std.specs.Prelude.{ℕ, ◌+◌, ◌==◌, List, Bool, true, false, Option, None, Some}
+use Rattle.std.specs.List.{list_any}
 use Rattle.norm_safety.specs.Events.{Delivered}
-use Rattle.norm_safety.specs.World.{receiver_at}
 use Rattle.norm_journal.specs.Draws.{next_draw, draws_after}
 use Rattle.norm_journal.specs.InWorld.{at, world_after}
 use Rattle.norm_journal.specs.Judged.{Judged}
@@ -12,9 +11,9 @@ use Rattle.norm_journal.specs.Places.{Place, Taking, handing}
 abbrev pub most_takes : ℕ
 most_takes = 512
 
--- the receivers' parts of a turn, in order of node
+-- the parts of a turn of the receivers that the run has, in order of node
 abbrev pub receivers_due : Judged → Place
-receivers_due j = handing (receivers_of j.profile j.profile.receivers)
+receivers_due j = handing j.nodes
 
 -- what is due after one more take
 abbrev pub after_take : ℕ → Judged → Place
@@ -22,7 +21,7 @@ after_take taken j = elim (taken + 1 == most_takes) [ true ↦ receivers_due j |
 
 -- a receiver of the run
 abbrev pub is_receiver : Judged → ℕ → Bool
-is_receiver j node = is_some (receiver_at j.world node)
+is_receiver j node = list_any (λ other. other == node) j.nodes
 
 -- A datagram comes to a node: to the sender without a draw, and to a receiver with the next one. A node that the run does
 -- not have gets nothing, and uses no draw.

@@ -9,17 +9,19 @@ use Rattle.norm_safety.specs.Lawful.{same_origin}
 use Rattle.norm_journal.specs.declared.event.Event.{Event}
 use Rattle.norm_journal.specs.declared.event.Event.TheVariants as event
 use Rattle.norm_journal.specs.Accepting.{accepts}
+use Rattle.norm_journal.specs.Commands.{repeating}
 use Rattle.norm_journal.specs.Draws.{next_draw}
 use Rattle.norm_journal.specs.Honest.{IsHonest}
+use Rattle.norm_journal.specs.Jobs.{file_of_length}
 use Rattle.norm_journal.specs.Judged.{Judged}
-use Rattle.norm_journal.specs.Places.{Place, Again}
+use Rattle.norm_journal.specs.Places.{Place}
 use Rattle.norm_journal.specs.Pulling.{origin_of}
 use Rattle.norm_journal.specs.Takes.{is_receiver}
 
 -- the job that is offered: the one that came with the event, or that of the command which waited
 abbrev pub job_at : Place → Option Job → Option Job
-job_at (Again command) None = Some command.job
-job_at _ job = job
+job_at place None = option_map (λ (known : Line × Job). known.1) (repeating place)
+job_at place (Some job) = Some job
 
 -- a take's delivery, where the run has its node
 abbrev pub delivery : Judged → ℕ → List ℕ → Option WorldEvent
@@ -31,6 +33,7 @@ delivery j node octets = elim (node == j.profile.sender) [
 -- what an event is in the world, if it is anything there
 abbrev pub world_event : Judged → Event → Option WorldEvent
 world_event j (event.Job by job gave) = option_map (λ (job : Job). Commanded by job j.now) (job_at j.place job)
+world_event j (event.Length by name len fault) = Some (Commanded by (file_of_length name len) j.now)
 world_event j (event.Tick node sent) = Some (Ticked node j.now)
 world_event j (event.Offer from octets) = Some (Offered from octets)
 world_event j (event.Took to octets) = delivery j to octets

@@ -19,12 +19,19 @@ pub enum Event {
     Pull {
         by: Origin,
     },
-    /// A command was offered to the sender. Where it had to wait it is offered again in each turn, and then kept without
-    /// its octets.
+    /// A command was offered to the sender. Where it had to wait it is offered again in each turn. Its job comes with the
+    /// first offer; that of a file with the offer that accepts it.
     Job {
         by: Origin,
         job: Option<Job>,
         gave: Result<Receipt, SendFault>,
+    },
+    /// A file of so many octets was offered to the sender, which refused it for good or for now. Its octets were not read.
+    Length {
+        by: Origin,
+        name: Octets,
+        len: u64,
+        fault: SendFault,
     },
     /// A node ticked.
     Tick {

@@ -3,8 +3,9 @@
 ghost use Rattle.norm_journal.specs.Follows.{JudgesWhatFollows};
 ghost use Rattle.norm_journal.specs.Said.{LinesReadBack};
 ghost use Rattle.norm_journal.specs.Free.{OnlyTheseAreFree};
+ghost use Rattle.norm_journal.specs.Calls.{CallsAreDue};
 ghost use Rattle.norm_journal.specs.Counts.{JournalIsCounted};
-ghost use Rattle.norm_journal.specs.Laws.{FrontsAreAccepted, FrontsArePrinted, PullsInOrder, WholeIsDone, EndsLast, MovesTheWorld, BeginsLawfully, ScriptsNameOnce};
+ghost use Rattle.norm_journal.specs.Laws.{FrontsAreAccepted, FrontsArePrinted, PullsInOrder, WholeIsDone, EndsLast, MovesTheWorld, BeginsLawfully, FilesGoByLength, OffersAreTheWorlds, TakesStayHonest, CommandsAreEvents, ScriptsNameOnce};
 
 /// Each front of a journal that is accepted is accepted.
 #[tactic(auto, using(crate::proofs::FrontLemmas::fronts_accepted))]
@@ -40,6 +41,35 @@ pub fn moves_the_world()
 #[tactic(auto, using(crate::proofs::LawfulLemmas::begins_lawfully))]
 pub fn begins_lawfully()
     ensures { BeginsLawfully }
+{}
+
+/// A sender goes by a file's name and its length alone.
+#[tactic(auto, using(crate::proofs::LengthLemmas::files_by_length))]
+pub fn files_go_by_length()
+    ensures { FilesGoByLength }
+{}
+
+/// What the nodes offered in their world is what the journal says was offered.
+#[tactic(auto, using(crate::proofs::OfferedLemmas::offers_are_the_worlds))]
+pub fn offers_are_the_worlds()
+    ensures { OffersAreTheWorlds }
+{}
+
+/// Takes stay honest with one more event that is.
+#[tactic(auto, using(crate::proofs::FrontLemmas::takes_stay_honest))]
+pub fn takes_stay_honest()
+    ensures { TakesStayHonest }
+{}
+
+/// An event comes by the call of the outside that is due.
+pub fn calls_are_due()
+    ensures { CallsAreDue }
+{}
+
+/// The commands of a script are told to the nodes as octets.
+#[tactic(auto, using(crate::proofs::OctetLemmas::commands_are_events))]
+pub fn commands_are_events()
+    ensures { CommandsAreEvents }
 {}
 
 /// In a script each command has a name of its own.

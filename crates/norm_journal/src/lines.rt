@@ -3,7 +3,7 @@
 ghost use Rattle.std.specs.Prelude.{◌≡◌, ◌∷◌, [], ◌++◌, codes, decimal, length, IfOk, OnOk};
 ghost use Rattle.std.specs.Option.{option_map};
 ghost use Rattle.norm_text.specs.Words.{with_word, with_words, line, kind_word, info_word};
-ghost use Rattle.norm_journal.specs.Lines.{enq_line, receipt_line, no_line, gave_line, part_line, up_line, done_line, news_line, reason_of, enqueue_reason, number_words};
+ghost use Rattle.norm_journal.specs.Lines.{kind_of, quorum_of, enq_line, receipt_line, no_line, gave_line, part_line, up_line, done_line, news_line, reason_of, enqueue_reason, number_words};
 ghost use Rattle.norm_journal.specs.Words.{origin_words, position_words, node_words};
 ghost use Rattle.hex.specs.Hex.{encode_lower};
 
@@ -11,7 +11,10 @@ use crate::words::{put_origin, put_position};
 use fec_plan::Position;
 use norm_base::{InstanceId, Kind, NodeId, Octets, Origin};
 use norm_order::Up;
-use norm_send_rules::{EnqueueFault, MarkFault, News, Outcome, Receipt, SendFault, StreamFault};
+use norm_script::Verb;
+use norm_send_rules::{
+    EnqueueFault, MarkFault, News, Outcome, Receipt, SendFault, StreamFault, StrikeFault,
+};
 use norm_text::{Line, kind_word};
 use std::alloc::{AllocError, Global};
 
@@ -81,22 +84,41 @@ fn write_line(
     line.end()
 }
 
-/// The line of a request.
-fn mark_line(
+/// The beginning of a watermark's line: all but its quorum.
+fn begin_mark(
     alloc: Global,
     by: Origin,
     instance: InstanceId,
     number: u32,
     at: Position,
-) -> Result<Vec<u8>, AllocError>
-    ensures { IfOk result (λ text.
-        text.items ≡ line (codes "mark") (origin_words by ++ decimal instance ∷ decimal number ∷ position_words at)) }
+) -> Result<Line, AllocError>
+    ensures { IfOk result (λ text. text ≡ with_words (codes "mark")
+        (origin_words by ++ decimal instance ∷ decimal number ∷ position_words at)) }
 {
     let mut line = Line::begin(alloc, b"mark", 0)?;
     put_origin(&mut line, by)?;
     line.number(u64::from(instance.0))?;
     line.number(u64::from(number))?;
     put_position(&mut line, at)?;
+    Ok(line)
+}
+
+/// The line of a watermark.
+fn mark_line(
+    alloc: Global,
+    by: Origin,
+    instance: InstanceId,
+    number: u32,
+    at: Position,
+    quorum: Option<u32>,
+) -> Result<Vec<u8>, AllocError>
+    ensures { IfOk result (λ text. text.items ≡ line (codes "mark")
+        (origin_words by ++ decimal instance ∷ decimal number ∷ position_words at ++ number_words quorum)) }
+{
+    let mut line = begin_mark(alloc, by, instance, number, at)?;
+    if let Some(q) = quorum {
+        line.number(u64::from(q))?;
+    }
     line.end()
 }
 
@@ -110,25 +132,60 @@ fn restart_line(alloc: Global, by: Origin, next: InstanceId) -> Result<Vec<u8>, 
     line.end()
 }
 
+/// The line of a strike.
+fn strike_line(alloc: Global, by: Origin, node: NodeId) -> Result<Vec<u8>, AllocError>
+    ensures { IfOk result (λ text. text.items ≡ line (codes "strike") (origin_words by ++ decimal node ∷ [])) }
+{
+    let mut line = Line::begin(alloc, b"strike", 0)?;
+    put_origin(&mut line, by)?;
+    line.number(u64::from(node.number()))?;
+    line.end()
+}
+
+/// What an object's command enqueues.
+fn kind_of(verb: &Verb) -> Kind
+    ensures { result ≡ kind_of verb.now }
+{
+    match verb {
+        Verb::File { .. } => Kind::File,
+        _ => Kind::Data,
+    }
+}
+
+/// The quorum that a command gives, if it gives one.
+fn quorum_of(verb: &Verb) -> Option<u32>
+    ensures { result ≡ quorum_of verb.now }
+{
+    match verb {
+        Verb::Mark { quorum } => *quorum,
+        _ => None,
+    }
+}
+
 /// The line of what a command did.
 fn receipt_line(
     alloc: Global,
     by: Origin,
     instance: InstanceId,
-    kind: Kind,
+    verb: &Verb,
     receipt: &Receipt,
 ) -> Result<Vec<u8>, AllocError>
-    ensures { IfOk result (λ text. text.items ≡ receipt_line by instance kind receipt.now) }
+    ensures { IfOk result (λ text. text.items ≡ receipt_line by instance verb.now receipt.now) }
 {
     match receipt {
-        Receipt::Object { index, len } => object_line(alloc, by, instance, *index, kind, *len),
+        Receipt::Object { index, len } => {
+            object_line(alloc, by, instance, *index, kind_of(verb), *len)
+        }
         Receipt::Opened { index } => stream_line(alloc, by, instance, *index, b"open"),
         Receipt::Wrote { index, offset, len } => write_line(
             alloc, by, instance, *index, *offset, *len,
         ),
         Receipt::Closed { index } => stream_line(alloc, by, instance, *index, b"close"),
-        Receipt::Mark { mark, at } => mark_line(alloc, by, instance, *mark, *at),
+        Receipt::Mark { mark, at } => {
+            mark_line(alloc, by, instance, *mark, *at, quorum_of(verb))
+        }
         Receipt::Restarted { instance } => restart_line(alloc, by, *instance),
+        Receipt::Struck { node } => strike_line(alloc, by, *node),
     }
 }
 
@@ -154,13 +211,25 @@ fn enqueue_reason(fault: &EnqueueFault) -> Option<Reason>
     }
 }
 
+/// Why a receiver was not struck.
+fn strike_reason(fault: &StrikeFault) -> Reason
+    ensures { Some (result.0.now, result.1) ≡ reason_of (SendFault.Strike fault.now) }
+{
+    match fault {
+        StrikeFault::NotMember { node } => ("not-member", Some(u64::from(node.number()))),
+        StrikeFault::LastMember { node } => ("last-member", Some(u64::from(node.number()))),
+    }
+}
+
 /// Why a command was refused, where it is for good.
 fn reason_of(fault: &SendFault) -> Option<Reason>
     ensures { option_map (λ reason. (reason.0.now, reason.1)) result ≡ reason_of fault.now }
 {
     match fault {
         SendFault::Enqueue(fault) => enqueue_reason(fault),
+        SendFault::Mark(MarkFault::Quorum { q }) => Some(("quorum", Some(u64::from(*q)))),
         SendFault::Mark(MarkFault::NothingEnqueued) => Some(("nothing-enqueued", None)),
+        SendFault::Strike(fault) => Some(strike_reason(fault)),
         SendFault::IdUsed { instance } => Some(("id-used", Some(u64::from(instance.0)))),
         _ => None,
     }
@@ -184,23 +253,33 @@ fn no_line(
     line.end()
 }
 
-/// The line of what a command gave, in the sender's instance before it. The command enqueues an object of this kind, where
-/// it enqueues one. A command that has to wait has no line.
+/// The line of what a command gave, in the sender's instance before it. A command that has to wait has no line.
 pub fn gave_line(
     alloc: Global,
     by: Origin,
     instance: InstanceId,
-    kind: Kind,
+    verb: &Verb,
     gave: &Result<Receipt, SendFault>,
 ) -> Result<Option<Vec<u8>>, AllocError>
-    ensures { IfOk result (λ text. option_map (λ octets. octets.items) text ≡ gave_line by instance kind gave.now) }
+    ensures { IfOk result (λ text. option_map (λ octets. octets.items) text ≡ gave_line by instance verb.now gave.now) }
 {
     match gave {
-        Ok(receipt) => Ok(Some(receipt_line(alloc, by, instance, kind, receipt)?)),
-        Err(fault) => match reason_of(fault) {
-            Some((word, number)) => Ok(Some(no_line(alloc, by, word, number)?)),
-            None => Ok(None),
-        },
+        Ok(receipt) => Ok(Some(receipt_line(alloc, by, instance, verb, receipt)?)),
+        Err(fault) => refusal_line(alloc, by, fault),
+    }
+}
+
+/// The line of a command that was refused. One that has to wait has none.
+pub fn refusal_line(
+    alloc: Global,
+    by: Origin,
+    fault: &SendFault,
+) -> Result<Option<Vec<u8>>, AllocError>
+    ensures { IfOk result (λ text. option_map (λ octets. octets.items) text ≡ option_map (no_line by) (reason_of fault.now)) }
+{
+    match reason_of(fault) {
+        Some((word, number)) => Ok(Some(no_line(alloc, by, word, number)?)),
+        None => Ok(None),
     }
 }
 
@@ -328,7 +407,7 @@ fn past_line(
     line.end()
 }
 
-/// The line of a request that ended, without receivers that are left.
+/// The line of a watermark that ended, without members that are left.
 fn ended_line(alloc: Global, mark: u32, word: &[u8]) -> Result<Vec<u8>, AllocError>
     ensures { IfOk result (λ text. text.items ≡ line (codes "done") (decimal mark ∷ word.now ∷ [])) }
 {
@@ -355,7 +434,7 @@ fn put_nodes(line: &mut Line, nodes: &[NodeId]) -> Result<(), AllocError>
     Ok(())
 }
 
-/// The line of a request that expired, with the receivers that are left.
+/// The line of a watermark that expired, with the members that are left.
 fn expired_line(alloc: Global, mark: u32, left: &[NodeId]) -> Result<Vec<u8>, AllocError>
     ensures { IfOk result (λ text. text.items ≡ line (codes "done") (decimal mark ∷ codes "expired" ∷ node_words left.now)) }
 {
@@ -366,7 +445,7 @@ fn expired_line(alloc: Global, mark: u32, left: &[NodeId]) -> Result<Vec<u8>, Al
     line.end()
 }
 
-/// The line of a change that the sender told, in its instance, with the receivers that are left of a request. A request that
+/// The line of a change that the sender told, in its instance, with the members that are left of a watermark. A watermark that
 /// is open has no line.
 pub fn news_line(
     alloc: Global,
@@ -382,7 +461,7 @@ pub fn news_line(
     }
 }
 
-/// The line of a request's outcome.
+/// The line of a watermark's outcome.
 fn done_line(
     alloc: Global,
     mark: u32,

@@ -21,11 +21,11 @@ pub struct Totals {
     pub handed: u64,
     /// Losses, over all receivers.
     pub lost: u64,
-    /// Requests that every receiver confirmed.
+    /// Watermarks that enough members confirmed.
     pub satisfied: u64,
-    /// Requests that were given up.
+    /// Watermarks that were given up.
     pub expired: u64,
-    /// Requests that a restart ended.
+    /// Watermarks that a restart ended.
     pub cut: u64,
 }
 
@@ -73,7 +73,7 @@ impl Totals {
         }
     }
 
-    /// Counts a request that ended. The counts must fit into 64 bits then.
+    /// Counts a watermark that ended. The counts must fit into 64 bits then.
     pub fn count_news(&mut self, news: &News)
         requires { CountsFit (with_news news.now self.old) }
         ensures { self.new ≡ with_news news.now self.old }

@@ -22,8 +22,9 @@ command e producer number (verb.File name) h = absurd h
 command e producer number verb.Open h = absurd h
 command e producer number (verb.Write bytes) h = absurd h
 command e producer number verb.Close h = absurd h
-command e producer number verb.Mark h = absurd h
+command e producer number (verb.Mark quorum) h = absurd h
 command e producer number (verb.Restart instance) h = absurd h
+command e producer number (verb.Strike node) h = absurd h
 
 commands : (e : ℕ) (lines : List Line) → AllByRecursion (IsBuiltLine e) lines → AllByRecursion (IsCommand e) lines
 commands e [] h = tt

@@ -1,29 +1,25 @@
 -- What a sender's tick sends is true of its orders, and stays true as its instances go on.
-use Rattle.std.proofs.Common.{◌≡◌, ℕ, zero, suc, ◌+◌, ◌<◌, ◌≤◌, cond, List, [], ◌∷◌, ◌++◌, length, take, drop, Bool, true, false, Option, None, Some, refl, sym, ap, ◌∙◌, subst, arith, ◌⊎◌, inl, inr}
-use Rattle.std.specs.Prelude.{map, filter, find, flat_map, slice_get, ◌&&◌, not, min, nat_lt, nat_eq, ⊤, IsSomeAnd}
-use Rattle.std.specs.List.{AllByRecursion, IsDistinct, range_with_len}
-use Rattle.std.proofs.Common.{append_assoc}
-use Rattle.std.proofs.lemmas.Bool.{cases_lt}
-use Rattle.std.proofs.lemmas.Bool.Decides.{Decides-ltb}
-use Rattle.std.proofs.lemmas.List.{map-append, length-append, length-take, take-append-drop}
+use Rattle.std.proofs.Common.{◌≡◌, ℕ, zero, suc, ◌<◌, cond, List, [], ◌∷◌, ◌++◌, Bool, true, false, Option, None, Some, refl, sym, ap, ◌∙◌, subst, arith}
+use Rattle.std.specs.Prelude.{map, filter, find, slice_get, nat_lt, nat_eq, ⊤, IsSomeAnd}
+use Rattle.std.specs.List.{AllByRecursion, IsDistinct}
 use Rattle.norm_base.specs.Settings.{Settings, InRange}
 use Rattle.fec_plan.specs.Points.{position}
 use Rattle.fec_plan.specs.declared.position.Position.{Position}
-use Rattle.fec_plan.specs.Partition.{source_symbols, encoding_symbols}
+use Rattle.fec_plan.specs.Partition.{source_symbols}
 use Rattle.norm_ext.specs.Message.{Message, Info, Data, Flush, Eot, Squelch, RepairAdv, AckReq, Opaque, Nack, Ack, Report}
 use Rattle.norm_ext.specs.Written.{Written, writes}
 use Rattle.norm_order.specs.Entries.{Object, Stream, Entry}
-use Rattle.norm_order.specs.Shapes.{Shape, shape_of, shapes_of, symbols_of, closed_in, encoded_in, is_full, closed_blocks, at_index, is_source}
+use Rattle.norm_order.specs.Shapes.{Shape, shape_of, shapes_of, encoded_in, at_index, is_source}
 use Rattle.norm_order.proofs.UptoLemmas.{found_front}
 use Rattle.norm_send_rules.specs.SenderState.{SenderState, Instance, Listing, Watermark, Round}
 use Rattle.norm_send_rules.specs.InWindow.{current_shapes, stands_behind}
 use Rattle.norm_send_rules.specs.Restarting.{instances}
 use Rattle.norm_send_rules.specs.Messages.{command_head, squelch_message, explicit_repair, parity_repair}
-use Rattle.norm_send_rules.specs.Sending.{sent_once, new_of, new_from, next_new, behind, sends, noted, repair_flags, message_of, sends_want, repairs_next, sends_new}
+use Rattle.norm_send_rules.specs.Sending.{next_new, behind, sends, noted, repair_flags, message_of, sends_want, repairs_next, sends_new}
 use Rattle.norm_send_rules.specs.Flushing.{most_flushes, flushes_for, expired, flushes_oldest, flushes_no_more, flushed, flushes_in_turn, flushes, may_flush}
 use Rattle.norm_send_rules.specs.Watermarks.{is_open, oldest, pending}
 use Rattle.norm_send_rules.specs.Ticking.{closed_where_due, sends_further, sends_wanted, sends_first, ticked}
-use Rattle.norm_send_rules.specs.Wants.{want_before, want_index}
+use Rattle.norm_send_rules.specs.Wants.{want_index}
 use Rattle.norm_send_rules.specs.Laws.{Rise, is_of_order, WantsHold}
 use Rattle.norm_send_rules.specs.declared.want.Want.{Want}
 use Rattle.norm_send_rules.specs.declared.want.Want.TheVariants.{Info as WantedInfo, Symbol}

@@ -20,4 +20,7 @@ pub mod ListsHanded
 pub mod WantsSent
 pub mod DropsConfirmed
 pub mod Tied
+pub mod CreditsMembers
+pub mod LosesNothing
+pub mod RepairSuffices
 pub mod Laws

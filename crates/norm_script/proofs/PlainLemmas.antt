@@ -9,7 +9,7 @@ use Rattle.hex.specs.Hex.{encode_lower}
 use Rattle.norm_base.specs.Keys.{row_of, keys, key_named, place_of_word}
 use Rattle.norm_base.specs.declared.key.Key.{Key}
 use Rattle.norm_base.specs.declared.key.Key.TheVariants as key
-use Rattle.norm_script.specs.Meaning.{number_for, value_for, setting_of, contents, data_of, file_of, write_of, restart_of, verb_with, verb_alone, verb_of_words, verb_of, command_of, meaning_of_words, meaning_of, is_passed_over, ends_with_return, or_return}
+use Rattle.norm_script.specs.Meaning.{number_for, value_for, setting_of, contents, data_of, file_of, write_of, restart_of, mark_of, strike_of, verb_with, verb_alone, verb_of_words, verb_of, command_of, meaning_of_words, meaning_of, is_passed_over, ends_with_return, or_return}
 use Rattle.norm_script.specs.Plain.{lower_case, has_digits, lower_behind, lower_words, lower_line, plain_line}
 use Rattle.norm_script.specs.Steps.{◌>>=◌}
 use Rattle.norm_script.specs.Text.{split_at_first}
@@ -177,36 +177,56 @@ restart_written words p split is =
     (IfOk-ok_or (λ n. decimal n ≡ p.1) (number_within 0 65535 p.1) why.NoInstance (within_is 0 65535 p.1 (lit< tt)))
     (λ n same. behind_other words p (codes "restart") split is refl ∙ ap (λ word. codes "restart" ++ 32 ∷ word) (sym same))
 
+mark_written : (words : List ℕ) (p : List ℕ × List ℕ) → IsSplit words p → p.0 ≡ codes "mark" → IfOk (mark_of p.1) (IsVerbLine words)
+mark_written words p split is =
+    IfOk-bind (λ n. decimal n ≡ p.1) (IsVerbLine words) (ok_or (number_within 1 16 p.1) why.NoQuorum) (λ quorum. Ok (verb.Mark (Some quorum)))
+    (IfOk-ok_or (λ n. decimal n ≡ p.1) (number_within 1 16 p.1) why.NoQuorum (within_is 1 16 p.1 (lit< tt)))
+    (λ n same. behind_other words p (codes "mark") split is refl ∙ ap (λ word. codes "mark" ++ 32 ∷ word) (sym same))
+
+strike_written : (words : List ℕ) (p : List ℕ × List ℕ) → IsSplit words p → p.0 ≡ codes "strike" → IfOk (strike_of p.1) (IsVerbLine words)
+strike_written words p split is =
+    IfOk-bind (λ n. decimal n ≡ p.1) (IsVerbLine words) (ok_or (number_within 1 4294967294 p.1) why.NoNode) (λ node. Ok (verb.Strike node))
+    (IfOk-ok_or (λ n. decimal n ≡ p.1) (number_within 1 4294967294 p.1) why.NoNode (within_is 1 4294967294 p.1 (lit< tt)))
+    (λ n same. behind_other words p (codes "strike") split is refl ∙ ap (λ word. codes "strike" ++ 32 ∷ word) (sym same))
+
 with_written : (words : List ℕ) (p : List ℕ × List ℕ) → IsSplit words p → IfOk (verb_with p.0 p.1) (IsVerbLine words)
 with_written words p split =
-    IfOk-cond V (is_text p.0 (codes "data")) (data_of (split_at_first 32 p.1) p.1) third (λ e. data_written words p split (same_word p.0 (codes "data") e))
-    (λ e. IfOk-cond V (is_text p.0 (codes "file")) (file_of p.1) second (λ f. file_written words p split (same_word p.0 (codes "file") f))
-    (λ f. IfOk-cond V (is_text p.0 (codes "write")) (write_of p.1) first (λ g. write_written words p split (same_word p.0 (codes "write") g))
-    (λ g. IfOk-cond V (is_text p.0 (codes "restart")) (restart_of p.1) (Err why.NoVerb) (λ h. restart_written words p split (same_word p.0 (codes "restart") h)) (λ h. tt))))
+    IfOk-cond V (is_text p.0 (codes "data")) (data_of (split_at_first 32 p.1) p.1) fifth (λ e. data_written words p split (same_word p.0 (codes "data") e))
+    (λ e. IfOk-cond V (is_text p.0 (codes "file")) (file_of p.1) fourth (λ f. file_written words p split (same_word p.0 (codes "file") f))
+    (λ f. IfOk-cond V (is_text p.0 (codes "write")) (write_of p.1) third (λ g. write_written words p split (same_word p.0 (codes "write") g))
+    (λ g. IfOk-cond V (is_text p.0 (codes "restart")) (restart_of p.1) second (λ h. restart_written words p split (same_word p.0 (codes "restart") h))
+    (λ h. IfOk-cond V (is_text p.0 (codes "mark")) (mark_of p.1) first (λ i. mark_written words p split (same_word p.0 (codes "mark") i))
+    (λ i. IfOk-cond V (is_text p.0 (codes "strike")) (strike_of p.1) (Err why.NoVerb) (λ j. strike_written words p split (same_word p.0 (codes "strike") j)) (λ j. tt))))))
   where
     V : Verb → Type 0
     V v = lower_words words ≡ verb_line v
 
     first : Result Verb Why
-    first = cond (is_text p.0 (codes "restart")) (restart_of p.1) (Err why.NoVerb)
+    first = cond (is_text p.0 (codes "strike")) (strike_of p.1) (Err why.NoVerb)
 
     second : Result Verb Why
-    second = cond (is_text p.0 (codes "write")) (write_of p.1) first
+    second = cond (is_text p.0 (codes "mark")) (mark_of p.1) first
 
     third : Result Verb Why
-    third = cond (is_text p.0 (codes "file")) (file_of p.1) second
+    third = cond (is_text p.0 (codes "restart")) (restart_of p.1) second
+
+    fourth : Result Verb Why
+    fourth = cond (is_text p.0 (codes "write")) (write_of p.1) third
+
+    fifth : Result Verb Why
+    fifth = cond (is_text p.0 (codes "file")) (file_of p.1) fourth
 
 alone_written : (words : List ℕ) → IfSome (verb_alone words) (IsVerbLine words)
 alone_written words =
     IfSome-cond V (is_text words (codes "open")) (Some verb.Open) second (λ e. ap lower_words (same_word words (codes "open") e))
     (λ e. IfSome-cond V (is_text words (codes "close")) (Some verb.Close) first (λ f. ap lower_words (same_word words (codes "close") f))
-    (λ f. IfSome-cond V (is_text words (codes "mark")) (Some verb.Mark) None (λ g. ap lower_words (same_word words (codes "mark") g)) (λ g. tt)))
+    (λ f. IfSome-cond V (is_text words (codes "mark")) (Some (verb.Mark None)) None (λ g. ap lower_words (same_word words (codes "mark") g)) (λ g. tt)))
   where
     V : Verb → Type 0
     V v = lower_words words ≡ verb_line v
 
     first : Option Verb
-    first = cond (is_text words (codes "mark")) (Some verb.Mark) None
+    first = cond (is_text words (codes "mark")) (Some (verb.Mark None)) None
 
     second : Option Verb
     second = cond (is_text words (codes "close")) (Some verb.Close) first

@@ -6,7 +6,7 @@ use Rattle.std.specs.Cmp.Lexicographic.{same_text}
 use Rattle.hex.specs.Hex.{decode_of}
 use Rattle.hex.proofs.HexLemmas.{decode_of-ok}
 use Rattle.norm_base.specs.Keys.{keys, key_named}
-use Rattle.norm_script.specs.Meaning.{contents, data_of, file_of, write_of, restart_of, verb_with, verb_alone, verb_of_words, verb_of, command_of, meaning_of_words, meaning_of, is_passed_over, ends_with_return, or_return, setting_of, value_for}
+use Rattle.norm_script.specs.Meaning.{contents, data_of, file_of, write_of, restart_of, mark_of, strike_of, verb_with, verb_alone, verb_of_words, verb_of, command_of, meaning_of_words, meaning_of, is_passed_over, ends_with_return, or_return, setting_of, value_for}
 use Rattle.norm_script.specs.Scripts.{IsContents, IsVerb, IsMeaning}
 use Rattle.norm_script.specs.Steps.{◌>>=◌}
 use Rattle.norm_script.specs.Text.{split_at_first}
@@ -15,6 +15,7 @@ use Rattle.norm_script.specs.declared.meaning.Meaning.{Meaning}
 use Rattle.norm_script.specs.declared.meaning.Meaning.TheVariants.{Nothing, Set, Command}
 use Rattle.norm_script.specs.declared.refusal.Why.{Why}
 use Rattle.norm_script.specs.declared.refusal.Why.TheVariants as why
+use Rattle.norm_script.specs.declared.script.Verb.{Verb}
 use Rattle.norm_script.specs.declared.script.Verb.TheVariants as verb
 use Rattle.norm_script.proofs.ChainLemmas.{IfOk-bind, IfOk-ok_or, IfOk-cond, IfSome-cond, IfOk-unit, IfOk-given}
 
@@ -88,26 +89,49 @@ restart-ok word =
     IfOk-bind (λ n. (0 ≤ n) × (n ≤ 65535) × (1 ≤ length word)) IsVerb (ok_or (number_within 0 65535 word) why.NoInstance) (λ instance. Ok (verb.Restart instance))
     (IfOk-ok_or (λ n. (0 ≤ n) × (n ≤ 65535) × (1 ≤ length word)) (number_within 0 65535 word) why.NoInstance (number-some 0 65535 word)) (λ n h. h.1)
 
+mark-ok : (word : List ℕ) → IfOk (mark_of word) IsVerb
+mark-ok word =
+    IfOk-bind (λ n. (1 ≤ n) × (n ≤ 16) × (1 ≤ length word)) IsVerb (ok_or (number_within 1 16 word) why.NoQuorum) (λ quorum. Ok (verb.Mark (Some quorum)))
+    (IfOk-ok_or (λ n. (1 ≤ n) × (n ≤ 16) × (1 ≤ length word)) (number_within 1 16 word) why.NoQuorum (number-some 1 16 word)) (λ n h. (h.0, h.1))
+
+strike-ok : (word : List ℕ) → IfOk (strike_of word) IsVerb
+strike-ok word =
+    IfOk-bind (λ n. (1 ≤ n) × (n ≤ 4294967294) × (1 ≤ length word)) IsVerb (ok_or (number_within 1 4294967294 word) why.NoNode) (λ node. Ok (verb.Strike node))
+    (IfOk-ok_or (λ n. (1 ≤ n) × (n ≤ 4294967294) × (1 ≤ length word)) (number_within 1 4294967294 word) why.NoNode (number-some 1 4294967294 word)) (λ n h. (h.0, h.1))
+
 verb_with-ok : (name words : List ℕ) → length name + 1 + length words ≤ 16498 → IfOk (verb_with name words) IsVerb
 verb_with-ok name words fits =
-    IfOk-cond IsVerb (is_text name (codes "data")) (data_of (split_at_first 32 words) words)
-    (cond (is_text name (codes "file")) (file_of words) (cond (is_text name (codes "write")) (write_of words) (cond (is_text name (codes "restart")) (restart_of words) (Err why.NoVerb))))
+    IfOk-cond IsVerb (is_text name (codes "data")) (data_of (split_at_first 32 words) words) fifth
     (λ e.
     let four = ap length (same_text name (codes "data") (sym e)) in
     IfOk-given IsVerb (length words ≤ 16493) (data_of (split_at_first 32 words) words) (data-ok words) (omega (arith, four)))
-    (λ e. IfOk-cond IsVerb (is_text name (codes "file")) (file_of words)
-    (cond (is_text name (codes "write")) (write_of words) (cond (is_text name (codes "restart")) (restart_of words) (Err why.NoVerb)))
-    (λ e. file-ok words)
-    (λ e. IfOk-cond IsVerb (is_text name (codes "write")) (write_of words) (cond (is_text name (codes "restart")) (restart_of words) (Err why.NoVerb))
-    (λ e. write-ok words)
-    (λ e. IfOk-cond IsVerb (is_text name (codes "restart")) (restart_of words) (Err why.NoVerb) (λ e. restart-ok words) (λ e. tt))))
+    (λ e. IfOk-cond IsVerb (is_text name (codes "file")) (file_of words) fourth (λ e. file-ok words)
+    (λ e. IfOk-cond IsVerb (is_text name (codes "write")) (write_of words) third (λ e. write-ok words)
+    (λ e. IfOk-cond IsVerb (is_text name (codes "restart")) (restart_of words) second (λ e. restart-ok words)
+    (λ e. IfOk-cond IsVerb (is_text name (codes "mark")) (mark_of words) first (λ e. mark-ok words)
+    (λ e. IfOk-cond IsVerb (is_text name (codes "strike")) (strike_of words) (Err why.NoVerb) (λ e. strike-ok words) (λ e. tt))))))
+  where
+    first : Result Verb Why
+    first = cond (is_text name (codes "strike")) (strike_of words) (Err why.NoVerb)
+
+    second : Result Verb Why
+    second = cond (is_text name (codes "mark")) (mark_of words) first
+
+    third : Result Verb Why
+    third = cond (is_text name (codes "restart")) (restart_of words) second
+
+    fourth : Result Verb Why
+    fourth = cond (is_text name (codes "write")) (write_of words) third
+
+    fifth : Result Verb Why
+    fifth = cond (is_text name (codes "file")) (file_of words) fourth
 
 alone-ok : (word : List ℕ) → IfSome (verb_alone word) IsVerb
 alone-ok word =
     IfSome-cond IsVerb (is_text word (codes "open")) (Some verb.Open)
-    (cond (is_text word (codes "close")) (Some verb.Close) (cond (is_text word (codes "mark")) (Some verb.Mark) None)) (λ e. tt)
-    (λ e. IfSome-cond IsVerb (is_text word (codes "close")) (Some verb.Close) (cond (is_text word (codes "mark")) (Some verb.Mark) None) (λ e. tt)
-    (λ e. IfSome-cond IsVerb (is_text word (codes "mark")) (Some verb.Mark) None (λ e. tt) (λ e. tt)))
+    (cond (is_text word (codes "close")) (Some verb.Close) (cond (is_text word (codes "mark")) (Some (verb.Mark None)) None)) (λ e. tt)
+    (λ e. IfSome-cond IsVerb (is_text word (codes "close")) (Some verb.Close) (cond (is_text word (codes "mark")) (Some (verb.Mark None)) None) (λ e. tt)
+    (λ e. IfSome-cond IsVerb (is_text word (codes "mark")) (Some (verb.Mark None)) None (λ e. tt) (λ e. tt)))
 
 -- a verb and its words, on a line of at most 16,500 octets
 verb-ok : (words : List ℕ) → length words ≤ 16498 → IfOk (verb_of words) IsVerb

@@ -180,8 +180,10 @@ verb-read (verb.File name) is = rw is refl
 verb-read verb.Open is = refl
 verb-read (verb.Write bytes) is = rw (contents-written bytes is) refl
 verb-read verb.Close is = refl
-verb-read verb.Mark is = refl
+verb-read (verb.Mark None) is = refl
+verb-read (verb.Mark (Some quorum)) is = rw (within-written 1 16 quorum is.0 is.1 (lit< tt)) refl
 verb-read (verb.Restart instance) is = rw (within-written 0 65535 instance (omega arith) is (lit< tt)) refl
+verb-read (verb.Strike node) is = rw (within-written 1 4294967294 node is.0 is.1 (lit< tt)) refl
 
 verb-length : (v : Verb) → IsVerb v → length (verb_line v) ≤ 16498
 verb-length (verb.Data None bytes) is = omega (arith, hex-length bytes, is.most)
@@ -191,8 +193,10 @@ verb-length (verb.File name) is = omega (arith, name-length name is)
 verb-length verb.Open is = omega arith
 verb-length (verb.Write bytes) is = omega (arith, hex-length bytes, is.most)
 verb-length verb.Close is = omega arith
-verb-length verb.Mark is = omega arith
+verb-length (verb.Mark None) is = omega arith
+verb-length (verb.Mark (Some quorum)) is = omega (arith, length-decimal-le 2 quorum (omega arith) (omega (arith, is)) (omega (arith, is)))
 verb-length (verb.Restart instance) is = omega (arith, length-decimal-le 5 instance (omega arith) (omega (arith, is)) (omega (arith, is)))
+verb-length (verb.Strike node) is = omega (arith, length-decimal-le 10 node (omega arith) (omega (arith, is)) (omega (arith, is)))
 
 -- commands
 
@@ -245,8 +249,10 @@ verb-plain (verb.File name) is = word-plain name (name-word name is)
 verb-plain verb.Open is = refl
 verb-plain (verb.Write bytes) is = word-plain (encode_lower bytes) (hex-word bytes is.octets)
 verb-plain verb.Close is = refl
-verb-plain verb.Mark is = refl
+verb-plain (verb.Mark None) is = refl
+verb-plain (verb.Mark (Some quorum)) is = word-plain (decimal quorum) (decimal-word quorum (omega (arith, is)))
 verb-plain (verb.Restart instance) is = word-plain (decimal instance) (decimal-word instance (omega (arith, is)))
+verb-plain (verb.Strike node) is = word-plain (decimal node) (decimal-word node (omega (arith, is)))
 
 pub command-plain : (p : ℕ) (v : Verb) → p ≤ 4 → IsVerb v → is_plain (command_line p v) ≡ true
 command-plain p v last is = spaced-plain (decimal p) (verb_line v) (decimal-word p (omega arith)) (verb-plain v is)

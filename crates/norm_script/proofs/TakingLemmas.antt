@@ -95,8 +95,9 @@ built profile n producer (verb.File name) number is e = absurd (cc)
 built profile n producer verb.Open number is e = absurd (cc)
 built profile n producer (verb.Write bytes) number is e = absurd (cc)
 built profile n producer verb.Close number is e = absurd (cc)
-built profile n producer verb.Mark number is e = absurd (cc)
+built profile n producer (verb.Mark quorum) number is e = absurd (cc)
 built profile n producer (verb.Restart instance) number is e = absurd (cc)
+built profile n producer (verb.Strike node) number is e = absurd (cc)
 
 of-on : (extent : Extent) (profile : Settings) (before : List Line) (producer : ℕ) (v : Verb) → IsVerb v → AreOf extent profile before
     → counts extent (unbuilt_command profile (length before) producer v) ≡ None → AreOf extent profile (before ++ next_line before producer v ∷ [])

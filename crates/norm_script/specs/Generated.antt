@@ -25,7 +25,7 @@ generated_octets n p i = map (λ j. (n + p + i + j) % 256) (range_with_len 0 (1 
 
 -- each tenth command is a mark
 abbrev pub generated_kind : Bool → List ℕ → Verb
-generated_kind true octets = verb.Mark
+generated_kind true octets = verb.Mark None
 generated_kind false octets = verb.Data None octets
 
 abbrev pub generated_verb : ℕ → ℕ → ℕ → Verb

@@ -63,20 +63,34 @@ restart_of word = do
   instance ← ok_or (number_within 0 65535 word) why.NoInstance
   Ok (verb.Restart instance)
 
+-- Q
+abbrev pub mark_of : List ℕ → Result Verb Why
+mark_of word = do
+  quorum ← ok_or (number_within 1 16 word) why.NoQuorum
+  Ok (verb.Mark (Some quorum))
+
+-- R
+abbrev pub strike_of : List ℕ → Result Verb Why
+strike_of word = do
+  node ← ok_or (number_within 1 4294967294 word) why.NoNode
+  Ok (verb.Strike node)
+
 -- a verb with words after it
 abbrev pub verb_with : List ℕ → List ℕ → Result Verb Why
 verb_with name words =
     if is_text name (codes "data") then data_of (split_at_first 32 words) words else
     (if is_text name (codes "file") then file_of words else
     (if is_text name (codes "write") then write_of words else
-    (if is_text name (codes "restart") then restart_of words else Err why.NoVerb)))
+    (if is_text name (codes "restart") then restart_of words else
+    (if is_text name (codes "mark") then mark_of words else
+    (if is_text name (codes "strike") then strike_of words else Err why.NoVerb)))))
 
 -- a verb alone
 abbrev pub verb_alone : List ℕ → Option Verb
 verb_alone word =
     if is_text word (codes "open") then Some verb.Open else
     (if is_text word (codes "close") then Some verb.Close else
-    (if is_text word (codes "mark") then Some verb.Mark else None))
+    (if is_text word (codes "mark") then Some (verb.Mark None) else None))
 
 abbrev pub verb_of_words : Option Verb → List ℕ → Result Verb Why
 verb_of_words (Some verb) words = Ok verb

@@ -31,7 +31,9 @@ IsVerb (verb.Data None bytes) = IsContents bytes
 IsVerb (verb.Data (Some info) bytes) = IsObject bytes info
 IsVerb (verb.File name) = is_name name ≡ true
 IsVerb (verb.Write bytes) = IsContents bytes
+IsVerb (verb.Mark (Some quorum)) = (1 ≤ quorum) × (quorum ≤ 16)
 IsVerb (verb.Restart instance) = instance ≤ 65535
+IsVerb (verb.Strike node) = (1 ≤ node) × (node ≤ 4294967294)
 IsVerb verb = Unit {0}
 
 -- what a line by itself may mean

@@ -32,8 +32,10 @@ verb_line (verb.File name) = with_words (codes "file") (name ∷ [])
 verb_line verb.Open = codes "open"
 verb_line (verb.Write bytes) = with_words (codes "write") (encode_lower bytes ∷ [])
 verb_line verb.Close = codes "close"
-verb_line verb.Mark = codes "mark"
+verb_line (verb.Mark None) = codes "mark"
+verb_line (verb.Mark (Some quorum)) = with_words (codes "mark") (decimal quorum ∷ [])
 verb_line (verb.Restart instance) = with_words (codes "restart") (decimal instance ∷ [])
+verb_line (verb.Strike node) = with_words (codes "strike") (decimal node ∷ [])
 
 abbrev pub command_line : ℕ → Verb → List ℕ
 command_line producer verb = with_words (decimal producer) (verb_line verb ∷ [])

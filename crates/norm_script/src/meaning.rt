@@ -1,7 +1,7 @@
 //! What a line of a script means by itself.
 
 ghost use Rattle.std.specs.Prelude.{◌≡◌, ◌≤◌, ◌==◌, ◌||◌, length, slice_index, IfOk};
-ghost use Rattle.norm_script.specs.Meaning.{number_for, value_for, setting_of, contents, data_of, file_of, write_of, restart_of, verb_with, verb_alone, verb_of, command_of, meaning_of_words, is_passed_over, ends_with_return, meaning_of};
+ghost use Rattle.norm_script.specs.Meaning.{number_for, value_for, setting_of, contents, data_of, file_of, write_of, restart_of, mark_of, strike_of, verb_with, verb_alone, verb_of, command_of, meaning_of_words, is_passed_over, ends_with_return, meaning_of};
 ghost use Rattle.norm_script.specs.Text.{split_at_first};
 
 use crate::refusal::Why;
@@ -12,6 +12,12 @@ use std::alloc::Global;
 
 /// The most octets of a line.
 const MOST_OCTETS: usize = 16_500;
+
+/// The greatest quorum: a session has at most so many receivers.
+const MOST_QUORUM: u32 = 16;
+
+/// The last id that a node may have.
+const LAST_NODE: u32 = 4_294_967_294;
 
 /// What a line means by itself.
 #[derive(Debug, Drop)]
@@ -140,6 +146,28 @@ fn restart_of(word: &[u8]) -> Result<Verb, Why>
     }
 }
 
+/// What `mark` and this word mean.
+fn mark_of(word: &[u8]) -> Result<Verb, Why>
+    ensures { result ≡ mark_of word.now }
+{
+    match number_within(word, 1, MOST_QUORUM) {
+        Some(quorum) => Ok(Verb::Mark {
+            quorum: Some(quorum),
+        }),
+        None => Err(Why::NoQuorum),
+    }
+}
+
+/// What `strike` and this word mean.
+fn strike_of(word: &[u8]) -> Result<Verb, Why>
+    ensures { result ≡ strike_of word.now }
+{
+    match number_within(word, 1, LAST_NODE) {
+        Some(node) => Ok(Verb::Strike { node }),
+        None => Err(Why::NoNode),
+    }
+}
+
 /// What a verb with words after it means.
 fn verb_with(alloc: Global, name: &[u8], words: &[u8]) -> Result<Result<Verb, Why>, Memory>
     ensures { IfOk result (λ verb. verb ≡ verb_with name.now words.now) }
@@ -156,6 +184,12 @@ fn verb_with(alloc: Global, name: &[u8], words: &[u8]) -> Result<Result<Verb, Wh
     if name == b"restart".as_slice() {
         return Ok(restart_of(words));
     }
+    if name == b"mark".as_slice() {
+        return Ok(mark_of(words));
+    }
+    if name == b"strike".as_slice() {
+        return Ok(strike_of(words));
+    }
     Ok(Err(Why::NoVerb))
 }
 
@@ -170,7 +204,7 @@ fn verb_alone(word: &[u8]) -> Option<Verb>
         return Some(Verb::Close);
     }
     if word == b"mark".as_slice() {
-        return Some(Verb::Mark);
+        return Some(Verb::Mark { quorum: None });
     }
     None
 }

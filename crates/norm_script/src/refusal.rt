@@ -42,7 +42,7 @@ pub enum Why {
     MaxBelowB { max_n: u32, b: u32 },
     #[error("blocks * b * e is {blocks} * {b} * {e}, which is above 16777216")]
     Buffer { blocks: u32, b: u32, e: u32 },
-    #[error("a command is data, file, open, write, close, mark or restart, each with its words")]
+    #[error("a command is data, file, open, write, close, mark, restart or strike, each with its words")]
     NoVerb,
     #[error("contents are an even number of hexadecimal digits, 2 to 16384")]
     NoContents,
@@ -50,6 +50,10 @@ pub enum Why {
     NoName,
     #[error("an instance is a number from 0 to 65535")]
     NoInstance,
+    #[error("a quorum is a number from 1 to 16")]
+    NoQuorum,
+    #[error("a node is a number from 1 to 4294967294")]
+    NoNode,
     #[error("a script has at most 4096 commands")]
     ManyCommands,
     #[error("the producer is {producer}, and there are {producers}")]

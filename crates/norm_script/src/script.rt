@@ -16,10 +16,12 @@ pub enum Verb {
     Write { bytes: Octets },
     /// Ends the open stream.
     Close,
-    /// Asks which receivers have everything up to here.
-    Mark,
+    /// Asks which receivers have everything up to here: so many of them, or all.
+    Mark { quorum: Option<u32> },
     /// Begins a new instance of the sender.
     Restart { instance: u16 },
+    /// Takes a receiver from the sender's list for good.
+    Strike { node: u32 },
 }
 
 /// A command: its producer, that producer's number of it (1, 2, ..), and what it does.

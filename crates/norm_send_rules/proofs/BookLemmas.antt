@@ -1,25 +1,22 @@
 -- What each step of the sender keeps of its book: listings, watermarks, and what is to be told of them.
-use Rattle.std.proofs.Common.{◌≡◌, ℕ, zero, suc, ◌+◌, ◌%◌, ◌≤◌, cond, List, [], ◌∷◌, ◌++◌, length, map, Bool, true, false, Option, None, Some, Result, Ok, Err, refl, sym, ap, ◌∙◌, subst, arith}
-use Rattle.std.specs.Prelude.{filter, find, fold, not, nat_lt, nat_le, is_some, ◌==◌, ◌&&◌, ◌||◌, ⊤}
+use Rattle.std.proofs.Common.{◌≡◌, ℕ, zero, suc, ◌+◌, ◌≤◌, cond, List, [], ◌∷◌, ◌++◌, length, map, Bool, true, false, Option, None, Some, Result, Ok, refl, sym, ap, ◌∙◌, subst, arith}
+use Rattle.std.specs.Prelude.{filter, find, not, nat_lt, is_some, ◌==◌, ◌&&◌, ◌||◌}
 use Rattle.std.specs.List.{AllByRecursion, range_with_len, list_any}
 use Rattle.std.proofs.lemmas.Bool.Decides.{Decides-eqb}
 use Rattle.std.proofs.lemmas.List.{map-append, length-append, length-map}
-use Rattle.norm_base.specs.Settings.{Settings, InRange}
-use Rattle.norm_base.specs.Members.{receivers_of}
-use Rattle.norm_base.specs.declared.node.Origin.{Origin}
+use Rattle.norm_base.specs.Settings.{Settings}
 use Rattle.fec_plan.specs.declared.position.Position.{Position}
-use Rattle.norm_ext.specs.Message.{Message, Nack, Ack, NackMessage, AckMessage, AckContent, Mark, Unread}
+use Rattle.norm_ext.specs.Message.{Message, Nack, Ack, AckContent, Mark, Unread}
 use Rattle.norm_ext.specs.Requests.{Request}
 use Rattle.norm_ext.specs.Asking.{item_named}
-use Rattle.norm_ext.specs.Reading.{decoded}
 use Rattle.norm_order.specs.Sets.{with_member}
-use Rattle.norm_order.specs.Shapes.{is_source, last_source}
-use Rattle.norm_send_rules.specs.SenderState.{SenderState, Listing, Watermark, Round, unlisted, begun, sender_opening}
+use Rattle.norm_order.specs.Shapes.{is_source}
+use Rattle.norm_send_rules.specs.SenderState.{SenderState, Listing, Watermark, unlisted, begun}
 use Rattle.norm_send_rules.specs.InWindow.{last_index, current_shapes}
 use Rattle.norm_send_rules.specs.Watermarks.{members, is_past, is_open, ended_with, told_later, end_where, settled, counted_anew, keeps_oldest, watermark_of}
 use Rattle.norm_send_rules.specs.Striking.{without_node, struck_off}
 use Rattle.norm_send_rules.specs.Restarting.{instances, begun_anew}
-use Rattle.norm_send_rules.specs.Hearing.{listed_past, rises, credited, credited_at, credited_by, joined_round, nack_counts, ack_counts, message_heard, heard}
+use Rattle.norm_send_rules.specs.Hearing.{listed_past, rises, credited, credited_by, joined_round, nack_counts, ack_counts, message_heard}
 use Rattle.norm_send_rules.specs.Telling.{listing_of, past_news, done_news, told}
 use Rattle.norm_send_rules.specs.Reached.{marks_of, BookHolds}
 use Rattle.norm_send_rules.specs.declared.news.Outcome.{Outcome}

@@ -1,17 +1,17 @@
 -- What is new next is of the order, and is new once.
-use Rattle.std.proofs.Common.{◌≡◌, ℕ, zero, suc, ◌+◌, ◌<◌, ◌≤◌, cond, List, [], ◌∷◌, ◌++◌, length, take, drop, Bool, true, false, Option, None, Some, refl, sym, ap, ◌∙◌, subst, arith, ◌⊎◌, inl, inr}
-use Rattle.std.specs.Prelude.{map, find, flat_map, slice_get, ◌&&◌, ◌||◌, ◌==◌, not, min, nat_lt, nat_le}
+use Rattle.std.proofs.Common.{◌≡◌, ℕ, zero, suc, ◌+◌, ◌<◌, ◌≤◌, cond, List, [], ◌∷◌, ◌++◌, length, take, drop, Bool, true, false, None, Some, refl, sym, ap, ◌∙◌, subst, arith, ◌⊎◌, inl, inr}
+use Rattle.std.specs.Prelude.{map, find, flat_map, ◌&&◌, not, min, nat_lt, nat_le}
 use Rattle.std.specs.List.{AllByRecursion, range_with_len}
 use Rattle.std.proofs.Common.{append_assoc}
 use Rattle.std.proofs.lemmas.Bool.{cases_lt}
 use Rattle.std.proofs.lemmas.Bool.Decides.{Decides-ltb, leb_tells}
 use Rattle.std.proofs.lemmas.List.{map-append, length-append, length-take, take-append-drop}
-use Rattle.norm_base.specs.Settings.{Settings, InRange}
-use Rattle.fec_plan.specs.Points.{Point, position, position_before}
+use Rattle.norm_base.specs.Settings.{Settings}
+use Rattle.fec_plan.specs.Points.{position, position_before}
 use Rattle.fec_plan.specs.declared.position.Position.{Position}
 use Rattle.fec_plan.specs.Partition.{source_symbols, encoding_symbols}
 use Rattle.norm_order.specs.Entries.{Entry}
-use Rattle.norm_order.specs.Shapes.{Shape, shape_of, shapes_of, symbols_of, closed_in, encoded_in, is_full, closed_blocks, at_index}
+use Rattle.norm_order.specs.Shapes.{Shape, shapes_of, symbols_of, closed_in, encoded_in, is_full, closed_blocks, at_index}
 use Rattle.norm_send_rules.specs.SenderState.{SenderState}
 use Rattle.norm_send_rules.specs.InWindow.{current_shapes, stands_behind}
 use Rattle.norm_send_rules.specs.Sending.{sent_once, new_of, new_from, next_new, behind}

@@ -1,26 +1,24 @@
 -- What holds of every state that a sender comes to.
-use Rattle.std.proofs.Common.{◌≡◌, ℕ, zero, suc, ◌+◌, ◌*◌, ◌/◌, ◌%◌, ◌<◌, ◌≤◌, cond, List, [], ◌∷◌, ◌++◌, length, Bool, true, false, Option, None, Some, Result, Ok, Err, refl, sym, ap, ◌∙◌, subst, arith}
-use Rattle.std.specs.Prelude.{drop, min, nat_lt, nat_le, not, is_none, unwrap_or, ◌==◌, ◌||◌}
+use Rattle.std.proofs.Common.{◌≡◌, ℕ, zero, suc, ◌+◌, ◌*◌, ◌/◌, ◌%◌, ◌<◌, ◌≤◌, List, [], ◌∷◌, ◌++◌, length, Bool, true, false, Option, None, Some, Ok, Err, refl, sym, ap, ◌∙◌, subst, arith}
+use Rattle.std.specs.Prelude.{drop, min, nat_lt, nat_le, unwrap_or, ◌==◌, ◌||◌}
 use Rattle.std.specs.List.{AllByRecursion}
 use Rattle.std.specs.Int.{div_ceil}
 use Rattle.std.proofs.Math.Nat.{zero-mod, zero-div}
-use Rattle.std.proofs.lemmas.Bool.Decides.{Decides-ltb, Decides-eqb}
+use Rattle.std.proofs.lemmas.Bool.Decides.{Decides-ltb}
 use Rattle.std.proofs.lemmas.List.{length-append, length-map}
 use Rattle.norm_base.specs.Settings.{Settings, InRange}
 use Rattle.norm_base.specs.Members.{receivers_of}
 use Rattle.norm_base.specs.declared.kinds.Kind.{Kind}
 use Rattle.norm_base.specs.declared.kinds.Kind.TheVariants as kind
 use Rattle.norm_base.specs.declared.node.Origin.{Origin}
-use Rattle.fec_plan.specs.Points.{Point}
 use Rattle.fec_plan.specs.declared.position.Position.{Position}
 use Rattle.norm_ext.specs.Reading.{decoded}
-use Rattle.norm_order.specs.First.{first_where}
 use Rattle.norm_order.specs.Entries.{Part, Write, Cut, End, Object, Whole, Stream, Entry}
 use Rattle.norm_order.specs.Segments.{pieces, full_pieces, all_pieces, closed_from, since_cut, unclosed, has_end}
 use Rattle.norm_order.specs.Shapes.{last_source}
-use Rattle.norm_send_rules.specs.SenderState.{SenderState, Instance, Watermark, Round, unlisted, sender_opening}
+use Rattle.norm_send_rules.specs.SenderState.{SenderState, Instance, Watermark, unlisted, sender_opening}
 use Rattle.norm_send_rules.specs.InWindow.{next_index, last_index, current_shapes}
-use Rattle.norm_send_rules.specs.Watermarks.{open_watermarks, pending, oldest, end_where, settled, counted_anew}
+use Rattle.norm_send_rules.specs.Watermarks.{open_watermarks, pending, end_where, settled}
 use Rattle.norm_send_rules.specs.Dropping.{dropped_to}
 use Rattle.norm_send_rules.specs.Room.{stream_drop}
 use Rattle.norm_send_rules.specs.Enqueuing.{info_length, open_stream, ids_spent, object_fault, joined}
@@ -33,11 +31,9 @@ use Rattle.norm_send_rules.specs.Closing.{round_closed}
 use Rattle.norm_send_rules.specs.Hearing.{heard}
 use Rattle.norm_send_rules.specs.Sending.{behind, noted}
 use Rattle.norm_send_rules.specs.Flushing.{expired}
-use Rattle.norm_send_rules.specs.Ticking.{ticked}
 use Rattle.norm_send_rules.specs.Telling.{told}
 use Rattle.norm_send_rules.specs.SenderStep as events
 use Rattle.norm_send_rules.specs.SenderStep.{SenderEvent, sender_step}
-use Rattle.norm_send_rules.specs.Laws.{WantsHold}
 use Rattle.norm_send_rules.specs.Reached.{FitsProfile, BookHolds, IsReached, ReachedLaws}
 use Rattle.norm_send_rules.specs.declared.job.Job.{Job}
 use Rattle.norm_send_rules.specs.declared.job.Job.TheVariants as job
@@ -46,7 +42,7 @@ use Rattle.norm_send_rules.specs.declared.want.Want.{Want}
 use Rattle.norm_send_rules.specs.declared.want.Want.TheVariants.{Info, Symbol}
 use Rattle.norm_send_rules.proofs.ShapeLemmas.{blocks_of}
 use Rattle.norm_send_rules.proofs.TickLemmas.{TickKeeps, tick_keeps}
-use Rattle.norm_send_rules.proofs.WantLemmas.{where_free, either, no_row, EndsOpen, ends_open, with_last_is, Same, same_both, same_by, anew}
+use Rattle.norm_send_rules.proofs.WantLemmas.{where_free, either, no_row, EndsOpen, ends_open, Same, anew}
 use Rattle.norm_send_rules.proofs.StepLemmas.{step_holds, heard_same, told_same, expired_same, noted_same}
 use Rattle.norm_send_rules.proofs.BookLemmas.{book_of, nothing_told, same_book, ends_book, counted_book, settled_book, more_book, struck_book, anew_holds_book, told_book, heard_book}
 

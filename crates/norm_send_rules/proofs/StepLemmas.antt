@@ -1,17 +1,16 @@
 -- Each step of the sender keeps its wants in order, of the order, and in the window.
-use Rattle.std.proofs.Common.{◌≡◌, ℕ, zero, suc, ◌+◌, ◌%◌, List, [], ◌∷◌, ◌++◌, length, map, Bool, true, false, Option, None, Some, Result, Ok, Err, refl, sym, subst, arith}
+use Rattle.std.proofs.Common.{◌≡◌, ℕ, zero, suc, ◌+◌, ◌%◌, List, [], ◌∷◌, ◌++◌, length, map, Bool, true, false, Option, None, Some, Result, Ok, Err, refl, sym, subst}
 use Rattle.std.specs.Prelude.{filter, nat_lt, nat_le, unwrap_or, ◌==◌}
 use Rattle.std.proofs.Math.Nat.{zero-mod}
-use Rattle.norm_base.specs.Settings.{Settings, InRange}
+use Rattle.norm_base.specs.Settings.{Settings}
 use Rattle.norm_base.specs.declared.kinds.Kind.TheVariants as kind
 use Rattle.norm_base.specs.declared.node.Origin.{Origin}
 use Rattle.fec_plan.specs.declared.position.Position.{Position}
 use Rattle.norm_ext.specs.Message.{Message, Nack, Ack, AckContent, Mark, Unread}
 use Rattle.norm_ext.specs.Asking.{item_named}
 use Rattle.norm_ext.specs.Reading.{decoded}
-use Rattle.norm_ext.specs.Written.{Written, writes}
 use Rattle.norm_ext.specs.Requests.{Request}
-use Rattle.norm_order.specs.Entries.{Part, Write, Cut, End, Object, Whole, Stream}
+use Rattle.norm_order.specs.Entries.{Part, Write, Cut, End, Whole, Stream}
 use Rattle.norm_order.specs.Segments.{since_cut, unclosed}
 use Rattle.norm_order.specs.Shapes.{last_source, is_source}
 use Rattle.norm_order.specs.Sets.{with_member}
@@ -19,7 +18,7 @@ use Rattle.norm_send_rules.specs.SenderState.{SenderState, Watermark, Round}
 use Rattle.norm_send_rules.specs.SenderStep as events
 use Rattle.norm_send_rules.specs.SenderStep.{SenderEvent, sender_step}
 use Rattle.norm_send_rules.specs.InWindow.{stands_behind, last_index, current_shapes}
-use Rattle.norm_send_rules.specs.Watermarks.{counted_anew, settled, end_where, open_watermarks, oldest, pending, watermark_of}
+use Rattle.norm_send_rules.specs.Watermarks.{counted_anew, settled, end_where, open_watermarks, pending, watermark_of}
 use Rattle.norm_send_rules.specs.Enqueuing.{open_stream, object_fault, joined}
 use Rattle.norm_send_rules.specs.Streaming.{open_fault, with_parts, parts_now, write_fault, close_fault, grown, cut}
 use Rattle.norm_send_rules.specs.Marking.{is_no_quorum, most_open, watermark_at, with_watermark, cut_and_marked}
@@ -28,10 +27,9 @@ use Rattle.norm_send_rules.specs.Striking.{strike_fault, without_node, struck_of
 use Rattle.norm_send_rules.specs.Commanding.{commanded}
 use Rattle.norm_send_rules.specs.Closing.{asked_in, round_closed}
 use Rattle.norm_send_rules.specs.Hearing.{nack_counts, ack_counts, joined_round, listed_past, rises, credited, credited_at, credited_by, message_heard, heard}
-use Rattle.norm_send_rules.specs.Messages.{squelch_message}
-use Rattle.norm_send_rules.specs.Sending.{next_new, behind, repair_flags, sends, noted, sends_want, repairs_next, sends_new}
-use Rattle.norm_send_rules.specs.Flushing.{most_flushes, may_flush, flushes_for, expired, flushes_oldest, flushes_no_more, flushed, flushes_in_turn, flushes}
-use Rattle.norm_send_rules.specs.Ticking.{closed_where_due, sends_further, sends_wanted, sends_first, sends_in_time}
+use Rattle.norm_send_rules.specs.Sending.{behind, noted}
+use Rattle.norm_send_rules.specs.Flushing.{expired}
+use Rattle.norm_send_rules.specs.Ticking.{closed_where_due}
 use Rattle.norm_send_rules.specs.Telling.{told, past_news, done_news, listing_of}
 use Rattle.norm_send_rules.specs.declared.job.Job.{Job}
 use Rattle.norm_send_rules.specs.declared.job.Job.TheVariants as job
@@ -44,7 +42,7 @@ use Rattle.norm_send_rules.proofs.ClosingLemmas.{Each, rise_more, each_more, kep
 use Rattle.norm_send_rules.proofs.ShapeLemmas.{Blocks, blocks_of, shapes_parity}
 use Rattle.norm_send_rules.proofs.AskingLemmas.{all_filtered, asked_in_order}
 use Rattle.norm_send_rules.proofs.TickLemmas.{TickKeeps, closed_keep, tick_keeps}
-use Rattle.norm_send_rules.proofs.WantLemmas.{Same, same_both, same_by, either, same_step, anew, hold_same, joins, unless, goes_on, grown_holds, no_row}
+use Rattle.norm_send_rules.proofs.WantLemmas.{Same, same_by, either, same_step, anew, hold_same, joins, unless, goes_on, grown_holds, no_row}
 
 either_holds : {A : Type 0} (p : Settings) (b : Bool) (t u : SenderState × A) → WantsHold p t.0 → WantsHold p u.0 → WantsHold p (either b t u).0
 either_holds p true t u h k = h

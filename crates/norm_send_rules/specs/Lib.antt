@@ -11,6 +11,7 @@ pub mod Marking
 pub mod Restarting
 pub mod Striking
 pub mod Commanding
+pub mod Waiting
 pub mod Asking
 pub mod Closing
 pub mod Hearing

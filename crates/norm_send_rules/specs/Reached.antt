@@ -1,5 +1,5 @@
 -- What holds of every state that a sender comes to.
-use Rattle.std.specs.Prelude.{ℕ, ◌≡◌, ◌+◌, ◌*◌, ◌<◌, ◌≤◌, List, length, map, Bool, true, None, is_some}
+use Rattle.std.specs.Prelude.{ℕ, ◌≡◌, ◌*◌, ◌<◌, ◌≤◌, List, length, map, true, None, is_some}
 use Rattle.std.specs.List.{AllByRecursion, range_with_len}
 use Rattle.norm_base.specs.Settings.{Settings, InRange}
 use Rattle.norm_order.specs.Entries.{Object, Whole, Stream, Entry}

@@ -1,5 +1,8 @@
 //! Why a sender refuses a command. Where several faults apply, the first in the order of these lists counts.
 
+ghost use Rattle.std.specs.Prelude.{◌≡◌};
+ghost use Rattle.norm_send_rules.specs.Waiting.{may_wait};
+
 use norm_base::{InstanceId, NodeId};
 use thiserror::Error;
 
@@ -69,4 +72,18 @@ pub enum SendFault {
     IdUsed { instance: InstanceId },
     /// There was no memory for it. Every want of memory is told by this word.
     Memory,
+}
+
+impl SendFault {
+    /// There is no room yet: the command may be given again later.
+    pub fn may_wait(&self) -> bool
+        ensures { result ≡ may_wait self.now }
+    {
+        matches!(
+            self,
+            SendFault::Enqueue(EnqueueFault::WindowFull { .. })
+                | SendFault::Enqueue(EnqueueFault::Stream(StreamFault::Full { .. }))
+                | SendFault::Mark(MarkFault::TooMany { .. })
+        )
+    }
 }

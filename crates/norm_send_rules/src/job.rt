@@ -1,7 +1,9 @@
 //! What a sender is asked to do, and what it did.
 
+ghost use Rattle.std.specs.Prelude.{◌≡◌, IfOk};
+
 use fec_plan::Position;
-use norm_base::{InstanceId, NodeId, Octets};
+use norm_base::{InstanceId, Memory, NodeId, Octets};
 
 /// What a sender is asked to do.
 #[derive(Clone, Debug, PartialEq, Eq, Drop)]
@@ -22,6 +24,52 @@ pub enum Job {
     Restart { instance: InstanceId },
     /// Takes a receiver from the members for good: nothing waits for it any more.
     Strike { node: NodeId },
+}
+
+/// The same octets.
+fn copy_of(bytes: &Octets) -> Result<Octets, Memory>
+    ensures { IfOk result (λ copy. copy ≡ bytes.now) }
+{
+    Ok(bytes.clone()?)
+}
+
+/// The same command, in memory of its own.
+pub fn copy_of_job(job: &Job) -> Result<Job, Memory>
+    ensures { IfOk result (λ copy. copy ≡ job.now) }
+{
+    match job {
+        Job::Data { info: None, bytes } => {
+            let bytes = copy_of(bytes)?;
+            Ok(Job::Data { info: None, bytes })
+        }
+        Job::Data {
+            info: Some(info),
+            bytes,
+        } => {
+            let info = copy_of(info)?;
+            let bytes = copy_of(bytes)?;
+            Ok(Job::Data {
+                info: Some(info),
+                bytes,
+            })
+        }
+        Job::File { name, bytes } => {
+            let name = copy_of(name)?;
+            let bytes = copy_of(bytes)?;
+            Ok(Job::File { name, bytes })
+        }
+        Job::Open => Ok(Job::Open),
+        Job::Write { bytes } => {
+            let bytes = copy_of(bytes)?;
+            Ok(Job::Write { bytes })
+        }
+        Job::Close => Ok(Job::Close),
+        Job::Mark { quorum } => Ok(Job::Mark { quorum: *quorum }),
+        Job::Restart { instance } => Ok(Job::Restart {
+            instance: *instance,
+        }),
+        Job::Strike { node } => Ok(Job::Strike { node: *node }),
+    }
 }
 
 /// What a sender did.

@@ -10,6 +10,6 @@ mod news;
 mod want;
 
 pub use crate::fault::{EnqueueFault, MarkFault, SendFault, StreamFault, StrikeFault};
-pub use crate::job::{Job, Receipt};
+pub use crate::job::{Job, Receipt, copy_of_job};
 pub use crate::news::{News, Outcome};
 pub use crate::want::Want;

@@ -35,7 +35,7 @@ pub record Kept (p : Settings) (all : List Entry) (s : SenderState) (r : Receive
 pub accepted-pull : (s : SenderState) (command : Line) → flat_map accepted_in (pull_events s command) ≡ (length s.order, entry_of command) ∷ []
 accepted-pull s command =
     elim command.verb as (λ v. accepted_in (event.Job (origin_of command) (Some (job_of v)) (Ok (receipt.Object (length s.order) (length (octets_of v))))) ++ []
-    ≡ (length s.order, record { producer = command.producer; number = command.number; octets = octets_of v }) ∷ []) [ verb.Data info bytes ↦ refl | verb.File name ↦ refl | verb.Open ↦ refl | verb.Write bytes ↦ refl | verb.Close ↦ refl | verb.Mark ↦ refl | verb.Restart instance ↦ refl ]
+    ≡ (length s.order, record { producer = command.producer; number = command.number; octets = octets_of v }) ∷ []) [ verb.Data info bytes ↦ refl | verb.File name ↦ refl | verb.Open ↦ refl | verb.Write bytes ↦ refl | verb.Close ↦ refl | verb.Mark quorum ↦ refl | verb.Restart instance ↦ refl | verb.Strike node ↦ refl ]
 
 octets-append : (order : List Entry) (y : Entry) → octets_in (order ++ y ∷ []) ≡ octets_in order ++ y.octets ∷ []
 octets-append [] y = refl

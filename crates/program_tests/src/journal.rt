@@ -1,20 +1,58 @@
 //! Each call that makes a line once with ample memory, and a line of the largest object.
 
 use fec_plan::Position;
-use norm_base::{InstanceId, Kind, NodeId, Octets, Origin};
-use norm_journal::{Totals, end_line, gave_line, news_line, up_line};
+use norm_base::{InstanceId, Kind, NodeId, Octets, Origin, Text};
+use norm_journal::{Totals, end_line, gave_line, news_line, refusal_line, up_line};
 use norm_order::Up;
-use norm_send_rules::{EnqueueFault, News, Outcome, Receipt, SendFault};
+use norm_script::Verb;
+use norm_send_rules::{EnqueueFault, MarkFault, News, Outcome, Receipt, SendFault, StrikeFault};
 use std::alloc::Global;
 use std::test::Fail;
 
-/// Whether the line of what was given is this one, or none where the text is empty.
-fn gives(alloc: Global, kind: Kind, gave: &Result<Receipt, SendFault>, text: &[u8]) -> bool {
-    let by = Origin {
-        producer: 3,
-        number: 12,
+const BY: Origin = Origin {
+    producer: 3,
+    number: 12,
+};
+
+/// Whether the line of what a command gave is this one.
+fn gives(alloc: Global, verb: &Verb, gave: Receipt, text: &[u8]) -> bool {
+    match gave_line(alloc, BY, InstanceId(7), verb, &Ok(gave)) {
+        Ok(Some(line)) => line.as_slice() == text,
+        _ => false,
+    }
+}
+
+#[test]
+fn what_is_given_has_its_line(rt: HostRuntime) -> Result<(), Fail> {
+    let alloc = rt.alloc();
+    let (Some(node), Ok(name)) = (NodeId::of(3), String::from_str(alloc, "a")) else {
+        return Err("no member")?;
     };
-    match gave_line(alloc, by, InstanceId(7), kind, gave) {
+    let file = Verb::File {
+        name: Text::of(name),
+    };
+    let object = Receipt::Object { index: 2, len: 5 };
+    assert!(rt; gives(alloc, &file, object, b"enq 3 12 7 2 file 5\n"));
+    let mark = Receipt::Mark {
+        mark: 1,
+        at: Position {
+            index: 0,
+            block: 1,
+            symbol: 3,
+        },
+    };
+    let all = Verb::Mark { quorum: None };
+    assert!(rt; gives(alloc, &all, mark, b"mark 3 12 7 1 0 1 3\n"));
+    let two = Verb::Mark { quorum: Some(2) };
+    assert!(rt; gives(alloc, &two, mark, b"mark 3 12 7 1 0 1 3 2\n"));
+    let strike = Verb::Strike { node: 3 };
+    assert!(rt; gives(alloc, &strike, Receipt::Struck { node }, b"strike 3 12 3\n"));
+    Ok(())
+}
+
+/// Whether the line of a refusal is this one, or none where the text is empty.
+fn refuses(alloc: Global, fault: SendFault, text: &[u8]) -> bool {
+    match refusal_line(alloc, BY, &fault) {
         Ok(Some(line)) => line.as_slice() == text,
         Ok(None) => text.is_empty(),
         Err(_) => false,
@@ -22,14 +60,36 @@ fn gives(alloc: Global, kind: Kind, gave: &Result<Receipt, SendFault>, text: &[u
 }
 
 #[test]
-fn what_is_given_has_its_line(rt: HostRuntime) {
-    let alloc = rt.alloc();
-    let object = Ok(Receipt::Object { index: 2, len: 5 });
-    assert!(rt; gives(alloc, Kind::File, &object, b"enq 3 12 7 2 file 5\n"));
-    let big = Err(SendFault::Enqueue(EnqueueFault::TooBig { len: 600 }));
-    assert!(rt; gives(alloc, Kind::Data, &big, b"no 3 12 too-big 600\n"));
-    let full = Err(SendFault::Enqueue(EnqueueFault::WindowFull { first: 0 }));
-    assert!(rt; gives(alloc, Kind::Data, &full, b""));
+fn refusals_have_their_lines(rt: HostRuntime) -> Result<(), Fail> {
+    let Some(node) = NodeId::of(2) else {
+        return Err("no member")?;
+    };
+    let rows: [(SendFault, &[u8]); 5] = [
+        (
+            SendFault::Enqueue(EnqueueFault::TooBig { len: 600 }),
+            b"no 3 12 too-big 600\n",
+        ),
+        (
+            SendFault::Enqueue(EnqueueFault::WindowFull { first: 0 }),
+            b"",
+        ),
+        (
+            SendFault::Mark(MarkFault::Quorum { q: 3 }),
+            b"no 3 12 quorum 3\n",
+        ),
+        (
+            SendFault::Strike(StrikeFault::NotMember { node }),
+            b"no 3 12 not-member 2\n",
+        ),
+        (
+            SendFault::Strike(StrikeFault::LastMember { node }),
+            b"no 3 12 last-member 2\n",
+        ),
+    ];
+    for (fault, text) in rows {
+        assert!(rt; refuses(rt.alloc(), fault, text));
+    }
+    Ok(())
 }
 
 /// Whether the line of these news is this one.

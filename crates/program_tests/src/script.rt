@@ -65,7 +65,7 @@ fn each_key_takes_the_ends_of_its_range_and_nothing_past_it(rt: HostRuntime) {
 }
 
 /// Scripts and the first line without meaning, or 0.
-const SCRIPTS: [(&[u8], u32); 7] = [
+const SCRIPTS: [(&[u8], u32); 8] = [
     (b"set max_n 1\nset b 1", 0),
     (b"set max_n 10\nset b 4\n1 data 61", 0),
     (b"set max_n 10\n# c\n1 data 61", 1),
@@ -73,6 +73,10 @@ const SCRIPTS: [(&[u8], u32); 7] = [
     (b"set max_n 10\nbogus\nset b 4", 2),
     (b"1 mark\nset e 64", 2),
     (b"\n\n1 mark\n2 mark", 4),
+    (
+        b"1 mark 1\n1 mark 16\n1 strike 1\n1 strike 4294967294\n1 mark 17",
+        5,
+    ),
 ];
 
 #[test]
@@ -186,22 +190,27 @@ fn told(alloc: Global, line: &Line) -> Result<String, Fail> {
             format!(in alloc; "data {:?} {:?}", bytes.bytes(), info)?
         }
         Verb::File { name } => format!(in alloc; "file {:?}", name.bytes())?,
+        Verb::Mark { quorum } => format!(in alloc; "mark {quorum:?}")?,
         Verb::Restart { instance } => format!(in alloc; "restart {instance}")?,
+        Verb::Strike { node } => format!(in alloc; "strike {node}")?,
         _ => String::from_str(alloc, "another")?,
     };
     Ok(format!(in alloc; "{producer} {number} {verb}")?)
 }
 
-const TOLD: [&str; 3] = [
+const TOLD: [&str; 5] = [
     "2 1 data [74, 107] Some([0])",
     "1 1 file [97, 46, 116, 120, 116]",
     "2 2 restart 8",
+    "1 2 mark Some(2)",
+    "1 3 strike 3",
 ];
 
 #[test]
 fn a_script_is_read_with_its_commands(rt: HostRuntime) -> Result<(), Fail> {
     let alloc = rt.alloc();
-    let text = b"set producers 2\n2 data 4A6b 00\n1 file a.txt\n2 restart 8\n";
+    let text =
+        b"set producers 2\n2 data 4A6b 00\n1 file a.txt\n2 restart 8\n1 mark 2\n1 strike 3\n";
     let Ok(script) = read_script(alloc, text) else {
         return Err("refused")?;
     };
@@ -241,4 +250,5 @@ fn the_other_calls_answer(rt: HostRuntime) {
     assert!(rt; refused_command(alloc, b"set e 64\n"));
     assert!(rt; without_verb(alloc, b"1 mark\n") == 0);
     assert!(rt; without_verb(alloc, b"1 Mark\n") == 1);
+    assert!(rt; without_verb(alloc, b"1 strike\n") == 1);
 }
