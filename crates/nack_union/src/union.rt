@@ -33,6 +33,8 @@ use std::marker::Model;
 pub struct Union {
     profile: Profile,
     collection: Collection,
+    /// It is known that nothing is wanted.
+    idle: bool,
 }
 
 impl Model for Union {
@@ -40,7 +42,7 @@ impl Model for Union {
 
     ghost Value = { UnionState };
 
-    ghost view = { λ u. record { p = u.profile; kept = u.collection } };
+    ghost view = { λ u. record { p = u.profile; kept = u.collection; idle = u.idle } };
 }
 
 impl Union {
@@ -53,6 +55,7 @@ impl Union {
         Union {
             profile: *profile,
             collection,
+            idle: true,
         }
     }
 
@@ -83,6 +86,7 @@ impl Union {
         ensures profile { self.new.p ≡ self.old.p }
     {
         self.collection.clear();
+        self.idle = true;
     }
 
     /// Drops all before a point, and says whether that took away a want.
@@ -126,6 +130,9 @@ impl Union {
     pub fn is_wanted(&self) -> bool
         ensures { (s : SenderState) → Stands self.now s → result ≡ nat_lt 0 (length s.wants) }
     {
+        if self.idle {
+            return false;
+        }
         self.collection.is_wanted()
     }
 
@@ -135,7 +142,14 @@ impl Union {
             (λ want. (rest : List Wanted) × (s.wants ≡ want ∷ rest) × Stands self.new (record s { wants = rest })) }
         ensures profile { self.new.p ≡ self.old.p }
     {
-        self.collection.next()
+        if self.idle {
+            return None;
+        }
+        let want = self.collection.next();
+        if want.is_none() {
+            self.idle = true;
+        }
+        want
     }
 
     /// Closes the open round: what it asked for is wanted, of a counted block the lowest parity symbols that were never
@@ -148,6 +162,8 @@ impl Union {
             × (result.early ≡ list_any (λ a. asks_early s.current.drop a.request) r.asked) }
         ensures profile { self.new.p ≡ self.old.p }
     {
-        self.collection.close_round()
+        let closed = self.collection.close_round();
+        self.idle = false;
+        closed
     }
 }

@@ -79,7 +79,7 @@ same_plan x y e = cc
 no_plan : (plan : Plan) → None ≡ Some plan → ⊥
 no_plan plan e = cc
 
-index_of_found : (index : ℕ) (plans : List Plan) (plan : Plan) → find (λ (x : Plan). x.index == index) plans ≡ Some plan → plan.index ≡ index
+pub index_of_found : (index : ℕ) (plans : List Plan) (plan : Plan) → find (λ (x : Plan). x.index == index) plans ≡ Some plan → plan.index ≡ index
 index_of_found index [] plan e = absurd (no_plan plan e)
 index_of_found index (x ∷ plans) plan e = go (x.index == index) refl e (λ found. index_of_found index plans plan found)
   where

@@ -1,2 +1,5 @@
+pub mod FrontLemmas
 pub mod HandUpLemmas
+pub mod HeardLemmas
 pub mod NeedLemmas
+pub mod StepLemmas

@@ -2,19 +2,19 @@
 use Rattle.std.proofs.Common.{◌≡◌, ℕ, zero, suc, cond, ◌+◌, ◌-◌, ◌<◌, ◌≤◌, ◌⊎◌, inl, inr, List, [], ◌∷◌, ◌++◌, map, Bool, true, false, not, Option, None, Some, refl, sym, ap, subst, ◌∙◌, arith}
 use Rattle.std.specs.Prelude.{filter, min, max, nat_lt, nat_le, ◌==◌, ◌&&◌, ◌||◌, is_none, is_some, ⊤}
 use Rattle.std.specs.Bool.{Decides}
-use Rattle.std.specs.List.{range_with_len, list_any}
+use Rattle.std.specs.List.{range_with_len}
 use Rattle.std.proofs.lemmas.Bool.{cases_lt}
 use Rattle.std.proofs.lemmas.Bool.Decides.{Decides-ltb, Decides-eqb, Decides-and, Decides-or, leb_tells}
 use Rattle.norm_base.specs.Settings.{Settings}
 use Rattle.fec_plan.specs.Partition.{blocks, source_symbols}
-use Rattle.fec_plan.specs.Points.{Point, point, position, point_of, point_before, same_position}
+use Rattle.fec_plan.specs.Points.{Point, point, position, point_of, point_before}
 use Rattle.fec_plan.specs.declared.position.Position.{Position}
 use Rattle.norm_receive_rules.specs.Lazy.{Lazy, Nil, Next, followed_by, lazily}
-use Rattle.norm_receive_rules.specs.Holding.{Holding, Plan}
+use Rattle.norm_receive_rules.specs.Holding.{Plan}
 use Rattle.norm_receive_rules.specs.ReceiverState.{ReceiverState}
 use Rattle.norm_receive_rules.specs.Plans.{cut_of_plan, says_stream, plan_of, holds, lacking, is_done, has_its_info, first_block}
 use Rattle.norm_receive_rules.specs.Needs.{Need, Object, ObjectInfo, Symbols, Source, Rest, farthest_index, is_covered, info_needs, blocks_before, blocks_due, counts_from, object_needs, unknown_needs}
-use Rattle.norm_receive_rules.specs.StreamNeeds.{last_block, flush_in, stream_due, earlier_needs, missing_symbols, flush_symbols, end_of, end_symbols, last_symbols, symbols_flushed, is_behind, open_block, rest_needs, stream_end_needs, stream_needs}
+use Rattle.norm_receive_rules.specs.StreamNeeds.{last_block, flush_in, stream_due, earlier_needs, missing_symbols, flush_symbols, end_of, end_symbols, last_symbols, symbols_flushed, is_behind, open_block, rest_needs, stream_needs}
 use Rattle.norm_receive_rules.specs.AllNeeds.{planned_needs, needs_of, needs_from, last_known, needs_nothing}
 use Rattle.norm_receive_rules.specs.NothingMissing.{IsBeforeFarthest, IsFlushed, BlocksAreThere, IsBeforeFlush, IsThere, StreamIsThere, IsThereByPlan, ObjectIsThere, NothingIsMissing}
 use Rattle.norm_receive_rules.specs.Laws.{NeedsLaws}
@@ -30,7 +30,7 @@ same_as b d to from = (λ e. to (d.0 e), λ q. d.1 (from q))
 abbrev is_empty : {X : Type 0} → List X → Bool
 is_empty xs = elim xs [ [] ↦ true | x ∷ more ↦ false ]
 
-abbrev is_nil : {X : Type 0} → Lazy X → Bool
+abbrev pub is_nil : {X : Type 0} → Lazy X → Bool
 is_nil xs = elim xs [ Nil ↦ true | Next x rest ↦ false ]
 
 both_nil : {X P Q : Type 0} (xs : Lazy X) (more : ⊤ → Lazy X) → Decides (is_nil xs) P → Decides (is_nil (more tt)) Q
@@ -115,7 +115,7 @@ is_due own index count all block false c e f lt (inl less) = absurd (clash (sym 
 is_due own index count all block false true e f lt (inr at) = let fewer = at.1 in omega arith
 is_due own index count all block false false e f lt (inr at) = absurd (clash (sym f ∙ (Decides-eqb own index).1 at.0))
 
-before_point : (a b : Point) → Decides (point_before a b) (IsDue a.index b.index b.block a.block)
+pub before_point : (a b : Point) → Decides (point_before a b) (IsDue a.index b.index b.block a.block)
 before_point a b =
     Decides-or _ _ (Decides-ltb a.index b.index) (Decides-and _ _ (Decides-eqb a.index b.index) (Decides-ltb a.block b.block))
 
@@ -537,7 +537,7 @@ planned_nil p s plan = go (says_stream plan.flags) refl
         (λ h. record { info = h.0; octets = (λ no. h.1); stream = (λ yes. absurd (clash (sym e ∙ yes))) })
         (λ there. (there.info, there.octets e))
 
-needs_nil : (p : Settings) (s : ReceiverState) (index : ℕ) → Decides (is_nil (needs_of p s.knows.farthest s.knows.flush s.holding index)) (ObjectIsThere p s.knows.farthest s.knows.flush s.holding index (plan_of s.holding index))
+pub needs_nil : (p : Settings) (s : ReceiverState) (index : ℕ) → Decides (is_nil (needs_of p s.knows.farthest s.knows.flush s.holding index)) (ObjectIsThere p s.knows.farthest s.knows.flush s.holding index (plan_of s.holding index))
 needs_nil p s index = go (plan_of s.holding index)
   where
     of_plan : Option Plan → Lazy Need
@@ -559,7 +559,7 @@ from_nil (suc n) p s first =
     ])
     (λ all. (all first (omega arith) (omega arith), λ index le lt. all index (omega arith) (omega arith)))
 
-exactly : (p : Settings) (s : ReceiverState) → Decides (needs_nothing p s) (NothingIsMissing p s)
+pub exactly : (p : Settings) (s : ReceiverState) → Decides (needs_nothing p s) (NothingIsMissing p s)
 exactly p s =
     same_as (needs_nothing p s) (from_nil (last_known s.knows.farthest s.knows.flush - s.holding.point.index) p s s.holding.point.index)
     (λ all index le lt. all index le (within s.holding.point.index (last_known s.knows.farthest s.knows.flush) index le lt))

@@ -1,6 +1,6 @@
 -- What a receiver heard others ask for (RFC 5401 section 3.2.2), kept merged and in order.
-use Rattle.std.specs.Prelude.{ℕ, ◌==◌, ◌&&◌, List, [], ◌∷◌, map, max, fold, Bool, true, false}
-use Rattle.fec_plan.specs.Points.{Point, same_point, point_before, position_before, nearer}
+use Rattle.std.specs.Prelude.{List, [], ◌∷◌, map, max, fold, true, false}
+use Rattle.fec_plan.specs.Points.{same_point, point_before, position_before, nearer}
 use Rattle.fec_plan.specs.declared.position.Position.{Position}
 use Rattle.norm_ext.specs.Asking.{Named, Span, span, Count, object_span, info_flag, where_flag, named_spans, is_proper, asked_spans, asked_counts}
 

@@ -1,5 +1,5 @@
 -- Whether others asked for all that a need says (RFC 5401 section 3.2.2): then it need not be asked for again.
-use Rattle.std.specs.Prelude.{ℕ, ◌+◌, ◌-◌, ◌==◌, ◌&&◌, ◌||◌, not, List, [], ◌∷◌, Bool, true, false, nat_lt, nat_le, None, Some}
+use Rattle.std.specs.Prelude.{ℕ, ◌+◌, ◌-◌, ◌&&◌, ◌||◌, List, [], ◌∷◌, Bool, true, false, nat_lt, nat_le, None, Some}
 use Rattle.std.specs.List.{list_any}
 use Rattle.fec_plan.specs.Partition.{source_symbols}
 use Rattle.fec_plan.specs.Points.{Point, point, same_point, position, position_before}

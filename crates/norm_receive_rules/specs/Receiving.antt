@@ -1,7 +1,7 @@
 -- What a receiver does with a datagram (RFC 5740 section 5.3).
 use Rattle.std.specs.Prelude.{ℕ, ◌==◌, List, max, true, false, Option, None, Some, unwrap_or, option_and_then, Result, Ok}
 use Rattle.norm_base.specs.Settings.{Settings}
-use Rattle.fec_plan.specs.Points.{Point, point, position, point_of}
+use Rattle.fec_plan.specs.Points.{point, position, point_of}
 use Rattle.fec_plan.specs.declared.position.Position.{Position}
 use Rattle.norm_ext.specs.Extensions.{Extension, fti_of}
 use Rattle.norm_ext.specs.Message.{Message, Info, Data, Flush, Squelch, RepairAdv, Nack, InfoMessage, DataMessage, FlushCommand, SquelchCommand}

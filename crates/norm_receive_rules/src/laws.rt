@@ -1,6 +1,6 @@
 //! What is promised of the receiver's rules. Each law is the contract of a function that does nothing.
 
-ghost use Rattle.norm_receive_rules.specs.Laws.{HandUpLaws, NeedsLaws};
+ghost use Rattle.norm_receive_rules.specs.Laws.{FrontLaws, HandUpLaws, HeardLaws, NeedsLaws, StepLaws};
 
 /// Hand-ups go on from the hand-up point: each joins those before it, and the point never goes back.
 #[tactic(auto, using(crate::proofs::HandUpLemmas::hand_up_laws))]
@@ -12,4 +12,22 @@ pub fn hand_ups()
 #[tactic(auto, using(crate::proofs::NeedLemmas::needs_laws))]
 pub fn needs()
     ensures { NeedsLaws }
+{}
+
+/// What was heard tells, kept merged, the same as the requests as they were heard.
+#[tactic(auto, using(crate::proofs::HeardLemmas::heard_laws))]
+pub fn heard()
+    ensures { HeardLaws }
+{}
+
+/// A receiver stays its node, and holds nothing while it is in no instance.
+#[tactic(auto, using(crate::proofs::StepLemmas::step_laws))]
+pub fn steps()
+    ensures { StepLaws }
+{}
+
+/// Where anything is needed, something of the object at the hand-up point is, where that is no stream.
+#[tactic(auto, using(crate::proofs::FrontLemmas::front_laws))]
+pub fn front()
+    ensures { FrontLaws }
 {}

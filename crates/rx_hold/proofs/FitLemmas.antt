@@ -75,16 +75,16 @@ or_true false b = refl
 
 module _ (f : Front) (h : HoldState) (s : Holding) (index : ℕ) (g : Fti) (flags : ℕ) (front : IsFront f) (is : front_view f ≡ h) (stands : Stands h s)
     (object : says_stream flags ≡ false) where
-  at_point : s.point.index ≡ h.point
+  at_point : s.point.index ≡ h.point.index
   at_point = ap (λ (at : Position). at.index) stands.point
 
-  pub fit_over : index < h.point → fit.Known ≡ fit_of h.p s index g flags
+  pub fit_over : index < h.point.index → fit.Known ≡ fit_of h.p s index g flags
   fit_over lt =
       sym (ap (λ b. word (b || is_known_plan s index g flags) (is_away h.p s index g flags) (is_unfit h.p s index g flags))
       (lt-ltb index s.point.index (let at = at_point in omega arith))
       ∙ word_known (is_away h.p s index g flags) (is_unfit h.p s index g flags))
 
-  not_over : h.point ≤ index → is_over s index ≡ false
+  not_over : h.point.index ≤ index → is_over s index ≡ false
   not_over le = le-ltb index s.point.index (let at = at_point in omega arith)
 
   room_here : room_taken h.p s ≡ octets_in h.objects
@@ -97,12 +97,12 @@ module _ (f : Front) (h : HoldState) (s : Holding) (index : ℕ) (g : Fti) (flag
   room_more : room_of h.p g flags ≡ g.l
   room_more = ap (λ b. elim b as (λ _. ℕ) [ true ↦ h.p.blocks * h.p.b * h.p.e | false ↦ g.l ]) object
 
-  module _ (le : h.point ≤ index) where
+  module _ (le : h.point.index ≤ index) where
     -- an object that has a plan
-    near_by : (o : ObjectState) → Some o ≡ at_place f.ring.items (index - f.point) → index < h.point + most_ahead
+    near_by : (o : ObjectState) → Some o ≡ at_place f.ring.items (index - f.point) → index < h.point.index + most_ahead
     near_by o e =
         let within = inside f.ring.items (index - f.point) e in
-        let at : f.point ≡ h.point = ap (λ (v : HoldState). v.point) is in
+        let at : f.point ≡ h.point.index = ap (λ (v : HoldState). v.point.index) is in
         omega (arith, within, front.places, at)
       where
         inside : (ring : List (Option ObjectState)) (i : ℕ) → Some o ≡ at_place ring i → i < length ring
@@ -135,34 +135,34 @@ module _ (f : Front) (h : HoldState) (s : Holding) (index : ℕ) (g : Fti) (flag
 
     -- an object that has none
     new_word : None ≡ at_place f.ring.items (index - f.point)
-        → fit_of h.p s index g flags ≡ word false (nat_le (h.point + most_ahead) index || nat_lt h.p.octets (octets_in h.objects + g.l))
+        → fit_of h.p s index g flags ≡ word false (nat_le (h.point.index + most_ahead) index || nat_lt h.p.octets (octets_in h.objects + g.l))
         (is_some (first_fault (cut_by g flags)) || false || not (g.e == h.p.e && g.b == h.p.b && g.max_n == h.p.max_n))
     new_word e =
         let found = read_none f h s index front is le stands e in
         ap (λ b. word (b || is_known_plan s index g flags) (is_away h.p s index g flags) (is_unfit h.p s index g flags)) (not_over le)
         ∙ ap (λ (x : Option Plan). word (elim x as (λ _. Bool) [ Some plan ↦ same_plan g flags plan | None ↦ false ]) (is_away h.p s index g flags) (is_unfit h.p s index g flags)) found
         ∙ ap (λ n. word false (nat_le (n + most_ahead) index || (is_none (plan_of s index) && nat_lt h.p.octets (room_taken h.p s + room_of h.p g flags))) (is_unfit h.p s index g flags)) at_point
-        ∙ ap (λ (x : Option Plan). word false (nat_le (h.point + most_ahead) index || (is_none x && nat_lt h.p.octets (room_taken h.p s + room_of h.p g flags))) (is_unfit h.p s index g flags)) found
-        ∙ ap (λ n. word false (nat_le (h.point + most_ahead) index || nat_lt h.p.octets (n + room_of h.p g flags)) (is_unfit h.p s index g flags)) room_here
-        ∙ ap (λ n. word false (nat_le (h.point + most_ahead) index || nat_lt h.p.octets (octets_in h.objects + n)) (is_unfit h.p s index g flags)) room_more
-        ∙ ap (λ (x : Option Plan). word false (nat_le (h.point + most_ahead) index || nat_lt h.p.octets (octets_in h.objects + g.l))
+        ∙ ap (λ (x : Option Plan). word false (nat_le (h.point.index + most_ahead) index || (is_none x && nat_lt h.p.octets (room_taken h.p s + room_of h.p g flags))) (is_unfit h.p s index g flags)) found
+        ∙ ap (λ n. word false (nat_le (h.point.index + most_ahead) index || nat_lt h.p.octets (n + room_of h.p g flags)) (is_unfit h.p s index g flags)) room_here
+        ∙ ap (λ n. word false (nat_le (h.point.index + most_ahead) index || nat_lt h.p.octets (octets_in h.objects + n)) (is_unfit h.p s index g flags)) room_more
+        ∙ ap (λ (x : Option Plan). word false (nat_le (h.point.index + most_ahead) index || nat_lt h.p.octets (octets_in h.objects + g.l))
         (is_some (first_fault (cut_by g flags)) || is_some x || not (g.e == h.p.e && g.b == h.p.b && g.max_n == h.p.max_n))) found
 
     module _ (none : None ≡ at_place f.ring.items (index - f.point)) where
-      pub fit_away : (nat_le (h.point + most_ahead) index || nat_lt h.p.octets (octets_in h.objects + g.l)) ≡ true → fit.Away ≡ fit_of h.p s index g flags
+      pub fit_away : (nat_le (h.point.index + most_ahead) index || nat_lt h.p.octets (octets_in h.objects + g.l)) ≡ true → fit.Away ≡ fit_of h.p s index g flags
       fit_away e =
           sym (new_word none
           ∙ ap (λ b. word false b (is_some (first_fault (cut_by g flags)) || false || not (g.e == h.p.e && g.b == h.p.b && g.max_n == h.p.max_n))) e
           ∙ word_away (is_some (first_fault (cut_by g flags)) || false || not (g.e == h.p.e && g.b == h.p.b && g.max_n == h.p.max_n)))
 
-      pub fit_unfit : (nat_le (h.point + most_ahead) index || nat_lt h.p.octets (octets_in h.objects + g.l)) ≡ false
+      pub fit_unfit : (nat_le (h.point.index + most_ahead) index || nat_lt h.p.octets (octets_in h.objects + g.l)) ≡ false
           → (is_some (first_fault (cut_by g flags)) || false || not (g.e == h.p.e && g.b == h.p.b && g.max_n == h.p.max_n)) ≡ true → fit.Unfit ≡ fit_of h.p s index g flags
       fit_unfit e d =
           sym (new_word none
           ∙ ap (λ b. word false b (is_some (first_fault (cut_by g flags)) || false || not (g.e == h.p.e && g.b == h.p.b && g.max_n == h.p.max_n))) e
           ∙ ap (word false false) d ∙ word_unfit)
 
-      pub fit_taken : (nat_le (h.point + most_ahead) index || nat_lt h.p.octets (octets_in h.objects + g.l)) ≡ false
+      pub fit_taken : (nat_le (h.point.index + most_ahead) index || nat_lt h.p.octets (octets_in h.objects + g.l)) ≡ false
           → (is_some (first_fault (cut_by g flags)) || false || not (g.e == h.p.e && g.b == h.p.b && g.max_n == h.p.max_n)) ≡ false → fit_of h.p s index g flags ≡ fit.Taken
       fit_taken e d =
           new_word none
@@ -186,8 +186,8 @@ sound_here false false e d = absurd (cc)
 
 -- ---- from the code's tests
 
-pub not_before : (f : Front) (h : HoldState) (index : ℕ) → front_view f ≡ h → f.point ≤ index → h.point ≤ index
-not_before f h index is le = let at : f.point ≡ h.point = ap (λ (v : HoldState). v.point) is in omega arith
+pub not_before : (f : Front) (h : HoldState) (index : ℕ) → front_view f ≡ h → f.point ≤ index → h.point.index ≤ index
+not_before f h index is le = let at : f.point ≡ h.point.index = ap (λ (v : HoldState). v.point.index) is in omega arith
 
 pub cut_is : (g : Fti) (flags : ℕ) → says_stream flags ≡ false → cut_by g flags ≡ cut_of g.l g.e g.b g.max_n
 cut_is g flags object = ap (λ b. elim b as (λ _. Cut) [ true ↦ stream_cut g.e g.b g.max_n | false ↦ cut_of g.l g.e g.b g.max_n ]) object

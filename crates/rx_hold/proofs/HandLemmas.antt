@@ -14,7 +14,7 @@ use Rattle.norm_receive_rules.specs.Holding.{Holding, Plan, Held}
 use Rattle.norm_receive_rules.specs.Plans.{cut_of_plan, says_stream, is_done, lacking, held_of, is_over, has_its_info}
 use Rattle.norm_receive_rules.specs.HandingUp.{is_whole, kind_of, told_info, object_octets, after_object, handed, hands_object, hands_next, hands_one, hands_most, handed_up}
 use Rattle.rx_hold.specs.ObjectState.{ObjectState, alone}
-use Rattle.rx_hold.specs.HoldState.{HoldState, Stands}
+use Rattle.rx_hold.specs.HoldState.{HoldState, Stands, is_passed}
 use Rattle.rx_hold.specs.HoldSound.{IsAt, Placed, at_place}
 use Rattle.rx_hold.specs.HoldMoves.{symbols_held, HandsFirst}
 use Rattle.rx_hold.proofs.PlaceLemmas.{placed_at}
@@ -157,7 +157,7 @@ leads_to_end p s n after leads e le =
 pub no_fewer : (h : HoldState) (s : Holding) → Stands h s → symbols_held h ≤ length s.held
 no_fewer h s stands =
     let same = ap (λ (xs : List Held). length xs) stands.held in
-    omega (arith, same, filter_fewer Held (λ x. not (is_over s x.at.index)) s.held)
+    omega (arith, same, filter_fewer Held (λ x. not (is_passed s x.at)) s.held)
 
 -- what a hold stands for after some hand-ups
 pub record HandsOn (first now : HoldState) (s : Holding) : Type 0 where

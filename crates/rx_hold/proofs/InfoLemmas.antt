@@ -30,7 +30,7 @@ by_over p s info over found = elim over as (λ _. Put) [
   | false ↦ elim found as (λ _. Put) [ Some plan ↦ put_info_by p s plan info | None ↦ put.Away ]
 ]
 
-module _ (f : Front) (h : HoldState) (s : Holding) (index : ℕ) (front : IsFront f) (is : front_view f ≡ h) (le : h.point ≤ index) (stands : Stands h s) where
+module _ (f : Front) (h : HoldState) (s : Holding) (index : ℕ) (front : IsFront f) (is : front_view f ≡ h) (le : h.point.index ≤ index) (stands : Stands h s) where
   open_still : is_over s index ≡ false
   open_still = le-ltb index s.point.index (let at = ap (λ (at : Position). at.index) stands.point in omega arith)
 
@@ -52,12 +52,12 @@ pub informs_there : (f : Front) (h : HoldState) (index : ℕ) → IsFront f → 
     → (f.point ≤ index) × (index - f.point < length f.ring.items) × MatchOption (at_place f.ring.items (index - f.point)) ⊥ (λ o. o.info ≡ None)
 informs_there f h index front is may = go (object_of h index) refl may
   where
-    go : (found : Option ObjectState) → object_of h index ≡ found → MatchOption found ⊥ (λ (o : ObjectState). (h.point ≤ index) × (o.info ≡ None))
+    go : (found : Option ObjectState) → object_of h index ≡ found → MatchOption found ⊥ (λ (o : ObjectState). (h.point.index ≤ index) × (o.info ≡ None))
         → (f.point ≤ index) × (index - f.point < length f.ring.items) × MatchOption (at_place f.ring.items (index - f.point)) ⊥ (λ o. o.info ≡ None)
     go None e never = absurd never
     go (Some o) e there =
         let found = sym (object_at_place f h index front is there.0) ∙ e in (
-          (let at : f.point ≡ h.point = ap (λ (v : HoldState). v.point) is in let le = there.0 in omega arith),
+          (let at : f.point ≡ h.point.index = ap (λ (v : HoldState). v.point.index) is in let le = there.0 in omega arith),
           inside f.ring.items (index - f.point) o found,
           subst (λ (x : Option ObjectState). MatchOption x ⊥ (λ o. o.info ≡ None)) (sym found) there.1,
         )
@@ -101,10 +101,10 @@ pub no_info : (i : Option (List ℕ)) → is_some i ≡ false → i ≡ None
 no_info None e = refl
 no_info (Some info) e = absurd (cc)
 
-pub may_inform : (f : Front) (h : HoldState) (index : ℕ) (o : ObjectState) → IsFront f → front_view f ≡ h → h.point ≤ index
+pub may_inform : (f : Front) (h : HoldState) (index : ℕ) (o : ObjectState) → IsFront f → front_view f ≡ h → h.point.index ≤ index
     → Some o ≡ at_place f.ring.items (index - f.point) → is_some o.info ≡ false → MayInform h index
 may_inform f h index o front is le e none =
-    subst (λ (x : Option ObjectState). MatchOption x ⊥ (λ (y : ObjectState). (h.point ≤ index) × (y.info ≡ None)))
+    subst (λ (x : Option ObjectState). MatchOption x ⊥ (λ (y : ObjectState). (h.point.index ≤ index) × (y.info ≡ None)))
     (sym (object_at_place f h index front is le ∙ sym e)) (le, no_info o.info none)
 
 pub bad_is : (f : Front) (h : HoldState) (info : List ℕ) (flags own : ℕ) (r : Bool) → front_view f ≡ h → flags ≡ own

@@ -22,6 +22,7 @@ pub mod HandLemmas
 pub mod FrontLemmas
 pub mod LoseLemmas
 pub mod ReadLemmas
+pub mod FirstLemmas
 pub mod FitLemmas
 pub mod TakeLemmas
 pub mod PutLemmas

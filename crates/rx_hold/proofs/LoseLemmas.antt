@@ -33,13 +33,13 @@ pub record LosesOn (index : ℕ) (first now : HoldState) (s : Holding) : Type 0 
   pub after : Holding
   pub count : ℕ
   pub leads : loses_before (index - s.point.index) first.p index s ≡ loses_rest count first.p index after
-  pub near : index ≤ now.point + count + 1
+  pub near : index ≤ now.point.index + count + 1
   pub stands : Stands now after
 
-point_of_hold : (h : HoldState) (s : Holding) → Stands h s → s.point.index ≡ h.point
+point_of_hold : (h : HoldState) (s : Holding) → Stands h s → s.point.index ≡ h.point.index
 point_of_hold h s stands = ap (λ (at : Position). at.index) stands.point
 
-pub loses_start : (index : ℕ) (first now : HoldState) (s : Holding) → Stands first s → Stands now (handed_up first.p s) → first.point ≤ now.point
+pub loses_start : (index : ℕ) (first now : HoldState) (s : Holding) → Stands first s → Stands now (handed_up first.p s) → first.point.index ≤ now.point.index
     → LosesOn index first now s
 loses_start index first now s stands after on =
     let here = point_of_hold first s stands in
@@ -52,9 +52,9 @@ loses_start index first now s stands after on =
       stands = after;
     }
 
-pub loses_more : (index : ℕ) (first middle lost now : HoldState) (s : Holding) → LosesOn index first middle s → middle.point < index
-    → ((t : Holding) → Stands middle t → Stands lost (loses_one t)) → lost.point ≡ middle.point + 1
-    → ((t : Holding) → Stands lost t → Stands now (handed_up first.p t)) → lost.point ≤ now.point → LosesOn index first now s
+pub loses_more : (index : ℕ) (first middle lost now : HoldState) (s : Holding) → LosesOn index first middle s → middle.point.index < index
+    → ((t : Holding) → Stands middle t → Stands lost (loses_one t)) → lost.point.index ≡ middle.point.index + 1
+    → ((t : Holding) → Stands lost t → Stands now (handed_up first.p t)) → lost.point.index ≤ now.point.index → LosesOn index first now s
 loses_more index first middle lost now s so_far before loses at hands on =
     let t : Holding = so_far.after in
     let gone = loses t so_far.stands in

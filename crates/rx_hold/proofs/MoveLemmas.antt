@@ -23,7 +23,7 @@ use Rattle.rx_hold.specs.HoldState.{Stands}
 use Rattle.rx_hold.specs.HoldSound.{Placed, at_place, those_there}
 use Rattle.rx_hold.proofs.RingLemmas.{filter_twice, filter_joins, alone_in, part_of, same_parts, with_part, without_first}
 use Rattle.rx_hold.proofs.PlaceLemmas.{placed_at, there_longer}
-use Rattle.rx_hold.proofs.StandsLemmas.{view_of, plans_in, held_in, held_key, own_plan, own_held, own_info, plans_joined}
+use Rattle.rx_hold.proofs.StandsLemmas.{held_over, view_of, plans_in, held_in, held_key, own_plan, own_held, own_info, plans_joined}
 
 -- ---- orders go by index
 
@@ -106,9 +106,10 @@ module _ (p : Settings) (m : ℕ) (ring : List (Option ObjectState)) (ups : List
         point = stands.point;
         plans = plans_kept i x o lt e refl;
         held =
-            filter_joins Held held_before (λ y. not (is_over s y.at.index)) new s.held (open_here s m index stands.point (omega arith))
+            sym (held_over s m stands.point (with_member held_before new s.held))
+            ∙ filter_joins Held held_before (λ y. not (is_over s y.at.index)) new s.held (open_here s m index stands.point (omega arith))
             (λ y out. let apart = held_by_index y new (over_less s m y.at.index index stands.point (omega arith) out) in (apart.1, apart.0))
-            ∙ ap (with_member held_before new) stands.held
+            ∙ ap (with_member held_before new) (held_over s m stands.point s.held ∙ stands.held)
             ∙ with_part Held p held_in held_key (own_held p) held_before held_by_index new m ring i o placed lt at
             (ap (λ n. with_member held_before (held_at n block symbol payload) x.held) here
             ∙ ap (λ (found : Option ObjectState). with_member held_before new (part_of Held held_in found)) (sym e));
@@ -180,8 +181,9 @@ stands_moved p m next first rest ups lost later s up indexes placed stands on no
           ∙ plans_joined (those_there rest)
           ∙ ap (λ (os : List ObjectState). map (λ (o : ObjectState). o.plan) os) (sym (there_longer rest));
       held =
-          sym (moved_on Held held_key s m stands.point s.held)
-          ∙ ap (filter (λ (x : Held). not (nat_lt x.at.index (s.point.index + 1)))) stands.held
+          sym (held_over (moved up indexes s) (s.point.index + 1) refl s.held)
+          ∙ sym (moved_on Held held_key s m stands.point s.held)
+          ∙ ap (filter (λ (x : Held). not (nat_lt x.at.index (s.point.index + 1)))) (held_over s m stands.point s.held ∙ stands.held)
           ∙ without_first Held p held_in held_key (own_held p) (λ x. not (nat_lt x.at.index (s.point.index + 1))) m first rest placed
           (λ x here. out s x.at.index (omega arith)) (λ x behind. kept s x.at.index (omega arith))
           ∙ ap (λ (os : List ObjectState). flat_map held_in os) (sym (there_longer rest));

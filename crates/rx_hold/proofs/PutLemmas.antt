@@ -134,7 +134,7 @@ by_over p s at payload over found = elim over as (λ _. Put) [
   | false ↦ elim found as (λ _. Put) [ Some plan ↦ put_by p s plan at payload | None ↦ put.Away ]
 ]
 
-module _ (f : Front) (h : HoldState) (s : Holding) (index : ℕ) (front : IsFront f) (is : front_view f ≡ h) (le : h.point ≤ index) (stands : Stands h s) where
+module _ (f : Front) (h : HoldState) (s : Holding) (index : ℕ) (front : IsFront f) (is : front_view f ≡ h) (le : h.point.index ≤ index) (stands : Stands h s) where
   open_still : is_over s index ≡ false
   open_still = le-ltb index s.point.index (let at = ap (λ (at : Position). at.index) stands.point in omega arith)
 

@@ -24,12 +24,12 @@ told_alone plan (Some info) held =
     ap (λ b. elim (cond {A = Option HeldInfo} b (Some (record { index = plan.index; info = info })) None) as (λ _. Option (List ℕ)) [ Some x ↦ Some x.info | None ↦ None ])
     (eq-eqb plan.index plan.index refl)
 
-module _ (f : Front) (h : HoldState) (s : Holding) (index : ℕ) (front : IsFront f) (is : front_view f ≡ h) (le : h.point ≤ index) (stands : Stands h s) where
+module _ (f : Front) (h : HoldState) (s : Holding) (index : ℕ) (front : IsFront f) (is : front_view f ≡ h) (le : h.point.index ≤ index) (stands : Stands h s) where
   here : Stands (front_view f) s
   here = subst (λ (v : HoldState). Stands v s) (sym is) stands
 
   pub reached : f.point + (index - f.point) ≡ index
-  reached = let at : f.point ≡ h.point = ap (λ (v : HoldState). v.point) is in omega arith
+  reached = let at : f.point ≡ h.point.index = ap (λ (v : HoldState). v.point.index) is in omega arith
 
   pub read_some : (o : ObjectState) → Some o ≡ at_place f.ring.items (index - f.point) → plan_of s index ≡ Some o.plan
   read_some o e =
@@ -111,11 +111,11 @@ looked_up p index m (suc i) (Some o ∷ ring) placed at =
     (ne_eqb o.plan.index index (λ e. let here = placed.0.index in omega arith))
     ∙ looked_up p index (suc m) i ring placed.1 (omega arith)
 
-pub object_at_place : (f : Front) (h : HoldState) (index : ℕ) → IsFront f → front_view f ≡ h → h.point ≤ index
+pub object_at_place : (f : Front) (h : HoldState) (index : ℕ) → IsFront f → front_view f ≡ h → h.point.index ≤ index
     → object_of h index ≡ at_place f.ring.items (index - f.point)
 object_at_place f h index front is le =
     ap (λ (v : HoldState). object_of v index) (sym is)
-    ∙ looked_up f.profile index f.point (index - f.point) f.ring.items front.placed (let at : f.point ≡ h.point = ap (λ (v : HoldState). v.point) is in omega arith)
+    ∙ looked_up f.profile index f.point (index - f.point) f.ring.items front.placed (let at : f.point ≡ h.point.index = ap (λ (v : HoldState). v.point.index) is in omega arith)
 
 pub short_word : (n : ℕ) → (n ≡ 0 → ⊥) → missing.Short n ≡ missing_by n
 short_word zero some = absurd (some refl)

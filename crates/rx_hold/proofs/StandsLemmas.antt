@@ -1,16 +1,17 @@
 -- What a hold knows of the states that it stands for: of each object the same as of that object alone.
 use Rattle.std.proofs.Common.{◌≡◌, ℕ, ◌+◌, ◌≤◌, Bool, true, false, cond, refl, sym, ap, ◌∙◌, arith, Option, Some, None, List, [], ◌∷◌, map}
-use Rattle.std.specs.Prelude.{filter, flat_map, find, slice_get, option_map, ◌==◌, ◌&&◌, not, nat_lt}
+use Rattle.std.specs.Prelude.{filter, flat_map, find, slice_get, option_map, ◌==◌, ◌&&◌, ◌||◌, not, nat_lt}
 use Rattle.std.specs.List.{AllByRecursion}
 use Rattle.std.proofs.lemmas.Bool.{le-ltb, eqb-true, eq-eqb}
 use Rattle.std.proofs.lemmas.List.Concat.{flat_map_single}
 use Rattle.norm_base.specs.Settings.{Settings}
+use Rattle.fec_plan.specs.Points.{position}
 use Rattle.fec_plan.specs.declared.position.Position.{Position}
 use Rattle.norm_order.specs.declared.up.Up.{Up}
 use Rattle.norm_receive_rules.specs.Holding.{Holding, Plan, Held, HeldInfo}
 use Rattle.norm_receive_rules.specs.Plans.{plan_of, is_over, held_of, info_of}
 use Rattle.rx_hold.specs.ObjectState.{ObjectState, infos_of, alone}
-use Rattle.rx_hold.specs.HoldState.{HoldState, Stands}
+use Rattle.rx_hold.specs.HoldState.{HoldState, Stands, is_passed}
 use Rattle.rx_hold.specs.HoldSound.{Placed, at_place, those_there}
 use Rattle.rx_hold.proofs.RingLemmas.{filter_twice, part_of, IsOwn, found_in}
 use Rattle.rx_hold.proofs.PlaceLemmas.{placed_at}
@@ -18,7 +19,7 @@ use Rattle.rx_hold.proofs.AlikeLemmas.{Alike}
 
 -- a hold by its parts
 abbrev pub view_of : Settings → ℕ → List (Option ObjectState) → List Up → Bool → HoldState
-view_of p m ring ups lost = record { p = p; point = m; objects = those_there ring; ups = ups; has_lost = lost }
+view_of p m ring ups lost = record { p = p; point = position m 0 0; objects = those_there ring; ups = ups; has_lost = lost }
 
 -- ---- the parts of an object
 
@@ -50,8 +51,28 @@ plans_joined os = flat_map_single (λ (o : ObjectState). o.plan) os
 
 -- ---- what is not over
 
-pub not_over : (s : Holding) (m : ℕ) (index : ℕ) → s.point ≡ Rattle.fec_plan.specs.Points.position m 0 0 → m ≤ index → is_over s index ≡ false
+pub not_over : (s : Holding) (m : ℕ) (index : ℕ) → s.point ≡ position m 0 0 → m ≤ index → is_over s index ≡ false
 not_over s m index at le = ap (λ (point : Position). nat_lt index point.index) at ∙ le-ltb index m le
+
+-- where a hand-up point begins its object, what lies before its block is of an object that is over
+passed_is : (s : Holding) (m : ℕ) (at : Position) → s.point ≡ position m 0 0 → is_passed s at ≡ is_over s at.index
+passed_is s m at is =
+    ap (λ b. nat_lt at.index s.point.index || (at.index == s.point.index && b))
+    (ap (λ (point : Position). nat_lt at.block point.block) is ∙ le-ltb at.block 0 (omega arith))
+    ∙ go (nat_lt at.index s.point.index) (at.index == s.point.index)
+  where
+    go : (a b : Bool) → (a || (b && false)) ≡ a
+    go true b = refl
+    go false true = refl
+    go false false = refl
+
+pub held_over : (s : Holding) (m : ℕ) → s.point ≡ position m 0 0 → (xs : List Held)
+    → filter (λ (x : Held). not (is_over s x.at.index)) xs ≡ filter (λ (x : Held). not (is_passed s x.at)) xs
+held_over s m at [] = refl
+held_over s m at (x ∷ xs) =
+    ap (λ b. cond (not b) (x ∷ filter (λ (y : Held). not (is_over s y.at.index)) xs) (filter (λ (y : Held). not (is_over s y.at.index)) xs))
+    (sym (passed_is s m x.at at))
+    ∙ ap (λ (ys : List Held). cond (not (is_passed s x.at)) (x ∷ ys) ys) (held_over s m at xs)
 
 -- the first that passes a test is the first that a filter keeps
 find_first : (X : Type 0) (q : X → Bool) (xs : List X) → find q xs ≡ slice_get (filter q xs) 0
@@ -96,7 +117,7 @@ module _ (p : Settings) (m : ℕ) (ring : List (Option ObjectState)) (ups : List
   held_found index i block at =
       let about = λ (h : Held) (yes : (h.at.index == index && h.at.block == block) ≡ true). eqb-true h.at.index index (both_left (h.at.index == index) (h.at.block == block) yes) in
       sym (open_test Held held_key (λ h. h.at.index == index && h.at.block == block) index (omega arith) about s.held)
-      ∙ ap (filter (λ (h : Held). h.at.index == index && h.at.block == block)) stands.held
+      ∙ ap (filter (λ (h : Held). h.at.index == index && h.at.block == block)) (held_over s m stands.point s.held ∙ stands.held)
       ∙ found_in Held p held_in held_key (own_held p) (λ h. h.at.index == index && h.at.block == block) index m i about ring placed at
 
   info_found : (index i : ℕ) → m + i ≡ index

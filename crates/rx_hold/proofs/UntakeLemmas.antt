@@ -120,14 +120,14 @@ pub record IsThere (f : Front) (index : ℕ) (o : ObjectState) : Type 0 where
 pub unused_there : (f : Front) (h : HoldState) (index : ℕ) → IsFront f → front_view f ≡ h → IsUnused h index → (o : ObjectState) × IsThere f index o
 unused_there f h index front is unused = go (object_of h index) refl unused
   where
-    go : (found : Option ObjectState) → object_of h index ≡ found → MatchOption found ⊥ (λ (o : ObjectState). (h.point ≤ index) × (o ≡ empty_object o.plan))
+    go : (found : Option ObjectState) → object_of h index ≡ found → MatchOption found ⊥ (λ (o : ObjectState). (h.point.index ≤ index) × (o ≡ empty_object o.plan))
         → (o : ObjectState) × IsThere f index o
     go None e never = absurd never
     go (Some o) e there =
         let found = sym (object_at_place f h index front is there.0) ∙ e in (
           o,
           record {
-            reached = (let at : f.point ≡ h.point = ap (λ (v : HoldState). v.point) is in let le = there.0 in omega arith);
+            reached = (let at : f.point ≡ h.point.index = ap (λ (v : HoldState). v.point.index) is in let le = there.0 in omega arith);
             within = inside f.ring.items (index - f.point) o found;
             found = found;
             empty = there.1;

@@ -4,6 +4,7 @@ use Rattle.std.specs.VecDeque.{deque_capacity}
 use Rattle.std.specs.List.{AllByRecursion}
 use Rattle.norm_base.specs.Settings.{Settings}
 use Rattle.fec_plan.specs.Partition.{Cut, IsSound}
+use Rattle.fec_plan.specs.Points.{position}
 use Rattle.norm_ext.specs.declared.fti.Fti.{Fti}
 use Rattle.norm_receive_rules.specs.Holding.{Held}
 use Rattle.norm_receive_rules.specs.Plans.{cut_of_plan, says_stream}
@@ -42,7 +43,7 @@ abbrev pub octets_in : List ObjectState → ℕ
 octets_in objects = sum_by (λ (o : ObjectState). o.plan.fti.l) objects
 
 abbrev pub front_view : Front → HoldState
-front_view f = record { p = f.profile; point = f.point; objects = those_there f.ring.items; ups = f.ups.items; has_lost = f.lost }
+front_view f = record { p = f.profile; point = position f.point 0 0; objects = those_there f.ring.items; ups = f.ups.items; has_lost = f.lost }
 
 -- there is room for the hand-up of each object, and for so many further ones
 abbrev pub HasRoom : ℕ → Front → Type 0
@@ -69,8 +70,8 @@ hold_view h = front_view h.front
 
 -- An object with this transmission information, cut so, may be taken up.
 pub record MayTake (h : HoldState) (index : ℕ) (f : Fti) (cut : Cut) : Type 0 where
-  pub reached : h.point ≤ index
-  pub near : index < h.point + most_ahead
+  pub reached : h.point.index ≤ index
+  pub near : index < h.point.index + most_ahead
   pub new : object_of h index ≡ None
   pub room : octets_in h.objects + f.l ≤ h.p.octets
   pub e : f.e ≡ h.p.e
@@ -83,4 +84,4 @@ are_same f g = f.e == g.e && f.b == g.b && f.max_n == g.max_n && f.l == g.l
 
 -- an object with this index is there, and its info is not
 abbrev pub MayInform : HoldState → ℕ → Type 0
-MayInform h index = MatchOption (object_of h index) ⊥ (λ (o : ObjectState). (h.point ≤ index) × (o.info ≡ None))
+MayInform h index = MatchOption (object_of h index) ⊥ (λ (o : ObjectState). (h.point.index ≤ index) × (o.info ≡ None))

@@ -2,6 +2,7 @@
 //! many octets, and beside it stands for each place the id of the symbol that lies there.
 
 ghost use Rattle.std.specs.Prelude.{ℕ, ◌≡◌, ◌==◌, ◌<◌, ◌≤◌, ◌+◌, ◌*◌, ◌≢◌, length, false, slice_index, IsTrue, EachIndex, MatchOption};
+ghost use Rattle.std.specs.Bool.{Decides};
 ghost use Rattle.gf_field.specs.Symbol.{AreIds, given};
 ghost use Rattle.rs_block.specs.Codeword.{AreSources};
 ghost use Rattle.norm_order.specs.Symbols.{padded};
@@ -70,7 +71,7 @@ fn keep(ids: &mut [u8], row: &mut [u8], size: usize, symbol: u8, payload: &[u8])
 
 /// Whether each place has its own source symbol.
 fn are_own(ids: &[u8]) -> bool
-    ensures { IsTrue result → EachIndex ids.now (λ i. slice_index ids.now i ≡ i) }
+    ensures { Decides result (EachIndex ids.now (λ i. slice_index ids.now i ≡ i)) }
 {
     for (i, id) in ids.iter().enumerate() {
         if usize::from(*id) != i {

@@ -1,8 +1,8 @@
 //! What a receiver holds of objects that it did not hand up yet.
 
-ghost use Rattle.std.specs.Prelude.{ℕ, List, ◌≡◌, ◌==◌, ◌&&◌, ◌||◌, nat_le, nat_lt, if◌then◌else◌, ◌+◌, ◌<◌, ◌≤◌, ◌^◌, not, length, IfOk, IfErr, OnErr, MatchOption, MatchResult, Option, None, Some, is_ok, is_some, false, true, ⊤};
+ghost use Rattle.std.specs.Prelude.{ℕ, List, [], ◌≡◌, ◌==◌, ◌&&◌, ◌||◌, nat_le, nat_lt, if◌then◌else◌, ◌+◌, ◌<◌, ◌≤◌, ◌^◌, not, length, IfOk, IfErr, IfNone, IfSome, OnErr, MatchOption, MatchResult, Option, None, Some, is_ok, is_some, false, true, ⊤};
 ghost use Rattle.fec_plan.specs.Partition.{blocks};
-ghost use Rattle.fec_plan.specs.Points.{point as point_at, position};
+ghost use Rattle.fec_plan.specs.Points.{point as point_at, point_of, point_before, position};
 ghost use Rattle.norm_receive_rules.specs.Holding.{Holding, holding_nothing};
 ghost use Rattle.norm_receive_rules.specs.Plans.{cut_of_plan, cut_by, says_info, says_stream, plan_of, holds, info_of};
 ghost use Rattle.norm_receive_rules.specs.Acknowledging.{lost_nothing};
@@ -14,7 +14,7 @@ ghost use Rattle.norm_receive_rules.specs.Taking.{up_taken};
 ghost use Rattle.norm_receive_rules.specs.declared.words.Fit.TheVariants as fit_word;
 ghost use Rattle.norm_receive_rules.specs.declared.words.Put.TheVariants as put_word;
 ghost use Rattle.norm_ext.specs.declared.fti.Fti.{Fti as FtiValue};
-ghost use Rattle.rx_hold.specs.HoldState.{Stands, empty_hold, IsUnused, plan_in, plan_at, flags_at, missing_at, first_short_at};
+ghost use Rattle.rx_hold.specs.HoldState.{Stands, empty_hold, IsUnused, IsFirstShort, plan_in, plan_at, flags_in, flags_at, missing_at, first_short_at};
 ghost use Rattle.rx_hold.specs.HoldSound.{are_same, octets_in, MayTake, MayInform};
 
 use crate::front::{Front, PLACES, fill, object_at, octets_of, offer_at, put_info_at, take_at};
@@ -105,6 +105,19 @@ impl Hold {
         })
     }
 
+    /// A hold of this profile of which nothing is held, for an instance that begins: it takes the place of this one once
+    /// nothing can fail any more.
+    ///
+    /// # Errors
+    ///
+    /// `Memory` where memory runs out.
+    pub fn anew(&self) -> Result<Hold, Memory>
+        ensures empty { IfOk result (λ hold. hold ≡ empty_hold self.now.p) }
+        ensures begun { IfOk result (λ hold. Stands hold holding_nothing) }
+    {
+        Hold::new(self.alloc, &self.front.profile)
+    }
+
     /// All is forgotten, as the receiver enters another instance. It takes no memory.
     pub fn clear(&mut self)
         ensures empty { self.new ≡ empty_hold self.old.p }
@@ -120,7 +133,7 @@ impl Hold {
 
     /// The next source symbol that is to be handed up.
     pub fn hand_up(&self) -> Position
-        ensures exact { result ≡ position self.now.point 0 0 }
+        ensures exact { result ≡ self.now.point }
         ensures state { (s : Holding) → Stands self.now s → result ≡ s.point }
     {
         Position {
@@ -132,7 +145,7 @@ impl Hold {
 
     /// How an object is cut. `None` exactly where it has no plan.
     pub fn plan(&self, index: u32) -> Option<Plan>
-        requires { self.now.point ≤ index }
+        requires { self.now.point.index ≤ index }
         ensures exact { result ≡ plan_in self.now index }
         ensures state { (s : Holding) → Stands self.now s → result ≡ plan_at s index }
     {
@@ -144,8 +157,9 @@ impl Hold {
 
     /// The flags of an object. `None` exactly where it has no plan.
     pub fn flags(&self, index: u32) -> Option<u8>
-        requires { self.now.point ≤ index }
-        ensures { (s : Holding) → Stands self.now s → result ≡ flags_at s index }
+        requires { self.now.point.index ≤ index }
+        ensures exact { result ≡ flags_in self.now index }
+        ensures state { (s : Holding) → Stands self.now s → result ≡ flags_at s index }
     {
         match object_at(&self.front.ring, self.front.point, index) {
             Some(object) => Some(object.flags()),
@@ -155,7 +169,7 @@ impl Hold {
 
     /// Whether the info of an object is held.
     pub fn has_info(&self, index: u32) -> bool
-        requires { self.now.point ≤ index }
+        requires { self.now.point.index ≤ index }
         ensures { (s : Holding) → Stands self.now s → result ≡ is_some (info_of s index) }
     {
         match object_at(&self.front.ring, self.front.point, index) {
@@ -166,7 +180,7 @@ impl Hold {
 
     /// Whether a symbol is held.
     pub fn holds(&self, at: Position) -> bool
-        requires { self.now.point ≤ at.index }
+        requires { point_before (point_of at) (point_of self.now.point) ≡ false }
         ensures { (s : Holding) → Stands self.now s → result ≡ holds s at }
     {
         match object_at(&self.front.ring, self.front.point, at.index) {
@@ -177,7 +191,7 @@ impl Hold {
 
     /// What is lacking of a block.
     pub fn missing(&self, index: u32, block: u32) -> Missing
-        requires reached { self.now.point ≤ index }
+        requires reached { self.now.point.index ≤ index }
         requires block { MatchOption (plan_in self.now index) ⊤ (λ cut. block < blocks cut) }
         ensures { (s : Holding) → Stands self.now s → result ≡ missing_at s index block }
     {
@@ -194,8 +208,9 @@ impl Hold {
     /// The first block of an object that lacks symbols. `None` where it has no plan, or all its blocks are done. It takes
     /// constant time.
     pub fn first_short(&self, index: u32) -> Option<u32>
-        requires { self.now.point ≤ index }
-        ensures { (s : Holding) → Stands self.now s → result ≡ first_short_at s index }
+        requires { self.now.point.index ≤ index }
+        ensures exact { (s : Holding) → Stands self.now s → result ≡ first_short_at s index }
+        ensures first { (s : Holding) → Stands self.now s → IfSome (plan_of s index) (λ plan. IsFirstShort s plan result) }
     {
         match object_at(&self.front.ring, self.front.point, index) {
             Some(object) => object.first_short(),
@@ -210,9 +225,17 @@ impl Hold {
         self.front.lost
     }
 
-    /// Takes the next hand-up, where one is left.
+    /// How many hand-ups were not taken yet.
+    pub fn ups(&self) -> usize
+        ensures { result ≡ length self.now.ups }
+    {
+        self.front.ups.len()
+    }
+
+    /// Takes the next hand-up, where one is left. `None` where all were taken; then nothing changes.
     pub fn next_up(&mut self) -> Option<Up>
         ensures profile { self.new.p ≡ self.old.p }
+        ensures none { IfNone result ((self.old.ups ≡ []) × (self.new ≡ self.old)) }
         ensures state { (s : Holding) → Stands self.old s → (result ≡ (up_taken s).1) × Stands self.new (up_taken s).0 }
     {
         self.front.ups.pop_front()
@@ -227,6 +250,7 @@ impl Hold {
         ensures other { IfErr result (λ word. word ≡ fit_word.Taken → ⊥) }
         ensures plan { IfOk result (λ plan. plan ≡ cut_by fti.now flags) }
         ensures may { IfOk result (λ plan. MayTake self.now index fti.now plan) }
+        ensures fresh { IfOk result (λ _. (s : Holding) → Stands self.now s → plan_of s index ≡ None) }
     {
         if index < self.front.point {
             return Err(Fit::Known);
@@ -248,9 +272,9 @@ impl Hold {
 
     /// Whether an object that is not over is too far ahead, or there is no room for so many octets.
     fn is_away(&self, index: u32, l: u64) -> bool
-        requires reached { self.now.point ≤ index }
+        requires reached { self.now.point.index ≤ index }
         requires length { l < 2 ^ 48 }
-        ensures { result ≡ (nat_le (self.now.point + most_ahead) index || nat_lt self.now.p.octets (octets_in self.now.objects + l)) }
+        ensures { result ≡ (nat_le (self.now.point.index + most_ahead) index || nat_lt self.now.p.octets (octets_in self.now.objects + l)) }
     {
         (index - self.front.point) as usize >= PLACES
             || self.front.taken + l > u64::from(self.front.profile.octets)
@@ -293,6 +317,7 @@ impl Hold {
         ensures state { IfOk result (λ word. (s : Holding) → Stands self.old s
             → (word ≡ fit_of self.old.p s index fti.now flags) × Stands self.new (fitted word index fti.now flags s)) }
         ensures unused { IfOk result (λ word. word ≡ fit_word.Taken → IsUnused self.new index) }
+        ensures fresh { IfOk result (λ word. word ≡ fit_word.Taken → (s : Holding) → Stands self.old s → plan_of s index ≡ None) }
         ensures refused { OnErr result (self.new ≡ self.old) }
     {
         match self.plan_for(index, fti, flags) {

@@ -1,7 +1,8 @@
 -- Whether an object of the window may go, and why one more is refused.
-use Rattle.std.proofs.Common.{◌≡◌, ℕ, suc, ◌+◌, Bool, true, false, refl, sym, ap, ◌∙◌, Option, Some, None, List, [], ◌∷◌, map, drop}
-use Rattle.std.specs.Prelude.{slice_get, nat_lt, not, ◌&&◌, ◌||◌, is_none, is_some, option_map}
+use Rattle.std.proofs.Common.{◌≡◌, ℕ, suc, ◌+◌, ◌<◌, ◌≤◌, ◌⊎◌, inl, inr, ◌++◌, length, arith, Bool, true, false, refl, sym, ap, ◌∙◌, Option, Some, None, List, [], ◌∷◌, map, drop}
+use Rattle.std.specs.Prelude.{slice_get, nat_lt, not, ◌&&◌, ◌||◌, is_none, is_some, option_map, option_to_list}
 use Rattle.std.specs.List.{list_all}
+use Rattle.std.proofs.lemmas.List.{append-nil}
 use Rattle.std.proofs.lemmas.List.Folds.{list_all-map}
 use Rattle.std.proofs.lemmas.Option.{slice_get-map}
 use Rattle.norm_base.specs.Settings.{Settings}
@@ -17,7 +18,7 @@ use Rattle.norm_send_rules.specs.Room.{window, size_of, may_go, all_sent, is_rel
 use Rattle.tx_window.specs.Held.{HeldObject, octets_of}
 use Rattle.tx_window.proofs.RoomLemmas.{AreSizes}
 use Rattle.tx_window.specs.WindowState.{WindowState, WindowObject, Stands}
-use Rattle.tx_window.specs.WindowSound.{IsPlaced, window_object, object_in}
+use Rattle.tx_window.specs.WindowSound.{IsPlaced, window_object, object_in, filling_in, all_octets}
 
 -- the entry at a place of the window is the object there
 pub entry_is : (w : WindowState) (s : SenderState) (n : ℕ) (entry : Entry) (o : WindowObject) → Stands w s → slice_get (window s) n ≡ Some entry
@@ -64,17 +65,15 @@ may_is w s ring n entry h last stands found there placed last-is =
     (ap (λ (k : Cut). last_in (w.drop.index + n) (record { cut = k; closed = all_symbols k; info = is_some h.info })) (sym placed.holds.cut) ∙ last-is (is_some h.info))
     ∙ ap (λ b. (list_all (λ x. x) h.sent && (is_none h.info || h.info_sent)) && b) (released w s last stands)
 
-pub both_sent : (a b c : Bool) → (b && a) ≡ true → ((a && b) && c) ≡ c
-both_sent true true c e = refl
-both_sent true false c e = absurd (cc)
-both_sent false true c e = absurd (cc)
-both_sent false false c e = absurd (cc)
+pub not_released : (sent asked : Bool) → asked ≡ false → (sent && asked) ≡ false
+not_released true asked e = e
+not_released false asked e = refl
 
-pub not_sent : (a b c : Bool) → (b && a) ≡ false → ((a && b) && c) ≡ false
-not_sent true true c e = absurd (cc)
-not_sent true false c e = refl
-not_sent false true c e = refl
-not_sent false false c e = refl
+pub was_released : (sent info asked : Bool) → asked ≡ true → ((sent && info) && asked) ≡ (info && sent)
+was_released true true asked e = e
+was_released true false asked e = refl
+was_released false true asked e = refl
+was_released false false asked e = refl
 
 -- ---- the sizes of the window's entries
 
@@ -105,3 +104,15 @@ sizes_held w s ring hs are placed stands =
     thrice : (os : List WindowObject) → map (λ (x : WindowObject). size_of w.p x.object) os ≡ map (size_of w.p) (map (λ (x : WindowObject). x.object) os)
     thrice [] = refl
     thrice (o ∷ os) = ap (λ ns. size_of w.p o.object ∷ ns) (thrice os)
+
+-- where nothing is being filled the octets are those of what is held
+pub octets_held : (ring : List ℕ) (filled : ℕ) (items : List HeldObject) (b : Option HeldObject) (octets : ℕ) → octets ≡ all_octets (items ++ option_to_list b)
+    → option_map (filling_in ring filled) b ≡ None → octets ≡ all_octets items
+octets_held ring filled items None octets is e = is ∙ ap all_octets (append-nil items)
+octets_held ring filled items (Some h) octets is e = absurd (cc)
+
+-- there is no room beside what is held
+pub full_by : (p : Settings) (len octets count : ℕ) (q : Settings) (items : List HeldObject) → q ≡ p → octets ≡ all_octets items → count ≡ length items
+    → (q.window ≤ count) ⊎ (q.octets < octets + len) → (p.window ≤ length items) ⊎ (p.octets < all_octets items + len)
+full_by p len octets count q items same octets-is count-is (inl many) = inl (omega (arith, many, count-is, ap (λ (s : Settings). s.window) same))
+full_by p len octets count q items same octets-is count-is (inr much) = inr (omega (arith, much, octets-is, ap (λ (s : Settings). s.octets) same))

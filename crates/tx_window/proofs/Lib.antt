@@ -8,6 +8,7 @@ pub mod SourceLemmas
 pub mod JoiningLemmas
 pub mod BeginningLemmas
 pub mod FillingLemmas
+pub mod UnsentLemmas
 pub mod HeldLemmas
 pub mod WindowLemmas
 pub mod NotingLemmas

@@ -134,3 +134,20 @@ window_long w s stands =
     ∙ sym (length-map (drop w.drop.index s.current.order) (λ (entry : Entry). entry.object))
     ∙ ap length stands.objects
     ∙ length-map w.objects (λ (o : WindowObject). o.object)
+
+-- where the first object may not go and there is no room, none can be made
+pub front_stays : (w : WindowState) (s : SenderState) (len : ℕ) (hs : List HeldObject) → Stands w s → 0 < length w.objects
+    → ((t : SenderState) (entry : Entry) → Stands w t → slice_get (window t) 0 ≡ Some entry → may_go w.p t (w.drop.index + 0) (shape_of w.p entry.object) ≡ false)
+    → AreSizes w.p (window s) hs → (w.p.window ≤ length hs) ⊎ (w.p.octets < all_octets hs + len)
+    → may_all_go w.p s s.current.drop.index (take (has_to_go w.p len (window s)) (window s)) ≡ false
+unfolding may_all_go
+front_stays w s len hs stands some stays are full = go (window s) refl
+  where
+    go : (es : List Entry) → window s ≡ es → may_all_go w.p s s.current.drop.index (take (has_to_go w.p len (window s)) (window s)) ≡ false
+    go [] is = absurd (omega (arith, some, window_long w s stands, ap length is))
+    go (entry ∷ entries) is =
+        ap (λ (xs : List Entry). may_all_go w.p s s.current.drop.index (take (has_to_go w.p len xs) xs)) is
+        ∙ ap (λ n. may_all_go w.p s s.current.drop.index (take n (entry ∷ entries))) (goes w.p len entry entries hs (subst (λ (xs : List Entry). AreSizes w.p xs hs) is are) full)
+        ∙ ap (λ b. b && may_all_go w.p s (suc s.current.drop.index) (take (has_to_go w.p len entries) entries))
+        (ap (λ i. may_go w.p s i (shape_of w.p entry.object)) (let e : s.current.drop.index ≡ w.drop.index + 0 = omega (arith, ap (λ (d : Point). d.index) stands.dropped) in e)
+        ∙ stays s entry stands (ap (λ (xs : List Entry). slice_get xs 0) is))

@@ -1,5 +1,6 @@
 pub mod Round
 pub mod Held
+pub mod HeldSound
 pub mod WindowState
 pub mod WindowMoves
 pub mod WindowSound

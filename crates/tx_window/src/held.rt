@@ -1,6 +1,6 @@
 //! An object of the window: what it is, where it lies in the ring, and what of it was sent.
 
-ghost use Rattle.std.specs.Prelude.{ℕ, ◌≡◌, ◌+◌, ◌<◌, ◌≤◌, List, Option, Bool, true, ◌||◌, ◌&&◌, is_none, option_copied, IfOk, IsSome, Some, ◌*◌, length, MatchOption, ⊤, is_some};
+ghost use Rattle.std.specs.Prelude.{ℕ, ◌≡◌, ◌+◌, ◌<◌, ◌≤◌, List, Option, Bool, true, ◌||◌, ◌&&◌, is_none, option_copied, IfOk, IsSome, Some, ◌*◌, length, MatchOption, ⊤, is_some, replicate, false};
 ghost use Rattle.std.specs.List.{list_all};
 ghost use Rattle.norm_base.specs.Sizes.{datagram_room};
 ghost use Rattle.norm_base.specs.Settings.{Settings};
@@ -35,15 +35,20 @@ pub struct Held {
     start: usize,
     /// For each source symbol, whether it was sent.
     sent: Vec<bool>,
+    /// How many source symbols were not sent.
+    unsent: usize,
+    /// The block and the id of the last source symbol.
+    last_block: u32,
+    last_symbol: u8,
     info_sent: bool,
 }
 
 impl Model for Held {
-    ghost use Rattle.std.specs.Prelude.{◌≡◌, vec_len, Some};
-    ghost use Rattle.fec_plan.specs.Partition.{all_symbols};
     ghost use Rattle.tx_window.specs.Held.{HeldObject};
 
     ghost Value = { HeldObject };
+
+    ghost use Rattle.tx_window.specs.HeldSound.{HeldSound};
 
     ghost view = { λ h. record {
       cut = h.plan;
@@ -54,7 +59,7 @@ impl Model for Held {
       info_sent = h.info_sent;
     } };
 
-    ghost invariant = { λ h. (h.codes ≡ h.plan) × (vec_len h.sent ≡ all_symbols h.plan) × (h.plan.l ≡ Some h.len) };
+    ghost invariant = { HeldSound };
 }
 
 /// The plan of an object of so many octets.
@@ -64,6 +69,14 @@ pub(crate) fn plan_of(profile: &Profile, len: u32) -> Plan
     ensures { result ≡ cut_of len profile.now.e profile.now.b profile.now.max_n }
 {
     Plan::of(u64::from(len), profile.e, profile.b, profile.max_n).unwrap()
+}
+
+/// So many marks of what was not sent.
+fn unsent_marks(alloc: Global, count: usize) -> Result<Vec<bool>, Memory>
+    ensures { IfOk result (λ marks. marks.items ≡ replicate count false) }
+{
+    let marks = vec![in alloc; false; count]?;
+    Ok(marks)
 }
 
 impl Held {
@@ -84,7 +97,9 @@ impl Held {
         let plan = plan_of(profile, len);
         let codes = Codes::of(alloc, &plan)?;
         let symbols = len.div_ceil(u32::from(profile.e));
-        let sent = vec![in alloc; false; symbols as usize]?;
+        let sent = unsent_marks(alloc, symbols as usize)?;
+        let last_block = plan.blocks() - 1;
+        let last_symbol = plan.source_len(last_block) - 1;
         Ok(Held {
             plan,
             codes,
@@ -93,6 +108,9 @@ impl Held {
             len,
             start,
             sent,
+            unsent: symbols as usize,
+            last_block,
+            last_symbol,
             info_sent: false,
         })
     }
@@ -174,11 +192,10 @@ impl Held {
         requires { IsSome self.now.cut.l }
         ensures { (info : Bool) → last_in index (record { cut = self.now.cut; closed = all_symbols self.now.cut; info = info }) ≡ Some result }
     {
-        let block = self.plan.blocks() - 1;
         Position {
             index,
-            block,
-            symbol: self.plan.source_len(block) - 1,
+            block: self.last_block,
+            symbol: self.last_symbol,
         }
     }
 
@@ -219,7 +236,11 @@ impl Held {
             return;
         }
         let number = self.plan.symbol_number(block, symbol) as usize;
+        if self.sent[number] {
+            return;
+        }
         self.sent[number] = true;
+        self.unsent -= 1;
     }
 
     /// Marks the info as sent.
@@ -240,7 +261,7 @@ impl Held {
     fn are_symbols_sent(&self) -> bool
         ensures { result ≡ list_all (λ b. b) self.now.sent }
     {
-        self.sent.iter().all(|sent| *sent)
+        self.unsent == 0
     }
 
     /// Whether all source symbols were sent, and the info where there is one.

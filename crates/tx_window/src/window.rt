@@ -1,6 +1,7 @@
 //! The objects that a sender may still repair, in the order of their indexes.
 
-ghost use Rattle.std.specs.Prelude.{ℕ, ⊤, true, Bool, find, option_map, ◌^◌, ◌≡◌, ◌+◌, ◌-◌, ◌<◌, ◌≤◌, ◌++◌, List, [], Option, IfOk, IsErr, MatchOption, MatchResult, None, Some, length, map, take, drop, option_copied, slice_get, nat_lt, ◌⊎◌, ◌∷◌};
+ghost use Rattle.std.specs.Prelude.{ℕ, ⊤, true, Bool, false, find, option_map, ◌^◌, ◌≡◌, ◌+◌, ◌-◌, ◌<◌, ◌≤◌, ◌++◌, List, [], Option, IfOk, IsErr, MatchOption, MatchResult, None, Some, length, map, take, drop, option_copied, slice_get, nat_lt, ◌⊎◌, ◌∷◌};
+ghost use Rattle.std.specs.Bool.{MatchBool};
 ghost use Rattle.std.specs.VecDeque.{deque_capacity};
 ghost use Rattle.norm_base.specs.Sizes.{datagram_room, symbol_room};
 ghost use Rattle.norm_base.specs.declared.node.Origin.{Origin};
@@ -144,6 +145,18 @@ fn room_for(profile: &Profile, held: &VecDeque<Held>, octets: u32, len: u32) -> 
         left -= held[place].len();
     }
     (held.len(), left)
+}
+
+/// Whether there is room for one more of so many octets, beside so many objects with so many octets.
+fn has_room(profile: &Profile, objects: usize, octets: u32, len: u32) -> bool
+    requires most { octets ≤ profile.now.octets }
+    requires len { len ≤ profile.now.octets }
+    ensures { MatchBool result ((objects < profile.now.window) × (octets + len ≤ profile.now.octets)) ((profile.now.window ≤ objects) ⊎ (profile.now.octets < octets + len)) }
+{
+    if objects >= usize::from(profile.window) {
+        return false;
+    }
+    octets + len <= profile.octets
 }
 
 /// Makes room for one more, and says whether there was memory for it.
@@ -389,7 +402,10 @@ impl Window {
     {
         let held = &self.held[place];
         let last = held.last(self.dropped + place as u32);
-        held.is_sent() && is_released(&self.profile, &self.past, last)
+        if !is_released(&self.profile, &self.past, last) {
+            return false;
+        }
+        held.is_sent()
     }
 
     /// Whether the first objects may all go.
@@ -406,12 +422,29 @@ impl Window {
         true
     }
 
+    /// Whether there is a first object, and it may not go.
+    fn is_held_up(&self) -> bool
+        ensures { result ≡ true → (0 < length self.now.objects) × ((s : SenderState) (entry : Entry) → Stands self.now s → slice_get (window s) 0 ≡ Some entry
+            → may_go self.now.p s (self.now.drop.index + 0) (shape_of self.now.p entry.object) ≡ false) }
+    {
+        if self.held.is_empty() {
+            return false;
+        }
+        !self.may_go(0)
+    }
+
     /// Whether there is room for one of so many octets, or what has to go for it may go.
     fn can_make_room(&self, len: u32) -> bool
         requires begun { self.now.filling ≡ None }
         requires len { len ≤ self.now.p.octets }
         ensures { (s : SenderState) → Stands self.now s → result ≡ can_make_room self.now.p s len }
     {
+        if has_room(&self.profile, self.held.len(), self.octets, len) {
+            return true;
+        }
+        if self.is_held_up() {
+            return false;
+        }
         let (count, _) = room_for(&self.profile, &self.held, self.octets, len);
         self.may_all_go(count)
     }

@@ -9,13 +9,13 @@ use Rattle.norm_receive_rules.specs.declared.words.Fit.{Fit}
 use Rattle.norm_receive_rules.specs.declared.words.Fit.TheVariants as fit
 use Rattle.rx_hold.specs.HoldState.{HoldState}
 use Rattle.rx_hold.specs.HoldSound.{are_same}
-use Rattle.rx_hold.proofs.ReadLemmas.{object_at_place}
+use Rattle.rx_hold.proofs.ReadLemmas.{read_none, object_at_place}
 use Rattle.rx_hold.proofs.FitLemmas.{fit_over, fit_known, fit_other, fit_away, fit_unfit, fit_taken, not_before, fault_is, profile_is, of_profile, not_away, faulty, not_profiles, sound_here}
 use Rattle.rx_hold.proofs.hold.Hold.plan_for.Goals as goal
 
 pub returns-then-index-self-clause-word : goal.returns-then-index-self-clause-word
 returns-then-index-self-clause-word c = λ s stands.
-    let before : c.args.index < c.args.self.now.point = (let at : c.self.inside.front.point ≡ c.args.self.now.point = ap (λ (v : HoldState). v.point) c.self.view_is in omega (arith, c.if-index-self.true)) in
+    let before : c.args.index < c.args.self.now.point.index = (let at : c.self.inside.front.point ≡ c.args.self.now.point.index = ap (λ (v : HoldState). v.point.index) c.self.view_is in omega (arith, c.if-index-self.true)) in
     (fit_over c.self.inside.front c.args.self.now s c.args.index c.args.fti.now c.args.flags c.self.invariant.front c.self.view_is stands c.requires.object before, refl)
 
 pub returns-in-Some-clause-word : goal.returns-in-Some-clause-word
@@ -96,3 +96,10 @@ returns-clause-may c =
       b = own.1;
       sound = c.e.ensures.sound;
     }
+
+pub returns-clause-fresh : goal.returns-clause-fresh
+returns-clause-fresh c = λ s stands.
+    let f = c.self.inside.front in
+    let h : HoldState = c.args.self.now in
+    read_none f h s c.args.index c.self.invariant.front c.self.view_is (not_before f h c.args.index c.self.view_is c.if-index-self.false) stands
+    c.in_default.ensures
