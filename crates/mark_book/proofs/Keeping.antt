@@ -1,69 +1,114 @@
--- What holds of each book goes on to hold.
-use Rattle.std.proofs.Common.{◌≡◌, ℕ, ◌+◌, ◌<◌, ◌≤◌, List, [], ◌∷◌, ◌++◌, length, map, take, drop, Bool, true, false, refl, sym, ap, subst, ◌∙◌, ◌-◌, ◌^◌, cond, zero, suc, arith}
-use Rattle.std.specs.Prelude.{not, find, is_some, nat_eq, vec_capacity, Result, is_ok, if◌then◌else◌, Option, Some, Vec, vec_len}
+-- What holds of the watermarks of a book goes on to hold.
+use Rattle.std.proofs.Common.{◌≡◌, ℕ, ◌+◌, ◌<◌, ◌≤◌, List, [], ◌∷◌, ◌++◌, length, map, take, drop, get_or, Bool, true, false, refl, sym, ap, subst, ◌∙◌, ◌-◌, cond, zero, suc, arith}
+use Rattle.std.specs.Prelude.{◌&&◌, not, find, is_some, is_none, Result, is_ok, if◌then◌else◌, Option, None, Some, Vec, vec_len}
 use Rattle.std.specs.Vec.{with_items}
 use borrow.Rule.Slice.PartMut.{mid_of, post_of, Post-is}
-use Rattle.std.specs.List.{list_all}
-use Rattle.std.specs.Set.{is_member}
+use Rattle.std.specs.List.{list_all, prefix_len}
 use Rattle.std.proofs.lemmas.Bool.{and_from, and_parts, not-true}
-use Rattle.std.proofs.lemmas.List.{length-map, take-map, drop_all, take_rest, take-append-le, append-nil, with_items_is}
-use Rattle.std.proofs.lemmas.List.Folds.{list_all-append}
-use Rattle.std.proofs.Math.Seq.{take-add}
-use Rattle.norm_order.specs.Sets.{Rises}
-use Rattle.norm_send_rules.specs.SenderState.{Listing}
-use Rattle.mark_book.specs.Booked.{Kept}
-use Rattle.mark_book.specs.Ending.{ended_where, is_finished, told_first}
-use Rattle.mark_book.specs.Sound.{IsSound, nodes_of, AreNumbered}
-use Rattle.mark_book.specs.declared.book.Book.TheInside.{Inside}
-use Rattle.mark_book.proofs.Lists.{finished_stays, front_stays}
+use Rattle.std.proofs.lemmas.List.{length-map, at_drop_more, drop_all, take_rest, append-nil, with_items_is}
+use Rattle.fec_plan.specs.declared.position.Position.{Position}
+use Rattle.norm_send_rules.specs.declared.news.Outcome.{Outcome}
+use Rattle.mark_book.specs.BookState.{Kept}
+use Rattle.mark_book.specs.BookMoves.{ended_where, is_finished, opened, told_first}
+use Rattle.mark_book.specs.BookSound.{AreKept, AreNumbered}
+use Rattle.mark_book.specs.declared.watermarks.Watermarks.TheInside.{Inside}
 use Rattle.mark_book.proofs.Marks.{numbered_after}
 use Rattle.mark_book.proofs.Tellings.{told_length}
-use Rattle.norm_send_rules.specs.declared.news.Outcome.{Outcome}
 
--- requests that end leave a finished front as it is
-pub front_after : (test : Kept → Bool) (outcome : Kept → Outcome) (from : ℕ) (ks : List Kept) → list_all is_finished (take from ks) ≡ true
-    → list_all is_finished (take from (map (ended_where test outcome) ks)) ≡ true
-front_after test outcome from ks finished =
-    ap (list_all is_finished) (take-map (ended_where test outcome) from ks ∙ front_stays (ended_where test outcome) (finished_stays test outcome) (take from ks) finished)
-    ∙ finished
+-- ending changes nothing of what is finished
+pub ended_finished : (test : Kept → Bool) (outcome : Kept → Outcome) (k : Kept) → is_finished (ended_where test outcome k) ≡ is_finished k
+ended_finished test outcome k = go k.ended (test k)
+  where
+    go : (o : Option Outcome) (b : Bool)
+        → is_finished (elim (is_none o && b) as (λ _. Kept) [ true ↦ record k { ended = Some (outcome k); untold = true } | false ↦ record k { ended = o } ])
+        ≡ (is_some o && not k.untold)
+    go None true = refl
+    go None false = refl
+    go (Some x) b = refl
 
-same_count : (ls ms : List Listing) → nodes_of ms ≡ nodes_of ls → length ms ≡ length ls
-same_count ls ms same = sym (length-map ms (λ (l : Listing). l.node)) ∙ ap length same ∙ length-map ls (λ (l : Listing). l.node)
+pub front_same : (f : Kept → Kept) → ((k : Kept) → is_finished (f k) ≡ is_finished k) → (ks : List Kept) → prefix_len is_finished (map f ks) ≡ prefix_len is_finished ks
+front_same f same [] = refl
+front_same f same (k ∷ ks) =
+    ap (λ b. cond b (1 + prefix_len is_finished (map f ks)) 0) (same k) ∙ ap (λ n. cond (is_finished k) (1 + n) 0) (front_same f same ks)
 
--- a book whose requests end, and whose receivers stay, is sound
-pub sound_ended : (b c : Inside) (test : Kept → Bool) (outcome : Kept → Outcome) → IsSound b
-    → c.requests.items ≡ map (ended_where test outcome) b.requests.items → c.done ≡ b.done → nodes_of c.listings.items ≡ nodes_of b.listings.items
-    → Rises c.untold.items → ((q : ℕ) → is_member nat_eq c.untold.items q ≡ true → is_member nat_eq (nodes_of b.listings.items) q ≡ true)
-    → length b.listings.items ≤ vec_capacity c.untold → IsSound c
-sound_ended b c test outcome sound requests done nodes rise listed room =
-    let count : length c.listings.items ≡ length b.listings.items = same_count b.listings.items c.listings.items nodes in
-    let many : length c.requests.items ≡ length b.requests.items = ap length requests ∙ length-map b.requests.items (ended_where test outcome) in
-    let some : 0 < length b.listings.items = sound.some in
-    let few : length b.listings.items ≤ 16 = sound.few in
-    let counted = sound.counted in
-    let within : b.done ≤ length b.requests.items = sound.within in
+-- an open watermark at the end is not of the finished front
+pub front_pushed : (ks : List Kept) (mark : ℕ) (at : Position) (quorum : Option ℕ)
+    → prefix_len is_finished (ks ++ opened mark at quorum ∷ []) ≡ prefix_len is_finished ks
+front_pushed [] mark at quorum = refl
+front_pushed (k ∷ ks) mark at quorum = ap (λ n. cond (is_finished k) (1 + n) 0) (front_pushed ks mark at quorum)
+
+pub front_finished : (ks : List Kept) → list_all is_finished (take (prefix_len is_finished ks) ks) ≡ true
+front_finished [] = refl
+front_finished (k ∷ ks) = go (is_finished k) refl (front_finished ks)
+  where
+    go : (b : Bool) → is_finished k ≡ b → list_all is_finished (take (prefix_len is_finished ks) ks) ≡ true
+        → list_all is_finished (take (cond b (1 + prefix_len is_finished ks) 0) (k ∷ ks)) ≡ true
+    go true e rest =
+        let one : 1 + prefix_len is_finished ks ≡ suc (prefix_len is_finished ks) = omega arith in
+        ap (λ n. list_all is_finished (take n (k ∷ ks))) one
+        ∙ and_from (is_finished k) (list_all is_finished (take (prefix_len is_finished ks) ks)) e rest
+    go false e rest = refl
+
+pub front_within : (ks : List Kept) → prefix_len is_finished ks ≤ length ks
+front_within [] = omega arith
+front_within (k ∷ ks) = go (is_finished k) (front_within ks)
+  where
+    go : (b : Bool) → prefix_len is_finished ks ≤ length ks → cond b (1 + prefix_len is_finished ks) 0 ≤ suc (length ks)
+    go true rest = omega (arith, rest)
+    go false rest = omega arith
+
+-- the finished front goes on from a part of it
+pub front_from : (from : ℕ) (ks : List Kept) → from ≤ length ks → list_all is_finished (take from ks) ≡ true
+    → prefix_len is_finished ks ≡ from + prefix_len is_finished (drop from ks)
+front_from zero ks le all = omega arith
+front_from (suc from) [] le all = absurd (omega arith)
+front_from (suc from) (k ∷ ks) le all =
+    let parts = and_parts (is_finished k) (list_all is_finished (take from ks)) all in
+    let rest = front_from from ks (omega arith) parts.1 in
+    ap (λ b. cond b (1 + prefix_len is_finished ks) 0) parts.0 ∙ omega (arith, rest)
+
+-- the finished front ends at a watermark that is not finished, and goes on behind one that is
+pub front_ends : (ks : List Kept) (i : ℕ) (k : Kept) → i < length ks → k ≡ get_or ks i k → is_finished k ≡ false
+    → prefix_len is_finished ks ≡ i + prefix_len is_finished (drop i ks) → i ≡ prefix_len is_finished ks
+front_ends ks i k lt is unfinished so_far =
+    let none : prefix_len is_finished (drop i ks) ≡ 0 =
+    at_drop_more (prefix_len is_finished) ks i k lt
+    ∙ ap (λ (y : Kept). cond (is_finished y) (1 + prefix_len is_finished (drop (i + 1) ks)) 0) (sym is)
+    ∙ ap (λ b. cond b (1 + prefix_len is_finished (drop (i + 1) ks)) 0) unfinished in
+    omega (arith, none, so_far)
+
+pub front_goes : (ks : List Kept) (i : ℕ) (k : Kept) → i < length ks → k ≡ get_or ks i k → is_finished k ≡ true
+    → prefix_len is_finished ks ≡ i + prefix_len is_finished (drop i ks) → prefix_len is_finished ks ≡ i + 1 + prefix_len is_finished (drop (i + 1) ks)
+front_goes ks i k lt is done so_far =
+    let more : prefix_len is_finished (drop i ks) ≡ 1 + prefix_len is_finished (drop (i + 1) ks) =
+    at_drop_more (prefix_len is_finished) ks i k lt
+    ∙ ap (λ (y : Kept). cond (is_finished y) (1 + prefix_len is_finished (drop (i + 1) ks)) 0) (sym is)
+    ∙ ap (λ b. cond b (1 + prefix_len is_finished (drop (i + 1) ks)) 0) done in
+    omega (arith, more, so_far)
+
+pub front_whole : (ks : List Kept) (i : ℕ) → length ks ≤ i → i ≤ length ks → prefix_len is_finished ks ≡ i + prefix_len is_finished (drop i ks) → length ks ≡ prefix_len is_finished ks
+front_whole ks i ge le so_far =
+    let none : prefix_len is_finished (drop i ks) ≡ 0 = ap (prefix_len is_finished) (drop_all i ks ge) in
+    omega (arith, none, so_far, ge, le)
+
+-- what the invariant says of the front
+pub front_of : (ks : List Kept) (done : ℕ) → done ≡ prefix_len is_finished ks → list_all is_finished (take done ks) ≡ true
+front_of ks done is = ap (λ n. list_all is_finished (take n ks)) is ∙ front_finished ks
+
+pub within_of : (ks : List Kept) (done : ℕ) → done ≡ prefix_len is_finished ks → done ≤ length ks
+within_of ks done is = let le = front_within ks in omega (arith, is, le)
+
+-- watermarks of which some end go on to be kept
+pub kept_ended : (w x : Inside) (test : Kept → Bool) (outcome : Kept → Outcome) → AreKept w → x.all.items ≡ map (ended_where test outcome) w.all.items → x.done ≡ w.done → AreKept x
+kept_ended w x test outcome kept e done =
+    let many = ap length e ∙ length-map w.all.items (ended_where test outcome) in
+    let counted = kept.counted in
     record {
-      some = omega (arith, count, some);
-      few = omega (arith, count, few);
-      numbered = subst (AreNumbered 1) (sym requests) (numbered_after test outcome 1 b.requests.items sound.numbered);
+      numbered = subst (AreNumbered 1) (sym e) (numbered_after test outcome 1 w.all.items kept.numbered);
       counted = omega (arith, many, counted);
-      within = omega (arith, many, done, within);
-      finished =
-          ap (λ n. list_all is_finished (take n c.requests.items)) done
-          ∙ ap (λ (ks : List Kept). list_all is_finished (take b.done ks)) requests
-          ∙ front_after test outcome b.done b.requests.items sound.finished;
-      rise = rise;
-      listed = λ q member. ap (λ ns. is_member nat_eq ns q) nodes ∙ listed q member;
-      room = omega (arith, count, room);
+      within = let le = kept.within in omega (arith, many, done, le);
+      done = done ∙ kept.done ∙ sym (ap (prefix_len is_finished) e ∙ front_same (ended_where test outcome) (ended_finished test outcome) w.all.items);
     }
-
--- the front of so many more that are finished
-pub front_grows : (ks : List Kept) (done more : ℕ) → list_all is_finished (take done ks) ≡ true → list_all is_finished (take more (drop done ks)) ≡ true
-    → list_all is_finished (take (done + more) ks) ≡ true
-front_grows ks done more front next =
-    ap (list_all is_finished) (take-add done more ks)
-    ∙ list_all-append is_finished (take done ks) (take more (drop done ks))
-    ∙ and_from _ _ front next
 
 told_front_one : (k : Kept) (ks : List Kept) → is_finished k ≡ true → told_first (k ∷ ks) ≡ k ∷ told_first ks
 told_front_one k ks e = go k.untold (not-true k.untold (and_parts (is_some k.ended) (not k.untold) e).1)
@@ -124,21 +169,12 @@ first_of_rest now ks from r same finished is =
 pub pushed : {T E X : Type 0} (r : Result T E) (new longer old : X) → new ≡ (if is_ok r then longer else old) → is_ok r ≡ true → new ≡ longer
 pushed r new longer old e ok = e ∙ ap (λ b. if b then longer else old) ok
 
-pub front_pushed : (from : ℕ) (ks : List Kept) (k : Kept) → from ≤ length ks → list_all is_finished (take from ks) ≡ true
-    → list_all is_finished (take from (ks ++ k ∷ [])) ≡ true
-front_pushed from ks k within finished = ap (list_all is_finished) (take-append-le from ks (k ∷ []) within) ∙ finished
-
--- a book whose requests change, and whose receivers stay, is sound where the requests are
-pub sound_requests : (b c : Inside) → IsSound b → c.listings ≡ b.listings → c.untold ≡ b.untold → AreNumbered 1 c.requests.items
-    → length c.requests.items < 2 ^ 32 → c.done ≤ length c.requests.items → list_all is_finished (take c.done c.requests.items) ≡ true → IsSound c
-sound_requests b c sound listings untold numbered counted within finished = record {
-  some = subst (λ v. 0 < length v.items) (sym listings) sound.some;
-  few = subst (λ v. length v.items ≤ 16) (sym listings) sound.few;
-  numbered = numbered;
-  counted = counted;
-  within = within;
-  finished = finished;
-  rise = subst (λ v. Rises v.items) (sym untold) sound.rise;
-  listed = λ q member. ap (λ v. is_member nat_eq (nodes_of v.items) q) listings ∙ sound.listed q (ap (λ v. is_member nat_eq v.items q) (sym untold) ∙ member);
-  room = subst (λ v. length v.items ≤ vec_capacity c.untold) (sym listings) (subst (λ v. length b.listings.items ≤ vec_capacity v) (sym untold) sound.room);
-}
+-- the finished front, after the first outcome was told
+pub told_front : (ks now : List Kept) (done n : ℕ) → done ≡ prefix_len is_finished ks → now ≡ told_first ks → n ≡ prefix_len is_finished (mid_of done (length now - done) now)
+    → done + n ≡ prefix_len is_finished (told_first ks)
+told_front ks now done n is told count =
+    let many = told_length ks in
+    let le = within_of ks done is in
+    let from = front_from done (told_first ks) (omega (arith, many, le)) (front_told done ks (front_of ks done is)) in
+    let rest : n ≡ prefix_len is_finished (drop done (told_first ks)) = count ∙ ap (prefix_len is_finished) (take_rest now done ∙ ap (drop done) told) in
+    omega (arith, rest, from)

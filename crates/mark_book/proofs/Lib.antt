@@ -6,3 +6,4 @@ pub mod Keeping
 pub mod Lookups
 pub mod Standing
 pub mod SomeState
+pub mod Members

@@ -1,6 +1,6 @@
 -- Loops over a part of a list.
 use Rattle.std.proofs.Common.{◌≡◌, ℕ, ◌+◌, ◌-◌, ◌<◌, ◌≤◌, List, [], ◌∷◌, ◌++◌, length, map, take, drop, get_or, set, Bool, true, false, refl, sym, ap, subst, ◌∙◌, arith}
-use Rattle.std.specs.Prelude.{◌&&◌, not, is_some, is_none, Option, None, Some, option_map, option_and_then, Vec, vec_len}
+use Rattle.std.specs.Prelude.{◌&&◌, not, is_some, is_none, Option, None, Some, option_map, option_and_then, IfNone, Vec, vec_len}
 use Rattle.std.specs.List.{list_all}
 use Rattle.std.specs.Vec.{with_items}
 use Rattle.std.proofs.lemmas.Bool.{and_parts}
@@ -8,12 +8,10 @@ use Rattle.std.proofs.lemmas.List.{append-nil, map-append, take-append-drop, dro
 use Rattle.std.proofs.lemmas.List.Edits.{map_over_more}
 use borrow.Rule.Slice.PartMut.{mid_of, post_of, Post-is}
 use Rattle.fec_plan.specs.declared.position.Position.{Position}
-use Rattle.fec_plan.specs.Points.{reaches}
-use Rattle.norm_send_rules.specs.SenderState.{Listing}
-use Rattle.norm_send_rules.specs.Requests.{is_past}
+use Rattle.fec_plan.specs.Points.{reaches, reached_by}
 use Rattle.norm_send_rules.specs.declared.news.Outcome.{Outcome}
-use Rattle.mark_book.specs.Booked.{Kept}
-use Rattle.mark_book.specs.Ending.{ended_where, is_finished}
+use Rattle.mark_book.specs.BookState.{Kept}
+use Rattle.mark_book.specs.BookMoves.{ended_where, is_finished}
 
 -- one more element is written over, by what a call gave
 pub written_more : {X : Type 0} (f : X → X) (xs ys : List X) (i : ℕ) (x z : X) → z ≡ f (get_or ys i x) → i < length xs → ys ≡ map f (take i xs) ++ drop i xs → x ≡ get_or ys i x
@@ -28,7 +26,7 @@ other : {X : Type 0} (b : Bool) (x y : X) → b ≡ false → elim b as (λ _. X
 other true x y e = absurd (cc)
 other false x y e = refl
 
--- a finished request stays as it is
+-- a finished watermark stays as it is
 pub finished_stays : (test : Kept → Bool) (outcome : Kept → Outcome) (k : Kept) → is_finished k ≡ true → ended_where test outcome k ≡ k
 finished_stays test outcome k e = other (is_none k.ended && test k) _ _ (not_open (is_some k.ended) true k.untold (test k) e)
 
@@ -65,19 +63,18 @@ swapped false true r = refl
 swapped false false r = refl
 
 -- one more listing counts in the least position
-pub least_step : (xs : List Listing) (i : ℕ) (x : Listing) (at least past new : Position) (all : Bool) → i < length xs → x ≡ get_or xs i x → x.past ≡ Some past
-    → reaches new at ≡ (reaches past at && reaches least at) → all ≡ (reaches least at && list_all (is_past at) (drop i xs))
-    → all ≡ (reaches new at && list_all (is_past at) (drop (i + 1) xs))
-least_step xs i x at least past new all lt is found lower so_far =
+pub least_step : (xs : List (Option Position)) (i : ℕ) (at least past new : Position) (all : Bool) → i < length xs → get_or xs i None ≡ Some past
+    → reaches new at ≡ (reaches past at && reaches least at) → all ≡ (reaches least at && list_all (λ o. reached_by o at) (drop i xs))
+    → all ≡ (reaches new at && list_all (λ o. reached_by o at) (drop (i + 1) xs))
+least_step xs i at least past new all lt found lower so_far =
     so_far
     ∙ ap (λ b. reaches least at && b) (
-    at_drop_more (list_all (is_past at)) xs i x lt
-    ∙ ap (λ (y : Listing). is_past at y && list_all (is_past at) (drop (i + 1) xs)) (sym is)
-    ∙ ap (λ (o : Option Position). is_past at (record x { past = o }) && list_all (is_past at) (drop (i + 1) xs)) found)
-    ∙ swapped (reaches least at) (reaches past at) (list_all (is_past at) (drop (i + 1) xs))
-    ∙ ap (λ b. b && list_all (is_past at) (drop (i + 1) xs)) (sym lower)
+    at_drop_more (list_all (λ o. reached_by o at)) xs i None lt
+    ∙ ap (λ (y : Option Position). reached_by y at && list_all (λ o. reached_by o at) (drop (i + 1) xs)) found)
+    ∙ swapped (reaches least at) (reaches past at) (list_all (λ o. reached_by o at) (drop (i + 1) xs))
+    ∙ ap (λ b. b && list_all (λ o. reached_by o at) (drop (i + 1) xs)) (sym lower)
 
--- after a loop over the rest of a vector of requests
+-- after a loop over the rest of a vector of watermarks
 pub rest_written : {Z : Type 0} (v : Vec Kept Z) (now new : List Kept) (from : ℕ) (f : Kept → Kept) → ((k : Kept) → is_finished k ≡ true → f k ≡ k)
     → now ≡ v.items → length now ≡ vec_len v → from ≤ length v.items → list_all is_finished (take from v.items) ≡ true
     → new ≡ map f (mid_of from (length now - from) now)
@@ -99,3 +96,8 @@ nothing_found now r o e is = sym e ∙ ap (option_map now) is
 
 pub thing_found : {R X : Type 0} (now : R → X) (r : Option R) (o : Option X) (x : R) → option_map now r ≡ o → r ≡ Some x → o ≡ Some (now x)
 thing_found now r o x e is = sym e ∙ ap (option_map now) is
+
+-- what holds holds where nothing is answered
+pub if_none : {X : Type 0} (r : Option X) (P : Type 0) → P → IfNone r P
+if_none None P holds = holds
+if_none (Some x) P holds = tt

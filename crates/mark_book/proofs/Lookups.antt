@@ -2,16 +2,17 @@
 use Rattle.std.proofs.Common.{◌≡◌, ℕ, ◌+◌, ◌-◌, ◌<◌, ◌≤◌, List, [], ◌∷◌, length, map, take, drop, get_or, Bool, true, false, refl, sym, ap, ◌∙◌, cond, arith, zero, suc}
 use Rattle.std.specs.Prelude.{◌&&◌, ◌==◌, not, filter, find, is_none, is_some, Option, None, Some, option_map, option_and_then}
 use Rattle.std.specs.List.{list_all}
-use Rattle.std.proofs.lemmas.Bool.{and_parts, eq-eqb, ne_eqb}
+use Rattle.std.proofs.lemmas.Bool.{and_parts, not-true, eq-eqb, ne_eqb}
 use Rattle.std.proofs.lemmas.List.{take_rest, length-map}
 use borrow.Rule.Slice.PartMut.{mid_of}
+use Rattle.norm_base.specs.Settings.{Settings}
 use Rattle.norm_send_rules.specs.SenderState.{SenderState, Watermark, Listing}
-use Rattle.norm_send_rules.specs.Requests.{open_requests, is_past}
+use Rattle.norm_send_rules.specs.Watermarks.{open_watermarks, is_past}
 use Rattle.norm_send_rules.specs.declared.news.Outcome.{Outcome}
 use Rattle.norm_send_rules.specs.declared.news.Outcome.TheVariants.{Open}
-use Rattle.mark_book.specs.Booked.{MarkState, Kept, Booked, mark_state, kept_state, Stands}
-use Rattle.mark_book.specs.Ending.{is_finished, left_of, left_count, outcome_by}
-use Rattle.mark_book.specs.Sound.{AreNumbered}
+use Rattle.mark_book.specs.BookState.{MarkState, Kept, BookState, mark_state, kept_state, Stands}
+use Rattle.mark_book.specs.BookMoves.{is_finished, left_of, left_count, outcome_by}
+use Rattle.mark_book.specs.BookSound.{AreNumbered}
 
 pub find_through : {X : Type 0} (p : X → MarkState) (test : MarkState → Bool) (xs : List X) → option_map p (find (λ x. test (p x)) xs) ≡ find test (map p xs)
 find_through p test [] = refl
@@ -32,18 +33,21 @@ count_through p test (x ∷ xs) = go (test (p x)) (count_through p test xs)
     go false rest = rest
 
 -- what a test finds in both
-pub found_in_both : (test : MarkState → Bool) (b : Booked) (s : SenderState) → Stands b s
-    → option_map kept_state (find (λ k. test (kept_state k)) b.requests) ≡ option_map mark_state (find (λ w. test (mark_state w)) s.requests)
-found_in_both test b s stands =
-    find_through kept_state test b.requests ∙ ap (find test) stands.requests ∙ sym (find_through mark_state test s.requests)
+pub found_in_both : (test : MarkState → Bool) (p : Settings) (b : BookState) (s : SenderState) → Stands p b s
+    → option_map kept_state (find (λ k. test (kept_state k)) b.watermarks) ≡ option_map mark_state (find (λ w. test (mark_state w)) s.watermarks)
+found_in_both test p b s stands =
+    find_through kept_state test b.watermarks ∙ ap (find test) stands.watermarks ∙ sym (find_through mark_state test s.watermarks)
 
-pub open_in_both : (b : Booked) (s : SenderState) → Stands b s → length (filter (λ k. is_none k.ended) b.requests) ≡ length (open_requests s)
-open_in_both b s stands =
-    count_through kept_state (λ a. is_none a.ended) b.requests ∙ ap (λ both. length (filter (λ (a : MarkState). is_none a.ended) both)) stands.requests
-    ∙ sym (count_through mark_state (λ a. is_none a.ended) s.requests)
+pub open_in_both : (p : Settings) (b : BookState) (s : SenderState) → Stands p b s → length (filter (λ k. is_none k.ended) b.watermarks) ≡ length (open_watermarks s)
+open_in_both p b s stands =
+    count_through kept_state (λ a. is_none a.ended) b.watermarks ∙ ap (λ both. length (filter (λ (a : MarkState). is_none a.ended) both)) stands.watermarks
+    ∙ sym (count_through mark_state (λ a. is_none a.ended) s.watermarks)
 
-pub many_in_both : (b : Booked) (s : SenderState) → Stands b s → length b.requests ≡ length s.requests
-many_in_both b s stands = sym (length-map b.requests kept_state) ∙ ap length stands.requests ∙ length-map s.requests mark_state
+pub untold_in_both : (p : Settings) (b : BookState) (s : SenderState) → Stands p b s → length (filter (λ k. k.untold) b.watermarks) ≡ length s.untold_marks
+untold_in_both p b s stands = sym (length-map (filter (λ k. k.untold) b.watermarks) (λ (k : Kept). k.mark)) ∙ ap length stands.marks
+
+pub many_in_both : (p : Settings) (b : BookState) (s : SenderState) → Stands p b s → length b.watermarks ≡ length s.watermarks
+many_in_both p b s stands = sym (length-map b.watermarks kept_state) ∙ ap length stands.watermarks ∙ length-map s.watermarks mark_state
 
 map_through : {Y : Type 0} (g : MarkState → Y) (o : Option Watermark) → option_map (λ w. g (mark_state w)) o ≡ option_map g (option_map mark_state o)
 map_through g None = refl
@@ -70,7 +74,7 @@ pub then_some : {Y : Type 0} (g : MarkState → Option Y) (o : Option Kept) (p :
     → g (kept_state k) ≡ option_and_then (λ w. g (mark_state w)) p
 then_some g o p k both is = ap (λ o. option_and_then g (option_map kept_state o)) (sym is) ∙ ap (option_and_then g) both ∙ sym (then_through g p)
 
--- the outcome of a request
+-- the outcome of a watermark
 abbrev pub outcome_at : List Listing → MarkState → Outcome
 outcome_at ls a = elim a.ended [ Some outcome ↦ outcome | None ↦ Open (length (left_of ls a.at)) ]
 
@@ -114,7 +118,7 @@ number_at (suc i) n m (k ∷ ks) d all lt is =
     go true e rest = absurd (cc)
     go false e rest = rest
 
--- a front without open requests does not matter
+-- a front without open watermarks does not matter
 not_open : (some told : Bool) → (some && told) ≡ true → not some ≡ false
 not_open true told e = refl
 not_open false told e = absurd (cc)
@@ -145,7 +149,20 @@ filter_behind (k ∷ ks) (suc from) all =
     go true e rest = absurd (cc)
     go false e rest = rest
 
--- the first open request of the rest of a list, and how many are open there
+pub untold_behind_count : (ks : List Kept) (from : ℕ) → list_all is_finished (take from ks) ≡ true
+    → length (filter (λ (k : Kept). k.untold) (drop from ks)) ≡ length (filter (λ (k : Kept). k.untold) ks)
+untold_behind_count ks zero all = refl
+untold_behind_count [] (suc from) all = refl
+untold_behind_count (k ∷ ks) (suc from) all =
+    let parts = and_parts (is_finished k) (list_all is_finished (take from ks)) all in
+    go k.untold (not-true k.untold (and_parts (is_some k.ended) (not k.untold) parts.0).1) (untold_behind_count ks from parts.1)
+  where
+    go : (b : Bool) → b ≡ false → length (filter (λ (k : Kept). k.untold) (drop from ks)) ≡ length (filter (λ (k : Kept). k.untold) ks)
+        → length (filter (λ (k : Kept). k.untold) (drop from ks)) ≡ length (cond b (k ∷ filter (λ (k : Kept). k.untold) ks) (filter (λ (k : Kept). k.untold) ks))
+    go true e rest = absurd (cc)
+    go false e rest = rest
+
+-- the first open watermark of the rest of a list, and how many are open there
 pub open_of_rest : (now ks : List Kept) (from : ℕ) (r : Option Kept) → now ≡ ks → list_all is_finished (take from ks) ≡ true
     → r ≡ find (λ (k : Kept). is_none k.ended) (mid_of from (length now - from) now) → r ≡ find (λ (k : Kept). is_none k.ended) ks
 open_of_rest now ks from r same finished is =
@@ -156,10 +173,15 @@ pub count_of_rest : (now ks : List Kept) (from n : ℕ) → now ≡ ks → list_
 count_of_rest now ks from n same finished is =
     is ∙ ap (λ xs. length (filter (λ (k : Kept). is_none k.ended) xs)) (take_rest now from ∙ ap (drop from) same) ∙ filter_behind ks from finished
 
-pub filter_at_most : (test : Kept → Bool) (ks : List Kept) → length (filter test ks) ≤ length ks
+pub untold_of_rest : (now ks : List Kept) (from n : ℕ) → now ≡ ks → list_all is_finished (take from ks) ≡ true
+    → n ≡ length (filter (λ (k : Kept). k.untold) (mid_of from (length now - from) now)) → n ≡ length (filter (λ (k : Kept). k.untold) ks)
+untold_of_rest now ks from n same finished is =
+    is ∙ ap (λ xs. length (filter (λ (k : Kept). k.untold) xs)) (take_rest now from ∙ ap (drop from) same) ∙ untold_behind_count ks from finished
+
+pub filter_at_most : {X : Type 0} (test : X → Bool) (xs : List X) → length (filter test xs) ≤ length xs
 filter_at_most test [] = omega arith
-filter_at_most test (k ∷ ks) = go (test k) (filter_at_most test ks)
+filter_at_most test (x ∷ xs) = go (test x) (filter_at_most test xs)
   where
-    go : (b : Bool) → length (filter test ks) ≤ length ks → length (cond b (k ∷ filter test ks) (filter test ks)) ≤ suc (length ks)
+    go : (b : Bool) → length (filter test xs) ≤ length xs → length (cond b (x ∷ filter test xs) (filter test xs)) ≤ suc (length xs)
     go true rest = omega (arith, rest)
     go false rest = omega (arith, rest)

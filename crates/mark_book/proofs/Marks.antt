@@ -1,18 +1,18 @@
--- The numbers of the requests whose outcome is to be told.
+-- The numbers of the watermarks whose outcome is to be told.
 use Rattle.std.proofs.Common.{◌≡◌, ℕ, ◌+◌, ◌<◌, List, [], ◌∷◌, ◌++◌, length, map, Bool, true, false, refl, sym, ap, ◌∙◌, cond, arith, fold}
 use Rattle.std.specs.Prelude.{◌&&◌, nat_lt, filter, is_none, Some}
 use Rattle.norm_order.specs.Sets.{with_member}
 use Rattle.norm_order.proofs.SetLemmas.{in_front, again, behind, alone}
 use Rattle.norm_send_rules.specs.declared.news.Outcome.{Outcome}
-use Rattle.mark_book.specs.Booked.{Kept, untold_marks}
-use Rattle.mark_book.specs.Ending.{ended_where}
-use Rattle.mark_book.specs.Sound.{AreNumbered}
+use Rattle.mark_book.specs.BookState.{Kept, untold_marks}
+use Rattle.mark_book.specs.BookMoves.{ended_where}
+use Rattle.mark_book.specs.BookSound.{AreNumbered}
 
 -- one more number
 abbrev pub more_of : List ℕ → ℕ → List ℕ
 more_of marks m = with_member nat_lt m marks
 
--- the numbers of the requests that pass a test
+-- the numbers of the watermarks that pass a test
 abbrev pub marks_where : (Kept → Bool) → List Kept → List ℕ
 marks_where test ks = map (λ (k : Kept). k.mark) (filter test ks)
 
@@ -43,11 +43,11 @@ fold_behind test m n (k ∷ ks) u all lt = go (test k) (λ v. fold_behind test m
     go true rest = ap (λ v. fold more_of v (marks_where test ks)) (behind m k.mark u lower) ∙ rest (with_member nat_lt k.mark u)
     go false rest = rest u
 
--- a request after it ended or did not
+-- a watermark after it ended or did not
 abbrev ended_if : Bool → Outcome → Kept → Kept
 ended_if b outcome k = elim b [ true ↦ record k { ended = Some outcome; untold = true } | false ↦ k ]
 
--- where requests end, their numbers join those to be told
+-- where watermarks end, their numbers join those to be told
 pub marks_after : (test : Kept → Bool) (outcome : Kept → Outcome) (n : ℕ) (ks : List Kept) → AreNumbered n ks
     → untold_marks (map (ended_where test outcome) ks) ≡ fold more_of (untold_marks ks) (marks_where (λ k. is_none k.ended && test k) ks)
 marks_after test outcome n [] all = refl
@@ -76,7 +76,7 @@ marks_after test outcome n (k ∷ ks) all = go (is_none k.ended && test k) k.unt
         ∙ sym (fold_behind (λ k. is_none k.ended && test k) k.mark (n + 1) ks (untold_marks ks) all.1 next)
     go false false rest = rest
 
--- requests that end keep their numbers
+-- watermarks that end keep their numbers
 pub numbered_after : (test : Kept → Bool) (outcome : Kept → Outcome) (n : ℕ) (ks : List Kept) → AreNumbered n ks → AreNumbered n (map (ended_where test outcome) ks)
 numbered_after test outcome n [] all = tt
 numbered_after test outcome n (k ∷ ks) all = (go (is_none k.ended && test k), numbered_after test outcome (n + 1) ks all.1)
@@ -85,7 +85,7 @@ numbered_after test outcome n (k ∷ ks) all = (go (is_none k.ended && test k), 
     go true = all.0
     go false = all.0
 
--- one more request has the next number
+-- one more watermark has the next number
 pub numbered_push : (n : ℕ) (ks : List Kept) (k : Kept) → AreNumbered n ks → k.mark ≡ n + length ks → AreNumbered n (ks ++ k ∷ [])
 numbered_push n [] k all is = (omega (arith, is), tt)
 numbered_push n (j ∷ ks) k all is = (all.0, numbered_push (n + 1) ks k all.1 (omega (arith, is)))

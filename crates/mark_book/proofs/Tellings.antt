@@ -3,9 +3,9 @@ use Rattle.std.proofs.Common.{◌≡◌, ℕ, ◌+◌, ◌<◌, ◌≤◌, List,
 use Rattle.std.specs.Prelude.{◌==◌, filter, find, Option, None, Some}
 use Rattle.std.proofs.lemmas.Bool.{eq-eqb, ne_eqb}
 use Rattle.std.proofs.lemmas.List.{drop_more, set_split}
-use Rattle.mark_book.specs.Booked.{MarkState, Kept, kept_state, untold_marks}
-use Rattle.mark_book.specs.Ending.{told_first}
-use Rattle.mark_book.specs.Sound.{AreNumbered}
+use Rattle.mark_book.specs.BookState.{MarkState, Kept, kept_state, untold_marks}
+use Rattle.mark_book.specs.BookMoves.{told_first}
+use Rattle.mark_book.specs.BookSound.{AreNumbered}
 
 untold_head : (k : Kept) (ks : List Kept) → k.untold ≡ true → told_first (k ∷ ks) ≡ record k { untold = false } ∷ ks
 untold_head k ks e = go k.untold e
@@ -29,7 +29,7 @@ told_here ks now i k new d lt same at untold is so_far =
     drop_next : (xs : List Kept) (i : ℕ) (d : Kept) → i < length xs → drop i xs ≡ get_or xs i d ∷ drop (suc i) xs
     drop_next xs i d lt = drop_more xs i d lt ∙ ap (λ n. get_or xs i d ∷ drop n xs) (add-one i)
 
--- Telling keeps the requests, their order and their numbers.
+-- Telling keeps the watermarks, their order and their numbers.
 pub told_keeps : (ks : List Kept) → map kept_state (told_first ks) ≡ map kept_state ks
 told_keeps [] = refl
 told_keeps (k ∷ ks) = go k.untold (told_keeps ks)

@@ -1,5 +1,6 @@
-pub mod Booked
-pub mod Ending
+pub mod Listed
+pub mod BookState
+pub mod BookMoves
 pub mod Answers
-pub mod Sound
+pub mod BookSound
 pub mod Laws

@@ -1,228 +1,297 @@
-//! The book of a sender's receivers and watermark requests.
+//! The book of a sender's members and watermarks.
 
-ghost use Rattle.std.specs.Prelude.{◌≡◌, ◌≢◌, ◌<◌, ◌≤◌, ◌+◌, ◌==◌, length, map, find, slice_get, option_map, option_and_then, IfOk, IfErr, Ok, Err, ℕ, []};
+ghost use Rattle.std.specs.Prelude.{◌≡◌, ◌≢◌, ◌<◌, ◌≤◌, ◌+◌, ◌*◌, ◌^◌, ◌++◌, ◌==◌, true, length, map, find, slice_get, option_map, option_and_then, IfOk, IfErr, IfNone, Ok, Err, None, ℕ, []};
+ghost use Rattle.std.specs.List.{list_any};
 ghost use Rattle.norm_base.specs.Settings.{Settings};
+ghost use Rattle.norm_base.specs.Members.{receivers_of};
 ghost use Rattle.norm_base.specs.declared.node.Origin.{Origin};
 ghost use Rattle.fec_plan.specs.Points.{reached_by};
 ghost use Rattle.fec_plan.specs.declared.position.Position.{Position};
-ghost use Rattle.norm_base.specs.Members.{receivers_of};
-ghost use Rattle.norm_send_rules.specs.SenderState.{SenderState, Watermark, Listing, sender_opening};
-ghost use Rattle.norm_send_rules.specs.Requests.{pending, all_past, oldest, outcome_of};
+ghost use Rattle.norm_ext.specs.Octets.{nodes_octets};
+ghost use Rattle.norm_send_rules.specs.SenderState.{SenderState, Watermark as Mark, Listing, sender_opening};
+ghost use Rattle.norm_send_rules.specs.Watermarks as rules;
 ghost use Rattle.norm_send_rules.specs.Hearing.{credited};
-ghost use Rattle.norm_send_rules.specs.Marking.{request_at, requested};
+ghost use Rattle.norm_send_rules.specs.Marking.{watermark_at, with_watermark};
 ghost use Rattle.norm_send_rules.specs.Flushing.{expired};
 ghost use Rattle.norm_send_rules.specs.Restarting.{begun_anew};
+ghost use Rattle.norm_send_rules.specs.Striking.{strikes, struck_off};
 ghost use Rattle.norm_send_rules.specs.Telling.{listing_of, told};
 ghost use Rattle.norm_send_rules.specs.declared.fault.MarkFault.TheVariants as fault;
-ghost use Rattle.mark_book.specs.Booked.{Stands, begun_book};
-ghost use Rattle.mark_book.specs.Answers.{request_of, numbered};
+ghost use Rattle.mark_book.specs.BookState.{Stands, begun_book};
+ghost use Rattle.mark_book.specs.Answers.{numbered, quorum_refused, asked_for, strike_receipt, open_watermark, once_each};
 
-use crate::listed::{Listed, begun, forget, least_of, nth_left, past_of, raise, rises};
-use crate::request::{
-    Request, count_finished, count_open, cut, expire, first_open, settle, tell_first,
-};
-use crate::untold::put_node;
+use crate::listings::Listings;
+use crate::untold::{put_node, take_node};
+use crate::watermark::OpenWatermark;
+use crate::watermarks::Watermarks;
 use fec_plan::Position;
-use norm_base::{Memory, NodeId};
-use norm_send_rules::{MarkFault, News, Outcome};
+use norm_base::{Datagram, Memory, NodeId};
+use norm_send_rules::{MarkFault, News, Outcome, StrikeFault};
 use std::alloc::Global;
 use std::marker::Model;
 
-/// The most requests that are open at once.
+/// The most watermarks that are open at once.
 const MOST_OPEN: u32 = 16;
-
-/// The most requests that 32 bits number.
-const MOST_REQUESTS: usize = 4_294_967_295;
 
 /// The book. It begins over the receivers of a session; its calls may come in any order.
 #[derive(Debug, Drop)]
 pub struct Book {
-    listings: Vec<Listed>,
+    receivers: u32,
+    listings: Listings,
+    watermarks: Watermarks,
     untold: Vec<NodeId>,
-    requests: Vec<Request>,
-    done: usize,
 }
 
 impl Model for Book {
-    ghost use Rattle.mark_book.specs.Booked.{Booked};
+    ghost use Rattle.mark_book.specs.BookState.{BookState};
 
-    ghost Value = { Booked };
+    ghost Value = { BookState };
 
-    ghost use Rattle.mark_book.specs.Sound.{IsSound, book_view};
+    ghost use Rattle.mark_book.specs.BookSound.{BookSound, book_view};
 
     ghost view = { book_view };
 
-    ghost invariant = { IsSound };
+    ghost invariant = { BookSound };
 }
 
 impl Book {
-    /// A book over these receivers, in this order, which must differ from one another.
+    /// A book over these receivers, in this order. One that stands there twice counts once.
     pub fn new(alloc: Global, nodes: &[NodeId]) -> Result<Book, Memory>
         requires some { 0 < length nodes.now }
         requires few { length nodes.now ≤ 16 }
-        ensures begun { IfOk result (λ book. book ≡ begun_book nodes.now) }
-        ensures stands { IfOk result (λ book. (p : Settings) (instance : ℕ) → nodes.now ≡ receivers_of p p.receivers → Stands book (sender_opening p instance)) }
+        ensures begun { IfOk result (λ book. book ≡ begun_book (once_each nodes.now)) }
+        ensures stands { IfOk result (λ book. (p : Settings) (instance : ℕ) → nodes.now ≡ receivers_of p p.receivers → Stands p book (sender_opening p instance)) }
     {
         let untold = Vec::with_capacity(alloc, nodes.len())?;
-        let listings = begun(alloc, nodes)?;
+        let listings = Listings::begun(alloc, nodes)?;
         Ok(Book {
+            receivers: listings.len(),
             listings,
+            watermarks: Watermarks::new(alloc),
             untold,
-            requests: Vec::new(alloc),
-            done: 0,
         })
     }
 
-    /// What a node is listed past, and `None` where it is no receiver, or is listed past nothing.
+    /// Whether a node is a member: a receiver that was not struck.
+    pub fn lists(&self, node: NodeId) -> bool
+        ensures { (p : Settings) (s : SenderState) → Stands p self.now s → result ≡ rules.has_member node s }
+    {
+        self.listings.lists(node)
+    }
+
+    /// What a node is listed past, and `None` where it is no member, or is listed past nothing.
     pub fn past(&self, node: NodeId) -> Option<Position>
-        ensures { (s : SenderState) → Stands self.now s → result ≡ listing_of s node }
+        ensures { (p : Settings) (s : SenderState) → Stands p self.now s → result ≡ listing_of s node }
     {
-        past_of(&self.listings, node)
+        self.listings.past(node)
     }
 
-    /// The least position that a receiver is listed past: each position that it reaches is one that all are listed
-    /// past. `None` exactly where one is listed past nothing.
+    /// The least position that a member is listed past: each position that it reaches is one that all are listed past.
+    /// `None` exactly where one is listed past nothing.
     pub fn least(&self) -> Option<Position>
-        ensures { (s : SenderState) (at : Position) → Stands self.now s → all_past s at ≡ reached_by result at }
+        ensures { (p : Settings) (s : SenderState) (at : Position) → Stands p self.now s → rules.all_past s at ≡ reached_by result at }
     {
-        least_of(&self.listings)
+        self.listings.least()
     }
 
-    /// An acknowledgement of a node: a receiver's listing becomes the greater one of what it was and this position,
-    /// and each open request that all are then past is satisfied.
+    /// An acknowledgement of a node: a member's listing becomes the greater one of what it was and this position, and
+    /// each open watermark that enough members are then past is satisfied.
     pub fn ack(&mut self, node: NodeId, at: Position)
-        ensures { (s : SenderState) → Stands self.old s → Stands self.new (credited node at s) }
+        ensures { (p : Settings) (s : SenderState) → Stands p self.old s → Stands p self.new (credited node at s) }
     {
-        if !rises(&self.listings, node, at) {
+        if !self.listings.rises(node, at) {
             return;
         }
-        raise(&mut self.listings, node, at);
+        self.listings.raise(node, at);
         put_node(&mut self.untold, node);
-        settle(&mut self.requests[self.done..], &self.listings);
+        self.watermarks.settle(&self.listings);
     }
 
-    /// Gives up an open request. Any other is left as it is.
+    /// Gives up an open watermark. Any other is left as it is.
     pub fn expire(&mut self, mark: u32)
-        ensures { (s : SenderState) → Stands self.old s → Stands self.new (expired mark s) }
+        ensures { (p : Settings) (s : SenderState) → Stands p self.old s → Stands p self.new (expired mark s) }
     {
-        expire(&mut self.requests[self.done..], &self.listings, mark);
+        self.watermarks.expire(&self.listings, mark);
     }
 
-    /// The kept request with this number.
-    fn find(&self, mark: u32) -> Option<Request>
-        ensures { result ≡ find (λ k. k.mark == mark) self.now.requests }
-    {
-        if mark as usize > self.requests.len() {
-            return None;
-        }
-        if mark == 0 {
-            return None;
-        }
-        Some(self.requests[mark as usize - 1])
-    }
-
-    /// The position of a request, and `None` where its number was never given.
+    /// The position of a watermark, and `None` where its number was never given.
     pub fn position(&self, mark: u32) -> Option<Position>
-        ensures { (s : SenderState) → Stands self.now s → result ≡ option_map (λ (w : Watermark). w.at) (request_of s mark) }
+        ensures { (p : Settings) (s : SenderState) → Stands p self.now s → result ≡ option_map (λ (w : Mark). w.at) (rules.watermark_of s mark) }
     {
-        let request = self.find(mark)?;
-        Some(request.at)
+        let watermark = self.watermarks.find(mark)?;
+        Some(watermark.at)
     }
 
-    /// What became of a request, and `None` exactly where its number was never given.
+    /// What became of a watermark, and `None` exactly where its number was never given.
     pub fn outcome(&self, mark: u32) -> Option<Outcome>
-        ensures { (s : SenderState) → Stands self.now s → result ≡ option_map (outcome_of s) (request_of s mark) }
+        ensures { (p : Settings) (s : SenderState) → Stands p self.now s → result ≡ option_map (rules.outcome_of s) (rules.watermark_of s mark) }
     {
-        let request = self.find(mark)?;
-        Some(request.outcome(&self.listings))
+        let watermark = self.watermarks.find(mark)?;
+        Some(watermark.outcome(&self.listings))
     }
 
-    /// Receiver `i`, from 0, of those that are not listed past a request's position, in their order.
+    /// Member `i`, from 0, of those that are not listed past a watermark's position, in their order.
     pub fn pending(&self, mark: u32, i: u32) -> Option<NodeId>
-        ensures { (s : SenderState) → Stands self.now s
-            → result ≡ option_and_then (λ (w : Watermark). slice_get (pending s w.at) i) (request_of s mark) }
+        ensures { (p : Settings) (s : SenderState) → Stands p self.now s
+            → result ≡ option_and_then (λ (w : Mark). slice_get (rules.pending s w.at) i) (rules.watermark_of s mark) }
     {
-        let request = self.find(mark)?;
-        nth_left(&self.listings, request.at, i)
+        let watermark = self.watermarks.find(mark)?;
+        self.listings.nth_left(watermark.at, i)
     }
 
-    /// The number of the oldest open request.
-    pub fn oldest(&self) -> Option<u32>
-        ensures { (s : SenderState) → Stands self.now s → result ≡ option_map (λ (w : Watermark). w.mark) (oldest s) }
+    /// Writes the nodes of all members that are not listed past a position, in their order, as a flush to them names them.
+    pub fn write_pending(&self, at: Position, out: &mut Datagram)
+        requires { length out.old + 64 ≤ 1500 }
+        ensures { (p : Settings) (s : SenderState) → Stands p self.now s → out.new ≡ out.old ++ nodes_octets (rules.pending s at) }
     {
-        let request = first_open(&self.requests[self.done..])?;
-        Some(request.mark)
+        self.listings.write_left(at, out);
     }
 
-    /// Begins anew for another instance: every open request is cut, and all listed positions and the listings not told
-    /// yet are forgotten.
+    /// The oldest open watermark, with its position.
+    pub fn oldest(&self) -> Option<OpenWatermark>
+        ensures { (p : Settings) (s : SenderState) → Stands p self.now s → result ≡ option_map open_watermark (rules.oldest s) }
+    {
+        let watermark = self.watermarks.oldest()?;
+        Some(OpenWatermark {
+            mark: watermark.mark,
+            at: watermark.at,
+        })
+    }
+
+    /// How many watermarks are open.
+    pub fn open(&self) -> u32
+        ensures { (p : Settings) (s : SenderState) → Stands p self.now s → result ≡ length (rules.open_watermarks s) }
+    {
+        self.watermarks.count_open()
+    }
+
+    /// How many changes were not told yet.
+    pub fn untold(&self) -> usize
+        ensures { (p : Settings) (s : SenderState) → Stands p self.now s → result ≡ length s.untold_nodes + length s.untold_marks }
+    {
+        self.untold.len() + self.watermarks.count_untold() as usize
+    }
+
+    /// Begins anew for another instance: every open watermark is cut, and all listed positions and the listings not told
+    /// yet are forgotten. Who was struck stays so.
     pub fn cut_all(&mut self)
-        ensures { (s : SenderState) (p : Settings) (id : ℕ) → Stands self.old s
-            → map (λ (l : Listing). l.node) s.listings ≡ receivers_of p p.receivers → Stands self.new (begun_anew p id s) }
+        ensures { (p : Settings) (s : SenderState) (id : ℕ) → Stands p self.old s → Stands p self.new (begun_anew id s) }
     {
-        forget(&mut self.listings);
+        self.listings.forget();
         self.untold.clear();
-        cut(&mut self.requests[self.done..]);
+        self.watermarks.cut();
     }
 
-    /// One more request, for everything up to a position. Its number is one above the last one's, or 1. `NothingEnqueued`
-    /// exactly where there is no position, `TooMany` exactly where 16 are open.
-    pub fn request(&mut self, at: Option<Position>) -> Result<u32, MarkFault>
-        ensures stands { (s : SenderState) (by : Origin) → Stands self.old s → result ≢ Err fault.Memory
-            → Stands self.new (request_at s by at).0 × (result ≡ numbered (request_at s by at).1) }
+    /// Strikes a member for good: its listing is forgotten, with a rise of it that was not told, and each open watermark
+    /// that enough of those that are left are past is satisfied. `NotMember` exactly where the node is none, `LastMember`
+    /// exactly where it is the only one.
+    pub fn strike(&mut self, node: NodeId) -> Result<(), StrikeFault>
+        ensures { (p : Settings) (s : SenderState) → Stands p self.old s
+            → Stands p self.new (strikes s node).0 × (strike_receipt node result ≡ (strikes s node).1) }
+    {
+        if !self.listings.lists(node) {
+            return Err(StrikeFault::NotMember { node });
+        }
+        if self.listings.len() == 1 {
+            return Err(StrikeFault::LastMember { node });
+        }
+        self.strike_off(node);
+        Ok(())
+    }
+
+    /// Strikes a member that is not the only one.
+    fn strike_off(&mut self, node: NodeId)
+        requires { 1 < length self.old.listings }
+        ensures { (p : Settings) (s : SenderState) → Stands p self.old s → Stands p self.new (struck_off node s) }
+    {
+        self.listings.strike(node);
+        take_node(&mut self.untold, node);
+        self.watermarks.settle(&self.listings);
+    }
+
+    /// Why a watermark of this quorum would be refused, before anything else is looked at: the quorum is 0, or above the
+    /// number of receivers.
+    pub fn quorum_fault(&self, quorum: Option<u32>) -> Option<MarkFault>
+        ensures { (p : Settings) (s : SenderState) → Stands p self.now s → result ≡ quorum_refused p quorum }
+    {
+        let q = quorum?;
+        if q == 0 || q > self.receivers {
+            return Some(MarkFault::Quorum { q });
+        }
+        None
+    }
+
+    /// One more watermark, for everything up to a position, which so many members have to confirm, or all of them. Its
+    /// number is one above the last one's, or 1. `Quorum` exactly where the quorum is 0 or above the number of receivers,
+    /// else `NothingEnqueued` exactly where there is no position, and else `TooMany` exactly where 16 are open.
+    pub fn request(&mut self, at: Option<Position>, quorum: Option<u32>) -> Result<u32, MarkFault>
+        ensures stands { (p : Settings) (s : SenderState) (by : Origin) → Stands p self.old s → result ≢ Err fault.Memory
+            → Stands p self.new (asked_for p s by quorum at).0 × (result ≡ numbered (asked_for p s by quorum at).1) }
+        ensures memory { result ≡ Err fault.Memory → self.new ≡ self.old }
+    {
+        if let Some(fault) = self.quorum_fault(quorum) {
+            return Err(fault);
+        }
+        self.place(at, quorum)
+    }
+
+    /// One more watermark, where its quorum can be one.
+    fn place(&mut self, at: Option<Position>, quorum: Option<u32>) -> Result<u32, MarkFault>
+        ensures stands { (p : Settings) (s : SenderState) (by : Origin) → Stands p self.old s → result ≢ Err fault.Memory
+            → Stands p self.new (watermark_at s by quorum at).0 × (result ≡ numbered (watermark_at s by quorum at).1) }
         ensures memory { result ≡ Err fault.Memory → self.new ≡ self.old }
     {
         let Some(at) = at else {
             return Err(MarkFault::NothingEnqueued);
         };
-        let count = count_open(&self.requests[self.done..]) as u32;
+        let count = self.watermarks.count_open();
         if count >= MOST_OPEN {
             return Err(MarkFault::TooMany { count });
         }
-        self.join(at)
+        self.join(at, quorum)
     }
 
-    /// One more request, where fewer than the most are open.
-    fn join(&mut self, at: Position) -> Result<u32, MarkFault>
-        ensures stands { (s : SenderState) (by : Origin) → Stands self.old s → result ≢ Err fault.Memory
-            → Stands self.new (requested s by at) × (result ≡ Ok (length s.requests + 1)) }
+    /// One more watermark, where fewer than the most are open.
+    fn join(&mut self, at: Position, quorum: Option<u32>) -> Result<u32, MarkFault>
+        ensures stands { (p : Settings) (s : SenderState) (by : Origin) → Stands p self.old s → result ≢ Err fault.Memory
+            → Stands p self.new (with_watermark s by quorum at) × (result ≡ Ok (length s.watermarks + 1)) }
         ensures memory { result ≡ Err fault.Memory → self.new ≡ self.old }
         ensures other { IfErr result (λ e. e ≡ fault.Memory) }
     {
-        if self.requests.len() >= MOST_REQUESTS {
+        let Ok(mark) = self.watermarks.push(at, quorum) else {
             return Err(MarkFault::Memory);
-        }
-        let mark = self.requests.len() as u32 + 1;
-        if self.requests.push(Request::new(mark, at)).is_err() {
-            return Err(MarkFault::Memory);
-        }
-        settle(&mut self.requests[self.done..], &self.listings);
+        };
+        self.watermarks.settle(&self.listings);
         Ok(mark)
     }
 
-    /// The first change that was not told yet: a receiver that is newly listed past a position, in order of node, or
-    /// else a request that ended, in order of request. Each is told once, and a listing with its latest position.
+    /// The first change that was not told yet: a member that is newly listed past a position, in order of node, or else a
+    /// watermark that ended, in order of number. Each is told once, and a listing with its latest position. `None` exactly
+    /// where nothing is left to be told, and then nothing changes.
     pub fn news(&mut self) -> Option<News>
-        ensures { (s : SenderState) → Stands self.old s → Stands self.new (told s).0 × (result ≡ (told s).1) }
+        ensures stands { (p : Settings) (s : SenderState) → Stands p self.old s → Stands p self.new (told s).0 × (result ≡ (told s).1) }
+        ensures same { IfNone result (self.new ≡ self.old) }
+        ensures nothing { (p : Settings) (s : SenderState) → Stands p self.old s → IfNone result ((told s).0 ≡ s) }
     {
         if self.untold.is_empty() {
             return self.tell_outcome();
         }
+        let at = self.listings.past(self.untold[0])?;
         let node = self.untold.remove(0);
-        let at = past_of(&self.listings, node)?;
         Some(News::Past { node, at })
     }
 
     /// The first outcome that was not told yet, where all listings were told.
     fn tell_outcome(&mut self) -> Option<News>
         requires { self.old.untold_nodes ≡ [] }
-        ensures { (s : SenderState) → Stands self.old s → Stands self.new (told s).0 × (result ≡ (told s).1) }
+        ensures stands { (p : Settings) (s : SenderState) → Stands p self.old s → Stands p self.new (told s).0 × (result ≡ (told s).1) }
+        ensures same { IfNone result (self.new ≡ self.old) }
+        ensures nothing { (p : Settings) (s : SenderState) → Stands p self.old s → IfNone result ((told s).0 ≡ s) }
     {
-        let request = tell_first(&mut self.requests[self.done..])?;
-        self.done += count_finished(&self.requests[self.done..]);
+        let watermark = self.watermarks.tell_first()?;
         Some(News::Done {
-            mark: request.mark,
-            outcome: request.outcome(&self.listings),
+            mark: watermark.mark,
+            outcome: watermark.outcome(&self.listings),
         })
     }
 }

@@ -1,7 +1,7 @@
-//! The receivers whose listing is to be told: a rising list of nodes.
+//! The members whose listing is to be told: a rising list of nodes.
 
-ghost use Rattle.std.specs.Prelude.{◌≡◌, ◌≤◌, length, nat_lt, vec_capacity};
-ghost use Rattle.norm_order.specs.Sets.{with_member};
+ghost use Rattle.std.specs.Prelude.{◌≡◌, ◌≤◌, ◌==◌, not, filter, length, nat_lt, vec_capacity};
+ghost use Rattle.norm_order.specs.Sets.{with_member, Rises};
 
 use norm_base::NodeId;
 
@@ -21,4 +21,18 @@ pub fn put_node(nodes: &mut Vec<NodeId>, node: NodeId)
         }
     }
     nodes.push(node).unwrap();
+}
+
+/// Takes a node out of a rising list, where it is there.
+pub fn take_node(nodes: &mut Vec<NodeId>, node: NodeId)
+    requires { Rises nodes.old.items }
+    ensures nodes { nodes.new.items ≡ filter (λ other. not (other == node)) nodes.old.items }
+    ensures capacity { vec_capacity nodes.new ≡ vec_capacity nodes.old }
+{
+    for (place, other) in nodes.iter().enumerate() {
+        if node == *other {
+            nodes.remove(place);
+            return;
+        }
+    }
 }

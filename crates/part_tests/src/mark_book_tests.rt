@@ -1,9 +1,10 @@
-//! Books over one receiver and over three: what each call answers, what is told and in which order, and what a restart leaves.
+//! Books over one receiver and over more: what each call answers, what is told and in which order, what a quorum needs, and
+//! what a strike and a restart leave.
 
 use fec_plan::Position;
-use mark_book::Book;
-use norm_base::{Memory, NodeId};
-use norm_send_rules::{MarkFault, News, Outcome};
+use mark_book::{Book, OpenWatermark};
+use norm_base::{Datagram, Memory, NodeId};
+use norm_send_rules::{MarkFault, News, Outcome, StrikeFault};
 use std::alloc::Global;
 use std::process::Abort;
 
@@ -19,20 +20,32 @@ fn position(at: At) -> Position {
     }
 }
 
-/// A call of a book, with what it has to answer. A node is its number, and a request is its number.
+/// A call of a book, with what it has to answer. A node is its number, and so is a watermark.
 #[derive(Clone, Copy)]
 enum Call {
-    /// A request up to a position.
+    /// A watermark up to a position, for all members.
     Request(Option<At>, Result<u32, MarkFault>),
+    /// A watermark up to a position, for so many members.
+    Quorum(u32, Option<At>, Result<u32, MarkFault>),
+    /// A quorum, and whether it is refused before anything else.
+    IsNone(u32, bool),
     Ack(u32, At),
     Expire(u32),
     CutAll,
+    /// A strike of a member, of a node that is none, and of the only member.
+    Strikes(u32),
+    IsNoMember(u32),
+    IsLastMember(u32),
+    Lists(u32, bool),
     Outcome(u32, Option<Outcome>),
-    /// A node that a request waits for, by its place among them.
+    /// A node that a watermark waits for, by its place among them.
     Pending(u32, u32, Option<u32>),
     Past(u32, Option<At>),
     Least(Option<At>),
-    Oldest(Option<u32>),
+    /// The oldest open watermark, with its position.
+    Oldest(Option<(u32, At)>),
+    Open(u32),
+    Untold(usize),
     Position(u32, Option<At>),
     /// What is told is that a node is past a position.
     TellsPast(u32, At),
@@ -40,8 +53,28 @@ enum Call {
     TellsNothing,
 }
 
-fn request(book: &mut Book, at: Option<At>) -> Result<u32, MarkFault> {
-    book.request(at.map(position))
+fn request(book: &mut Book, at: Option<At>, quorum: Option<u32>) -> Result<u32, MarkFault> {
+    book.request(at.map(position), quorum)
+}
+
+fn strike(book: &mut Book, node: NodeId) -> Result<(), StrikeFault> {
+    book.strike(node)
+}
+
+fn is_none(book: &Book, quorum: u32) -> bool {
+    book.quorum_fault(Some(quorum)).is_some()
+}
+
+fn lists(book: &Book, node: NodeId) -> bool {
+    book.lists(node)
+}
+
+fn open(book: &Book) -> u32 {
+    book.open()
+}
+
+fn untold(book: &Book) -> usize {
+    book.untold()
 }
 
 fn ack(book: &mut Book, node: NodeId, at: At) {
@@ -72,8 +105,17 @@ fn least(book: &Book) -> Option<Position> {
     book.least()
 }
 
-fn oldest(book: &Book) -> Option<u32> {
+fn oldest(book: &Book) -> Option<OpenWatermark> {
     book.oldest()
+}
+
+/// An open watermark with this number and position.
+fn watermark(open: (u32, At)) -> OpenWatermark {
+    let (mark, at) = open;
+    OpenWatermark {
+        mark,
+        at: position(at),
+    }
 }
 
 fn position_of(book: &Book, mark: u32) -> Option<Position> {
@@ -98,16 +140,37 @@ fn is_answered(rt: &impl Abort, book: &Book, call: Call) -> bool {
         }
         Call::Past(n, answer) => past(book, node(rt, n)) == answer.map(position),
         Call::Least(answer) => least(book) == answer.map(position),
-        Call::Oldest(answer) => oldest(book) == answer,
+        Call::Oldest(answer) => oldest(book) == answer.map(watermark),
+        Call::IsNone(quorum, answer) => is_none(book, quorum) == answer,
+        Call::Lists(n, answer) => lists(book, node(rt, n)) == answer,
+        Call::Open(answer) => open(book) == answer,
+        Call::Untold(answer) => untold(book) == answer,
         Call::Position(mark, answer) => position_of(book, mark) == answer.map(position),
         _ => false,
+    }
+}
+
+/// Whether a strike is answered so.
+fn is_struck(rt: &impl Abort, book: &mut Book, call: Call) -> bool {
+    match call {
+        Call::Strikes(n) => strike(book, node(rt, n)).is_ok(),
+        Call::IsNoMember(n) => {
+            let node = node(rt, n);
+            strike(book, node) == Err(StrikeFault::NotMember { node })
+        }
+        Call::IsLastMember(n) => {
+            let node = node(rt, n);
+            strike(book, node) == Err(StrikeFault::LastMember { node })
+        }
+        _ => is_answered(rt, book, call),
     }
 }
 
 /// Whether a book does what the call says.
 fn does(rt: &impl Abort, book: &mut Book, call: Call) -> bool {
     match call {
-        Call::Request(at, answer) => request(book, at) == answer,
+        Call::Request(at, answer) => request(book, at, None) == answer,
+        Call::Quorum(q, at, answer) => request(book, at, Some(q)) == answer,
         Call::Ack(n, at) => {
             ack(book, node(rt, n), at);
             true
@@ -127,7 +190,7 @@ fn does(rt: &impl Abort, book: &mut Book, call: Call) -> bool {
         }
         Call::TellsDone(mark, outcome) => news(book) == Some(News::Done { mark, outcome }),
         Call::TellsNothing => news(book).is_none(),
-        _ => is_answered(rt, book, call),
+        _ => is_struck(rt, book, call),
     }
 }
 
@@ -148,7 +211,7 @@ fn play(rt: &impl Abort, book: &mut Book, calls: &[Call]) {
     }
 }
 
-/// A request is satisfied once its one receiver is past it; another node is of no account.
+/// A watermark is satisfied once its one receiver is past it; another node is of no account.
 const ONE: [Call; 13] = [
     Call::Request(None, Err(MarkFault::NothingEnqueued)),
     Call::Request(Some((0, 0)), Ok(1)),
@@ -166,15 +229,16 @@ const ONE: [Call; 13] = [
 ];
 
 /// Behind these, and sixteen more up to an object that comes later.
-const FULL: [Call; 4] = [
+const FULL: [Call; 5] = [
     Call::Request(Some((1, 0)), Err(MarkFault::TooMany { count: 16 })),
-    Call::Oldest(Some(3)),
+    Call::Oldest(Some((3, (1, 0)))),
+    Call::Open(16),
     Call::Position(18, Some((1, 0))),
     Call::Outcome(19, None),
 ];
 
 #[test]
-fn a_request_is_satisfied_once_its_one_receiver_is_past_it(rt: HostRuntime) {
+fn a_watermark_is_satisfied_once_its_one_receiver_is_past_it(rt: HostRuntime) {
     let (first, last) = (ONE, FULL);
     let mut book = book_over(&rt, rt.alloc(), &[node(&rt, 2)]);
     play(&rt, &mut book, &first);
@@ -185,7 +249,7 @@ fn a_request_is_satisfied_once_its_one_receiver_is_past_it(rt: HostRuntime) {
 }
 
 /// Over receivers 5, 2 and 3: listings are told before outcomes, in order of node, each with its latest position and once.
-const TOLD: [Call; 16] = [
+const TOLD: [Call; 17] = [
     Call::Request(Some((1, 3)), Ok(1)),
     Call::Request(Some((0, 1)), Ok(2)),
     Call::Ack(5, (0, 1)),
@@ -196,6 +260,7 @@ const TOLD: [Call; 16] = [
     Call::Least(None),
     Call::Outcome(1, Some(Outcome::Open { left: 1 })),
     Call::Ack(3, (1, 3)),
+    Call::Untold(5),
     Call::TellsPast(2, (2, 0)),
     Call::TellsPast(3, (1, 3)),
     Call::TellsPast(5, (1, 3)),
@@ -212,7 +277,7 @@ fn listings_are_told_before_outcomes_and_each_change_once(rt: HostRuntime) {
     play(&rt, &mut book, &calls);
 }
 
-/// Over receivers 2 and 3: a restart cuts open requests and forgets listings.
+/// Over receivers 2 and 3: a restart cuts open watermarks and forgets listings.
 const RESTARTED: [Call; 12] = [
     Call::Request(Some((0, 0)), Ok(1)),
     Call::Request(Some((4, 0)), Ok(2)),
@@ -222,15 +287,118 @@ const RESTARTED: [Call; 12] = [
     Call::CutAll,
     Call::Past(3, None),
     Call::Request(Some((0, 0)), Ok(3)),
-    Call::Oldest(Some(3)),
+    Call::Oldest(Some((3, (0, 0)))),
     Call::TellsDone(1, Outcome::Expired { left: 1 }),
     Call::TellsDone(2, Outcome::Cut),
     Call::TellsNothing,
 ];
 
 #[test]
-fn a_restart_cuts_requests_and_forgets_listings(rt: HostRuntime) {
+fn a_restart_cuts_watermarks_and_forgets_listings(rt: HostRuntime) {
     let calls = RESTARTED;
     let mut book = book_over(&rt, rt.alloc(), &[node(&rt, 2), node(&rt, 3)]);
     play(&rt, &mut book, &calls);
+}
+
+/// Over receivers 2, 3 and 4: a quorum is met by so many members, whichever, and must be one that there can be.
+const QUORUMS: [Call; 16] = [
+    Call::Quorum(0, None, Err(MarkFault::Quorum { q: 0 })),
+    Call::Quorum(4, Some((0, 0)), Err(MarkFault::Quorum { q: 4 })),
+    Call::Quorum(3, None, Err(MarkFault::NothingEnqueued)),
+    Call::IsNone(4, true),
+    Call::IsNone(3, false),
+    Call::Quorum(1, Some((0, 0)), Ok(1)),
+    Call::Quorum(2, Some((0, 0)), Ok(2)),
+    Call::Request(Some((0, 0)), Ok(3)),
+    Call::Ack(3, (0, 0)),
+    Call::Outcome(1, Some(Outcome::Satisfied)),
+    Call::Outcome(2, Some(Outcome::Open { left: 2 })),
+    Call::Oldest(Some((2, (0, 0)))),
+    Call::Ack(2, (0, 1)),
+    Call::Outcome(2, Some(Outcome::Satisfied)),
+    Call::Outcome(3, Some(Outcome::Open { left: 1 })),
+    Call::Quorum(2, Some((0, 0)), Ok(4)),
+];
+
+#[test]
+fn a_quorum_is_met_by_so_many_members(rt: HostRuntime) {
+    let calls = QUORUMS;
+    let nodes = [node(&rt, 2), node(&rt, 3), node(&rt, 4)];
+    let mut book = book_over(&rt, rt.alloc(), &nodes);
+    play(&rt, &mut book, &calls);
+}
+
+/// Over receivers 2, 3 and 4: nothing waits for a struck node, nor tells of it, and the last member is not struck.
+const STRUCK: [Call; 19] = [
+    Call::Request(Some((0, 0)), Ok(1)),
+    Call::Quorum(3, Some((0, 1)), Ok(2)),
+    Call::Ack(2, (0, 0)),
+    Call::Ack(3, (0, 1)),
+    Call::IsNoMember(9),
+    Call::Strikes(4),
+    Call::Outcome(1, Some(Outcome::Satisfied)),
+    Call::Outcome(2, Some(Outcome::Open { left: 1 })),
+    Call::IsNoMember(4),
+    Call::Lists(4, false),
+    Call::Ack(4, (0, 1)),
+    Call::Least(Some((0, 0))),
+    Call::Strikes(2),
+    Call::IsLastMember(3),
+    Call::Untold(3),
+    Call::TellsPast(3, (0, 1)),
+    Call::TellsDone(1, Outcome::Satisfied),
+    Call::TellsDone(2, Outcome::Satisfied),
+    Call::TellsNothing,
+];
+
+#[test]
+fn a_struck_node_is_waited_for_no_more(rt: HostRuntime) {
+    let calls = STRUCK;
+    let nodes = [node(&rt, 2), node(&rt, 3), node(&rt, 4)];
+    let mut book = book_over(&rt, rt.alloc(), &nodes);
+    play(&rt, &mut book, &calls);
+}
+
+/// Over receivers 2 and 3: who was struck stays so behind a restart, and the number of receivers stays that of the profile.
+const BEHIND: [Call; 11] = [
+    Call::Request(Some((0, 0)), Ok(1)),
+    Call::Ack(2, (0, 0)),
+    Call::Strikes(3),
+    Call::CutAll,
+    Call::Lists(3, false),
+    Call::Quorum(2, Some((0, 0)), Ok(2)),
+    Call::Pending(2, 0, Some(2)),
+    Call::Pending(2, 1, None),
+    Call::Ack(3, (0, 0)),
+    Call::Ack(2, (0, 0)),
+    Call::Outcome(2, Some(Outcome::Satisfied)),
+];
+
+#[test]
+fn a_restart_behind_a_strike_keeps_the_struck(rt: HostRuntime) {
+    let calls = BEHIND;
+    let mut book = book_over(&rt, rt.alloc(), &[node(&rt, 2), node(&rt, 3)]);
+    play(&rt, &mut book, &calls);
+}
+
+/// The octets of the nodes that are not listed past a position.
+fn written(rt: &impl Abort, alloc: Global, book: &Book, at: At) -> Datagram {
+    let Ok(mut out) = Datagram::new(alloc) else {
+        panic!(rt; "no memory for a datagram");
+    };
+    book.write_pending(position(at), &mut out);
+    out
+}
+
+#[test]
+fn a_flush_names_all_pending_members(rt: HostRuntime) {
+    let mut book = book_over(
+        &rt,
+        rt.alloc(),
+        &[node(&rt, 258), node(&rt, 3), node(&rt, 2)],
+    );
+    ack(&mut book, node(&rt, 3), (0, 0));
+    let out = written(&rt, rt.alloc(), &book, (0, 0));
+    let octets = [0, 0, 1, 2, 0, 0, 0, 2u8];
+    assert!(rt; out.bytes() == octets.as_slice());
 }

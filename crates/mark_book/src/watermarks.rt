@@ -1,0 +1,220 @@
+//! The watermarks of a book, in the order of their numbers.
+
+ghost use Rattle.std.specs.Prelude.{◌≡◌, ◌==◌, ◌<◌, ◌+◌, ◌^◌, ◌++◌, [], ◌∷◌, is_none, map, length, filter, find, MatchResult};
+ghost use Rattle.std.specs.List.{prefix_len};
+ghost use Rattle.mark_book.specs.BookMoves.{settled_by, expired_by, cut_off, is_finished, opened, told_first};
+ghost use Rattle.mark_book.specs.BookSound.{AreNumbered};
+
+use crate::listings::Listings;
+use crate::watermark::Watermark;
+use fec_plan::Position;
+use norm_base::Memory;
+use std::alloc::Global;
+use std::marker::Model;
+
+/// The most watermarks that 32 bits number.
+const MOST_WATERMARKS: usize = 4_294_967_295;
+
+/// All watermarks that were ever made. Those of the front, which ended and were told, are kept and not looked at again.
+#[derive(Debug, Drop)]
+pub struct Watermarks {
+    all: Vec<Watermark>,
+    done: usize,
+}
+
+impl Model for Watermarks {
+    ghost use Rattle.std.specs.Prelude.{List};
+    ghost use Rattle.mark_book.specs.BookState.{Kept};
+
+    ghost Value = { List Kept };
+
+    ghost view = { λ w. w.all.items };
+
+    ghost use Rattle.mark_book.specs.BookSound.{AreKept};
+
+    ghost invariant = { AreKept };
+}
+
+impl Watermarks {
+    /// None yet.
+    pub fn new(alloc: Global) -> Watermarks
+        ensures { result ≡ [] }
+    {
+        Watermarks {
+            all: Vec::new(alloc),
+            done: 0,
+        }
+    }
+
+    /// The watermark with this number.
+    pub fn find(&self, mark: u32) -> Option<Watermark>
+        ensures { result ≡ find (λ k. k.mark == mark) self.now }
+    {
+        if mark as usize > self.all.len() {
+            return None;
+        }
+        if mark == 0 {
+            return None;
+        }
+        Some(self.all[mark as usize - 1])
+    }
+
+    /// The oldest open watermark.
+    pub fn oldest(&self) -> Option<Watermark>
+        ensures { result ≡ find (λ k. is_none k.ended) self.now }
+    {
+        first_open(&self.all[self.done..])
+    }
+
+    /// How many watermarks are open.
+    pub fn count_open(&self) -> u32
+        ensures { result ≡ length (filter (λ k. is_none k.ended) self.now) }
+    {
+        count_open(&self.all[self.done..]) as u32
+    }
+
+    /// How many outcomes are to be told.
+    pub fn count_untold(&self) -> u32
+        ensures { result ≡ length (filter (λ k. k.untold) self.now) }
+    {
+        count_untold(&self.all[self.done..]) as u32
+    }
+
+    /// One more watermark, and its number, which is one above the last one's, or 1.
+    pub fn push(&mut self, at: Position, quorum: Option<u32>) -> Result<u32, Memory>
+        ensures pushed { MatchResult result
+            (λ mark. (mark ≡ length self.old + 1) × (self.new ≡ self.old ++ opened mark at quorum ∷ []))
+            (λ e. self.new ≡ self.old) }
+        ensures numbered { AreNumbered 1 self.new }
+    {
+        if self.all.len() >= MOST_WATERMARKS {
+            return Err(Memory);
+        }
+        let mark = self.all.len() as u32 + 1;
+        if self.all.push(Watermark::new(mark, at, quorum)).is_err() {
+            return Err(Memory);
+        }
+        Ok(mark)
+    }
+
+    /// Satisfies each open watermark that enough members are past.
+    pub fn settle(&mut self, listings: &Listings)
+        requires { length listings.now < 2 ^ 32 }
+        ensures settled { self.new ≡ map (settled_by listings.now) self.old }
+        ensures numbered { AreNumbered 1 self.old }
+    {
+        settle(&mut self.all[self.done..], listings);
+    }
+
+    /// Gives up the open watermark with this number.
+    pub fn expire(&mut self, listings: &Listings, mark: u32)
+        requires { length listings.now < 2 ^ 32 }
+        ensures expired { self.new ≡ map (expired_by listings.now mark) self.old }
+        ensures numbered { AreNumbered 1 self.old }
+    {
+        expire(&mut self.all[self.done..], listings, mark);
+    }
+
+    /// Cuts each open watermark.
+    pub fn cut(&mut self)
+        ensures cut { self.new ≡ map cut_off self.old }
+        ensures numbered { AreNumbered 1 self.old }
+    {
+        cut(&mut self.all[self.done..]);
+    }
+
+    /// Marks the first watermark whose outcome is to be told as told, and gives it.
+    pub fn tell_first(&mut self) -> Option<Watermark>
+        ensures first { result ≡ find (λ k. k.untold) self.old }
+        ensures told { self.new ≡ told_first self.old }
+        ensures numbered { AreNumbered 1 self.old }
+    {
+        let first = tell_first(&mut self.all[self.done..])?;
+        self.done += count_finished(&self.all[self.done..]);
+        Some(first)
+    }
+}
+
+/// Satisfies each open watermark that enough members are past.
+fn settle(watermarks: &mut [Watermark], listings: &Listings)
+    requires { length listings.now < 2 ^ 32 }
+    ensures { watermarks.new ≡ map (settled_by listings.now) watermarks.old }
+{
+    for watermark in watermarks.iter_mut() {
+        *watermark = watermark.settled(listings);
+    }
+}
+
+/// Gives up the open watermark with this number.
+fn expire(watermarks: &mut [Watermark], listings: &Listings, mark: u32)
+    requires { length listings.now < 2 ^ 32 }
+    ensures { watermarks.new ≡ map (expired_by listings.now mark) watermarks.old }
+{
+    for watermark in watermarks.iter_mut() {
+        *watermark = watermark.expired(listings, mark);
+    }
+}
+
+/// Cuts each open watermark.
+fn cut(watermarks: &mut [Watermark])
+    ensures { watermarks.new ≡ map cut_off watermarks.old }
+{
+    for watermark in watermarks.iter_mut() {
+        *watermark = watermark.cut();
+    }
+}
+
+/// How many watermarks are open.
+fn count_open(watermarks: &[Watermark]) -> usize
+    ensures { result ≡ length (filter (λ k. is_none k.ended) watermarks.now) }
+{
+    watermarks
+        .iter()
+        .filter(|watermark| watermark.is_open())
+        .count()
+}
+
+/// How many outcomes are to be told.
+fn count_untold(watermarks: &[Watermark]) -> usize
+    ensures { result ≡ length (filter (λ k. k.untold) watermarks.now) }
+{
+    watermarks
+        .iter()
+        .filter(|watermark| watermark.untold)
+        .count()
+}
+
+/// The first open watermark.
+fn first_open(watermarks: &[Watermark]) -> Option<Watermark>
+    ensures { result ≡ find (λ k. is_none k.ended) watermarks.now }
+{
+    let watermark = watermarks.iter().find(|watermark| watermark.is_open())?;
+    Some(*watermark)
+}
+
+/// Marks the first watermark whose outcome is to be told as told, and gives it.
+fn tell_first(watermarks: &mut [Watermark]) -> Option<Watermark>
+    ensures first { result ≡ find (λ k. k.untold) watermarks.old }
+    ensures told { watermarks.new ≡ told_first watermarks.old }
+{
+    for watermark in watermarks.iter_mut() {
+        if watermark.untold {
+            let first = *watermark;
+            *watermark = first.told();
+            return Some(first);
+        }
+    }
+    None
+}
+
+/// How many watermarks at the front are finished.
+fn count_finished(watermarks: &[Watermark]) -> usize
+    ensures { result ≡ prefix_len is_finished watermarks.now }
+{
+    for (place, watermark) in watermarks.iter().enumerate() {
+        if !watermark.is_finished() {
+            return place;
+        }
+    }
+    watermarks.len()
+}
