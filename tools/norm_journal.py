@@ -37,7 +37,7 @@ Position = tuple[int, int, int]
 
 @dataclass
 class Watermark:
-    """A watermark request: where it stands, who has to be past it, and what became of it."""
+    """A watermark: where it stands, who has to be past it, and what became of it."""
     number: int
     instance: int
     at: Position

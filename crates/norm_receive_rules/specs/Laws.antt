@@ -16,8 +16,8 @@ use Rattle.norm_receive_rules.specs.HandingUp.{hands_one, handed_up}
 use Rattle.norm_receive_rules.specs.AllNeeds.{needs_of, last_known, needs_nothing}
 use Rattle.norm_receive_rules.specs.Lazy.{Nil, Next}
 use Rattle.norm_receive_rules.specs.Needs.{is_covered}
-use Rattle.norm_receive_rules.specs.Plans.{plan_of, says_stream}
-use Rattle.norm_receive_rules.specs.NothingMissing.{NothingIsMissing}
+use Rattle.norm_receive_rules.specs.Plans.{plan_of, says_stream, is_done}
+use Rattle.norm_receive_rules.specs.NothingMissing.{IsThere, NothingIsMissing}
 
 -- the hand-ups are those that were there, and further ones
 abbrev pub HasMore : Holding → Holding → Type 0
@@ -75,3 +75,27 @@ pub record FrontLaws : Type 0 where
   pub first : (p : Settings) (s : ReceiverState) → hands_one p s.holding ≡ None
       → IfSome (plan_of s.holding s.holding.point.index) (λ (plan : Plan). says_stream plan.flags ≡ false)
       → needs_nothing_first p s ≡ true → needs_nothing p s ≡ true
+
+-- The hand-up point is where an object begins.
+pub record IsAtStart (s : Holding) : Type 0 where
+  pub block : s.point.block ≡ 0
+  pub symbol : s.point.symbol ≡ 0
+
+-- Of a stream at the hand-up point each block before it is done, and of its block each source symbol before it is there.
+pub record IsPassed (s : Holding) (plan : Plan) : Type 0 where
+  pub done : (block : ℕ) → block < s.point.block → is_done s plan block ≡ true
+  pub there : (symbol : ℕ) → symbol < s.point.symbol → IsThere s plan (position plan.index s.point.block symbol)
+
+-- the same where an object has a plan or none
+abbrev pub PassedBy : Holding → Option Plan → Type 0
+PassedBy s None = IsAtStart s
+PassedBy s (Some plan) = elim (says_stream plan.flags) as (λ _. Type 0) [ true ↦ IsPassed s plan | false ↦ IsAtStart s ]
+
+-- of the object at the hand-up point
+abbrev pub HasPassed : Holding → Type 0
+HasPassed s = PassedBy s (plan_of s s.point.index)
+
+-- Of a stream each block before the hand-up point's is done: so it is at first, and after each step.
+pub record PassedLaws : Type 0 where
+  pub begins : (node : ℕ) → HasPassed (receiver_opening node).holding
+  pub goes_on : (p : Settings) (s : ReceiverState) (event : ReceiverEvent) → HasPassed s.holding → HasPassed (receiver_step p s event).0.holding

@@ -1,6 +1,6 @@
 //! What is promised of the receiver's rules. Each law is the contract of a function that does nothing.
 
-ghost use Rattle.norm_receive_rules.specs.Laws.{FrontLaws, HandUpLaws, HeardLaws, NeedsLaws, StepLaws};
+ghost use Rattle.norm_receive_rules.specs.Laws.{FrontLaws, HandUpLaws, HeardLaws, NeedsLaws, PassedLaws, StepLaws};
 
 /// Hand-ups go on from the hand-up point: each joins those before it, and the point never goes back.
 #[tactic(auto, using(crate::proofs::HandUpLemmas::hand_up_laws))]
@@ -30,4 +30,10 @@ pub fn steps()
 #[tactic(auto, using(crate::proofs::FrontLemmas::front_laws))]
 pub fn front()
     ensures { FrontLaws }
+{}
+
+/// Of a stream each block before the hand-up point's is done.
+#[tactic(auto, using(crate::proofs::PassedLemmas::passed_laws))]
+pub fn passed()
+    ensures { PassedLaws }
 {}

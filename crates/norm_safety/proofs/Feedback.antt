@@ -1,7 +1,6 @@
 -- What receivers say says nothing of objects and of the sender's points, whatever is read of it.
 use Rattle.std.proofs.Common.{◌≡◌, ℕ, ◌*◌, List, [], ◌∷◌, Bool, true, false, Option, None, Some, Result, Ok, Err, refl, sym, ◌∙◌, subst}
 use Rattle.std.specs.Prelude.{⊤, nat_le, map, flat_map}
-use Rattle.std.specs.List.{list_all}
 use Rattle.norm_base.specs.Settings.{Settings}
 use Rattle.fec_plan.specs.declared.position.Position.{Position}
 use Rattle.norm_ext.specs.Message.{Message, Info, Data, Flush, Eot, Squelch, RepairAdv, AckReq, Opaque, Nack, Ack, Report, NackMessage, AckMessage, Mark}

@@ -19,7 +19,7 @@ use Rattle.fec_plan.proofs.PositionLemmas.{before_decides}
 use Rattle.norm_receive_rules.specs.Holding.{Held}
 use Rattle.norm_receive_rules.specs.Putting.{held_before}
 use Rattle.norm_receive_rules.specs.BlockValue.{ids_of}
-use Rattle.norm_safety.proofs.Cuts.{CutRange, is_sound, few_encoding}
+use Rattle.norm_send_rules.proofs.CutNames.{CutRange, is_sound, few_encoding}
 use Rattle.norm_safety.proofs.SolvedLemmas.{own_octet}
 use Rattle.norm_safety.proofs.BlockLemmas.{IsCoded, Climbing}
 

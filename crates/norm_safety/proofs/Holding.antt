@@ -29,7 +29,7 @@ use Rattle.norm_safety.specs.SaysSymbols.{info_of_object}
 use Rattle.norm_safety.proofs.EntryLemmas.{clash}
 use Rattle.norm_safety.proofs.WholeOrders.{IsSized, AreSized}
 use Rattle.norm_safety.proofs.Spoken.{sized_at}
-use Rattle.norm_safety.proofs.Cuts.{cut_range}
+use Rattle.norm_send_rules.proofs.CutNames.{cut_range}
 use Rattle.norm_safety.proofs.ObjectLemmas.{Rising, IsOfObject, object_again}
 use Rattle.norm_safety.proofs.Exact.{Exactly, exactly_hands, take_next}
 

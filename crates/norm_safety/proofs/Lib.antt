@@ -13,7 +13,6 @@ pub mod PlaceLemmas
 pub mod OnceRun
 pub mod WholeOrders
 pub mod Onward
-pub mod Cuts
 pub mod LastLemmas
 pub mod SenderHolds
 pub mod Spoken
@@ -34,3 +33,6 @@ pub mod WorldTakes
 pub mod OrderRun
 pub mod SaidRun
 pub mod SafeRun
+pub mod CreditLemmas
+pub mod MetLemmas
+pub mod SatisfiedRun

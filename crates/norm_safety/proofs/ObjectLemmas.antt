@@ -20,7 +20,7 @@ use Rattle.norm_receive_rules.specs.Holding.{Holding, Plan, Held}
 use Rattle.norm_receive_rules.specs.Plans.{cut_of_plan, says_stream, held_of, is_done}
 use Rattle.norm_receive_rules.specs.BlockValue.{ids_of, octets_of_held, block_value}
 use Rattle.norm_receive_rules.specs.HandingUp.{block_octets, object_octets}
-use Rattle.norm_safety.proofs.Cuts.{CutRange, is_sound}
+use Rattle.norm_send_rules.proofs.CutNames.{CutRange, is_sound}
 use Rattle.norm_safety.proofs.BlockLemmas.{solved_front}
 use Rattle.norm_safety.proofs.PieceLemmas.{IsFront, piece, walked, number_low, begins_within}
 use Rattle.norm_safety.proofs.HeldLemmas.{held_coded, climbs, sources-octets, length-sources, source_at, few_sources}

@@ -30,7 +30,7 @@ use Rattle.norm_safety.specs.Jobs.{IsJob, OpensNone}
 use Rattle.norm_safety.proofs.SenderKeeps.{Keeps, FewNodes, AllOpen, mark_position}
 use Rattle.norm_safety.proofs.OnceLemmas.{unused_few}
 use Rattle.norm_safety.proofs.EntryLemmas.{clash}
-use Rattle.norm_safety.proofs.Cuts.{cut_range}
+use Rattle.norm_send_rules.proofs.CutNames.{cut_range}
 use Rattle.norm_safety.proofs.LastLemmas.{last_is_source, source_still}
 use Rattle.norm_safety.proofs.WholeOrders.{IsSized, AreSized, Steady, keeps_steady, CommandCase, Stays, Joins, Restarts, command_case}
 use Rattle.fec_plan.proofs.PointLemmas.{not_before, behind_point}

@@ -44,7 +44,7 @@ use Rattle.norm_safety.proofs.WholeOrders.{IsSized, AreSized}
 use Rattle.fec_plan.proofs.PointLemmas.{not_before_itself}
 use Rattle.norm_safety.proofs.Onward.{instance_in}
 use Rattle.norm_safety.proofs.SenderHolds.{SenderHolds, current_sized}
-use Rattle.norm_safety.proofs.Cuts.{cut_range, AreNames, names_fit, source_names_fit}
+use Rattle.norm_send_rules.proofs.CutNames.{cut_range, AreNames, names_fit, source_names_fit}
 
 -- ---- numbers
 

@@ -15,8 +15,8 @@ use Rattle.norm_safety.specs.Events.{Event, Delivered}
 use Rattle.norm_safety.specs.History.{Happening, History}
 
 -- a node is listed past a position, or further
-abbrev pub listed_past : SenderState → ℕ → Position → Bool
-listed_past s node at = list_any (λ (l : Listing). l.node == node && is_past at l) s.listings
+abbrev pub is_listed_past : SenderState → ℕ → Position → Bool
+is_listed_past s node at = list_any (λ (l : Listing). l.node == node && is_past at l) s.listings
 
 -- the position that an acknowledgement of type 2 names
 abbrev pub confirmed : Settings → SenderState → AckMessage → Option Position
@@ -26,7 +26,7 @@ confirmed p s m = elim m.content [ Mark item ↦ item_named p (last_index s) ite
 abbrev pub ack_credits : Settings → SenderState → SenderState → AckMessage → Bool
 ack_credits p s later m = elim (ack_counts p s m) [
   | true ↦ elim (confirmed p s m) [
-    | Some at ↦ elim (is_source (current_shapes p s) at) [ true ↦ listed_past later m.source at | false ↦ true ]
+    | Some at ↦ elim (is_source (current_shapes p s) at) [ true ↦ is_listed_past later m.source at | false ↦ true ]
     | None ↦ true
   ]
   | false ↦ true

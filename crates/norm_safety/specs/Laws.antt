@@ -4,6 +4,7 @@ use Rattle.std.specs.List.{AllByRecursion}
 use Rattle.std.specs.Bool.{Decides}
 use Rattle.norm_base.specs.Settings.{Settings, InRange}
 use Rattle.norm_send_rules.specs.Laws.{WantsHold}
+use Rattle.norm_safety.specs.CreditsMembers.{CreditsMembers}
 use Rattle.norm_safety.specs.Events.{Event}
 use Rattle.norm_safety.specs.History.{History, history}
 use Rattle.norm_safety.specs.OnceEach.{OnceEach, is_once_each}
@@ -54,3 +55,12 @@ OfRunsOfObjects Promise = (p : Settings) → InRange p → (events : List Event)
 pub record SafeRun : Type 0 where
   pub once : (p : Settings) (events : List Event) → Lawful p events → OnceEach (history p events)
   pub order : OfRunsOfObjects InOrder
+
+-- in each run what a member acknowledges is credited
+abbrev pub CreditRun : Type 0
+CreditRun = (p : Settings) (events : List Event) → CreditsMembers p (history p events)
+
+-- in each run under a profile a watermark is satisfied exactly where, while it had not ended, enough members were listed past it,
+-- and its outcome stays
+abbrev pub SatisfiedRun : Type 0
+SatisfiedRun = (p : Settings) → InRange p → (events : List Event) → SatisfiedExactly (history p events)

@@ -1,7 +1,7 @@
 //! What is promised of runs of a sender and its receivers, and of the tests of safety. Each law is the contract of a
 //! function that does nothing.
 
-ghost use Rattle.norm_safety.specs.Laws.{TestLaws, WantsHoldInRuns, SafeRun, OfRunsOfObjects, SaidOfOrders};
+ghost use Rattle.norm_safety.specs.Laws.{TestLaws, WantsHoldInRuns, SafeRun, OfRunsOfObjects, SaidOfOrders, CreditRun, SatisfiedRun};
 
 /// The first two parts of safety. In every lawful run, whatever the network loses, repeats, reorders or delays and however
 /// often the sender restarts, accepted objects enter the transport order once each. And in those of data and files each
@@ -31,4 +31,17 @@ pub fn tests()
 #[tactic(auto, using(crate::proofs::WantRunLemmas::wants_hold_in_runs))]
 pub fn wants()
     ensures { WantsHoldInRuns }
+{}
+
+/// In each run an acknowledgement of a member for the current instance, of an enqueued source symbol, lists that member past
+/// this position or further as it is delivered to the sender.
+#[tactic(auto, using(crate::proofs::CreditLemmas::credit_run))]
+pub fn credit_run()
+    ensures { CreditRun }
+{}
+
+/// The fourth part of safety. In each run a watermark is satisfied exactly where, as it was made or later while it was open, so
+/// many members as its quorum says, and all where there were no more, were listed past it or further; and its outcome stays.
+pub fn satisfied_run()
+    ensures { SatisfiedRun }
 {}

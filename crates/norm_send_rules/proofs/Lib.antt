@@ -3,8 +3,10 @@ pub mod ClosingLemmas
 pub mod ShapeLemmas
 pub mod AskingLemmas
 pub mod WantLemmas
+pub mod CutNames
 pub mod NewLemmas
 pub mod TickLemmas
 pub mod StepLemmas
 pub mod BookLemmas
+pub mod PlaceLemmas
 pub mod ReachedLemmas

@@ -1,6 +1,6 @@
 -- What holds of every state that a sender comes to.
-use Rattle.std.proofs.Common.{◌≡◌, ℕ, zero, suc, ◌+◌, ◌*◌, ◌/◌, ◌%◌, ◌<◌, ◌≤◌, List, [], ◌∷◌, ◌++◌, length, Bool, true, false, Option, None, Some, Ok, Err, refl, sym, ap, ◌∙◌, subst, arith}
-use Rattle.std.specs.Prelude.{drop, min, nat_lt, nat_le, unwrap_or, ◌==◌, ◌||◌}
+use Rattle.std.proofs.Common.{◌≡◌, ℕ, zero, suc, ◌+◌, ◌*◌, ◌/◌, ◌%◌, ◌<◌, ◌≤◌, List, [], ◌∷◌, ◌++◌, length, Bool, true, false, Option, None, Some, Ok, Err, refl, sym, ap, ◌∙◌, subst, arith, is_none, Result}
+use Rattle.std.specs.Prelude.{IfSome, drop, map, min, nat_lt, nat_le, unwrap_or, ◌==◌, ◌||◌}
 use Rattle.std.specs.List.{AllByRecursion}
 use Rattle.std.specs.Int.{div_ceil}
 use Rattle.std.proofs.Math.Nat.{zero-mod, zero-div}
@@ -12,13 +12,17 @@ use Rattle.norm_base.specs.declared.kinds.Kind.{Kind}
 use Rattle.norm_base.specs.declared.kinds.Kind.TheVariants as kind
 use Rattle.norm_base.specs.declared.node.Origin.{Origin}
 use Rattle.fec_plan.specs.declared.position.Position.{Position}
+use Rattle.norm_ext.specs.Asking.{item_named}
+use Rattle.norm_ext.specs.Message.{Message, Nack, Ack, AckContent, Mark, Unread}
 use Rattle.norm_ext.specs.Reading.{decoded}
+use Rattle.norm_ext.specs.Requests.{Request}
 use Rattle.norm_order.specs.Entries.{Part, Write, Cut, End, Object, Whole, Stream, Entry}
 use Rattle.norm_order.specs.Segments.{pieces, full_pieces, all_pieces, closed_from, since_cut, unclosed, has_end}
-use Rattle.norm_order.specs.Shapes.{last_source}
-use Rattle.norm_send_rules.specs.SenderState.{SenderState, Instance, Watermark, unlisted, sender_opening}
+use Rattle.norm_order.specs.Sets.{with_member}
+use Rattle.norm_order.specs.Shapes.{shapes_of, is_source, last_source}
+use Rattle.norm_send_rules.specs.SenderState.{SenderState, Instance, Watermark, unlisted, sender_opening, Listing}
 use Rattle.norm_send_rules.specs.InWindow.{next_index, last_index, current_shapes}
-use Rattle.norm_send_rules.specs.Watermarks.{open_watermarks, pending, end_where, settled}
+use Rattle.norm_send_rules.specs.Watermarks.{open_watermarks, pending, end_where, settled, counted_anew, is_open, watermark_of, is_met}
 use Rattle.norm_send_rules.specs.Dropping.{dropped_to}
 use Rattle.norm_send_rules.specs.Room.{stream_drop}
 use Rattle.norm_send_rules.specs.Enqueuing.{info_length, open_stream, ids_spent, object_fault, joined}
@@ -28,21 +32,24 @@ use Rattle.norm_send_rules.specs.Striking.{strike_fault, without_node, struck_of
 use Rattle.norm_send_rules.specs.Restarting.{is_used, begun_anew}
 use Rattle.norm_send_rules.specs.Commanding.{commanded}
 use Rattle.norm_send_rules.specs.Closing.{round_closed}
-use Rattle.norm_send_rules.specs.Hearing.{heard}
+use Rattle.norm_send_rules.specs.Hearing.{listed_past, rises, credited_at, credited_by, joined_round, nack_counts, ack_counts, message_heard, heard}
 use Rattle.norm_send_rules.specs.Sending.{behind, noted}
 use Rattle.norm_send_rules.specs.Flushing.{expired}
-use Rattle.norm_send_rules.specs.Telling.{told}
+use Rattle.norm_send_rules.specs.Telling.{listing_of, past_news, done_news, told}
 use Rattle.norm_send_rules.specs.SenderStep as events
 use Rattle.norm_send_rules.specs.SenderStep.{SenderEvent, sender_step}
 use Rattle.norm_send_rules.specs.Reached.{FitsProfile, BookHolds, IsReached, ReachedLaws}
 use Rattle.norm_send_rules.specs.declared.job.Job.{Job}
 use Rattle.norm_send_rules.specs.declared.job.Job.TheVariants as job
-use Rattle.norm_send_rules.specs.declared.news.Outcome.TheVariants.{Expired}
+use Rattle.norm_send_rules.specs.declared.news.Outcome.TheVariants.{Satisfied, Expired}
+use Rattle.norm_send_rules.specs.declared.news.News.{News}
 use Rattle.norm_send_rules.specs.declared.want.Want.{Want}
 use Rattle.norm_send_rules.specs.declared.want.Want.TheVariants.{Info, Symbol}
-use Rattle.norm_send_rules.proofs.ShapeLemmas.{blocks_of}
+use Rattle.norm_send_rules.proofs.ShapeLemmas.{Blocks, blocks_of, HaveAll, have_all_joined, source_still}
+use Rattle.norm_send_rules.proofs.CutNames.{cut_range}
+use Rattle.norm_send_rules.proofs.PlaceLemmas.{PlacesPass, places_more, ends_places, counted_places, more_places, risen_places, fewer_places, anew_holds_places, unlisted_places, last_is_source, symbol_names, source_names}
 use Rattle.norm_send_rules.proofs.TickLemmas.{TickKeeps, tick_keeps}
-use Rattle.norm_send_rules.proofs.WantLemmas.{where_free, either, no_row, EndsOpen, ends_open, Same, anew}
+use Rattle.norm_send_rules.proofs.WantLemmas.{goes_longer, where_free, either, no_row, EndsOpen, ends_open, Same, anew}
 use Rattle.norm_send_rules.proofs.StepLemmas.{step_holds, heard_same, told_same, expired_same, noted_same}
 use Rattle.norm_send_rules.proofs.BookLemmas.{book_of, nothing_told, same_book, ends_book, counted_book, settled_book, more_book, struck_book, anew_holds_book, told_book, heard_book}
 
@@ -123,7 +130,7 @@ ticks_book p = record {
   spends = λ s moment h. same_book s (record s { next_send = moment; sequence = (s.sequence + 1) % 65536 }) refl h;
 }
 
-steps_book : (p : Settings) (s : SenderState) (event : SenderEvent) → BookHolds s → BookHolds (sender_step p s event).0
+pub steps_book : (p : Settings) (s : SenderState) (event : SenderEvent) → BookHolds s → BookHolds (sender_step p s event).0
 steps_book p s (events.Commanded by job now) h = commands_book p s by job h
 steps_book p s (events.Delivered datagram now) h = heard_book p s now (decoded datagram) h
 steps_book p s (events.Ticked now) h = tick_keeps p BookHolds (ticks_book p) s now h
@@ -327,9 +334,215 @@ steps_fit p s (events.Delivered datagram now) h = same_fit p s (heard p s datagr
 steps_fit p s (events.Ticked now) h = tick_keeps p (HasFit p) (ticks_fit p) s now h
 steps_fit p s events.NewsAsked h = same_fit p s (told s).0 (told_same s).0 h
 
+-- ---- what is asked for and listed
+
+-- each open watermark, and what each member is listed past, is a source symbol of the order
+abbrev Placed : Settings → SenderState → Type 0
+Placed p s = PlacesPass (is_source (current_shapes p s)) s
+
+same_placed : (p : Settings) (s t : SenderState) → t.current ≡ s.current → t.listings ≡ s.listings → t.watermarks ≡ s.watermarks → Placed p s → Placed p t
+same_placed p s t current listings watermarks h =
+    let A : Instance → Type 0 = λ i. AllByRecursion (λ (w : Watermark). is_open w ≡ true → is_source (shapes_of p i.order) w.at ≡ true) t.watermarks in
+    let W : List Watermark → Type 0 = λ ws. AllByRecursion (λ (w : Watermark). is_open w ≡ true → is_source (current_shapes p s) w.at ≡ true) ws in
+    let B : Instance → Type 0 = λ i. AllByRecursion (λ (l : Listing). IfSome l.past (λ at. is_source (shapes_of p i.order) at ≡ true)) t.listings in
+    let L : List Listing → Type 0 = λ ls. AllByRecursion (λ (l : Listing). IfSome l.past (λ at. is_source (current_shapes p s) at ≡ true)) ls in
+    record {
+      asked = subst A (sym current) (subst W (sym watermarks) h.asked);
+      listed = subst B (sym current) (subst L (sym listings) h.listed);
+    }
+
+-- where the order gets longer
+longer_placed : (p : Settings) (s t : SenderState) → HaveAll (current_shapes p s) (current_shapes p t) → t.listings ≡ s.listings → t.watermarks ≡ s.watermarks
+    → Placed p s → Placed p t
+longer_placed p s t all listings watermarks h =
+    let more = places_more (is_source (current_shapes p s)) (is_source (current_shapes p t)) (λ at e. source_still (current_shapes p s) (current_shapes p t) at all e) s h in
+    let W : List Watermark → Type 0 = λ ws. AllByRecursion (λ (w : Watermark). is_open w ≡ true → is_source (current_shapes p t) w.at ≡ true) ws in
+    let L : List Listing → Type 0 = λ ls. AllByRecursion (λ (l : Listing). IfSome l.past (λ at. is_source (current_shapes p t) at ≡ true)) ls in
+    record { asked = subst W (sym watermarks) more.asked; listed = subst L (sym listings) more.listed }
+
+joins_placed : (p : Settings) → Blocks p → (by : Origin) (object : Object) (s : SenderState) → Placed p s → Placed p (joined p by object s)
+joins_placed p blocks by object s h =
+    longer_placed p s (joined p by object s) (have_all_joined p blocks s.current.order (record { by = by; object = object } ∷ [])) refl refl h
+
+-- an open stream goes on
+parts_placed : (p : Settings) → Blocks p → (s : SenderState) (parts more : List Part) → open_stream s ≡ Some parts → Placed p s
+    → Placed p (with_parts (parts ++ more) s)
+parts_placed p blocks s parts more e h =
+    longer_placed p s (with_parts (parts ++ more) s) (goes_longer p blocks s.current.order parts more (ends_open s.current.order parts e)) refl refl h
+
+grown_placed : (p : Settings) → Blocks p → (s : SenderState) (more : List Part) → is_none (open_stream s) ≡ false → Placed p s
+    → Placed p (grown p s (parts_now s ++ more))
+grown_placed p blocks s more is h = go (open_stream s) refl is
+  where
+    drop : List Part → SenderState
+    drop parts = dropped_to (stream_drop p s (last_index s) (used_segments p (parts ++ more))) s
+
+    go : (found : Option (List Part)) → open_stream s ≡ found → is_none found ≡ false
+        → Placed p (with_parts (unwrap_or found [] ++ more) (drop (unwrap_or found [])))
+    go None e none = absurd (clash (sym none))
+    go (Some parts) e there = parts_placed p blocks (drop parts) parts more e (record { asked = h.asked; listed = h.listed })
+
+cut_placed : (p : Settings) → Blocks p → (s : SenderState) → Placed p s → Placed p (cut p s)
+unfolding since_cut
+cut_placed p blocks s h = go (open_stream s) refl
+  where
+    cut_where : ℕ → List Part → SenderState
+    cut_where n parts = elim n [ zero ↦ s | suc k ↦ with_parts (parts ++ Cut ∷ []) s ]
+
+    some : (parts : List Part) → open_stream s ≡ Some parts → (n : ℕ) → Placed p (cut_where n parts)
+    some parts e zero = h
+    some parts e (suc n) = parts_placed p blocks s parts (Cut ∷ []) e h
+
+    go : (found : Option (List Part)) → open_stream s ≡ found → Placed p (cut_where (unclosed p.e (unwrap_or found [])) (unwrap_or found []))
+    go None e = subst (λ (n : ℕ). Placed p (cut_where n [])) (sym (zero-mod p.e)) h
+    go (Some parts) e = some parts e (unclosed p.e parts)
+
+watermark_placed : (p : Settings) (s : SenderState) (by : Origin) (quorum : Option ℕ) (found : Option Position)
+    → ((at : Position) → found ≡ Some at → is_source (current_shapes p s) at ≡ true) → Placed p s → Placed p (watermark_at s by quorum found).0
+watermark_placed p s by quorum None last h = h
+watermark_placed p s by quorum (Some at) last h =
+    let w : Watermark = record { mark = length s.watermarks + 1; by = by; at = at; quorum = quorum; ended = None } in
+    let more : SenderState = record s { watermarks = s.watermarks ++ w ∷ [] } in
+    let test = is_source (current_shapes p s) in
+    let placed : PlacesPass test (with_watermark s by quorum at) =
+    counted_places test s (settled more) (ends_places test (is_met more) (λ w. Satisfied) more (more_places test s w (last at refl) h)) in
+    let same = watermark_same s by quorum (Some at) in
+    by_test (λ t. t.current ≡ s.current → Placed p t) (nat_le most_open (length (open_watermarks s))) (s, _) (with_watermark s by quorum at, _) (λ e. h)
+    (λ e. (let P : Instance → Type 0 = λ i. PlacesPass (is_source (shapes_of p i.order)) (with_watermark s by quorum at) in subst P (sym e) placed))
+    same
+
+mark_placed : (p : Settings) → InRange p → (s : SenderState) (by : Origin) (quorum : Option ℕ) → HasFit p s → Placed p s → Placed p (cut_and_marked p s by quorum).0
+mark_placed p range s by quorum fit h =
+    watermark_placed p (cut p s) by quorum (last_source (current_shapes p (cut p s)))
+    (λ at e. last_is_source p (cut_range p range) (cut p s).current.order at (cut_fits p s fit).0 e) (cut_placed p (blocks_of p range) s h)
+
+commands_placed : (p : Settings) → InRange p → (s : SenderState) (by : Origin) (job : Job) → HasFit p s → Placed p s → Placed p (commanded p s by job).0
+commands_placed p range s by (job.Data info bytes) fit h =
+    by_fault (Placed p) (object_fault p s info bytes) s (joined p by (Whole kind.Data info bytes) s) Err (Ok _) h
+    (λ e. joins_placed p (blocks_of p range) by (Whole kind.Data info bytes) s h)
+commands_placed p range s by (job.File name bytes) fit h =
+    by_fault (Placed p) (object_fault p s (Some name) bytes) s (joined p by (Whole kind.File (Some name) bytes) s) Err (Ok _) h
+    (λ e. joins_placed p (blocks_of p range) by (Whole kind.File (Some name) bytes) s h)
+commands_placed p range s by job.Open fit h =
+    by_fault (Placed p) (open_fault p s) s (joined p by (Stream []) s) Err (Ok _) h (λ e. joins_placed p (blocks_of p range) by (Stream []) s h)
+commands_placed p range s by (job.Write bytes) fit h =
+    let parts = parts_now s ++ Write by bytes ∷ [] in
+    by_fault (Placed p) (write_fault p s bytes parts) s (grown p s parts) Err (Ok _) h (λ e.
+    let first = no_row _ _ _ e in
+    let second = no_row _ _ _ first.1 in
+    grown_placed p (blocks_of p range) s (Write by bytes ∷ []) (no_row _ _ _ second.1).0 h)
+commands_placed p range s by job.Close fit h =
+    let parts = parts_now s ++ End ∷ [] in
+    by_fault (Placed p) (close_fault p s parts) s (grown p s parts) Err (Ok _) h (λ e. grown_placed p (blocks_of p range) s (End ∷ []) (no_row _ _ _ e).0 h)
+commands_placed p range s by (job.Mark None) fit h = mark_placed p range s by None fit h
+commands_placed p range s by (job.Mark (Some q)) fit h =
+    by_test (Placed p) (is_no_quorum p q) (s, _) (cut_and_marked p s by (Some q)) h (mark_placed p range s by (Some q) fit h)
+commands_placed p range s by (job.Restart instance) fit h =
+    by_test (Placed p) (is_used s instance) (s, _) (begun_anew instance s, _) h (anew_holds_places (is_source []) instance s)
+commands_placed p range s by (job.Strike node) fit h =
+    let test = is_source (current_shapes p s) in
+    let gone : SenderState = without_node node s in
+    let placed : PlacesPass test (struck_off node s) =
+    counted_places test s (settled gone) (ends_places test (is_met gone) (λ w. Satisfied) gone (fewer_places test node s h)) in
+    by_fault (Placed p) (strike_fault s node) s (struck_off node s) Err (Ok _) h
+    (λ e. (let P : Instance → Type 0 = λ i. PlacesPass (is_source (shapes_of p i.order)) (struck_off node s) in
+    subst P (sym (anew s s (settled gone) (refl, refl)).0) placed))
+
+noted_placed : (p : Settings) (w : Want) (s : SenderState) → Placed p s → Placed p (noted w s)
+noted_placed p (Info index) s h = same_placed p s (noted (Info index) s) refl refl refl h
+noted_placed p (Symbol at) s h = same_placed p s (noted (Symbol at) s) refl refl refl h
+
+expired_placed : (p : Settings) (w : Watermark) (s : SenderState) → Placed p s → Placed p (expired w.mark s)
+expired_placed p w s h =
+    let test = is_source (current_shapes p s) in
+    let ended : SenderState = end_where (λ v. v.mark == w.mark) (λ v. Expired (length (pending s v.at))) s in
+    let placed : PlacesPass test (expired w.mark s) =
+    counted_places test s ended (ends_places test (λ v. v.mark == w.mark) (λ v. Expired (length (pending s v.at))) s h) in
+    let P : Instance → Type 0 = λ i. PlacesPass (is_source (shapes_of p i.order)) (expired w.mark s) in
+    subst P (sym (expired_same w.mark s).0) placed
+
+ticks_placed : (p : Settings) → TickKeeps p (Placed p)
+ticks_placed p = record {
+  closes = λ s r h. same_placed p s (round_closed p r s) refl refl refl h;
+  squelched = λ s h. same_placed p s (record s { squelch_due = false }) refl refl refl h;
+  repaired = λ s w wants e h. same_placed p s (record s { wants = wants }) refl refl refl h;
+  goes_on = λ s w e h. same_placed p s (record s { next = behind w }) refl refl refl h;
+  notes = λ s w h. noted_placed p w s h;
+  flushes = λ s now h. same_placed p s (record s { flushes = s.flushes + 1; last_flush = Some now }) refl refl refl h;
+  expires = λ s w e h. expired_placed p w s h;
+  spends = λ s moment h. same_placed p s (record s { next_send = moment; sequence = (s.sequence + 1) % 65536 }) refl refl refl h;
+}
+
+credited_placed : (p : Settings) (node : ℕ) (at : Position) (s : SenderState) → Placed p s → Placed p (credited_at p node at s)
+credited_placed p node at s h = go (is_source (current_shapes p s) at) refl (rises node at s)
+  where
+    test : Position → Bool
+    test = is_source (current_shapes p s)
+
+    risen : SenderState
+    risen = record s { listings = map (listed_past node at) s.listings; untold_nodes = with_member nat_lt node s.untold_nodes }
+
+    rise : test at ≡ true → Placed p (counted_anew s (settled risen))
+    rise is =
+        let placed : PlacesPass test (counted_anew s (settled risen)) =
+        counted_places test s (settled risen) (ends_places test (is_met risen) (λ w. Satisfied) risen (risen_places test node at s is h)) in
+        let P : Instance → Type 0 = λ i. PlacesPass (is_source (shapes_of p i.order)) (counted_anew s (settled risen)) in
+        subst P (sym (anew s s (settled risen) (refl, refl)).0) placed
+
+    go : (b : Bool) → is_source (current_shapes p s) at ≡ b → (c : Bool)
+        → Placed p (elim b [ true ↦ elim c [ true ↦ counted_anew s (settled risen) | false ↦ s ] | false ↦ s ])
+    go true is true = rise is
+    go true is false = h
+    go false is c = h
+
+heard_placed : {E : Type 0} (p : Settings) (s : SenderState) (now : ℕ) (read : Result Message E) → Placed p s → Placed p (message_heard p s now read)
+heard_placed p s now (Ok (Nack m)) h = go (nack_counts p s m) m.requests
+  where
+    go : (b : Bool) (requests : List Request) → Placed p (elim b [ true ↦ joined_round p s now requests | false ↦ s ])
+    go true [] = h
+    go true (r ∷ requests) = same_placed p s (joined_round p s now (r ∷ requests)) refl refl refl h
+    go false requests = h
+heard_placed p s now (Ok (Ack m)) h = go (ack_counts p s m) m.content
+  where
+    by : (at : Option Position) → Placed p (credited_by p m.source at s)
+    by None = h
+    by (Some at) = credited_placed p m.source at s h
+
+    go : (b : Bool) (content : AckContent) → Placed p (elim b [
+      | true ↦ elim content [ Mark item ↦ credited_by p m.source (item_named p (last_index s) item) s | Unread octets ↦ s ]
+      | false ↦ s
+    ])
+    go true (Mark item) = by (item_named p (last_index s) item)
+    go true (Unread octets) = h
+    go false content = h
+heard_placed p s now _ h = h
+
+told_placed : (p : Settings) (s : SenderState) → Placed p s → Placed p (told s).0
+told_placed p s h = go s.untold_nodes s.untold_marks
+  where
+    news : List ℕ → List ℕ → SenderState × Option News
+    news nodes marks = elim nodes [
+      | node ∷ others ↦ (record s { untold_nodes = others }, past_news node (listing_of s node))
+      | [] ↦ elim marks [
+        | mark ∷ others ↦ (record s { untold_marks = others }, done_news s mark (watermark_of s mark))
+        | [] ↦ (s, None)
+      ]
+    ]
+
+    go : (nodes marks : List ℕ) → Placed p (news nodes marks).0
+    go (node ∷ nodes) marks = same_placed p s (record s { untold_nodes = nodes }) refl refl refl h
+    go [] (mark ∷ marks) = same_placed p s (record s { untold_marks = marks }) refl refl refl h
+    go [] [] = h
+
+steps_placed : (p : Settings) → InRange p → (s : SenderState) (event : SenderEvent) → HasFit p s → Placed p s → Placed p (sender_step p s event).0
+steps_placed p range s (events.Commanded by job now) fit h = commands_placed p range s by job fit h
+steps_placed p range s (events.Delivered datagram now) fit h = heard_placed p s now (decoded datagram) h
+steps_placed p range s (events.Ticked now) fit h = tick_keeps p (Placed p) (ticks_placed p) s now h
+steps_placed p range s events.NewsAsked fit h = told_placed p s h
+
 -- ---- all of it
 
-receivers_many : (p : Settings) (n : ℕ) → length (receivers_of p n) ≡ n
+pub receivers_many : (p : Settings) (n : ℕ) → length (receivers_of p n) ≡ n
 receivers_many p zero = refl
 receivers_many p (suc n) =
     let more = length-append (receivers_of p n) ((p.sender + 1 + n) ∷ []) in let before = receivers_many p n in omega (arith, more, before)
@@ -344,16 +557,28 @@ opening_reached p instance range =
       objects = tt;
       indices = omega arith;
       book = record { members = omega (arith, listed, many, most); numbered = refl; rises = tt; outcomes = tt };
+      asked = tt;
+      listed = unlisted_places (is_source []) (receivers_of p p.receivers);
     }
 
 step_reached : (p : Settings) (s : SenderState) (event : SenderEvent) → InRange p → IsReached p s → IsReached p (sender_step p s event).0
 step_reached p s event range h =
     let fit = steps_fit p s event (h.objects, h.indices) in
-    record { wants = step_holds p (blocks_of p range) s event h.wants; objects = fit.0; indices = fit.1; book = steps_book p s event h.book }
+    let placed = steps_placed p range s event (h.objects, h.indices) (record { asked = h.asked; listed = h.listed }) in
+    record {
+      wants = step_holds p (blocks_of p range) s event h.wants;
+      objects = fit.0;
+      indices = fit.1;
+      book = steps_book p s event h.book;
+      asked = placed.asked;
+      listed = placed.listed;
+    }
 
 pub reached_laws : ReachedLaws
 reached_laws = record {
   at_first = opening_reached;
   always = step_reached;
   quiet = λ p s h e. nothing_told s h.book e;
+  symbols = λ p s at range h e. symbol_names p range s.current.order at h.objects h.indices e;
+  sources = λ p s at range h e. source_names p range s.current.order at h.objects h.indices e;
 }

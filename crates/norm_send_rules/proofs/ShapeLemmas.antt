@@ -9,7 +9,7 @@ use Rattle.fec_plan.specs.Partition.{Cut, source_symbols, encoding_symbols, symb
 use Rattle.fec_plan.specs.declared.position.Position.{Position}
 use Rattle.norm_order.specs.Entries.{Part, Object, Whole, Stream, Entry}
 use Rattle.norm_order.specs.Segments.{has_end}
-use Rattle.norm_order.specs.Shapes.{Shape, shape_of, shapes_of, at_index, closed_in, encoded_in, is_encoded, has_info}
+use Rattle.norm_order.specs.Shapes.{Shape, shape_of, shapes_of, at_index, closed_in, encoded_in, is_source, is_encoded, has_info}
 use Rattle.norm_order.proofs.StreamLemmas.{closed_grow}
 
 -- what a profile's blocks need: as many encoding symbols as source symbols
@@ -104,7 +104,7 @@ lt_more x a b le e = let lt : x < a = (Decides-ltb x a).0 e in (Decides-ltb x b)
 clash : false ≡ true → ⊥
 clash h = cc
 
-index_more : (less more : List Shape) (i : ℕ) (test : Shape → Bool) → HaveAll less more
+pub index_more : (less more : List Shape) (i : ℕ) (test : Shape → Bool) → HaveAll less more
     → ((x y : Shape) → HasAll x y → test x ≡ true → test y ≡ true)
     → at_index less i false test ≡ true → at_index more i false test ≡ true
 index_more [] more i test all kept e = absurd (clash e)
@@ -115,6 +115,14 @@ index_more (x ∷ less) (y ∷ more) (suc i) test all kept e = index_more less m
 pub encoded_still : (less more : List Shape) (at : Position) → HaveAll less more → is_encoded less at ≡ true → is_encoded more at ≡ true
 encoded_still less more at all e = index_more less more at.index (λ s. nat_lt at.symbol (encoded_in s at.block)) all
     (λ x y h k. lt_more at.symbol (encoded_in x at.block) (encoded_in y at.block) (encoded_in_more x y at.block h) k) e
+
+closed_in_more : (less more : Shape) (block : ℕ) → HasAll less more → closed_in less block ≤ closed_in more block
+closed_in_more less more block h =
+    subst (λ (c : Cut). closed_in (record less { cut = c }) block ≤ closed_in more block) (sym h.cut) (closed_in_cut more.cut less.closed more.closed block h.closed)
+
+pub source_still : (less more : List Shape) (at : Position) → HaveAll less more → is_source less at ≡ true → is_source more at ≡ true
+source_still less more at all e = index_more less more at.index (λ s. nat_lt at.symbol (closed_in s at.block)) all
+    (λ x y h k. lt_more at.symbol (closed_in x at.block) (closed_in y at.block) (closed_in_more x y at.block h) k) e
 
 pub info_still : (less more : List Shape) (i : ℕ) → HaveAll less more → has_info less i ≡ true → has_info more i ≡ true
 info_still less more i all e = index_more less more i (λ s. s.info) all (λ x y h k. sym h.info ∙ k) e

@@ -146,14 +146,18 @@ ends_open order parts e = go (reverse order) refl e
       stream.1,
     )
 
+-- an open stream that goes on has all that it had
+pub goes_longer : (p : Settings) → Blocks p → (order : List Entry) (parts more : List Part) → EndsOpen order parts
+    → HaveAll (shapes_of p order) (shapes_of p (with_last (Stream (parts ++ more)) order))
+goes_longer p blocks order parts more ends =
+    subst (λ (order : List Entry). HaveAll (shapes_of p order) (shapes_of p (with_last (Stream (parts ++ more)) order))) (sym ends.2)
+    (subst (λ (order : List Entry). HaveAll (shapes_of p (ends.0 ++ ends.1 ∷ [])) (shapes_of p order)) (sym (with_last_is (Stream (parts ++ more)) ends.0 ends.1))
+    (have_all_longer p blocks ends.0 ends.1 (record (ends.1) { object = Stream (parts ++ more) }) parts more ends.4 ends.3 refl))
+
 pub goes_on : (p : Settings) → Blocks p → (s : SenderState) (parts more : List Part) → open_stream s ≡ Some parts → WantsHold p s
     → WantsHold p (with_parts (parts ++ more) s)
 goes_on p blocks s parts more e h =
-    let ends = ends_open s.current.order parts e in
-    grows p s (with_last (Stream (parts ++ more)) s.current.order)
-    (subst (λ (order : List Entry). HaveAll (shapes_of p order) (shapes_of p (with_last (Stream (parts ++ more)) order))) (sym ends.2)
-    (subst (λ (order : List Entry). HaveAll (shapes_of p (ends.0 ++ ends.1 ∷ [])) (shapes_of p order)) (sym (with_last_is (Stream (parts ++ more)) ends.0 ends.1))
-    (have_all_longer p blocks ends.0 ends.1 (record (ends.1) { object = Stream (parts ++ more) }) parts more ends.4 ends.3 refl))) h
+    grows p s (with_last (Stream (parts ++ more)) s.current.order) (goes_longer p blocks s.current.order parts more (ends_open s.current.order parts e)) h
 
 -- where a stream is open, its parts now are these, and they go on
 goes_on_now : (p : Settings) → Blocks p → (s : SenderState) (more : List Part) → is_none (open_stream s) ≡ false → WantsHold p s

@@ -211,7 +211,7 @@ fn missing(hold: &Hold, index: u32, block: u32) -> Option<Missing> {
     Some(hold.missing(index, block))
 }
 
-/// Whether a symbol of an object that is not over is held.
+/// Whether a symbol is held, where its block was not handed up whole.
 fn holds(hold: &Hold, at: At) -> bool {
     let (index, block, symbol) = at;
     let at = Position {
@@ -219,7 +219,8 @@ fn holds(hold: &Hold, at: At) -> bool {
         block,
         symbol,
     };
-    hold.hand_up().index <= index && hold.holds(at)
+    let first = hold.hand_up().point();
+    !at.point().is_before(&first) && hold.holds(at)
 }
 
 /// Makes a call that reads, and says whether it was answered so.

@@ -11,7 +11,7 @@ use Rattle.fec_plan.proofs.CoverLemmas.{few_blocks, small_some, between}
 use Rattle.norm_order.specs.declared.up.Up.{Up}
 use Rattle.norm_order.specs.declared.up.Up.TheVariants as up
 use Rattle.norm_receive_rules.specs.Holding.{Holding, Plan, Held}
-use Rattle.norm_receive_rules.specs.Plans.{cut_of_plan, says_stream, is_done, lacking, held_of, is_over, has_its_info}
+use Rattle.norm_receive_rules.specs.Plans.{cut_of_plan, says_stream, is_done, lacking, held_of, has_its_info}
 use Rattle.norm_receive_rules.specs.HandingUp.{is_whole, kind_of, told_info, object_octets, after_object, handed, hands_object, hands_next, hands_one, hands_most, handed_up}
 use Rattle.rx_hold.specs.ObjectState.{ObjectState, alone}
 use Rattle.rx_hold.specs.HoldState.{HoldState, Stands, is_passed}

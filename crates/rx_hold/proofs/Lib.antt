@@ -23,6 +23,7 @@ pub mod FrontLemmas
 pub mod LoseLemmas
 pub mod ReadLemmas
 pub mod FirstLemmas
+pub mod SettledHolds
 pub mod FitLemmas
 pub mod TakeLemmas
 pub mod PutLemmas

@@ -12,7 +12,7 @@ ghost use Rattle.norm_receive_rules.specs.declared.words.Put.TheVariants as put_
 ghost use Rattle.rx_hold.specs.ObjectState.{ObjectState, alone, offered_to};
 ghost use Rattle.rx_hold.specs.HoldState.{Stands};
 ghost use Rattle.rx_hold.specs.HoldSound.{at_place, octets_in, front_view, HasRoom, IsFront};
-ghost use Rattle.rx_hold.specs.HoldMoves.{HandsFirst, symbols_held};
+ghost use Rattle.rx_hold.specs.HoldMoves.{HandsFirst, IsSettled, symbols_held};
 
 use crate::object::Object;
 use fec_plan::PayloadId;
@@ -170,6 +170,7 @@ impl Front {
         ensures forward { self.old.point ≤ self.new.point }
         ensures fewer { IsTrue result → symbols_held (front_view self.new) < symbols_held (front_view self.old) }
         ensures state { (s : Holding) → Stands (front_view self.old) s → HandsFirst result (front_view self.old) (front_view self.new) s }
+        ensures settled { result ≡ false → IsSettled (front_view self.new) }
     {
         let Some(object) = take_whole(&mut self.ring) else {
             return false;
@@ -188,6 +189,7 @@ impl Front {
         ensures profile { self.new.profile ≡ self.old.profile }
         ensures forward { self.old.point ≤ self.new.point }
         ensures state { (s : Holding) → Stands (front_view self.old) s → Stands (front_view self.new) (handed_up self.old.profile s) }
+        ensures settled { IsSettled (front_view self.new) }
     {
         while self.hand_up_first() {}
     }
@@ -219,6 +221,7 @@ impl Front {
         ensures profile { self.new.profile ≡ self.old.profile }
         ensures state { (s : Holding) → Stands (front_view self.old) s
             → Stands (front_view self.new) (loses_before (index - s.point.index) self.old.profile index s) }
+        ensures settled { IsSettled (front_view self.new) }
     {
         self.advance();
         while self.point < index {
@@ -246,6 +249,7 @@ impl Front {
         ensures profile { self.new.profile ≡ self.old.profile }
         ensures state { (s : Holding) → Stands (front_view self.old) s
             → Stands (front_view self.new) (squelched self.old.profile (point_at index block) s) }
+        ensures settled { IsSettled (front_view self.new) }
     {
         self.lose_all_before(index);
         if self.is_cut_off(index, block) {

@@ -15,6 +15,7 @@ ghost use Rattle.norm_receive_rules.specs.declared.words.Fit.TheVariants as fit_
 ghost use Rattle.norm_receive_rules.specs.declared.words.Put.TheVariants as put_word;
 ghost use Rattle.norm_ext.specs.declared.fti.Fti.{Fti as FtiValue};
 ghost use Rattle.rx_hold.specs.HoldState.{Stands, empty_hold, IsUnused, IsFirstShort, plan_in, plan_at, flags_in, flags_at, missing_at, first_short_at};
+ghost use Rattle.rx_hold.specs.HoldMoves.{IsSettled};
 ghost use Rattle.rx_hold.specs.HoldSound.{are_same, octets_in, MayTake, MayInform};
 
 use crate::front::{Front, PLACES, fill, object_at, octets_of, offer_at, put_info_at, take_at};
@@ -87,6 +88,7 @@ impl Hold {
     pub fn new(alloc: Global, profile: &Profile) -> Result<Hold, Memory>
         ensures empty { IfOk result (λ hold. hold ≡ empty_hold profile.now) }
         ensures begun { IfOk result (λ hold. Stands hold holding_nothing) }
+        ensures settled { IfOk result (λ hold. IsSettled hold) }
     {
         let mut ring = VecDeque::with_capacity(alloc, PLACES)?;
         fill(&mut ring);
@@ -114,6 +116,7 @@ impl Hold {
     pub fn anew(&self) -> Result<Hold, Memory>
         ensures empty { IfOk result (λ hold. hold ≡ empty_hold self.now.p) }
         ensures begun { IfOk result (λ hold. Stands hold holding_nothing) }
+        ensures settled { IfOk result (λ hold. IsSettled hold) }
     {
         Hold::new(self.alloc, &self.front.profile)
     }
@@ -122,6 +125,7 @@ impl Hold {
     pub fn clear(&mut self)
         ensures empty { self.new ≡ empty_hold self.old.p }
         ensures begun { Stands self.new holding_nothing }
+        ensures settled { IsSettled self.new }
     {
         self.front.ring.clear();
         fill(&mut self.front.ring);
@@ -236,6 +240,8 @@ impl Hold {
     pub fn next_up(&mut self) -> Option<Up>
         ensures profile { self.new.p ≡ self.old.p }
         ensures none { IfNone result ((self.old.ups ≡ []) × (self.new ≡ self.old)) }
+        ensures rest { self.new ≡ record self.old { ups = self.new.ups } }
+        ensures settled { IsSettled self.old → IsSettled self.new }
         ensures state { (s : Holding) → Stands self.old s → (result ≡ (up_taken s).1) × Stands self.new (up_taken s).0 }
     {
         self.front.ups.pop_front()
@@ -424,6 +430,7 @@ impl Hold {
     pub fn advance(&mut self)
         ensures profile { self.new.p ≡ self.old.p }
         ensures state { (s : Holding) → Stands self.old s → Stands self.new (handed_up self.old.p s) }
+        ensures settled { IsSettled self.new }
     {
         self.front.advance();
     }
@@ -438,6 +445,7 @@ impl Hold {
         requires { index < 4294967295 }
         ensures profile { self.new.p ≡ self.old.p }
         ensures state { IfOk result (λ _. (s : Holding) → Stands self.old s → Stands self.new (squelched self.old.p (point_at index block) s)) }
+        ensures settled { IfOk result (λ _. IsSettled self.new) }
         ensures refused { OnErr result (self.new ≡ self.old) }
     {
         let gap = index.saturating_sub(self.front.point) as usize;

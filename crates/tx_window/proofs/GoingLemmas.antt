@@ -1,6 +1,6 @@
 -- Whether an object of the window may go, and why one more is refused.
 use Rattle.std.proofs.Common.{◌≡◌, ℕ, suc, ◌+◌, ◌<◌, ◌≤◌, ◌⊎◌, inl, inr, ◌++◌, length, arith, Bool, true, false, refl, sym, ap, ◌∙◌, Option, Some, None, List, [], ◌∷◌, map, drop}
-use Rattle.std.specs.Prelude.{slice_get, nat_lt, not, ◌&&◌, ◌||◌, is_none, is_some, option_map, option_to_list}
+use Rattle.std.specs.Prelude.{slice_get, nat_lt, not, ◌&&◌, ◌||◌, is_none, is_some, option_map, option_to_list, filter, cond}
 use Rattle.std.specs.List.{list_all}
 use Rattle.std.proofs.lemmas.List.{append-nil}
 use Rattle.std.proofs.lemmas.List.Folds.{list_all-map}
@@ -11,7 +11,8 @@ use Rattle.fec_plan.specs.Partition.{Cut, all_symbols}
 use Rattle.fec_plan.specs.Points.{Point, position_before, reached_by}
 use Rattle.fec_plan.specs.declared.position.Position.{Position}
 use Rattle.norm_order.specs.Sets.{is_member}
-use Rattle.norm_order.specs.Entries.{Object, Entry}
+use Rattle.norm_order.specs.Entries.{Object, Whole, Stream, Entry}
+use Rattle.norm_send_rules.specs.Repairable.{is_stream}
 use Rattle.norm_order.specs.Shapes.{shape_of, sources_in, last_in}
 use Rattle.norm_send_rules.specs.SenderState.{SenderState}
 use Rattle.norm_send_rules.specs.Room.{window, size_of, may_go, all_sent, is_released}
@@ -116,3 +117,13 @@ pub full_by : (p : Settings) (len octets count : ℕ) (q : Settings) (items : Li
     → (q.window ≤ count) ⊎ (q.octets < octets + len) → (p.window ≤ length items) ⊎ (p.octets < all_octets items + len)
 full_by p len octets count q items same octets-is count-is (inl many) = inl (omega (arith, many, count-is, ap (λ (s : Settings). s.window) same))
 full_by p len octets count q items same octets-is count-is (inr much) = inr (omega (arith, much, octets-is, ap (λ (s : Settings). s.octets) same))
+
+-- what is held is no stream
+pub no_streams : (ring : List ℕ) (es : List Entry) (hs : List HeldObject)
+    → map (λ (entry : Entry). entry.object) es ≡ map (λ (o : WindowObject). o.object) (map (window_object ring) hs) → length (filter is_stream es) ≡ 0
+no_streams ring [] hs same = refl
+no_streams ring (x ∷ es) [] same = absurd (cc)
+no_streams ring (x ∷ es) (h ∷ hs) same =
+    ap (λ b. length (cond b (x ∷ filter is_stream es) (filter is_stream es)))
+    (ap (λ (o : Object). elim o as (λ v. Bool) [ Whole kind info octets ↦ false | Stream parts ↦ true ]) (let e : x.object ≡ object_in ring h = cc in e))
+    ∙ no_streams ring es hs (let e : map (λ (entry : Entry). entry.object) es ≡ map (λ (o : WindowObject). o.object) (map (window_object ring) hs) = cc in e)

@@ -24,6 +24,7 @@ ghost use Rattle.tx_window.specs.WindowState.{WindowState, WindowObject, Filling
 ghost use Rattle.tx_window.specs.WindowMoves.{WindowMoves};
 ghost use Rattle.norm_send_rules.specs.Watermarks.{all_past};
 ghost use Rattle.norm_send_rules.specs.Restarting.{begun_anew};
+ghost use Rattle.norm_send_rules.specs.Repairable.{streams};
 ghost use Rattle.fec_plan.specs.declared.position.Position.{Position as Place};
 ghost use Rattle.tx_window.specs.WindowSound.{all_octets};
 ghost use Rattle.tx_window.specs.Asked.{from_first, kept_at, info_at, about_of, AnswersAt, IsWhole, IsEncodedIn};
@@ -279,6 +280,14 @@ impl Window {
         ensures number { (result.0 ≡ self.now.drop.index) × (result.1 ≡ self.now.drop.block) }
     {
         (self.dropped, 0)
+    }
+
+    /// How many streams are enqueued and not dropped whole: none, as no stream is taken in yet.
+    pub fn streams(&self) -> u32
+        ensures { (s : SenderState) → Stands self.now s → result ≡ streams s }
+    {
+        let _ = &self.held;
+        0
     }
 
     /// The last closed source symbol, also where its object was dropped.

@@ -20,6 +20,13 @@ returns-in_default-clause-state c = λ s stands.
       subst (λ (ring : List (Option ObjectState)). Stands (view_of f.profile f.point ring f.ups.items f.lost) s) (sym c.in_default.ensures.taken.0) stands,
     )
 
+pub returns-in_default-clause-settled : goal.returns-in_default-clause-settled
+returns-in_default-clause-settled c = λ same s stands.
+    let f = c.args.self.now in
+    hands_stop f.profile f.point f.ring.items f.ups.items f.lost s c.requires.placed
+    (subst (λ (ring : List (Option ObjectState)). Stands (view_of f.profile f.point ring f.ups.items f.lost) s) c.in_default.ensures.taken.0 stands)
+    c.in_default.ensures.taken.1
+
 pushed : (c : goal.After-self-2-1) → c.push_back.new.self.items ≡ c.args.self.now.ups.items ++ up_of c.in-Some.object ∷ []
 pushed c =
     (rw c.unwrap.ensures at c.push_back.ensures.items) ∙ ap (λ (u : Up). c.args.self.now.ups.items ++ u ∷ []) c.into_up.ensures

@@ -11,6 +11,7 @@ loop-self-init c = record {
   sound = c.advance.ensures.sound;
   room = omega (arith, c.advance.ensures.forward, c.advance.ensures.room (c.args.index - c.args.self.now.point + 1) c.requires.room);
   profile = c.advance.ensures.profile;
+  settled = c.advance.ensures.settled;
   state = λ s stands.
       loses_start c.args.index (front_view c.args.self.now) (front_view c.advance.new.self) s stands (c.advance.ensures.state s stands) c.advance.ensures.forward;
 }
@@ -32,6 +33,7 @@ loop-self-preserved c =
             c.advance-in-loop-self.ensures.room (c.args.index - lost.point + 1) (c.lose_first.ensures.room (c.args.index - lost.point + 1) before),
           );
       profile = c.advance-in-loop-self.ensures.profile ∙ c.lose_first.ensures.profile ∙ c.loop-self.invariant.profile;
+      settled = c.advance-in-loop-self.ensures.settled;
       state = λ s stands.
           loses_more c.args.index (front_view first) (front_view middle) (front_view lost) (front_view now) s (c.loop-self.invariant.state s stands)
           c.loop-self-test.true c.lose_first.ensures.state c.lose_first.ensures.point

@@ -2,6 +2,7 @@ use Rattle.std.proofs.Common.{◌≡◌, ◌+◌, ◌-◌}
 use Rattle.norm_receive_rules.specs.Holding.{Holding}
 use Rattle.rx_hold.specs.HoldState.{Stands}
 use Rattle.rx_hold.specs.HoldSound.{IsFront, HasRoom, front_view}
+use Rattle.rx_hold.specs.HoldMoves.{IsSettled}
 use Rattle.rx_hold.proofs.LoseLemmas.{LosesOn}
 use Rattle.rx_hold.proofs.front.Front.lose_all_before.Given as goal
 
@@ -10,6 +11,7 @@ invariant-loop-self l = record {
   sound : IsFront l.self;
   room : HasRoom (l.index - l.self.point + 1) l.self;
   profile : l.self.profile ≡ l.fn.self.profile;
+  settled : IsSettled (front_view l.self);
   state : (s : Holding) → Stands (front_view l.fn.self) s → LosesOn l.index (front_view l.fn.self) (front_view l.self) s;
 }
 

@@ -1,0 +1,590 @@
+-- Of a stream each block before the hand-up point's is done.
+use Rattle.std.proofs.Common.{◌≡◌, ℕ, zero, suc, cond, ◌+◌, ◌-◌, ◌<◌, ◌≤◌, ◌⊎◌, inl, inr, List, [], ◌∷◌, ◌++◌, map, length, Bool, true, false, Option, None, Some, refl, sym, ap, subst, ◌∙◌, arith}
+use Rattle.std.specs.Prelude.{filter, find, max, not, nat_lt, ◌==◌, ◌&&◌, ◌||◌, is_some, option_map}
+use Rattle.std.specs.List.{list_any}
+use Rattle.std.proofs.lemmas.Bool.{cases_lt}
+use Rattle.std.proofs.lemmas.Bool.Decides.{Decides-ltb, Decides-eqb}
+use Rattle.norm_base.specs.Settings.{Settings}
+use Rattle.fec_plan.specs.Partition.{source_symbols}
+use Rattle.fec_plan.specs.Points.{Point, point_of, position}
+use Rattle.fec_plan.specs.declared.position.Position.{Position}
+use Rattle.norm_ext.specs.Extensions.{Extension, fti_of}
+use Rattle.norm_ext.specs.declared.fti.Fti.{Fti}
+use Rattle.norm_order.specs.First.{first_where}
+use Rattle.norm_order.specs.Sets.{with_member}
+use Rattle.norm_order.specs.declared.up.Up.{Up}
+use Rattle.norm_order.specs.declared.up.Up.TheVariants as up
+use Rattle.norm_receive_rules.specs.BlockValue.{block_value, held_symbol}
+use Rattle.norm_receive_rules.specs.Fitting.{is_known_plan, is_away, is_unfit, fit_of, fitted, lets_put, plan_before, with_plan}
+use Rattle.norm_receive_rules.specs.HandingUp.{after_object, handed, is_whole, kind_of, told_info, object_octets, hands_object, segment_length, segment_up, open_before, next_segment, hands_segment, hands_next, hands_one, hands_most, handed_up}
+use Rattle.norm_receive_rules.specs.Holding.{Holding, Plan, Held, new_plan}
+use Rattle.norm_receive_rules.specs.Laws.{IsAtStart, IsPassed, PassedBy, HasPassed, PassedLaws}
+use Rattle.norm_receive_rules.specs.Losing.{loses_one, loses_before, is_cut_off, squelched}
+use Rattle.norm_receive_rules.specs.NothingMissing.{IsThere}
+use Rattle.norm_receive_rules.specs.Plans.{cut_of_plan, says_stream, plan_of, is_over, held_of, holds, is_done, has_its_info}
+use Rattle.norm_receive_rules.specs.Putting.{put_of, put_symbol, with_symbol, put_info_of, put_info, with_info, held_before}
+use Rattle.norm_receive_rules.specs.Receiving.{object_held}
+use Rattle.norm_receive_rules.specs.Seeing.{plan_seen, sees_block}
+use Rattle.norm_receive_rules.specs.Taking.{up_taken}
+use Rattle.norm_receive_rules.specs.declared.words.Fit.{Fit}
+use Rattle.norm_receive_rules.specs.declared.words.Fit.TheVariants as fit
+use Rattle.norm_receive_rules.specs.declared.words.Put.{Put}
+use Rattle.norm_receive_rules.specs.declared.words.Put.TheVariants as put
+use Rattle.norm_receive_rules.proofs.HoldingSteps.{IsKept, steps_keep}
+
+clash : false ≡ true → ⊥
+clash e = cc
+
+-- ---- as many symbols as there are different ids
+
+filter_few : {X : Type 0} (q : X → Bool) (xs : List X) → length (filter q xs) ≤ length xs
+filter_few q [] = omega arith
+filter_few q (x ∷ xs) = go (q x) (filter_few q xs)
+  where
+    go : (b : Bool) → length (filter q xs) ≤ length xs → length (cond b (x ∷ filter q xs) (filter q xs)) ≤ length (x ∷ xs)
+    go true le = omega arith
+    go false le = omega arith
+
+-- without the ones of an id, of which there is one, a list is shorter
+fewer : (id : ℕ) (xs : List Held) → list_any (λ (h : Held). h.at.symbol == id) xs ≡ true
+    → length (filter (λ (h : Held). not (h.at.symbol == id)) xs) < length xs
+fewer id [] e = absurd (clash e)
+fewer id (x ∷ xs) e = go (x.at.symbol == id) e (fewer id xs) (filter_few (λ (h : Held). not (h.at.symbol == id)) xs)
+  where
+    go : (b : Bool) → (b || list_any (λ (h : Held). h.at.symbol == id) xs) ≡ true
+        → (list_any (λ (h : Held). h.at.symbol == id) xs ≡ true → length (filter (λ (h : Held). not (h.at.symbol == id)) xs) < length xs)
+        → length (filter (λ (h : Held). not (h.at.symbol == id)) xs) ≤ length xs
+        → length (cond (not b) (x ∷ filter (λ (h : Held). not (h.at.symbol == id)) xs) (filter (λ (h : Held). not (h.at.symbol == id)) xs)) < length (x ∷ xs)
+    go true f more le = omega arith
+    go false f more le = (let lt = more f in omega arith)
+
+-- what has another id is still there
+others : (id other : ℕ) → other < id → (xs : List Held) → list_any (λ (h : Held). h.at.symbol == other) xs ≡ true
+    → list_any (λ (h : Held). h.at.symbol == other) (filter (λ (h : Held). not (h.at.symbol == id)) xs) ≡ true
+others id other lt [] e = e
+others id other lt (x ∷ xs) e = go (x.at.symbol == other) (x.at.symbol == id) refl refl e (others id other lt xs)
+  where
+    rest : List Held
+    rest = filter (λ (h : Held). not (h.at.symbol == id)) xs
+
+    go : (b c : Bool) → (x.at.symbol == other) ≡ b → (x.at.symbol == id) ≡ c → (b || list_any (λ (h : Held). h.at.symbol == other) xs) ≡ true
+        → (list_any (λ (h : Held). h.at.symbol == other) xs ≡ true → list_any (λ (h : Held). h.at.symbol == other) rest ≡ true)
+        → list_any (λ (h : Held). h.at.symbol == other) (cond (not c) (x ∷ rest) rest) ≡ true
+    go true true e f g more =
+        absurd (let a = (Decides-eqb x.at.symbol other).0 e in let b = (Decides-eqb x.at.symbol id).0 f in omega (arith, lt))
+    go true false e f g more = ap (λ b. b || list_any (λ (h : Held). h.at.symbol == other) rest) e
+    go false true e f g more = more g
+    go false false e f g more = ap (λ b. b || list_any (λ (h : Held). h.at.symbol == other) rest) e ∙ more g
+
+many_ids : (n : ℕ) (xs : List Held) → ((id : ℕ) → id < n → list_any (λ (h : Held). h.at.symbol == id) xs ≡ true) → n ≤ length xs
+many_ids zero xs each = omega arith
+many_ids (suc n) xs each =
+    let lt = fewer n xs (each n (omega arith)) in
+    let le = many_ids n (filter (λ (h : Held). not (h.at.symbol == n)) xs) (λ id less. others n id less xs (each id (omega arith))) in
+    omega (arith, lt, le)
+
+-- ---- what holds of another state that holds as much
+
+starts : (s : Holding) (found : Option Plan) → IsAtStart s → PassedBy s found
+starts s None h = h
+starts s (Some plan) h = go (says_stream plan.flags)
+  where
+    go : (b : Bool) → elim b as (λ _. Type 0) [ true ↦ IsPassed s plan | false ↦ IsAtStart s ]
+    go true = record {
+      done = λ block lt. absurd (let z = h.block in omega arith);
+      there = λ symbol lt. absurd (let z = h.symbol in omega arith);
+    }
+    go false = h
+
+starts_here : (s : Holding) → IsAtStart s → HasPassed s
+starts_here s h = starts s (plan_of s s.point.index) h
+
+-- what the other has is done and held here too
+pub record HasAll (s t : Holding) : Type 0 where
+  pub point : t.point ≡ s.point
+  pub done : (plan : Plan) (block : ℕ) → is_done s plan block ≡ true → is_done t plan block ≡ true
+  pub held : (at : Position) → holds s at ≡ true → holds t at ≡ true
+
+start_still : (s t : Holding) → HasAll s t → IsAtStart s → IsAtStart t
+start_still s t all h = record {
+  block = ap (λ (at : Position). at.block) all.point ∙ h.block;
+  symbol = ap (λ (at : Position). at.symbol) all.point ∙ h.symbol;
+}
+
+more_passed : (s t : Holding) (found : Option Plan) → HasAll s t → PassedBy s found → PassedBy t found
+more_passed s t None all h = start_still s t all h
+more_passed s t (Some plan) all h = go (says_stream plan.flags) h
+  where
+    still : (at : Position) → IsThere s plan at → IsThere t plan at
+    still at (inl done) = inl (all.done plan at.block done)
+    still at (inr held) = inr (all.held at held)
+
+    go : (b : Bool) → elim b as (λ _. Type 0) [ true ↦ IsPassed s plan | false ↦ IsAtStart s ] → elim b as (λ _. Type 0) [ true ↦ IsPassed t plan | false ↦ IsAtStart t ]
+    go true h = record {
+      done = λ block lt. all.done plan block (h.done block (let same = ap (λ (at : Position). at.block) all.point in omega arith));
+      there = λ symbol lt. (
+          let S : ℕ → Type 0 = λ block. IsThere t plan (position plan.index block symbol) in
+          subst S (sym (ap (λ (at : Position). at.block) all.point))
+          (still (position plan.index s.point.block symbol) (h.there symbol (let same = ap (λ (at : Position). at.symbol) all.point in omega arith)))
+          );
+    }
+    go false h = start_still s t all h
+
+-- ---- a symbol more
+
+grows : (q : Held → Bool) (x : Held) (xs : List Held) → length (filter q xs) ≤ length (filter q (with_member held_before x xs))
+unfolding with_member
+grows q x [] = omega arith
+grows q x (y ∷ xs) = go (held_before x y) (held_before y x) (grows q x xs)
+  where
+    first : (b : Bool) (zs : List Held) → length zs ≤ length (cond b (x ∷ zs) zs)
+    first true zs = omega arith
+    first false zs = omega arith
+
+    behind : (b : Bool) (zs ws : List Held) → length zs ≤ length ws → length (cond b (y ∷ zs) zs) ≤ length (cond b (y ∷ ws) ws)
+    behind true zs ws le = omega arith
+    behind false zs ws le = le
+
+    go : (b c : Bool) → length (filter q xs) ≤ length (filter q (with_member held_before x xs)) → length (filter q (y ∷ xs)) ≤ length (filter q (elim b as (λ _. List Held) [
+      | true ↦ x ∷ y ∷ xs
+      | false ↦ elim c [ true ↦ y ∷ with_member held_before x xs | false ↦ y ∷ xs ]
+    ]))
+    go true c le = first (q x) (filter q (y ∷ xs))
+    go false true le = behind (q y) (filter q xs) (filter q (with_member held_before x xs)) le
+    go false false le = omega arith
+
+any_grows : (r q : Held → Bool) (x : Held) (xs : List Held) → list_any r (filter q xs) ≡ true → list_any r (filter q (with_member held_before x xs)) ≡ true
+unfolding with_member
+any_grows r q x [] e = absurd (clash e)
+any_grows r q x (y ∷ xs) e = go (held_before x y) (held_before y x) (any_grows r q x xs)
+  where
+    or_true : (a b : Bool) → b ≡ true → (a || b) ≡ true
+    or_true true b f = refl
+    or_true false b f = f
+
+    first : (b : Bool) (zs : List Held) → list_any r zs ≡ true → list_any r (cond b (x ∷ zs) zs) ≡ true
+    first true zs f = or_true (r x) (list_any r zs) f
+    first false zs f = f
+
+    either : (a b c : Bool) → (a || b) ≡ true → (b ≡ true → c ≡ true) → (a || c) ≡ true
+    either true b c f more = refl
+    either false b c f more = more f
+
+    behind : (b : Bool) (zs ws : List Held) → list_any r (cond b (y ∷ zs) zs) ≡ true → (list_any r zs ≡ true → list_any r ws ≡ true)
+        → list_any r (cond b (y ∷ ws) ws) ≡ true
+    behind true zs ws f more = either (r y) (list_any r zs) (list_any r ws) f more
+    behind false zs ws f more = more f
+
+    go : (b c : Bool) → (list_any r (filter q xs) ≡ true → list_any r (filter q (with_member held_before x xs)) ≡ true)
+        → list_any r (filter q (elim b as (λ _. List Held) [
+          | true ↦ x ∷ y ∷ xs
+          | false ↦ elim c [ true ↦ y ∷ with_member held_before x xs | false ↦ y ∷ xs ]
+        ])) ≡ true
+    go true c more = first (q x) (filter q (y ∷ xs)) e
+    go false true more = behind (q y) (filter q xs) (filter q (with_member held_before x xs)) e more
+    go false false more = e
+
+none_lacking : (k m n : ℕ) → m ≤ n → (k - m == 0) ≡ true → (k - n == 0) ≡ true
+none_lacking k m n le e = (Decides-eqb (k - n) 0).1 (let z = (Decides-eqb (k - m) 0).0 e in omega arith)
+
+symbol_passed : (word : Put) (at : Position) (payload : List ℕ) (s : Holding) → HasPassed s → HasPassed (with_symbol word at payload s)
+symbol_passed put.Had at payload s h = h
+symbol_passed put.Away at payload s h = h
+symbol_passed put.Unfit at payload s h = h
+symbol_passed put.Kept at payload s h =
+    let x : Held = record { at = at; octets = payload } in
+    more_passed s (with_symbol put.Kept at payload s) (plan_of s s.point.index) (record {
+      point = refl;
+      done = λ plan block e.
+          none_lacking (source_symbols (cut_of_plan plan) block) (length (held_of s plan.index block)) _
+          (grows (λ (y : Held). y.at.index == plan.index && y.at.block == block) x s.held) e;
+      held = λ to e. any_grows (λ (y : Held). y.at.symbol == to.symbol) (λ (y : Held). y.at.index == to.index && y.at.block == to.block) x s.held e;
+    }) h
+
+-- the same symbols and the same point
+same_held : (s t : Holding) → t.held ≡ s.held → t.point ≡ s.point → HasAll s t
+same_held s t held at = record {
+  point = at;
+  done = λ plan block e. (let D : List Held → Type 0 = λ xs. (source_symbols (cut_of_plan plan) block
+      - length (filter (λ (y : Held). y.at.index == plan.index && y.at.block == block) xs) == 0) ≡ true in subst D (sym held) e);
+  held = λ to e. (let H : List Held → Type 0 = λ xs. list_any (λ (y : Held). y.at.symbol == to.symbol)
+      (filter (λ (y : Held). y.at.index == to.index && y.at.block == to.block) xs) ≡ true in subst H (sym held) e);
+}
+
+info_passed : (word : Put) (index : ℕ) (info : List ℕ) (s : Holding) → HasPassed s → HasPassed (with_info word index info s)
+info_passed put.Had index info s h = h
+info_passed put.Away index info s h = h
+info_passed put.Unfit index info s h = h
+info_passed put.Kept index info s h =
+    more_passed s (with_info put.Kept index info s) (plan_of s s.point.index) (same_held s (with_info put.Kept index info s) refl refl) h
+
+-- ---- a plan more
+
+new_found : (index : ℕ) (x : Plan) (plans : List Plan)
+    → (find (λ (y : Plan). y.index == index) (with_member plan_before x plans) ≡ find (λ (y : Plan). y.index == index) plans)
+    ⊎ ((x.index == index) ≡ true)
+unfolding with_member
+new_found index x [] = go (x.index == index) refl
+  where
+    go : (b : Bool) → (x.index == index) ≡ b → (cond {A = Option Plan} b (Some x) None ≡ None) ⊎ ((x.index == index) ≡ true)
+    go true e = inr e
+    go false e = inl refl
+new_found index x (y ∷ plans) = go (plan_before x y) (plan_before y x) (new_found index x plans)
+  where
+    there : List Plan → Option Plan
+    there zs = find (λ (z : Plan). z.index == index) zs
+
+    first : (b : Bool) → (x.index == index) ≡ b → (cond b (Some x) (there (y ∷ plans)) ≡ there (y ∷ plans)) ⊎ ((x.index == index) ≡ true)
+    first true e = inr e
+    first false e = inl refl
+
+    go : (b c : Bool) → (there (with_member plan_before x plans) ≡ there plans) ⊎ ((x.index == index) ≡ true)
+        → (there (elim b as (λ _. List Plan) [
+          | true ↦ x ∷ y ∷ plans
+          | false ↦ elim c [ true ↦ y ∷ with_member plan_before x plans | false ↦ y ∷ plans ]
+        ]) ≡ there (y ∷ plans)) ⊎ ((x.index == index) ≡ true)
+    go true c more = first (x.index == index) refl
+    go false true (inl same) = inl (ap (λ (o : Option Plan). cond (y.index == index) (Some y) o) same)
+    go false true (inr own) = inr own
+    go false false more = inl refl
+
+-- the word by the three tests
+abbrev word_of : Bool → Bool → Bool → Fit
+word_of a b c = elim (first_where ((a, fit.Known) ∷ (b, fit.Away) ∷ (c, fit.Unfit) ∷ [])) [ Some word ↦ word | None ↦ fit.Taken ]
+
+unfit : (a b c : Bool) → word_of a b c ≡ fit.Taken → c ≡ false
+unfolding first_where
+unfit true b c h = absurd (cc)
+unfit false true c h = absurd (cc)
+unfit false false true h = absurd (cc)
+unfit false false false h = refl
+
+or_false : (a b : Bool) → (a || b) ≡ false → (a ≡ false) × (b ≡ false)
+or_false true b h = absurd (clash (sym h))
+or_false false b h = (refl, h)
+
+-- what is taken up had no plan
+taken_new : (p : Settings) (s : Holding) (index : ℕ) (f : Fti) (flags : ℕ) → fit_of p s index f flags ≡ fit.Taken → plan_of s index ≡ None
+taken_new p s index f flags e =
+    go (plan_of s index) refl (unfit (is_over s index || is_known_plan s index f flags) (is_away p s index f flags) (is_unfit p s index f flags) e)
+  where
+    go : (found : Option Plan) → plan_of s index ≡ found → is_unfit p s index f flags ≡ false → plan_of s index ≡ None
+    go None is h = is
+    go (Some plan) is h =
+        let first = or_false _ _ h in
+        let known = or_false _ _ first.0 in
+        absurd (clash (sym known.1 ∙ ap (λ (o : Option Plan). is_some o) is))
+
+fitted_passed : (p : Settings) (word : Fit) (index : ℕ) (f : Fti) (flags : ℕ) (s : Holding) → fit_of p s index f flags ≡ word → HasPassed s
+    → HasPassed (fitted word index f flags s)
+fitted_passed p fit.Known index f flags s e h = h
+fitted_passed p fit.Away index f flags s e h = h
+fitted_passed p fit.Unfit index f flags s e h = h
+fitted_passed p fit.Taken index f flags s e h = go (new_found s.point.index (new_plan index f flags) s.plans)
+  where
+    t : Holding
+    t = with_plan index f flags s
+
+    all : HasAll s t
+    all = same_held s t refl refl
+
+    go : (plan_of t s.point.index ≡ plan_of s s.point.index) ⊎ ((index == s.point.index) ≡ true) → PassedBy t (plan_of t s.point.index)
+    go (inl same) =
+        let P : Option Plan → Type 0 = λ found. PassedBy t found in subst P (sym same) (more_passed s t (plan_of s s.point.index) all h)
+    go (inr here) =
+        let none : plan_of s s.point.index ≡ None =
+        ap (λ (n : ℕ). plan_of s n) (sym ((Decides-eqb index s.point.index).0 here)) ∙ taken_new p s index f flags e in
+        let P : Option Plan → Type 0 = λ found. PassedBy s found in
+        let start : IsAtStart s = subst P none h in
+        starts t (plan_of t s.point.index) (record { block = start.block; symbol = start.symbol })
+
+-- ---- a block that is seen
+
+seen_found : (at : Point) (index : ℕ) (plans : List Plan) → find (λ (y : Plan). y.index == index) (map (plan_seen at) plans)
+    ≡ option_map (plan_seen at) (find (λ (y : Plan). y.index == index) plans)
+seen_found at index [] = refl
+seen_found at index (x ∷ plans) =
+    same (x.index == at.index && says_stream x.flags)
+    ∙ ap (λ (o : Option Plan). cond (x.index == index) (Some (plan_seen at x)) o) (seen_found at index plans)
+    ∙ moves (x.index == index)
+  where
+    rest : Option Plan
+    rest = find (λ (y : Plan). y.index == index) (map (plan_seen at) plans)
+
+    seen : Bool → Plan
+    seen b = elim b as (λ _. Plan) [ true ↦ record x { seen = max x.seen at.block } | false ↦ x ]
+
+    same : (b : Bool) → ◌≡◌ {A = Option Plan} (cond ((seen b).index == index) (Some (seen b)) rest) (cond (x.index == index) (Some (seen b)) rest)
+    same true = refl
+    same false = refl
+
+    moves : (b : Bool) → cond b (Some (plan_seen at x)) (option_map (plan_seen at) (find (λ (y : Plan). y.index == index) plans))
+        ≡ option_map (plan_seen at) (cond b (Some x) (find (λ (y : Plan). y.index == index) plans))
+    moves true = refl
+    moves false = refl
+
+seen_passed : (at : Point) (s : Holding) → HasPassed s → HasPassed (sees_block at s)
+seen_passed at s h =
+    let P : Option Plan → Type 0 = λ found. PassedBy (sees_block at s) found in
+    subst P (sym (seen_found at s.point.index s.plans)) (go (plan_of s s.point.index) (more_passed s (sees_block at s) (plan_of s s.point.index) (same_held s (sees_block at s) refl refl) h))
+  where
+    t : Holding
+    t = sees_block at s
+
+    one : (plan : Plan) (b c : Bool) → says_stream plan.flags ≡ c → elim c as (λ _. Type 0) [ true ↦ IsPassed t plan | false ↦ IsAtStart t ]
+        → PassedBy t (Some (elim b as (λ _. Plan) [ true ↦ record plan { seen = max plan.seen at.block } | false ↦ plan ]))
+    one plan true c e k = by c (says_stream plan.flags) (sym e) k
+      where
+        by : (c d : Bool) → c ≡ d → elim c as (λ _. Type 0) [ true ↦ IsPassed t plan | false ↦ IsAtStart t ]
+            → elim d as (λ _. Type 0) [ true ↦ IsPassed t (record plan { seen = max plan.seen at.block }) | false ↦ IsAtStart t ]
+        by true true f k = record { done = k.done; there = k.there }
+        by false false f k = k
+        by true false f k = absurd (clash (sym f))
+        by false true f k = absurd (clash f)
+    one plan false c e k = subst (λ (d : Bool). elim d as (λ _. Type 0) [ true ↦ IsPassed t plan | false ↦ IsAtStart t ]) (sym e) k
+
+    go : (found : Option Plan) → PassedBy t found → PassedBy t (option_map (plan_seen at) found)
+    go None k = k
+    go (Some plan) k = one plan (plan.index == at.index && says_stream plan.flags) (says_stream plan.flags) refl k
+
+-- ---- hand-ups
+
+at_next : (ups : List Up) (index : ℕ) (s : Holding) → HasPassed (handed ups (after_object index) s)
+at_next ups index s = starts_here (handed ups (after_object index) s) (record { block = refl; symbol = refl })
+
+found_any : (symbol : ℕ) (octets : List ℕ) (xs : List Held) → held_symbol xs symbol ≡ Some octets → list_any (λ (h : Held). h.at.symbol == symbol) xs ≡ true
+found_any symbol octets [] e = absurd (none e)
+  where
+    none : None ≡ Some octets → ⊥
+    none h = cc
+found_any symbol octets (x ∷ xs) e = go (x.at.symbol == symbol) e (found_any symbol octets xs)
+  where
+    go : (b : Bool) → elim (cond b (Some x) (find (λ (h : Held). h.at.symbol == symbol) xs)) as (λ _. Option (List ℕ)) [ Some h ↦ Some h.octets | None ↦ None ] ≡ Some octets
+        → (held_symbol xs symbol ≡ Some octets → list_any (λ (h : Held). h.at.symbol == symbol) xs ≡ true)
+        → (b || list_any (λ (h : Held). h.at.symbol == symbol) xs) ≡ true
+    go true f more = refl
+    go false f more = more f
+
+-- a symbol of a stream that has a value is there
+value_there : (s : Holding) (plan : Plan) (block symbol : ℕ) (octets : List ℕ) → says_stream plan.flags ≡ true
+    → block_value s plan block symbol ≡ Some octets → IsThere s plan (position plan.index block symbol)
+value_there s plan block symbol octets stream e = go (is_done s plan block) _ refl e
+  where
+    held : List Held
+    held = held_of s plan.index block
+
+    by_kind : Bool → Option (List ℕ)
+    by_kind b = elim b as (λ _. Option (List ℕ)) [ true ↦ held_symbol held symbol | false ↦ None ]
+
+    go : (b : Bool) (x : List ℕ) → is_done s plan block ≡ b → elim b as (λ _. Option (List ℕ)) [ true ↦ Some x | false ↦ by_kind (says_stream plan.flags) ] ≡ Some octets
+        → IsThere s plan (position plan.index block symbol)
+    go true x is f = inl is
+    go false x is f = inr (found_any symbol octets held (sym (ap by_kind stream) ∙ f))
+
+-- a block of which each source symbol is there is done
+block_done : (s : Holding) (plan : Plan) (block : ℕ)
+    → ((symbol : ℕ) → symbol < source_symbols (cut_of_plan plan) block → IsThere s plan (position plan.index block symbol)) → is_done s plan block ≡ true
+block_done s plan block each = go (is_done s plan block) refl
+  where
+    none_left : (k n : ℕ) → k ≤ n → (k - n == 0) ≡ true
+    none_left k n le = (Decides-eqb (k - n) 0).1 (omega arith)
+
+    held : is_done s plan block ≡ false → (symbol : ℕ) → symbol < source_symbols (cut_of_plan plan) block
+        → list_any (λ (h : Held). h.at.symbol == symbol) (held_of s plan.index block) ≡ true
+    held e symbol lt = elim (each symbol lt) [ inl done ↦ absurd (clash (sym e ∙ done)) | inr is ↦ is ]
+
+    go : (b : Bool) → is_done s plan block ≡ b → is_done s plan block ≡ true
+    go true e = e
+    go false e = none_left (source_symbols (cut_of_plan plan) block) (length (held_of s plan.index block))
+        (many_ids (source_symbols (cut_of_plan plan) block) (held_of s plan.index block) (held e))
+
+-- the place behind a segment, by its length and by whether its block goes on
+abbrev behind : ℕ → Bool → Position → Position
+behind long goes_on at = elim long [
+  | zero ↦ after_object at.index
+  | suc n ↦ elim goes_on [ true ↦ position at.index at.block (at.symbol + 1) | false ↦ position at.index (at.block + 1) 0 ]
+]
+
+segment_passed : (plan : Plan) (ups : List Up) (s : Holding) (long : ℕ) → plan_of s s.point.index ≡ Some plan → says_stream plan.flags ≡ true → HasPassed s
+    → IsThere s plan (position plan.index s.point.block s.point.symbol)
+    → HasPassed (handed ups (behind long (nat_lt (s.point.symbol + 1) (source_symbols (cut_of_plan plan) s.point.block)) s.point) s)
+segment_passed plan ups s zero found stream h next = at_next ups s.point.index s
+segment_passed plan ups s (suc n) found stream h next = go (nat_lt (s.point.symbol + 1) (source_symbols (cut_of_plan plan) s.point.block)) refl
+  where
+    Of : Holding → Bool → Type 0
+    Of t b = elim b as (λ _. Type 0) [ true ↦ IsPassed t plan | false ↦ IsAtStart t ]
+
+    passed : IsPassed s plan
+    passed = let P : Option Plan → Type 0 = λ o. PassedBy s o in subst (Of s) stream (subst P found h)
+
+    up_to : (symbol : ℕ) → symbol < s.point.symbol + 1 → IsThere s plan (position plan.index s.point.block symbol)
+    up_to symbol lt = elim (cases_lt symbol s.point.symbol) [
+      | inl less ↦ passed.there symbol less
+      | inr ge ↦ (
+          let T : ℕ → Type 0 = λ n. IsThere s plan (position plan.index s.point.block n) in
+          subst T (let same : s.point.symbol ≡ symbol = omega arith in same) next
+          )
+    ]
+
+    before : nat_lt (s.point.symbol + 1) (source_symbols (cut_of_plan plan) s.point.block) ≡ false → (block : ℕ) → block < s.point.block + 1
+        → is_done s plan block ≡ true
+    before e block lt = elim (cases_lt block s.point.block) [
+      | inl less ↦ passed.done block less
+      | inr ge ↦ (
+          let D : ℕ → Type 0 = λ n. is_done s plan n ≡ true in
+          subst D (let same : s.point.block ≡ block = omega arith in same)
+          (block_done s plan s.point.block (λ symbol small. up_to symbol (last e symbol small)))
+          )
+    ]
+      where
+        last : nat_lt (s.point.symbol + 1) (source_symbols (cut_of_plan plan) s.point.block) ≡ false → (symbol : ℕ)
+            → symbol < source_symbols (cut_of_plan plan) s.point.block → symbol < s.point.symbol + 1
+        last e symbol small = elim (cases_lt symbol (s.point.symbol + 1)) [
+          | inl less ↦ less
+          | inr ge ↦ absurd (clash (sym e ∙ (Decides-ltb (s.point.symbol + 1) (source_symbols (cut_of_plan plan) s.point.block)).1 (omega arith)))
+        ]
+
+    of_stream : (t : Holding) → plan_of t t.point.index ≡ Some plan → IsPassed t plan → HasPassed t
+    of_stream t there k = let P : Option Plan → Type 0 = λ o. PassedBy t o in subst P (sym there) (subst (Of t) (sym stream) k)
+
+    go : (b : Bool) → nat_lt (s.point.symbol + 1) (source_symbols (cut_of_plan plan) s.point.block) ≡ b
+        → HasPassed (handed ups (elim b as (λ _. Position) [
+          | true ↦ position s.point.index s.point.block (s.point.symbol + 1)
+          | false ↦ position s.point.index (s.point.block + 1) 0
+        ]) s)
+    go true e = of_stream (handed ups (position s.point.index s.point.block (s.point.symbol + 1)) s) found (record { done = passed.done; there = up_to })
+    go false e = of_stream (handed ups (position s.point.index (s.point.block + 1) 0) s) found
+        (record { done = before e; there = λ symbol lt. absurd (omega arith) })
+
+same_state : (x y : Holding) → Some x ≡ Some y → x ≡ y
+same_state x y e = cc
+
+no_state : (x : Holding) → None ≡ Some x → ⊥
+no_state x e = cc
+
+one_passed : (p : Settings) (s after : Holding) → hands_one p s ≡ Some after → HasPassed s → HasPassed after
+one_passed p s after e h = go (plan_of s s.point.index) refl e
+  where
+    same : (t : Holding) → Some t ≡ Some after → HasPassed t → HasPassed after
+    same t f k = let P : Holding → Type 0 = λ x. HasPassed x in subst P (same_state t after f) k
+
+    objects : (plan : Plan) (b : Bool)
+        → elim b as (λ _. Option Holding) [
+          | true ↦ Some (handed (up.Object plan.index (kind_of plan.flags) (told_info s plan) (object_octets s plan) ∷ []) (after_object plan.index) s)
+          | false ↦ None
+        ] ≡ Some after → HasPassed after
+    objects plan true f = same _ f (at_next _ plan.index s)
+    objects plan false f = absurd (no_state after f)
+
+    segments : (plan : Plan) → plan_of s s.point.index ≡ Some plan → says_stream plan.flags ≡ true → (o : Option (List ℕ)) → next_segment s plan ≡ o
+        → elim o as (λ _. Option Holding) [ Some symbol ↦ Some (hands_segment p s plan symbol) | None ↦ None ] ≡ Some after → HasPassed after
+    segments plan found stream None is f = absurd (no_state after f)
+    segments plan found stream (Some symbol) is f =
+        same (hands_segment p s plan symbol) f
+        (segment_passed plan (open_before s.point ++ segment_up p s.point.index symbol ∷ []) s (segment_length p symbol) found stream h
+        (value_there s plan s.point.block s.point.symbol symbol stream is))
+
+    streams : (plan : Plan) → plan_of s s.point.index ≡ Some plan → says_stream plan.flags ≡ true → (b : Bool)
+        → elim b as (λ _. Option Holding) [
+          | true ↦ elim (next_segment s plan) [ Some symbol ↦ Some (hands_segment p s plan symbol) | None ↦ None ]
+          | false ↦ None
+        ] ≡ Some after → HasPassed after
+    streams plan found stream true f = segments plan found stream (next_segment s plan) refl f
+    streams plan found stream false f = absurd (no_state after f)
+
+    kinds : (plan : Plan) → plan_of s s.point.index ≡ Some plan → (b : Bool) → says_stream plan.flags ≡ b
+        → elim b as (λ _. Option Holding) [ true ↦ hands_next p s plan | false ↦ hands_object s plan ] ≡ Some after → HasPassed after
+    kinds plan found true stream f = streams plan found stream (has_its_info s plan) f
+    kinds plan found false stream f = objects plan (is_whole s plan) f
+
+    go : (o : Option Plan) → plan_of s s.point.index ≡ o
+        → elim o as (λ _. Option Holding) [
+          | Some plan ↦ elim (says_stream plan.flags) [ true ↦ hands_next p s plan | false ↦ hands_object s plan ]
+          | None ↦ None
+        ] ≡ Some after → HasPassed after
+    go None found f = absurd (no_state after f)
+    go (Some plan) found f = kinds plan found (says_stream plan.flags) refl f
+
+most_passed : (p : Settings) (n : ℕ) (s : Holding) → HasPassed s → HasPassed (hands_most n p s)
+unfolding hands_most
+most_passed p zero s h = h
+most_passed p (suc n) s h = go (hands_one p s) refl (λ t k. most_passed p n t k)
+  where
+    go : (next : Option Holding) → hands_one p s ≡ next → ((t : Holding) → HasPassed t → HasPassed (hands_most n p t))
+        → HasPassed (elim next as (λ _. Holding) [ Some after ↦ hands_most n p after | None ↦ s ])
+    go None e more = h
+    go (Some after) e more = more after (one_passed p s after e h)
+
+up_passed : (p : Settings) (s : Holding) → HasPassed s → HasPassed (handed_up p s)
+up_passed p s h = most_passed p (length s.held) s h
+
+-- ---- a message, and a squelch
+
+object_passed : (p : Settings) (at : Position) (extensions : List Extension) (flags : ℕ) (brings : Holding → Holding) (s : Holding)
+    → ((t : Holding) → HasPassed t → HasPassed (brings t)) → HasPassed s → HasPassed (object_held p at extensions flags brings s)
+object_passed p at extensions flags brings s kept h = go (fti_of extensions)
+  where
+    put : (t : Holding) → HasPassed t → (b : Bool) → HasPassed (elim b as (λ _. Holding) [ true ↦ handed_up p (brings t) | false ↦ t ])
+    put t k true = up_passed p (brings t) (kept t k)
+    put t k false = k
+
+    go : (found : Option Fti) → HasPassed (elim found as (λ _. Holding) [
+      | Some f ↦ (
+          let word = fit_of p s at.index f flags in
+          let s' = sees_block (point_of at) (fitted word at.index f flags s) in
+          elim (lets_put word) [ true ↦ handed_up p (brings s') | false ↦ s' ]
+          )
+      | None ↦ handed_up p (brings (sees_block (point_of at) s))
+    ])
+    go None = put (sees_block (point_of at) s) (seen_passed (point_of at) s h) true
+    go (Some f) = put (sees_block (point_of at) (fitted (fit_of p s at.index f flags) at.index f flags s))
+        (seen_passed (point_of at) _ (fitted_passed p (fit_of p s at.index f flags) at.index f flags s refl h)) (lets_put (fit_of p s at.index f flags))
+
+lost_passed : (s : Holding) → HasPassed (loses_one s)
+lost_passed s = starts_here (loses_one s) (record { block = refl; symbol = refl })
+
+before_passed : (p : Settings) (n index : ℕ) (s : Holding) → HasPassed s → HasPassed (loses_before n p index s)
+unfolding loses_before
+before_passed p zero index s h = up_passed p s h
+before_passed p (suc n) index s h = go (nat_lt (handed_up p s).point.index index) (λ t k. before_passed p n index t k)
+  where
+    go : (b : Bool) → ((t : Holding) → HasPassed t → HasPassed (loses_before n p index t))
+        → HasPassed (elim b as (λ _. Holding) [ true ↦ loses_before n p index (loses_one (handed_up p s)) | false ↦ handed_up p s ])
+    go true more = more (loses_one (handed_up p s)) (lost_passed (handed_up p s))
+    go false more = up_passed p s h
+
+squelched_passed : (p : Settings) (first : Point) (s : Holding) → HasPassed s → HasPassed (squelched p first s)
+squelched_passed p first s h =
+    let t : Holding = loses_before (first.index - s.point.index) p first.index s in
+    go t (t.point.index == first.index && is_cut_off t first) (before_passed p (first.index - s.point.index) first.index s h)
+  where
+    go : (t : Holding) (b : Bool) → HasPassed t → HasPassed (elim b as (λ _. Holding) [ true ↦ handed_up p (loses_one t) | false ↦ t ])
+    go t true k = up_passed p (loses_one t) (lost_passed t)
+    go t false k = k
+
+taken_passed : (s : Holding) → HasPassed s → HasPassed (up_taken s).0
+taken_passed s h = go s.ups
+  where
+    holding_of : Holding × Option Up → Holding
+    holding_of step = step.0
+
+    go : (ups : List Up) → HasPassed (holding_of (elim ups [ up ∷ more ↦ (record s { ups = more }, Some up) | [] ↦ (s, None) ]))
+    go [] = h
+    go (up ∷ more) = more_passed s (record s { ups = more }) (plan_of s s.point.index) (same_held s (record s { ups = more }) refl refl) h
+
+is_kept : (p : Settings) → IsKept p (λ s. HasPassed s)
+is_kept p = record {
+  nothing = record { block = refl; symbol = refl };
+  symbol = λ at extensions flags payload s h.
+      object_passed p at extensions flags (put_symbol p at payload) s (λ t k. symbol_passed (put_of p t at payload) at payload t k) h;
+  info = λ at extensions flags index info s h.
+      object_passed p at extensions flags (put_info p index info) s (λ t k. info_passed (put_info_of p t index info) index info t k) h;
+  squelch = λ first s h. squelched_passed p first s h;
+  take = λ s h. taken_passed s h;
+}
+
+pub passed_laws : PassedLaws
+passed_laws = record {
+  begins = λ node. record { block = refl; symbol = refl };
+  goes_on = λ p s event h. steps_keep p (λ t. HasPassed t) (is_kept p) s event h;
+}
