@@ -1,0 +1,241 @@
+-- What a sender hears, over what it keeps.
+use Rattle.std.proofs.Common.{eq-eqb, ◌≡◌, ◌≢◌, ◌∙◌, ℕ, List, [], ◌∷◌, length, Bool, true, false, Option, Some, None, refl, sym, subst, ap, arith}
+use Rattle.std.specs.Prelude.{◌==◌, ◌&&◌}
+use Rattle.std.specs.Option.{option_map}
+use Rattle.std.proofs.lemmas.Bool.Decides.{nat_tests}
+use Rattle.norm_base.specs.Settings.{Settings}
+use Rattle.fec_plan.specs.declared.position.Position.{Position}
+use Rattle.norm_order.specs.Shapes.{is_source}
+use Rattle.norm_ext.specs.Requests.{Request, requests_of}
+use Rattle.norm_send_rules.specs.SenderState.{SenderState, Watermark}
+use Rattle.norm_send_rules.specs.InWindow.{current_shapes}
+use Rattle.norm_send_rules.specs.Watermarks.{oldest, keeps_oldest, settled, counted_anew, all_past}
+use Rattle.norm_order.specs.Sets.{with_member}
+use Rattle.std.specs.Prelude.{nat_lt, map}
+use Rattle.std.specs.Prelude.{Result, Ok, length}
+use Rattle.norm_base.specs.Members.{is_receiver}
+use Rattle.fec_plan.specs.Points.{position}
+use Rattle.norm_ext.specs.ObjectIds.{index_named}
+use Rattle.norm_ext.specs.Laws.{IsNear}
+use Rattle.norm_ext.proofs.IdLemmas.{names_nearest_law}
+use Rattle.std.proofs.Common.{◌<◌}
+use Rattle.norm_ext.specs.Asking.{item_named}
+use Rattle.norm_ext.specs.declared.head.Item.{Item}
+use Rattle.norm_ext.specs.declared.refusal.Refusal.{Refusal}
+use Rattle.norm_ext.specs.Message.{NackMessage, AckMessage, AckContent, Mark, Unread}
+use Rattle.norm_cmdmsg.specs.declared.command.CommandMsg.{CommandMsg}
+use Rattle.norm_cmdmsg.specs.declared.command.CommandMsg.TheVariants as lent
+use Rattle.norm_cmdmsg.specs.View.{command_of}
+use Rattle.norm_send_rules.specs.SenderState.{Round}
+use Rattle.norm_send_rules.specs.InWindow.{last_index}
+use Rattle.norm_send_rules.specs.Watermarks.{has_member}
+use Rattle.norm_send_rules.specs.Hearing.{credited_by, nack_heard, ack_heard, message_heard, credited, rises, listed_past, joined_round, round_at}
+use Rattle.tx_window.specs.WindowState.{WindowState, reads as window_reads, Stands as WindowStands}
+use Rattle.nack_union.specs.UnionState.{UnionState, Stands as UnionStands}
+use Rattle.mark_book.specs.BookState.{BookState, Stands as BookStands}
+use Rattle.norm_sender.specs.declared.pace.Pace.{Pace}
+use Rattle.norm_sender.specs.Pacing.{pace_of, counted_by, opened_at}
+use Rattle.norm_sender.specs.Feedback.{content_heard}
+use Rattle.norm_sender.specs.SenderKept.{SenderKept, Agrees}
+
+-- the state with a listing that rose, before the count of flushes is looked at
+abbrev risen : ℕ → Position → SenderState → SenderState
+risen node at s = settled (record s { listings = map (listed_past node at) s.listings; untold_nodes = with_member nat_lt node s.untold_nodes })
+
+-- a crediting by its tests
+abbrev credited_if : Bool → Bool → ℕ → Position → SenderState → SenderState
+credited_if up kept node at s = elim up [
+  | true ↦ elim kept [ true ↦ risen node at s | false ↦ record (risen node at s) { flushes = 0 } ]
+  | false ↦ s
+]
+
+past_read : (up kept : Bool) (node : ℕ) (at : Position) (s : SenderState)
+    → window_reads (credited_if up kept node at s) ≡ record (window_reads s) { past = all_past (credited_if up kept node at s) }
+past_read false kept node at s = refl
+past_read true true node at s = refl
+past_read true false node at s = refl
+
+pub credited_past : (node : ℕ) (at : Position) (s : SenderState) → window_reads (credited node at s) ≡ record (window_reads s) { past = all_past (credited node at s) }
+credited_past node at s = past_read (rises node at s) (keeps_oldest s (risen node at s)) node at s
+
+union_read : (up kept : Bool) (node : ℕ) (at : Position) (s : SenderState) (u : UnionState) → UnionStands u s → UnionStands u (credited_if up kept node at s)
+union_read false kept node at s u h = h
+union_read true true node at s u h = h
+union_read true false node at s u h = h
+
+-- keeping the oldest watermark, by what is the oldest afterwards, and before
+abbrev kept_after : SenderState → Option Watermark → Bool
+kept_after old found = elim found [ Some w ↦ elim (oldest old) [ Some v ↦ v.mark == w.mark | None ↦ false ] | None ↦ true ]
+
+abbrev kept_before : Watermark → Option Watermark → Bool
+kept_before w found = elim found [ Some v ↦ v.mark == w.mark | None ↦ false ]
+
+keeps_itself : (s : SenderState) (found : Option Watermark) → oldest s ≡ found → keeps_oldest s s ≡ true
+keeps_itself s None e = ap (kept_after s) e
+keeps_itself s (Some w) e = ap (kept_after s) e ∙ ap (kept_before w) e ∙ eq-eqb w.mark w.mark refl
+
+pace_read : (up kept : Bool) (node : ℕ) (at : Position) (s : SenderState) → keeps_oldest s (risen node at s) ≡ kept
+    → counted_by (keeps_oldest s (credited_if up kept node at s)) (pace_of s) ≡ pace_of (credited_if up kept node at s)
+pace_read false kept node at s e = ap (λ (b : Bool). counted_by b (pace_of s)) (keeps_itself s (oldest s) refl)
+pace_read true true node at s e = ap (λ (b : Bool). counted_by b (pace_of s)) e
+pace_read true false node at s e = ap (λ (b : Bool). counted_by b (pace_of s)) e
+
+pub credited_stands : (k : SenderKept) (window : WindowState) (book : BookState) (kept : Bool) (node : ℕ) (at : Position) (s : SenderState)
+    → Agrees k s → window.p ≡ k.window.p → WindowStands window (credited node at s) → BookStands k.p book (credited node at s)
+    → kept ≡ keeps_oldest s (credited node at s)
+    → Agrees (record k { window = window; book = book; pace = counted_by kept k.pace }) (credited node at s)
+credited_stands k window book kept node at s h profile behind listed is = record {
+  window_profile = profile ∙ h.window_profile;
+  union_profile = h.union_profile;
+  window = behind;
+  union = union_read (rises node at s) (keeps_oldest s (risen node at s)) node at s k.union h.union;
+  book = listed;
+  pace =
+      ap (counted_by kept) h.pace ∙ ap (λ (b : Bool). counted_by b (pace_of s)) is
+      ∙ pace_read (rises node at s) (keeps_oldest s (risen node at s)) node at s refl;
+}
+
+-- An acknowledgement's item.
+
+-- what is credited, by the index that is named
+abbrev credited_named : Settings → ℕ → Item → SenderState → Option ℕ → SenderState
+credited_named p node item s found = credited_by p node (elim found [ Some index ↦ Some (position index item.id.block item.id.symbol) | None ↦ None ]) s
+
+pub not_named : (k : SenderKept) (node known : ℕ) (item : Item) (s : SenderState) → Agrees k s → known ≡ last_index s
+    → index_named k.p known item.object ≡ None → Agrees k (credited_by k.p node (item_named k.p (last_index s) item) s)
+not_named k node known item s h is found =
+    let e : index_named k.p (last_index s) item.object ≡ None = subst (λ (n : ℕ). index_named k.p n item.object ≡ None) is found in
+    subst (λ (t : SenderState). Agrees k t) (sym (ap (credited_named k.p node item s) e)) h
+
+pub named_as : (k new : SenderKept) (node known index : ℕ) (item : Item) (s : SenderState) → known ≡ last_index s
+    → index_named k.p known item.object ≡ Some index
+    → Agrees new (credited_by k.p node (Some (position index item.id.block item.id.symbol)) s)
+    → Agrees new (credited_by k.p node (item_named k.p (last_index s) item) s)
+named_as k new node known index item s is found h =
+    let e : index_named k.p (last_index s) item.object ≡ Some index = subst (λ (n : ℕ). index_named k.p n item.object ≡ Some index) is found in
+    subst (λ (t : SenderState). Agrees new t) (sym (ap (credited_named k.p node item s) e)) h
+
+-- an index that an id names is near what is known
+pub named_near : (p : Settings) (known : ℕ) (item : Item) (index : ℕ) (s : SenderState) → known ≡ last_index s → item.object < 65536
+    → index_named p known item.object ≡ Some index → IsNear (last_index s) index
+named_near p known item index s is small found =
+    subst (λ (n : ℕ). IsNear n index) is ((names_nearest_law p known item.object index small).0 found).0
+
+-- what is credited of a position, by whether it is a source symbol
+abbrev credited_where : ℕ → Position → SenderState → Bool → SenderState
+credited_where node at s source = elim source [ true ↦ credited node at s | false ↦ s ]
+
+pub no_source : (k : SenderKept) (node : ℕ) (at : Position) (s : SenderState) (source : Bool) → Agrees k s
+    → IsNear (last_index s) at.index
+    → (IsNear (last_index s) at.index → source ≡ is_source (current_shapes k.window.p s) at) → source ≡ false → Agrees k (credited_by k.p node (Some at) s)
+no_source k node at s source h near is e =
+    let e' : is_source (current_shapes k.p s) at ≡ false =
+    subst (λ (q : Settings). is_source (current_shapes q s) at ≡ false) h.window_profile (sym (is near) ∙ e) in
+    subst (λ (t : SenderState). Agrees k t) (sym (ap (credited_where node at s) e')) h
+
+pub a_source : (k new : SenderKept) (node : ℕ) (at : Position) (s : SenderState) (source : Bool) → Agrees k s
+    → IsNear (last_index s) at.index
+    → (IsNear (last_index s) at.index → source ≡ is_source (current_shapes k.window.p s) at) → source ≡ true → Agrees new (credited node at s)
+    → Agrees new (credited_by k.p node (Some at) s)
+a_source k new node at s source h near is e after =
+    let e' : is_source (current_shapes k.p s) at ≡ true =
+    subst (λ (q : Settings). is_source (current_shapes q s) at ≡ true) h.window_profile (sym (is near) ∙ e) in
+    subst (λ (t : SenderState). Agrees new t) (sym (ap (credited_where node at s) e')) after
+
+-- Requests that join the round.
+
+pub joined_none : (k : SenderKept) (octets : List ℕ) (now : ℕ) (s : SenderState) → Agrees k s → length octets ≡ 0 → Agrees k (joined_round k.p s now (requests_of octets))
+joined_none k [] now s h e = h
+joined_none k (x ∷ octets) now s h e = absurd (omega arith)
+
+opened_as : (p : Settings) (now : ℕ) (s : SenderState) (round : Option Round)
+    → opened_at p now (record (pace_of s) { closes = option_map (λ (r : Round). r.closes) round })
+    ≡ record (pace_of s) { closes = Some (round_at p (record s { round = round }) now).closes }
+opened_as p now s None = refl
+opened_as p now s (Some r) = refl
+
+joined_pace : (p : Settings) (s : SenderState) (now : ℕ) (octets : List ℕ) → (length octets ≡ 0 → ⊥)
+    → opened_at p now (pace_of s) ≡ pace_of (joined_round p s now (requests_of octets))
+joined_pace p s now [] some = absurd (some refl)
+joined_pace p s now (x ∷ octets) some = opened_as p now s s.round
+
+joined_window : (p : Settings) (s : SenderState) (now : ℕ) (requests : List Request) (w : WindowState) → WindowStands w s → WindowStands w (joined_round p s now requests)
+joined_window p s now [] w h = h
+joined_window p s now (r ∷ requests) w h = h
+
+joined_book : (p : Settings) (s : SenderState) (now : ℕ) (requests : List Request) (b : BookState) → BookStands p b s → BookStands p b (joined_round p s now requests)
+joined_book p s now [] b h = h
+joined_book p s now (r ∷ requests) b h = h
+
+pub joined_stands : (k : SenderKept) (union : UnionState) (octets : List ℕ) (now : ℕ) (s : SenderState) → Agrees k s → (length octets ≡ 0 → ⊥)
+    → union.p ≡ k.union.p → UnionStands union (joined_round k.union.p s now (requests_of octets))
+    → Agrees (record k { union = union; pace = opened_at k.p now k.pace }) (joined_round k.p s now (requests_of octets))
+joined_stands k union octets now s h some profile after = record {
+  window_profile = h.window_profile;
+  union_profile = profile ∙ h.union_profile;
+  window = joined_window k.p s now (requests_of octets) k.window h.window;
+  union = subst (λ (q : Settings). UnionStands union (joined_round q s now (requests_of octets))) h.union_profile after;
+  book = joined_book k.p s now (requests_of octets) k.book h.book;
+  pace = ap (opened_at k.p now) h.pace ∙ joined_pace k.p s now octets some;
+}
+
+-- Whom a sender hears.
+
+-- a message is to this sender and its current instance, by the numbers
+abbrev pub to_me : SenderKept → ℕ → ℕ → Bool
+to_me k sender instance = sender == k.p.sender && instance == k.pace.instance
+
+instance_is : (k : SenderKept) (s : SenderState) → Agrees k s → (sender instance : ℕ) → to_me k sender instance ≡ (sender == k.p.sender && instance == s.current.id)
+instance_is k s h sender instance = ap (λ (q : Pace). sender == k.p.sender && instance == q.instance) h.pace
+
+abbrev nack_where : Settings → SenderState → ℕ → NackMessage → Bool → SenderState
+nack_where p s now m counts = elim counts [ true ↦ joined_round p s now m.requests | false ↦ s ]
+
+pub nack_of_other : (k : SenderKept) (now : ℕ) (m : NackMessage) (s : SenderState) → Agrees k s → is_receiver k.p m.source ≡ false → Agrees k (nack_heard k.p s now m)
+nack_of_other k now m s h e =
+    subst (λ (t : SenderState). Agrees k t)
+    (sym (ap (λ (b : Bool). nack_where k.p s now m (b && (m.sender == k.p.sender && m.instance == s.current.id))) e)) h
+
+pub nack_to_other : (k : SenderKept) (now : ℕ) (m : NackMessage) (s : SenderState) → Agrees k s → is_receiver k.p m.source ≡ true
+    → to_me k m.sender m.instance ≡ false → Agrees k (nack_heard k.p s now m)
+nack_to_other k now m s h of e =
+    subst (λ (t : SenderState). Agrees k t)
+    (sym (ap (λ (b : Bool). nack_where k.p s now m (b && (m.sender == k.p.sender && m.instance == s.current.id))) of
+    ∙ ap (λ (b : Bool). nack_where k.p s now m (true && b)) (sym (instance_is k s h m.sender m.instance) ∙ e))) h
+
+pub nack_to_me : (k new : SenderKept) (now : ℕ) (m : NackMessage) (s : SenderState) → Agrees k s → is_receiver k.p m.source ≡ true
+    → to_me k m.sender m.instance ≡ true → Agrees new (joined_round k.p s now m.requests) → Agrees new (nack_heard k.p s now m)
+nack_to_me k new now m s h of e after =
+    subst (λ (t : SenderState). Agrees new t)
+    (sym (ap (λ (b : Bool). nack_where k.p s now m (b && (m.sender == k.p.sender && m.instance == s.current.id))) of
+    ∙ ap (λ (b : Bool). nack_where k.p s now m (true && b)) (sym (instance_is k s h m.sender m.instance) ∙ e))) after
+
+abbrev ack_where : Settings → SenderState → AckMessage → Bool → SenderState
+ack_where p s m counts = elim counts [ true ↦ content_heard p m.source s m.content | false ↦ s ]
+
+pub ack_of_other : (k : SenderKept) (m : AckMessage) (s : SenderState) (member : Bool) → Agrees k s → member ≡ has_member m.source s → member ≡ false → Agrees k (ack_heard k.p s m)
+ack_of_other k m s member h is e =
+    subst (λ (t : SenderState). Agrees k t)
+    (sym (ap (λ (b : Bool). ack_where k.p s m (b && (m.sender == k.p.sender && m.instance == s.current.id))) (sym is ∙ e))) h
+
+pub ack_to_other : (k : SenderKept) (m : AckMessage) (s : SenderState) (member : Bool) → Agrees k s → member ≡ has_member m.source s → member ≡ true
+    → to_me k m.sender m.instance ≡ false → Agrees k (ack_heard k.p s m)
+ack_to_other k m s member h is of e =
+    subst (λ (t : SenderState). Agrees k t)
+    (sym (ap (λ (b : Bool). ack_where k.p s m (b && (m.sender == k.p.sender && m.instance == s.current.id))) (sym is ∙ of)
+    ∙ ap (λ (b : Bool). ack_where k.p s m (true && b)) (sym (instance_is k s h m.sender m.instance) ∙ e))) h
+
+pub ack_to_me : (k new : SenderKept) (m : AckMessage) (s : SenderState) (member : Bool) → Agrees k s → member ≡ has_member m.source s → member ≡ true
+    → to_me k m.sender m.instance ≡ true → Agrees new (content_heard k.p m.source s m.content) → Agrees new (ack_heard k.p s m)
+ack_to_me k new m s member h is of e after =
+    subst (λ (t : SenderState). Agrees new t)
+    (sym (ap (λ (b : Bool). ack_where k.p s m (b && (m.sender == k.p.sender && m.instance == s.current.id))) (sym is ∙ of)
+    ∙ ap (λ (b : Bool). ack_where k.p s m (true && b)) (sym (instance_is k s h m.sender m.instance) ∙ e))) after
+
+pub command_unheard : (p : Settings) (s : SenderState) (now : ℕ) (m : CommandMsg) → message_heard {E = Refusal} p s now (Ok (command_of m)) ≡ s
+command_unheard p s now (lent.Flush head object id exts nodes) = refl
+command_unheard p s now (lent.Eot head exts) = refl
+command_unheard p s now (lent.Squelch head object id exts invalid) = refl
+command_unheard p s now (lent.RepairAdv head flags exts requests) = refl
+command_unheard p s now (lent.AckReq head ack_type ack_id exts nodes) = refl
+command_unheard p s now (lent.Opaque head sub_type words rest) = refl

@@ -1,0 +1,9 @@
+pub mod ClosingLemmas
+pub mod FlushingLemmas
+pub mod HearingLemmas
+pub mod NewLemmas
+pub mod SenderLemmas
+pub mod SendingLemmas
+pub mod TellingLemmas
+pub mod TickingLemmas
+pub mod WritingLemmas

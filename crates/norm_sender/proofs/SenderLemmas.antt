@@ -1,0 +1,64 @@
+-- What a sender stands for after each of its calls.
+use Rattle.std.proofs.Common.{◌≡◌, ℕ, zero, suc, ◌+◌, List, [], ◌∷◌, length, Option, refl, sym, subst, ap, arith}
+use Rattle.std.proofs.lemmas.List.{length-append}
+use Rattle.norm_base.specs.Members.{receivers_of}
+use Rattle.norm_base.specs.Settings.{Settings, InRange}
+use Rattle.norm_base.specs.declared.kinds.Sent.{Sent}
+use Rattle.norm_send_rules.specs.SenderState.{SenderState, sender_opening}
+use Rattle.norm_send_rules.specs.SenderStep.{Ticked, Delivered, NewsAsked}
+use Rattle.norm_send_rules.specs.Ticking.{ticked}
+use Rattle.norm_send_rules.specs.Hearing.{heard}
+use Rattle.norm_send_rules.specs.Telling.{told}
+use Rattle.norm_send_rules.specs.Reached.{IsReached}
+use Rattle.norm_send_rules.proofs.ReachedLemmas.{reached_laws}
+use Rattle.tx_window.specs.WindowState.{WindowState, empty_window, Stands as WindowStands}
+use Rattle.nack_union.specs.UnionState.{UnionState, empty_union, Stands as UnionStands}
+use Rattle.mark_book.specs.BookState.{BookState, Stands as BookStands}
+use Rattle.norm_sender.specs.Pacing.{pace_of}
+use Rattle.norm_sender.specs.SenderKept.{SenderKept, Agrees, Stands, SenderSound}
+use Rattle.norm_sender.specs.SenderMoves.{IsSent, IsTick}
+use Rattle.norm_sender.specs.Wanted.{IsStanding}
+
+-- what the parts of a sender need of it
+pub standing : (k : SenderKept) → SenderSound k → IsStanding k
+standing k sound = record { state = sound.state; stands = sound.stands.agrees; wants = sound.stands.reached.wants }
+
+under : (p q : Settings) (s : SenderState) → q ≡ p → IsReached p s → IsReached q s
+under p q s same h = subst (λ (r : Settings). IsReached r s) (sym same) h
+
+pub ticks : (k new : SenderKept) (out : List ℕ) (answer : Sent) (now : ℕ) (s : SenderState) → InRange k.p → new.p ≡ k.p
+    → IsSent new out answer (ticked k.p s now) → IsReached k.p s → IsTick new out answer (ticked k.p s now)
+ticks k new out answer now s range same sent reached = record {
+  stands = record { agrees = sent.stands; reached = under k.p new.p (ticked k.p s now).0 same (reached_laws.always k.p s (Ticked now) range reached) };
+  octets = sent.octets;
+}
+
+pub hears : (k new : SenderKept) (bytes : List ℕ) (now : ℕ) (s : SenderState) → InRange k.p → new.p ≡ k.p
+    → Agrees new (heard k.p s bytes now) → IsReached k.p s → Stands new (heard k.p s bytes now)
+hears k new bytes now s range same after reached =
+    record { agrees = after; reached = under k.p new.p (heard k.p s bytes now) same (reached_laws.always k.p s (Delivered bytes now) range reached) }
+
+pub tells : (k new : SenderKept) (s : SenderState) → InRange k.p → new.p ≡ k.p → Agrees new (told s).0 → IsReached k.p s → Stands new (told s).0
+tells k new s range same after reached =
+    record { agrees = after; reached = under k.p new.p (told s).0 same (reached_laws.always k.p s NewsAsked range reached) }
+
+-- A sender as it begins.
+
+pub receivers_count : (p : Settings) (n : ℕ) → length (receivers_of p n) ≡ n
+receivers_count p zero = refl
+receivers_count p (suc n) = omega (arith, length-append (receivers_of p n) ((p.sender + 1 + n) ∷ []), receivers_count p n)
+
+pub begins : (k : SenderKept) (instance : ℕ) → InRange k.p → k.window ≡ empty_window k.p → k.union ≡ empty_union k.p
+    → WindowStands k.window (sender_opening k.p instance) → UnionStands k.union (sender_opening k.p instance)
+    → BookStands k.p k.book (sender_opening k.p instance) → k.pace ≡ pace_of (sender_opening k.p instance) → Stands k (sender_opening k.p instance)
+begins k instance range window_is union_is window union book pace = record {
+  agrees = record {
+    window_profile = ap (λ (w : WindowState). w.p) window_is;
+    union_profile = ap (λ (u : UnionState). u.p) union_is;
+    window = window;
+    union = union;
+    book = book;
+    pace = pace;
+  };
+  reached = reached_laws.at_first k.p instance range;
+}

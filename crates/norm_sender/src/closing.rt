@@ -1,0 +1,23 @@
+//! The closing of a repair round.
+
+ghost use Rattle.std.specs.Prelude.{◌≡◌};
+ghost use Rattle.norm_send_rules.specs.Ticking.{closed_where_due};
+ghost use Rattle.norm_sender.specs.SenderMoves.{SenderMoves};
+ghost use Rattle.norm_sender.specs.Inside.{kept_of};
+
+use crate::parts::Parts;
+use norm_base::Moment;
+
+impl Parts {
+    /// Closes the open round, where its closing moment is reached.
+    pub(crate) fn close_where_due(&mut self, now: Moment)
+        ensures profile { self.new.profile ≡ self.old.profile }
+        ensures stands { SenderMoves (kept_of self.old) (kept_of self.new) (λ p s. closed_where_due p now s) }
+    {
+        if !self.pace.is_round_over(now) {
+            return;
+        }
+        let closed = self.union.close_round();
+        self.pace = self.pace.closed(closed.queued > 0, closed.early);
+    }
+}

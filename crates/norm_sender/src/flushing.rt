@@ -1,0 +1,97 @@
+//! Flushing (RFC 5740 section 5.5.3): the oldest open watermark is asked of the members that are not past it.
+
+ghost use Rattle.std.specs.Prelude.{◌≡◌, ◌<◌, Some};
+ghost use Rattle.norm_ext.specs.Octets.{octets_of};
+ghost use Rattle.norm_send_rules.specs.SenderState.{SenderState, Watermark};
+ghost use Rattle.norm_send_rules.specs.Watermarks.{pending, oldest};
+ghost use Rattle.norm_send_rules.specs.Messages.{flush_message};
+ghost use Rattle.norm_send_rules.specs.Flushing.{flushes_for, flushes_oldest, flushes_in_turn, flushes, expired};
+ghost use Rattle.norm_sender.specs.SenderKept.{Agrees};
+ghost use Rattle.norm_sender.specs.SenderMoves.{IsSent, SenderMoves, SenderSends};
+ghost use Rattle.norm_sender.specs.Inside.{kept_of};
+
+use crate::parts::Parts;
+use crate::writing::write_flush_front;
+use fec_plan::Position;
+use mark_book::keeps_oldest;
+use norm_base::{Datagram, Moment, Sent};
+
+/// So many flushes are sent of a watermark that nothing else goes on for.
+const MOST_FLUSHES: u32 = 20;
+
+impl Parts {
+    /// Writes a FLUSH up to a position, to all members that are not past it.
+    fn write_flush(&self, at: Position, out: &mut Datagram)
+        ensures { (s : SenderState) → Agrees (kept_of self.now) s → out.new ≡ octets_of (flush_message self.now.profile s at (pending s at)) }
+    {
+        write_flush_front(&self.profile, &self.pace, &at, out);
+        self.book.write_pending(at, out);
+    }
+
+    /// Sends a FLUSH up to a position, and counts it.
+    fn flush_for(&mut self, at: Position, now: Moment, out: &mut Datagram) -> Sent
+        ensures profile { self.new.profile ≡ self.old.profile }
+        ensures stands { (s : SenderState) (w : Watermark) → Agrees (kept_of self.old) s → w.at ≡ at → s.flushes < 4294967295
+            → IsSent (kept_of self.new) out.new result (flushes_for self.old.profile now w s) }
+    {
+        self.write_flush(at, out);
+        self.pace = self.pace.flushed(now);
+        self.spend(now);
+        Sent::Datagram
+    }
+
+    /// Gives up the watermark with this number, the oldest that is open.
+    fn expire(&mut self, mark: u32)
+        ensures profile { self.new.profile ≡ self.old.profile }
+        ensures stands { SenderMoves (kept_of self.old) (kept_of self.new) (λ p s. expired mark s) }
+    {
+        let before = self.book.oldest();
+        self.book.expire(mark);
+        if keeps_oldest(before, self.book.oldest()) {
+            return;
+        }
+        self.pace = self.pace.counted_anew();
+    }
+
+    /// Flushes for the oldest watermark. With 20 flushes counted it is given up where no round is open, and the next has
+    /// its turn.
+    fn flush_in_turn(&mut self, now: Moment, out: &mut Datagram) -> Sent
+        ensures profile { self.new.profile ≡ self.old.profile }
+        ensures stands { SenderSends (kept_of self.old) (kept_of self.new) out.new result (λ p s. flushes_in_turn p now s) }
+    {
+        let Some(oldest) = self.book.oldest() else {
+            return Sent::Nothing;
+        };
+        if self.pace.flushes < MOST_FLUSHES {
+            return self.flush_for(oldest.at, now, out);
+        }
+        if self.pace.closes.is_some() {
+            return Sent::Nothing;
+        }
+        self.expire(oldest.mark);
+        self.flush_next(now, out)
+    }
+
+    /// Flushes for the oldest watermark, behind one that was given up.
+    fn flush_next(&mut self, now: Moment, out: &mut Datagram) -> Sent
+        ensures profile { self.new.profile ≡ self.old.profile }
+        ensures stands { (s : SenderState) → Agrees (kept_of self.old) s → ((w : Watermark) → oldest s ≡ Some w → s.flushes ≡ 0)
+            → IsSent (kept_of self.new) out.new result (flushes_oldest self.old.profile now s) }
+    {
+        let Some(oldest) = self.book.oldest() else {
+            return Sent::Nothing;
+        };
+        self.flush_for(oldest.at, now, out)
+    }
+
+    /// Flushes, where the time has come for that.
+    pub(crate) fn flush(&mut self, now: Moment, out: &mut Datagram) -> Sent
+        ensures profile { self.new.profile ≡ self.old.profile }
+        ensures stands { SenderSends (kept_of self.old) (kept_of self.new) out.new result (λ p s. flushes p now s) }
+    {
+        if !self.pace.may_flush(self.profile.grtt, now) {
+            return Sent::Nothing;
+        }
+        self.flush_in_turn(now, out)
+    }
+}

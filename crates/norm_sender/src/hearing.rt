@@ -1,0 +1,161 @@
+//! What a sender hears (RFC 5740 sections 5.4 and 5.5.3).
+
+ghost use Rattle.std.specs.Prelude.{◌≡◌, ◌&&◌, ◌==◌, ℕ};
+ghost use Rattle.norm_ext.specs.Requests.{IsRequests, requests_of};
+ghost use Rattle.norm_ext.specs.Asking.{item_named};
+ghost use Rattle.std.specs.Prelude.{Ok};
+ghost use Rattle.norm_codec.specs.View.{message_of};
+ghost use Rattle.norm_codec.specs.Whole.{IsWhole};
+ghost use Rattle.norm_ext.specs.declared.refusal.Refusal.{Refusal as Refused};
+ghost use Rattle.norm_sender.specs.Feedback.{nack_message, ack_message, content_heard};
+ghost use Rattle.norm_fbmsg.specs.View.{content_of};
+ghost use Rattle.norm_sender.specs.Pacing.{opened_at};
+ghost use Rattle.norm_base.specs.Settings.{InRange};
+ghost use Rattle.norm_send_rules.specs.InWindow.{last_index};
+ghost use Rattle.norm_send_rules.specs.Hearing.{credited, credited_by, joined_round, heard, message_heard, nack_heard, ack_heard};
+ghost use Rattle.norm_sender.specs.SenderMoves.{SenderMoves};
+ghost use Rattle.norm_sender.specs.Inside.{kept_of};
+
+use crate::pace::moment_after;
+use crate::parts::{Parts, hold_range};
+use fec_plan::Position;
+use mark_book::keeps_oldest;
+use norm_base::{InstanceId, Moment, NodeId};
+use norm_codec::{Message, decode};
+use norm_ext::{Item, index_named, requests_of as requests_in};
+use norm_fbmsg::{AckBody, AckMsg, NackMsg};
+
+impl Parts {
+    /// A member confirms all through a position.
+    fn credit(&mut self, node: NodeId, at: Position)
+        ensures profile { self.new.profile ≡ self.old.profile }
+        ensures stands { SenderMoves (kept_of self.old) (kept_of self.new) (λ p s. credited node at s) }
+    {
+        let before = self.book.oldest();
+        self.book.ack(node, at);
+        self.window.note_past(self.book.least());
+        if keeps_oldest(before, self.book.oldest()) {
+            return;
+        }
+        self.pace = self.pace.counted_anew();
+    }
+
+    /// An acknowledgement of what its item names.
+    fn credit_named(&mut self, node: NodeId, item: &Item)
+        ensures profile { self.new.profile ≡ self.old.profile }
+        ensures stands { SenderMoves (kept_of self.old) (kept_of self.new) (λ p s. credited_by p node (item_named p (last_index s) item.now) s) }
+    {
+        let Some(index) = index_named(&self.profile, self.union.known(), item.object) else {
+            return;
+        };
+        let at = Position {
+            index,
+            block: item.id.block,
+            symbol: item.id.symbol,
+        };
+        if !self.window.is_source(at) {
+            return;
+        }
+        self.credit(node, at);
+    }
+
+    /// Where no round is open, one opens, which closes K + 1 round trips from now.
+    fn open_round(&mut self, now: Moment)
+        ensures { self.new ≡ record self.old { pace = opened_at self.old.profile now self.old.pace } }
+    {
+        if self.pace.closes.is_some() {
+            return;
+        }
+        let span = (u64::from(self.profile.k) + 1) * u64::from(self.profile.grtt);
+        self.pace = self.pace.opened(moment_after(now, span));
+    }
+
+    /// The requests of a NACK, a list of whole ones, join the open round, or open one.
+    fn join_round(&mut self, requests: &[u8], now: Moment)
+        requires { IsRequests requests.now }
+        ensures profile { self.new.profile ≡ self.old.profile }
+        ensures stands { SenderMoves (kept_of self.old) (kept_of self.new) (λ p s. joined_round p s now (requests_of requests.now)) }
+    {
+        if requests.is_empty() {
+            return;
+        }
+        self.union.add(requests_in(requests));
+        self.open_round(now);
+    }
+
+    /// Whether a message is to this sender and its current instance.
+    fn is_for(&self, sender: NodeId, instance: InstanceId) -> bool
+        ensures { result ≡ (sender == self.now.profile.sender && instance == self.now.pace.instance) }
+    {
+        sender.number() == self.profile.sender && instance == self.pace.instance
+    }
+
+    /// A NACK counts where it is a receiver's.
+    fn hear_nack(&mut self, msg: &NackMsg<'_>, now: Moment)
+        requires { IsRequests msg.now.requests.now }
+        ensures profile { self.new.profile ≡ self.old.profile }
+        ensures stands { SenderMoves (kept_of self.old) (kept_of self.new) (λ p s. nack_heard p s now (nack_message msg.now)) }
+    {
+        if !self.profile.is_receiver(msg.source) {
+            return;
+        }
+        if !self.is_for(msg.sender, msg.instance) {
+            return;
+        }
+        self.join_round(msg.requests, now);
+    }
+
+    /// What an acknowledgement holds: the position of a flush counts, and anything else changes nothing.
+    fn hear_body(&mut self, node: NodeId, body: &AckBody<'_>)
+        ensures profile { self.new.profile ≡ self.old.profile }
+        ensures stands { SenderMoves (kept_of self.old) (kept_of self.new) (λ p s. content_heard p node s (content_of body.now)) }
+    {
+        match body {
+            AckBody::Mark(item) => self.credit_named(node, item),
+            AckBody::Opaque(_) => {}
+        }
+    }
+
+    /// An acknowledgement counts where it is a member's.
+    fn hear_ack(&mut self, msg: &AckMsg<'_>)
+        ensures profile { self.new.profile ≡ self.old.profile }
+        ensures stands { SenderMoves (kept_of self.old) (kept_of self.new) (λ p s. ack_heard p s (ack_message msg.now)) }
+    {
+        if !self.book.lists(msg.source) {
+            return;
+        }
+        if !self.is_for(msg.sender, msg.instance) {
+            return;
+        }
+        self.hear_body(msg.source, &msg.body);
+    }
+
+    /// Hears a message: any but a NACK or an acknowledgement changes nothing.
+    fn hear(&mut self, msg: &Message<'_>, now: Moment)
+        requires { IsWhole msg.now }
+        ensures profile { self.new.profile ≡ self.old.profile }
+        ensures stands { SenderMoves (kept_of self.old) (kept_of self.new) (λ p s. message_heard {E = Refused} p s now (Ok (message_of msg.now))) }
+    {
+        match msg {
+            Message::Nack(msg) => self.hear_nack(msg, now),
+            Message::Ack(msg) => self.hear_ack(msg),
+            Message::Info(_) => {}
+            Message::Data(_) => {}
+            Message::Command(_) => {}
+            Message::Report { .. } => {}
+        }
+    }
+
+    /// Hears a datagram. Octets that spell no message, and any message but a NACK or an acknowledgement, change nothing.
+    pub(crate) fn deliver(&mut self, bytes: &[u8], now: Moment)
+        ensures range { InRange self.old.profile }
+        ensures profile { self.new.profile ≡ self.old.profile }
+        ensures stands { SenderMoves (kept_of self.old) (kept_of self.new) (λ p s. heard p s bytes.now now) }
+    {
+        hold_range(&self.profile);
+        match decode(bytes) {
+            Ok(msg) => self.hear(&msg, now),
+            Err(_) => {}
+        }
+    }
+}

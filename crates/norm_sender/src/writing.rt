@@ -1,0 +1,208 @@
+//! The fronts of a sender's datagrams (RFC 5740 section 4.2): all that stands before a symbol's octets, an info or a list
+//! of nodes, which are pushed behind it where they lie.
+
+ghost use Rattle.std.specs.Prelude.{◌≡◌, ◌%◌, ◌<◌, ◌≤◌, ◌^◌, ◌++◌, [], ◌∷◌, length};
+ghost use Rattle.norm_ext.specs.Extensions.{fti_extension};
+ghost use Rattle.norm_ext.specs.Message.{Info, Data, Flush, Squelch};
+ghost use Rattle.norm_ext.specs.Octets.{octets_of};
+ghost use Rattle.norm_ext.specs.ObjectIds.{object_id as id_of_index};
+ghost use Rattle.norm_sender.specs.Heads.{object_front, command_front};
+
+use crate::pace::Pace;
+use fec_plan::{PayloadId, Point, Position};
+use norm_base::{Datagram, NodeId, Profile};
+use norm_cmdmsg::{CommandMsg, write_command};
+use norm_ext::{CmdHead, Fti, ObjHead, fti_words, object_id};
+use norm_objmsg::{DataMsg, InfoMsg, write_data, write_info};
+
+/// So many blocks have a number in a message.
+const BLOCK_COUNT: u32 = 16_777_216;
+
+/// A symbol's name, as messages spell it: with the lowest 24 bits of the block's number.
+fn name_of(block: u32, symbol: u8) -> PayloadId
+    ensures { result ≡ record { block = block % 16777216; symbol = symbol } }
+{
+    PayloadId {
+        block: block % BLOCK_COUNT,
+        symbol,
+    }
+}
+
+/// What INFO and DATA of an object begin with.
+fn object_head(profile: &Profile, pace: &Pace, index: u32, flags: u8) -> ObjHead
+    ensures exact { result ≡ object_front profile.now pace.now index flags }
+    ensures backoff { result.backoff < 16 }
+    ensures gsize { result.gsize < 16 }
+{
+    ObjHead {
+        source: NodeId::of(profile.sender).unwrap(),
+        sequence: pace.sequence,
+        instance: pace.instance,
+        grtt: profile.grtt_code,
+        backoff: profile.k,
+        gsize: profile.gsize_code,
+        flags,
+        object: object_id(profile, index),
+    }
+}
+
+/// What a command begins with.
+fn command_head(profile: &Profile, pace: &Pace) -> CmdHead
+    ensures exact { result ≡ command_front profile.now pace.now }
+    ensures backoff { result.backoff < 16 }
+    ensures gsize { result.gsize < 16 }
+{
+    CmdHead {
+        source: NodeId::of(profile.sender).unwrap(),
+        sequence: pace.sequence,
+        instance: pace.instance,
+        grtt: profile.grtt_code,
+        backoff: profile.k,
+        gsize: profile.gsize_code,
+    }
+}
+
+/// Writes the front of an INFO with this head into the empty datagram.
+fn put_info_front(head: &ObjHead, fti: &Fti, out: &mut Datagram)
+    requires empty { out.old ≡ [] }
+    requires backoff { head.now.backoff < 16 }
+    requires gsize { head.now.gsize < 16 }
+    requires fits { fti.now.l < 2 ^ 48 }
+    ensures { out.new ≡ octets_of (Info (record { head = head.now; extensions = fti_extension fti.now ∷ []; info = [] })) }
+{
+    let exts = fti_words(fti);
+    write_info(
+        &InfoMsg {
+            head: *head,
+            exts: &exts,
+            info: &[],
+        },
+        out,
+    );
+}
+
+/// Writes the front of a DATA with this head into the empty datagram.
+fn put_data_front(head: &ObjHead, id: &PayloadId, fti: &Fti, out: &mut Datagram)
+    requires empty { out.old ≡ [] }
+    requires backoff { head.now.backoff < 16 }
+    requires gsize { head.now.gsize < 16 }
+    requires fits { fti.now.l < 2 ^ 48 }
+    ensures { out.new ≡ octets_of (Data (record { head = head.now; id = id.now; extensions = fti_extension fti.now ∷ []; payload = [] })) }
+{
+    let exts = fti_words(fti);
+    write_data(
+        &DataMsg {
+            head: *head,
+            id: *id,
+            exts: &exts,
+            payload: &[],
+        },
+        out,
+    );
+}
+
+/// Writes the front of a FLUSH with this head into the empty datagram.
+fn put_flush_front(head: &CmdHead, object: u16, id: &PayloadId, out: &mut Datagram)
+    requires empty { out.old ≡ [] }
+    requires backoff { head.now.backoff < 16 }
+    requires gsize { head.now.gsize < 16 }
+    ensures { out.new ≡ octets_of (Flush (record { head = head.now; object = object; id = id.now; extensions = []; nodes = [] })) }
+{
+    write_command(
+        &CommandMsg::Flush {
+            head: *head,
+            object,
+            id: *id,
+            exts: &[],
+            nodes: &[],
+        },
+        out,
+    );
+}
+
+/// Writes a SQUELCH with this head into the empty datagram.
+fn put_squelch(head: &CmdHead, object: u16, id: &PayloadId, out: &mut Datagram)
+    requires empty { out.old ≡ [] }
+    requires backoff { head.now.backoff < 16 }
+    requires gsize { head.now.gsize < 16 }
+    ensures { out.new ≡ octets_of (Squelch (record { head = head.now; object = object; id = id.now; extensions = []; invalid = [] })) }
+{
+    write_command(
+        &CommandMsg::Squelch {
+            head: *head,
+            object,
+            id: *id,
+            exts: &[],
+            invalid: &[],
+        },
+        out,
+    );
+}
+
+/// Writes the front of an INFO: all but the info.
+pub(crate) fn write_info_front(
+    profile: &Profile,
+    pace: &Pace,
+    index: u32,
+    flags: u8,
+    fti: &Fti,
+    out: &mut Datagram,
+)
+    requires fits { fti.now.l < 2 ^ 48 }
+    ensures exact { out.new ≡ octets_of (Info (record { head = object_front profile.now pace.now index flags; extensions = fti_extension fti.now ∷ []; info = [] })) }
+    ensures size { length out.new ≡ 28 }
+{
+    let head = object_head(profile, pace, index, flags);
+    out.clear();
+    put_info_front(&head, fti, out);
+}
+
+/// Writes the front of a DATA: all but the symbol's octets.
+pub(crate) fn write_data_front(
+    profile: &Profile,
+    pace: &Pace,
+    at: &Position,
+    flags: u8,
+    fti: &Fti,
+    out: &mut Datagram,
+)
+    requires fits { fti.now.l < 2 ^ 48 }
+    ensures exact { out.new ≡ octets_of (Data (record { head = object_front profile.now pace.now at.now.index flags; id = record { block = at.now.block; symbol = at.now.symbol }; extensions = fti_extension fti.now ∷ []; payload = [] })) }
+    ensures size { length out.new ≡ 32 }
+{
+    let head = object_head(profile, pace, at.index, flags);
+    let id = name_of(at.block, at.symbol);
+    out.clear();
+    put_data_front(&head, &id, fti, out);
+}
+
+/// Writes the front of a FLUSH: all but the nodes.
+pub(crate) fn write_flush_front(profile: &Profile, pace: &Pace, at: &Position, out: &mut Datagram)
+    ensures exact { out.new ≡ octets_of (Flush (record { head = command_front profile.now pace.now; object = id_of_index profile.now at.now.index; id = record { block = at.now.block; symbol = at.now.symbol }; extensions = []; nodes = [] })) }
+    ensures size { length out.new ≡ 20 }
+{
+    let head = command_head(profile, pace);
+    let id = name_of(at.block, at.symbol);
+    out.clear();
+    put_flush_front(&head, object_id(profile, at.index), &id, out);
+}
+
+/// Writes a SQUELCH, whose list of objects is left empty.
+pub(crate) fn write_squelch(profile: &Profile, pace: &Pace, first: &Point, out: &mut Datagram)
+    ensures { out.new ≡ octets_of (Squelch (record { head = command_front profile.now pace.now; object = id_of_index profile.now first.now.index; id = record { block = first.now.block; symbol = 0 }; extensions = []; invalid = [] })) }
+{
+    let head = command_head(profile, pace);
+    let id = name_of(first.block, 0);
+    out.clear();
+    put_squelch(&head, object_id(profile, first.index), &id, out);
+}
+
+/// Adds an object's info behind the front of an INFO.
+pub(crate) fn push_info(profile: &Profile, info: &[u8], out: &mut Datagram)
+    requires front { length out.old ≡ 28 }
+    requires most { length info.now ≤ profile.now.e }
+    ensures { out.new ≡ out.old ++ info.now }
+{
+    let _most = profile.e;
+    out.push(info);
+}
