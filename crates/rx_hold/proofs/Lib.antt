@@ -29,3 +29,4 @@ pub mod TakeLemmas
 pub mod PutLemmas
 pub mod InfoLemmas
 pub mod UntakeLemmas
+pub mod SeeLemmas

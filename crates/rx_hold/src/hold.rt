@@ -10,6 +10,7 @@ ghost use Rattle.norm_receive_rules.specs.Fitting.{most_ahead, fit_of, fitted, w
 ghost use Rattle.norm_receive_rules.specs.Putting.{put_of, with_symbol, put_info_of, with_info};
 ghost use Rattle.norm_receive_rules.specs.HandingUp.{handed_up};
 ghost use Rattle.norm_receive_rules.specs.Losing.{squelched};
+ghost use Rattle.norm_receive_rules.specs.Seeing.{sees_block};
 ghost use Rattle.norm_receive_rules.specs.Taking.{up_taken};
 ghost use Rattle.norm_receive_rules.specs.declared.words.Fit.TheVariants as fit_word;
 ghost use Rattle.norm_receive_rules.specs.declared.words.Put.TheVariants as put_word;
@@ -20,7 +21,7 @@ ghost use Rattle.rx_hold.specs.HoldSound.{are_same, octets_in, MayTake, MayInfor
 
 use crate::front::{Front, PLACES, fill, object_at, octets_of, offer_at, put_info_at, take_at};
 use crate::object::Object;
-use fec_plan::{PayloadId, Plan, Position};
+use fec_plan::{PayloadId, Plan, Point, Position};
 use norm_base::{Memory, Octets, Profile};
 use norm_ext::Fti;
 use norm_order::Up;
@@ -164,6 +165,7 @@ impl Hold {
         requires { self.now.point.index ≤ index }
         ensures exact { result ≡ flags_in self.now index }
         ensures state { (s : Holding) → Stands self.now s → result ≡ flags_at s index }
+        ensures object { IfSome result (λ flags. says_stream flags ≡ false) }
     {
         match object_at(&self.front.ring, self.front.point, index) {
             Some(object) => Some(object.flags()),
@@ -234,6 +236,14 @@ impl Hold {
         ensures { result ≡ length self.now.ups }
     {
         self.front.ups.len()
+    }
+
+    /// A block is seen, whether what came with it is kept or not. Of data and files nothing is kept of that.
+    pub fn see(&self, at: Point)
+        ensures { (s : Holding) → Stands self.now s → Stands self.now (sees_block at s) }
+    {
+        // Proof: what is kept is looked at, and with it that there is no stream.
+        let _lost = self.front.lost;
     }
 
     /// Takes the next hand-up, where one is left. `None` where all were taken; then nothing changes.

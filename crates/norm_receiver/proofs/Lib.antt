@@ -1,0 +1,4 @@
+pub mod ReceivingLemmas
+pub mod NeedLemmas
+pub mod EnteringLemmas
+pub mod SpanLemmas

@@ -1,0 +1,129 @@
+//! The messages of the sender that say something of an object (RFC 5740 section 5.3).
+
+ghost use Rattle.std.specs.Prelude.{◌≡◌, Ok, IfOk, OnErr, false};
+ghost use Rattle.norm_ext.specs.Extensions.{IsChecked};
+ghost use Rattle.norm_cmdmsg.specs.View.{command_of};
+ghost use Rattle.norm_cmdmsg.specs.Whole.{IsWhole};
+ghost use Rattle.norm_ext.specs.declared.refusal.Refusal.{Refusal as Refused};
+ghost use Rattle.norm_objmsg.specs.MessageView.{info_of, data_of};
+ghost use Rattle.norm_receive_rules.specs.ReceiverState.{ReceiverState};
+ghost use Rattle.norm_receive_rules.specs.Plans.{says_stream};
+ghost use Rattle.norm_receive_rules.specs.Receiving.{message_received};
+ghost use Rattle.norm_receiver.specs.Delivering.{IsOfObject};
+ghost use Rattle.norm_receiver.specs.ReceiverKept.{Stands};
+ghost use Rattle.norm_receiver.specs.Inside.{kept_of};
+
+use crate::entering::Naming;
+use crate::parts::Parts;
+use crate::receiving::Said;
+use fec_plan::PayloadId;
+use norm_base::{Memory, Moment};
+use norm_cmdmsg::CommandMsg;
+use norm_ext::{CmdHead, ObjHead};
+use norm_objmsg::grammar::{DataMsg, InfoMsg};
+
+/// Which message of an object it is.
+fn object_naming(head: &ObjHead) -> Naming
+    ensures { result ≡ record { source = head.now.source; instance = head.now.instance; object = head.now.object } }
+{
+    Naming {
+        source: head.source,
+        instance: head.instance,
+        object: head.object,
+    }
+}
+
+/// Which command it is.
+fn command_naming(head: &CmdHead, object: u16) -> Naming
+    ensures { result ≡ record { source = head.now.source; instance = head.now.instance; object = object } }
+{
+    Naming {
+        source: head.source,
+        instance: head.instance,
+        object,
+    }
+}
+
+/// The block that an id names.
+fn block_of(id: PayloadId) -> u32
+    ensures { result ≡ id.block }
+{
+    id.block
+}
+
+impl Parts {
+    /// An INFO of an object that is no stream.
+    fn deliver_info(&mut self, msg: &InfoMsg<'_>, now: Moment, draw: u32) -> Result<(), Memory>
+        requires whole { IsChecked msg.now.exts.now }
+        requires object { says_stream msg.now.head.flags ≡ false }
+        ensures profile { self.new.profile ≡ self.old.profile }
+        ensures state { IfOk result (λ _. (s : ReceiverState) → Stands (kept_of self.old) s
+            → Stands (kept_of self.new) (message_received {E = Refused} self.old.profile now draw (Ok (info_of msg.now)) s)) }
+        ensures refused { OnErr result ((s : ReceiverState) → Stands (kept_of self.old) s → Stands (kept_of self.new) s) }
+    {
+        let said = Said::Info {
+            flags: msg.head.flags,
+            exts: msg.exts,
+            info: msg.info,
+        };
+        self.deliver_said(&object_naming(&msg.head), &said, now, draw)
+    }
+
+    /// A DATA of an object that is no stream.
+    fn deliver_data(&mut self, msg: &DataMsg<'_>, now: Moment, draw: u32) -> Result<(), Memory>
+        requires whole { IsChecked msg.now.exts.now }
+        requires object { says_stream msg.now.head.flags ≡ false }
+        ensures profile { self.new.profile ≡ self.old.profile }
+        ensures state { IfOk result (λ _. (s : ReceiverState) → Stands (kept_of self.old) s
+            → Stands (kept_of self.new) (message_received {E = Refused} self.old.profile now draw (Ok (data_of msg.now)) s)) }
+        ensures refused { OnErr result ((s : ReceiverState) → Stands (kept_of self.old) s → Stands (kept_of self.new) s) }
+    {
+        let said = Said::Data {
+            flags: msg.head.flags,
+            exts: msg.exts,
+            id: msg.id,
+            payload: msg.payload,
+        };
+        self.deliver_said(&object_naming(&msg.head), &said, now, draw)
+    }
+
+    /// A command: of what a flush or a squelch names, and of no other.
+    fn deliver_command(
+        &mut self,
+        msg: &CommandMsg<'_>,
+        now: Moment,
+        draw: u32,
+    ) -> Result<(), Memory>
+        requires whole { IsWhole msg.now }
+        requires quiet { IsOfObject msg.now }
+        ensures profile { self.new.profile ≡ self.old.profile }
+        ensures state { IfOk result (λ _. (s : ReceiverState) → Stands (kept_of self.old) s
+            → Stands (kept_of self.new) (message_received {E = Refused} self.old.profile now draw (Ok (command_of msg.now)) s)) }
+        ensures refused { OnErr result ((s : ReceiverState) → Stands (kept_of self.old) s → Stands (kept_of self.new) s) }
+    {
+        match msg {
+            CommandMsg::Flush {
+                head,
+                object,
+                id,
+                nodes,
+                ..
+            } => {
+                let said = Said::Flush { id: *id, nodes };
+                self.deliver_said(&command_naming(head, *object), &said, now, draw)
+            }
+            CommandMsg::Squelch {
+                head,
+                object,
+                id,
+                ..
+            } => {
+                let said = Said::Squelch {
+                    block: block_of(*id),
+                };
+                self.deliver_said(&command_naming(head, *object), &said, now, draw)
+            }
+            _ => Ok(()),
+        }
+    }
+}

@@ -1,0 +1,154 @@
+//! Messages of the sender by the instance that they are of (RFC 5740 section 4.1): the current one, one that the receiver
+//! goes on to, or one that is over.
+
+ghost use Rattle.std.specs.Prelude.{◌≡◌, ◌<◌, ◌==◌, IfOk, OnErr, unwrap_or, option_and_then};
+ghost use Rattle.norm_receive_rules.specs.ReceiverState.{ReceiverState};
+ghost use Rattle.norm_receive_rules.specs.Leaving.{enters, is_in, goes_to, entered};
+ghost use Rattle.norm_receive_rules.specs.AllNeeds.{needs_nothing};
+ghost use Rattle.norm_receive_rules.specs.BackingOff.{may_need};
+ghost use Rattle.norm_receive_rules.specs.Receiving.{learns, takes_in, in_instance};
+ghost use Rattle.norm_receiver.specs.Receiving.{said_received, IsSaid};
+ghost use Rattle.norm_receiver.specs.ReceiverKept.{Stands};
+ghost use Rattle.norm_receiver.specs.Inside.{kept_of};
+
+use crate::needs::is_all_quiet;
+use crate::parts::Parts;
+use crate::receiving::Said;
+use norm_base::{InstanceId, Memory, Moment, NodeId};
+use norm_ext::index_named;
+
+/// Which message it is: who sent it, in which instance, and the object transport id that it names.
+#[derive(Clone, Copy, Debug)]
+pub(crate) struct Naming {
+    pub source: NodeId,
+    pub instance: InstanceId,
+    pub object: u16,
+}
+
+impl Parts {
+    /// What a receiver is as an instance begins, beside what it is now.
+    fn entering(&self, instance: InstanceId) -> Result<Parts, Memory>
+        ensures profile { IfOk result (λ next. next.profile ≡ self.now.profile) }
+        ensures state { IfOk result (λ next. (s : ReceiverState) → Stands (kept_of self.now) s → Stands (kept_of next) (enters instance s)) }
+    {
+        let hold = self.hold.anew()?;
+        Ok(Parts {
+            profile: self.profile,
+            hold,
+            heard: self.heard.anew(),
+            numbers: self.numbers.entering(instance),
+        })
+    }
+
+    /// Whether nothing is needed.
+    fn needs_nothing(&self) -> bool
+        ensures { (s : ReceiverState) → Stands (kept_of self.now) s → result ≡ needs_nothing self.now.profile s }
+    {
+        is_all_quiet(&self.hold, &self.numbers)
+    }
+
+    /// A back-off begins where something is needed, none runs and none is held off.
+    fn may_need(&mut self, now: Moment, draw: u32)
+        ensures profile { self.new.profile ≡ self.old.profile }
+        ensures state { (s : ReceiverState) → Stands (kept_of self.old) s → Stands (kept_of self.new) (may_need self.old.profile now draw s) }
+    {
+        if !self.numbers.may_back_off(now) {
+            return;
+        }
+        if self.needs_nothing() {
+            return;
+        }
+        self.heard.clear();
+        self.numbers = self.numbers.backing_off(&self.profile, now, draw);
+    }
+
+    /// What a message says of the object with this index happens, and then something may be needed.
+    fn take_in_at(
+        &mut self,
+        index: u32,
+        said: &Said<'_>,
+        now: Moment,
+        draw: u32,
+    ) -> Result<(), Memory>
+        requires whole { IsSaid said.now }
+        requires last { index < 4294967295 }
+        ensures profile { self.new.profile ≡ self.old.profile }
+        ensures state { IfOk result (λ _. (s : ReceiverState) → Stands (kept_of self.old) s
+            → Stands (kept_of self.new) (may_need self.old.profile now draw (said_received self.old.profile said.now index (record s { knows = learns index s.knows })))) }
+        ensures refused { OnErr result ((s : ReceiverState) → Stands (kept_of self.old) s → Stands (kept_of self.new) s) }
+    {
+        self.receive(index, said)?;
+        self.may_need(now, draw);
+        Ok(())
+    }
+
+    /// A message of the current instance.
+    fn take_in(
+        &mut self,
+        object: u16,
+        said: &Said<'_>,
+        now: Moment,
+        draw: u32,
+    ) -> Result<(), Memory>
+        requires { IsSaid said.now }
+        ensures profile { self.new.profile ≡ self.old.profile }
+        ensures state { IfOk result (λ _. (s : ReceiverState) → Stands (kept_of self.old) s
+            → Stands (kept_of self.new) (unwrap_or (takes_in self.old.profile now draw object (said_received self.old.profile said.now) s) s)) }
+        ensures refused { OnErr result ((s : ReceiverState) → Stands (kept_of self.old) s → Stands (kept_of self.new) s) }
+    {
+        let Some(index) = index_named(&self.profile, self.numbers.known, object) else {
+            return Ok(());
+        };
+        self.take_in_at(index, said, now, draw)
+    }
+
+    /// A message of an instance that the receiver goes on to. Where it names nothing, nothing changes.
+    fn go_on(
+        &mut self,
+        naming: &Naming,
+        said: &Said<'_>,
+        now: Moment,
+        draw: u32,
+    ) -> Result<(), Memory>
+        requires { IsSaid said.now }
+        ensures profile { self.new.profile ≡ self.old.profile }
+        ensures state { IfOk result (λ _. (s : ReceiverState) → Stands (kept_of self.old) s
+            → Stands (kept_of self.new) (unwrap_or (takes_in self.old.profile now draw naming.now.object (said_received self.old.profile said.now) (enters naming.now.instance s)) s)) }
+        ensures refused { OnErr result ((s : ReceiverState) → Stands (kept_of self.old) s → Stands (kept_of self.new) s) }
+    {
+        let Some(index) = index_named(&self.profile, 0, naming.object) else {
+            return Ok(());
+        };
+        let mut next = self.entering(naming.instance)?;
+        next.take_in_at(index, said, now, draw)?;
+        *self = next;
+        Ok(())
+    }
+
+    /// A message of a sender: it counts where that is the profile's, and is in the current instance or one that the
+    /// receiver goes on to.
+    pub(crate) fn deliver_said(
+        &mut self,
+        naming: &Naming,
+        said: &Said<'_>,
+        now: Moment,
+        draw: u32,
+    ) -> Result<(), Memory>
+        requires { IsSaid said.now }
+        ensures profile { self.new.profile ≡ self.old.profile }
+        ensures state { IfOk result (λ _. (s : ReceiverState) → Stands (kept_of self.old) s
+            → Stands (kept_of self.new) (in_instance self.old.profile now draw naming.now.source naming.now.instance naming.now.object (said_received self.old.profile said.now) s)) }
+        ensures refused { OnErr result ((s : ReceiverState) → Stands (kept_of self.old) s → Stands (kept_of self.new) s) }
+    {
+        if naming.source.number() != self.profile.sender {
+            return Ok(());
+        }
+        if self.numbers.is_in(naming.instance) {
+            return self.take_in(naming.object, said, now, draw);
+        }
+        if !self.numbers.goes_to(naming.instance) {
+            return Ok(());
+        }
+        self.go_on(naming, said, now, draw)
+    }
+}

@@ -1,0 +1,67 @@
+//! The datagrams of a receiver (RFC 5740 section 4.3): its acknowledgement, and the front of its NACK, behind which the
+//! repair requests are pushed.
+
+ghost use Rattle.std.specs.Prelude.{◌≡◌, [], length};
+ghost use Rattle.norm_ext.specs.Octets.{octets_of};
+ghost use Rattle.norm_receive_rules.specs.ReceiverState.{ReceiverState};
+ghost use Rattle.norm_receive_rules.specs.Nack.{ack_message, nack_message, instance_id};
+ghost use Rattle.norm_receiver.specs.Numbers.{numbers_of};
+
+use crate::numbers::{FlushPlace, Numbers};
+use norm_base::{Datagram, InstanceId, NodeId, Profile};
+use norm_ext::items::item_of;
+use norm_fbmsg::{AckBody, AckMsg, NackMsg, write_ack, write_nack};
+
+/// The type of an acknowledgement that answers a FLUSH (RFC 5740 section 4.3.2).
+const FLUSH_ACK: u8 = 2;
+
+impl Numbers {
+    /// The current instance's id, or 0 where none began.
+    fn instance_id(&self) -> InstanceId
+        ensures { (s : ReceiverState) → self.now ≡ numbers_of s → result ≡ instance_id s }
+    {
+        match self.instance {
+            Some(instance) => instance,
+            None => InstanceId(0),
+        }
+    }
+}
+
+/// Writes an acknowledgement of a position.
+pub(crate) fn write_mark(profile: &Profile, numbers: &Numbers, at: FlushPlace, out: &mut Datagram)
+    ensures { (s : ReceiverState) → numbers.now ≡ numbers_of s → out.new ≡ octets_of (ack_message profile.now s at) }
+{
+    out.clear();
+    write_ack(
+        &AckMsg {
+            source: numbers.node,
+            sequence: numbers.sequence,
+            sender: NodeId::of(profile.sender).unwrap(),
+            instance: numbers.instance_id(),
+            ack_type: FLUSH_ACK,
+            ack_id: 0,
+            exts: &[],
+            body: AckBody::Mark(item_of(profile, at.position())),
+        },
+        out,
+    );
+}
+
+/// Writes a NACK that asks for nothing yet.
+pub(crate) fn write_nack_front(profile: &Profile, numbers: &Numbers, out: &mut Datagram)
+    ensures exact { (s : ReceiverState) → numbers.now ≡ numbers_of s → out.new ≡ octets_of (nack_message profile.now s []) }
+    ensures size { length out.new ≡ 24 }
+{
+    out.clear();
+    write_nack(
+        &NackMsg {
+            source: numbers.node,
+            sequence: numbers.sequence,
+            sender: NodeId::of(profile.sender).unwrap(),
+            instance: numbers.instance_id(),
+            exts: &[],
+            requests: &[],
+        },
+        out,
+    );
+}

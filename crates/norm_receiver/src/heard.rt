@@ -1,0 +1,143 @@
+//! What a receiver heard others ask for while it backs off (RFC 5401 section 3.2.2).
+
+ghost use Rattle.std.specs.Prelude.{◌≡◌, IfOk};
+ghost use Rattle.fec_plan.specs.Points.{position_before};
+ghost use Rattle.norm_receive_rules.specs.Heard.{heard_nothing, joined, with_span};
+
+use fec_plan::{Point, Position};
+use norm_base::Memory;
+use std::alloc::Global;
+use std::marker::Model;
+
+/// From one position to another, both included.
+#[derive(Clone, Copy, Debug)]
+pub(crate) struct Span {
+    pub first: Position,
+    pub last: Position,
+}
+
+impl Model for Span {
+    ghost use Rattle.norm_ext.specs.Asking.{Span as Stretch, span};
+
+    ghost Value = { Stretch };
+
+    ghost view = { λ x. span x.first x.last };
+
+    ghost inverse = { λ x. record { first = x.first; last = x.last } };
+}
+
+impl Span {
+    /// It and another that shares a position with it, as one.
+    fn joined(&self, other: &Span) -> Span
+        ensures { result ≡ joined self.now other.now }
+    {
+        let last = if self.last.is_before(&other.last) {
+            other.last
+        } else {
+            self.last
+        };
+        Span {
+            first: self.first.nearer(other.first),
+            last,
+        }
+    }
+
+    /// Whether it ends before another begins.
+    fn ends_before(&self, other: &Span) -> bool
+        ensures { result ≡ position_before self.now.last other.now.first }
+    {
+        self.last.is_before(&other.first)
+    }
+}
+
+/// One span more: what lies before it stays before it, what lies behind it behind, and it takes in all that it meets.
+///
+/// # Errors
+///
+/// `Memory` where memory runs out.
+fn put_span(spans: &mut Vec<Span>, span: Span) -> Result<(), Memory>
+    ensures { IfOk result (λ _. spans.new.items ≡ with_span span spans.old.items) }
+{
+    spans.reserve(1)?;
+    let mut more = span;
+    let mut place = 0;
+    while place < spans.len() {
+        let other = spans[place];
+        if other.ends_before(&more) {
+            place += 1;
+        } else if more.ends_before(&other) {
+            spans.insert(place, more).unwrap();
+            return Ok(());
+        } else {
+            more = more.joined(&other);
+            spans.remove(place);
+        }
+    }
+    spans.push(more).unwrap();
+    Ok(())
+}
+
+/// So many symbols of a block.
+#[derive(Clone, Copy, Debug)]
+pub(crate) struct Count {
+    pub of: Point,
+    pub lacking: u8,
+}
+
+impl Model for Count {
+    ghost use Rattle.norm_ext.specs.Asking.{Count as Lacking};
+
+    ghost Value = { Lacking };
+
+    ghost view = { λ x. record { of = x.of; lacking = x.lacking } };
+
+    ghost inverse = { λ x. record { of = x.of; lacking = x.lacking } };
+}
+
+/// What others asked for: source symbols and infos as spans of which no two share a position, and of each block the
+/// greatest count, all in order.
+#[derive(Debug, Drop)]
+pub(crate) struct Heard {
+    alloc: Global,
+    symbols: Vec<Span>,
+    infos: Vec<Span>,
+    counts: Vec<Count>,
+}
+
+impl Model for Heard {
+    ghost use Rattle.norm_receive_rules.specs.Heard.{Heard as Meaning};
+
+    ghost Value = { Meaning };
+
+    ghost view = { λ h. record { symbols = h.symbols.items; infos = h.infos.items; counts = h.counts.items } };
+}
+
+impl Heard {
+    /// Nothing was heard. It takes no memory.
+    pub fn new(alloc: Global) -> Heard
+        ensures { result ≡ heard_nothing }
+    {
+        Heard {
+            alloc,
+            symbols: Vec::new(alloc),
+            infos: Vec::new(alloc),
+            counts: Vec::new(alloc),
+        }
+    }
+
+    /// Another in which nothing was heard. It takes no memory.
+    pub fn anew(&self) -> Heard
+        ensures { result ≡ heard_nothing }
+    {
+        Heard::new(self.alloc)
+    }
+
+    /// All is forgotten.
+    pub fn clear(&mut self)
+        ensures { self.new ≡ heard_nothing }
+    {
+        self.symbols.clear();
+        self.infos.clear();
+        self.counts.clear();
+    }
+}

@@ -1,0 +1,153 @@
+//! What a receiver needs (RFC 5740 section 5.3, RFC 5401 section 3.2.2), from what it saw of the sender.
+
+ghost use Rattle.std.specs.Prelude.{◌≡◌, ◌+◌, ◌≤◌, ◌&&◌, not, ℕ, Some, None, is_some, IfSome};
+ghost use Rattle.norm_base.specs.Settings.{Settings};
+ghost use Rattle.norm_receive_rules.specs.Holding.{Holding};
+ghost use Rattle.fec_plan.specs.Partition.{blocks};
+ghost use Rattle.norm_receive_rules.specs.Plans.{says_info, info_of, plan_of, cut_of_plan};
+ghost use Rattle.norm_receive_rules.specs.Needs.{is_covered, blocks_before, blocks_due, counts_from};
+ghost use Rattle.norm_receive_rules.specs.AllNeeds.{needs_of, needs_by, last_known};
+ghost use Rattle.rx_hold.specs.HoldState.{Stands as HoldStands};
+ghost use Rattle.norm_receiver.specs.Quiet.{is_nil};
+
+use crate::numbers::Numbers;
+use fec_plan::{Point, Position};
+use rx_hold::Hold;
+
+/// The flag of an object that has an info (RFC 5740 section 4.2.1).
+const HAS_INFO: u8 = 4;
+
+/// Whether the sender was seen to be past an object, or flushed it or a later one.
+fn is_covered(farthest: &Option<Point>, flush: &Option<Position>, index: u32) -> bool
+    ensures { result ≡ is_covered farthest.now flush.now index }
+{
+    if let Some(at) = farthest {
+        if index < at.index {
+            return true;
+        }
+    }
+    match flush {
+        Some(at) => index <= at.index,
+        None => false,
+    }
+}
+
+/// Of so many blocks of an object: all where its index is below this one, so many where it is this one, and none above.
+fn blocks_before(own: u32, all: u32, index: u32, count: u64) -> u32
+    ensures exact { result ≡ blocks_before own all index count }
+    ensures most { result ≤ all }
+{
+    if own < index {
+        return all;
+    }
+    if own != index {
+        return 0;
+    }
+    count.min(u64::from(all)) as u32
+}
+
+/// How many of an object's blocks lie before the farthest point.
+fn blocks_seen(farthest: &Option<Point>, index: u32, all: u32) -> u32
+    ensures exact { result ≡ (elim farthest.now [ Some at ↦ blocks_before index all at.index at.block | None ↦ 0 ]) }
+    ensures most { result ≤ all }
+{
+    match farthest {
+        Some(at) => blocks_before(index, all, at.index, u64::from(at.block)),
+        None => 0,
+    }
+}
+
+/// How many of an object's blocks a flush names.
+fn blocks_flushed(flush: &Option<Position>, index: u32, all: u32) -> u32
+    ensures exact { result ≡ (elim flush.now [ Some at ↦ blocks_before index all at.index (at.block + 1) | None ↦ 0 ]) }
+    ensures most { result ≤ all }
+{
+    match flush {
+        Some(at) => blocks_before(index, all, at.index, u64::from(at.block) + 1),
+        None => 0,
+    }
+}
+
+/// How many of an object's blocks lie before the farthest point, or at most at the flush's.
+fn blocks_due(numbers: &Numbers, index: u32, all: u32) -> u32
+    ensures exact { result ≡ blocks_due numbers.now.farthest numbers.now.flush index all }
+    ensures most { result ≤ all }
+{
+    let seen = blocks_seen(&numbers.farthest, index, all);
+    let flushed = blocks_flushed(&numbers.flush, index, all);
+    seen.max(flushed)
+}
+
+/// Whether the info of a covered object is missing: it has one by its flags, and that is not held.
+fn lacks_info(hold: &Hold, index: u32, flags: u8, covered: bool) -> bool
+    requires { hold.now.point.index ≤ index }
+    ensures { (s : Holding) → HoldStands hold.now s → result ≡ (covered && (says_info flags && not (is_some (info_of s index)))) }
+{
+    if !covered {
+        return false;
+    }
+    if flags / HAS_INFO % 2 != 1 {
+        return false;
+    }
+    !hold.has_info(index)
+}
+
+/// Whether no block before this one of an object lacks symbols.
+fn is_done_before(hold: &Hold, index: u32, due: u32) -> bool
+    requires { hold.now.point.index ≤ index }
+    ensures { (s : Holding) → HoldStands hold.now s → IfSome (plan_of s index) (λ plan. due ≤ blocks (cut_of_plan plan) → result ≡ is_nil (counts_from s plan due 0)) }
+{
+    match hold.first_short(index) {
+        Some(block) => due <= block,
+        None => true,
+    }
+}
+
+/// Whether nothing is needed of the object with this index.
+fn is_quiet(hold: &Hold, numbers: &Numbers, index: u32) -> bool
+    requires { hold.now.point.index ≤ index }
+    ensures { (p : Settings) (s : Holding) → HoldStands hold.now s → result ≡ is_nil (needs_of p numbers.now.farthest numbers.now.flush s index) }
+{
+    let covered = is_covered(&numbers.farthest, &numbers.flush, index);
+    let Some(flags) = hold.flags(index) else {
+        return !covered;
+    };
+    if lacks_info(hold, index, flags, covered) {
+        return false;
+    }
+    let Some(plan) = hold.plan(index) else {
+        return !covered;
+    };
+    is_done_before(hold, index, blocks_due(numbers, index, plan.blocks()))
+}
+
+/// One more than the last index that was seen or flushed.
+fn last_known(numbers: &Numbers) -> u64
+    ensures exact { result ≡ last_known numbers.now.farthest numbers.now.flush }
+    ensures most { result ≤ 4294967296 }
+{
+    let seen = match numbers.farthest {
+        Some(at) => at.index,
+        None => 0,
+    };
+    let flushed = match numbers.flush {
+        Some(at) => at.index,
+        None => 0,
+    };
+    u64::from(seen.max(flushed)) + 1
+}
+
+/// Whether nothing is needed of what is held, by these numbers.
+pub(crate) fn is_all_quiet(hold: &Hold, numbers: &Numbers) -> bool
+    ensures { (p : Settings) (s : Holding) → HoldStands hold.now s → result ≡ is_nil (needs_by p numbers.now.farthest numbers.now.flush s) }
+{
+    let last = last_known(numbers);
+    let mut index = u64::from(hold.hand_up().index);
+    while index < last {
+        if !is_quiet(hold, numbers, index as u32) {
+            return false;
+        }
+        index += 1;
+    }
+    true
+}

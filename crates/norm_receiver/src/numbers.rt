@@ -1,0 +1,237 @@
+//! The numbers of a receiver: what it keeps beside what it holds and what it heard.
+
+ghost use Rattle.std.specs.Prelude.{◌≡◌, ◌+◌, ◌*◌, ◌%◌, ◌<◌, ◌==◌, ◌&&◌, ◌||◌, not, max, false, true, nat_lt, nat_le, Some, None, is_none};
+ghost use Rattle.fec_plan.specs.Points.{IsBlock, further, further_point};
+ghost use Rattle.norm_ext.specs.InstanceIds.{is_above};
+ghost use Rattle.norm_order.specs.Moments.{moment_after};
+ghost use Rattle.norm_receiver.specs.Numbers.{opening_numbers, entering_numbers};
+
+use fec_plan::{PayloadId, Point, Position};
+use norm_base::{InstanceId, Moment, NodeId, Profile};
+use std::marker::Model;
+
+/// The numbers of a receiver, each as the rules' state has it.
+#[derive(Clone, Copy, Debug, PartialEq, Eq)]
+pub struct Numbers {
+    pub node: NodeId,
+    /// The current instance, if one began.
+    pub instance: Option<InstanceId>,
+    /// The greatest index that a message of it named.
+    pub known: u32,
+    /// The farthest point seen.
+    pub farthest: Option<Point>,
+    /// The greatest flush position.
+    pub flush: Option<Position>,
+    /// When the back-off that runs ends.
+    pub backoff: Option<Moment>,
+    /// Before this moment no back-off begins.
+    pub holdoff: Moment,
+    /// The acknowledgement that is due.
+    pub due: Option<FlushPlace>,
+    /// The next datagram's sequence number.
+    pub sequence: u16,
+}
+
+/// The position that a flush names: its block has 24 bits.
+#[derive(Clone, Copy, Debug, PartialEq, Eq)]
+pub struct FlushPlace {
+    pub index: u32,
+    pub id: PayloadId,
+}
+
+impl Model for FlushPlace {
+    ghost use Rattle.fec_plan.specs.declared.position.Position.{Position as Place};
+    ghost use Rattle.fec_plan.specs.Points.{position};
+
+    ghost Value = { Place };
+
+    ghost view = { λ at. position at.index at.id.block at.id.symbol };
+
+    ghost inverse = { λ at. record { index = at.index; id = record { block = at.block; symbol = at.symbol } } };
+}
+
+impl FlushPlace {
+    /// The position.
+    pub(crate) fn position(&self) -> Position
+        ensures exact { result ≡ self.now }
+        ensures block { IsBlock result.block }
+    {
+        Position {
+            index: self.index,
+            block: self.id.block,
+            symbol: self.id.symbol,
+        }
+    }
+
+    /// The further of it and one that is due already, if any is.
+    fn further(self, due: Option<FlushPlace>) -> Option<FlushPlace>
+        ensures { result ≡ further self due }
+    {
+        match due {
+            Some(other) if !other.position().is_before(&self.position()) => Some(other),
+            _ => Some(self),
+        }
+    }
+}
+
+/// So many ids there are.
+const ALL_IDS: u32 = 65_536;
+/// An id lies above those of which it is at most so far ahead.
+const MOST_RISE: u32 = 32_767;
+
+/// The moment so much later; one that passes 64 bits is the last one.
+fn moment_after(now: Moment, span: u64) -> Moment
+    ensures { result ≡ moment_after now span }
+{
+    Moment(now.0.saturating_add(span))
+}
+
+/// Whether an instance id lies above another.
+fn is_above(from: InstanceId, id: InstanceId) -> bool
+    ensures { result ≡ is_above from id }
+{
+    let rise = (ALL_IDS + u32::from(id.0) - u32::from(from.0)) % ALL_IDS;
+    1 <= rise && rise <= MOST_RISE
+}
+
+impl Numbers {
+    /// As a node's receiver begins.
+    pub(crate) fn new(node: NodeId) -> Numbers
+        ensures { result ≡ opening_numbers node }
+    {
+        Numbers {
+            node,
+            instance: None,
+            known: 0,
+            farthest: None,
+            flush: None,
+            backoff: None,
+            holdoff: Moment(0),
+            due: None,
+            sequence: 0,
+        }
+    }
+
+    /// As an instance begins.
+    pub(crate) fn entering(&self, instance: InstanceId) -> Numbers
+        ensures { result ≡ entering_numbers instance self.now }
+    {
+        Numbers {
+            instance: Some(instance),
+            sequence: self.sequence,
+            ..Numbers::new(self.node)
+        }
+    }
+
+    /// Whether the receiver is in this instance.
+    pub(crate) fn is_in(&self, instance: InstanceId) -> bool
+        ensures { result ≡ elim self.now.instance [ Some current ↦ current == instance | None ↦ false ] }
+    {
+        match self.instance {
+            Some(current) => current == instance,
+            None => false,
+        }
+    }
+
+    /// Whether the receiver goes on to this instance: it is in none, or this one lies above its own.
+    pub(crate) fn goes_to(&self, instance: InstanceId) -> bool
+        ensures { result ≡ elim self.now.instance [ Some current ↦ is_above current instance | None ↦ true ] }
+    {
+        match self.instance {
+            Some(current) => is_above(current, instance),
+            None => true,
+        }
+    }
+
+    /// An index is known.
+    pub(crate) fn learning(&self, index: u32) -> Numbers
+        ensures { result ≡ record self.now { known = max self.now.known index } }
+    {
+        Numbers {
+            known: self.known.max(index),
+            ..*self
+        }
+    }
+
+    /// A point is seen.
+    pub(crate) fn seeing(&self, at: Point) -> Numbers
+        ensures { result ≡ record self.now { farthest = further_point at self.now.farthest } }
+    {
+        Numbers {
+            farthest: at.further(self.farthest),
+            ..*self
+        }
+    }
+
+    /// A flush raises the greatest flush position. Where it is to be acknowledged that is due; of two that are due the
+    /// further stays.
+    pub(crate) fn flushed(&self, at: FlushPlace, acknowledged: bool) -> Numbers
+        ensures { result ≡ record self.now { flush = further at self.now.flush; due = elim acknowledged [ true ↦ further at self.now.due | false ↦ self.now.due ] } }
+    {
+        let flush = at.position().further(self.flush);
+        if !acknowledged {
+            return Numbers { flush, ..*self };
+        }
+        Numbers {
+            flush,
+            due: at.further(self.due),
+            ..*self
+        }
+    }
+
+    /// Whether a back-off may begin: none runs, and none is held off.
+    pub(crate) fn may_back_off(&self, now: Moment) -> bool
+        ensures { result ≡ (is_none self.now.backoff && not (nat_lt now self.now.holdoff)) }
+    {
+        self.backoff.is_none() && now.0 >= self.holdoff.0
+    }
+
+    /// A back-off begins, by a draw of at most K round trips.
+    pub(crate) fn backing_off(&self, profile: &Profile, now: Moment, draw: u32) -> Numbers
+        ensures { result ≡ record self.now { backoff = Some (moment_after now (draw % (profile.now.k * profile.now.grtt + 1))) } }
+    {
+        let most = u64::from(profile.k) * u64::from(profile.grtt) + 1;
+        Numbers {
+            backoff: Some(moment_after(now, u64::from(draw) % most)),
+            ..*self
+        }
+    }
+
+    /// The back-off ended.
+    pub(crate) fn backed_off(&self) -> Numbers
+        ensures { result ≡ record self.now { backoff = None } }
+    {
+        Numbers {
+            backoff: None,
+            ..*self
+        }
+    }
+
+    /// No back-off begins before K + 2 round trips have passed.
+    pub(crate) fn holding_off(&self, profile: &Profile, now: Moment) -> Numbers
+        ensures { result ≡ record self.now { holdoff = moment_after now ((profile.now.k + 2) * profile.now.grtt) } }
+    {
+        let span = (u64::from(profile.k) + 2) * u64::from(profile.grtt);
+        Numbers {
+            holdoff: moment_after(now, span),
+            ..*self
+        }
+    }
+
+    /// No acknowledgement is due any more.
+    pub(crate) fn acknowledged(&self) -> Numbers
+        ensures { result ≡ record self.now { due = None } }
+    {
+        Numbers { due: None, ..*self }
+    }
+
+    /// A datagram was sent under the next sequence number.
+    pub(crate) fn sent(&self) -> Numbers
+        ensures { result ≡ record self.now { sequence = (self.now.sequence + 1) % 65536 } }
+    {
+        Numbers {
+            sequence: self.sequence.wrapping_add(1),
+            ..*self
+        }
+    }
+}

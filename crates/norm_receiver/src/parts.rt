@@ -1,0 +1,15 @@
+//! What a receiver is made of.
+
+use crate::heard::Heard;
+use crate::numbers::Numbers;
+use norm_base::Profile;
+use rx_hold::Hold;
+
+/// The parts of a receiver, under one profile: what it holds, what it heard others ask for, and its numbers.
+#[derive(Debug, Drop)]
+pub(crate) struct Parts {
+    pub profile: Profile,
+    pub hold: Hold,
+    pub heard: Heard,
+    pub numbers: Numbers,
+}

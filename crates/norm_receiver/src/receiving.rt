@@ -1,0 +1,289 @@
+//! What a receiver does with a message of the sender (RFC 5740 section 5.3).
+
+ghost use Rattle.std.specs.Prelude.{◌≡◌, ◌^◌, ◌<◌, ◌%◌, ◌&&◌, IfOk, OnErr, IfSome, false, length};
+ghost use Rattle.fec_plan.specs.Points.{position, point as point_at, point_of};
+ghost use Rattle.norm_ext.specs.Extensions.{extensions_of, fti_of, IsChecked};
+ghost use Rattle.norm_ext.specs.Lists.{nodes_of};
+ghost use Rattle.norm_receive_rules.specs.Holding.{Holding};
+ghost use Rattle.norm_receive_rules.specs.ReceiverState.{ReceiverState};
+ghost use Rattle.norm_receive_rules.specs.Plans.{says_stream};
+ghost use Rattle.norm_receive_rules.specs.Fitting.{lets_put};
+ghost use Rattle.norm_receive_rules.specs.HandingUp.{handed_up};
+ghost use Rattle.norm_receive_rules.specs.Putting.{put_info, put_symbol};
+ghost use Rattle.norm_receive_rules.specs.Seeing.{sees_block};
+ghost use Rattle.norm_receive_rules.specs.Acknowledging.{acknowledges};
+ghost use Rattle.norm_receive_rules.specs.Receiving.{object_held, object_received, learns};
+ghost use Rattle.rx_hold.specs.HoldState.{Stands as HoldStands};
+ghost use Rattle.norm_receiver.specs.Receiving.{puts, place_of, object_told, flush_at, squelch_at, said_received, IsSaid};
+ghost use Rattle.norm_receiver.specs.ReceiverKept.{Stands};
+ghost use Rattle.norm_receiver.specs.Inside.{kept_of};
+
+use crate::numbers::FlushPlace;
+use crate::parts::Parts;
+use fec_plan::{PayloadId, Position};
+use norm_base::Memory;
+use norm_cmdmsg::names;
+use norm_ext::{Extensions, Fti, read_fti};
+use norm_receive_rules::Fit;
+use rx_hold::Hold;
+
+/// What an INFO or DATA brings its object.
+#[derive(Clone, Copy, Debug)]
+pub(crate) enum Brought<'a> {
+    Info(&'a [u8]),
+    Symbol { id: PayloadId, payload: &'a [u8] },
+}
+
+/// What a message of the sender says of an object.
+#[derive(Clone, Copy, Debug)]
+pub(crate) enum Said<'a> {
+    Info {
+        flags: u8,
+        /// The header extensions, whole words.
+        exts: &'a [u8],
+        info: &'a [u8],
+    },
+    Data {
+        flags: u8,
+        /// The header extensions, whole words.
+        exts: &'a [u8],
+        id: PayloadId,
+        payload: &'a [u8],
+    },
+    Flush {
+        id: PayloadId,
+        /// Node ids of 32 bits.
+        nodes: &'a [u8],
+    },
+    Squelch {
+        block: u32,
+    },
+}
+
+/// Where what is brought is: an INFO counts as block 0, symbol 0.
+fn place_of(index: u32, brought: &Brought<'_>) -> Position
+    ensures { result ≡ place_of index brought.now }
+{
+    match brought {
+        Brought::Info(_) => Position {
+            index,
+            block: 0,
+            symbol: 0,
+        },
+        Brought::Symbol { id, .. } => Position {
+            index,
+            block: id.block,
+            symbol: id.symbol,
+        },
+    }
+}
+
+/// The transmission information among whole extensions, where it is there.
+fn fti_among(exts: &[u8]) -> Option<Fti>
+    requires { IsChecked exts.now }
+    ensures exact { result ≡ fti_of (extensions_of exts.now) }
+    ensures fits { IfSome result (λ fti. fti.l < 2 ^ 48) }
+{
+    match Extensions::check(exts) {
+        Ok(exts) => read_fti(exts),
+        Err(_) => None,
+    }
+}
+
+/// Whether what comes with transmission information may be kept.
+fn lets_put(word: Fit) -> bool
+    ensures { result ≡ lets_put word }
+{
+    match word {
+        Fit::Known | Fit::Taken => true,
+        Fit::Away | Fit::Unfit => false,
+    }
+}
+
+/// The info of an object comes, and all that is whole is handed up.
+fn keep_info(hold: &mut Hold, index: u32, info: &[u8]) -> Result<(), Memory>
+    ensures profile { hold.new.p ≡ hold.old.p }
+    ensures state { IfOk result (λ _. (s : Holding) → HoldStands hold.old s → HoldStands hold.new (handed_up hold.old.p (put_info hold.old.p index info.now s))) }
+    ensures refused { OnErr result (hold.new ≡ hold.old) }
+{
+    hold.put_info(index, info)?;
+    hold.advance();
+    Ok(())
+}
+
+/// A symbol of an object comes, and all that is whole is handed up.
+fn keep_symbol(hold: &mut Hold, index: u32, id: PayloadId, payload: &[u8]) -> Result<(), Memory>
+    ensures profile { hold.new.p ≡ hold.old.p }
+    ensures state { IfOk result (λ _. (s : Holding) → HoldStands hold.old s
+        → HoldStands hold.new (handed_up hold.old.p (put_symbol hold.old.p (position index id.block id.symbol) payload.now s))) }
+    ensures refused { OnErr result (hold.new ≡ hold.old) }
+{
+    hold.put(index, id, payload)?;
+    hold.advance();
+    Ok(())
+}
+
+/// What is brought is put, and all that is whole is handed up.
+fn keep(hold: &mut Hold, index: u32, brought: &Brought<'_>) -> Result<(), Memory>
+    ensures profile { hold.new.p ≡ hold.old.p }
+    ensures state { IfOk result (λ _. (s : Holding) → HoldStands hold.old s → HoldStands hold.new (handed_up hold.old.p (puts hold.old.p index brought.now s))) }
+    ensures refused { OnErr result (hold.new ≡ hold.old) }
+{
+    match brought {
+        Brought::Info(info) => keep_info(hold, index, info),
+        Brought::Symbol { id, payload } => keep_symbol(hold, index, *id, payload),
+    }
+}
+
+/// An INFO or DATA with transmission information: what it brings is kept where that fits.
+fn keep_told(
+    hold: &mut Hold,
+    index: u32,
+    fti: &Fti,
+    flags: u8,
+    brought: &Brought<'_>,
+) -> Result<(), Memory>
+    requires length { fti.now.l < 2 ^ 48 }
+    requires last { index < 4294967295 }
+    requires object { says_stream flags ≡ false }
+    ensures profile { hold.new.p ≡ hold.old.p }
+    ensures state { IfOk result (λ _. (s : Holding) → HoldStands hold.old s → HoldStands hold.new (object_told hold.old.p index fti.now flags brought.now s)) }
+    ensures refused { OnErr result ((s : Holding) → HoldStands hold.old s → HoldStands hold.new s) }
+{
+    let word = hold.fti(index, fti, flags)?;
+    hold.see(place_of(index, brought).point());
+    if !lets_put(word) {
+        return Ok(());
+    }
+    let Err(fault) = keep(hold, index, brought) else {
+        return Ok(());
+    };
+    if word == Fit::Taken {
+        hold.untake(index);
+    }
+    Err(fault)
+}
+
+/// An INFO or DATA without transmission information.
+fn keep_untold(hold: &mut Hold, index: u32, brought: &Brought<'_>) -> Result<(), Memory>
+    ensures profile { hold.new.p ≡ hold.old.p }
+    ensures state { IfOk result (λ _. (s : Holding) → HoldStands hold.old s
+        → HoldStands hold.new (handed_up hold.old.p (puts hold.old.p index brought.now (sees_block (point_of (place_of index brought.now)) s)))) }
+    ensures refused { OnErr result (hold.new ≡ hold.old) }
+{
+    hold.see(place_of(index, brought).point());
+    keep(hold, index, brought)
+}
+
+/// An INFO or DATA of an object.
+fn keep_object(
+    hold: &mut Hold,
+    index: u32,
+    flags: u8,
+    exts: &[u8],
+    brought: &Brought<'_>,
+) -> Result<(), Memory>
+    requires whole { IsChecked exts.now }
+    requires last { index < 4294967295 }
+    requires object { says_stream flags ≡ false }
+    ensures profile { hold.new.p ≡ hold.old.p }
+    ensures state { IfOk result (λ _. (s : Holding) → HoldStands hold.old s
+        → HoldStands hold.new (object_held hold.old.p (place_of index brought.now) (extensions_of exts.now) flags (puts hold.old.p index brought.now) s)) }
+    ensures refused { OnErr result ((s : Holding) → HoldStands hold.old s → HoldStands hold.new s) }
+{
+    match fti_among(exts) {
+        Some(fti) => keep_told(hold, index, &fti, flags, brought),
+        None => keep_untold(hold, index, brought),
+    }
+}
+
+impl Parts {
+    /// Whether a flush is to be acknowledged: it asks this node, and all through its position was handed up.
+    fn acknowledges(&self, at: Position, nodes: &[u8]) -> bool
+        requires { length nodes.now % 4 ≡ 0 }
+        ensures { (s : ReceiverState) → Stands (kept_of self.now) s → result ≡ acknowledges s at (nodes_of nodes.now) }
+    {
+        if !names(nodes, self.numbers.node) {
+            return false;
+        }
+        if !at.is_before(&self.hold.hand_up()) {
+            return false;
+        }
+        !self.hold.has_lost()
+    }
+
+    /// An INFO or DATA of the object with this index, which is known then.
+    fn receive_object(
+        &mut self,
+        index: u32,
+        flags: u8,
+        exts: &[u8],
+        brought: &Brought<'_>,
+    ) -> Result<(), Memory>
+        requires whole { IsChecked exts.now }
+        requires last { index < 4294967295 }
+        requires object { says_stream flags ≡ false }
+        ensures profile { self.new.profile ≡ self.old.profile }
+        ensures state { IfOk result (λ _. (s : ReceiverState) → Stands (kept_of self.old) s
+            → Stands (kept_of self.new) (object_received self.old.profile (place_of index brought.now) (extensions_of exts.now) flags (puts self.old.profile index brought.now) (record s { knows = learns index s.knows }))) }
+        ensures refused { OnErr result ((s : ReceiverState) → Stands (kept_of self.old) s → Stands (kept_of self.new) s) }
+    {
+        keep_object(&mut self.hold, index, flags, exts, brought)?;
+        let known = self.numbers.learning(index);
+        self.numbers = known.seeing(place_of(index, brought).point());
+        Ok(())
+    }
+
+    /// A flush of a symbol of the object with this index, which is known then.
+    fn receive_flush(&mut self, index: u32, id: PayloadId, nodes: &[u8])
+        requires { length nodes.now % 4 ≡ 0 }
+        ensures profile { self.new.profile ≡ self.old.profile }
+        ensures state { (s : ReceiverState) → Stands (kept_of self.old) s
+            → Stands (kept_of self.new) (flush_at (position index id.block id.symbol) (nodes_of nodes.now) (record s { knows = learns index s.knows })) }
+    {
+        let at = FlushPlace { index, id };
+        let acknowledged = self.acknowledges(at.position(), nodes);
+        let known = self.numbers.learning(index);
+        self.numbers = known.flushed(at, acknowledged);
+    }
+
+    /// A squelch: the window begins at this block of the object with this index, which is known then.
+    fn receive_squelch(&mut self, index: u32, block: u32) -> Result<(), Memory>
+        requires { index < 4294967295 }
+        ensures profile { self.new.profile ≡ self.old.profile }
+        ensures state { IfOk result (λ _. (s : ReceiverState) → Stands (kept_of self.old) s
+            → Stands (kept_of self.new) (squelch_at self.old.profile (point_at index block) (record s { knows = learns index s.knows }))) }
+        ensures refused { OnErr result ((s : ReceiverState) → Stands (kept_of self.old) s → Stands (kept_of self.new) s) }
+    {
+        self.hold.lose_before(index, block)?;
+        self.numbers = self.numbers.learning(index);
+        Ok(())
+    }
+
+    /// What a message says of the object with this index, which is known then, happens.
+    pub(crate) fn receive(&mut self, index: u32, said: &Said<'_>) -> Result<(), Memory>
+        requires whole { IsSaid said.now }
+        requires last { index < 4294967295 }
+        ensures profile { self.new.profile ≡ self.old.profile }
+        ensures state { IfOk result (λ _. (s : ReceiverState) → Stands (kept_of self.old) s
+            → Stands (kept_of self.new) (said_received self.old.profile said.now index (record s { knows = learns index s.knows }))) }
+        ensures refused { OnErr result ((s : ReceiverState) → Stands (kept_of self.old) s → Stands (kept_of self.new) s) }
+    {
+        match said {
+            Said::Info { flags, exts, info } => {
+                self.receive_object(index, *flags, exts, &Brought::Info(info))
+            }
+            Said::Data {
+                flags,
+                exts,
+                id,
+                payload,
+            } => self.receive_object(index, *flags, exts, &Brought::Symbol { id: *id, payload }),
+            Said::Flush { id, nodes } => {
+                self.receive_flush(index, *id, nodes);
+                Ok(())
+            }
+            Said::Squelch { block } => self.receive_squelch(index, *block),
+        }
+    }
+}

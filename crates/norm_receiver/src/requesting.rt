@@ -1,0 +1,87 @@
+//! The repair requests of a NACK (RFC 5740 section 4.3.1), need by need.
+
+ghost use Rattle.std.specs.Prelude.{◌≡◌, ◌+◌, ◌≤◌, ◌<◌, ◌++◌, ℕ, List, [], ◌∷◌, false, length, map};
+ghost use Rattle.std.specs.Bool.{MatchBool};
+ghost use Rattle.fec_plan.specs.Points.{position};
+ghost use Rattle.norm_ext.specs.Asked.{asked_octets};
+ghost use Rattle.norm_receive_rules.specs.Needs.{Need as Meaning};
+ghost use Rattle.norm_receive_rules.specs.Nack.{asked_of};
+ghost use Rattle.norm_receiver.specs.Requesting.{need_of, IsNeed, HasAsked};
+
+use fec_plan::Position;
+use norm_base::{Datagram, Profile};
+use norm_ext::flags::{WANT_INFO, WANT_OBJECT, WANT_SEGMENT};
+use norm_ext::items::item_of;
+use norm_ext::{Form, RequestWriter};
+
+/// What a receiver needs.
+#[derive(Clone, Copy, Debug, PartialEq, Eq)]
+pub enum Need {
+    /// An object of which nothing is known, and its info.
+    Object { index: u32 },
+    /// The info of an object.
+    ObjectInfo { index: u32 },
+    /// So many symbols of a block.
+    Symbols { index: u32, block: u32, wanted: u8 },
+}
+
+/// The place of an object's first symbol, by which the object is named.
+fn first_of(index: u32) -> Position
+    ensures { result ≡ position index 0 0 }
+{
+    Position {
+        index,
+        block: 0,
+        symbol: 0,
+    }
+}
+
+/// Asks for a need, where there is room: the writer must have the datagram that it wrote to. `false` exactly where the
+/// requests would pass the limit, and nothing is changed then.
+pub(crate) fn ask(
+    profile: &Profile,
+    need: Need,
+    writer: &mut RequestWriter,
+    out: &mut Datagram,
+) -> bool
+    requires need { IsNeed need }
+    requires used { writer.old.used ≤ length out.old }
+    requires room { length out.old + writer.old.limit ≤ 1500 + writer.old.used }
+    ensures added { (front : List ℕ) (needs : List Meaning) → HasAsked profile.now writer.old out.old front needs →
+        MatchBool result
+        (HasAsked profile.now writer.new out.new front (needs ++ need_of need ∷ []))
+        (writer.old.limit < length (asked_octets (map (asked_of profile.now) (needs ++ need_of need ∷ [])))) }
+    ensures kept { result ≡ false → (writer.new ≡ writer.old) × (out.new ≡ out.old) }
+    ensures limit { writer.new.limit ≡ writer.old.limit }
+    ensures used { writer.new.used ≤ length out.new }
+    ensures room { length out.new + writer.new.limit ≤ 1500 + writer.new.used }
+{
+    match need {
+        Need::Object { index } => {
+            let item = item_of(profile, first_of(index));
+            writer.push_item(out, Form::Items, WANT_OBJECT + WANT_INFO, item, None)
+        }
+        Need::ObjectInfo { index } => {
+            let item = item_of(profile, first_of(index));
+            writer.push_item(out, Form::Items, WANT_INFO, item, None)
+        }
+        Need::Symbols {
+            index,
+            block,
+            wanted,
+        } => {
+            let at = Position {
+                index,
+                block,
+                symbol: wanted,
+            };
+            writer.push_item(
+                out,
+                Form::Erasures,
+                WANT_SEGMENT,
+                item_of(profile, at),
+                None,
+            )
+        }
+    }
+}

@@ -1,0 +1,63 @@
+//! A receiver as it begins, and what is taken of it (RFC 5740 section 5.3).
+
+ghost use Rattle.std.specs.Prelude.{◌≡◌, [], IfOk, IfNone, length, not};
+ghost use Rattle.norm_receive_rules.specs.ReceiverState.{ReceiverState, receiver_opening};
+ghost use Rattle.norm_receive_rules.specs.Acknowledging.{lost_nothing};
+ghost use Rattle.norm_receive_rules.specs.Taking.{took};
+ghost use Rattle.norm_receiver.specs.ReceiverKept.{Stands};
+ghost use Rattle.norm_receiver.specs.Inside.{kept_of};
+
+use crate::heard::Heard;
+use crate::numbers::Numbers;
+use crate::parts::Parts;
+use norm_base::{InstanceId, Memory, NodeId, Profile};
+use norm_order::Up;
+use rx_hold::Hold;
+use std::alloc::Global;
+
+impl Parts {
+    /// As a node's receiver begins.
+    pub(crate) fn new(alloc: Global, profile: &Profile, node: NodeId) -> Result<Parts, Memory>
+        ensures profile { IfOk result (λ parts. parts.profile ≡ profile.now) }
+        ensures state { IfOk result (λ parts. Stands (kept_of parts) (receiver_opening node)) }
+    {
+        let hold = Hold::new(alloc, profile)?;
+        Ok(Parts {
+            profile: *profile,
+            hold,
+            heard: Heard::new(alloc),
+            numbers: Numbers::new(node),
+        })
+    }
+
+    /// Takes the next hand-up. `None` exactly where all that was handed up was taken. It takes no memory.
+    pub(crate) fn take_up(&mut self) -> Option<Up>
+        ensures profile { self.new.profile ≡ self.old.profile }
+        ensures none { IfNone result ((self.old.hold.ups ≡ []) × (kept_of self.new ≡ kept_of self.old)) }
+        ensures state { (s : ReceiverState) → Stands (kept_of self.old) s → Stands (kept_of self.new) (took s).0 × (result ≡ (took s).1) }
+    {
+        self.hold.next_up()
+    }
+
+    /// How many hand-ups were not taken.
+    pub(crate) fn ups(&self) -> usize
+        ensures exact { result ≡ length self.now.hold.ups }
+        ensures state { (s : ReceiverState) → Stands (kept_of self.now) s → result ≡ length s.holding.ups }
+    {
+        self.hold.ups()
+    }
+
+    /// The current instance, if one began.
+    pub(crate) fn instance(&self) -> Option<InstanceId>
+        ensures { (s : ReceiverState) → Stands (kept_of self.now) s → result ≡ s.instance }
+    {
+        self.numbers.instance
+    }
+
+    /// Whether an object was lost in this instance.
+    pub(crate) fn has_lost(&self) -> bool
+        ensures { (s : ReceiverState) → Stands (kept_of self.now) s → lost_nothing s.holding ≡ not result }
+    {
+        self.hold.has_lost()
+    }
+}
