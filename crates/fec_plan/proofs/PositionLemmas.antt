@@ -4,8 +4,7 @@ use Rattle.std.specs.Bool.{Decides}
 use Rattle.std.proofs.lemmas.Bool.{cases_lt}
 use Rattle.std.proofs.lemmas.Bool.Decides.{Decides-ltb, Decides-eqb, Decides-and, Decides-or, Decides-not}
 use Rattle.fec_plan.specs.OrderLaws.{PositionsAreOrdered}
-use Rattle.fec_plan.specs.Points.{position, position_before, same_position, reaches}
-use Rattle.fec_plan.specs.declared.position.Position.{Position}
+use Rattle.fec_plan.specs.Points.{Position, position, position_before, same_position, reaches}
 
 -- a is before b
 abbrev pub Before : Position → Position → Type 0

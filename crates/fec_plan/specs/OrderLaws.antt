@@ -1,7 +1,6 @@
 -- What is promised of the comparisons of points and positions.
 use Rattle.std.specs.Prelude.{◌≡◌, true, false, ◌⊎◌}
-use Rattle.fec_plan.specs.Points.{position_before, same_position}
-use Rattle.fec_plan.specs.declared.position.Position.{Position}
+use Rattle.fec_plan.specs.Points.{Position, position_before, same_position}
 
 -- Positions are in one order: none is before itself, what is before a second is before all that are behind that, and of two
 -- that differ one is before the other.

@@ -4,12 +4,17 @@ use Rattle.std.specs.Prelude.{ℕ, Bool, false, ◌==◌, ◌&&◌, ◌||◌, �
 use Rattle.std.specs.declared.cmp.Ordering.{Ordering}
 use Rattle.std.specs.Ordering.{nat_cmp, ordering_then}
 use Rattle.fec_plan.specs.Partition.{most_blocks}
-use Rattle.fec_plan.specs.declared.position.Position.{Position}
 
 -- an object's index, and a block of it
 pub record Point : Type 0 where
   pub index : ℕ
   pub block : ℕ
+
+-- an object's index, a block of it, and a symbol of that block
+pub record Position : Type 0 where
+  pub index : ℕ
+  pub block : ℕ
+  pub symbol : ℕ
 
 -- a point by its parts
 abbrev pub point : ℕ → ℕ → Point

@@ -1,8 +1,7 @@
 //! Laws of what this crate defines.
 
 ghost use Rattle.std.specs.Prelude.{◌≡◌};
-ghost use Rattle.fec_plan.specs.declared.position.Position.{Position as Place};
-ghost use Rattle.fec_plan.specs.Points.{Point as Block, point_cmp, position_cmp};
+ghost use Rattle.fec_plan.specs.Points.{Position as Place, Point as Block, point_cmp, position_cmp};
 ghost use Rattle.fec_plan.specs.OrderLaws.{PositionsAreOrdered};
 ghost use Rattle.fec_plan.specs.Covering.{BlocksCover, SymbolsCover, AllButLastAreFull, BlocksAreEven};
 

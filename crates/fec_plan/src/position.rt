@@ -1,8 +1,7 @@
 //! Where a block and a symbol stand in a transport order, and which of two such places is before the other.
 
 ghost use Rattle.std.specs.Prelude.{◌≡◌, ◌&&◌, ℕ};
-ghost use Rattle.fec_plan.specs.declared.position.Position.{Position as Place};
-ghost use Rattle.fec_plan.specs.Points.{point_of, point_before, position_before, same_point, same_position, reaches, reached_by, nearer, further, further_point};
+ghost use Rattle.fec_plan.specs.Points.{Position as Place, point_of, point_before, position_before, same_point, same_position, reaches, reached_by, nearer, further, further_point};
 
 use std::marker::Model;
 
@@ -23,12 +22,25 @@ impl Model for Point {
     ghost inverse = { λ at. record { index = at.index; block = at.block } };
 }
 
-/// A symbol's place: the object's index from 0, the block and the symbol. Ordered by these, in this order.
+/// A symbol's place: the object's index from 0, the block, below 16,777,216 as messages name it, and the symbol. Ordered by
+/// these, in this order.
 #[derive(Clone, Copy, Debug, PartialEq, Eq, PartialOrd, Ord)]
 pub struct Position {
     pub index: u32,
     pub block: u32,
     pub symbol: u8,
+}
+
+impl Model for Position {
+    ghost use Rattle.fec_plan.specs.Points.{Position as Place, IsBlock};
+
+    ghost Value = { Place };
+
+    ghost view = { λ at. record { index = at.index; block = at.block; symbol = at.symbol } };
+
+    ghost invariant = { λ at. IsBlock at.block };
+
+    ghost inverse = { λ at. record { index = at.index; block = at.block; symbol = at.symbol } };
 }
 
 impl Point {

@@ -63,13 +63,13 @@ swapped false true r = refl
 swapped false false r = refl
 
 -- one more listing counts in the least position
-pub least_step : (xs : List (Option Position)) (i : ℕ) (at least past new : Position) (all : Bool) → i < length xs → get_or xs i None ≡ Some past
+pub least_step : (xs : List (Option Position)) (i : ℕ) (d : Option Position) (at least past new : Position) (all : Bool) → i < length xs → get_or xs i d ≡ Some past
     → reaches new at ≡ (reaches past at && reaches least at) → all ≡ (reaches least at && list_all (λ o. reached_by o at) (drop i xs))
     → all ≡ (reaches new at && list_all (λ o. reached_by o at) (drop (i + 1) xs))
-least_step xs i at least past new all lt found lower so_far =
+least_step xs i d at least past new all lt found lower so_far =
     so_far
     ∙ ap (λ b. reaches least at && b) (
-    at_drop_more (list_all (λ o. reached_by o at)) xs i None lt
+    at_drop_more (list_all (λ o. reached_by o at)) xs i d lt
     ∙ ap (λ (y : Option Position). reached_by y at && list_all (λ o. reached_by o at) (drop (i + 1) xs)) found)
     ∙ swapped (reaches least at) (reaches past at) (list_all (λ o. reached_by o at) (drop (i + 1) xs))
     ∙ ap (λ b. b && list_all (λ o. reached_by o at) (drop (i + 1) xs)) (sym lower)

@@ -48,45 +48,60 @@ set_there words place i lt ne = go (cases_eq (i / 64) (place / 64))
         ∙ ap (λ n. bit_at (get_or words n 0) (i % 64) == 1) (sym e)
     go (inr f) = other_bit words (place / 64) _ i f
 
+-- the word of a place is there
+in_words : (words : List ℕ) (n place : ℕ) → place < n → n ≤ 64 * length words → place / 64 < length words
+in_words words n place lt room = omega (arith, div-add-mod place 64)
+
 -- Setting a bit puts its place into the set.
-pub set_puts : (words new : List ℕ) (place : ℕ) → place < 64 * length words
+pub set_puts : (words new : List ℕ) (n place : ℕ) → place < n → n ≤ 64 * length words
     → new ≡ set words (place / 64) (bit_or (get_or words (place / 64) 0) (1 * 2 ^ (place % 64) % 2 ^ 64))
-    → (places_of new).members ≡ with_member nat_lt place (places_of words).members
-set_puts words new place lt is =
-    let in_words : place / 64 < length words = omega (arith, div-add-mod place 64) in
-    let same : length new ≡ length words = ap length is ∙ length-set words (place / 64) _ in
-    ap (λ n. filter (has_bit new) (range_with_len 0 (64 * n))) same
-    ∙ filter_with (has_bit words) (has_bit new) place 0 (64 * length words) (omega arith) (omega arith)
-    (ap (λ ws. has_bit ws place) is ∙ set_here words place in_words)
-    (λ i ne. ap (λ ws. has_bit ws i) is ∙ set_there words place i in_words ne)
+    → (places_of n new).members ≡ with_member nat_lt place (places_of n words).members
+set_puts words new n place lt room is =
+    filter_with (has_bit words) (has_bit new) place 0 n (omega arith) (omega arith)
+    (ap (λ ws. has_bit ws place) is ∙ set_here words place (in_words words n place lt room))
+    (λ i ne. ap (λ ws. has_bit ws i) is ∙ set_there words place i (in_words words n place lt room) ne)
+
+-- and no bit from the size on
+pub set_rest : (words new : List ℕ) (n place : ℕ) → place < n → n ≤ 64 * length words
+    → new ≡ set words (place / 64) (bit_or (get_or words (place / 64) 0) (1 * 2 ^ (place % 64) % 2 ^ 64))
+    → ((i : ℕ) → n ≤ i → has_bit words i ≡ false) → (i : ℕ) → n ≤ i → has_bit new i ≡ false
+set_rest words new n place lt room is rest i le =
+    ap (λ ws. has_bit ws i) is ∙ set_there words place i (in_words words n place lt room) (λ e. omega arith) ∙ rest i le
 
 -- a bit that is read
-pub read_bit : (words : List ℕ) (place : ℕ) → place < 64 * length words
-    → (bit_and (get_or words (place / 64) 0 / 2 ^ (place % 64)) 1 == 1) ≡ is_member nat_lt place (places_of words).members
-read_bit words place lt =
+pub read_bit : (words : List ℕ) (n place : ℕ) → place < n
+    → (bit_and (get_or words (place / 64) 0 / 2 ^ (place % 64)) 1 == 1) ≡ is_member nat_lt place (places_of n words).members
+read_bit words n place lt =
     ap (λ b. b == 1) (shr_and_one (get_or words (place / 64) 0) (place % 64))
-    ∙ sym (filter_member (has_bit words) place 0 (64 * length words) (omega arith) (omega arith))
+    ∙ sym (filter_member (has_bit words) place 0 n (omega arith) (omega arith))
 
 -- a word that is 0 has no member
 empty_word : (words : List ℕ) (i : ℕ) → get_or words (i / 64) 0 ≡ 0 → has_bit words i ≡ false
 empty_word words i e = ap (λ w. bit_at w (i % 64) == 1) e ∙ ap (λ b. b == 1) (bit_at-zero (i % 64))
 
--- where all words are 0, there is no member
-pub no_members : (words : List ℕ) → ((k : ℕ) → get_or words k 0 ≡ 0) → (places_of words).members ≡ []
-no_members words zeros = no_filter (has_bit words) 0 (64 * length words) (λ i le lt. empty_word words i (zeros (i / 64)))
+-- where all words are 0, there is no member, and no bit from the size on
+pub no_members : (words : List ℕ) (n : ℕ) → ((k : ℕ) → get_or words k 0 ≡ 0) → (places_of n words).members ≡ []
+no_members words n zeros = no_filter (has_bit words) 0 n (λ i le lt. empty_word words i (zeros (i / 64)))
+
+pub no_rest : (words : List ℕ) (n : ℕ) → ((k : ℕ) → get_or words k 0 ≡ 0) → (i : ℕ) → n ≤ i → has_bit words i ≡ false
+no_rest words n zeros i le = empty_word words i (zeros (i / 64))
 
 pub positive : (n : ℕ) → (n ≡ 0 → ⊥) → 0 < n
 positive zero ne = absurd (ne refl)
 positive (suc n) ne = omega arith
 
--- Clearing the lowest bit of the first word that is not 0 takes out the lowest member.
-pub taken : (words new : List ℕ) (k word low : ℕ) → k < length words → get_or words k 0 ≡ word → ((j : ℕ) → j < k → get_or words j 0 ≡ 0)
+-- Clearing the lowest bit of the first word that is not 0 takes out the lowest member, which is below the size, and leaves
+-- no bit from the size on.
+pub taken : (words new : List ℕ) (n k word low : ℕ) → k < length words → get_or words k 0 ≡ word → ((j : ℕ) → j < k → get_or words j 0 ≡ 0)
     → (low < 64) × (bit_at word low ≡ 1) × ((i : ℕ) → i < low → bit_at word i ≡ 0)
     → new ≡ set words k (bit_and word (bit_not w64 (1 * 2 ^ low % 2 ^ 64)))
-    → (places_of words).members ≡ (64 * k + low) ∷ (places_of new).members
-taken words new k word low lt reads zeros bit is =
-    filter_lowest (has_bit words) (has_bit new) (64 * k + low) 0 (64 * length words) (omega arith) (let few : low < 64 = bit.0 in omega arith) here below gone there
-    ∙ ap (λ n. (64 * k + low) ∷ filter (has_bit new) (range_with_len 0 (64 * n))) (sym (ap length is ∙ length-set words k _))
+    → ((i : ℕ) → n ≤ i → has_bit words i ≡ false)
+    → (64 * k + low < n) × ((places_of n words).members ≡ (64 * k + low) ∷ (places_of n new).members) × ((i : ℕ) → n ≤ i → has_bit new i ≡ false)
+taken words new n k word low lt reads zeros bit is rest = (
+  within,
+  filter_lowest (has_bit words) (has_bit new) (64 * k + low) 0 n (omega arith) (omega (arith, within)) here below gone there,
+  λ i le. there i (λ e. omega (arith, within)) ∙ rest i le,
+)
   where
     in_word : (64 * k + low) / 64 ≡ k
     in_word = let few : low < 64 = bit.0 in omega (arith, div-add-mod (64 * k + low) 64)
@@ -100,6 +115,13 @@ taken words new k word low lt reads zeros bit is =
         ∙ ap (λ w. bit_at w ((64 * k + low) % 64) == 1) reads
         ∙ ap (λ n. bit_at word n == 1) in_bit
         ∙ ap (λ b. b == 1) bit.1
+
+    within : 64 * k + low < n
+    within = go (cases_lt (64 * k + low) n)
+      where
+        go : (64 * k + low < n) ⊎ (n ≤ 64 * k + low) → 64 * k + low < n
+        go (inl less) = less
+        go (inr le) = let none = rest (64 * k + low) le in let one = here in absurd (cc)
 
     below : (i : ℕ) → 0 ≤ i → i < 64 * k + low → has_bit words i ≡ false
     below i le less = go (cases_lt (i / 64) k)
@@ -169,19 +191,19 @@ zero_below words now lowest k same front searched j lt = go (cases_lt j lowest)
     go (inr over) = ap (λ (ws : List ℕ). get_or ws j 0) (sym same) ∙ searched j over lt
 
 -- where the search finds nothing there is no member
-pub nobody : (words now : List ℕ) (lowest : ℕ) → now ≡ words → AllByRecursion (λ word. word ≡ 0) (take lowest words)
-    → ((j : ℕ) → lowest ≤ j → get_or now j 0 ≡ 0) → (places_of words).members ≡ []
-nobody words now lowest same front searched =
-    no_members words (λ j. zero_below words now lowest (j + 1) same front (λ i le lt. searched i le) j (omega arith))
+pub nobody : (words now : List ℕ) (n lowest : ℕ) → now ≡ words → AllByRecursion (λ word. word ≡ 0) (take lowest words)
+    → ((j : ℕ) → lowest ≤ j → get_or now j 0 ≡ 0) → (places_of n words).members ≡ []
+nobody words now n lowest same front searched =
+    no_members words n (λ j. zero_below words now lowest (j + 1) same front (λ i le lt. searched i le) j (omega arith))
 
 pub front_below : (words : List ℕ) (k v : ℕ) → ((j : ℕ) → j < k → get_or words j 0 ≡ 0) → AllByRecursion (λ word. word ≡ 0) (take k (set words k v))
 front_below words k v zeros = front_of_zeros (set words k v) k (λ j lt. get_or-set_other words k j v 0 (λ e. omega arith) ∙ zeros j lt)
 
 -- no more members than places
-pub few_members : (words : List ℕ) → length (places_of words).members ≤ (places_of words).size
-few_members words =
+pub few_members : (words : List ℕ) (n : ℕ) → length (places_of n words).members ≤ n
+few_members words n =
     omega (
       arith,
-      length-filter_both (has_bit words) (λ x. not (has_bit words x)) (λ x. refl) (range_with_len 0 (64 * length words)),
-      length-range_with_len 0 (64 * length words),
+      length-filter_both (has_bit words) (λ x. not (has_bit words x)) (λ x. refl) (range_with_len 0 n),
+      length-range_with_len 0 n,
     )

@@ -31,8 +31,8 @@ rises_filter p a (suc n) = go (p a) (rises_filter p (a + 1) n) (above p a (a + 1
     go true rest all = (all, rest)
     go false rest all = rest
 
-pub set_rises : (words : List ℕ) → Rises (places_of words).members
-set_rises words = rises_filter (has_bit words) 0 (64 * length words)
+pub set_rises : (words : List ℕ) (n : ℕ) → Rises (places_of n words).members
+set_rises words n = rises_filter (has_bit words) 0 n
 
 both_all : (w : Want) (xs ys : List Want) → AllByRecursion (λ other. want_before w other ≡ true) xs → AllByRecursion (λ other. want_before w other ≡ true) ys
     → AllByRecursion (λ other. want_before w other ≡ true) (xs ++ ys)

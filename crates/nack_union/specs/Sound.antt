@@ -1,16 +1,16 @@
 -- What holds of each object of a union.
-use Rattle.std.specs.Prelude.{◌≡◌, ◌<◌, ◌≤◌, ◌^◌, [], length, replicate, false}
-use Rattle.fec_plan.specs.Partition.{blocks}
+use Rattle.std.specs.Prelude.{◌≡◌, ◌≤◌, [], length, replicate, false}
+use Rattle.fec_plan.specs.Partition.{blocks, most_blocks}
 use Rattle.nack_union.specs.Slots.{slots}
 use Rattle.nack_union.specs.Kept.{Marked}
 use Rattle.nack_union.specs.declared.marks.Marks.TheInside.{Inside}
 
--- A set has room for each slot, no more than positions name, the sets that are joined have one size, each block has a
+-- Each set is one of the object's slots, which are no more than positions name, the sets that are joined have one size, each block has a
 -- count, the wants are counted, and it is known where nothing is asked for.
 pub record IsSoundObject (m : Inside) : Type 0 where
-  pub wants : slots (blocks m.plan) ≤ m.wants.size
-  pub most : m.wants.size < 2 ^ 33
-  pub sent : slots (blocks m.plan) ≤ m.sent.size
+  pub wants : m.wants.size ≡ slots (blocks m.plan)
+  pub most : blocks m.plan ≤ most_blocks
+  pub sent : m.sent.size ≡ slots (blocks m.plan)
   pub asked : m.asked.size ≡ m.wants.size
   pub counts : length m.counts.items ≡ blocks m.plan
   pub idle : m.is_asked ≡ false → (m.asked.members ≡ []) × (m.counts.items ≡ replicate (blocks m.plan) 0)

@@ -1,5 +1,5 @@
 -- A set of places as words of 64 bits, the lowest place in the lowest bit of the first word.
-use Rattle.std.specs.Prelude.{◌≡◌, ◌≤◌, ℕ, ◌*◌, ◌/◌, ◌%◌, ◌^◌, ◌==◌, List, length, take, filter, Bool, slice_index}
+use Rattle.std.specs.Prelude.{◌≡◌, ◌≤◌, ℕ, ◌*◌, ◌/◌, ◌%◌, ◌^◌, ◌==◌, List, length, take, filter, Bool, false, slice_index}
 use Rattle.std.specs.Int.{bit_at}
 use Rattle.std.specs.List.{range_with_len, AllByRecursion}
 use Rattle.nack_union.specs.Places.{Places}
@@ -9,18 +9,18 @@ use Rattle.nack_union.specs.declared.mask.Mask.TheInside.{Inside}
 abbrev pub has_bit : List ℕ → ℕ → Bool
 has_bit words place = bit_at (slice_index words (place / 64)) (place % 64) == 1
 
--- the places whose bits are set
-abbrev pub places_of : List ℕ → Places
-places_of words = record {
-  size = 64 * length words;
-  members = filter (has_bit words) (range_with_len 0 (64 * length words));
-}
+-- the places below a size whose bits are set
+abbrev pub places_of : ℕ → List ℕ → Places
+places_of size words = record { size = size; members = filter (has_bit words) (range_with_len 0 size) }
 
--- The words before the lowest one that may have a member are empty, and a place is a number of 64 bits.
+-- The words before the lowest one that may have a member are empty, a place is a number of 64 bits, each place below the
+-- size has a bit, and no other bit is set.
 pub record IsSound (m : Inside) : Type 0 where
   pub small : length m.words.items ≤ 2 ^ 58
   pub within : m.lowest ≤ length m.words.items
   pub empty : AllByRecursion (λ word. word ≡ 0) (take m.lowest m.words.items)
+  pub room : m.size ≤ 64 * length m.words.items
+  pub rest : (place : ℕ) → m.size ≤ place → has_bit m.words.items place ≡ false
 
 abbrev pub mask_view : Inside → Places
-mask_view m = places_of m.words.items
+mask_view m = places_of m.size m.words.items

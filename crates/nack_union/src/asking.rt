@@ -22,7 +22,7 @@ pub fn ask_range(objects: &mut [Marks], first: u32, from: usize, to: usize, name
     ensures rest { (k : ℕ) (d : Marked) → (k < from) ⊎ (to ≤ k) → get_or objects.new k d ≡ get_or objects.old k d }
 {
     'places: for place in from..to {
-        objects[place].ask_named(first + place as u32, named);
+        objects[place].ask_named(first + place as u32, &named);
     }
 }
 

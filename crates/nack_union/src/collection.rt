@@ -111,6 +111,20 @@ fn close_all(objects: &mut [Marks]) -> u32
     queued.min(u32::MAX as u64) as u32
 }
 
+/// The place in a window that begins with this index at which what is named begins, or 0 where that is before it.
+fn place_from(first: u32, named: &Named) -> usize
+    ensures { result ≡ named.now.first.index - first }
+{
+    named.first.index.saturating_sub(first) as usize
+}
+
+/// The place in a window that begins with this index behind what is named.
+fn place_behind(first: u32, named: &Named) -> usize
+    ensures { result ≡ named.now.last.index + 1 - first }
+{
+    (named.last.index as usize + 1).saturating_sub(first as usize)
+}
+
 impl Collection {
     /// A union as an instance begins: nothing is in the window.
     pub fn new(alloc: Global) -> Collection
@@ -201,11 +215,8 @@ impl Collection {
     fn ask_named(&mut self, named: Named)
         ensures { HasPart (named_part named.flags (span named.first named.last)) self.old self.new }
     {
-        let from = named.first.index.saturating_sub(self.first) as usize;
-        let behind = named.last.index as usize + 1;
-        let to = behind
-            .saturating_sub(self.first as usize)
-            .min(self.objects.len());
+        let from = place_from(self.first, &named);
+        let to = place_behind(self.first, &named).min(self.objects.len());
         self.low = self.low.min(from);
         self.high = self.high.max(to);
         ask_range(&mut self.objects, self.first, from, to, named);
@@ -283,8 +294,8 @@ impl Collection {
         let _ = &self.objects;
         let mut rest = items;
         'pairs: while let Some((first, last, behind)) = split_pair(rest) {
-            if let Some((from, to)) = ends_of(profile, known, first, last) {
-                self.ask_pair(flags, from, to);
+            if let Some(ends) = ends_of(profile, known, first, last) {
+                self.ask_pair(flags, ends.0, ends.1);
             }
             rest = behind;
         }

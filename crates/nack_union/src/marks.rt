@@ -1,12 +1,12 @@
 //! What a union keeps of one object.
 
 ghost use Rattle.std.specs.Prelude.{◌≡◌, ◌+◌, ◌^◌, ◌<◌, ◌≤◌, ◌∷◌, [], nat_lt, IfOk, MatchOption, true, false, ◌==◌, ℕ, length, max, set, slice_index, ◌&&◌, ◌||◌};
-ghost use Rattle.fec_plan.specs.Partition.{blocks};
+ghost use Rattle.fec_plan.specs.Partition.{blocks, most_blocks};
 ghost use Rattle.norm_order.specs.Sets.{with_member, is_member, Rises};
 ghost use Rattle.nack_union.specs.Slots.{slots, symbol_slot, want_at};
 ghost use Rattle.nack_union.specs.More.{HasMore, is_source_slot, is_encoded_slot, in_run, slot_in, slot_from, slot_behind, is_slot_of, count_at, MoreOf, named_part};
 ghost use Rattle.nack_union.specs.Adding.{IsPlanned};
-ghost use Rattle.norm_ext.specs.Asking.{span, has_flag};
+ghost use Rattle.norm_ext.specs.Asking.{span, block_span, object_span, has_flag};
 ghost use Rattle.nack_union.specs.Kept.{admitted, closed_marks, IsCounted};
 ghost use Rattle.norm_send_rules.specs.declared.want.Want.TheVariants.{Symbol};
 ghost use Rattle.fec_plan.specs.Points.{position};
@@ -62,7 +62,7 @@ pub fn slot_of(block: u32, symbol: u8) -> usize
 
 /// What stands at a slot of the object with this index.
 pub fn want_of(index: u32, slot: usize) -> Want
-    requires { slot < 2 ^ 33 }
+    requires { slot < slots most_blocks }
     ensures { result ≡ want_at index slot }
 {
     if slot == 0 {
@@ -113,6 +113,39 @@ fn insert_sources(set: &mut Mask, plan: &Plan, from: usize, to: usize)
         let end = start + usize::from(plan.source_len(block as u32));
         set.insert_run(start.max(from), end.min(to));
     }
+}
+
+/// The ends of a span widened to whole blocks.
+fn whole_blocks(first: Position, last: Position) -> (Position, Position)
+    ensures span { span result.0 result.1 ≡ block_span (span first last) }
+    ensures from { result.0.index ≡ first.index }
+    ensures to { result.1.index ≡ last.index }
+{
+    let start = Position { symbol: 0, ..first };
+    let end = Position {
+        symbol: u8::MAX,
+        ..last
+    };
+    (start, end)
+}
+
+/// The ends of a span widened to whole objects.
+fn whole_objects(first: Position, last: Position) -> (Position, Position)
+    ensures span { span result.0 result.1 ≡ object_span (span first last) }
+    ensures from { result.0.index ≡ first.index }
+    ensures to { result.1.index ≡ last.index }
+{
+    let start = Position {
+        index: first.index,
+        block: 0,
+        symbol: 0,
+    };
+    let end = Position {
+        index: last.index,
+        block: LAST_BLOCK,
+        symbol: u8::MAX,
+    };
+    (start, end)
 }
 
 /// What a request names: from one position to another, both included, and its flags.
@@ -173,7 +206,7 @@ impl Marks {
     /// Takes out the lowest slot that is wanted. `None` exactly where none is.
     pub fn take_lowest(&mut self) -> Option<usize>
         ensures { MatchOption result ((self.old.wants ≡ []) × (self.new ≡ self.old))
-            (λ slot. (self.old ≡ record self.new { wants = slot ∷ self.new.wants }) × (slot < 2 ^ 33)) }
+            (λ slot. (self.old ≡ record self.new { wants = slot ∷ self.new.wants }) × (slot < slots most_blocks)) }
     {
         let slot = self.wants.take_lowest()?;
         self.wanted -= 1;
@@ -238,25 +271,17 @@ impl Marks {
     }
 
     /// The round asks for what is named of the object, which has this index.
-    pub fn ask_named(&mut self, index: u32, named: Named)
-        requires from { named.first.index ≤ index }
-        requires to { index ≤ named.last.index }
-        ensures { MoreOf (named_part named.flags (span named.first named.last)) index self.old self.new }
+    pub fn ask_named(&mut self, index: u32, named: &Named)
+        requires from { named.now.first.index ≤ index }
+        requires to { index ≤ named.now.last.index }
+        ensures { MoreOf (named_part named.now.flags (span named.now.first named.now.last)) index self.old self.new }
     {
-        let Named { first, last, flags } = named;
-        let start = Position { symbol: 0, ..first };
-        let end = Position {
-            symbol: u8::MAX,
-            ..last
-        };
-        let lowest = Position { block: 0, ..start };
-        let highest = Position {
-            block: LAST_BLOCK,
-            ..end
-        };
+        let Named { first, last, flags } = *named;
+        let blocks = whole_blocks(first, last);
+        let objects = whole_objects(first, last);
         self.ask_where(has_flag(flags, WANT_SEGMENT), index, first, last);
-        self.ask_where(has_flag(flags, WANT_BLOCK), index, start, end);
-        self.ask_where(has_flag(flags, WANT_OBJECT), index, lowest, highest);
+        self.ask_where(has_flag(flags, WANT_BLOCK), index, blocks.0, blocks.1);
+        self.ask_where(has_flag(flags, WANT_OBJECT), index, objects.0, objects.1);
         self.ask_info_where(has_flag(flags, WANT_INFO));
     }
 

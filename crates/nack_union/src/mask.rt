@@ -1,7 +1,6 @@
 //! A set of places as words of 64 bits.
 
 ghost use Rattle.std.specs.Prelude.{◌≡◌, ◌+◌, ◌*◌, ◌^◌, ◌<◌, ◌≤◌, ◌∷◌, [], not, nat_lt, length, IfOk, MatchOption, slice_index, ◌≢◌, ℕ, IfSome, ◌||◌};
-ghost use Rattle.std.specs.Int.{div_ceil};
 ghost use Rattle.norm_order.specs.Sets.{with_member, with_members, is_member, Rises};
 ghost use Rattle.nack_union.specs.More.{in_run};
 
@@ -15,6 +14,7 @@ const WORD: usize = 64;
 /// A set of places below a size. Room for all of them is made at once.
 #[derive(Debug, Drop)]
 pub struct Mask {
+    size: usize,
     words: Vec<u64>,
     lowest: usize,
 }
@@ -45,13 +45,17 @@ fn first_filled(words: &[u64], from: usize) -> Option<usize>
 }
 
 impl Mask {
-    /// The empty set, with room for so many places: as many words as they need.
+    /// The empty set of places below a size, with as many words as they need.
     pub fn with_room(alloc: Global, places: usize) -> Result<Mask, Memory>
         ensures empty { IfOk result (λ mask. mask.members ≡ []) }
-        ensures size { IfOk result (λ mask. mask.size ≡ 64 * div_ceil places 64) }
+        ensures size { IfOk result (λ mask. mask.size ≡ places) }
     {
         let words = vec![in alloc; 0; places.div_ceil(WORD)]?;
-        Ok(Mask { words, lowest: 0 })
+        Ok(Mask {
+            size: places,
+            words,
+            lowest: 0,
+        })
     }
 
     /// Whether a place is a member.
@@ -121,6 +125,7 @@ impl Mask {
         self.words[word] = bits & !(1 << bit);
         Some(WORD * word + bit)
     }
+
     /// Takes all members out of another set of the same size and puts them into this one, and says how many are new here.
     pub fn take_all(&mut self, other: &mut Mask) -> usize
         requires same { other.old.size ≡ self.old.size }

@@ -1,5 +1,6 @@
 -- What a command lends is whole, so that it may be walked.
 use Rattle.std.specs.Prelude.{ℕ, ◌%◌, ◌≡◌, List, length}
+use Rattle.norm_ext.specs.Places.{node_size, object_size}
 use Rattle.norm_ext.specs.Extensions.{IsChecked}
 use Rattle.norm_ext.specs.Requests.{IsRequests}
 use Rattle.norm_cmdmsg.specs.declared.command.CommandMsg.{CommandMsg}
@@ -17,9 +18,9 @@ pub record HasRequests (exts requests : List ℕ) : Type 0 where
 
 -- a list of node ids is a multiple of four octets, one of object ids of two; what is not read may be anything
 abbrev pub IsWhole : CommandMsg → Type 0
-IsWhole (lent.Flush head object id exts nodes) = HasNumbers 4 exts.now nodes.now
+IsWhole (lent.Flush head object id exts nodes) = HasNumbers node_size exts.now nodes.now
 IsWhole (lent.Eot head exts) = IsChecked exts.now
-IsWhole (lent.Squelch head object id exts invalid) = HasNumbers 2 exts.now invalid.now
+IsWhole (lent.Squelch head object id exts invalid) = HasNumbers object_size exts.now invalid.now
 IsWhole (lent.RepairAdv head flags exts requests) = HasRequests exts.now requests.now
-IsWhole (lent.AckReq head ack_type ack_id exts nodes) = HasNumbers 4 exts.now nodes.now
+IsWhole (lent.AckReq head ack_type ack_id exts nodes) = HasNumbers node_size exts.now nodes.now
 IsWhole (lent.Opaque head sub_type words rest) = Unit {0}

@@ -1,15 +1,18 @@
 //! What a command says.
 
-ghost use Rattle.std.specs.Prelude.{◌≡◌, ◌≤◌, ◌↔◌, ◌%◌, ◌⊎◌, IsTrue, [], length};
+ghost use Rattle.std.specs.Prelude.{◌≡◌, ◌*◌, ◌≤◌, ◌↔◌, ◌%◌, ◌⊎◌, IsTrue, [], length};
 ghost use Rattle.norm_ext.specs.Requests.{IsRequests};
+ghost use Rattle.norm_ext.specs.Places.{word_size, most_header_words};
 ghost use Rattle.norm_cmdmsg.specs.CanWrite.{CanWrite, IsNarrow, HasRoom, IsUnread};
 
 use fec_plan::PayloadId;
-use norm_ext::CmdHead;
-use norm_ext::fitting::{MOST_OCTETS, are_requests, has_room, is_narrow};
+use norm_base::DATAGRAM_ROOM;
+use norm_ext::fitting::{are_requests, has_room, is_narrow};
+use norm_ext::places::{COMMAND, COMMAND_WORDS, NAMING, NODE, OBJECT, SUB_TYPE_AT, WORD};
+use norm_ext::{CmdHead, SubType};
 
 /// The octets before the rest of a command that is not read.
-const BEFORE_REST: usize = 13;
+pub(crate) const BEFORE_REST: usize = SUB_TYPE_AT + 1;
 
 /// A command. Its parts are lent from the datagram.
 #[derive(Clone, Copy, Debug, PartialEq, Eq)]
@@ -76,7 +79,7 @@ fn head_fits(head: &CmdHead) -> bool
 
 /// Whether the extensions and the content have room behind so many octets of fixed fields.
 fn parts_fit(fixed: usize, exts: &[u8], content: &[u8]) -> bool
-    requires { fixed ≤ 1020 }
+    requires { fixed ≤ word_size * most_header_words }
     ensures { IsTrue result ↔ HasRoom fixed exts.now content.now }
 {
     has_room(fixed, exts, content.len())
@@ -86,9 +89,13 @@ fn parts_fit(fixed: usize, exts: &[u8], content: &[u8]) -> bool
 fn unread_fits(sub_type: u8, words: u8, rest: &[u8]) -> bool
     ensures { IsTrue result ↔ IsUnread sub_type words rest.now }
 {
-    let known = sub_type == 4 || sub_type == 7;
-    let short = rest.len() <= MOST_OCTETS - BEFORE_REST;
-    known && short && words >= 4 && 4 * usize::from(words) <= BEFORE_REST + rest.len()
+    let known = sub_type == SubType::CongestionControl.number()
+        || sub_type == SubType::Application.number();
+    let short = rest.len() <= DATAGRAM_ROOM - BEFORE_REST;
+    known
+        && short
+        && words >= COMMAND_WORDS
+        && WORD * usize::from(words) <= BEFORE_REST + rest.len()
 }
 
 impl<'a> CommandMsg<'a> {
@@ -105,26 +112,26 @@ impl<'a> CommandMsg<'a> {
                 exts,
                 nodes,
                 ..
-            } => head_fits(head) && parts_fit(20, exts, nodes) && nodes.len() % 4 == 0,
-            CommandMsg::Eot { head, exts } => head_fits(head) && parts_fit(16, exts, &[]),
+            } => head_fits(head) && parts_fit(NAMING, exts, nodes) && nodes.len() % NODE == 0,
+            CommandMsg::Eot { head, exts } => head_fits(head) && parts_fit(COMMAND, exts, &[]),
             CommandMsg::Squelch {
                 head,
                 exts,
                 invalid,
                 ..
-            } => head_fits(head) && parts_fit(20, exts, invalid) && invalid.len() % 2 == 0,
+            } => head_fits(head) && parts_fit(NAMING, exts, invalid) && invalid.len() % OBJECT == 0,
             CommandMsg::RepairAdv {
                 head,
                 exts,
                 requests,
                 ..
-            } => head_fits(head) && parts_fit(16, exts, requests) && are_requests(requests),
+            } => head_fits(head) && parts_fit(COMMAND, exts, requests) && are_requests(requests),
             CommandMsg::AckReq {
                 head,
                 exts,
                 nodes,
                 ..
-            } => head_fits(head) && parts_fit(16, exts, nodes) && nodes.len() % 4 == 0,
+            } => head_fits(head) && parts_fit(COMMAND, exts, nodes) && nodes.len() % NODE == 0,
             CommandMsg::Opaque {
                 head,
                 sub_type,

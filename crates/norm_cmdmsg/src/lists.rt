@@ -3,8 +3,10 @@
 ghost use Rattle.std.specs.Prelude.{◌≡◌, ◌==◌, ◌%◌, [], ◌∷◌, MatchOption, length};
 ghost use Rattle.std.specs.List.{list_any};
 ghost use Rattle.norm_ext.specs.Lists.{nodes_of as all_nodes, objects_of as all_objects};
+ghost use Rattle.norm_ext.specs.Places.{node_size, object_size};
 
 use norm_base::NodeId;
+use norm_ext::places::{NODE, OBJECT};
 use norm_ext::{read_16, read_32};
 use std::marker::Model;
 
@@ -17,17 +19,18 @@ pub struct Nodes<'a> {
 impl<'a> Model for Nodes<'a> {
     ghost use Rattle.std.specs.Prelude.{ℕ, List, ◌≡◌, ◌%◌, length};
     ghost use Rattle.norm_ext.specs.Lists.{nodes_of as all_nodes};
+    ghost use Rattle.norm_ext.specs.Places.{node_size};
 
     ghost Value = { List ℕ };
 
     ghost view = { λ n. all_nodes n.list.now };
 
-    ghost invariant = { λ n. length n.list.now % 4 ≡ 0 };
+    ghost invariant = { λ n. length n.list.now % node_size ≡ 0 };
 }
 
 /// The node ids of a list whose length is a multiple of 4.
 pub fn nodes_of(list: &[u8]) -> Nodes<'_>
-    requires { length list.now % 4 ≡ 0 }
+    requires { length list.now % node_size ≡ 0 }
     ensures { result ≡ all_nodes list.now }
 {
     Nodes { list }
@@ -35,7 +38,7 @@ pub fn nodes_of(list: &[u8]) -> Nodes<'_>
 
 /// Whether a list of node ids, whose length is a multiple of 4, has this one.
 pub fn names(list: &[u8], node: NodeId) -> bool
-    requires { length list.now % 4 ≡ 0 }
+    requires { length list.now % node_size ≡ 0 }
     ensures { result ≡ list_any (λ n. n == node) (all_nodes list.now) }
 {
     let wanted = node.number();
@@ -49,15 +52,15 @@ pub fn names(list: &[u8], node: NodeId) -> bool
 
 /// The first node id of a list, and the list behind it.
 fn cut_node(list: &[u8]) -> Option<(u32, &[u8])>
-    requires { length list.now % 4 ≡ 0 }
+    requires { length list.now % node_size ≡ 0 }
     ensures { MatchOption result
         (all_nodes list.now ≡ [])
-        (λ x. (all_nodes list.now ≡ x.0 ∷ all_nodes x.1.now) × (length x.1.now % 4 ≡ 0)) }
+        (λ x. (all_nodes list.now ≡ x.0 ∷ all_nodes x.1.now) × (length x.1.now % node_size ≡ 0)) }
 {
     if list.is_empty() {
         return None;
     }
-    Some((read_32(list, 0), list.split_at(4).1))
+    Some((read_32(list, 0), list.split_at(NODE).1))
 }
 
 impl<'a> Iterator for Nodes<'a> {
@@ -87,17 +90,18 @@ pub struct Objects<'a> {
 impl<'a> Model for Objects<'a> {
     ghost use Rattle.std.specs.Prelude.{ℕ, List, ◌≡◌, ◌%◌, length};
     ghost use Rattle.norm_ext.specs.Lists.{objects_of as all_objects};
+    ghost use Rattle.norm_ext.specs.Places.{object_size};
 
     ghost Value = { List ℕ };
 
     ghost view = { λ n. all_objects n.list.now };
 
-    ghost invariant = { λ n. length n.list.now % 2 ≡ 0 };
+    ghost invariant = { λ n. length n.list.now % object_size ≡ 0 };
 }
 
 /// The object transport ids of a list whose length is a multiple of 2.
 pub fn objects_of(list: &[u8]) -> Objects<'_>
-    requires { length list.now % 2 ≡ 0 }
+    requires { length list.now % object_size ≡ 0 }
     ensures { result ≡ all_objects list.now }
 {
     Objects { list }
@@ -105,15 +109,15 @@ pub fn objects_of(list: &[u8]) -> Objects<'_>
 
 /// The first object transport id of a list, and the list behind it.
 fn cut_object(list: &[u8]) -> Option<(u16, &[u8])>
-    requires { length list.now % 2 ≡ 0 }
+    requires { length list.now % object_size ≡ 0 }
     ensures { MatchOption result
         (all_objects list.now ≡ [])
-        (λ x. (all_objects list.now ≡ x.0 ∷ all_objects x.1.now) × (length x.1.now % 2 ≡ 0)) }
+        (λ x. (all_objects list.now ≡ x.0 ∷ all_objects x.1.now) × (length x.1.now % object_size ≡ 0)) }
 {
     if list.is_empty() {
         return None;
     }
-    Some((read_16(list, 0), list.split_at(2).1))
+    Some((read_16(list, 0), list.split_at(OBJECT).1))
 }
 
 impl<'a> Iterator for Objects<'a> {

@@ -1,35 +1,40 @@
 //! Reading of commands (RFC 5740 section 4.2.3).
 
 ghost use Rattle.std.specs.Prelude.{◌≡◌, ◌+◌, ◌*◌, ◌≤◌, ◌<◌, Ok, Err, MatchResult, IfOk, length};
+ghost use Rattle.norm_ext.specs.Places.{word_size, sub_type_at, command_header, naming_header};
 ghost use Rattle.norm_ext.specs.Numbers.{octet, sub_type_number};
 ghost use Rattle.norm_ext.specs.Reading.{words_of, least_words, command_read, command_by, sub_type_in, flush_read, eot_read, squelch_read, repair_adv_read, ack_req_read, opaque_read};
 ghost use Rattle.norm_cmdmsg.specs.View.{command_of};
 ghost use Rattle.norm_cmdmsg.specs.Whole.{IsWhole};
 
-use crate::command::CommandMsg;
+use crate::command::{BEFORE_REST, CommandMsg};
 use norm_ext::header::{
     check_encoding, check_extensions, check_header, check_numbers, check_source, read_command_head,
+};
+use norm_ext::places::{
+    ACK_ID_AT, ACK_TYPE_AT, ADV_FLAGS_AT, COMMAND, ENCODING_AT, NAME_AT, NAMING, NODE, OBJECT,
+    OBJECT_AT, SUB_TYPE_AT, WORDS_AT,
 };
 use norm_ext::{MessageType, Refusal, SubType, check_requests, read_16, read_name};
 
 /// The command of these octets, of which the header's `end` octets are there.
 #[tactic(auto, unfolding(norm_ext::specs::Reading::flush_read))]
 fn read_flush(bytes: &[u8], end: usize) -> Result<CommandMsg<'_>, Refusal>
-    requires end { end ≡ 4 * words_of bytes.now }
-    requires least { 20 ≤ end }
+    requires end { end ≡ word_size * words_of bytes.now }
+    requires least { naming_header ≤ end }
     requires long { end ≤ length bytes.now }
     ensures exact { MatchResult result (λ m. flush_read bytes.now ≡ Ok (command_of m)) (λ refusal. flush_read bytes.now ≡ Err refusal) }
     ensures whole { IfOk result IsWhole }
 {
-    check_encoding(bytes[13])?;
-    let exts = check_extensions(bytes, 20, end)?;
+    check_encoding(bytes[ENCODING_AT])?;
+    let exts = check_extensions(bytes, NAMING, end)?;
     let source = check_source(bytes)?;
     let nodes = bytes.split_at(end).1;
-    check_numbers(4, nodes)?;
+    check_numbers(NODE, nodes)?;
     Ok(CommandMsg::Flush {
         head: read_command_head(bytes, source),
-        object: read_16(bytes, 14),
-        id: read_name(bytes, 16),
+        object: read_16(bytes, OBJECT_AT),
+        id: read_name(bytes, NAME_AT),
         exts,
         nodes,
     })
@@ -38,13 +43,13 @@ fn read_flush(bytes: &[u8], end: usize) -> Result<CommandMsg<'_>, Refusal>
 /// The command of these octets, of which the header's `end` octets are there.
 #[tactic(auto, unfolding(norm_ext::specs::Reading::eot_read))]
 fn read_eot(bytes: &[u8], end: usize) -> Result<CommandMsg<'_>, Refusal>
-    requires end { end ≡ 4 * words_of bytes.now }
-    requires least { 16 ≤ end }
+    requires end { end ≡ word_size * words_of bytes.now }
+    requires least { command_header ≤ end }
     requires long { end ≤ length bytes.now }
     ensures exact { MatchResult result (λ m. eot_read bytes.now ≡ Ok (command_of m)) (λ refusal. eot_read bytes.now ≡ Err refusal) }
     ensures whole { IfOk result IsWhole }
 {
-    let exts = check_extensions(bytes, 16, end)?;
+    let exts = check_extensions(bytes, COMMAND, end)?;
     let source = check_source(bytes)?;
     let rest = bytes.split_at(end).1.len();
     if rest != 0 {
@@ -59,21 +64,21 @@ fn read_eot(bytes: &[u8], end: usize) -> Result<CommandMsg<'_>, Refusal>
 /// The command of these octets, of which the header's `end` octets are there.
 #[tactic(auto, unfolding(norm_ext::specs::Reading::squelch_read))]
 fn read_squelch(bytes: &[u8], end: usize) -> Result<CommandMsg<'_>, Refusal>
-    requires end { end ≡ 4 * words_of bytes.now }
-    requires least { 20 ≤ end }
+    requires end { end ≡ word_size * words_of bytes.now }
+    requires least { naming_header ≤ end }
     requires long { end ≤ length bytes.now }
     ensures exact { MatchResult result (λ m. squelch_read bytes.now ≡ Ok (command_of m)) (λ refusal. squelch_read bytes.now ≡ Err refusal) }
     ensures whole { IfOk result IsWhole }
 {
-    check_encoding(bytes[13])?;
-    let exts = check_extensions(bytes, 20, end)?;
+    check_encoding(bytes[ENCODING_AT])?;
+    let exts = check_extensions(bytes, NAMING, end)?;
     let source = check_source(bytes)?;
     let invalid = bytes.split_at(end).1;
-    check_numbers(2, invalid)?;
+    check_numbers(OBJECT, invalid)?;
     Ok(CommandMsg::Squelch {
         head: read_command_head(bytes, source),
-        object: read_16(bytes, 14),
-        id: read_name(bytes, 16),
+        object: read_16(bytes, OBJECT_AT),
+        id: read_name(bytes, NAME_AT),
         exts,
         invalid,
     })
@@ -82,19 +87,19 @@ fn read_squelch(bytes: &[u8], end: usize) -> Result<CommandMsg<'_>, Refusal>
 /// The command of these octets, of which the header's `end` octets are there.
 #[tactic(auto, unfolding(norm_ext::specs::Reading::repair_adv_read))]
 fn read_repair_adv(bytes: &[u8], end: usize) -> Result<CommandMsg<'_>, Refusal>
-    requires end { end ≡ 4 * words_of bytes.now }
-    requires least { 16 ≤ end }
+    requires end { end ≡ word_size * words_of bytes.now }
+    requires least { command_header ≤ end }
     requires long { end ≤ length bytes.now }
     ensures exact { MatchResult result (λ m. repair_adv_read bytes.now ≡ Ok (command_of m)) (λ refusal. repair_adv_read bytes.now ≡ Err refusal) }
     ensures whole { IfOk result IsWhole }
 {
-    let exts = check_extensions(bytes, 16, end)?;
+    let exts = check_extensions(bytes, COMMAND, end)?;
     let requests = bytes.split_at(end).1;
     check_requests(requests, end)?;
     let source = check_source(bytes)?;
     Ok(CommandMsg::RepairAdv {
         head: read_command_head(bytes, source),
-        flags: bytes[13],
+        flags: bytes[ADV_FLAGS_AT],
         exts,
         requests,
     })
@@ -103,20 +108,20 @@ fn read_repair_adv(bytes: &[u8], end: usize) -> Result<CommandMsg<'_>, Refusal>
 /// The command of these octets, of which the header's `end` octets are there.
 #[tactic(auto, unfolding(norm_ext::specs::Reading::ack_req_read))]
 fn read_ack_req(bytes: &[u8], end: usize) -> Result<CommandMsg<'_>, Refusal>
-    requires end { end ≡ 4 * words_of bytes.now }
-    requires least { 16 ≤ end }
+    requires end { end ≡ word_size * words_of bytes.now }
+    requires least { command_header ≤ end }
     requires long { end ≤ length bytes.now }
     ensures exact { MatchResult result (λ m. ack_req_read bytes.now ≡ Ok (command_of m)) (λ refusal. ack_req_read bytes.now ≡ Err refusal) }
     ensures whole { IfOk result IsWhole }
 {
-    let exts = check_extensions(bytes, 16, end)?;
+    let exts = check_extensions(bytes, COMMAND, end)?;
     let source = check_source(bytes)?;
     let nodes = bytes.split_at(end).1;
-    check_numbers(4, nodes)?;
+    check_numbers(NODE, nodes)?;
     Ok(CommandMsg::AckReq {
         head: read_command_head(bytes, source),
-        ack_type: bytes[14],
-        ack_id: bytes[15],
+        ack_type: bytes[ACK_TYPE_AT],
+        ack_id: bytes[ACK_ID_AT],
         exts,
         nodes,
     })
@@ -125,26 +130,26 @@ fn read_ack_req(bytes: &[u8], end: usize) -> Result<CommandMsg<'_>, Refusal>
 /// The command of these octets, which is not read.
 #[tactic(auto, unfolding(norm_ext::specs::Reading::opaque_read))]
 fn read_opaque(bytes: &[u8]) -> Result<CommandMsg<'_>, Refusal>
-    requires { 16 ≤ length bytes.now }
+    requires { command_header ≤ length bytes.now }
     ensures exact { MatchResult result (λ m. opaque_read bytes.now ≡ Ok (command_of m)) (λ refusal. opaque_read bytes.now ≡ Err refusal) }
     ensures whole { IfOk result IsWhole }
 {
     let source = check_source(bytes)?;
     Ok(CommandMsg::Opaque {
         head: read_command_head(bytes, source),
-        sub_type: bytes[12],
-        words: bytes[1],
-        rest: bytes.split_at(13).1,
+        sub_type: bytes[SUB_TYPE_AT],
+        words: bytes[WORDS_AT],
+        rest: bytes.split_at(BEFORE_REST).1,
     })
 }
 
 /// The sub-type of a command.
 fn known_sub_type(bytes: &[u8]) -> Result<SubType, Refusal>
-    requires { 16 ≤ length bytes.now }
+    requires { command_header ≤ length bytes.now }
     ensures exact { result ≡ sub_type_in bytes.now }
-    ensures number { IfOk result (λ sub_type. sub_type_number sub_type ≡ octet 12 bytes.now) }
+    ensures number { IfOk result (λ sub_type. sub_type_number sub_type ≡ octet sub_type_at bytes.now) }
 {
-    let s = bytes[12];
+    let s = bytes[SUB_TYPE_AT];
     match SubType::of(s) {
         Some(sub_type) => Ok(sub_type),
         None => Err(Refusal::SubType { s }),
@@ -153,9 +158,9 @@ fn known_sub_type(bytes: &[u8]) -> Result<SubType, Refusal>
 
 /// The command of this sub-type.
 fn read_by(sub_type: SubType, bytes: &[u8], end: usize) -> Result<CommandMsg<'_>, Refusal>
-    requires end { end ≡ 4 * words_of bytes.now }
-    requires least { 4 * least_words MessageType.Command bytes.now ≤ end }
-    requires named { sub_type_number sub_type ≡ octet 12 bytes.now }
+    requires end { end ≡ word_size * words_of bytes.now }
+    requires least { word_size * least_words MessageType.Command bytes.now ≤ end }
+    requires named { sub_type_number sub_type ≡ octet sub_type_at bytes.now }
     requires long { end ≤ length bytes.now }
     ensures exact { MatchResult result (λ m. command_by sub_type bytes.now ≡ Ok (command_of m)) (λ refusal. command_by sub_type bytes.now ≡ Err refusal) }
     ensures whole { IfOk result IsWhole }

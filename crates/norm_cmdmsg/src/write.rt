@@ -1,6 +1,10 @@
 //! Writing of commands (RFC 5740 section 4.2.3).
 
 ghost use Rattle.std.specs.Prelude.{◌≡◌, ◌+◌, ◌≤◌, ◌<◌, ◌%◌, ◌++◌, [], length};
+ghost use Rattle.norm_base.specs.Sizes.{datagram_room};
+ghost use Rattle.norm_ext.specs.Places.{node_size, object_size, command_header, naming_header};
+ghost use Rattle.norm_ext.specs.Numbers.{type_number};
+ghost use Rattle.norm_ext.specs.declared.kinds.MessageType.TheVariants as types;
 ghost use Rattle.norm_ext.specs.Octets.{octets_of, front_octets, command_octets};
 ghost use Rattle.norm_ext.specs.Message.{Flush, Eot, Squelch, RepairAdv, AckReq, Opaque};
 ghost use Rattle.norm_ext.specs.Extensions.{extensions_of};
@@ -14,6 +18,7 @@ use crate::command::CommandMsg;
 use fec_plan::PayloadId;
 use norm_base::Datagram;
 use norm_ext::header::ENCODING_ID;
+use norm_ext::places::{COMMAND_WORDS, NAMING_WORDS, WORD};
 use norm_ext::pushing::{push_16, push_command_head, push_front, push_name};
 use norm_ext::{CmdHead, MessageType, SubType};
 
@@ -21,7 +26,7 @@ use norm_ext::{CmdHead, MessageType, SubType};
 fn push_head(head: &CmdHead, words: u8, sub_type: u8, out: &mut Datagram)
     requires empty { out.old ≡ [] }
     requires head { IsNarrow head.now }
-    ensures { out.new ≡ front_octets 3 words head.now.sequence head.now.source ++ command_octets head.now sub_type }
+    ensures { out.new ≡ front_octets (type_number types.Command) words head.now.sequence head.now.source ++ command_octets head.now sub_type }
 {
     push_front(
         MessageType::Command.number(),
@@ -35,7 +40,7 @@ fn push_head(head: &CmdHead, words: u8, sub_type: u8, out: &mut Datagram)
 
 /// Adds the FEC Encoding ID, an object and a symbol of it.
 fn push_symbol(object: u16, id: &PayloadId, out: &mut Datagram)
-    requires { length out.old + 7 ≤ 1500 }
+    requires { length out.old + 7 ≤ datagram_room }
     ensures { out.new ≡ out.old ++ symbol_octets object id.now }
 {
     out.push(&[ENCODING_ID]);
@@ -54,11 +59,11 @@ fn write_flush(
 )
     requires empty { out.old ≡ [] }
     requires head { IsNarrow head.now }
-    requires room { HasRoom 20 exts.now nodes.now }
-    requires whole { length nodes.now % 4 ≡ 0 }
+    requires room { HasRoom naming_header exts.now nodes.now }
+    requires whole { length nodes.now % node_size ≡ 0 }
     ensures { out.new ≡ octets_of (Flush (record { head = head.now; object = object; id = id.now; extensions = extensions_of exts.now; nodes = nodes_of nodes.now })) }
 {
-    let words = (5 + exts.len() / 4) as u8;
+    let words = NAMING_WORDS + (exts.len() / WORD) as u8;
     push_head(head, words, SubType::Flush.number(), out);
     push_symbol(object, id, out);
     out.push(exts);
@@ -69,10 +74,10 @@ fn write_flush(
 fn write_eot(head: &CmdHead, exts: &[u8], out: &mut Datagram)
     requires empty { out.old ≡ [] }
     requires head { IsNarrow head.now }
-    requires room { HasRoom 16 exts.now [] }
+    requires room { HasRoom command_header exts.now [] }
     ensures { out.new ≡ octets_of (Eot (record { head = head.now; extensions = extensions_of exts.now })) }
 {
-    let words = (4 + exts.len() / 4) as u8;
+    let words = COMMAND_WORDS + (exts.len() / WORD) as u8;
     push_head(head, words, SubType::EndOfTransmission.number(), out);
     out.push(&[0; 3]);
     out.push(exts);
@@ -89,11 +94,11 @@ fn write_squelch(
 )
     requires empty { out.old ≡ [] }
     requires head { IsNarrow head.now }
-    requires room { HasRoom 20 exts.now invalid.now }
-    requires whole { length invalid.now % 2 ≡ 0 }
+    requires room { HasRoom naming_header exts.now invalid.now }
+    requires whole { length invalid.now % object_size ≡ 0 }
     ensures { out.new ≡ octets_of (Squelch (record { head = head.now; object = object; id = id.now; extensions = extensions_of exts.now; invalid = objects_of invalid.now })) }
 {
-    let words = (5 + exts.len() / 4) as u8;
+    let words = NAMING_WORDS + (exts.len() / WORD) as u8;
     push_head(head, words, SubType::Squelch.number(), out);
     push_symbol(object, id, out);
     out.push(exts);
@@ -104,11 +109,11 @@ fn write_squelch(
 fn write_repair_adv(head: &CmdHead, flags: u8, exts: &[u8], requests: &[u8], out: &mut Datagram)
     requires empty { out.old ≡ [] }
     requires head { IsNarrow head.now }
-    requires room { HasRoom 16 exts.now requests.now }
+    requires room { HasRoom command_header exts.now requests.now }
     requires whole { IsRequests requests.now }
     ensures { out.new ≡ octets_of (RepairAdv (record { head = head.now; flags = flags; extensions = extensions_of exts.now; requests = requests_of requests.now })) }
 {
-    let words = (4 + exts.len() / 4) as u8;
+    let words = COMMAND_WORDS + (exts.len() / WORD) as u8;
     push_head(head, words, SubType::RepairAdvertisement.number(), out);
     out.push(&[flags, 0, 0]);
     out.push(exts);
@@ -126,11 +131,11 @@ fn write_ack_req(
 )
     requires empty { out.old ≡ [] }
     requires head { IsNarrow head.now }
-    requires room { HasRoom 16 exts.now nodes.now }
-    requires whole { length nodes.now % 4 ≡ 0 }
+    requires room { HasRoom command_header exts.now nodes.now }
+    requires whole { length nodes.now % node_size ≡ 0 }
     ensures { out.new ≡ octets_of (AckReq (record { head = head.now; ack_type = ack_type; ack_id = ack_id; extensions = extensions_of exts.now; nodes = nodes_of nodes.now })) }
 {
-    let words = (4 + exts.len() / 4) as u8;
+    let words = COMMAND_WORDS + (exts.len() / WORD) as u8;
     push_head(head, words, SubType::AckRequest.number(), out);
     out.push(&[0, ack_type, ack_id]);
     out.push(exts);

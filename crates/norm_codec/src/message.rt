@@ -3,9 +3,9 @@
 ghost use Rattle.std.specs.Prelude.{◌≡◌, ◌↔◌, IsTrue, length};
 ghost use Rattle.norm_codec.specs.CanEncode.{CanEncode, IsReport};
 
-use norm_base::NodeId;
+use norm_base::{DATAGRAM_ROOM, NodeId};
 use norm_cmdmsg::CommandMsg;
-use norm_ext::fitting::MOST_OCTETS;
+use norm_ext::places::{COMMON, COMMON_WORDS, WORD};
 use norm_fbmsg::{AckMsg, NackMsg};
 use norm_objmsg::grammar::{DataMsg, InfoMsg};
 
@@ -28,17 +28,12 @@ pub enum Message<'a> {
     },
 }
 
-/// The octets of the common header.
-const COMMON: usize = 8;
-/// The words of the common header.
-const COMMON_WORDS: u8 = 2;
-
 /// Whether a report has the header that `words` says, and room.
 fn report_fits(words: u8, rest: &[u8]) -> bool
     ensures { IsTrue result ↔ IsReport words rest.now }
 {
-    let short = rest.len() <= MOST_OCTETS - COMMON;
-    short && words >= COMMON_WORDS && 4 * usize::from(words) <= COMMON + rest.len()
+    let short = rest.len() <= DATAGRAM_ROOM - COMMON;
+    short && words >= COMMON_WORDS && WORD * usize::from(words) <= COMMON + rest.len()
 }
 
 impl<'a> Message<'a> {

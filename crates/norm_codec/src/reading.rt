@@ -1,6 +1,7 @@
 //! Reading of any message.
 
 ghost use Rattle.std.specs.Prelude.{◌≡◌, ◌≤◌, Ok, Err, MatchResult, IfOk, IfErr, length};
+ghost use Rattle.norm_ext.specs.Places.{common};
 ghost use Rattle.norm_ext.specs.Message.{Message as Meaning};
 ghost use Rattle.norm_ext.specs.Spells.{Spells};
 ghost use Rattle.norm_ext.specs.Reading.{decoded, report_read, read_as, known_type};
@@ -10,6 +11,7 @@ ghost use Rattle.norm_codec.specs.Whole.{IsWhole};
 use crate::message::Message;
 use norm_cmdmsg::read_command;
 use norm_ext::header::{check_header, check_source, check_version};
+use norm_ext::places::{COMMON, SEQUENCE_AT, WORDS_AT};
 use norm_ext::{MessageType, Refusal, read_16};
 use norm_fbmsg::{read_ack, read_nack};
 use norm_objmsg::grammar::{read_data, read_info};
@@ -24,15 +26,15 @@ fn read_report(bytes: &[u8]) -> Result<Message<'_>, Refusal>
     let source = check_source(bytes)?;
     Ok(Message::Report {
         source,
-        sequence: read_16(bytes, 2),
-        words: bytes[1],
-        rest: bytes.split_at(8).1,
+        sequence: read_16(bytes, SEQUENCE_AT),
+        words: bytes[WORDS_AT],
+        rest: bytes.split_at(COMMON).1,
     })
 }
 
 /// The type that the octets name.
 fn read_type(bytes: &[u8]) -> Result<MessageType, Refusal>
-    requires { 8 ≤ length bytes.now }
+    requires { common ≤ length bytes.now }
     ensures { result ≡ known_type bytes.now }
 {
     let t = bytes[0] % 16;

@@ -95,13 +95,20 @@ named_spans r = elim r.form [
   | form.Erasures ↦ []
 ]
 
+-- the greatest numbers of a block and of a symbol that a message names
+abbrev pub last_block : ℕ
+last_block = 16777215
+
+abbrev pub last_symbol : ℕ
+last_symbol = 255
+
 -- a span widened to whole blocks, which have at most 256 symbols
 abbrev pub block_span : Span → Span
-block_span s = span (position s.first.index s.first.block 0) (position s.last.index s.last.block 255)
+block_span s = span (position s.first.index s.first.block 0) (position s.last.index s.last.block last_symbol)
 
 -- a span widened to whole objects, which have at most 2^24 blocks
 abbrev pub object_span : Span → Span
-object_span s = span (position s.first.index 0 0) (position s.last.index 16777215 255)
+object_span s = span (position s.first.index 0 0) (position s.last.index last_block last_symbol)
 
 -- these, where the flags have this one
 abbrev pub where_flag : {X : Type 0} → ℕ → ℕ → List X → List X

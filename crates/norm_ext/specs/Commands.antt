@@ -2,6 +2,7 @@
 -- section 4.2.3).
 use Rattle.std.specs.Prelude.{ℕ, ◌*◌, ◌==◌, not, List, length, drop, Result, Ok}
 use Rattle.norm_ext.specs.Steps.{◌>>=◌, refused_if, some_or}
+use Rattle.norm_ext.specs.Places.{word_size, node_size, object_size, sub_type_at, encoding_at, adv_flags_at, object_at, symbol_at, ack_type_at, ack_id_at, command_header, naming_header}
 use Rattle.norm_ext.specs.Numbers.{octet, number, name_at, sub_type_of}
 use Rattle.norm_ext.specs.Extensions.{extensions_of}
 use Rattle.norm_ext.specs.Requests.{requests_of, requests_checked}
@@ -17,69 +18,69 @@ use Rattle.norm_ext.specs.Headers.{words_of, content_of, header_from, header_che
 -- FLUSH, a command of sub-type 1
 unfoldable pub flush_read : List ℕ → Result Message Refusal
 flush_read octets = do
-  encoding ← encoding_checked (octet 13 octets)
-  extensions ← header_extensions_checked 20 octets
+  encoding ← encoding_checked (octet encoding_at octets)
+  extensions ← header_extensions_checked naming_header octets
   source ← member_checked (source_of octets)
-  nodes ← list_checked 4 (content_of octets)
+  nodes ← list_checked node_size (content_of octets)
   Ok (Flush (
       record {
         head = command_head_of octets;
-        object = number 2 14 octets;
-        id = name_at 16 octets;
-        extensions = extensions_of (header_from 20 octets);
+        object = number object_size object_at octets;
+        id = name_at symbol_at octets;
+        extensions = extensions_of (header_from naming_header octets);
         nodes = nodes_of (content_of octets);
       }))
 
 -- EOT, a command of sub-type 2
 unfoldable pub eot_read : List ℕ → Result Message Refusal
 eot_read octets = do
-  extensions ← header_extensions_checked 16 octets
+  extensions ← header_extensions_checked command_header octets
   source ← member_checked (source_of octets)
   content ← refused_if (not (length (content_of octets) == 0)) (BadList (length (content_of octets)))
-  Ok (Eot (record { head = command_head_of octets; extensions = extensions_of (header_from 16 octets) }))
+  Ok (Eot (record { head = command_head_of octets; extensions = extensions_of (header_from command_header octets) }))
 
 -- SQUELCH, a command of sub-type 3
 unfoldable pub squelch_read : List ℕ → Result Message Refusal
 squelch_read octets = do
-  encoding ← encoding_checked (octet 13 octets)
-  extensions ← header_extensions_checked 20 octets
+  encoding ← encoding_checked (octet encoding_at octets)
+  extensions ← header_extensions_checked naming_header octets
   source ← member_checked (source_of octets)
-  objects ← list_checked 2 (content_of octets)
+  objects ← list_checked object_size (content_of octets)
   Ok (Squelch (
       record {
         head = command_head_of octets;
-        object = number 2 14 octets;
-        id = name_at 16 octets;
-        extensions = extensions_of (header_from 20 octets);
+        object = number object_size object_at octets;
+        id = name_at symbol_at octets;
+        extensions = extensions_of (header_from naming_header octets);
         invalid = objects_of (content_of octets);
       }))
 
 -- REPAIR_ADV, a command of sub-type 5
 unfoldable pub repair_adv_read : List ℕ → Result Message Refusal
 repair_adv_read octets = do
-  extensions ← header_extensions_checked 16 octets
-  requests ← requests_checked (4 * words_of octets) (content_of octets)
+  extensions ← header_extensions_checked command_header octets
+  requests ← requests_checked (word_size * words_of octets) (content_of octets)
   source ← member_checked (source_of octets)
   Ok (RepairAdv (
       record {
         head = command_head_of octets;
-        flags = octet 13 octets;
-        extensions = extensions_of (header_from 16 octets);
+        flags = octet adv_flags_at octets;
+        extensions = extensions_of (header_from command_header octets);
         requests = requests_of (content_of octets);
       }))
 
 -- ACK_REQ, a command of sub-type 6
 unfoldable pub ack_req_read : List ℕ → Result Message Refusal
 ack_req_read octets = do
-  extensions ← header_extensions_checked 16 octets
+  extensions ← header_extensions_checked command_header octets
   source ← member_checked (source_of octets)
-  nodes ← list_checked 4 (content_of octets)
+  nodes ← list_checked node_size (content_of octets)
   Ok (AckReq (
       record {
         head = command_head_of octets;
-        ack_type = octet 14 octets;
-        ack_id = octet 15 octets;
-        extensions = extensions_of (header_from 16 octets);
+        ack_type = octet ack_type_at octets;
+        ack_id = octet ack_id_at octets;
+        extensions = extensions_of (header_from command_header octets);
         nodes = nodes_of (content_of octets);
       }))
 
@@ -87,7 +88,7 @@ ack_req_read octets = do
 unfoldable pub opaque_read : List ℕ → Result Message Refusal
 opaque_read octets = do
   source ← member_checked (source_of octets)
-  Ok (Opaque (record { head = command_head_of octets; sub_type = octet 12 octets; words = words_of octets; rest = drop 13 octets }))
+  Ok (Opaque (record { head = command_head_of octets; sub_type = octet sub_type_at octets; words = words_of octets; rest = drop encoding_at octets }))
 
 -- a command whose sub-type is known
 abbrev pub command_by : CommandType → List ℕ → Result Message Refusal
@@ -101,7 +102,7 @@ command_by commands.Application octets = opaque_read octets
 
 -- the sub-type of a command
 abbrev pub sub_type_in : List ℕ → Result CommandType Refusal
-sub_type_in octets = some_or (sub_type_of (octet 12 octets)) (SubType (octet 12 octets))
+sub_type_in octets = some_or (sub_type_of (octet sub_type_at octets)) (SubType (octet sub_type_at octets))
 
 -- a command
 unfoldable pub command_read : List ℕ → Result Message Refusal

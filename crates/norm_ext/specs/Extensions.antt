@@ -1,9 +1,8 @@
 -- Header extensions (RFC 5740 section 4.1).
-use Rattle.std.specs.Prelude.{ℕ, ◌+◌, ◌-◌, ◌*◌, ◌/◌, ◌==◌, ◌&&◌, ◌≡◌, ◌≤◌, ◌<◌, nat_lt, List, [], ◌∷◌, ◌++◌, length, take, drop, Option, None, Some, Result, Ok, Err, if◌then◌else◌}
+use Rattle.std.specs.Prelude.{ℕ, ◌+◌, ◌-◌, ◌*◌, ◌/◌, ◌==◌, ◌&&◌, ◌≡◌, ◌≤◌, ◌<◌, ◌^◌, nat_lt, List, [], ◌∷◌, ◌++◌, length, take, drop, Option, None, Some, Result, Ok, Err, if◌then◌else◌}
 use Rattle.byteorder.specs.Endian.{big_bytes}
 use Rattle.norm_ext.specs.Pieces.{pieces_behind, checked_behind}
 use Rattle.norm_ext.specs.Numbers.{octet, number, fti_type, first_short_type}
-use Rattle.norm_ext.specs.declared.fti.Fti.{Fti}
 use Rattle.norm_ext.specs.declared.refusal.ExtFault.{ExtFault}
 use Rattle.norm_ext.specs.declared.refusal.ExtFault.TheVariants.{ZeroLength, Overrun}
 
@@ -67,6 +66,17 @@ pub record IsChecked (octets : List ℕ) : Type 0 where
 -- an extension of its parts
 abbrev pub extension_of : ℕ → List ℕ → Extension
 extension_of kind content = record { kind = kind; content = content }
+
+-- an object's length, the octets of a symbol, the source symbols of a block, and the most encoding symbols of one
+pub record Fti : Type 0 where
+  pub l : ℕ
+  pub e : ℕ
+  pub b : ℕ
+  pub max_n : ℕ
+
+-- an object's length has 48 bits
+abbrev pub IsLength : ℕ → Type 0
+IsLength l = l < 2 ^ 48
 
 -- what the FEC Object Transmission Information says (RFC 5740 section 4.1, RFC 5510 section 5.2.4.1): 48 bits of the
 -- object's length, 16 of the symbol length, 8 of the block length, 8 of the most encoding symbols of a block

@@ -2,10 +2,12 @@
 -- messages share (RFC 5740 section 4).
 use Rattle.std.specs.Prelude.{ℕ, ◌*◌, ◌/◌, ◌%◌, ◌==◌, nat_lt, not, ◌||◌, List, length, drop, Result, Ok, Err, if◌then◌else◌}
 use Rattle.norm_ext.specs.Steps.{◌>>=◌, refused_if}
-use Rattle.norm_ext.specs.Numbers.{octet, number, part, type_number, encoding_id}
+use Rattle.norm_ext.specs.Places.{word_size, words_at, sequence_at, source_at, node_size, common, common_words, instance_at, grtt_at, sizes_at, flags_at, sub_type_at, object_at, object_size, info_words, data_words, command_words, naming_words, feedback_words}
+use Rattle.norm_ext.specs.Numbers.{octet, number, part, type_number, sub_type_number, encoding_id}
 use Rattle.norm_ext.specs.Extensions.{extensions_checked}
 use Rattle.norm_ext.specs.declared.kinds.MessageType.{MessageType}
 use Rattle.norm_ext.specs.declared.kinds.MessageType.TheVariants as types
+use Rattle.norm_ext.specs.declared.kinds.SubType.TheVariants as commands
 use Rattle.norm_ext.specs.declared.head.ObjHead.{ObjHead}
 use Rattle.norm_ext.specs.declared.head.CmdHead.{CmdHead}
 use Rattle.norm_ext.specs.declared.refusal.ExtFault.{ExtFault}
@@ -15,7 +17,7 @@ use Rattle.norm_ext.specs.declared.refusal.Refusal.TheVariants.{Short, Version, 
 
 -- the header's length in words, which octet 1 says
 abbrev pub words_of : List ℕ → ℕ
-words_of octets = octet 1 octets
+words_of octets = octet words_at octets
 
 -- the type, which is the lower half of octet 0
 abbrev pub type_in : List ℕ → ℕ
@@ -23,25 +25,27 @@ type_in octets = octet 0 octets % 16
 
 -- what stands behind the header
 abbrev pub content_of : List ℕ → List ℕ
-content_of octets = drop (4 * words_of octets) octets
+content_of octets = drop (word_size * words_of octets) octets
 
 -- the header's octets from a place on
 abbrev pub header_from : ℕ → List ℕ → List ℕ
-header_from at octets = part at (4 * words_of octets) octets
+header_from at octets = part at (word_size * words_of octets) octets
 
 -- the least words of a message's header: a flush and a squelch name a symbol
 abbrev pub least_words : MessageType → List ℕ → ℕ
-least_words types.Info octets = 4
-least_words types.Data octets = 5
-least_words types.Command octets = if (octet 12 octets == 1) || (octet 12 octets == 3) then 5 else 4
-least_words types.Nack octets = 6
-least_words types.Ack octets = 6
-least_words types.Report octets = 2
+least_words types.Info octets = info_words
+least_words types.Data octets = data_words
+least_words types.Command octets =
+    if (octet sub_type_at octets == sub_type_number commands.Flush) || (octet sub_type_at octets == sub_type_number commands.Squelch) then naming_words
+    else command_words
+least_words types.Nack octets = feedback_words
+least_words types.Ack octets = feedback_words
+least_words types.Report octets = common_words
 
 -- the version, which is the upper half of octet 0
 abbrev pub version_checked : List ℕ → Result (Unit {0}) Refusal
 version_checked octets =
-    if nat_lt (length octets) 8 then Err (Short (length octets)) else
+    if nat_lt (length octets) common then Err (Short (length octets)) else
     refused_if (not (octet 0 octets / 16 == 1)) (Version (octet 0 octets / 16))
 
 -- the header of a message of a type
@@ -50,7 +54,7 @@ header_checked kind octets = do
   version ← version_checked octets
   type ← refused_if (not (type_in octets == type_number kind)) (BadType (type_in octets))
   least ← refused_if (nat_lt (words_of octets) (least_words kind octets)) (HeaderLength (words_of octets) (least_words kind octets))
-  refused_if (nat_lt (length octets) (4 * words_of octets)) (PastEnd (words_of octets) (length octets))
+  refused_if (nat_lt (length octets) (word_size * words_of octets)) (PastEnd (words_of octets) (length octets))
 
 -- the FEC Encoding ID, at a place
 abbrev pub encoding_checked : ℕ → Result (Unit {0}) Refusal
@@ -76,10 +80,10 @@ list_checked width octets = refused_if (not (length octets % width == 0)) (BadLi
 
 -- the source, which stands behind the sequence number
 abbrev pub source_of : List ℕ → ℕ
-source_of octets = number 4 4 octets
+source_of octets = number node_size source_at octets
 
 abbrev pub sequence_of : List ℕ → ℕ
-sequence_of octets = number 2 2 octets
+sequence_of octets = number 2 sequence_at octets
 
 -- the fields that INFO and DATA begin with
 abbrev pub object_head_of : List ℕ → ObjHead
@@ -87,12 +91,12 @@ object_head_of octets =
     record {
       source = source_of octets;
       sequence = sequence_of octets;
-      instance = number 2 8 octets;
-      grtt = octet 10 octets;
-      backoff = octet 11 octets / 16;
-      gsize = octet 11 octets % 16;
-      flags = octet 12 octets;
-      object = number 2 14 octets;
+      instance = number 2 instance_at octets;
+      grtt = octet grtt_at octets;
+      backoff = octet sizes_at octets / 16;
+      gsize = octet sizes_at octets % 16;
+      flags = octet flags_at octets;
+      object = number object_size object_at octets;
     }
 
 -- the fields that a command begins with
@@ -101,8 +105,8 @@ command_head_of octets =
     record {
       source = source_of octets;
       sequence = sequence_of octets;
-      instance = number 2 8 octets;
-      grtt = octet 10 octets;
-      backoff = octet 11 octets / 16;
-      gsize = octet 11 octets % 16;
+      instance = number 2 instance_at octets;
+      grtt = octet grtt_at octets;
+      backoff = octet sizes_at octets / 16;
+      gsize = octet sizes_at octets % 16;
     }

@@ -1,7 +1,8 @@
 -- What is promised of the grammar, and of the indices that ids name.
 use Rattle.std.specs.Prelude.{◌≡◌, ◌<◌, ◌≤◌, ◌+◌, ◌↔◌, ℕ, List, [], ◌∷◌, ◌++◌, length, slice_index, None, Some, Ok, Err}
 use Rattle.norm_base.specs.Settings.{Settings}
-use Rattle.norm_ext.specs.ObjectIds.{last_index, object_id, index_named}
+use Rattle.norm_base.specs.Sizes.{id_count}
+use Rattle.norm_ext.specs.ObjectIds.{last_index, ids_below, ids_above, object_id, index_named}
 use Rattle.norm_ext.specs.Message.{Message}
 use Rattle.norm_ext.specs.Octets.{octets_of}
 use Rattle.norm_ext.specs.Reading.{decoded}
@@ -47,7 +48,7 @@ SpelledIsNotRefused = (m : Message) (octets : List ℕ) → AreOctets octets →
 -- what is asked for within its widths is a list of whole requests, and is read again as these
 abbrev pub AskedIsRead : Type 0
 AskedIsRead =
-    (asked : List Asked) → AllByRecursion IsAsked asked → length (asked_octets asked) < 65536
+    (asked : List Asked) → AllByRecursion IsAsked asked → length (asked_octets asked) < id_count
     → IsRequests (asked_octets asked) × (requests_of (asked_octets asked) ≡ requests_asked asked)
 
 -- one more that is asked for takes so many octets behind the others
@@ -58,16 +59,16 @@ OneMoreTakes =
 
 -- an index lies within 32,768 below and 32,767 above what is known, and an object can have it
 abbrev pub IsNear : ℕ → ℕ → Type 0
-IsNear known index = (known ≤ index + 32768) × (index ≤ known + 32767) × (index ≤ last_index)
+IsNear known index = (known ≤ index + ids_below) × (index ≤ known + ids_above) × (index ≤ last_index)
 
 -- an id names the index near what is known that has it, and no other
 abbrev pub NamesNearest : Type 0
 NamesNearest =
-    (p : Settings) (known object index : ℕ) → object < 65536
+    (p : Settings) (known object index : ℕ) → object < id_count
     → ((index_named p known object ≡ Some index) ↔ (IsNear known index × (object_id p index ≡ object)))
 
 -- the id of an index within 32,767 of what is known names that index
 abbrev pub NamedAgain : Type 0
 NamedAgain =
-    (p : Settings) (known index : ℕ) → known ≤ index + 32767 → index ≤ known + 32767 → index ≤ last_index
+    (p : Settings) (known index : ℕ) → known ≤ index + ids_above → index ≤ known + ids_above → index ≤ last_index
     → index_named p known (object_id p index) ≡ Some index

@@ -1,5 +1,6 @@
 -- The parts that a message of each kind has, and that can be wrong (RFC 5740 section 4): one table.
 use Rattle.std.specs.Prelude.{ℕ, ◌==◌, Bool, true, false, List, Option, None, Some, if◌then◌else◌}
+use Rattle.norm_ext.specs.Places.{node_size, object_size, common_words, sub_type_at, ack_type_at, info_words, data_words, command_words, naming_words, feedback_words}
 use Rattle.norm_ext.specs.Numbers.{octet, type_of, sub_type_of, flush_ack}
 use Rattle.norm_ext.specs.Reading.{type_in}
 use Rattle.norm_ext.specs.declared.kinds.MessageType.{MessageType}
@@ -30,23 +31,23 @@ layout least encoded extended sender content =
 
 -- of a command, by its sub-type; one of no known sub-type has its header alone
 abbrev pub command_layout : Option SubType → Layout
-command_layout (Some commands.Flush) = layout 5 true true false (Numbers 4)
-command_layout (Some commands.EndOfTransmission) = layout 4 false true false Nothing
-command_layout (Some commands.Squelch) = layout 5 true true false (Numbers 2)
-command_layout (Some commands.CongestionControl) = layout 4 false false false Anything
-command_layout (Some commands.RepairAdvertisement) = layout 4 false true false Requests
-command_layout (Some commands.AckRequest) = layout 4 false true false (Numbers 4)
-command_layout (Some commands.Application) = layout 4 false false false Anything
-command_layout None = layout 4 false false false Anything
+command_layout (Some commands.Flush) = layout naming_words true true false (Numbers node_size)
+command_layout (Some commands.EndOfTransmission) = layout command_words false true false Nothing
+command_layout (Some commands.Squelch) = layout naming_words true true false (Numbers object_size)
+command_layout (Some commands.CongestionControl) = layout command_words false false false Anything
+command_layout (Some commands.RepairAdvertisement) = layout command_words false true false Requests
+command_layout (Some commands.AckRequest) = layout command_words false true false (Numbers node_size)
+command_layout (Some commands.Application) = layout command_words false false false Anything
+command_layout None = layout command_words false false false Anything
 
 -- of any message, by its type; one of no known type has nothing that is looked at
 abbrev pub layout_as : Option MessageType → List ℕ → Layout
-layout_as (Some types.Info) octets = layout 4 true true false Anything
-layout_as (Some types.Data) octets = layout 5 true true false Anything
-layout_as (Some types.Command) octets = command_layout (sub_type_of (octet 12 octets))
-layout_as (Some types.Nack) octets = layout 6 false true true Requests
-layout_as (Some types.Ack) octets = layout 6 false true true (if octet 14 octets == flush_ack then OneItem else Anything)
-layout_as (Some types.Report) octets = layout 2 false false false Anything
+layout_as (Some types.Info) octets = layout info_words true true false Anything
+layout_as (Some types.Data) octets = layout data_words true true false Anything
+layout_as (Some types.Command) octets = command_layout (sub_type_of (octet sub_type_at octets))
+layout_as (Some types.Nack) octets = layout feedback_words false true true Requests
+layout_as (Some types.Ack) octets = layout feedback_words false true true (if octet ack_type_at octets == flush_ack then OneItem else Anything)
+layout_as (Some types.Report) octets = layout common_words false false false Anything
 layout_as None octets = layout 0 false false false Anything
 
 -- the layout that octets say they have

@@ -3,7 +3,10 @@ use Rattle.std.specs.Prelude.{ℕ, ◌+◌, ◌*◌, ◌/◌, List, [], ◌∷�
 use Rattle.std.specs.List.{flat_map, repeat}
 use Rattle.byteorder.specs.Endian.{big_bytes}
 use Rattle.fec_plan.specs.Payload.{name_octets}
-use Rattle.norm_ext.specs.Numbers.{encoding_id}
+use Rattle.norm_ext.specs.Places.{word_size, node_size, object_size, info_words, data_words, command_words, naming_words, feedback_words}
+use Rattle.norm_ext.specs.Numbers.{encoding_id, type_number, sub_type_number}
+use Rattle.norm_ext.specs.declared.kinds.MessageType.TheVariants as types
+use Rattle.norm_ext.specs.declared.kinds.SubType.TheVariants as commands
 use Rattle.norm_ext.specs.Extensions.{Extension, extension_octets}
 use Rattle.norm_ext.specs.Requests.{Request, request_octets, item_octets}
 use Rattle.norm_ext.specs.Message.{Message, Info, Data, Flush, Eot, Squelch, RepairAdv, AckReq, Opaque, Nack, Ack, Report, AckContent, Mark, Unread}
@@ -34,14 +37,14 @@ abbrev pub requests_octets : List Request → List ℕ
 requests_octets requests = flat_map request_octets requests
 
 abbrev pub nodes_octets : List ℕ → List ℕ
-nodes_octets nodes = flat_map (big_bytes 4) nodes
+nodes_octets nodes = flat_map (big_bytes node_size) nodes
 
 abbrev pub objects_octets : List ℕ → List ℕ
-objects_octets objects = flat_map (big_bytes 2) objects
+objects_octets objects = flat_map (big_bytes object_size) objects
 
 -- a header of so many words and its extensions
 abbrev pub words_with : ℕ → List Extension → ℕ
-words_with words extensions = words + length (extensions_octets extensions) / 4
+words_with words extensions = words + length (extensions_octets extensions) / word_size
 
 -- what an acknowledgement holds
 abbrev pub content_octets : AckContent → List ℕ → List ℕ
@@ -66,35 +69,35 @@ reserved_octets (Report m) = 0
 -- reserved places.
 abbrev pub octets_with : Message → List ℕ → List ℕ
 octets_with (Info m) reserved =
-    front_octets 1 (words_with 4 m.extensions) m.head.sequence m.head.source ++ object_octets m.head
+    front_octets (type_number types.Info) (words_with info_words m.extensions) m.head.sequence m.head.source ++ object_octets m.head
     ++ extensions_octets m.extensions ++ m.info
 octets_with (Data m) reserved =
-    front_octets 2 (words_with 5 m.extensions) m.head.sequence m.head.source ++ object_octets m.head
+    front_octets (type_number types.Data) (words_with data_words m.extensions) m.head.sequence m.head.source ++ object_octets m.head
     ++ name_octets m.id ++ extensions_octets m.extensions ++ m.payload
 octets_with (Flush m) reserved =
-    front_octets 3 (words_with 5 m.extensions) m.head.sequence m.head.source ++ command_octets m.head 1
+    front_octets (type_number types.Command) (words_with naming_words m.extensions) m.head.sequence m.head.source ++ command_octets m.head (sub_type_number commands.Flush)
     ++ encoding_id ∷ big_bytes 2 m.object ++ name_octets m.id ++ extensions_octets m.extensions ++ nodes_octets m.nodes
 octets_with (Eot m) reserved =
-    front_octets 3 (words_with 4 m.extensions) m.head.sequence m.head.source ++ command_octets m.head 2
+    front_octets (type_number types.Command) (words_with command_words m.extensions) m.head.sequence m.head.source ++ command_octets m.head (sub_type_number commands.EndOfTransmission)
     ++ reserved ++ extensions_octets m.extensions
 octets_with (Squelch m) reserved =
-    front_octets 3 (words_with 5 m.extensions) m.head.sequence m.head.source ++ command_octets m.head 3
+    front_octets (type_number types.Command) (words_with naming_words m.extensions) m.head.sequence m.head.source ++ command_octets m.head (sub_type_number commands.Squelch)
     ++ encoding_id ∷ big_bytes 2 m.object ++ name_octets m.id ++ extensions_octets m.extensions ++ objects_octets m.invalid
 octets_with (RepairAdv m) reserved =
-    front_octets 3 (words_with 4 m.extensions) m.head.sequence m.head.source ++ command_octets m.head 5
+    front_octets (type_number types.Command) (words_with command_words m.extensions) m.head.sequence m.head.source ++ command_octets m.head (sub_type_number commands.RepairAdvertisement)
     ++ m.flags ∷ reserved ++ extensions_octets m.extensions ++ requests_octets m.requests
 octets_with (AckReq m) reserved =
-    front_octets 3 (words_with 4 m.extensions) m.head.sequence m.head.source ++ command_octets m.head 6
+    front_octets (type_number types.Command) (words_with command_words m.extensions) m.head.sequence m.head.source ++ command_octets m.head (sub_type_number commands.AckRequest)
     ++ reserved ++ m.ack_type ∷ m.ack_id ∷ extensions_octets m.extensions ++ nodes_octets m.nodes
 octets_with (Opaque m) reserved =
-    front_octets 3 m.words m.head.sequence m.head.source ++ command_octets m.head m.sub_type ++ m.rest
+    front_octets (type_number types.Command) m.words m.head.sequence m.head.source ++ command_octets m.head m.sub_type ++ m.rest
 octets_with (Nack m) reserved =
-    front_octets 4 (words_with 6 m.extensions) m.sequence m.source ++ big_bytes 4 m.sender ++ big_bytes 2 m.instance
+    front_octets (type_number types.Nack) (words_with feedback_words m.extensions) m.sequence m.source ++ big_bytes 4 m.sender ++ big_bytes 2 m.instance
     ++ reserved ++ extensions_octets m.extensions ++ requests_octets m.requests
 octets_with (Ack m) reserved =
-    front_octets 5 (words_with 6 m.extensions) m.sequence m.source ++ big_bytes 4 m.sender ++ big_bytes 2 m.instance
+    front_octets (type_number types.Ack) (words_with feedback_words m.extensions) m.sequence m.source ++ big_bytes 4 m.sender ++ big_bytes 2 m.instance
     ++ m.ack_type ∷ m.ack_id ∷ take 8 reserved ++ extensions_octets m.extensions ++ content_octets m.content (drop 8 reserved)
-octets_with (Report m) reserved = front_octets 6 m.words m.sequence m.source ++ m.rest
+octets_with (Report m) reserved = front_octets (type_number types.Report) m.words m.sequence m.source ++ m.rest
 
 -- the octets of a message, with zeros in the reserved places
 abbrev pub octets_of : Message → List ℕ

@@ -1,6 +1,7 @@
 -- What octets say: the message that they spell, or the first thing that is wrong with them (RFC 5740 section 4).
 use Rattle.std.specs.Prelude.{ℕ, ◌*◌, ◌==◌, not, ◌&&◌, List, length, drop, Result, Ok, if◌then◌else◌}
 use Rattle.norm_ext.specs.Steps.{◌>>=◌, refused_if, some_or}
+use Rattle.norm_ext.specs.Places.{word_size, node_size, object_size, common, encoding_at, symbol_at, ack_type_at, ack_id_at, sender_at, feedback_instance_at, info_header, data_header, feedback_header, item_width, item_object_at, item_name_at}
 use Rattle.norm_ext.specs.Numbers.{octet, number, name_at, type_of, encoding_id, flush_ack}
 use Rattle.norm_ext.specs.Extensions.{extensions_of}
 use Rattle.norm_ext.specs.Requests.{requests_of, requests_checked}
@@ -16,70 +17,70 @@ unfoldable pub use Rattle.norm_ext.specs.Headers.{words_of, type_in, content_of,
 unfoldable pub info_read : List ℕ → Result Message Refusal
 info_read octets = do
   header ← header_checked types.Info octets
-  encoding ← encoding_checked (octet 13 octets)
-  extensions ← header_extensions_checked 16 octets
+  encoding ← encoding_checked (octet encoding_at octets)
+  extensions ← header_extensions_checked info_header octets
   source ← member_checked (source_of octets)
-  Ok (Info (record { head = object_head_of octets; extensions = extensions_of (header_from 16 octets); info = content_of octets }))
+  Ok (Info (record { head = object_head_of octets; extensions = extensions_of (header_from info_header octets); info = content_of octets }))
 
 -- DATA
 unfoldable pub data_read : List ℕ → Result Message Refusal
 data_read octets = do
   header ← header_checked types.Data octets
-  encoding ← encoding_checked (octet 13 octets)
-  extensions ← header_extensions_checked 20 octets
+  encoding ← encoding_checked (octet encoding_at octets)
+  extensions ← header_extensions_checked data_header octets
   source ← member_checked (source_of octets)
-  Ok (Data (record { head = object_head_of octets; id = name_at 16 octets; extensions = extensions_of (header_from 20 octets); payload = content_of octets }))
+  Ok (Data (record { head = object_head_of octets; id = name_at symbol_at octets; extensions = extensions_of (header_from data_header octets); payload = content_of octets }))
 
 -- NACK
 unfoldable pub nack_read : List ℕ → Result Message Refusal
 nack_read octets = do
   header ← header_checked types.Nack octets
-  extensions ← header_extensions_checked 24 octets
-  requests ← requests_checked (4 * words_of octets) (content_of octets)
+  extensions ← header_extensions_checked feedback_header octets
+  requests ← requests_checked (word_size * words_of octets) (content_of octets)
   source ← member_checked (source_of octets)
-  sender ← member_checked (number 4 8 octets)
+  sender ← member_checked (number node_size sender_at octets)
   Ok (Nack (
       record {
         source = source_of octets;
         sequence = sequence_of octets;
-        sender = number 4 8 octets;
-        instance = number 2 12 octets;
-        extensions = extensions_of (header_from 24 octets);
+        sender = number node_size sender_at octets;
+        instance = number 2 feedback_instance_at octets;
+        extensions = extensions_of (header_from feedback_header octets);
         requests = requests_of (content_of octets);
       }))
 
 -- what an acknowledgement of a type holds; the one item of a flush's is looked at where it has eight octets
 abbrev pub ack_encoding_checked : ℕ → ℕ → List ℕ → Result (Unit {0}) Refusal
 ack_encoding_checked ack_type at content =
-    refused_if ((ack_type == flush_ack) && (length content == 8) && not (octet 0 content == encoding_id)) (ItemFec at (octet 0 content))
+    refused_if ((ack_type == flush_ack) && (length content == item_width) && not (octet 0 content == encoding_id)) (ItemFec at (octet 0 content))
 
 -- the content of a flush's acknowledgement is one item
 abbrev pub ack_length_checked : ℕ → List ℕ → Result (Unit {0}) Refusal
-ack_length_checked ack_type content = refused_if ((ack_type == flush_ack) && not (length content == 8)) (BadList (length content))
+ack_length_checked ack_type content = refused_if ((ack_type == flush_ack) && not (length content == item_width)) (BadList (length content))
 
 abbrev pub ack_content_of : ℕ → List ℕ → AckContent
 ack_content_of ack_type content =
-    if ack_type == flush_ack then Mark (record { object = number 2 2 content; id = name_at 4 content }) else Unread content
+    if ack_type == flush_ack then Mark (record { object = number object_size item_object_at content; id = name_at item_name_at content }) else Unread content
 
 -- ACK
 unfoldable pub ack_read : List ℕ → Result Message Refusal
 ack_read octets = do
   header ← header_checked types.Ack octets
-  extensions ← header_extensions_checked 24 octets
-  encoding ← ack_encoding_checked (octet 14 octets) (4 * words_of octets) (content_of octets)
+  extensions ← header_extensions_checked feedback_header octets
+  encoding ← ack_encoding_checked (octet ack_type_at octets) (word_size * words_of octets) (content_of octets)
   source ← member_checked (source_of octets)
-  sender ← member_checked (number 4 8 octets)
-  content ← ack_length_checked (octet 14 octets) (content_of octets)
+  sender ← member_checked (number node_size sender_at octets)
+  content ← ack_length_checked (octet ack_type_at octets) (content_of octets)
   Ok (Ack (
       record {
         source = source_of octets;
         sequence = sequence_of octets;
-        sender = number 4 8 octets;
-        instance = number 2 12 octets;
-        ack_type = octet 14 octets;
-        ack_id = octet 15 octets;
-        extensions = extensions_of (header_from 24 octets);
-        content = ack_content_of (octet 14 octets) (content_of octets);
+        sender = number node_size sender_at octets;
+        instance = number 2 feedback_instance_at octets;
+        ack_type = octet ack_type_at octets;
+        ack_id = octet ack_id_at octets;
+        extensions = extensions_of (header_from feedback_header octets);
+        content = ack_content_of (octet ack_type_at octets) (content_of octets);
       }))
 
 -- REPORT, which is not read
@@ -87,7 +88,7 @@ unfoldable pub report_read : List ℕ → Result Message Refusal
 report_read octets = do
   header ← header_checked types.Report octets
   source ← member_checked (source_of octets)
-  Ok (Report (record { source = source_of octets; sequence = sequence_of octets; words = words_of octets; rest = drop 8 octets }))
+  Ok (Report (record { source = source_of octets; sequence = sequence_of octets; words = words_of octets; rest = drop common octets }))
 
 -- a message of a type
 abbrev pub read_as : MessageType → List ℕ → Result Message Refusal

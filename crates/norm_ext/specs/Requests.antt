@@ -2,7 +2,9 @@
 use Rattle.std.specs.Prelude.{ℕ, ◌+◌, ◌*◌, ◌%◌, ◌==◌, ◌≡◌, ◌<◌, nat_lt, not, ◌||◌, List, [], ◌∷◌, ◌++◌, length, take, drop, map, Option, None, Some, Result, Ok, Err}
 use Rattle.std.specs.List.{flat_map, AllByRecursion}
 use Rattle.byteorder.specs.Endian.{big_bytes}
+use Rattle.norm_base.specs.Sizes.{id_count}
 use Rattle.fec_plan.specs.Payload.{name_octets, IsName}
+use Rattle.norm_ext.specs.Places.{request_front, items_length_at, item_width}
 use Rattle.norm_ext.specs.Numbers.{octet, number, name_at, form_number, form_of, encoding_id}
 use Rattle.norm_ext.specs.Steps.{refused_if}
 use Rattle.norm_ext.specs.Pieces.{pieces_behind, checked_then, checked_behind}
@@ -29,7 +31,7 @@ item_octets x = encoding_id ∷ x.reserved ∷ big_bytes 2 x.item.object ++ name
 
 -- the octets of a request: its form, its flags, the length of its items in octets, and its items
 abbrev pub request_octets : Request → List ℕ
-request_octets r = form_number r.form ∷ r.flags ∷ big_bytes 2 (8 * length r.items) ++ flat_map item_octets r.items
+request_octets r = form_number r.form ∷ r.flags ∷ big_bytes 2 (item_width * length r.items) ++ flat_map item_octets r.items
 
 -- the items in each eight octets
 abbrev pub items_of : List ℕ → List RequestItem
@@ -42,7 +44,7 @@ items_of _ = []
 
 -- the length that the request at the front says for its items
 abbrev pub items_length : List ℕ → ℕ
-items_length octets = number 2 2 octets
+items_length octets = number 2 items_length_at octets
 
 -- a request's form; of no form it is as good as any
 abbrev pub form_or_any : Option Form → Form
@@ -55,11 +57,11 @@ form_at octets = form_or_any (form_of (octet 0 octets))
 
 -- the request at the front
 abbrev pub first_request : List ℕ → Request
-first_request octets = record { form = form_at octets; flags = octet 1 octets; items = items_of (take (items_length octets) (drop 4 octets)) }
+first_request octets = record { form = form_at octets; flags = octet 1 octets; items = items_of (take (items_length octets) (drop request_front octets)) }
 
 -- the octets of the request at the front
 abbrev pub request_length : List ℕ → ℕ
-request_length octets = 4 + items_length octets
+request_length octets = request_front + items_length octets
 
 -- the requests of a list of whole requests
 abbrev pub requests_of : List ℕ → List Request
@@ -67,27 +69,27 @@ requests_of octets = pieces_behind first_request request_length 0 octets
 
 -- the octets of an item of a request's form: of ranges a pair
 abbrev pub item_size : Form → ℕ
-item_size forms.Items = 8
-item_size forms.Ranges = 16
-item_size forms.Erasures = 8
+item_size forms.Items = item_width
+item_size forms.Ranges = 2 * item_width
+item_size forms.Erasures = item_width
 
 -- the first item of another FEC Encoding ID, where the items begin at a place
 abbrev pub items_checked : ℕ → List ℕ → Result (Unit {0}) Refusal
 items_checked at (a ∷ b ∷ c ∷ d ∷ e ∷ f ∷ g ∷ h ∷ rest) =
-    checked_then (refused_if (not (a == encoding_id)) (ItemFec at a)) (items_checked (at + 8) rest)
+    checked_then (refused_if (not (a == encoding_id)) (ItemFec at a)) (items_checked (at + item_width) rest)
 items_checked at _ = Ok tt
 
 -- what is wrong with a request of a form at the front, which stands at a place
 abbrev pub request_length_checked : ℕ → Form → List ℕ → Result (Unit {0}) Refusal
 request_length_checked at form octets =
     refused_if
-    (nat_lt (length octets) 4 || nat_lt (length octets) (4 + items_length octets) || not (items_length octets % item_size form == 0))
+    (nat_lt (length octets) request_front || nat_lt (length octets) (request_front + items_length octets) || not (items_length octets % item_size form == 0))
     (RequestLength at)
 
 -- what is wrong with a request that may be of a form: its form before its length, and its length before its items
 abbrev pub request_checked_as : Option Form → ℕ → List ℕ → Result (Unit {0}) Refusal
 request_checked_as (Some form) at octets =
-    checked_then (request_length_checked at form octets) (items_checked (at + 4) (take (items_length octets) (drop 4 octets)))
+    checked_then (request_length_checked at form octets) (items_checked (at + request_front) (take (items_length octets) (drop request_front octets)))
 request_checked_as None at octets = Err (RequestForm at)
 
 -- what is wrong with the request at the front, which stands at a place
@@ -100,7 +102,7 @@ requests_checked at octets = checked_behind request_checked request_length at 0 
 
 -- an item within its widths
 pub record IsItem (x : Item) : Type 0 where
-  pub object : x.object < 65536
+  pub object : x.object < id_count
   pub id : IsName x.id
 
 -- an item of a request within its widths
@@ -112,8 +114,8 @@ pub record IsRequestItem (x : RequestItem) : Type 0 where
 pub record IsRequest (r : Request) : Type 0 where
   pub flags : r.flags < 256
   pub items : AllByRecursion IsRequestItem r.items
-  pub pairs : 8 * length r.items % item_size r.form ≡ 0
-  pub most : 8 * length r.items < 65536
+  pub pairs : item_width * length r.items % item_size r.form ≡ 0
+  pub most : item_width * length r.items < 65536
 
 -- what a list of items names
 abbrev pub items_named : List ℕ → List Item

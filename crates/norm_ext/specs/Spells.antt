@@ -3,29 +3,32 @@ use Rattle.std.specs.Prelude.{◌≡◌, ◌≢◌, ℕ, ◌+◌, ◌*◌, ◌<�
 use Rattle.std.specs.List.{AllByRecursion}
 use Rattle.norm_base.specs.Member.{IsMember}
 use Rattle.fec_plan.specs.Payload.{IsName}
-use Rattle.norm_ext.specs.Numbers.{flush_ack}
+use Rattle.norm_base.specs.Sizes.{id_count}
+use Rattle.norm_ext.specs.Places.{word_size, common, common_words, encoding_at, info_words, data_words, command_words, naming_words, feedback_words}
+use Rattle.norm_ext.specs.Numbers.{flush_ack, sub_type_number}
 use Rattle.norm_ext.specs.Extensions.{Extension, IsExtension}
 use Rattle.norm_ext.specs.Requests.{IsRequest, IsItem}
 use Rattle.norm_ext.specs.Message.{InfoMessage, DataMessage, FlushCommand, EotCommand, SquelchCommand, RepairAdvCommand, AckReqCommand, OpaqueCommand, NackMessage, AckMessage, AckContent, Mark, Unread, ReportMessage, Message, Info, Data, Flush, Eot, Squelch, RepairAdv, AckReq, Opaque, Nack, Ack, Report}
 use Rattle.norm_ext.specs.Octets.{words_with, octets_with, reserved_octets}
+use Rattle.norm_ext.specs.declared.kinds.SubType.TheVariants as commands
 use Rattle.norm_ext.specs.declared.head.ObjHead.{ObjHead}
 use Rattle.norm_ext.specs.declared.head.CmdHead.{CmdHead}
 
 -- each field of a head is within its width, and the source is a member
 pub record IsObjectHead (h : ObjHead) : Type 0 where
   pub source : IsMember h.source
-  pub sequence : h.sequence < 65536
-  pub instance : h.instance < 65536
+  pub sequence : h.sequence < id_count
+  pub instance : h.instance < id_count
   pub grtt : h.grtt < 256
   pub backoff : h.backoff < 16
   pub gsize : h.gsize < 16
   pub flags : h.flags < 256
-  pub object : h.object < 65536
+  pub object : h.object < id_count
 
 pub record IsCommandHead (h : CmdHead) : Type 0 where
   pub source : IsMember h.source
-  pub sequence : h.sequence < 65536
-  pub instance : h.instance < 65536
+  pub sequence : h.sequence < id_count
+  pub instance : h.instance < id_count
   pub grtt : h.grtt < 256
   pub backoff : h.backoff < 16
   pub gsize : h.gsize < 16
@@ -37,57 +40,57 @@ pub record AreExtensions (words : ℕ) (extensions : List Extension) : Type 0 wh
 
 pub record IsInfo (m : InfoMessage) : Type 0 where
   pub head : IsObjectHead m.head
-  pub extensions : AreExtensions 4 m.extensions
+  pub extensions : AreExtensions info_words m.extensions
 
 pub record IsData (m : DataMessage) : Type 0 where
   pub head : IsObjectHead m.head
   pub id : IsName m.id
-  pub extensions : AreExtensions 5 m.extensions
+  pub extensions : AreExtensions data_words m.extensions
 
 pub record IsFlush (m : FlushCommand) : Type 0 where
   pub head : IsCommandHead m.head
-  pub object : m.object < 65536
+  pub object : m.object < id_count
   pub id : IsName m.id
-  pub extensions : AreExtensions 5 m.extensions
+  pub extensions : AreExtensions naming_words m.extensions
   pub nodes : AllByRecursion (λ n. n < 4294967296) m.nodes
 
 pub record IsEot (m : EotCommand) : Type 0 where
   pub head : IsCommandHead m.head
-  pub extensions : AreExtensions 4 m.extensions
+  pub extensions : AreExtensions command_words m.extensions
 
 pub record IsSquelch (m : SquelchCommand) : Type 0 where
   pub head : IsCommandHead m.head
-  pub object : m.object < 65536
+  pub object : m.object < id_count
   pub id : IsName m.id
-  pub extensions : AreExtensions 5 m.extensions
-  pub invalid : AllByRecursion (λ n. n < 65536) m.invalid
+  pub extensions : AreExtensions naming_words m.extensions
+  pub invalid : AllByRecursion (λ n. n < id_count) m.invalid
 
 pub record IsRepairAdv (m : RepairAdvCommand) : Type 0 where
   pub head : IsCommandHead m.head
   pub flags : m.flags < 256
-  pub extensions : AreExtensions 4 m.extensions
+  pub extensions : AreExtensions command_words m.extensions
   pub requests : AllByRecursion IsRequest m.requests
 
 pub record IsAckReq (m : AckReqCommand) : Type 0 where
   pub head : IsCommandHead m.head
   pub ack_type : m.ack_type < 256
   pub ack_id : m.ack_id < 256
-  pub extensions : AreExtensions 4 m.extensions
+  pub extensions : AreExtensions command_words m.extensions
   pub nodes : AllByRecursion (λ n. n < 4294967296) m.nodes
 
 pub record IsOpaque (m : OpaqueCommand) : Type 0 where
   pub head : IsCommandHead m.head
-  pub sub_type : (m.sub_type ≡ 4) ⊎ (m.sub_type ≡ 7)
-  pub least : 4 ≤ m.words
+  pub sub_type : (m.sub_type ≡ sub_type_number commands.CongestionControl) ⊎ (m.sub_type ≡ sub_type_number commands.Application)
+  pub least : command_words ≤ m.words
   pub most : m.words < 256
-  pub whole : 4 * m.words ≤ 13 + length m.rest
+  pub whole : word_size * m.words ≤ encoding_at + length m.rest
 
 pub record IsNack (m : NackMessage) : Type 0 where
   pub source : IsMember m.source
-  pub sequence : m.sequence < 65536
+  pub sequence : m.sequence < id_count
   pub sender : IsMember m.sender
-  pub instance : m.instance < 65536
-  pub extensions : AreExtensions 6 m.extensions
+  pub instance : m.instance < id_count
+  pub extensions : AreExtensions feedback_words m.extensions
   pub requests : AllByRecursion IsRequest m.requests
 
 -- a flush's acknowledgement, and no other, holds an item
@@ -97,20 +100,20 @@ IsContent ack_type (Unread octets) = ack_type ≢ flush_ack
 
 pub record IsAck (m : AckMessage) : Type 0 where
   pub source : IsMember m.source
-  pub sequence : m.sequence < 65536
+  pub sequence : m.sequence < id_count
   pub sender : IsMember m.sender
-  pub instance : m.instance < 65536
+  pub instance : m.instance < id_count
   pub ack_type : m.ack_type < 256
   pub ack_id : m.ack_id < 256
-  pub extensions : AreExtensions 6 m.extensions
+  pub extensions : AreExtensions feedback_words m.extensions
   pub content : IsContent m.ack_type m.content
 
 pub record IsReport (m : ReportMessage) : Type 0 where
   pub source : IsMember m.source
-  pub sequence : m.sequence < 65536
-  pub least : 2 ≤ m.words
+  pub sequence : m.sequence < id_count
+  pub least : common_words ≤ m.words
   pub most : m.words < 256
-  pub whole : 4 * m.words ≤ 8 + length m.rest
+  pub whole : word_size * m.words ≤ common + length m.rest
 
 -- a message whose fields fit
 abbrev pub IsMessage : Message → Type 0

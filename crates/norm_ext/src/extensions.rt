@@ -3,11 +3,14 @@
 ghost use Rattle.std.specs.Prelude.{◌≡◌, ◌+◌, ◌≤◌, ◌<◌, ◌^◌, [], ◌∷◌, MatchOption, MatchResult, OnOk, length, drop, take};
 ghost use Rattle.norm_ext.specs.Extensions.{extensions_of, extensions_checked, extension_checked, extension_length, extension_of, content_at as content_place, IsChecked};
 
+use crate::places::WORD;
 use crate::refusal::ExtFault;
 use std::marker::Model;
 
 /// The first type of the extensions that are one word and say no length.
 const FIRST_SHORT_TYPE: u8 = 128;
+/// The place of an extension's length in words.
+const LENGTH_AT: usize = 1;
 
 /// The extensions of a list that are left, in their order.
 #[derive(Debug, Drop)]
@@ -32,9 +35,9 @@ fn length_of(words: &[u8]) -> usize
     ensures { result ≡ extension_length words.now }
 {
     if words[0] < FIRST_SHORT_TYPE {
-        4 * usize::from(words[1])
+        WORD * usize::from(words[LENGTH_AT])
     } else {
-        4
+        WORD
     }
 }
 
@@ -51,7 +54,7 @@ fn check_first(words: &[u8], at: usize) -> Result<usize, ExtFault>
         (λ len. (extension_checked at words.now ≡ Ok tt) × (len ≡ extension_length words.now) × (len ≤ length words.now) × (0 < len))
         (λ fault. extension_checked at words.now ≡ Err fault) }
 {
-    if words.len() < 4 {
+    if words.len() < WORD {
         return Err(ExtFault::Overrun { at });
     }
     let len = length_of(words);

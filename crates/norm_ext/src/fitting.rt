@@ -1,17 +1,18 @@
 //! What a message is asked before it is written: whether its parts fit.
 
-ghost use Rattle.std.specs.Prelude.{◌≡◌, ◌↔◌, ◌+◌, ◌≤◌, ◌<◌, ◌^◌, IsTrue, Ok, length};
+ghost use Rattle.std.specs.Prelude.{◌≡◌, ◌↔◌, ◌+◌, ◌*◌, ◌≤◌, ◌<◌, ◌^◌, IsTrue, Ok, length};
 ghost use Rattle.norm_ext.specs.Extensions.{IsChecked};
 ghost use Rattle.norm_ext.specs.Requests.{IsRequests};
+ghost use Rattle.norm_ext.specs.Places.{word_size, most_header_words};
 ghost use Rattle.norm_ext.specs.Fitting.{HasRoom, IsNarrow};
 
 use crate::extensions::check_list;
+use crate::places::WORD;
 use crate::requests::check_requests;
+use norm_base::DATAGRAM_ROOM;
 
-/// The most octets of a datagram.
-pub const MOST_OCTETS: usize = 1500;
 /// The most octets of a header: 255 words.
-const MOST_HEADER: usize = 1020;
+const MOST_HEADER: usize = 255 * WORD;
 
 /// Whether the octets are a list of whole extensions.
 pub fn are_extensions(exts: &[u8]) -> bool
@@ -30,11 +31,11 @@ pub fn are_requests(list: &[u8]) -> bool
 /// Whether the extensions are whole, and with so many octets of fixed fields before them and so many of content behind
 /// them leave the header and the datagram their lengths.
 pub fn has_room(fixed: usize, exts: &[u8], content: usize) -> bool
-    requires { fixed ≤ 1020 }
+    requires { fixed ≤ word_size * most_header_words }
     ensures { IsTrue result ↔ HasRoom fixed exts.now content }
 {
     let header = fixed + exts.len();
-    header <= MOST_HEADER && content <= MOST_OCTETS - header && are_extensions(exts)
+    header <= MOST_HEADER && content <= DATAGRAM_ROOM - header && are_extensions(exts)
 }
 
 /// Whether the back-off factor and the group's size have four bits each.

@@ -1,11 +1,13 @@
 //! The FEC Object Transmission Information of FEC Encoding ID 5, as a header extension (RFC 5510 section 5.2.4.1).
 
-ghost use Rattle.std.specs.Prelude.{◌≡◌, ◌+◌, ◌≤◌, ◌<◌, ◌^◌, ◌++◌, [], ◌∷◌, IfSome, length};
+ghost use Rattle.std.specs.Prelude.{◌≡◌, ◌+◌, ◌≤◌, ◌++◌, [], ◌∷◌, length};
+ghost use Rattle.norm_base.specs.Sizes.{datagram_room};
 ghost use Rattle.norm_ext.specs.Extensions.{fti_in, fti_of, fti_extension, extension_octets, extensions_of, IsChecked};
 
 use crate::extensions::Extensions;
 use crate::numbers::{read_16, read_48};
 use norm_base::Datagram;
+use std::marker::Model;
 
 /// The extension's type.
 pub const FTI_TYPE: u8 = 64;
@@ -13,6 +15,14 @@ pub const FTI_TYPE: u8 = 64;
 const FTI_WORDS: u8 = 3;
 /// The octets of its content.
 const CONTENT: usize = 10;
+/// The places of its fields there.
+const L_AT: usize = 0;
+
+const E_AT: usize = 6;
+
+const B_AT: usize = 8;
+
+const MAX_N_AT: usize = 9;
 
 /// An object's length in octets, below 2^48, its symbol length in octets, its block length in symbols, and the
 /// most encoding symbols of a block.
@@ -24,24 +34,34 @@ pub struct Fti {
     pub max_n: u8,
 }
 
+impl Model for Fti {
+    ghost use Rattle.norm_ext.specs.Extensions.{Fti as Sizes, IsLength};
+
+    ghost Value = { Sizes };
+
+    ghost view = { λ f. record { l = f.l; e = f.e; b = f.b; max_n = f.max_n } };
+
+    ghost invariant = { λ f. IsLength f.l };
+
+    ghost inverse = { λ f. record { l = f.l; e = f.e; b = f.b; max_n = f.max_n } };
+}
+
 /// What the content of an extension of ten octets says.
 fn fti_from(content: &[u8]) -> Fti
     requires { length content.now ≡ 10 }
-    ensures exact { result ≡ fti_in content.now }
-    ensures fits { result.l < 2 ^ 48 }
+    ensures { result ≡ fti_in content.now }
 {
     Fti {
-        l: read_48(content, 0),
-        e: read_16(content, 6),
-        b: content[8],
-        max_n: content[9],
+        l: read_48(content, L_AT),
+        e: read_16(content, E_AT),
+        b: content[B_AT],
+        max_n: content[MAX_N_AT],
     }
 }
 
 /// What the first extension with type 64 and three words says. `None` exactly where there is none.
 pub fn read_fti(exts: Extensions<'_>) -> Option<Fti>
-    ensures exact { result ≡ fti_of exts.entry }
-    ensures fits { IfSome result (λ fti. fti.l < 2 ^ 48) }
+    ensures { result ≡ fti_of exts.entry }
 {
     for (kind, content) in exts {
         if kind == FTI_TYPE && content.len() == CONTENT {
@@ -53,7 +73,6 @@ pub fn read_fti(exts: Extensions<'_>) -> Option<Fti>
 
 /// The extension's twelve octets, for a message to lend as its one extension.
 pub fn fti_words(fti: &Fti) -> [u8; 12]
-    requires { fti.now.l < 2 ^ 48 }
     ensures octets { result ≡ extension_octets (fti_extension fti.now) }
     ensures list { extensions_of result ≡ fti_extension fti.now ∷ [] }
     ensures whole { IsChecked result }
@@ -68,8 +87,7 @@ pub fn fti_words(fti: &Fti) -> [u8; 12]
 
 /// Adds the extension's twelve octets.
 pub fn write_fti(fti: &Fti, out: &mut Datagram)
-    requires room { length out.old + 12 ≤ 1500 }
-    requires fits { fti.now.l < 2 ^ 48 }
+    requires { length out.old + 12 ≤ datagram_room }
     ensures { out.new ≡ out.old ++ extension_octets (fti_extension fti.now) }
 {
     out.push(&fti_words(fti));

@@ -3,6 +3,7 @@
 
 ghost use Rattle.std.specs.Prelude.{◌≡◌, ◌+◌, ◌*◌, ◌%◌, ◌≤◌, ◌<◌, Ok, Err, MatchResult, IfOk, OnOk, length};
 ghost use Rattle.norm_base.specs.Member.{IsMember};
+ghost use Rattle.norm_ext.specs.Places.{word_size, common, sub_type_at, info_header};
 ghost use Rattle.norm_ext.specs.Numbers.{number, octet};
 ghost use Rattle.norm_ext.specs.Extensions.{IsChecked};
 ghost use Rattle.norm_ext.specs.Reading.{version_checked, header_checked, words_of, least_words, content_of, header_from, encoding_checked, header_extensions_checked, member_checked, list_checked, object_head_of, command_head_of, source_of};
@@ -11,6 +12,11 @@ use crate::extensions::check_list;
 use crate::head::{CmdHead, ObjHead};
 use crate::kinds::{MessageType, SubType};
 use crate::numbers::{read_16, read_32};
+use crate::places::{
+    COMMAND_WORDS, COMMON, COMMON_WORDS, DATA_WORDS, FEEDBACK_WORDS, FLAGS_AT, GRTT_AT, INFO_WORDS,
+    INSTANCE_AT, NAMING_WORDS, OBJECT_AT, SEQUENCE_AT, SIZES_AT, SOURCE_AT, SUB_TYPE_AT, WORD,
+    WORDS_AT,
+};
 use crate::refusal::{ExtFault, Refusal};
 use norm_base::{InstanceId, NodeId};
 
@@ -18,15 +24,11 @@ use norm_base::{InstanceId, NodeId};
 pub const VERSION: u8 = 1;
 /// The FEC Encoding ID of Reed-Solomon over GF(2^8) (RFC 5510).
 pub const ENCODING_ID: u8 = 5;
-/// The octets of the common header.
-const COMMON: usize = 8;
-/// The place of a command's sub-type.
-const SUB_TYPE: usize = 12;
 
 /// The version, in octets that have a common header.
 pub fn check_version(bytes: &[u8]) -> Result<(), Refusal>
     ensures exact { result ≡ version_checked bytes.now }
-    ensures long { OnOk result (8 ≤ length bytes.now) }
+    ensures long { OnOk result (common ≤ length bytes.now) }
 {
     if bytes.len() < COMMON {
         return Err(Refusal::Short { len: bytes.len() });
@@ -53,18 +55,18 @@ fn least_of(kind: MessageType, bytes: &[u8]) -> u8
     ensures { result ≡ least_words kind bytes.now }
 {
     match kind {
-        MessageType::Info => 4,
-        MessageType::Data => 5,
+        MessageType::Info => INFO_WORDS,
+        MessageType::Data => DATA_WORDS,
         MessageType::Command => {
-            let sub_type = octet_or_zero(bytes, SUB_TYPE);
+            let sub_type = octet_or_zero(bytes, SUB_TYPE_AT);
             if sub_type == SubType::Flush.number() || sub_type == SubType::Squelch.number() {
-                5
+                NAMING_WORDS
             } else {
-                4
+                COMMAND_WORDS
             }
         }
-        MessageType::Nack | MessageType::Ack => 6,
-        MessageType::Report => 2,
+        MessageType::Nack | MessageType::Ack => FEEDBACK_WORDS,
+        MessageType::Report => COMMON_WORDS,
     }
 }
 
@@ -72,19 +74,19 @@ fn least_of(kind: MessageType, bytes: &[u8]) -> u8
 #[tactic(auto, unfolding(crate::specs::Reading::header_checked))]
 fn check_fields(kind: MessageType, bytes: &[u8]) -> Result<(), Refusal>
     ensures exact { result ≡ header_checked kind bytes.now }
-    ensures long { OnOk result ((least_words kind bytes.now ≤ words_of bytes.now) × (4 * words_of bytes.now ≤ length bytes.now)) }
+    ensures long { OnOk result ((least_words kind bytes.now ≤ words_of bytes.now) × (word_size * words_of bytes.now ≤ length bytes.now)) }
 {
     check_version(bytes)?;
     let t = bytes[0] % 16;
     if t != kind.number() {
         return Err(Refusal::BadType { t });
     }
-    let words = bytes[1];
+    let words = bytes[WORDS_AT];
     let least = least_of(kind, bytes);
     if words < least {
         return Err(Refusal::HeaderLength { words, least });
     }
-    if bytes.len() < 4 * usize::from(words) {
+    if bytes.len() < WORD * usize::from(words) {
         return Err(Refusal::PastEnd {
             words,
             len: bytes.len(),
@@ -96,11 +98,11 @@ fn check_fields(kind: MessageType, bytes: &[u8]) -> Result<(), Refusal>
 /// The octets of the header of a message of this type, or what is wrong with its version, type or length.
 pub fn check_header(kind: MessageType, bytes: &[u8]) -> Result<usize, Refusal>
     ensures { MatchResult result
-        (λ end. (header_checked kind bytes.now ≡ Ok tt) × (end ≡ 4 * words_of bytes.now) × (4 * least_words kind bytes.now ≤ end) × (end ≤ length bytes.now))
+        (λ end. (header_checked kind bytes.now ≡ Ok tt) × (end ≡ word_size * words_of bytes.now) × (word_size * least_words kind bytes.now ≤ end) × (end ≤ length bytes.now))
         (λ refusal. header_checked kind bytes.now ≡ Err refusal) }
 {
     check_fields(kind, bytes)?;
-    Ok(4 * usize::from(bytes[1]))
+    Ok(WORD * usize::from(bytes[WORDS_AT]))
 }
 
 /// The FEC Encoding ID.
@@ -115,7 +117,7 @@ pub fn check_encoding(id: u8) -> Result<(), Refusal>
 
 /// The header's extensions, from a place on up to the header's end.
 pub fn check_extensions(bytes: &[u8], from: usize, end: usize) -> Result<&[u8], Refusal>
-    requires end { end ≡ 4 * words_of bytes.now }
+    requires end { end ≡ word_size * words_of bytes.now }
     requires from { from ≤ end }
     requires long { end ≤ length bytes.now }
     ensures exact { MatchResult result
@@ -146,12 +148,12 @@ pub fn check_member(number: u32) -> Result<NodeId, Refusal>
 
 /// The source.
 pub fn check_source(bytes: &[u8]) -> Result<NodeId, Refusal>
-    requires { 8 ≤ length bytes.now }
+    requires { common ≤ length bytes.now }
     ensures { MatchResult result
         (λ node. (member_checked (source_of bytes.now) ≡ Ok tt) × (node ≡ source_of bytes.now))
         (λ refusal. member_checked (source_of bytes.now) ≡ Err refusal) }
 {
-    check_member(read_32(bytes, 4))
+    check_member(read_32(bytes, SOURCE_AT))
 }
 
 /// A list of numbers of so many octets.
@@ -169,35 +171,35 @@ pub fn check_numbers(width: usize, list: &[u8]) -> Result<(), Refusal>
 
 /// The fields that INFO and DATA begin with, with the source that was read.
 pub fn read_object_head(bytes: &[u8], source: NodeId) -> ObjHead
-    requires long { 16 ≤ length bytes.now }
+    requires long { info_header ≤ length bytes.now }
     requires source { source ≡ source_of bytes.now }
     ensures { result ≡ object_head_of bytes.now }
 {
-    let sizes = bytes[11];
+    let sizes = bytes[SIZES_AT];
     ObjHead {
         source,
-        sequence: read_16(bytes, 2),
-        instance: InstanceId(read_16(bytes, 8)),
-        grtt: bytes[10],
+        sequence: read_16(bytes, SEQUENCE_AT),
+        instance: InstanceId(read_16(bytes, INSTANCE_AT)),
+        grtt: bytes[GRTT_AT],
         backoff: sizes / 16,
         gsize: sizes % 16,
-        flags: bytes[12],
-        object: read_16(bytes, 14),
+        flags: bytes[FLAGS_AT],
+        object: read_16(bytes, OBJECT_AT),
     }
 }
 
 /// The fields that a command begins with, with the source that was read.
 pub fn read_command_head(bytes: &[u8], source: NodeId) -> CmdHead
-    requires long { 12 ≤ length bytes.now }
+    requires long { sub_type_at ≤ length bytes.now }
     requires source { source ≡ source_of bytes.now }
     ensures { result ≡ command_head_of bytes.now }
 {
-    let sizes = bytes[11];
+    let sizes = bytes[SIZES_AT];
     CmdHead {
         source,
-        sequence: read_16(bytes, 2),
-        instance: InstanceId(read_16(bytes, 8)),
-        grtt: bytes[10],
+        sequence: read_16(bytes, SEQUENCE_AT),
+        instance: InstanceId(read_16(bytes, INSTANCE_AT)),
+        grtt: bytes[GRTT_AT],
         backoff: sizes / 16,
         gsize: sizes % 16,
     }

@@ -9,11 +9,9 @@ ghost use Rattle.norm_ext.specs.Items.{both_of, item_of as item_at};
 use crate::head::Item;
 use crate::numbers::{read_16, read_name};
 use crate::object_ids::{index_named, object_id};
+use crate::places::{ITEM, ITEM_NAME_AT, ITEM_OBJECT_AT};
 use fec_plan::{PayloadId, Position};
 use norm_base::Profile;
-
-/// The octets of an item.
-pub const ITEM: usize = 8;
 
 /// The first of some items, and the octets of the rest. `None` where there is none.
 pub fn split_item(items: &[u8]) -> Option<(Item, &[u8])>
@@ -24,8 +22,8 @@ pub fn split_item(items: &[u8]) -> Option<(Item, &[u8])>
         return None;
     }
     let item = Item {
-        object: read_16(items, 2),
-        id: read_name(items, 4),
+        object: read_16(items, ITEM_OBJECT_AT),
+        id: read_name(items, ITEM_NAME_AT),
     };
     Some((item, items.split_at(ITEM).1))
 }
@@ -79,7 +77,6 @@ pub fn ends_of(
 
 /// The item that names a symbol.
 pub fn item_of(profile: &Profile, at: Position) -> Item
-    requires { at.block < 16777216 }
     ensures { result ≡ item_at profile.now at }
 {
     Item {

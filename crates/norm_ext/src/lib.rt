@@ -14,6 +14,7 @@ mod kinds;
 pub mod laws;
 mod numbers;
 mod object_ids;
+pub mod places;
 pub mod pushing;
 mod refusal;
 mod requests;

@@ -1,12 +1,13 @@
 //! Object transport ids and the indices that they name (RFC 5740 section 4.2.1).
 
 ghost use Rattle.std.specs.Prelude.{◌≡◌, ◌^◌, ◌<◌};
+ghost use Rattle.norm_base.specs.Sizes.{id_count};
 ghost use Rattle.norm_ext.specs.ObjectIds.{object_id as id_of_index, index_named as index_of_id};
 
-use norm_base::Profile;
+use norm_base::{ID_COUNT, Profile};
 
 /// So many ids there are.
-const ALL_IDS: u64 = 65_536;
+const ALL_IDS: u64 = ID_COUNT as u64;
 /// How far below what is known an id still names an index.
 const BELOW: u64 = 32_768;
 /// The greatest index of an object.
@@ -16,7 +17,7 @@ pub const LAST_INDEX: u32 = 4_294_967_294;
 fn id_of(profile: &Profile, index: u64) -> u64
     requires { index < 2 ^ 33 }
     ensures exact { result ≡ id_of_index profile.now index }
-    ensures small { result < 65536 }
+    ensures small { result < id_count }
 {
     (u64::from(profile.first) + index) % ALL_IDS
 }

@@ -1,6 +1,7 @@
 //! What is written of every message: the common header and the fields that several messages share.
 
 ghost use Rattle.std.specs.Prelude.{◌≡◌, ◌+◌, ◌*◌, ◌≤◌, ◌<◌, ◌++◌, length};
+ghost use Rattle.norm_base.specs.Sizes.{datagram_room};
 ghost use Rattle.fec_plan.specs.Payload.{name_octets};
 ghost use Rattle.norm_ext.specs.Octets.{front_octets, object_octets, command_octets};
 ghost use Rattle.byteorder.specs.Endian.{big_bytes};
@@ -13,7 +14,7 @@ use norm_base::{Datagram, InstanceId, NodeId};
 
 /// Adds a number of 16 bits.
 pub fn push_16(n: u16, out: &mut Datagram)
-    requires { length out.old + 2 ≤ 1500 }
+    requires { length out.old + 2 ≤ datagram_room }
     ensures { out.new ≡ out.old ++ big_bytes 2 n }
 {
     let mut octets = [0u8; 2];
@@ -23,7 +24,7 @@ pub fn push_16(n: u16, out: &mut Datagram)
 
 /// Adds a number of 32 bits.
 pub fn push_32(n: u32, out: &mut Datagram)
-    requires { length out.old + 4 ≤ 1500 }
+    requires { length out.old + 4 ≤ datagram_room }
     ensures { out.new ≡ out.old ++ big_bytes 4 n }
 {
     let mut octets = [0u8; 4];
@@ -33,7 +34,7 @@ pub fn push_32(n: u32, out: &mut Datagram)
 
 /// Adds a node's id.
 pub fn push_node(node: NodeId, out: &mut Datagram)
-    requires { length out.old + 4 ≤ 1500 }
+    requires { length out.old + 4 ≤ datagram_room }
     ensures { out.new ≡ out.old ++ big_bytes 4 node }
 {
     push_32(node.number(), out);
@@ -41,7 +42,7 @@ pub fn push_node(node: NodeId, out: &mut Datagram)
 
 /// Adds an instance's id.
 pub fn push_instance(instance: InstanceId, out: &mut Datagram)
-    requires { length out.old + 2 ≤ 1500 }
+    requires { length out.old + 2 ≤ datagram_room }
     ensures { out.new ≡ out.old ++ big_bytes 2 instance }
 {
     push_16(instance.0, out);
@@ -49,7 +50,7 @@ pub fn push_instance(instance: InstanceId, out: &mut Datagram)
 
 /// Adds a symbol's name.
 pub fn push_name(id: &PayloadId, out: &mut Datagram)
-    requires { length out.old + 4 ≤ 1500 }
+    requires { length out.old + 4 ≤ datagram_room }
     ensures { out.new ≡ out.old ++ name_octets id.now }
 {
     out.push(&id.bytes());
@@ -58,7 +59,7 @@ pub fn push_name(id: &PayloadId, out: &mut Datagram)
 /// Adds the common header of a message of this type.
 pub fn push_front(kind: u8, words: u8, sequence: u16, source: NodeId, out: &mut Datagram)
     requires kind { kind < 16 }
-    requires room { length out.old + 8 ≤ 1500 }
+    requires room { length out.old + 8 ≤ datagram_room }
     ensures { out.new ≡ out.old ++ front_octets kind words sequence source }
 {
     out.push(&[16 * VERSION + kind, words]);
@@ -70,7 +71,7 @@ pub fn push_front(kind: u8, words: u8, sequence: u16, source: NodeId, out: &mut 
 pub fn push_object_head(head: &ObjHead, out: &mut Datagram)
     requires backoff { head.now.backoff < 16 }
     requires gsize { head.now.gsize < 16 }
-    requires room { length out.old + 8 ≤ 1500 }
+    requires room { length out.old + 8 ≤ datagram_room }
     ensures { out.new ≡ out.old ++ object_octets head.now }
 {
     push_16(head.instance.0, out);
@@ -87,7 +88,7 @@ pub fn push_object_head(head: &ObjHead, out: &mut Datagram)
 pub fn push_command_head(head: &CmdHead, sub_type: u8, out: &mut Datagram)
     requires backoff { head.now.backoff < 16 }
     requires gsize { head.now.gsize < 16 }
-    requires room { length out.old + 5 ≤ 1500 }
+    requires room { length out.old + 5 ≤ datagram_room }
     ensures { out.new ≡ out.old ++ command_octets head.now sub_type }
 {
     push_16(head.instance.0, out);

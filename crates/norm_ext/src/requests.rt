@@ -1,19 +1,17 @@
 //! Repair requests (RFC 5740 section 4.3.1): a list of them, checked and walked.
 
 ghost use Rattle.std.specs.Prelude.{◌≡◌, ◌+◌, ◌*◌, ◌/◌, ◌≤◌, ◌<◌, ◌^◌, [], ◌∷◌, Ok, Err, Some, MatchOption, MatchResult, OnOk, min, length, drop, take, slice_get};
+ghost use Rattle.norm_ext.specs.Places.{request_front, item_width};
 ghost use Rattle.norm_ext.specs.Requests.{requests_of as all_requests, requests_checked, request_checked, request_length, request_length_checked, items_length, items_checked, items_of, items_named, item_size, IsRequests};
 ghost use Rattle.norm_ext.specs.RequestView.{request_of};
 
 use crate::head::Item;
 use crate::header::ENCODING_ID;
-use crate::items::ITEM;
 use crate::kinds::Form;
 use crate::numbers::{read_16, read_name};
+use crate::places::{ITEM, ITEM_NAME_AT, ITEM_OBJECT_AT, ITEMS_LENGTH_AT, REQUEST};
 use crate::refusal::Refusal;
 use std::marker::Model;
-
-/// The octets before a request's items.
-const FRONT: usize = 4;
 
 /// A request: its form, its flags, and the octets of its items.
 #[derive(Clone, Copy, Debug)]
@@ -26,20 +24,20 @@ pub struct Request<'a> {
 impl<'a> Request<'a> {
     /// The number of its items, or the greatest number where there are more than 32 bits count.
     pub fn count(&self) -> u32
-        ensures { result ≡ min (length self.now.items.now / 8) 4294967295 }
+        ensures { result ≡ min (length self.now.items.now / item_width) 4294967295 }
     {
         (self.items.len() / ITEM).min(u32::MAX as usize) as u32
     }
 
     /// The item with this number, from 0.
     pub fn item(&self, i: u32) -> Item
-        requires { 8 * i + 8 ≤ length self.now.items.now }
+        requires { item_width * i + item_width ≤ length self.now.items.now }
         ensures { slice_get (items_named self.now.items.now) i ≡ Some result }
     {
         let at = ITEM * i as usize;
         Item {
-            object: read_16(self.items, at + 2),
-            id: read_name(self.items, at + 4),
+            object: read_16(self.items, at + ITEM_OBJECT_AT),
+            id: read_name(self.items, at + ITEM_NAME_AT),
         }
     }
 }
@@ -75,14 +73,14 @@ fn check_items(items: &[u8], at: usize) -> Result<(), Refusal>
 /// The octets of the items of the request at the front, or what is wrong with its length.
 fn check_length(octets: &[u8], form: Form, at: usize) -> Result<usize, Refusal>
     ensures { MatchResult result
-        (λ len. (request_length_checked at form octets.now ≡ Ok tt) × (len ≡ items_length octets.now) × (4 + len ≤ length octets.now))
+        (λ len. (request_length_checked at form octets.now ≡ Ok tt) × (len ≡ items_length octets.now) × (request_front + len ≤ length octets.now))
         (λ refusal. request_length_checked at form octets.now ≡ Err refusal) }
 {
-    if octets.len() < FRONT {
+    if octets.len() < REQUEST {
         return Err(Refusal::RequestLength { at });
     }
-    let len = usize::from(read_16(octets, 2));
-    if octets.len() < FRONT + len || len % size_of_item(form) != 0 {
+    let len = usize::from(read_16(octets, ITEMS_LENGTH_AT));
+    if octets.len() < REQUEST + len || len % size_of_item(form) != 0 {
         return Err(Refusal::RequestLength { at });
     }
     Ok(len)
@@ -100,8 +98,8 @@ fn check_first(octets: &[u8], at: usize) -> Result<usize, Refusal>
         return Err(Refusal::RequestForm { at });
     };
     let len = check_length(octets, form, at)?;
-    check_items(octets.split_at(FRONT).1.split_at(len).0, at + FRONT)?;
-    Ok(FRONT + len)
+    check_items(octets.split_at(REQUEST).1.split_at(len).0, at + REQUEST)?;
+    Ok(REQUEST + len)
 }
 
 /// The first that is wrong with a list of requests, which begins at this octet of its datagram.
@@ -157,8 +155,8 @@ fn cut_first(list: &[u8]) -> Option<(Request<'_>, &[u8])>
     }
     let form = Form::of(list[0])?;
     let flags = list[1];
-    let (first, rest) = list.split_at(FRONT + usize::from(read_16(list, 2)));
-    let items = first.split_at(FRONT).1;
+    let (first, rest) = list.split_at(REQUEST + usize::from(read_16(list, ITEMS_LENGTH_AT)));
+    let items = first.split_at(REQUEST).1;
     Some((Request { form, flags, items }, rest))
 }
 

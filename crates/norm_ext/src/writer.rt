@@ -4,6 +4,8 @@ ghost use Rattle.std.specs.Prelude.{◌≡◌, ◌↔◌, ◌+◌, ◌-◌, ◌*
 ghost use Rattle.std.specs.Bool.{MatchBool};
 ghost use Rattle.std.specs.List.{flat_map};
 ghost use Rattle.byteorder.specs.Endian.{big_bytes};
+ghost use Rattle.norm_base.specs.Sizes.{datagram_room};
+ghost use Rattle.norm_ext.specs.Places.{request_front, item_width};
 ghost use Rattle.norm_ext.specs.declared.kinds.Form.TheVariants as forms;
 ghost use Rattle.norm_ext.specs.declared.head.Item.{Item as Named};
 ghost use Rattle.norm_ext.specs.Numbers.{form_number};
@@ -13,14 +15,15 @@ ghost use Rattle.norm_ext.specs.Asked.{Asked, asked_for, ends_of, asked_octets, 
 use crate::head::Item;
 use crate::header::ENCODING_ID;
 use crate::kinds::Form;
+use crate::places;
 use crate::pushing::{push_16, push_name};
 use norm_base::Datagram;
 use std::marker::Model;
 
 /// The octets of a request before its items.
-const FRONT: u16 = 4;
+const FRONT: u16 = places::REQUEST as u16;
 /// The octets of an item.
-const ITEM: u16 = 8;
+const ITEM: u16 = places::ITEM as u16;
 
 /// A writer of requests behind what a datagram has. `new`, then `push_item` for each item or range, on one datagram that
 /// nobody else changes meanwhile. An item joins the last request where it has the form and the flags of that.
@@ -38,17 +41,18 @@ pub struct RequestWriter {
 impl Model for RequestWriter {
     ghost use Rattle.std.specs.Prelude.{◌+◌, ◌≤◌, ◌≡◌, ◌⊎◌, Option, Some, None};
     ghost use Rattle.norm_ext.specs.Asked.{Writing};
+    ghost use Rattle.norm_ext.specs.Places.{request_front};
 
     ghost Value = { Writing };
 
     ghost view = { λ w. record { limit = w.limit; used = w.used; form = w.form; flags = w.flags; len = w.len } };
 
-    ghost invariant = { λ w. (w.used ≤ w.limit) × ((w.form ≡ None) ⊎ (4 + w.len ≤ w.used)) };
+    ghost invariant = { λ w. (w.used ≤ w.limit) × ((w.form ≡ None) ⊎ (request_front + w.len ≤ w.used)) };
 }
 
 /// Adds an item.
 fn push_one(item: &Item, out: &mut Datagram)
-    requires { length out.old + 8 ≤ 1500 }
+    requires { length out.old + item_width ≤ datagram_room }
     ensures { out.new ≡ out.old ++ item_octets (written_item item.now) }
 {
     out.push(&[ENCODING_ID, 0]);
@@ -58,8 +62,8 @@ fn push_one(item: &Item, out: &mut Datagram)
 
 /// The octets of an item, or of the two ends of a range.
 fn ends_len(last: &Option<Item>) -> u16
-    ensures exact { (first : Named) → result ≡ 8 * length (ends_of first last.now) }
-    ensures few { result ≤ 16 }
+    ensures exact { (first : Named) → result ≡ item_width * length (ends_of first last.now) }
+    ensures few { result ≤ 2 * item_width }
 {
     match last {
         Some(_) => 2 * ITEM,
@@ -69,7 +73,7 @@ fn ends_len(last: &Option<Item>) -> u16
 
 /// Adds an item, or the two ends of a range.
 fn push_ends(first: &Item, last: &Option<Item>, out: &mut Datagram)
-    requires { length out.old + 8 * length (ends_of first.now last.now) ≤ 1500 }
+    requires { length out.old + item_width * length (ends_of first.now last.now) ≤ datagram_room }
     ensures { out.new ≡ out.old ++ flat_map item_octets (ends_of first.now last.now) }
 {
     push_one(first, out);
@@ -104,7 +108,7 @@ impl RequestWriter {
 
     /// Makes the last request longer by so many octets of items, which come next.
     fn lengthen(&mut self, items: u16, out: &mut Datagram)
-        requires some { 4 + self.old.len ≤ self.old.used }
+        requires some { request_front + self.old.len ≤ self.old.used }
         requires used { self.old.used ≤ length out.old }
         requires fits { self.old.used + items ≤ self.old.limit }
         ensures out { let at = length out.old - (2 + self.old.len) in
@@ -119,11 +123,11 @@ impl RequestWriter {
 
     /// Begins a request with so many octets of items, which come next.
     fn begin(&mut self, form: Form, flags: u8, items: u16, out: &mut Datagram)
-        requires few { items ≤ 16 }
-        requires room { length out.old + 4 ≤ 1500 }
-        requires fits { self.old.used + (4 + items) ≤ self.old.limit }
+        requires few { items ≤ 2 * item_width }
+        requires room { length out.old + request_front ≤ datagram_room }
+        requires fits { self.old.used + (request_front + items) ≤ self.old.limit }
         ensures out { out.new ≡ out.old ++ form_number form ∷ flags ∷ big_bytes 2 items }
-        ensures writer { self.new ≡ record self.old { used = self.old.used + (4 + items); form = Some form; flags = flags; len = items } }
+        ensures writer { self.new ≡ record self.old { used = self.old.used + (request_front + items); form = Some form; flags = flags; len = items } }
     {
         out.push(&[form.number(), flags]);
         push_16(items, out);
@@ -145,7 +149,7 @@ impl RequestWriter {
     ) -> bool
         requires last { IsSome last ↔ (form ≡ forms.Ranges) }
         requires used { self.old.used ≤ length out.old }
-        requires room { length out.old + self.old.limit ≤ 1500 + self.old.used }
+        requires room { length out.old + self.old.limit ≤ datagram_room + self.old.used }
         // Where the writer has written what was asked for, behind what the datagram had, this is added to it.
         ensures added { (front : List ℕ) (asked : List Asked) → HasWritten self.old out.old front asked →
             MatchBool result
@@ -155,7 +159,7 @@ impl RequestWriter {
         ensures limit { self.new.limit ≡ self.old.limit }
         // So the next call may follow.
         ensures used { self.new.used ≤ length out.new }
-        ensures room { length out.new + self.new.limit ≤ 1500 + self.new.used }
+        ensures room { length out.new + self.new.limit ≤ datagram_room + self.new.used }
     {
         let items = ends_len(&last);
         let joins = self.joins(form, flags);

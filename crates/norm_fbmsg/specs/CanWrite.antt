@@ -1,6 +1,8 @@
 -- Which feedback can be written.
-use Rattle.std.specs.Prelude.{ℕ, ◌+◌, ◌≡◌, ◌≢◌, ◌≤◌, List, [], ◌∷◌, length}
+use Rattle.std.specs.Prelude.{ℕ, ◌+◌, ◌*◌, ◌≡◌, ◌≢◌, ◌≤◌, List, [], ◌∷◌, length}
 use Rattle.std.specs.List.{repeat}
+use Rattle.norm_base.specs.Sizes.{datagram_room}
+use Rattle.norm_ext.specs.Places.{word_size, most_header_words, feedback_header, item_width}
 use Rattle.norm_ext.specs.Numbers.{flush_ack}
 use Rattle.norm_ext.specs.Extensions.{IsChecked}
 use Rattle.norm_ext.specs.Requests.{IsRequests}
@@ -16,8 +18,8 @@ zero_list n = repeat n (0 ∷ [])
 -- whole extensions, a header of at most 255 words, and 1,500 octets in all
 pub record CanWriteParts (exts : List ℕ) (content : ℕ) : Type 0 where
   pub extensions : IsChecked exts
-  pub header : 24 + length exts ≤ 1020
-  pub most : 24 + length exts + content ≤ 1500
+  pub header : feedback_header + length exts ≤ word_size * most_header_words
+  pub most : feedback_header + length exts + content ≤ datagram_room
 
 pub record CanWriteNack (m : NackMsg) : Type 0 where
   pub parts : CanWriteParts m.exts.now (length m.requests.now)
@@ -25,7 +27,7 @@ pub record CanWriteNack (m : NackMsg) : Type 0 where
 
 -- the octets of what an acknowledgement holds
 abbrev pub body_length : AckBody → ℕ
-body_length (lent.Mark item) = 8
+body_length (lent.Mark item) = item_width
 body_length (lent.Opaque octets) = length octets.now
 
 -- a flush's acknowledgement, and no other, holds an item

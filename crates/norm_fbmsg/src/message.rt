@@ -6,10 +6,9 @@ ghost use Rattle.norm_fbmsg.specs.CanWrite.{CanWriteNack, CanWriteAck, CanWriteP
 
 use norm_base::{InstanceId, NodeId};
 use norm_ext::fitting::{are_requests, has_room};
+use norm_ext::places::{FEEDBACK, ITEM};
 use norm_ext::{Item, Requests, requests_of as requests_in};
 
-/// The octets of an item.
-pub(crate) const ITEM: usize = 8;
 /// The type of an acknowledgement that answers a FLUSH (RFC 5740 section 4.3.2).
 pub(crate) const FLUSH_ACK: u8 = 2;
 
@@ -55,7 +54,7 @@ pub struct AckMsg<'a> {
 fn parts_fit(exts: &[u8], content: usize) -> bool
     ensures { IsTrue result ↔ CanWriteParts exts.now content }
 {
-    has_room(24, exts, content)
+    has_room(FEEDBACK, exts, content)
 }
 
 impl<'a> NackMsg<'a> {

@@ -1,13 +1,19 @@
 //! Reading of feedback (RFC 5740 section 4.3).
 
 ghost use Rattle.std.specs.Prelude.{◌≡◌, ◌+◌, ◌*◌, ◌≤◌, ◌<◌, ◌^◌, Ok, Err, MatchResult, IfOk, OnOk, length};
+ghost use Rattle.norm_ext.specs.Places.{item_width};
+ghost use Rattle.norm_ext.specs.Numbers.{flush_ack};
 ghost use Rattle.norm_ext.specs.Reading.{nack_read, ack_read, ack_encoding_checked, ack_length_checked, ack_content_of};
 ghost use Rattle.norm_fbmsg.specs.View.{nack_of, ack_of, content_of};
 ghost use Rattle.norm_fbmsg.specs.Whole.{IsWholeNack, IsWholeAck};
 
-use crate::message::{AckBody, AckMsg, FLUSH_ACK, ITEM, NackMsg};
+use crate::message::{AckBody, AckMsg, FLUSH_ACK, NackMsg};
 use norm_base::InstanceId;
 use norm_ext::header::{ENCODING_ID, check_extensions, check_header, check_member, check_source};
+use norm_ext::places::{
+    ACK_ID_AT, ACK_TYPE_AT, FEEDBACK, FEEDBACK_INSTANCE_AT, ITEM, ITEM_NAME_AT, ITEM_OBJECT_AT,
+    SENDER_AT, SEQUENCE_AT,
+};
 use norm_ext::{Item, MessageType, Refusal, check_requests, read_16, read_32, read_name};
 
 /// The negative acknowledgement that the octets spell, or the first refusal.
@@ -17,16 +23,16 @@ pub fn read_nack(bytes: &[u8]) -> Result<NackMsg<'_>, Refusal>
     ensures whole { IfOk result IsWholeNack }
 {
     let end = check_header(MessageType::Nack, bytes)?;
-    let exts = check_extensions(bytes, 24, end)?;
+    let exts = check_extensions(bytes, FEEDBACK, end)?;
     let requests = bytes.split_at(end).1;
     check_requests(requests, end)?;
     let source = check_source(bytes)?;
-    let sender = check_member(read_32(bytes, 8))?;
+    let sender = check_member(read_32(bytes, SENDER_AT))?;
     Ok(NackMsg {
         source,
-        sequence: read_16(bytes, 2),
+        sequence: read_16(bytes, SEQUENCE_AT),
         sender,
-        instance: InstanceId(read_16(bytes, 12)),
+        instance: InstanceId(read_16(bytes, FEEDBACK_INSTANCE_AT)),
         exts,
         requests,
     })
@@ -49,7 +55,7 @@ fn check_ack_encoding(ack_type: u8, at: usize, content: &[u8]) -> Result<(), Ref
 /// The length of a flush's acknowledgement's content, which is one item.
 fn check_ack_length(ack_type: u8, content: &[u8]) -> Result<(), Refusal>
     ensures exact { result ≡ ack_length_checked ack_type content.now }
-    ensures item { OnOk result (ack_type ≡ 2 → length content.now ≡ 8) }
+    ensures item { OnOk result (ack_type ≡ flush_ack → length content.now ≡ item_width) }
 {
     let rest = content.len();
     if ack_type == FLUSH_ACK && rest != ITEM {
@@ -60,15 +66,15 @@ fn check_ack_length(ack_type: u8, content: &[u8]) -> Result<(), Refusal>
 
 /// What an acknowledgement of a type holds.
 fn body_of(ack_type: u8, content: &[u8]) -> AckBody<'_>
-    requires { ack_type ≡ 2 → length content.now ≡ 8 }
+    requires { ack_type ≡ flush_ack → length content.now ≡ item_width }
     ensures { content_of result ≡ ack_content_of ack_type content.now }
 {
     if ack_type != FLUSH_ACK {
         return AckBody::Opaque(content);
     }
     AckBody::Mark(Item {
-        object: read_16(content, 2),
-        id: read_name(content, 4),
+        object: read_16(content, ITEM_OBJECT_AT),
+        id: read_name(content, ITEM_NAME_AT),
     })
 }
 
@@ -79,20 +85,20 @@ pub fn read_ack(bytes: &[u8]) -> Result<AckMsg<'_>, Refusal>
     ensures whole { IfOk result IsWholeAck }
 {
     let end = check_header(MessageType::Ack, bytes)?;
-    let exts = check_extensions(bytes, 24, end)?;
+    let exts = check_extensions(bytes, FEEDBACK, end)?;
     let content = bytes.split_at(end).1;
-    check_ack_encoding(bytes[14], end, content)?;
+    check_ack_encoding(bytes[ACK_TYPE_AT], end, content)?;
     let source = check_source(bytes)?;
-    let sender = check_member(read_32(bytes, 8))?;
-    check_ack_length(bytes[14], content)?;
-    let body = body_of(bytes[14], content);
+    let sender = check_member(read_32(bytes, SENDER_AT))?;
+    check_ack_length(bytes[ACK_TYPE_AT], content)?;
+    let body = body_of(bytes[ACK_TYPE_AT], content);
     Ok(AckMsg {
         source,
-        sequence: read_16(bytes, 2),
+        sequence: read_16(bytes, SEQUENCE_AT),
         sender,
-        instance: InstanceId(read_16(bytes, 12)),
-        ack_type: bytes[14],
-        ack_id: bytes[15],
+        instance: InstanceId(read_16(bytes, FEEDBACK_INSTANCE_AT)),
+        ack_type: bytes[ACK_TYPE_AT],
+        ack_id: bytes[ACK_ID_AT],
         exts,
         body,
     })

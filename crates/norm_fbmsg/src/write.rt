@@ -1,6 +1,7 @@
 //! Writing of feedback (RFC 5740 section 4.3).
 
 ghost use Rattle.std.specs.Prelude.{◌≡◌, ◌+◌, ◌≤◌, ◌++◌, [], length};
+ghost use Rattle.norm_base.specs.Sizes.{datagram_room};
 ghost use Rattle.norm_ext.specs.Octets.{octets_of, content_octets};
 ghost use Rattle.norm_fbmsg.specs.View.{nack_of, ack_of, content_of};
 ghost use Rattle.norm_fbmsg.specs.CanWrite.{CanWriteParts, CanWriteNack, CanWriteAck, body_length, zero_list};
@@ -12,6 +13,7 @@ use crate::message::{AckBody, AckMsg, NackMsg};
 use norm_base::Datagram;
 use norm_ext::MessageType;
 use norm_ext::header::ENCODING_ID;
+use norm_ext::places::{FEEDBACK_WORDS, WORD};
 use norm_ext::pushing::{push_16, push_front, push_instance, push_name, push_node};
 
 /// Writes a negative acknowledgement with these extensions and requests.
@@ -21,7 +23,7 @@ fn write_nack_parts(msg: &NackMsg<'_>, exts: &[u8], requests: &[u8], out: &mut D
     requires whole { IsRequests requests.now }
     ensures { out.new ≡ octets_of (Nack (record { source = msg.now.source; sequence = msg.now.sequence; sender = msg.now.sender; instance = msg.now.instance; extensions = extensions_of exts.now; requests = requests_of requests.now })) }
 {
-    let words = (6 + exts.len() / 4) as u8;
+    let words = FEEDBACK_WORDS + (exts.len() / WORD) as u8;
     push_front(
         MessageType::Nack.number(),
         words,
@@ -48,7 +50,7 @@ pub fn write_nack(msg: &NackMsg<'_>, out: &mut Datagram)
 
 /// Adds what an acknowledgement holds.
 fn push_body(body: &AckBody<'_>, out: &mut Datagram)
-    requires { length out.old + body_length body.now ≤ 1500 }
+    requires { length out.old + body_length body.now ≤ datagram_room }
     ensures { out.new ≡ out.old ++ content_octets (content_of body.now) (zero_list 1) }
 {
     match body {
@@ -67,7 +69,7 @@ fn write_ack_parts(msg: &AckMsg<'_>, exts: &[u8], out: &mut Datagram)
     requires parts { CanWriteParts exts.now (body_length msg.now.body) }
     ensures { out.new ≡ octets_of (Ack (record { source = msg.now.source; sequence = msg.now.sequence; sender = msg.now.sender; instance = msg.now.instance; ack_type = msg.now.ack_type; ack_id = msg.now.ack_id; extensions = extensions_of exts.now; content = content_of msg.now.body })) }
 {
-    let words = (6 + exts.len() / 4) as u8;
+    let words = FEEDBACK_WORDS + (exts.len() / WORD) as u8;
     push_front(
         MessageType::Ack.number(),
         words,

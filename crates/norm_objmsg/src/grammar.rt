@@ -9,16 +9,25 @@ ghost use Rattle.std.specs.Option.{option_map};
 ghost use Rattle.norm_ext.specs.Extensions.{extensions_of, IsChecked};
 ghost use Rattle.norm_ext.specs.Message.{Info, Data};
 ghost use Rattle.norm_ext.specs.Octets.{octets_of};
+ghost use Rattle.norm_ext.specs.Places.{info_header, data_header};
 ghost use Rattle.norm_objmsg.specs.CanWriteMessage.{CanWrite};
 
-use fec_plan::PayloadId;
+use fec_plan::{PLACE_OCTETS, PayloadId};
 use norm_base::Datagram;
 use norm_ext::fitting::{has_room, is_narrow};
 use norm_ext::header::{
     check_encoding, check_extensions, check_header, check_source, read_object_head,
 };
+use norm_ext::places::{DATA, DATA_WORDS, ENCODING_AT, INFO, INFO_WORDS, NAME_AT, WORD};
 use norm_ext::pushing::{push_front, push_name, push_object_head};
 use norm_ext::{MessageType, ObjHead, Refusal, read_16, read_32, read_name};
+
+/// The octets of a segment's place, and the places there of where a message starts and of the segment's offset.
+const PLACE: usize = PLACE_OCTETS as usize;
+
+const MSG_START_AT: usize = 2;
+
+const OFFSET_AT: usize = 4;
 
 /// NORM_INFO: an object's info.
 #[derive(Clone, Copy, Debug, PartialEq, Eq)]
@@ -43,18 +52,19 @@ impl<'a> InfoMsg<'a> {
     /// Whether it can be written: its extensions are whole, its header has at most 255 words, the whole at most 1,500
     /// octets, and `backoff` and `gsize` are below 16.
     pub fn fits(&self) -> bool
-        ensures { IsTrue result ↔ CanWrite 16 self.now.head self.now.exts.now self.now.info.now }
+        ensures { IsTrue result ↔ CanWrite info_header self.now.head self.now.exts.now self.now.info.now }
     {
-        is_narrow(self.head.backoff, self.head.gsize) && has_room(16, self.exts, self.info.len())
+        is_narrow(self.head.backoff, self.head.gsize) && has_room(INFO, self.exts, self.info.len())
     }
 }
 
 impl<'a> DataMsg<'a> {
     /// Whether it can be written, as `InfoMsg::fits`.
     pub fn fits(&self) -> bool
-        ensures { IsTrue result ↔ CanWrite 20 self.now.head self.now.exts.now self.now.payload.now }
+        ensures { IsTrue result ↔ CanWrite data_header self.now.head self.now.exts.now self.now.payload.now }
     {
-        is_narrow(self.head.backoff, self.head.gsize) && has_room(20, self.exts, self.payload.len())
+        is_narrow(self.head.backoff, self.head.gsize)
+            && has_room(DATA, self.exts, self.payload.len())
     }
 }
 
@@ -78,8 +88,8 @@ pub fn read_info(bytes: &[u8]) -> Result<InfoMsg<'_>, Refusal>
     ensures whole { IfOk result (λ m. IsChecked m.exts.now) }
 {
     let end = check_header(MessageType::Info, bytes)?;
-    check_encoding(bytes[13])?;
-    let exts = check_extensions(bytes, 16, end)?;
+    check_encoding(bytes[ENCODING_AT])?;
+    let exts = check_extensions(bytes, INFO, end)?;
     let source = check_source(bytes)?;
     Ok(InfoMsg {
         head: read_object_head(bytes, source),
@@ -96,12 +106,12 @@ pub fn read_data(bytes: &[u8]) -> Result<DataMsg<'_>, Refusal>
     ensures whole { IfOk result (λ m. IsChecked m.exts.now) }
 {
     let end = check_header(MessageType::Data, bytes)?;
-    check_encoding(bytes[13])?;
-    let exts = check_extensions(bytes, 20, end)?;
+    check_encoding(bytes[ENCODING_AT])?;
+    let exts = check_extensions(bytes, DATA, end)?;
     let source = check_source(bytes)?;
     Ok(DataMsg {
         head: read_object_head(bytes, source),
-        id: read_name(bytes, 16),
+        id: read_name(bytes, NAME_AT),
         exts,
         payload: bytes.split_at(end).1,
     })
@@ -112,28 +122,28 @@ pub fn read_data(bytes: &[u8]) -> Result<DataMsg<'_>, Refusal>
 pub fn read_part(payload: &[u8]) -> Option<StreamPart<'_>>
     ensures { option_map part_of result ≡ segment_in payload.now }
 {
-    if payload.len() < 8 {
+    if payload.len() < PLACE {
         return None;
     }
     let len = read_16(payload, 0);
-    if payload.len() < 8 + usize::from(len) {
+    if payload.len() < PLACE + usize::from(len) {
         return None;
     }
     Some(StreamPart {
         len,
-        msg_start: read_16(payload, 2),
-        offset: read_32(payload, 4),
-        octets: payload.split_at(8).1.split_at(usize::from(len)).0,
+        msg_start: read_16(payload, MSG_START_AT),
+        offset: read_32(payload, OFFSET_AT),
+        octets: payload.split_at(PLACE).1.split_at(usize::from(len)).0,
     })
 }
 
 /// Writes the parts of a NORM_INFO message.
 fn write_info_parts(head: &ObjHead, exts: &[u8], info: &[u8], out: &mut Datagram)
     requires empty { out.old ≡ [] }
-    requires parts { CanWrite 16 head.now exts.now info.now }
+    requires parts { CanWrite info_header head.now exts.now info.now }
     ensures { out.new ≡ octets_of (Info (record { head = head.now; extensions = extensions_of exts.now; info = info.now })) }
 {
-    let words = (4 + exts.len() / 4) as u8;
+    let words = INFO_WORDS + (exts.len() / WORD) as u8;
     push_front(
         MessageType::Info.number(),
         words,
@@ -149,7 +159,7 @@ fn write_info_parts(head: &ObjHead, exts: &[u8], info: &[u8], out: &mut Datagram
 /// Writes the message into the empty datagram: the octets that spell it.
 pub fn write_info(msg: &InfoMsg<'_>, out: &mut Datagram)
     requires empty { out.old ≡ [] }
-    requires message { CanWrite 16 msg.now.head msg.now.exts.now msg.now.info.now }
+    requires message { CanWrite info_header msg.now.head msg.now.exts.now msg.now.info.now }
     ensures { out.new ≡ octets_of (info_of msg.now) }
 {
     write_info_parts(&msg.head, msg.exts, msg.info, out);
@@ -158,10 +168,10 @@ pub fn write_info(msg: &InfoMsg<'_>, out: &mut Datagram)
 /// Writes the parts of a NORM_DATA message.
 fn write_data_parts(head: &ObjHead, id: &PayloadId, exts: &[u8], payload: &[u8], out: &mut Datagram)
     requires empty { out.old ≡ [] }
-    requires parts { CanWrite 20 head.now exts.now payload.now }
+    requires parts { CanWrite data_header head.now exts.now payload.now }
     ensures { out.new ≡ octets_of (Data (record { head = head.now; id = id.now; extensions = extensions_of exts.now; payload = payload.now })) }
 {
-    let words = (5 + exts.len() / 4) as u8;
+    let words = DATA_WORDS + (exts.len() / WORD) as u8;
     push_front(
         MessageType::Data.number(),
         words,
@@ -178,7 +188,7 @@ fn write_data_parts(head: &ObjHead, id: &PayloadId, exts: &[u8], payload: &[u8],
 /// Writes the message into the empty datagram: the octets that spell it.
 pub fn write_data(msg: &DataMsg<'_>, out: &mut Datagram)
     requires empty { out.old ≡ [] }
-    requires message { CanWrite 20 msg.now.head msg.now.exts.now msg.now.payload.now }
+    requires message { CanWrite data_header msg.now.head msg.now.exts.now msg.now.payload.now }
     ensures { out.new ≡ octets_of (data_of msg.now) }
 {
     write_data_parts(&msg.head, &msg.id, msg.exts, msg.payload, out);

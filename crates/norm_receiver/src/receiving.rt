@@ -81,8 +81,7 @@ fn place_of(index: u32, brought: &Brought<'_>) -> Position
 /// The transmission information among whole extensions, where it is there.
 fn fti_among(exts: &[u8]) -> Option<Fti>
     requires { IsChecked exts.now }
-    ensures exact { result ≡ fti_of (extensions_of exts.now) }
-    ensures fits { IfSome result (λ fti. fti.l < 2 ^ 48) }
+    ensures { result ≡ fti_of (extensions_of exts.now) }
 {
     match Extensions::check(exts) {
         Ok(exts) => read_fti(exts),
@@ -143,7 +142,6 @@ fn keep_told(
     flags: u8,
     brought: &Brought<'_>,
 ) -> Result<(), Memory>
-    requires length { fti.now.l < 2 ^ 48 }
     requires last { index < 4294967295 }
     requires object { says_stream flags ≡ false }
     ensures profile { hold.new.p ≡ hold.old.p }

@@ -67,7 +67,6 @@ fn put_info_front(head: &ObjHead, fti: &Fti, out: &mut Datagram)
     requires empty { out.old ≡ [] }
     requires backoff { head.now.backoff < 16 }
     requires gsize { head.now.gsize < 16 }
-    requires fits { fti.now.l < 2 ^ 48 }
     ensures { out.new ≡ octets_of (Info (record { head = head.now; extensions = fti_extension fti.now ∷ []; info = [] })) }
 {
     let exts = fti_words(fti);
@@ -86,7 +85,6 @@ fn put_data_front(head: &ObjHead, id: &PayloadId, fti: &Fti, out: &mut Datagram)
     requires empty { out.old ≡ [] }
     requires backoff { head.now.backoff < 16 }
     requires gsize { head.now.gsize < 16 }
-    requires fits { fti.now.l < 2 ^ 48 }
     ensures { out.new ≡ octets_of (Data (record { head = head.now; id = id.now; extensions = fti_extension fti.now ∷ []; payload = [] })) }
 {
     let exts = fti_words(fti);
@@ -148,7 +146,6 @@ pub(crate) fn write_info_front(
     fti: &Fti,
     out: &mut Datagram,
 )
-    requires fits { fti.now.l < 2 ^ 48 }
     ensures exact { out.new ≡ octets_of (Info (record { head = object_front profile.now pace.now index flags; extensions = fti_extension fti.now ∷ []; info = [] })) }
     ensures size { length out.new ≡ 28 }
 {
@@ -166,7 +163,6 @@ pub(crate) fn write_data_front(
     fti: &Fti,
     out: &mut Datagram,
 )
-    requires fits { fti.now.l < 2 ^ 48 }
     ensures exact { out.new ≡ octets_of (Data (record { head = object_front profile.now pace.now at.now.index flags; id = record { block = at.now.block; symbol = at.now.symbol }; extensions = fti_extension fti.now ∷ []; payload = [] })) }
     ensures size { length out.new ≡ 32 }
 {

@@ -4,7 +4,7 @@ ghost use Rattle.std.specs.Prelude.{◌≡◌, ◌∷◌, [], false, true};
 ghost use Rattle.fec_plan.specs.Partition.{cut_of};
 ghost use Rattle.nack_union.specs.Kept.{admitted};
 
-use fec_plan::{Plan, Position};
+use fec_plan::{PayloadId, Plan, Position};
 use nack_union::{Closed, Union, Want};
 use norm_base::{Memory, Profile};
 use norm_ext::flags::{WANT_BLOCK, WANT_INFO, WANT_OBJECT, WANT_SEGMENT};
@@ -96,12 +96,13 @@ fn take_all(union: &mut Union) -> u32 {
 
 fn want_of(at: At) -> Want {
     let (index, block, symbol) = at;
-    let index = u32::from(index);
+    let [_, b0, b1, b2] = block.to_be_bytes();
+    let id = PayloadId::read([b0, b1, b2, symbol]);
     Want::Symbol {
         at: Position {
-            index,
-            block,
-            symbol,
+            index: u32::from(index),
+            block: id.block,
+            symbol: id.symbol,
         },
     }
 }

@@ -12,7 +12,7 @@ use std::process::Abort;
 use std::test::Fail;
 
 /// A symbol's place: the object's index, the block and the symbol.
-type At = (u32, u32, u8);
+type At = (u32, u16, u8);
 
 /// Transmission information: an object's octets and those of a symbol, the source and the encoded symbols of a block.
 type Cut = (u64, u16, u8, u8);
@@ -81,17 +81,18 @@ fn is_taken_back(hold: &mut Hold, index: u32, cut: Cut) -> Result<bool, Memory> 
 /// The word that a symbol gets. `None`: it can't be put.
 fn put(hold: &mut Hold, at: At, octets: usize, first: u8) -> Result<Option<Put>, Memory> {
     let (index, block, symbol) = at;
-    if block >= 16_777_216 || octets > 1400 {
+    if octets > 1400 {
         return Ok(None);
     }
     let mut payload = [0; 1400];
     payload[0] = first;
+    let block = u32::from(block);
     let word = hold.put(index, PayloadId { block, symbol }, &payload[..octets])?;
     Ok(Some(word))
 }
 
 /// Whether each source symbol of a block of the largest object is kept; its last symbol is short.
-fn keeps_block(hold: &mut Hold, block: u32) -> Result<bool, Memory> {
+fn keeps_block(hold: &mut Hold, block: u16) -> Result<bool, Memory> {
     let sources = if block < 44 { 200u8 } else { 199 };
     for symbol in 0..sources {
         let octets = if block == 59 && symbol == 198 {
@@ -108,7 +109,7 @@ fn keeps_block(hold: &mut Hold, block: u32) -> Result<bool, Memory> {
 
 /// Whether each source symbol of the largest object is kept.
 fn keeps_largest(hold: &mut Hold) -> Result<bool, Memory> {
-    for block in 0..60u32 {
+    for block in 0..60u16 {
         if !keeps_block(hold, block)? {
             return Ok(false);
         }
@@ -216,7 +217,7 @@ fn holds(hold: &Hold, at: At) -> bool {
     let (index, block, symbol) = at;
     let at = Position {
         index,
-        block,
+        block: u32::from(block),
         symbol,
     };
     let first = hold.hand_up().point();

@@ -108,13 +108,13 @@ impl Standing {
 }
 
 /// A position: the object's index, the block and the symbol.
-type At = (u32, u32, u8);
+type At = (u32, u16, u8);
 
 fn position(at: At) -> Position {
     let (index, block, symbol) = at;
     Position {
         index,
-        block,
+        block: u32::from(block),
         symbol,
     }
 }
@@ -209,7 +209,7 @@ fn sent(alloc: Global, window: &mut Standing, at: At) -> Result<Option<(u16, u8)
 
 fn send_all(alloc: Global, window: &mut Standing, index: u32) -> Result<(), Memory> {
     let mut out = Datagram::new(alloc)?;
-    for block in 0..4u32 {
+    for block in 0..4u16 {
         for symbol in 0..188u8 {
             window.send(position((index, block, symbol)), &mut out);
         }

@@ -155,7 +155,7 @@ pub fn octets_of(place: &Option<Object>) -> u64
     ensures { result ≡ octets_in (option_to_list place.now) }
 {
     match place {
-        Some(object) => object.fti().l,
+        Some(object) => object.octets(),
         None => 0,
     }
 }
@@ -175,7 +175,7 @@ impl Front {
         let Some(object) = take_whole(&mut self.ring) else {
             return false;
         };
-        self.taken -= object.fti().l;
+        self.taken -= object.octets();
         self.ups.push_back(object.into_up()).unwrap();
         self.point += 1;
         true

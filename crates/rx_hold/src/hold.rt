@@ -1,7 +1,7 @@
 //! What a receiver holds of objects that it did not hand up yet.
 
 ghost use Rattle.std.specs.Prelude.{ℕ, List, [], ◌≡◌, ◌==◌, ◌&&◌, ◌||◌, nat_le, nat_lt, if◌then◌else◌, ◌+◌, ◌<◌, ◌≤◌, ◌^◌, not, length, IfOk, IfErr, IfNone, IfSome, OnErr, MatchOption, MatchResult, Option, None, Some, is_ok, is_some, false, true, ⊤};
-ghost use Rattle.fec_plan.specs.Partition.{blocks};
+ghost use Rattle.fec_plan.specs.Partition.{blocks, cut_of, first_fault};
 ghost use Rattle.fec_plan.specs.Points.{point as point_at, point_of, point_before, position};
 ghost use Rattle.norm_receive_rules.specs.Holding.{Holding, holding_nothing};
 ghost use Rattle.norm_receive_rules.specs.Plans.{cut_of_plan, cut_by, says_info, says_stream, plan_of, holds, info_of};
@@ -21,7 +21,7 @@ ghost use Rattle.rx_hold.specs.HoldSound.{are_same, octets_in, MayTake, MayInfor
 
 use crate::front::{Front, PLACES, fill, object_at, octets_of, offer_at, put_info_at, take_at};
 use crate::object::Object;
-use fec_plan::{PayloadId, Plan, Point, Position};
+use fec_plan::{PayloadId, Plan, PlanFault, Point, Position};
 use norm_base::{Memory, Octets, Profile};
 use norm_ext::Fti;
 use norm_order::Up;
@@ -66,11 +66,19 @@ fn known_word(fti: &Fti, known: &Fti) -> Fit
     }
 }
 
-/// Whether a plan with these numbers is of the profile.
-fn is_of(profile: &Profile, e: u16, b: u8, max_n: u8) -> bool
-    ensures { result ≡ (e == profile.now.e && b == profile.now.b && max_n == profile.now.max_n) }
+/// Whether a plan with these symbols, and the blocks that transmission information says, is of the profile.
+fn is_of(profile: &Profile, e: u16, fti: &Fti) -> bool
+    ensures { result ≡ (e == profile.now.e && fti.now.b == profile.now.b && fti.now.max_n == profile.now.max_n) }
 {
-    e == profile.e && b == profile.b && max_n == profile.max_n
+    e == profile.e && fti.b == profile.b && fti.max_n == profile.max_n
+}
+
+/// The plan of an object with this transmission information, or what is wrong with it.
+fn plan_by(fti: &Fti) -> Result<Plan, PlanFault>
+    ensures { let cut = cut_of fti.now.l fti.now.e fti.now.b fti.now.max_n in
+        MatchResult result (λ plan. (first_fault cut ≡ None) × (plan ≡ cut)) (λ fault. first_fault cut ≡ Some fault) }
+{
+    Plan::of(fti.l, fti.e, fti.b, fti.max_n)
 }
 
 /// Whether an info is too long, or the object has none.
@@ -259,7 +267,6 @@ impl Hold {
 
     /// The plan by which an object is taken up with this transmission information, or the word that it gets instead.
     fn plan_for(&self, index: u32, fti: &Fti, flags: u8) -> Result<Plan, Fit>
-        requires length { fti.now.l < 2 ^ 48 }
         requires object { says_stream flags ≡ false }
         ensures word { (s : Holding) → Stands self.now s → MatchResult result (λ _. fit_of self.now.p s index fti.now flags ≡ fit_word.Taken)
             (λ word. (word ≡ fit_of self.now.p s index fti.now flags) × (fitted word index fti.now flags s ≡ s)) }
@@ -274,26 +281,25 @@ impl Hold {
         if let Some(object) = object_at(&self.front.ring, self.front.point, index) {
             return Err(known_word(fti, &object.fti()));
         }
-        if self.is_away(index, fti.l) {
+        if self.is_away(index, fti) {
             return Err(Fit::Away);
         }
-        let Ok(plan) = Plan::of(fti.l, fti.e, fti.b, fti.max_n) else {
+        let Ok(plan) = plan_by(fti) else {
             return Err(Fit::Unfit);
         };
-        if !is_of(&self.front.profile, plan.e(), fti.b, fti.max_n) {
+        if !is_of(&self.front.profile, plan.e(), fti) {
             return Err(Fit::Unfit);
         }
         Ok(plan)
     }
 
-    /// Whether an object that is not over is too far ahead, or there is no room for so many octets.
-    fn is_away(&self, index: u32, l: u64) -> bool
+    /// Whether an object that is not over is too far ahead, or there is no room for its octets.
+    fn is_away(&self, index: u32, fti: &Fti) -> bool
         requires reached { self.now.point.index ≤ index }
-        requires length { l < 2 ^ 48 }
-        ensures { result ≡ (nat_le (self.now.point.index + most_ahead) index || nat_lt self.now.p.octets (octets_in self.now.objects + l)) }
+        ensures { result ≡ (nat_le (self.now.point.index + most_ahead) index || nat_lt self.now.p.octets (octets_in self.now.objects + fti.now.l)) }
     {
         (index - self.front.point) as usize >= PLACES
-            || self.front.taken + l > u64::from(self.front.profile.octets)
+            || self.front.taken + fti.l > u64::from(self.front.profile.octets)
     }
 
     /// Takes up an object with this plan.
@@ -309,9 +315,10 @@ impl Hold {
     {
         let object = Object::new(self.alloc, index, fti, flags, plan)?;
         self.front.ups.reserve(PLACES)?;
+        let octets = object.octets();
         let place = (index - self.front.point) as usize;
         self.front.ring[place] = Some(object);
-        self.front.taken += fti.l;
+        self.front.taken += octets;
         Ok(())
     }
 
@@ -326,7 +333,6 @@ impl Hold {
     ///
     /// `Memory` where memory runs out; then nothing changes.
     pub fn fti(&mut self, index: u32, fti: &Fti, flags: u8) -> Result<Fit, Memory>
-        requires length { fti.now.l < 2 ^ 48 }
         requires last { index < 4294967295 }
         requires object { says_stream flags ≡ false }
         ensures profile { self.new.p ≡ self.old.p }

@@ -156,6 +156,13 @@ impl Object {
         self.fti
     }
 
+    /// How many octets the object has.
+    pub fn octets(&self) -> u64
+        ensures { result ≡ self.now.plan.fti.l }
+    {
+        self.fti.l
+    }
+
     /// Its flags.
     pub fn flags(&self) -> u8
         ensures { result ≡ self.now.plan.flags }

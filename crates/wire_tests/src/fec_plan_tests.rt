@@ -83,11 +83,11 @@ fn a_name_is_24_bits_of_block_and_8_of_symbol(rt: HostRuntime) {
 }
 
 /// A position.
-fn position(at: (u32, u32, u8)) -> Position {
+fn position(at: (u32, u16, u8)) -> Position {
     let (index, block, symbol) = at;
     Position {
         index,
-        block,
+        block: u32::from(block),
         symbol,
     }
 }

@@ -12,4 +12,6 @@ mod norm_codec_tests;
 #[cfg(test)]
 mod norm_objmsg_tests;
 #[cfg(test)]
+mod norm_text_tests;
+#[cfg(test)]
 mod rs_block_tests;

@@ -5,4 +5,4 @@ use Rattle.norm_receiver.proofs.receiving.keep_object.Goals as goal
 pub returns-in-Some-clause-state : goal.returns-in-Some-clause-state
 returns-in-Some-clause-state c =
     told_leaves c.keep_told.result c.args.hold.now.p c.args.index c.args.flags c.args.brought.now (extensions_of c.args.exts.now) c.in-Some.fti
-    c.args.hold.now c.keep_told.new.hold c.in-Some.ensures.exact c.keep_told.ensures.state
+    c.args.hold.now c.keep_told.new.hold c.in-Some.ensures c.keep_told.ensures.state

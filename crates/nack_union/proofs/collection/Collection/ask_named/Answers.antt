@@ -11,7 +11,7 @@ use Rattle.nack_union.proofs.collection.Collection.ask_named.Goals as goal
 
 pub ask_range-requires-clause-high : goal.ask_range-requires-clause-high
 ask_range-requires-clause-high c = λ some.
-    let top = c.min-to.ensures in let less = c.saturating_sub.ensures in
+    let top = c.min-to.ensures in let less = c.place_behind.ensures in
     omega (arith, some, top, less)
 
 abbrev items : (c : goal.After-self-3-1) → List Marked
@@ -24,7 +24,7 @@ same_length : (c : goal.After-self-3-1) → length c.ask_range.new.objects ≡ l
 same_length c = c.ask_range.auto.objects ∙ ap length c.deref_mut.ensures.value
 
 -- what the loop leaves as it is, in the union's own objects
-kept : (c : goal.After-self-3-1) → (k : ℕ) (d : Marked) → (k < c.saturating_sub-from.result) ⊎ (c.min-to.result ≤ k)
+kept : (c : goal.After-self-3-1) → (k : ℕ) (d : Marked) → (k < c.place_from-from.result) ⊎ (c.min-to.result ≤ k)
     → get_or c.ask_range.new.objects k d ≡ get_or c.self.inside.objects.items k d
 kept c k d out = c.ask_range.ensures.rest k d out ∙ ap (λ (ms : List Marked). get_or ms k d) c.deref_mut.ensures.value
 
@@ -32,17 +32,17 @@ pub invariant_of-self : goal.invariant_of-self
 invariant_of-self c = record {
   few = let few = c.self.invariant.few in let same = ap length (now c) ∙ same_length c in omega (arith, few, same);
   idle = subst (AreIdle c.min-self-inside.result c.max-self-inside.result) (sym (now c))
-      (idle_kept c.self.inside.low c.self.inside.high c.saturating_sub-from.result c.min-to.result c.min-self-inside.result c.max-self-inside.result
+      (idle_kept c.self.inside.low c.self.inside.high c.place_from-from.result c.min-to.result c.min-self-inside.result c.max-self-inside.result
       c.self.inside.objects.items c.ask_range.new.objects c.min-self-inside.ensures c.max-self-inside.ensures (same_length c) (kept c) c.self.invariant.idle);
 }
 
 each : (c : goal.After-self-3-1) → (k : ℕ) (d : Marked) → k < length c.self.inside.objects.items
     → MoreOf (named_part c.args.named.flags (span c.args.named.first c.args.named.last)) (c.self.inside.first + k) (get_or c.self.inside.objects.items k d) (get_or c.ask_range.new.objects k d)
 each c =
-    named_in_all c.args.named.flags (span c.args.named.first c.args.named.last) c.self.inside.first c.saturating_sub-from.result c.min-to.result
-    c.self.inside.objects.items c.ask_range.new.objects c.saturating_sub-from.ensures
-    (c.min-to.ensures ∙ ap (λ n. min n c.len.result) c.saturating_sub.ensures ∙ ap (min (c.args.named.last.index + 1 - c.self.inside.first)) (c.len.ensures ∙ sym c.deref_mut.ensures.len ∙ ap length c.deref_mut.ensures.value))
-    (subst (λ (ms : List Marked). (k : ℕ) (d : Marked) → k < length ms → c.saturating_sub-from.result ≤ k → k < c.min-to.result
+    named_in_all c.args.named.flags (span c.args.named.first c.args.named.last) c.self.inside.first c.place_from-from.result c.min-to.result
+    c.self.inside.objects.items c.ask_range.new.objects c.place_from-from.ensures
+    (c.min-to.ensures ∙ ap (λ n. min n c.len.result) c.place_behind.ensures ∙ ap (min (c.args.named.last.index + 1 - c.self.inside.first)) (c.len.ensures ∙ sym c.deref_mut.ensures.len ∙ ap length c.deref_mut.ensures.value))
+    (subst (λ (ms : List Marked). (k : ℕ) (d : Marked) → k < length ms → c.place_from-from.result ≤ k → k < c.min-to.result
     → MoreOf (named_part c.args.named.flags (span c.args.named.first c.args.named.last)) (c.self.inside.first + k) (get_or ms k d) (get_or c.ask_range.new.objects k d))
     c.deref_mut.ensures.value c.ask_range.ensures.each)
     (kept c)

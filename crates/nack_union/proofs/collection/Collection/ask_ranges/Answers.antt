@@ -12,7 +12,7 @@ pub pairs-preserved-in-Some-ends_of : goal.pairs-preserved-in-Some-ends_of
 pairs-preserved-in-Some-ends_of c = λ u more.
     c.pairs.invariant u
     (subst (λ (xs : List Item). HasPart (ranges_part c.args.flags (pairs_spans c.args.profile.now c.args.known xs)) c.pairs.self u) (sym c.in-Some.ensures)
-    (pair_more c.args.profile.now c.args.known c.args.flags c.in-Some.first c.in-Some.last c.in-Some-ends_of.from c.in-Some-ends_of.to (items_named c.in-Some.behind.now)
+    (pair_more c.args.profile.now c.args.known c.args.flags c.in-Some.first c.in-Some.last c.in-Some-ends_of.ends.0 c.in-Some-ends_of.ends.1 (items_named c.in-Some.behind.now)
     c.pairs.self c.ask_pair.new.self u c.in-Some-ends_of.ensures c.ask_pair.ensures more))
 
 pub pairs-preserved : goal.pairs-preserved

@@ -1,7 +1,8 @@
-use Rattle.std.proofs.Common.{◌-◌, ◌<◌, length, subst, sym, ap, ◌∙◌, arith, ℕ}
-use Rattle.std.specs.Prelude.{nat_lt}
+use Rattle.std.proofs.Common.{◌≡◌, ◌-◌, ◌<◌, length, Some, subst, sym, ap, ◌∙◌, arith, ℕ}
+use Rattle.std.specs.Prelude.{nat_lt, slice_get}
 use Rattle.norm_order.specs.Sets.{with_member}
 use Rattle.fec_plan.specs.Partition.{blocks}
+use Rattle.fec_plan.specs.Points.{Position}
 use Rattle.nack_union.specs.Slots.{slots, symbol_slot}
 use Rattle.nack_union.specs.Kept.{Kept, Marked, Holds, IsEncodedIn}
 use Rattle.nack_union.proofs.Wholes.{slot_there}
@@ -18,10 +19,11 @@ returns-clause-stands c = λ p s st.
     let many = ap (λ (u : Kept). length u.objects) view in
     let from = c.requires.first in
     let to = c.requires.object in
-    stands_noted p s _ (c.args.at.index - c.self.inside.first) c.args.at c.note_sent.new.self c.index_mut-object.result.now
-    (omega (arith, first, many, from, to)) (omega (arith, first, from)) (omega arith)
+    let at = ap (λ (x : Position). x.index) c.at.view_is in
+    stands_noted p s _ (c.at.inside.index - c.self.inside.first) c.args.at c.note_sent.new.self c.index_mut-object.result.now
+    (omega (arith, first, many, from, to, at)) (omega (arith, first, from, at)) (omega arith)
     (c.note_sent.ensures
-    ∙ ap (λ (n : ℕ). record (c.index_mut-object.result.now) { sent = with_member nat_lt n c.index_mut-object.result.now.sent }) c.slot_of.ensures.slot
+    ∙ ap (λ (n : ℕ). record (c.index_mut-object.result.now) { sent = with_member nat_lt n c.index_mut-object.result.now.sent }) (c.slot_of.ensures.slot ∙ ap (λ (x : Position). symbol_slot x.block x.symbol) c.at.view_is)
     ∙ ap (λ (m : Marked). record m { sent = with_member nat_lt (symbol_slot c.args.at.block c.args.at.symbol) m.sent }) c.index_mut-object.ensures.value)
     (subst (λ (u : Kept). Holds p u s) (sym view) st)
 
@@ -32,9 +34,10 @@ returns-clause-collects c = λ p s asked col.
     let many = ap (λ (u : Kept). length u.objects) view in
     let from = c.requires.first in
     let to = c.requires.object in
+    let at = ap (λ (x : Position). x.index) c.at.view_is in
     let there = c.index_mut-object.ensures.value in
-    let kept = collects_kept p s (record { first = c.self.inside.first; objects = c.self.inside.objects.items; earliest = c.self.inside.earliest }) asked (c.args.at.index - c.self.inside.first) c.note_sent.new.self c.index_mut-object.result.now
-    (omega (arith, first, many, from, to))
+    let kept = collects_kept p s (record { first = c.self.inside.first; objects = c.self.inside.objects.items; earliest = c.self.inside.earliest }) asked (c.at.inside.index - c.self.inside.first) c.note_sent.new.self c.index_mut-object.result.now
+    (omega (arith, first, many, from, to, at))
     (ap (λ (m : Marked). m.asked) c.note_sent.ensures ∙ ap (λ (m : Marked). m.asked) there) (ap (λ (m : Marked). m.counts) c.note_sent.ensures ∙ ap (λ (m : Marked). m.counts) there)
     (subst (λ (u : Kept). Collects p u s asked) (sym view) col) in
     record { known = kept.known; named = kept.named; counts = kept.counts; earliest = kept.earliest }
@@ -42,10 +45,14 @@ returns-clause-collects c = λ p s asked col.
 pub note_sent-requires : goal.note_sent-requires
 note_sent-requires c =
     let view = c.self.view_is in
+    let items = c.self.inside.objects.items in
     let m = c.index_mut-object.result.now in
     let first = ap (λ (u : Kept). u.first) view in
     let many = ap (λ (u : Kept). length u.objects) view in
+    let at = ap (λ (x : Position). x.index) c.at.view_is in
     let encoded = subst (λ (u : Kept). IsEncodedIn u c.args.at) (sym view) c.requires in
-    subst (λ n. n < slots (blocks m.cut)) (sym c.slot_of.ensures.slot)
-    (slot_there m c.args.at.block c.args.at.symbol c.hold.ensures.planned.sound (encoded.symbol m (there_at c.self.inside.objects.items (c.args.at.index - c.self.inside.first) m
-    (omega (arith, first, many, encoded.first, encoded.object)) c.index_mut-object.ensures.value)) c.slot_of.ensures.named)
+    let there = there_at items (c.at.inside.index - c.self.inside.first) m (omega (arith, first, many, encoded.first, encoded.object, at)) c.index_mut-object.ensures.value in
+    subst (λ n. n < slots (blocks m.cut)) (sym (c.slot_of.ensures.slot ∙ ap (λ (x : Position). symbol_slot x.block x.symbol) c.at.view_is))
+    (slot_there m c.args.at.block c.args.at.symbol c.hold.ensures.planned.sound
+    (encoded.symbol m (subst (λ (x : Position). slice_get items (x.index - c.self.inside.first) ≡ Some m) c.at.view_is there))
+    (subst (λ (x : Position). x.symbol < 256) c.at.view_is c.slot_of.ensures.named))

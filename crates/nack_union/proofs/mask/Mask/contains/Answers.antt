@@ -10,8 +10,9 @@ use Rattle.nack_union.proofs.mask.Mask.contains.Goals as goal
 pub returns : goal.returns
 returns c =
     let size = ap (λ (p : Places). p.size) c.self.view_is in
-    let lt : c.args.place < 64 * length c.self.inside.words.items = omega (arith, size) in
+    let room = c.self.invariant.room in
+    let lt : c.args.place < c.self.inside.size = omega (arith, size) in
     ap (λ w. nat_eq (bit_and (w / 2 ^ (c.args.place % 64)) 1) 1)
-    (get_or_read c.self.inside.words.items (c.args.place / 64) c.index.result.now (omega (arith, lt, div-add-mod c.args.place 64)) c.index.ensures 0)
-    ∙ read_bit c.self.inside.words.items c.args.place lt
+    (get_or_read c.self.inside.words.items (c.args.place / 64) c.index.result.now (omega (arith, lt, room, div-add-mod c.args.place 64)) c.index.ensures 0)
+    ∙ read_bit c.self.inside.words.items c.self.inside.size c.args.place lt
     ∙ ap (λ (p : Places). is_member nat_lt c.args.place p.members) c.self.view_is

@@ -54,7 +54,7 @@ places-init c = record {
   few =
       let size = ap (λ (p : Places). p.size) c.self.view_is in
       let many = ap (λ (p : Places). length p.members) c.self.view_is in
-      let few = few_members c.self.inside.words.items in
+      let few = few_members c.self.inside.words.items c.self.inside.size in
       omega (arith, size, many, few);
   size = refl;
   other = refl;

@@ -1,9 +1,10 @@
-use Rattle.std.proofs.Common.{◌≡◌, ◌^◌, ◌<◌, [], ◌∷◌, List, ℕ, length, get_or, refl, sym, ap, subst, ◌∙◌, arith}
-use Rattle.std.specs.Prelude.{Option, MatchOption}
-use Rattle.std.specs.Int.{w64, trailing_zeros}
+use Rattle.std.proofs.Common.{◌≡◌, ◌+◌, ◌*◌, ◌%◌, ◌^◌, ◌<◌, ◌≤◌, [], ◌∷◌, List, ℕ, length, set, get_or, false, refl, sym, ap, subst, ◌∙◌, arith}
+use Rattle.std.specs.Prelude.{Option, MatchOption, bit_and}
+use Rattle.std.specs.Int.{w64, trailing_zeros, bit_not}
 use Rattle.std.proofs.lemmas.List.{get_or_read, length-set}
 use Rattle.std.proofs.lemmas.Nat.Bits.{bit_at-trailing_zeros}
 use Rattle.nack_union.specs.Places.{Places}
+use Rattle.nack_union.specs.Words.{has_bit, places_of}
 use Rattle.nack_union.proofs.Bits.{nobody, zero_below, front_below, taken, positive}
 use Rattle.nack_union.proofs.mask.Mask.take_lowest.Goals as goal
 
@@ -11,7 +12,7 @@ pub returns-in_err-word-clause-members : goal.returns-in_err-word-clause-members
 returns-in_err-word-clause-members c =
     let e : c.args.self.now.members ≡ [] =
     ap (λ (p : Places). p.members) (sym c.self.view_is)
-    ∙ nobody c.self.inside.words.items c.deref.result.now c.self.inside.lowest c.deref.ensures.value c.self.invariant.empty c.in_err-word.ensures.before in
+    ∙ nobody c.self.inside.words.items c.deref.result.now c.self.inside.size c.self.inside.lowest c.deref.ensures.value c.self.invariant.empty c.in_err-word.ensures.before in
     subst (λ (r : Option ℕ). MatchOption r ((c.args.self.now.members ≡ []) × (c.args.self.now.members ≡ [])) (λ place. c.args.self.now.members ≡ place ∷ c.args.self.now.members))
     (sym c.from_residual.ensures) (e, e)
 
@@ -42,7 +43,25 @@ overflow_add-result c =
     let low = (bit_at-trailing_zeros w64 c.index-bits.result.now (filled c) (fits c)).0 in
     omega (arith, small, at, low)
 
+-- the words without the lowest bit
+cleared : goal.After-self-2-1 → List ℕ
+cleared c =
+    set c.self.inside.words.items c.in_ok-word.word
+    (bit_and c.index-bits.result.now (bit_not w64 (1 * 2 ^ trailing_zeros w64 c.index-bits.result.now % 2 ^ 64)))
+
+-- what the cleared bit leaves
+after : (c : goal.After-self-2-1)
+    → (64 * c.in_ok-word.word + trailing_zeros w64 c.index-bits.result.now < c.self.inside.size)
+    × ((places_of c.self.inside.size c.self.inside.words.items).members ≡ (64 * c.in_ok-word.word + trailing_zeros w64 c.index-bits.result.now)
+    ∷ (places_of c.self.inside.size (cleared c)).members)
+    × ((i : ℕ) → c.self.inside.size ≤ i → has_bit (cleared c) i ≡ false)
+unfolding cleared
+after c =
+    taken c.self.inside.words.items (cleared c) c.self.inside.size c.in_ok-word.word c.index-bits.result.now (trailing_zeros w64 c.index-bits.result.now) (in_words c)
+    (sym (reads c)) (zeros c) (bit_at-trailing_zeros w64 c.index-bits.result.now (filled c) (fits c)) refl c.self.invariant.rest
+
 pub invariant_of-self : goal.invariant_of-self
+unfolding cleared
 invariant_of-self c =
     let small = c.self.invariant.small in
     let at = in_words c in
@@ -50,17 +69,16 @@ invariant_of-self c =
       small = omega (arith, small, length-set {A = ℕ});
       within = omega (arith, at, length-set {A = ℕ});
       empty = front_below c.self.inside.words.items c.in_ok-word.word _ (zeros c);
+      room = let room = c.self.invariant.room in omega (arith, room, length-set {A = ℕ});
+      rest = (after c).2;
     }
 
 pub returns-clause-members : goal.returns-clause-members
-returns-clause-members c =
-    ap (λ (p : Places). p.members) (sym c.self.view_is)
-    ∙ taken c.self.inside.words.items _ c.in_ok-word.word c.index-bits.result.now (trailing_zeros w64 c.index-bits.result.now) (in_words c) (sym (reads c)) (zeros c)
-    (bit_at-trailing_zeros w64 c.index-bits.result.now (filled c) (fits c)) refl
+unfolding cleared
+returns-clause-members c = ap (λ (p : Places). p.members) (sym c.self.view_is) ∙ (after c).1
 
 pub returns-clause-within : goal.returns-clause-within
 returns-clause-within c =
-    let at = in_words c in
-    let low = (bit_at-trailing_zeros w64 c.index-bits.result.now (filled c) (fits c)).0 in
+    let at = (after c).0 in
     let size = ap (λ (p : Places). p.size) c.self.view_is in
-    omega (arith, at, low, size)
+    omega (arith, at, size)

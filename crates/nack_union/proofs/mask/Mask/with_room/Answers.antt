@@ -4,4 +4,4 @@ use Rattle.nack_union.proofs.mask.Mask.with_room.Goals as goal
 
 pub returns-clause-empty : goal.returns-clause-empty
 returns-clause-empty c =
-    no_members c.in_ok-words.words.items (λ k. ap (λ (ws : List ℕ). get_or ws k 0) (c.in_ok-words.ensures.items_if_clones_equal (λ _ e. e)) ∙ zero_words _ k)
+    no_members c.in_ok-words.words.items c.args.places (λ k. ap (λ (ws : List ℕ). get_or ws k 0) (c.in_ok-words.ensures.items_if_clones_equal (λ _ e. e)) ∙ zero_words _ k)

@@ -1,17 +1,20 @@
 use Rattle.std.proofs.Common.{◌≡◌, ◌+◌, ◌-◌, refl, sym, ap, ◌∙◌, subst, arith, length, length-append, List, ◌∷◌, [], ◌++◌}
 use Rattle.std.specs.Prelude.{option_to_list, Option, flat_map}
-use Rattle.norm_ext.specs.declared.fti.Fti.{Fti}
 use Rattle.norm_order.specs.declared.up.Up.{Up}
 use Rattle.rx_hold.specs.ObjectState.{ObjectState}
 use Rattle.rx_hold.specs.HoldState.{Stands}
 use Rattle.rx_hold.specs.HoldSound.{octets_in, those_there}
 use Rattle.rx_hold.specs.declared.front.Front.{Front}
-use Rattle.rx_hold.proofs.PlaceLemmas.{placed_at, octets_one}
+use Rattle.rx_hold.proofs.PlaceLemmas.{placed_at, octets_one, octets_less}
 use Rattle.rx_hold.proofs.StandsLemmas.{view_of, held_in}
 use Rattle.rx_hold.proofs.MoveLemmas.{moved}
 use Rattle.rx_hold.proofs.HandLemmas.{up_of, hands_whole, hands_stop, holds_some}
 use Rattle.rx_hold.proofs.FrontLemmas.{IsShifted, sound_shifted, room_handed, stands_shifted, shifted_symbols}
 use Rattle.rx_hold.proofs.front.Front.hand_up_first.Goals as goal
+
+pub overflow_sub-self : goal.overflow_sub-self
+overflow_sub-self c =
+    omega (arith, c.octets.ensures, octets_less c.args.self.now.ring.items 0 c.in-Some.object c.in-Some.ensures.taken.0, c.requires.taken)
 
 pub returns-in_default-clause-state : goal.returns-in_default-clause-state
 returns-in_default-clause-state c = λ s stands.
@@ -36,7 +39,7 @@ after c = record {
   profile = c.args.self.now.profile;
   point = c.args.self.now.point + 1;
   ring = c.take_whole.new.ring;
-  taken = c.args.self.now.taken - c.fti.result.l;
+  taken = c.args.self.now.taken - c.octets.result;
   ups = c.push_back.new.self;
   lost = c.args.self.now.lost;
 }
@@ -49,7 +52,7 @@ is_shifted c = record {
   ring = c.in-Some.ensures.taken.2;
   ring_room = c.take_whole.ensures.capacity;
   taken =
-      ap (λ n. c.args.self.now.taken - n) (ap (λ (f : Fti). f.l) c.fti.ensures ∙ sym (octets_one c.in-Some.object))
+      ap (λ n. c.args.self.now.taken - n) (c.octets.ensures ∙ sym (octets_one c.in-Some.object))
       ∙ ap (λ (found : Option ObjectState). c.args.self.now.taken - octets_in (option_to_list found)) (sym c.in-Some.ensures.taken.0);
   ups = ap (λ (us : List Up). length us) (pushed c) ∙ length-append c.args.self.now.ups.items (up_of c.in-Some.object ∷ []);
   ups_room = c.push_back.ensures.capacity;

@@ -45,14 +45,14 @@ returns-then-is_away-clause-word c = λ s stands.
       refl,
     )
 
-pub returns-in_default-of-clause-word : goal.returns-in_default-of-clause-word
-returns-in_default-of-clause-word c = λ s stands.
+pub returns-in_default-plan_by-clause-word : goal.returns-in_default-plan_by-clause-word
+returns-in_default-plan_by-clause-word c = λ s stands.
     let f = c.self.inside.front in
     let h : HoldState = c.args.self.now in
     let g : Fti = c.args.fti.now in (
       fit_unfit f h s c.args.index g c.args.flags c.self.invariant.front c.self.view_is stands c.requires.object
           (not_before f h c.args.index c.self.view_is c.if-index-self.false) c.in_default.ensures (sym c.is_away.ensures ∙ c.if-is_away.false)
-          (faulty (is_some (first_fault (cut_by g c.args.flags))) _ (fault_is g c.args.flags (Some c.in_default-of.field-0) c.requires.object c.in_default-of.ensures)),
+          (faulty (is_some (first_fault (cut_by g c.args.flags))) _ (fault_is g c.args.flags (Some c.in_default-plan_by.field-0) c.requires.object c.in_default-plan_by.ensures)),
       refl,
     )
 

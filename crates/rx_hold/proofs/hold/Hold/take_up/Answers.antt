@@ -25,7 +25,7 @@ invariant_of-self-2 c =
             placed_set f.profile f.point i f.ring.items o c.self.invariant.front.placed
             (new_at f.profile (f.point + i) c.args.index c.args.fti.now c.args.flags c.args.plan.now o c.in_ok-object.ensures (omega (arith, may.reached))
             c.requires.object c.requires.cut may.sound may.e may.b c.requires.last);
-        taken = omega (arith, octets, long, c.self.invariant.front.taken);
+        taken = omega (arith, octets, c.octets-octets.ensures, c.self.invariant.front.taken);
         within = omega (arith, may.room, c.self.invariant.front.taken);
         most = c.self.invariant.front.most;
         room =

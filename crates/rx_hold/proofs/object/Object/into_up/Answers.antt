@@ -1,5 +1,6 @@
-use Rattle.std.proofs.Common.{◌≡◌, sym, subst, ap, ◌∙◌, true, false, None, Option, List, ℕ, Bool}
+use Rattle.std.proofs.Common.{◌≡◌, sym, subst, ap, ◌∙◌, true, false, None, Option, List, ℕ, Bool, take}
 use Rattle.norm_order.specs.declared.up.Up.TheVariants.{Object}
+use Rattle.norm_ext.specs.Extensions.{Fti}
 use Rattle.norm_receive_rules.specs.HandingUp.{is_whole, kind_of, told_info, object_octets}
 use Rattle.norm_receive_rules.specs.Plans.{says_info}
 use Rattle.rx_hold.specs.ObjectState.{ObjectState, alone}
@@ -19,4 +20,5 @@ returns c =
     (c.told_info.ensures ∙ ap (told (says_info c.self.inside.flags)) (sym (own_info (object_view c.self.inside))))
     ∙ ap (Object c.self.inside.index (kind_of c.self.inside.flags) (told_info (alone (object_view c.self.inside)) (object_view c.self.inside).plan))
     (c.front_of.ensures.exact
+    ∙ ap (λ (f : Fti). take f.l c.self.inside.rows.octets.items) c.fti.view_is
     ∙ object_bytes c.self.inside c.self.invariant c.front_of.ensures.bytes (subst (λ (o : ObjectState). is_whole (alone o) o.plan ≡ true) (sym c.self.view_is) c.requires)))

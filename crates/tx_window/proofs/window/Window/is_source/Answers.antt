@@ -1,6 +1,7 @@
 use Rattle.std.proofs.Common.{◌≡◌, ◌<◌, ◌≤◌, ap, sym, subst, ◌∙◌, arith}
 use Rattle.std.specs.Prelude.{slice_get, Some, None, nat_lt}
 use Rattle.std.proofs.lemmas.Bool.{le-ltb}
+use Rattle.fec_plan.specs.Points.{position}
 use Rattle.fec_plan.specs.Partition.{Cut, IsSound, blocks, source_symbols}
 use Rattle.norm_base.specs.Settings.{Settings}
 use Rattle.norm_order.specs.Shapes.{is_source}
@@ -17,12 +18,14 @@ returns-then-at-blocks c = λ s stands near.
     let l = c.in-Some.len in
     let p : Settings = w.profile in
     let plan = c.plan_of-plan.ensures in
+    let at = position c.at.inside.index c.at.inside.block c.at.inside.symbol in
     let here = subst (λ (v : WindowState). Stands v s) (sym c.self.view_is) stands in
-    ap (nat_lt c.args.at.symbol) (c.source_len.ensures.exact ∙ ap (λ (k : Cut). source_symbols k c.args.at.block) plan
-    ∙ sym (closed_here p l c.args.at.block (subst IsSound plan c.blocks-2.ensures.sound)
-    (subst (λ (k : Cut). c.args.at.block < blocks k) plan (omega (arith, c.if-at-blocks.true, c.blocks-2.ensures.exact)))))
-    ∙ sym (source_of (window_view w) s c.args.at l here (sym c.in-Some.is ∙ c.extent_at.ensures))
-    ∙ ap (λ (v : WindowState). is_source (current_shapes v.p s) c.args.at) c.self.view_is
+    ap (nat_lt c.at.inside.symbol) (c.source_len.ensures.exact ∙ ap (λ (k : Cut). source_symbols k c.at.inside.block) plan
+    ∙ sym (closed_here p l c.at.inside.block (subst IsSound plan c.blocks-2.ensures.sound)
+    (subst (λ (k : Cut). c.at.inside.block < blocks k) plan (omega (arith, c.if-at-blocks.true, c.blocks-2.ensures.exact)))))
+    ∙ sym (source_of (window_view w) s at l here (sym c.in-Some.is ∙ c.extent_at.ensures))
+    ∙ ap (λ (v : WindowState). is_source (current_shapes v.p s) at) c.self.view_is
+    ∙ ap (is_source (current_shapes c.args.self.now.p s)) c.at.view_is
 
 pub returns-else-at-blocks : goal.returns-else-at-blocks
 returns-else-at-blocks c = λ s stands near.
@@ -30,10 +33,12 @@ returns-else-at-blocks c = λ s stands near.
     let l = c.in-Some.len in
     let p : Settings = w.profile in
     let plan = c.plan_of-plan.ensures in
+    let at = position c.at.inside.index c.at.inside.block c.at.inside.symbol in
     let here = subst (λ (v : WindowState). Stands v s) (sym c.self.view_is) stands in
-    le-ltb c.args.at.block c.blocks-2.result c.if-at-blocks.false
-    ∙ sym (le-ltb c.args.at.symbol 0 (omega arith))
-    ∙ ap (nat_lt c.args.at.symbol) (sym (closed_past p l c.args.at.block (subst IsSound plan c.blocks-2.ensures.sound)
-    (subst (λ (k : Cut). blocks k ≤ c.args.at.block) plan (omega (arith, c.if-at-blocks.false, c.blocks-2.ensures.exact)))))
-    ∙ sym (source_of (window_view w) s c.args.at l here (sym c.in-Some.is ∙ c.extent_at.ensures))
-    ∙ ap (λ (v : WindowState). is_source (current_shapes v.p s) c.args.at) c.self.view_is
+    le-ltb c.at.inside.block c.blocks-2.result c.if-at-blocks.false
+    ∙ sym (le-ltb c.at.inside.symbol 0 (omega arith))
+    ∙ ap (nat_lt c.at.inside.symbol) (sym (closed_past p l c.at.inside.block (subst IsSound plan c.blocks-2.ensures.sound)
+    (subst (λ (k : Cut). blocks k ≤ c.at.inside.block) plan (omega (arith, c.if-at-blocks.false, c.blocks-2.ensures.exact)))))
+    ∙ sym (source_of (window_view w) s at l here (sym c.in-Some.is ∙ c.extent_at.ensures))
+    ∙ ap (λ (v : WindowState). is_source (current_shapes v.p s) at) c.self.view_is
+    ∙ ap (is_source (current_shapes c.args.self.now.p s)) c.at.view_is
