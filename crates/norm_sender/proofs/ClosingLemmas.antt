@@ -1,5 +1,5 @@
 -- The closing of a round, over what a sender keeps.
-use Rattle.std.proofs.Common.{◌≡◌, ◌∙◌, ℕ, ◌<◌, ◌-◌, List, length, Bool, true, false, Option, Some, None, refl, sym, subst, ap, arith}
+use Rattle.std.proofs.Common.{◌≡◌, ◌∙◌, ℕ, ◌-◌, length, Bool, true, false, Option, Some, None, refl, sym, subst, ap, arith}
 use Rattle.std.specs.Prelude.{min, nat_lt, nat_le}
 use Rattle.std.specs.List.{list_any}
 use Rattle.std.specs.Option.{option_map}

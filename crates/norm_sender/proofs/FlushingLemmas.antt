@@ -14,7 +14,7 @@ use Rattle.norm_ext.specs.Written.{Written}
 use Rattle.norm_send_rules.specs.SenderState.{SenderState, Watermark, Round}
 use Rattle.norm_send_rules.specs.Watermarks.{is_open, oldest, keeps_oldest, ended_with, end_where, pending}
 use Rattle.norm_send_rules.specs.Messages.{flush_message}
-use Rattle.norm_send_rules.specs.Flushing.{flushes_for, flushes_no_more, flushed, flushes_oldest, flushes_in_turn, expired}
+use Rattle.norm_send_rules.specs.Flushing.{flushes_for, flushes_no_more, flushed, flushes_oldest, expired}
 use Rattle.norm_send_rules.specs.declared.news.Outcome.{Outcome}
 use Rattle.norm_send_rules.specs.declared.news.Outcome.TheVariants.{Expired}
 use Rattle.std.specs.Prelude.{length}

@@ -1,18 +1,17 @@
 -- What a sender hears, over what it keeps.
-use Rattle.std.proofs.Common.{eq-eqb, ◌≡◌, ◌≢◌, ◌∙◌, ℕ, List, [], ◌∷◌, length, Bool, true, false, Option, Some, None, refl, sym, subst, ap, arith}
+use Rattle.std.proofs.Common.{eq-eqb, ◌≡◌, ◌∙◌, ℕ, List, [], ◌∷◌, length, Bool, true, false, Option, Some, None, refl, sym, subst, ap, arith}
 use Rattle.std.specs.Prelude.{◌==◌, ◌&&◌}
 use Rattle.std.specs.Option.{option_map}
-use Rattle.std.proofs.lemmas.Bool.Decides.{nat_tests}
 use Rattle.norm_base.specs.Settings.{Settings}
 use Rattle.fec_plan.specs.declared.position.Position.{Position}
 use Rattle.norm_order.specs.Shapes.{is_source}
 use Rattle.norm_ext.specs.Requests.{Request, requests_of}
 use Rattle.norm_send_rules.specs.SenderState.{SenderState, Watermark}
 use Rattle.norm_send_rules.specs.InWindow.{current_shapes}
-use Rattle.norm_send_rules.specs.Watermarks.{oldest, keeps_oldest, settled, counted_anew, all_past}
+use Rattle.norm_send_rules.specs.Watermarks.{counted_anew, oldest, keeps_oldest, settled}
 use Rattle.norm_order.specs.Sets.{with_member}
 use Rattle.std.specs.Prelude.{nat_lt, map}
-use Rattle.std.specs.Prelude.{Result, Ok, length}
+use Rattle.std.specs.Prelude.{Ok, length}
 use Rattle.norm_base.specs.Members.{is_receiver}
 use Rattle.fec_plan.specs.Points.{position}
 use Rattle.norm_ext.specs.ObjectIds.{index_named}
@@ -22,7 +21,7 @@ use Rattle.std.proofs.Common.{◌<◌}
 use Rattle.norm_ext.specs.Asking.{item_named}
 use Rattle.norm_ext.specs.declared.head.Item.{Item}
 use Rattle.norm_ext.specs.declared.refusal.Refusal.{Refusal}
-use Rattle.norm_ext.specs.Message.{NackMessage, AckMessage, AckContent, Mark, Unread}
+use Rattle.norm_ext.specs.Message.{NackMessage, AckMessage}
 use Rattle.norm_cmdmsg.specs.declared.command.CommandMsg.{CommandMsg}
 use Rattle.norm_cmdmsg.specs.declared.command.CommandMsg.TheVariants as lent
 use Rattle.norm_cmdmsg.specs.View.{command_of}
@@ -30,38 +29,19 @@ use Rattle.norm_send_rules.specs.SenderState.{Round}
 use Rattle.norm_send_rules.specs.InWindow.{last_index}
 use Rattle.norm_send_rules.specs.Watermarks.{has_member}
 use Rattle.norm_send_rules.specs.Hearing.{credited_by, nack_heard, ack_heard, message_heard, credited, rises, listed_past, joined_round, round_at}
-use Rattle.tx_window.specs.WindowState.{WindowState, reads as window_reads, Stands as WindowStands}
+use Rattle.tx_window.specs.WindowState.{WindowState, Stands as WindowStands}
 use Rattle.nack_union.specs.UnionState.{UnionState, Stands as UnionStands}
 use Rattle.mark_book.specs.BookState.{BookState, Stands as BookStands}
 use Rattle.norm_sender.specs.declared.pace.Pace.{Pace}
-use Rattle.norm_sender.specs.Pacing.{pace_of, counted_by, opened_at}
+use Rattle.norm_sender.specs.Pacing.{pace_of, opened_at}
 use Rattle.norm_sender.specs.Feedback.{content_heard}
 use Rattle.norm_sender.specs.SenderKept.{SenderKept, Agrees}
+use Rattle.norm_sender.specs.SenderMoves.{IsBehind, with_book}
+use Rattle.norm_sender.proofs.FollowingLemmas.{unfollowed_book}
 
 -- the state with a listing that rose, before the count of flushes is looked at
 abbrev risen : ℕ → Position → SenderState → SenderState
 risen node at s = settled (record s { listings = map (listed_past node at) s.listings; untold_nodes = with_member nat_lt node s.untold_nodes })
-
--- a crediting by its tests
-abbrev credited_if : Bool → Bool → ℕ → Position → SenderState → SenderState
-credited_if up kept node at s = elim up [
-  | true ↦ elim kept [ true ↦ risen node at s | false ↦ record (risen node at s) { flushes = 0 } ]
-  | false ↦ s
-]
-
-past_read : (up kept : Bool) (node : ℕ) (at : Position) (s : SenderState)
-    → window_reads (credited_if up kept node at s) ≡ record (window_reads s) { past = all_past (credited_if up kept node at s) }
-past_read false kept node at s = refl
-past_read true true node at s = refl
-past_read true false node at s = refl
-
-pub credited_past : (node : ℕ) (at : Position) (s : SenderState) → window_reads (credited node at s) ≡ record (window_reads s) { past = all_past (credited node at s) }
-credited_past node at s = past_read (rises node at s) (keeps_oldest s (risen node at s)) node at s
-
-union_read : (up kept : Bool) (node : ℕ) (at : Position) (s : SenderState) (u : UnionState) → UnionStands u s → UnionStands u (credited_if up kept node at s)
-union_read false kept node at s u h = h
-union_read true true node at s u h = h
-union_read true false node at s u h = h
 
 -- keeping the oldest watermark, by what is the oldest afterwards, and before
 abbrev kept_after : SenderState → Option Watermark → Bool
@@ -74,25 +54,34 @@ keeps_itself : (s : SenderState) (found : Option Watermark) → oldest s ≡ fou
 keeps_itself s None e = ap (kept_after s) e
 keeps_itself s (Some w) e = ap (kept_after s) e ∙ ap (kept_before w) e ∙ eq-eqb w.mark w.mark refl
 
-pace_read : (up kept : Bool) (node : ℕ) (at : Position) (s : SenderState) → keeps_oldest s (risen node at s) ≡ kept
-    → counted_by (keeps_oldest s (credited_if up kept node at s)) (pace_of s) ≡ pace_of (credited_if up kept node at s)
-pace_read false kept node at s e = ap (λ (b : Bool). counted_by b (pace_of s)) (keeps_itself s (oldest s) refl)
-pace_read true true node at s e = ap (λ (b : Bool). counted_by b (pace_of s)) e
-pace_read true false node at s e = ap (λ (b : Bool). counted_by b (pace_of s)) e
+-- what a crediting makes of the book, by whether the listing rises
+abbrev pub risen_if : Bool → ℕ → Position → SenderState → SenderState
+risen_if up node at s = elim up [ true ↦ risen node at s | false ↦ s ]
 
-pub credited_stands : (k : SenderKept) (window : WindowState) (book : BookState) (kept : Bool) (node : ℕ) (at : Position) (s : SenderState)
-    → Agrees k s → window.p ≡ k.window.p → WindowStands window (credited node at s) → BookStands k.p book (credited node at s)
-    → kept ≡ keeps_oldest s (credited node at s)
-    → Agrees (record k { window = window; book = book; pace = counted_by kept k.pace }) (credited node at s)
-credited_stands k window book kept node at s h profile behind listed is = record {
-  window_profile = profile ∙ h.window_profile;
+abbrev credited_if : Bool → ℕ → Position → SenderState → SenderState
+credited_if up node at s = elim up [ true ↦ counted_anew s (risen node at s) | false ↦ s ]
+
+followed_if : (up : Bool) (node : ℕ) (at : Position) (s : SenderState) → credited_if up node at s ≡ counted_anew s (with_book (risen_if up node at s) s)
+followed_if true node at s = refl
+followed_if false node at s =
+    sym (ap (λ (b : Bool). elim b as (λ _. SenderState) [ true ↦ s | false ↦ record s { flushes = 0 } ]) (keeps_itself s (oldest s) refl))
+
+-- the state that the book is ahead with, once a member confirmed a position
+abbrev pub credited_book : ℕ → Position → SenderState → SenderState
+credited_book node at s = risen_if (rises node at s) node at s
+
+pub credited_follows : (node : ℕ) (at : Position) (s : SenderState) → credited node at s ≡ counted_anew s (with_book (credited_book node at s) s)
+credited_follows node at s = followed_if (rises node at s) node at s
+
+pub credited_behind : (k : SenderKept) (book : BookState) (node : ℕ) (at : Position) (s : SenderState) → Agrees k s
+    → BookStands k.p book (credited node at s) → IsBehind (record k { book = book }) s (with_book (credited_book node at s) s)
+credited_behind k book node at s h listed = record {
+  window_profile = h.window_profile;
   union_profile = h.union_profile;
-  window = behind;
-  union = union_read (rises node at s) (keeps_oldest s (risen node at s)) node at s k.union h.union;
-  book = listed;
-  pace =
-      ap (counted_by kept) h.pace ∙ ap (λ (b : Bool). counted_by b (pace_of s)) is
-      ∙ pace_read (rises node at s) (keeps_oldest s (risen node at s)) node at s refl;
+  window = h.window;
+  union = h.union;
+  book = unfollowed_book k.p book s (with_book (credited_book node at s) s) (subst (λ (t : SenderState). BookStands k.p book t) (credited_follows node at s) listed);
+  pace = h.pace;
 }
 
 -- An acknowledgement's item.

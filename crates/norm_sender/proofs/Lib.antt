@@ -1,9 +1,13 @@
 pub mod ClosingLemmas
 pub mod FlushingLemmas
+pub mod FollowingLemmas
 pub mod HearingLemmas
+pub mod MarkingLemmas
 pub mod NewLemmas
+pub mod RestartingLemmas
 pub mod SenderLemmas
 pub mod SendingLemmas
+pub mod StrikingLemmas
 pub mod TellingLemmas
 pub mod TickingLemmas
 pub mod WritingLemmas

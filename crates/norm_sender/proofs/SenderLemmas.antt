@@ -1,19 +1,22 @@
 -- What a sender stands for after each of its calls.
-use Rattle.std.proofs.Common.{◌≡◌, ℕ, zero, suc, ◌+◌, List, [], ◌∷◌, length, Option, refl, sym, subst, ap, arith}
+use Rattle.std.proofs.Common.{◌≡◌, ℕ, zero, suc, ◌+◌, List, [], ◌∷◌, length, refl, sym, subst, ap, arith}
 use Rattle.std.proofs.lemmas.List.{length-append}
 use Rattle.norm_base.specs.Members.{receivers_of}
 use Rattle.norm_base.specs.Settings.{Settings, InRange}
 use Rattle.norm_base.specs.declared.kinds.Sent.{Sent}
 use Rattle.norm_send_rules.specs.SenderState.{SenderState, sender_opening}
-use Rattle.norm_send_rules.specs.SenderStep.{Ticked, Delivered, NewsAsked}
+use Rattle.norm_send_rules.specs.SenderStep.{Commanded, Ticked, Delivered, NewsAsked}
 use Rattle.norm_send_rules.specs.Ticking.{ticked}
+use Rattle.norm_send_rules.specs.Commanding.{commanded}
+use Rattle.norm_send_rules.specs.declared.job.Job.{Job}
+use Rattle.norm_base.specs.declared.node.Origin.{Origin}
 use Rattle.norm_send_rules.specs.Hearing.{heard}
 use Rattle.norm_send_rules.specs.Telling.{told}
 use Rattle.norm_send_rules.specs.Reached.{IsReached}
 use Rattle.norm_send_rules.proofs.ReachedLemmas.{reached_laws}
 use Rattle.tx_window.specs.WindowState.{WindowState, empty_window, Stands as WindowStands}
 use Rattle.nack_union.specs.UnionState.{UnionState, empty_union, Stands as UnionStands}
-use Rattle.mark_book.specs.BookState.{BookState, Stands as BookStands}
+use Rattle.mark_book.specs.BookState.{Stands as BookStands}
 use Rattle.norm_sender.specs.Pacing.{pace_of}
 use Rattle.norm_sender.specs.SenderKept.{SenderKept, Agrees, Stands, SenderSound}
 use Rattle.norm_sender.specs.SenderMoves.{IsSent, IsTick}
@@ -41,6 +44,16 @@ hears k new bytes now s range same after reached =
 pub tells : (k new : SenderKept) (s : SenderState) → InRange k.p → new.p ≡ k.p → Agrees new (told s).0 → IsReached k.p s → Stands new (told s).0
 tells k new s range same after reached =
     record { agrees = after; reached = under k.p new.p (told s).0 same (reached_laws.always k.p s NewsAsked range reached) }
+
+-- whose command a strike or a restart was is not looked at
+pub anyone : Origin
+anyone = record { producer = 0; number = 0 }
+
+-- A command by its state: the sender stands for what the rules leave of it.
+pub commands : (k new : SenderKept) (by : Origin) (job : Job) (s : SenderState) → InRange k.p → new.p ≡ k.p
+    → Agrees new (commanded k.p s by job).0 → IsReached k.p s → Stands new (commanded k.p s by job).0
+commands k new by job s range same after reached =
+    record { agrees = after; reached = under k.p new.p (commanded k.p s by job).0 same (reached_laws.always k.p s (Commanded by job 0) range reached) }
 
 -- A sender as it begins.
 

@@ -1,6 +1,6 @@
 -- What is sent of an object of the window, over what a sender keeps.
-use Rattle.std.proofs.Common.{◌≡◌, ◌∙◌, ℕ, ◌+◌, ◌≤◌, ◌<◌, List, [], ◌∷◌, ◌++◌, length, Bool, true, false, Option, Some, None, refl, sym, subst, ap, arith}
-use Rattle.std.specs.Prelude.{nat_lt, not, min, is_some, slice_get, ◌||◌, ◌&&◌, ◌==◌, if◌then◌else◌, map}
+use Rattle.std.proofs.Common.{◌≡◌, ◌∙◌, ℕ, ◌+◌, ◌≤◌, List, [], Bool, true, false, Option, Some, None, refl, sym, ap, arith}
+use Rattle.std.specs.Prelude.{nat_lt, not, min, slice_get}
 use Rattle.std.specs.Option.{option_map}
 use Rattle.std.proofs.lemmas.Option.{slice_get-map}
 use Rattle.std.proofs.lemmas.Bool.Decides.{nat_tests}
@@ -8,19 +8,15 @@ use Rattle.norm_base.specs.Settings.{Settings}
 use Rattle.norm_base.specs.declared.kinds.Kind.{Kind}
 use Rattle.norm_base.specs.declared.kinds.Kind.TheVariants as kind
 use Rattle.norm_base.specs.declared.kinds.Sent.TheVariants.{Datagram}
-use Rattle.fec_plan.specs.Points.{Point, point_before, point_of}
-use Rattle.fec_plan.specs.Partition.{source_symbols}
+use Rattle.fec_plan.specs.Points.{Point}
 use Rattle.fec_plan.specs.declared.position.Position.{Position}
-use Rattle.norm_ext.specs.Message.{Message}
 use Rattle.norm_ext.specs.Octets.{octets_of}
-use Rattle.norm_ext.specs.Written.{Written, writes}
 use Rattle.norm_order.specs.Entries.{Object, Whole, Stream, Entry}
 use Rattle.norm_order.specs.Shapes.{Shape, shape_of, encoded_in}
 use Rattle.norm_send_rules.specs.SenderState.{SenderState}
-use Rattle.norm_send_rules.specs.InWindow.{stands_behind, current_shapes}
+use Rattle.norm_send_rules.specs.InWindow.{stands_behind}
 use Rattle.norm_send_rules.specs.Messages.{object_flags}
-use Rattle.norm_send_rules.specs.Sending.{object_of, message_of, sends, noted, sends_want, repair_flags}
-use Rattle.norm_send_rules.specs.Wants.{want_index}
+use Rattle.norm_send_rules.specs.Sending.{object_of, message_of, noted, sends_want}
 use Rattle.norm_send_rules.specs.declared.want.Want.{Want}
 use Rattle.norm_send_rules.specs.declared.want.Want.TheVariants.{Info, Symbol}
 use Rattle.tx_window.specs.Asked.{kept_at}
@@ -28,7 +24,6 @@ use Rattle.tx_window.specs.WindowState.{WindowState, IsInWindow, Stands as Windo
 use Rattle.tx_window.proofs.StandingLemmas.{is_there}
 use Rattle.nack_union.specs.UnionState.{UnionState, Stands as UnionStands}
 use Rattle.mark_book.specs.BookState.{BookState, Stands as BookStands}
-use Rattle.norm_sender.specs.declared.pace.Pace.{Pace}
 use Rattle.norm_sender.specs.Pacing.{pace_of}
 use Rattle.norm_sender.specs.SenderKept.{SenderKept, Agrees}
 use Rattle.norm_sender.specs.SenderMoves.{IsSent}

@@ -20,13 +20,12 @@ use Rattle.nack_union.specs.UnionState.{UnionState, Stands as UnionStands}
 use Rattle.norm_send_rules.specs.Messages.{squelch_message}
 use Rattle.norm_send_rules.specs.Sending.{sends, sends_new, next_new, behind, sends_want, repairs_next, repair_flags, object_of, message_of, noted}
 use Rattle.norm_send_rules.specs.Flushing.{flushes}
-use Rattle.norm_send_rules.specs.Ticking.{closed_where_due, sends_first, sends_wanted, sends_further, ticked, is_idle}
+use Rattle.norm_send_rules.specs.Ticking.{closed_where_due, sends_first, sends_wanted, sends_further, is_idle}
 use Rattle.norm_send_rules.specs.declared.want.Want.{Want}
 use Rattle.norm_send_rules.proofs.StepLemmas.{due_holds}
 use Rattle.norm_send_rules.proofs.ShapeLemmas.{blocks_of}
 use Rattle.norm_sender.specs.declared.pace.Pace.{Pace}
 use Rattle.norm_sender.specs.Heads.{command_front}
-use Rattle.norm_sender.specs.Pacing.{pace_of}
 use Rattle.norm_sender.specs.SenderKept.{SenderKept, Agrees}
 use Rattle.norm_sender.specs.SenderMoves.{IsSent}
 use Rattle.norm_sender.specs.Wanted.{spent, IsValid}

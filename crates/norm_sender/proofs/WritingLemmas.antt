@@ -1,5 +1,5 @@
 -- How the fronts of datagrams are spelled: of a block's number the lowest 24 bits stand there.
-use Rattle.std.proofs.Common.{◌≡◌, ◌∙◌, ℕ, ◌+◌, ◌*◌, ◌/◌, ◌%◌, List, [], ◌∷◌, ◌++◌, refl, ap, arith}
+use Rattle.std.proofs.Common.{◌≡◌, ℕ, ◌%◌, List, [], ◌∷◌, ◌++◌, ap, arith}
 use Rattle.fec_plan.specs.Payload.{Name, name_octets}
 use Rattle.norm_ext.specs.Extensions.{Extension}
 use Rattle.norm_ext.specs.Message.{Data, Flush, Squelch}

@@ -4,11 +4,13 @@ use Rattle.std.specs.Option.{option_map}
 use Rattle.norm_base.specs.Settings.{Settings}
 use Rattle.norm_order.specs.Moments.{moment_after}
 use Rattle.norm_send_rules.specs.SenderState.{SenderState, Round}
+use Rattle.norm_send_rules.specs.Restarting.{first_id}
 use Rattle.norm_sender.specs.declared.pace.Pace.{Pace}
 
 -- the numbers of a state
 abbrev pub pace_of : SenderState → Pace
 pace_of s = record {
+  first = first_id s;
   instance = s.current.id;
   next = s.next;
   closes = option_map (λ (r : Round). r.closes) s.round;

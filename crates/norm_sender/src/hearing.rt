@@ -19,7 +19,6 @@ ghost use Rattle.norm_sender.specs.Inside.{kept_of};
 use crate::pace::moment_after;
 use crate::parts::{Parts, hold_range};
 use fec_plan::Position;
-use mark_book::keeps_oldest;
 use norm_base::{InstanceId, Moment, NodeId};
 use norm_codec::{Message, decode};
 use norm_ext::{Item, index_named, requests_of as requests_in};
@@ -33,11 +32,7 @@ impl Parts {
     {
         let before = self.book.oldest();
         self.book.ack(node, at);
-        self.window.note_past(self.book.least());
-        if keeps_oldest(before, self.book.oldest()) {
-            return;
-        }
-        self.pace = self.pace.counted_anew();
+        self.follow(before);
     }
 
     /// An acknowledgement of what its item names.

@@ -3,11 +3,15 @@
 
 mod closing;
 mod flushing;
+mod following;
 mod hearing;
+mod marking;
 mod pace;
 mod parts;
+mod restarting;
 mod sender;
 mod sending;
+mod striking;
 mod telling;
 mod ticking;
 mod writing;

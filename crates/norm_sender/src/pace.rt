@@ -2,16 +2,23 @@
 
 ghost use Rattle.std.specs.Prelude.{◌≡◌, ◌+◌, ◌%◌, ◌<◌, false, true, nat_lt, Some};
 ghost use Rattle.norm_base.specs.Settings.{Settings};
-ghost use Rattle.norm_send_rules.specs.SenderState.{sender_opening};
+ghost use Rattle.norm_ext.specs.InstanceIds.{rise};
+ghost use Rattle.norm_send_rules.specs.SenderState.{SenderState, sender_opening};
+ghost use Rattle.norm_send_rules.specs.Restarting.{begun_anew, is_used};
 ghost use Rattle.norm_order.specs.Moments.{moment_after};
 ghost use Rattle.norm_sender.specs.Pacing.{closed_at, is_over, next_flush, pace_of};
 
-use norm_base::{InstanceId, Moment};
+use norm_base::{ID_COUNT, InstanceId, Moment};
 use norm_send_rules::Want;
+
+/// An id lies above those of which it is no more than this ahead.
+const MOST_RISE: u32 = 32_767;
 
 /// The numbers of a sender, each as the rules' state has it.
 #[derive(Clone, Copy, Debug, PartialEq, Eq)]
 pub struct Pace {
+    /// The first instance, from which ids rise.
+    pub first: InstanceId,
     /// The current instance.
     pub instance: InstanceId,
     /// From where on infos and symbols are new.
@@ -36,12 +43,20 @@ pub(crate) fn moment_after(now: Moment, span: u64) -> Moment
     Moment(now.0.saturating_add(span))
 }
 
+/// How far an instance's id lies above another, going round.
+fn rise(from: InstanceId, instance: InstanceId) -> u32
+    ensures { result ≡ rise from instance }
+{
+    (ID_COUNT + u32::from(instance.0) - u32::from(from.0)) % ID_COUNT
+}
+
 impl Pace {
     /// The numbers as a sender begins, in this instance.
     pub(crate) fn begun(instance: InstanceId) -> Pace
         ensures { (p : Settings) → result ≡ pace_of (sender_opening p instance) }
     {
         Pace {
+            first: instance,
             instance,
             next: Want::Info { index: 0 },
             closes: None,
@@ -51,6 +66,30 @@ impl Pace {
             next_send: Moment(0),
             sequence: 0,
         }
+    }
+
+    /// The numbers as another instance begins.
+    pub(crate) fn begun_anew(&self, instance: InstanceId) -> Pace
+        ensures { (s : SenderState) → self.now ≡ pace_of s → result ≡ pace_of (begun_anew instance s) }
+    {
+        Pace {
+            instance,
+            next: Want::Info { index: 0 },
+            closes: None,
+            squelch_due: false,
+            flushes: 0,
+            last_flush: None,
+            ..*self
+        }
+    }
+
+    /// Whether an instance's id is used up: it lies no higher above the first one than the current one, or half of all
+    /// ids above it.
+    pub(crate) fn is_used(&self, instance: InstanceId) -> bool
+        ensures { (s : SenderState) → self.now ≡ pace_of s → result ≡ is_used s instance }
+    {
+        let above = rise(self.first, instance);
+        above <= rise(self.first, self.instance) || above > MOST_RISE
     }
 
     /// After a datagram: the next may be sent a gap later, under the next sequence number.

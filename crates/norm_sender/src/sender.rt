@@ -1,12 +1,17 @@
 //! The sender of a session.
 
-ghost use Rattle.std.specs.Prelude.{◌≡◌, ◌+◌, IfOk, IfNone, length};
+ghost use Rattle.std.specs.Prelude.{◌≡◌, ◌≢◌, ◌+◌, IfOk, IfNone, Err, length};
 ghost use Rattle.norm_base.specs.Members.{receivers_of};
+ghost use Rattle.norm_base.specs.declared.node.Origin.{Origin};
 ghost use Rattle.norm_send_rules.specs.SenderState.{SenderState, sender_opening};
 ghost use Rattle.norm_send_rules.specs.Hearing.{heard};
+ghost use Rattle.norm_send_rules.specs.Marking.{marked};
+ghost use Rattle.norm_send_rules.specs.Restarting.{restarted};
+ghost use Rattle.norm_send_rules.specs.Striking.{strikes};
 ghost use Rattle.norm_send_rules.specs.Telling.{told};
 ghost use Rattle.norm_send_rules.specs.Ticking.{ticked, is_idle};
 ghost use Rattle.norm_send_rules.specs.Watermarks.{open_watermarks};
+ghost use Rattle.norm_send_rules.specs.declared.fault.MarkFault.TheVariants as fault;
 ghost use Rattle.norm_sender.specs.SenderKept.{Stands};
 ghost use Rattle.norm_sender.specs.SenderMoves.{IsTick};
 
@@ -15,7 +20,7 @@ use crate::parts::{Parts, hold_range};
 use mark_book::Book;
 use nack_union::Union;
 use norm_base::{Datagram, InstanceId, Memory, Moment, NodeId, Profile, Sent};
-use norm_send_rules::News;
+use norm_send_rules::{MarkFault, News, Receipt, SendFault, StrikeFault};
 use std::alloc::Global;
 use std::marker::Model;
 use tx_window::Window;
@@ -24,8 +29,8 @@ use tx_window::Window;
 ///
 /// A timer drives it. At each moment it is handed the datagrams that came ([`deliver`](Sender::deliver)) and asked for
 /// the one to send ([`tick`](Sender::tick)); the datagrams may come in any order, and may hold any octets. What changed
-/// of its members is taken by [`news`](Sender::news) until that is `None`. Neither takes memory. A tick costs the octets
-/// of its datagram, and a datagram heard what its requests name.
+/// of its members is taken by [`news`](Sender::news) until that is `None`. None of these takes memory. A tick costs the
+/// octets of its datagram, and a datagram heard what its requests name. Commands may come between any two calls.
 #[derive(Debug, Drop)]
 pub struct Sender {
     parts: Parts,
@@ -95,6 +100,49 @@ impl Sender {
         ensures stands { (s : SenderState) → Stands self.old s → IsTick self.new out.new result (ticked self.old.p s now) }
     {
         self.parts.tick(now, out)
+    }
+
+    /// Asks that so many members, or all of them, confirm everything that was enqueued so far. The watermark is satisfied
+    /// as it is made where enough members are past it. Whose command it was makes no difference to what a sender keeps.
+    ///
+    /// # Errors
+    ///
+    /// `Quorum` exactly where the quorum is 0 or above the number of receivers, else `NothingEnqueued` exactly where this
+    /// instance enqueued nothing, and else `TooMany` exactly where 16 watermarks are open; or `Memory`. Then nothing
+    /// changes.
+    pub fn mark(&mut self, quorum: Option<u32>) -> Result<Receipt, MarkFault>
+        ensures profile { self.new.p ≡ self.old.p }
+        ensures stands { (s : SenderState) (by : Origin) → Stands self.old s → result ≢ Err fault.Memory
+            → Stands self.new (marked self.old.p s by quorum).0 × (result ≡ (marked self.old.p s by quorum).1) }
+        ensures memory { result ≡ Err fault.Memory → self.new ≡ self.old }
+    {
+        self.parts.mark(quorum)
+    }
+
+    /// Begins another instance, with an order of its own: window, wants and round are empty, members are listed past
+    /// nothing, and open watermarks are cut. It takes no memory.
+    ///
+    /// # Errors
+    ///
+    /// `IdUsed` exactly where the id does not lie above each one before. Then nothing changes.
+    pub fn restart(&mut self, instance: InstanceId) -> Result<Receipt, SendFault>
+        ensures profile { self.new.p ≡ self.old.p }
+        ensures stands { (s : SenderState) → Stands self.old s → Stands self.new (restarted s instance).0 × (result ≡ (restarted s instance).1) }
+    {
+        self.parts.restart(instance)
+    }
+
+    /// Strikes a member for good: nothing waits for it any more. It takes no memory.
+    ///
+    /// # Errors
+    ///
+    /// `NotMember` exactly where the node is no receiver or was struck, and `LastMember` exactly where it is the only
+    /// member. Then nothing changes.
+    pub fn strike(&mut self, node: NodeId) -> Result<Receipt, StrikeFault>
+        ensures profile { self.new.p ≡ self.old.p }
+        ensures stands { (s : SenderState) → Stands self.old s → Stands self.new (strikes s node).0 × (result ≡ (strikes s node).1) }
+    {
+        self.parts.strike(node)
     }
 
     /// The first change that was not told yet: a member that is newly listed past a position, or else a watermark that

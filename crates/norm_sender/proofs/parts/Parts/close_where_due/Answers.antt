@@ -1,4 +1,4 @@
-use Rattle.std.proofs.Common.{◌≡◌, ◌∙◌, sym, subst, true}
+use Rattle.std.proofs.Common.{◌∙◌, sym, subst}
 use Rattle.norm_sender.specs.declared.pace.Pace.{Pace}
 use Rattle.norm_sender.specs.Inside.{kept_of}
 use Rattle.norm_sender.specs.SenderKept.{Agrees}

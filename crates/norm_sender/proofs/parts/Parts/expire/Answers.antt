@@ -1,4 +1,4 @@
-use Rattle.std.proofs.Common.{◌≡◌, ◌∙◌, sym, subst, true, false}
+use Rattle.std.proofs.Common.{◌∙◌, sym, subst, true, false}
 use Rattle.norm_send_rules.specs.Flushing.{expired}
 use Rattle.norm_sender.specs.declared.pace.Pace.{Pace}
 use Rattle.norm_sender.specs.Inside.{kept_of}

@@ -1,10 +1,9 @@
-use Rattle.std.proofs.Common.{◌≡◌, ◌∙◌, ◌<◌, ap, sym, subst, arith}
-use Rattle.norm_send_rules.specs.SenderState.{SenderState, Watermark}
+use Rattle.std.proofs.Common.{◌<◌, ap, sym, subst, arith}
 use Rattle.norm_send_rules.specs.Watermarks.{oldest}
 use Rattle.norm_send_rules.specs.Flushing.{flushed, expired, flushes_oldest}
 use Rattle.mark_book.specs.declared.watermark.OpenWatermark.{OpenWatermark}
 use Rattle.norm_sender.specs.declared.pace.Pace.{Pace}
-use Rattle.std.proofs.Common.{ℕ, true, false}
+use Rattle.std.proofs.Common.{ℕ}
 use Rattle.norm_base.specs.Settings.{Settings}
 use Rattle.norm_sender.specs.SenderKept.{Agrees}
 use Rattle.norm_sender.specs.Inside.{kept_of}

@@ -1,4 +1,4 @@
-use Rattle.std.proofs.Common.{◌≡◌, ◌∙◌, ◌<◌, ap, sym, subst, arith}
+use Rattle.std.proofs.Common.{ap, arith}
 use Rattle.norm_send_rules.specs.Watermarks.{oldest}
 use Rattle.norm_send_rules.specs.Flushing.{flushes_for}
 use Rattle.mark_book.specs.declared.watermark.OpenWatermark.{OpenWatermark}

@@ -1,4 +1,4 @@
-use Rattle.std.proofs.Common.{◌≡◌, ◌∙◌, ℕ, sym, ap, subst, length, arith}
+use Rattle.std.proofs.Common.{◌≡◌, sym, subst, length}
 use Rattle.std.proofs.Common.{List, eq-eqb, true}
 use Rattle.std.specs.Prelude.{◌==◌}
 use Rattle.norm_ext.specs.Requests.{requests_of, Request}

@@ -1,10 +1,8 @@
-use Rattle.std.proofs.Common.{◌≡◌, ◌∙◌, Some, ap, sym, subst, arith}
+use Rattle.std.proofs.Common.{◌≡◌, Some, ap, sym, subst, arith}
 use Rattle.norm_base.specs.Settings.{Settings}
-use Rattle.norm_send_rules.specs.SenderState.{SenderState}
 use Rattle.norm_send_rules.specs.Sending.{next_new, behind}
 use Rattle.norm_sender.specs.declared.pace.Pace.{Pace}
 use Rattle.norm_sender.specs.Inside.{kept_of}
-use Rattle.norm_sender.specs.SenderKept.{SenderKept, Agrees}
 use Rattle.norm_sender.proofs.NewLemmas.{next_valid, valid_on}
 use Rattle.norm_sender.proofs.TickingLemmas.{new_sends, goes_on_stands}
 use Rattle.norm_sender.proofs.parts.Parts.send_further.Goals as goal

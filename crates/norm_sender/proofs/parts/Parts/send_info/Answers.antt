@@ -1,10 +1,7 @@
 use Rattle.std.proofs.Common.{◌≡◌, true, sym, subst}
-use Rattle.norm_base.specs.Settings.{Settings}
 use Rattle.norm_base.specs.declared.kinds.Sent.TheVariants.{Datagram}
 use Rattle.norm_order.specs.Entries.{Whole}
-use Rattle.norm_order.specs.Shapes.{has_info}
 use Rattle.std.proofs.Common.{Some}
-use Rattle.norm_send_rules.specs.InWindow.{current_shapes}
 use Rattle.norm_send_rules.specs.Sending.{sends_want}
 use Rattle.norm_send_rules.specs.declared.want.Want.TheVariants.{Info}
 use Rattle.norm_sender.specs.declared.parts.Parts.{Parts}

@@ -1,4 +1,3 @@
-use Rattle.std.proofs.Common.{◌≡◌, ◌∷◌}
 use Rattle.norm_sender.specs.Inside.{kept_of}
 use Rattle.norm_sender.proofs.TickingLemmas.{took, first_valid, repair_sent}
 use Rattle.norm_sender.proofs.parts.Parts.send_wanted.Goals as goal

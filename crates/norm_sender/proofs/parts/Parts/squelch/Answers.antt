@@ -1,4 +1,4 @@
-use Rattle.std.proofs.Common.{◌≡◌, ◌∙◌, ap, sym, subst}
+use Rattle.std.proofs.Common.{sym, subst}
 use Rattle.norm_base.specs.declared.kinds.Sent.TheVariants.{Datagram}
 use Rattle.norm_send_rules.specs.Ticking.{sends_first}
 use Rattle.norm_sender.specs.declared.parts.Parts.{Parts}

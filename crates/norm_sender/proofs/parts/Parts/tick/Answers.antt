@@ -1,9 +1,7 @@
-use Rattle.std.proofs.Common.{◌≡◌, ◌∙◌, Bool, true, false, ap, sym, subst}
-use Rattle.std.specs.Prelude.{nat_lt}
+use Rattle.std.proofs.Common.{◌∙◌, Bool, true, false, ap, sym, subst}
 use Rattle.norm_base.specs.Settings.{Settings}
 use Rattle.norm_send_rules.specs.Laws.{WantsHold}
 use Rattle.norm_send_rules.specs.Ticking.{closed_where_due, sends_first}
-use Rattle.norm_sender.specs.declared.pace.Pace.{Pace}
 use Rattle.norm_sender.specs.Inside.{kept_of}
 use Rattle.norm_sender.specs.SenderMoves.{IsSent}
 use Rattle.norm_sender.proofs.TickingLemmas.{in_time, closed_wants}

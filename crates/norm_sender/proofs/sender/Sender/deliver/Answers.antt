@@ -1,7 +1,7 @@
-use Rattle.std.proofs.Common.{◌≡◌, ◌∙◌, ap, sym, subst}
+use Rattle.std.proofs.Common.{◌∙◌, ap, sym, subst}
 use Rattle.norm_send_rules.specs.Hearing.{heard}
 use Rattle.norm_sender.specs.Inside.{kept_of}
-use Rattle.norm_sender.specs.SenderKept.{SenderKept, Stands, SenderSound}
+use Rattle.norm_sender.specs.SenderKept.{SenderKept, Stands}
 use Rattle.norm_sender.proofs.SenderLemmas.{hears}
 use Rattle.norm_sender.proofs.sender.Sender.deliver.Goals as goal
 

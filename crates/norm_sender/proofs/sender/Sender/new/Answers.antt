@@ -1,6 +1,5 @@
-use Rattle.std.proofs.Common.{◌≡◌, ◌∙◌, ap, length, ℕ, List, arith}
+use Rattle.std.proofs.Common.{◌∙◌, ap, length, arith}
 use Rattle.norm_send_rules.specs.SenderState.{sender_opening}
-use Rattle.norm_sender.specs.Inside.{kept_of}
 use Rattle.norm_sender.proofs.SenderLemmas.{receivers_count, begins}
 use Rattle.norm_sender.proofs.sender.Sender.new.Goals as goal
 

@@ -2,7 +2,7 @@ use Rattle.std.proofs.Common.{◌≡◌, ◌∙◌, ap, sym, subst}
 use Rattle.std.specs.Prelude.{IfNone}
 use Rattle.norm_send_rules.specs.Telling.{told}
 use Rattle.norm_sender.specs.Inside.{kept_of}
-use Rattle.norm_sender.specs.SenderKept.{SenderKept, Stands, SenderSound}
+use Rattle.norm_sender.specs.SenderKept.{SenderKept, Stands}
 use Rattle.norm_sender.proofs.SenderLemmas.{tells}
 use Rattle.norm_sender.proofs.sender.Sender.news.Goals as goal
 

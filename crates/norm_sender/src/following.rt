@@ -1,0 +1,28 @@
+//! How a sender follows its book, once that is ahead of it.
+
+ghost use Rattle.std.specs.Prelude.{◌≡◌, option_map};
+ghost use Rattle.norm_send_rules.specs.SenderState.{SenderState};
+ghost use Rattle.norm_send_rules.specs.Watermarks.{oldest, counted_anew};
+ghost use Rattle.mark_book.specs.Answers.{open_watermark};
+ghost use Rattle.norm_sender.specs.SenderKept.{Agrees};
+ghost use Rattle.norm_sender.specs.SenderMoves.{IsBehind, with_book};
+ghost use Rattle.norm_sender.specs.Inside.{kept_of};
+
+use crate::parts::Parts;
+use mark_book::{OpenWatermark, keeps_oldest};
+
+impl Parts {
+    /// Follows the book, before which this was the oldest watermark: the window is told what all members are past now,
+    /// and flushes are counted anew where another watermark became the oldest.
+    pub(crate) fn follow(&mut self, before: Option<OpenWatermark>)
+        ensures profile { self.new.profile ≡ self.old.profile }
+        ensures stands { (s t : SenderState) → IsBehind (kept_of self.old) s (with_book t s) → before ≡ option_map open_watermark (oldest s)
+            → Agrees (kept_of self.new) (counted_anew s (with_book t s)) }
+    {
+        self.window.note_past(self.book.least());
+        if keeps_oldest(before, self.book.oldest()) {
+            return;
+        }
+        self.pace = self.pace.counted_anew();
+    }
+}
