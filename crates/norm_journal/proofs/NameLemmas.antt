@@ -12,7 +12,8 @@ use Rattle.norm_send_rules.specs.declared.job.Receipt.{Receipt}
 use Rattle.norm_send_rules.specs.declared.fault.SendFault.{SendFault}
 use Rattle.norm_safety.specs.Events.{Commanded, Gave}
 use Rattle.norm_safety.specs.Lawful.{same_origin, accepted_with}
-use Rattle.norm_journal.specs.Commands.{waits, waiting_after}
+use Rattle.norm_send_rules.specs.Waiting.{may_wait}
+use Rattle.norm_journal.specs.Commands.{waiting_after}
 use Rattle.norm_journal.specs.Pulling.{origin_of, first_line}
 use Rattle.norm_journal.specs.Same.{same_gave}
 use Rattle.norm_journal.proofs.PullLemmas.{same_name}
@@ -131,4 +132,4 @@ pub given_once : (q by : Origin) (line : Line) (job : Job) (now : ℕ) (accepted
 given_once q by line job now accepted (Ok a) (Ok b) named same = let more = count_push q by accepted in omega (arith, more)
 given_once q by line job now accepted (Ok a) (Err b) named same = absurd (clash same)
 given_once q by line job now accepted (Err a) (Ok b) named same = absurd (clash same)
-given_once q by line job now accepted (Err a) (Err b) named same = let w = if_waits (waits (Err b)) q by line named in omega (arith, w)
+given_once q by line job now accepted (Err a) (Err b) named same = let w = if_waits (may_wait b) q by line named in omega (arith, w)

@@ -1,5 +1,5 @@
 -- The commands of a script are told to the nodes as octets.
-use Rattle.std.proofs.Common.{◌≡◌, ℕ, zero, suc, ◌<◌, List, [], ◌∷◌, ◌++◌, Bool, true, false, Option, None, Some, Result, Err, refl, sym, subst, arith, inl, inr}
+use Rattle.std.proofs.Common.{◌≡◌, ℕ, zero, suc, ◌<◌, List, [], ◌∷◌, ◌++◌, Bool, true, false, Option, None, Some, Result, Ok, Err, refl, sym, subst, arith, inl, inr}
 use Rattle.std.specs.Prelude.{◌==◌, ◌⊎◌, IfSome, IsSome, replicate, ⊤}
 use Rattle.std.specs.List.{AllByRecursion}
 use Rattle.std.specs.Option.{option_map, option_to_list}
@@ -21,7 +21,8 @@ use Rattle.norm_safety.specs.Jobs.{IsJob, IsEvent, AreEvents}
 use Rattle.norm_journal.specs.declared.event.Event.{Event}
 use Rattle.norm_journal.specs.declared.event.Event.TheVariants as event
 use Rattle.norm_journal.specs.Accepting.{accepts, judged_from}
-use Rattle.norm_journal.specs.Commands.{telling, waits}
+use Rattle.norm_send_rules.specs.Waiting.{may_wait}
+use Rattle.norm_journal.specs.Commands.{telling, waiting_after}
 use Rattle.norm_journal.specs.Follows.{Follows, IsJobOf, OfferedAndTold, OfferedAgain, SendersTick, ReceiversTick}
 use Rattle.norm_journal.specs.Jobs.{Told as Files, job_of}
 use Rattle.norm_journal.specs.Judged.{Judged, judged_opening}
@@ -105,6 +106,10 @@ if_waits : (b : Bool) (line : Line) → IsOfScript line → IfSome (elim b [ tru
 if_waits true line is = is
 if_waits false line is = tt
 
+after_waiting : (gave : Result Receipt SendFault) (line : Line) → IsOfScript line → IfSome (waiting_after line gave) IsOfScript
+after_waiting (Ok receipt) line is = tt
+after_waiting (Err fault) line is = if_waits (may_wait fault) line is
+
 told_line : (place : Place) (line : Line) → IsPlace place → telling place ≡ Some line → IsOfScript line
 told_line place line is at = by_place (told_at place line at) where
   by_place : (place ≡ Giving line) ⊎ ((place ≡ Again line) × (job_of line.verb ≡ None)) → IsOfScript line
@@ -152,12 +157,12 @@ follows_scripted j next (event.Pull by) f s =
     by_then next _ f.1.then (record { left = subst (AllByRecursion IsOfScript) (sym its.rest_is) all.1; waiting = s.waiting; place = all.0 })
 follows_scripted j next (event.Job by told gave) f s = by_then next _ f.1.then (record {
   left = s.left;
-  waiting = if_waits (waits gave) f.1.line (offer_line j f.1.line told f.1.job gave s f.1.due);
+  waiting = after_waiting gave f.1.line (offer_line j f.1.line told f.1.job gave s f.1.due);
   place = tt;
 })
 follows_scripted j next (event.Length by name len fault) f s = by_then next _ f.1.then (record {
   left = s.left;
-  waiting = if_waits (waits (Err fault)) f.1.line (told_line j.place f.1.line s.place f.1.place);
+  waiting = after_waiting (Err fault) f.1.line (told_line j.place f.1.line s.place f.1.place);
   place = tt;
 })
 follows_scripted j next (event.Tick node said) f s =

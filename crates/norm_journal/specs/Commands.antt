@@ -1,15 +1,12 @@
 -- Commands in a turn: a pull gives the next one, and it is offered to the sender, again in each turn while it has to wait.
-use Rattle.std.specs.Prelude.{ℕ, ◌&&◌, List, Bool, true, false, Option, None, Some, Result, Err, option_and_then}
+use Rattle.std.specs.Prelude.{ℕ, ◌&&◌, List, true, false, Option, None, Some, Result, Ok, Err, option_and_then}
 use Rattle.std.specs.Option.{option_map}
 use Rattle.norm_base.specs.declared.node.Origin.{Origin}
 use Rattle.norm_script.specs.declared.script.Line.{Line}
 use Rattle.norm_send_rules.specs.declared.job.Job.{Job}
 use Rattle.norm_send_rules.specs.declared.job.Receipt.{Receipt}
 use Rattle.norm_send_rules.specs.declared.fault.SendFault.{SendFault}
-use Rattle.norm_send_rules.specs.declared.fault.SendFault.TheVariants as send
-use Rattle.norm_send_rules.specs.declared.fault.EnqueueFault.TheVariants as enqueue
-use Rattle.norm_send_rules.specs.declared.fault.StreamFault.TheVariants as stream
-use Rattle.norm_send_rules.specs.declared.fault.MarkFault.TheVariants as mark
+use Rattle.norm_send_rules.specs.Waiting.{may_wait}
 use Rattle.norm_safety.specs.Events.{Commanded, Gave}
 use Rattle.norm_safety.specs.Lawful.{same_origin}
 use Rattle.norm_journal.specs.InWorld.{comes}
@@ -19,16 +16,10 @@ use Rattle.norm_journal.specs.Places.{Place, Pulling, Giving, Again, Sending}
 use Rattle.norm_journal.specs.Pulling.{pulled, origin_of}
 use Rattle.norm_journal.specs.Totals.{with_gave}
 
--- a command waits where there is no room yet: in the window, in the stream's buffer, or for one more watermark
-abbrev pub waits : Result Receipt SendFault → Bool
-waits (Err (send.Enqueue (enqueue.WindowFull first))) = true
-waits (Err (send.Enqueue (enqueue.Stream (stream.Full first)))) = true
-waits (Err (send.Mark (mark.TooMany count))) = true
-waits _ = false
-
--- the line whose command waits after this answer
+-- the line whose command waits after this answer: where the sender only has no room for it yet
 abbrev pub waiting_after : Line → Result Receipt SendFault → Option Line
-waiting_after line gave = elim (waits gave) [ true ↦ Some line | false ↦ None ]
+waiting_after line (Ok receipt) = None
+waiting_after line (Err fault) = elim (may_wait fault) [ true ↦ Some line | false ↦ None ]
 
 -- a line's command was offered, and gave this
 abbrev pub offered : Line → Result Receipt SendFault → Judged → Judged

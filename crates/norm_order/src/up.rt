@@ -1,6 +1,8 @@
 //! What a receiver hands up.
 
-use norm_base::{Kind, Octets};
+ghost use Rattle.std.specs.Prelude.{◌≡◌, IfOk};
+
+use norm_base::{Kind, Memory, Octets};
 
 /// One hand-up of a receiver, in transport order.
 #[derive(Clone, Debug, PartialEq, Eq, Drop)]
@@ -30,4 +32,63 @@ pub enum Up {
     Lost {
         index: u32,
     },
+}
+
+/// The same octets, in memory of their own.
+pub fn copy_of_octets(octets: &Octets) -> Result<Octets, Memory>
+    ensures { IfOk result (λ copy. copy ≡ octets.now) }
+{
+    Ok(octets.clone()?)
+}
+
+/// The same hand-up, in memory of its own.
+pub fn copy_of_up(up: &Up) -> Result<Up, Memory>
+    ensures { IfOk result (λ copy. copy ≡ up.now) }
+{
+    match up {
+        Up::Object {
+            index,
+            kind,
+            info: None,
+            bytes,
+        } => {
+            let bytes = copy_of_octets(bytes)?;
+            Ok(Up::Object {
+                index: *index,
+                kind: *kind,
+                info: None,
+                bytes,
+            })
+        }
+        Up::Object {
+            index,
+            kind,
+            info: Some(info),
+            bytes,
+        } => {
+            let info = copy_of_octets(info)?;
+            let bytes = copy_of_octets(bytes)?;
+            Ok(Up::Object {
+                index: *index,
+                kind: *kind,
+                info: Some(info),
+                bytes,
+            })
+        }
+        Up::StreamOpen { index } => Ok(Up::StreamOpen { index: *index }),
+        Up::StreamBytes {
+            index,
+            offset,
+            bytes,
+        } => {
+            let bytes = copy_of_octets(bytes)?;
+            Ok(Up::StreamBytes {
+                index: *index,
+                offset: *offset,
+                bytes,
+            })
+        }
+        Up::StreamEnd { index } => Ok(Up::StreamEnd { index: *index }),
+        Up::Lost { index } => Ok(Up::Lost { index: *index }),
+    }
 }

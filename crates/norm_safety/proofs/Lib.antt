@@ -30,6 +30,7 @@ pub mod ReceiverMoves
 pub mod WorldHolds
 pub mod WorldMoves
 pub mod WorldTakes
+pub mod WorldLemmas
 pub mod OrderRun
 pub mod SaidRun
 pub mod SafeRun

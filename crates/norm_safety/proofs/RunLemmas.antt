@@ -15,6 +15,7 @@ use Rattle.norm_ext.specs.Written.{Written}
 use Rattle.norm_safety.specs.Events.{Event, Answer, Gave, Sent, Took, Told, Silent}
 use Rattle.norm_safety.specs.World.{World, world_opening, receiver_at, with_receiver, with_given, is_of, offers}
 use Rattle.norm_safety.specs.WorldStep.{Move, OfSender, OfReceiver, OfNetwork, OfNobody, move_of, moved, answered, of_sender, of_receiver, world_step}
+use Rattle.norm_safety.specs.WorldLaws.{nodes_of}
 use Rattle.norm_safety.specs.History.{Happening, History, happens, history}
 use Rattle.norm_safety.specs.Hands.{is_at, taken_in, hands, instance_at}
 use Rattle.norm_safety.specs.OnceEach.{order_of, are_distinct}
@@ -27,9 +28,6 @@ clash : false ≡ true → ⊥
 clash e = cc
 
 -- The nodes of a world's receivers, which no step changes.
-
-abbrev nodes : World → List ℕ
-nodes w = map (λ (r : ReceiverState). r.node) w.receivers
 
 abbrev put_where : Bool → ReceiverState → ReceiverState → ReceiverState
 put_where b r x = elim b [ true ↦ r | false ↦ x ]
@@ -48,29 +46,29 @@ nodes_with r (x ∷ receivers) =
     ap (λ n. n ∷ map (λ (y : ReceiverState). y.node) (map (put_in r) receivers)) (same_node r x (x.node == r.node) refl)
     ∙ ap (λ ns. x.node ∷ ns) (nodes_with r receivers)
 
-given_nodes : (node : ℕ) (datagram : Option Written) (w : World) → nodes (with_given node datagram w) ≡ nodes w
+given_nodes : (node : ℕ) (datagram : Option Written) (w : World) → nodes_of (with_given node datagram w) ≡ nodes_of w
 given_nodes node None w = refl
 given_nodes node (Some datagram) w = refl
 
-answered_nodes : (node : ℕ) (answer : Answer) (w : World) → nodes (answered node answer w).0 ≡ nodes w
+answered_nodes : (node : ℕ) (answer : Answer) (w : World) → nodes_of (answered node answer w).0 ≡ nodes_of w
 answered_nodes node (Sent datagram) w = given_nodes node datagram w
 answered_nodes node (Gave result) w = refl
 answered_nodes node (Took up) w = refl
 answered_nodes node (Told news) w = refl
 answered_nodes node Silent w = refl
 
-offers_nodes : (found : Option (ℕ × Written)) (node : ℕ) (w : World) → nodes (offers found node w) ≡ nodes w
+offers_nodes : (found : Option (ℕ × Written)) (node : ℕ) (w : World) → nodes_of (offers found node w) ≡ nodes_of w
 offers_nodes None node w = refl
 offers_nodes (Some datagram) node w = refl
 
-move_nodes : (p : Settings) (w : World) (move : Move) → nodes (moved p w move).0 ≡ nodes w
+move_nodes : (p : Settings) (w : World) (move : Move) → nodes_of (moved p w move).0 ≡ nodes_of w
 move_nodes p w (OfSender event) = (let step = sender_step p w.sender event in answered_nodes p.sender (of_sender step.1) (record w { sender = step.0 }))
 move_nodes p w (OfReceiver r event) =
     let step = receiver_step p r event in answered_nodes r.node (of_receiver step.1) (with_receiver step.0 w) ∙ nodes_with step.0 w.receivers
 move_nodes p w (OfNetwork node octets) = offers_nodes (find (is_of node octets) w.given) node w
 move_nodes p w OfNobody = refl
 
-step_nodes : (p : Settings) (w : World) (e : Event) → nodes (world_step p w e).0 ≡ nodes w
+pub step_nodes : (p : Settings) (w : World) (e : Event) → nodes_of (world_step p w e).0 ≡ nodes_of w
 step_nodes p w e = move_nodes p w (move_of p w e)
 
 -- A node without a receiver comes to no instance.
@@ -89,10 +87,10 @@ no_receiver node (r ∷ receivers) e =
     let two = neither (r.node == node) (is_one node (map (λ (x : ReceiverState). x.node) receivers)) e in
     ap (λ b. cond b (Some r) (find (λ (x : ReceiverState). x.node == node) receivers)) two.0 ∙ no_receiver node receivers two.1
 
-no_instance : (node : ℕ) (w : World) → is_one node (nodes w) ≡ false → instance_at w node ≡ None
+no_instance : (node : ℕ) (w : World) → is_one node (nodes_of w) ≡ false → instance_at w node ≡ None
 no_instance node w e = ap (λ (found : Option ReceiverState). elim found [ Some r ↦ r.instance | None ↦ None ]) (no_receiver node w.receivers e)
 
-comes_nowhere : (p : Settings) (events : List Event) (w : World) (node : ℕ) → is_one node (nodes w) ≡ false → came_to node None (happens p w events) ≡ []
+comes_nowhere : (p : Settings) (events : List Event) (w : World) (node : ℕ) → is_one node (nodes_of w) ≡ false → came_to node None (happens p w events) ≡ []
 unfolding came_to happens
 comes_nowhere p [] w node e = refl
 comes_nowhere p (x ∷ events) w node e =
@@ -171,7 +169,7 @@ came p (x ∷ events) w node id = go (is_at w node id) refl (came p events (worl
 
 -- As a world begins.
 
-opening_nodes : (ns : List ℕ) → map (λ (r : ReceiverState). r.node) (map receiver_opening ns) ≡ ns
+pub opening_nodes : (ns : List ℕ) → map (λ (r : ReceiverState). r.node) (map receiver_opening ns) ≡ ns
 opening_nodes [] = refl
 opening_nodes (n ∷ ns) = ap (λ more. n ∷ more) (opening_nodes ns)
 

@@ -1,8 +1,8 @@
 -- What a sender hears, sends and tells leaves its orders, and the commands of its watermarks.
 use Rattle.std.proofs.Math.Nat.{mod-lt}
-use Rattle.std.proofs.Common.{arith, ◌+◌, ◌<◌, ◌≡◌, ℕ, cond, List, [], ◌∷◌, Bool, true, false, Option, None, Some, Result, Ok, Err, refl, ap, ◌∙◌, subst, sym}
+use Rattle.std.proofs.Common.{arith, ◌+◌, ◌%◌, ◌<◌, ◌≡◌, ℕ, cond, List, [], ◌∷◌, Bool, true, false, Option, None, Some, Result, Ok, Err, refl, ap, ◌∙◌, subst, sym}
 use Rattle.std.specs.List.{AllByRecursion}
-use Rattle.std.specs.Prelude.{map, filter, not, ◌==◌, ◌&&◌, nat_le, nat_lt}
+use Rattle.std.specs.Prelude.{map, filter, not, ◌==◌, ◌&&◌}
 use Rattle.norm_base.specs.Settings.{Settings}
 use Rattle.norm_base.specs.declared.node.Origin.{Origin}
 use Rattle.fec_plan.specs.declared.position.Position.{Position}
@@ -11,21 +11,18 @@ use Rattle.norm_ext.specs.Message.{Message, Info, Data, Flush, Eot, Squelch, Rep
 use Rattle.norm_ext.specs.Asking.{item_named}
 use Rattle.norm_ext.specs.Reading.{decoded}
 use Rattle.norm_ext.specs.Requests.{Request}
-use Rattle.norm_ext.specs.Written.{Written, writes}
-use Rattle.norm_order.specs.Entries.{Object}
 use Rattle.norm_order.specs.Shapes.{is_source}
-use Rattle.norm_send_rules.specs.SenderState.{Listing, SenderState, Watermark, Round}
+use Rattle.norm_send_rules.specs.SenderState.{Listing, SenderState, Watermark}
 use Rattle.norm_send_rules.specs.InWindow.{last_index, current_shapes}
-use Rattle.norm_send_rules.specs.Watermarks.{is_past, pending, is_open, keeps_oldest, counted_anew, ended_with, end_where, settled, oldest, watermark_of}
+use Rattle.norm_send_rules.specs.Watermarks.{is_past, is_open, keeps_oldest, counted_anew, ended_with, end_where, settled, watermark_of}
 use Rattle.norm_send_rules.specs.Hearing.{listed_past, nack_counts, ack_counts, joined_round, rises, credited, credited_at, credited_by, nack_heard, ack_heard, message_heard, heard}
 use Rattle.norm_send_rules.specs.Striking.{without_node, struck_off}
 use Rattle.norm_send_rules.specs.Closing.{round_closed}
-use Rattle.norm_send_rules.specs.Messages.{squelch_message, flush_message}
-use Rattle.norm_send_rules.specs.Sending.{behind, repair_flags, object_of, message_of, sends, noted, sends_want, repairs_next, sends_new, next_new}
-use Rattle.norm_send_rules.specs.Flushing.{most_flushes, flushes_for, expired, flushes_oldest, flushes_no_more, flushed, flushes_in_turn, flushes, may_flush}
-use Rattle.norm_send_rules.specs.Ticking.{closed_where_due, sends_further, sends_wanted, sends_first, sends_in_time, ticked}
+use Rattle.norm_send_rules.specs.Sending.{behind, noted}
+use Rattle.norm_send_rules.specs.Flushing.{expired}
+use Rattle.norm_send_rules.specs.Ticking.{closed_where_due, ticked}
 use Rattle.norm_send_rules.specs.Telling.{told, past_news, done_news, listing_of}
-use Rattle.norm_send_rules.specs.Wants.{want_index}
+use Rattle.norm_send_rules.proofs.TickLemmas.{TickKeeps, closed_keep, tick_keeps}
 use Rattle.norm_send_rules.specs.declared.news.Outcome.{Outcome}
 use Rattle.norm_send_rules.specs.declared.news.News.{News}
 use Rattle.norm_send_rules.specs.declared.want.Want.{Want}
@@ -66,10 +63,6 @@ keeps_on a b c h g = record { earlier = g.earlier ∙ h.earlier; current = g.cur
 -- the position of a watermark
 abbrev pub mark_position : Watermark → Position
 mark_position w = w.at
-
--- the state of a step
-abbrev step_of : SenderState × Option Written → SenderState
-step_of step = step.0
 
 -- the node of a listing
 abbrev listing_node : Listing → ℕ
@@ -190,115 +183,34 @@ message_keeps p s now (Err e) = keeps_all s
 pub heard_keeps : (p : Settings) (s : SenderState) (bytes : List ℕ) (now : ℕ) → Keeps s (heard p s bytes now)
 heard_keeps p s bytes now = message_keeps p s now (decoded bytes)
 
--- A tick: what is sent changes what was sent, and the moments.
+-- ---- a tick
+
 noted_keeps : (w : Want) (s : SenderState) → Keeps s (noted w s)
 noted_keeps (WantedInfo index) s = record { earlier = refl; current = refl; by = refl; nodes = λ few. few; sequence = λ h. h; asked = λ test all. all }
 noted_keeps (Symbol at) s = record { earlier = refl; current = refl; by = refl; nodes = λ few. few; sequence = λ h. h; asked = λ test all. all }
 
-sends_keeps : (p : Settings) (now : ℕ) (m : Written) (old s : SenderState) → Keeps old s → Keeps old (sends p now m s).0
-sends_keeps p now m old s h = record {
-  earlier = h.earlier;
-  current = h.current;
-  by = h.by;
-  nodes = h.nodes;
-  sequence = λ n. mod-lt (s.sequence + 1) (omega arith);
-  asked = h.asked;
-}
-
-want_keeps : (p : Settings) (now : ℕ) (repair : Object → ℕ) (w : Want) (old s : SenderState) → Keeps old s
-    → Keeps old (sends_want p now repair w s).0
-want_keeps p now repair w old s h =
-    let object = object_of s w in
-    sends_keeps p now (writes (message_of p s w object (repair object)) (want_index w ∷ [])) old (noted w s)
-    (keeps_on old s (noted w s) h (noted_keeps w s))
-
-flushes_for_keeps : (p : Settings) (now : ℕ) (w : Watermark) (s : SenderState) → Keeps s (flushes_for p now w s).0
-flushes_for_keeps p now w s = sends_keeps p now (writes (flush_message p s w.at (pending s w.at)) (w.at.index ∷ [])) s
-    (record s { flushes = s.flushes + 1; last_flush = Some now }) (record { earlier = refl; current = refl; by = refl; nodes = λ few. few; sequence = λ h. h; asked = λ test all. all })
-
 pub expired_keeps : (mark : ℕ) (s : SenderState) → Keeps s (expired mark s)
 expired_keeps mark s = counted_keeps s s _ (ends_keeps _ _ s)
 
-oldest_keeps : (p : Settings) (now : ℕ) (s : SenderState) → Keeps s (flushes_oldest p now s).0
-oldest_keeps p now s = go (oldest s)
-  where
-    go : (found : Option Watermark) → Keeps s (step_of (elim found [ Some w ↦ flushes_for p now w s | None ↦ (s, None) ]))
-    go (Some w) = flushes_for_keeps p now w s
-    go None = keeps_all s
-
-no_more_keeps : (p : Settings) (now : ℕ) (w : Watermark) (s : SenderState) → Keeps s (flushes_no_more p now w s).0
-no_more_keeps p now w s = go s.round
-  where
-    go : (round : Option Round) → Keeps s (step_of (elim round [ Some r ↦ (s, None) | None ↦ flushes_oldest p now (expired w.mark s) ]))
-    go (Some r) = keeps_all s
-    go None = keeps_on s (expired w.mark s) _ (expired_keeps w.mark s) (oldest_keeps p now (expired w.mark s))
-
-flushed_keeps : (p : Settings) (now : ℕ) (w : Watermark) (s : SenderState) → Keeps s (flushed p now w s).0
-flushed_keeps p now w s = go (nat_lt s.flushes most_flushes)
-  where
-    go : (b : Bool) → Keeps s (step_of (elim b [ true ↦ flushes_for p now w s | false ↦ flushes_no_more p now w s ]))
-    go true = flushes_for_keeps p now w s
-    go false = no_more_keeps p now w s
-
-in_turn_keeps : (p : Settings) (now : ℕ) (s : SenderState) → Keeps s (flushes_in_turn p now s).0
-in_turn_keeps p now s = go (oldest s)
-  where
-    go : (found : Option Watermark) → Keeps s (step_of (elim found [ Some w ↦ flushed p now w s | None ↦ (s, None) ]))
-    go (Some w) = flushed_keeps p now w s
-    go None = keeps_all s
-
-step_where : (b : Bool) (s : SenderState) (step : SenderState × Option Written) → Keeps s step.0
-    → Keeps s (step_of (elim b [ true ↦ step | false ↦ (s, None) ]))
-step_where true s step h = h
-step_where false s step h = keeps_all s
-
-flushes_keeps : (p : Settings) (now : ℕ) (s : SenderState) → Keeps s (flushes p now s).0
-flushes_keeps p now s = step_where (may_flush p s now) s _ (in_turn_keeps p now s)
-
-further_keeps : (p : Settings) (now : ℕ) (s : SenderState) → Keeps s (sends_further p now s).0
-further_keeps p now s = go (next_new p s)
-  where
-    go : (found : Option Want) → Keeps s (step_of (elim found [ Some w ↦ sends_new p now w s | None ↦ flushes p now s ]))
-    go (Some w) = want_keeps p now (λ object. 0) w s (record s { next = behind w }) (record { earlier = refl; current = refl; by = refl; nodes = λ few. few; sequence = λ h. h; asked = λ test all. all })
-    go None = flushes_keeps p now s
-
-wanted_keeps : (p : Settings) (now : ℕ) (s : SenderState) → Keeps s (sends_wanted p now s).0
-wanted_keeps p now s = go s.wants
-  where
-    go : (wants : List Want) → Keeps s (step_of (elim wants [ [] ↦ sends_further p now s | w ∷ wants ↦ repairs_next p now w wants s ]))
-    go [] = further_keeps p now s
-    go (w ∷ wants) = want_keeps p now (λ object. repair_flags p object w) w s (record s { wants = wants }) (record { earlier = refl; current = refl; by = refl; nodes = λ few. few; sequence = λ h. h; asked = λ test all. all })
-
-first_keeps : (p : Settings) (now : ℕ) (s : SenderState) → Keeps s (sends_first p now s).0
-first_keeps p now s = go s.squelch_due
-  where
-    go : (due : Bool) → Keeps s (step_of (elim due [
-      | true ↦ sends p now (writes (squelch_message p s s.current.drop) (s.current.drop.index ∷ [])) (record s { squelch_due = false })
-      | false ↦ sends_wanted p now s
-    ]))
-    go true = sends_keeps p now (writes (squelch_message p s s.current.drop) (s.current.drop.index ∷ [])) s (record s { squelch_due = false })
-        (record { earlier = refl; current = refl; by = refl; nodes = λ few. few; sequence = λ h. h; asked = λ test all. all })
-    go false = wanted_keeps p now s
-
-in_time_keeps : (p : Settings) (now : ℕ) (s : SenderState) → Keeps s (sends_in_time p now s).0
-in_time_keeps p now s = go (nat_lt now s.next_send)
-  where
-    go : (early : Bool) → Keeps s (step_of (elim early [ true ↦ (s, None) | false ↦ sends_first p now s ]))
-    go true = keeps_all s
-    go false = first_keeps p now s
+-- What each small step of a tick keeps.
+small_steps : (p : Settings) (old : SenderState) → TickKeeps p (Keeps old)
+small_steps p old = record {
+  closes = λ s r h. keeps_on old s (round_closed p r s) h (record { earlier = refl; current = refl; by = refl; nodes = λ few. few; sequence = λ n. n; asked = λ test all. all });
+  squelched = λ s h. keeps_on old s (record s { squelch_due = false }) h (record { earlier = refl; current = refl; by = refl; nodes = λ few. few; sequence = λ n. n; asked = λ test all. all });
+  repaired = λ s w wants e h. keeps_on old s (record s { wants = wants }) h (record { earlier = refl; current = refl; by = refl; nodes = λ few. few; sequence = λ n. n; asked = λ test all. all });
+  goes_on = λ s w e h. keeps_on old s (record s { next = behind w }) h (record { earlier = refl; current = refl; by = refl; nodes = λ few. few; sequence = λ n. n; asked = λ test all. all });
+  notes = λ s w h. keeps_on old s (noted w s) h (noted_keeps w s);
+  flushes = λ s now h. keeps_on old s (record s { flushes = s.flushes + 1; last_flush = Some now }) h (record { earlier = refl; current = refl; by = refl; nodes = λ few. few; sequence = λ n. n; asked = λ test all. all });
+  expires = λ s w e h. keeps_on old s (expired w.mark s) h (expired_keeps w.mark s);
+  spends = λ s moment h. keeps_on old s (record s { next_send = moment; sequence = (s.sequence + 1) % 65536 }) h
+      (record { earlier = refl; current = refl; by = refl; nodes = λ few. few; sequence = λ n. mod-lt (s.sequence + 1) (omega arith); asked = λ test all. all });
+}
 
 pub closed_keeps : (p : Settings) (now : ℕ) (s : SenderState) → Keeps s (closed_where_due p now s)
-closed_keeps p now s = go s.round
-  where
-    go : (round : Option Round) → Keeps s (elim round [
-      | Some r ↦ elim (nat_le r.closes now) [ true ↦ round_closed p r s | false ↦ s ]
-      | None ↦ s
-    ])
-    go (Some r) = where_true (nat_le r.closes now) s _ (record { earlier = refl; current = refl; by = refl; nodes = λ few. few; sequence = λ h. h; asked = λ test all. all })
-    go None = keeps_all s
+closed_keeps p now s = closed_keep p (Keeps s) (small_steps p s) now s (keeps_all s)
 
 pub ticked_keeps : (p : Settings) (s : SenderState) (now : ℕ) → Keeps s (ticked p s now).0
-ticked_keeps p s now = keeps_on s (closed_where_due p now s) _ (closed_keeps p now s) (in_time_keeps p now (closed_where_due p now s))
+ticked_keeps p s now = tick_keeps p (Keeps s) (small_steps p s) s now (keeps_all s)
 
 pub told_keeps : (s : SenderState) → Keeps s (told s).0
 told_keeps s = nodes s.untold_nodes

@@ -1,6 +1,7 @@
 pub mod Events
 pub mod World
 pub mod WorldStep
+pub mod WorldLaws
 pub mod History
 pub mod Lawful
 pub mod Jobs

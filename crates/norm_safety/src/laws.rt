@@ -2,6 +2,7 @@
 //! function that does nothing.
 
 ghost use Rattle.norm_safety.specs.Laws.{TestLaws, WantsHoldInRuns, SafeRun, OfRunsOfObjects, SaidOfOrders, CreditRun, SatisfiedRun};
+ghost use Rattle.norm_safety.specs.WorldLaws.{WorldLaws};
 
 /// The first two parts of safety. In every lawful run, whatever the network loses, repeats, reorders or delays and however
 /// often the sender restarts, accepted objects enter the transport order once each. And in those of data and files each
@@ -44,4 +45,12 @@ pub fn credit_run()
 /// many members as its quorum says, and all where there were no more, were listed past it or further; and its outcome stays.
 pub fn satisfied_run()
     ensures { SatisfiedRun }
+{}
+
+/// What an event changes of a world. Only an offer joins what was offered; only the sender's events change the sender, and
+/// each other event moves the receiver of its node alone; the nodes stay the profile's, in order; and a take gives the next
+/// hand-up of its node's receiver.
+#[tactic(auto, using(crate::proofs::WorldLemmas::world_laws))]
+pub fn world_steps()
+    ensures { WorldLaws }
 {}

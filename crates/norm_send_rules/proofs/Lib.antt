@@ -5,6 +5,7 @@ pub mod AskingLemmas
 pub mod WantLemmas
 pub mod CutNames
 pub mod NewLemmas
+pub mod NextLemmas
 pub mod TickLemmas
 pub mod StepLemmas
 pub mod BookLemmas

@@ -34,7 +34,7 @@ abbrev IsOfShape : ℕ → Shape → Want → Type 0
 IsOfShape index s (WantedInfo i) = (i ≡ index) × (s.info ≡ true)
 IsOfShape index s (Symbol at) = (at.index ≡ index) × (nat_lt at.symbol (encoded_in s at.block) ≡ true)
 
-all_append : (P : Want → Type 0) (xs ys : List Want) → AllByRecursion P xs → AllByRecursion P ys → AllByRecursion P (xs ++ ys)
+pub all_append : (P : Want → Type 0) (xs ys : List Want) → AllByRecursion P xs → AllByRecursion P ys → AllByRecursion P (xs ++ ys)
 all_append P [] ys h g = g
 all_append P (x ∷ xs) ys h g = (h.0, all_append P xs ys h.1 g)
 
@@ -86,7 +86,7 @@ of_order_by all index s found (Symbol at) h =
     ap (λ (n : ℕ). at_index all n false (λ x. nat_lt at.symbol (encoded_in x at.block))) h.0
     ∙ found (λ x. nat_lt at.symbol (encoded_in x at.block)) ∙ h.1
 
-all_implied : (P Q : Want → Type 0) (ws : List Want) → ((w : Want) → P w → Q w) → AllByRecursion P ws → AllByRecursion Q ws
+pub all_implied : (P Q : Want → Type 0) (ws : List Want) → ((w : Want) → P w → Q w) → AllByRecursion P ws → AllByRecursion Q ws
 all_implied P Q [] f all = tt
 all_implied P Q (w ∷ ws) f all = (f w all.0, all_implied P Q ws f all.1)
 
@@ -127,7 +127,7 @@ shapes_many : (p : Settings) (order : List Entry) → length (shapes_of p order)
 shapes_many p [] = refl
 shapes_many p (x ∷ order) = ap suc (shapes_many p order)
 
-new_past : (p : Settings) (n index : ℕ) (order : List Entry) → length order ≤ n → new_from p index (shapes_of p (drop n order)) ≡ []
+pub new_past : (p : Settings) (n index : ℕ) (order : List Entry) → length order ≤ n → new_from p index (shapes_of p (drop n order)) ≡ []
 unfolding new_from
 new_past p zero index [] le = refl
 new_past p zero index (x ∷ order) le = absurd (omega arith)

@@ -1,17 +1,18 @@
 -- What is promised of the sender's rules.
-use Rattle.std.specs.Prelude.{ℕ, ◌≡◌, List, [], ◌∷◌, ⊤, Bool, true, Err, None, Some, false}
+use Rattle.std.specs.Prelude.{ℕ, ◌≡◌, ◌+◌, ◌<◌, ◌≤◌, ◌&&◌, not, List, [], ◌∷◌, length, find, slice_get, ⊤, Bool, true, Err, Option, None, Some, false}
 use Rattle.std.specs.List.{AllByRecursion}
 use Rattle.norm_base.specs.Settings.{Settings, InRange}
 use Rattle.norm_base.specs.declared.node.Origin.{Origin}
-use Rattle.norm_order.specs.Shapes.{Shape, is_encoded, has_info}
-use Rattle.norm_send_rules.specs.Wants.{want_before}
+use Rattle.norm_order.specs.Entries.{Entry}
+use Rattle.norm_order.specs.Shapes.{Shape, shape_of, is_encoded, has_info}
+use Rattle.norm_send_rules.specs.Wants.{want_before, want_index}
 use Rattle.norm_send_rules.specs.SenderState.{SenderState, Round, sender_opening}
 use Rattle.norm_send_rules.specs.InWindow.{stands_behind, current_shapes}
 use Rattle.norm_send_rules.specs.Streaming.{cut}
 use Rattle.norm_send_rules.specs.Marking.{is_no_quorum}
 use Rattle.norm_send_rules.specs.Commanding.{commanded}
 use Rattle.norm_send_rules.specs.Closing.{round_closed}
-use Rattle.norm_send_rules.specs.Sending.{next_new, behind}
+use Rattle.norm_send_rules.specs.Sending.{new_of, next_new, behind}
 use Rattle.norm_send_rules.specs.SenderStep.{SenderEvent, sender_step}
 use Rattle.norm_send_rules.specs.declared.fault.SendFault.{SendFault}
 use Rattle.norm_send_rules.specs.declared.job.Job.{Job}
@@ -73,3 +74,26 @@ pub record NewLaws : Type 0 where
   pub of_order : (p : Settings) (s : SenderState) (w : Want) → InRange p → next_new p s ≡ Some w → is_of_order (current_shapes p s) w ≡ true
   pub in_window : (p : Settings) (s : SenderState) (w : Want) → next_new p s ≡ Some w → stands_behind s.current.drop w ≡ true
   pub rises : (p : Settings) (s : SenderState) (last w : Want) → s.next ≡ behind last → next_new p s ≡ Some w → want_before last w ≡ true
+
+-- the first of these that is neither before the next place nor before the drop point
+abbrev pub first_standing : SenderState → List Want → Option Want
+first_standing s wants = find (λ w. not (want_before w s.next) && stands_behind s.current.drop w) wants
+
+-- the sender where the object with this index is next
+abbrev pub next_at : ℕ → SenderState → SenderState
+next_at index s = record s { next = Info index }
+
+-- What is new next, object by object.
+pub record NextLaws : Type 0 where
+  -- at the end of the order nothing is
+  pub at_end : (p : Settings) (s : SenderState) → length s.current.order ≤ want_index s.next → next_new p s ≡ None
+  -- of the object at hand the first that is neither before the next place nor before the drop point; and where none of it
+  -- is, what is new of the objects behind it
+  pub at_hand : (p : Settings) (s : SenderState) (entry : Entry) → slice_get s.current.order (want_index s.next) ≡ Some entry
+      → next_new p s ≡ elim (first_standing s (new_of p (want_index s.next) (shape_of p entry.object))) [
+        | Some w ↦ Some w
+        | None ↦ next_new p (next_at (want_index s.next + 1) s)
+      ]
+  -- where the drop point is of an object behind the one at hand, what is new from that object on
+  pub dropped : (p : Settings) (s : SenderState) → want_index s.next < s.current.drop.index
+      → next_new p s ≡ next_new p (next_at s.current.drop.index s)

@@ -4,6 +4,7 @@ ghost use Rattle.std.specs.Prelude.{◌≡◌, IfOk};
 
 use fec_plan::Position;
 use norm_base::{InstanceId, Memory, NodeId, Octets};
+use norm_order::copy_of_octets;
 
 /// What a sender is asked to do.
 #[derive(Clone, Debug, PartialEq, Eq, Drop)]
@@ -26,41 +27,34 @@ pub enum Job {
     Strike { node: NodeId },
 }
 
-/// The same octets.
-fn copy_of(bytes: &Octets) -> Result<Octets, Memory>
-    ensures { IfOk result (λ copy. copy ≡ bytes.now) }
-{
-    Ok(bytes.clone()?)
-}
-
 /// The same command, in memory of its own.
 pub fn copy_of_job(job: &Job) -> Result<Job, Memory>
     ensures { IfOk result (λ copy. copy ≡ job.now) }
 {
     match job {
         Job::Data { info: None, bytes } => {
-            let bytes = copy_of(bytes)?;
+            let bytes = copy_of_octets(bytes)?;
             Ok(Job::Data { info: None, bytes })
         }
         Job::Data {
             info: Some(info),
             bytes,
         } => {
-            let info = copy_of(info)?;
-            let bytes = copy_of(bytes)?;
+            let info = copy_of_octets(info)?;
+            let bytes = copy_of_octets(bytes)?;
             Ok(Job::Data {
                 info: Some(info),
                 bytes,
             })
         }
         Job::File { name, bytes } => {
-            let name = copy_of(name)?;
-            let bytes = copy_of(bytes)?;
+            let name = copy_of_octets(name)?;
+            let bytes = copy_of_octets(bytes)?;
             Ok(Job::File { name, bytes })
         }
         Job::Open => Ok(Job::Open),
         Job::Write { bytes } => {
-            let bytes = copy_of(bytes)?;
+            let bytes = copy_of_octets(bytes)?;
             Ok(Job::Write { bytes })
         }
         Job::Close => Ok(Job::Close),

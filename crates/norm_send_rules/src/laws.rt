@@ -1,6 +1,6 @@
 //! What is promised of the sender's rules. Each law is the contract of a function that does nothing.
 
-ghost use Rattle.norm_send_rules.specs.Laws.{RefusedLeaves, ClosingLaws, WantLaws, NewLaws};
+ghost use Rattle.norm_send_rules.specs.Laws.{RefusedLeaves, ClosingLaws, WantLaws, NewLaws, NextLaws};
 ghost use Rattle.norm_send_rules.specs.Reached.{ReachedLaws};
 
 /// A refused command leaves the state but for the cut of the open stream, which a refused mark makes too.
@@ -32,4 +32,11 @@ pub fn reached()
 #[tactic(auto, using(crate::proofs::NewLemmas::new_laws))]
 pub fn what_is_new()
     ensures { NewLaws }
+{}
+
+/// What is sent next by itself, object by object: the first of the object at hand that is neither before the next place nor
+/// before the drop point; where there is none, what is new of the objects behind it; and at the end of the order nothing.
+#[tactic(auto, using(crate::proofs::NextLemmas::next_laws))]
+pub fn what_is_new_next()
+    ensures { NextLaws }
 {}
