@@ -82,5 +82,5 @@ span_taken_in z xs left i lt is =
     next = omega arith
 
 -- what an edit that went well left
-pub edited : {T E : Type 0} (r : Result T E) (t : T) (new changed old : List Span) → new ≡ (if is_ok r then changed else old) → r ≡ Ok t → new ≡ changed
+pub edited : {X T E : Type 0} (r : Result T E) (t : T) (new changed old : List X) → new ≡ (if is_ok r then changed else old) → r ≡ Ok t → new ≡ changed
 edited r t new changed old e is = e ∙ ap (λ r. if is_ok r then changed else old) is

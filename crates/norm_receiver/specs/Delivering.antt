@@ -1,9 +1,38 @@
--- Which commands say something of an object.
-use Rattle.std.specs.Prelude.{⊤}
-use Rattle.norm_cmdmsg.specs.declared.command.CommandMsg.{CommandMsg}
-use Rattle.norm_cmdmsg.specs.declared.command.CommandMsg.TheVariants as lent
+-- What a datagram is to say, and what is heard of what others ask for.
+use Rattle.std.specs.Prelude.{◌==◌, ◌≡◌, ⊤, List, true, false, Result, Ok}
+use Rattle.norm_base.specs.Settings.{Settings}
+use Rattle.norm_ext.specs.Message.{Message, Info, Data}
+use Rattle.norm_ext.specs.Extensions.{extensions_of}
+use Rattle.norm_ext.specs.Requests.{Request, requests_of}
+use Rattle.norm_ext.specs.declared.head.CmdHead.{CmdHead}
+use Rattle.norm_fbmsg.specs.declared.message.NackMsg.{NackMsg}
+use Rattle.norm_receive_rules.specs.Leaving.{is_in}
+use Rattle.norm_receive_rules.specs.Overhearing.{overheard, nack_overheard}
+use Rattle.norm_receive_rules.specs.Plans.{says_stream}
+use Rattle.norm_receive_rules.specs.ReceiverState.{ReceiverState}
 
--- any but the sender's word of what it was asked for
-abbrev pub IsOfObject : CommandMsg → Type 0
-IsOfObject (lent.RepairAdv head flags exts requests) = ⊥
-IsOfObject _ = ⊤
+-- what octets spell is of no stream
+abbrev pub IsOfNoStream : {E : Type 0} → Result Message E → Type 0
+IsOfNoStream (Ok (Info m)) = says_stream m.head.flags ≡ false
+IsOfNoStream (Ok (Data m)) = says_stream m.head.flags ≡ false
+IsOfNoStream _ = ⊤
+
+-- a NACK that is lent is heard
+abbrev pub nack_heard : Settings → NackMsg → ReceiverState → ReceiverState
+nack_heard p m s =
+    nack_overheard p (
+    record {
+      source = m.source;
+      sequence = m.sequence;
+      sender = m.sender;
+      instance = m.instance;
+      extensions = extensions_of m.exts.now;
+      requests = requests_of m.requests.now;
+    }) s
+
+-- the sender's own word of what it was asked for, where it is the profile's sender and the receiver is in its instance
+abbrev pub adv_heard : Settings → CmdHead → List Request → ReceiverState → ReceiverState
+adv_heard p head requests s = elim (head.source == p.sender) [
+  | true ↦ elim (is_in s head.instance) [ true ↦ overheard p requests s | false ↦ s ]
+  | false ↦ s
+]

@@ -1,8 +1,10 @@
 pub mod Numbers
 pub mod Requesting
 pub mod ReceiverKept
+pub mod ReceiverSound
 pub mod Inside
 pub mod Receiving
 pub mod Quiet
 pub mod Delivering
 pub mod Moves
+pub mod Overhearing

@@ -1,6 +1,6 @@
-//! The messages of the sender that say something of an object (RFC 5740 section 5.3).
+//! The datagrams that a receiver takes in, message by message (RFC 5740 section 5.3).
 
-ghost use Rattle.std.specs.Prelude.{◌≡◌, Ok, IfOk, OnErr, false};
+ghost use Rattle.std.specs.Prelude.{◌≡◌, Ok, IfOk, OnErr, IsTrue, ◌↔◌, false, not};
 ghost use Rattle.norm_ext.specs.Extensions.{IsChecked};
 ghost use Rattle.norm_cmdmsg.specs.View.{command_of};
 ghost use Rattle.norm_cmdmsg.specs.Whole.{IsWhole};
@@ -8,8 +8,11 @@ ghost use Rattle.norm_ext.specs.declared.refusal.Refusal.{Refusal as Refused};
 ghost use Rattle.norm_objmsg.specs.MessageView.{info_of, data_of};
 ghost use Rattle.norm_receive_rules.specs.ReceiverState.{ReceiverState};
 ghost use Rattle.norm_receive_rules.specs.Plans.{says_stream};
-ghost use Rattle.norm_receive_rules.specs.Receiving.{message_received};
-ghost use Rattle.norm_receiver.specs.Delivering.{IsOfObject};
+ghost use Rattle.norm_receive_rules.specs.Receiving.{message_received, received};
+ghost use Rattle.norm_codec.specs.View.{message_of};
+ghost use Rattle.norm_codec.specs.Whole.{IsWhole as IsWholeMessage};
+ghost use Rattle.norm_ext.specs.Reading.{decoded};
+ghost use Rattle.norm_receiver.specs.Delivering.{IsOfNoStream};
 ghost use Rattle.norm_receiver.specs.ReceiverKept.{Stands};
 ghost use Rattle.norm_receiver.specs.Inside.{kept_of};
 
@@ -19,6 +22,9 @@ use crate::receiving::Said;
 use fec_plan::PayloadId;
 use norm_base::{Memory, Moment};
 use norm_cmdmsg::CommandMsg;
+use norm_codec::{Message, decode};
+use norm_ext::flags::STREAM;
+use norm_ext::items::has_flag;
 use norm_ext::{CmdHead, ObjHead};
 use norm_objmsg::grammar::{DataMsg, InfoMsg};
 
@@ -49,6 +55,37 @@ fn block_of(id: PayloadId) -> u32
     ensures { result ≡ id.block }
 {
     id.block
+}
+
+/// Whether flags are not a stream's.
+fn is_no_stream(flags: u8) -> bool
+    ensures { says_stream flags ≡ not result }
+{
+    !has_flag(flags, STREAM)
+}
+
+/// Whether a message is no INFO or DATA of a stream.
+fn says_no_stream(msg: &Message<'_>) -> bool
+    ensures { IsTrue result ↔ IsOfNoStream {E = Refused} (Ok (message_of msg.now)) }
+{
+    match msg {
+        Message::Info(msg) => is_no_stream(msg.head.flags),
+        Message::Data(msg) => is_no_stream(msg.head.flags),
+        Message::Command(_) => true,
+        Message::Nack(_) => true,
+        Message::Ack(_) => true,
+        Message::Report { .. } => true,
+    }
+}
+
+/// Whether a datagram is no INFO or DATA of a stream, so that a receiver can take it in.
+pub fn is_of_no_stream(bytes: &[u8]) -> bool
+    ensures { IsTrue result ↔ IsOfNoStream (decoded bytes.now) }
+{
+    match decode(bytes) {
+        Ok(msg) => says_no_stream(&msg),
+        Err(_) => true,
+    }
 }
 
 impl Parts {
@@ -87,7 +124,8 @@ impl Parts {
         self.deliver_said(&object_naming(&msg.head), &said, now, draw)
     }
 
-    /// A command: of what a flush or a squelch names, and of no other.
+    /// A command: what a flush or a squelch names happens, what the sender was asked for is heard, and any other changes
+    /// nothing.
     fn deliver_command(
         &mut self,
         msg: &CommandMsg<'_>,
@@ -95,7 +133,6 @@ impl Parts {
         draw: u32,
     ) -> Result<(), Memory>
         requires whole { IsWhole msg.now }
-        requires quiet { IsOfObject msg.now }
         ensures profile { self.new.profile ≡ self.old.profile }
         ensures state { IfOk result (λ _. (s : ReceiverState) → Stands (kept_of self.old) s
             → Stands (kept_of self.new) (message_received {E = Refused} self.old.profile now draw (Ok (command_of msg.now)) s)) }
@@ -123,7 +160,41 @@ impl Parts {
                 };
                 self.deliver_said(&command_naming(head, *object), &said, now, draw)
             }
+            CommandMsg::RepairAdv { head, requests, .. } => self.hear_adv(head, requests),
             _ => Ok(()),
+        }
+    }
+
+    /// A message: an acknowledgement and a report change nothing.
+    fn deliver_message(&mut self, msg: &Message<'_>, now: Moment, draw: u32) -> Result<(), Memory>
+        requires whole { IsWholeMessage msg.now }
+        requires object { IsOfNoStream {E = Refused} (Ok (message_of msg.now)) }
+        ensures profile { self.new.profile ≡ self.old.profile }
+        ensures state { IfOk result (λ _. (s : ReceiverState) → Stands (kept_of self.old) s
+            → Stands (kept_of self.new) (message_received {E = Refused} self.old.profile now draw (Ok (message_of msg.now)) s)) }
+        ensures refused { OnErr result ((s : ReceiverState) → Stands (kept_of self.old) s → Stands (kept_of self.new) s) }
+    {
+        match msg {
+            Message::Info(msg) => self.deliver_info(msg, now, draw),
+            Message::Data(msg) => self.deliver_data(msg, now, draw),
+            Message::Command(msg) => self.deliver_command(msg, now, draw),
+            Message::Nack(msg) => self.hear_nack(msg),
+            Message::Ack(_) => Ok(()),
+            Message::Report { .. } => Ok(()),
+        }
+    }
+
+    /// A datagram, which is of no stream. Octets that spell no message change nothing.
+    pub(crate) fn deliver(&mut self, bytes: &[u8], now: Moment, draw: u32) -> Result<(), Memory>
+        requires { IsOfNoStream (decoded bytes.now) }
+        ensures profile { self.new.profile ≡ self.old.profile }
+        ensures state { IfOk result (λ _. (s : ReceiverState) → Stands (kept_of self.old) s
+            → Stands (kept_of self.new) (received self.old.profile s bytes.now now draw)) }
+        ensures refused { OnErr result ((s : ReceiverState) → Stands (kept_of self.old) s → Stands (kept_of self.new) s) }
+    {
+        match decode(bytes) {
+            Ok(msg) => self.deliver_message(&msg, now, draw),
+            Err(_) => Ok(()),
         }
     }
 }

@@ -1,8 +1,8 @@
 //! What a receiver heard others ask for while it backs off (RFC 5401 section 3.2.2).
 
-ghost use Rattle.std.specs.Prelude.{◌≡◌, IfOk};
-ghost use Rattle.fec_plan.specs.Points.{position_before};
-ghost use Rattle.norm_receive_rules.specs.Heard.{heard_nothing, joined, with_span};
+ghost use Rattle.std.specs.Prelude.{◌≡◌, IfOk, max};
+ghost use Rattle.fec_plan.specs.Points.{position_before, point_before, same_point};
+ghost use Rattle.norm_receive_rules.specs.Heard.{heard_nothing, joined, with_span, with_count};
 
 use fec_plan::{Point, Position};
 use norm_base::Memory;
@@ -55,7 +55,7 @@ impl Span {
 /// # Errors
 ///
 /// `Memory` where memory runs out.
-fn put_span(spans: &mut Vec<Span>, span: Span) -> Result<(), Memory>
+pub(crate) fn put_span(spans: &mut Vec<Span>, span: Span) -> Result<(), Memory>
     ensures { IfOk result (λ _. spans.new.items ≡ with_span span spans.old.items) }
 {
     spans.reserve(1)?;
@@ -94,14 +94,66 @@ impl Model for Count {
     ghost inverse = { λ x. record { of = x.of; lacking = x.lacking } };
 }
 
+impl Count {
+    /// The greater of it and one of the same block, in this one's place.
+    fn greater(&self, other: &Count) -> Count
+        ensures { result ≡ record { of = self.now.of; lacking = max self.now.lacking other.now.lacking } }
+    {
+        Count {
+            of: self.of,
+            lacking: self.lacking.max(other.lacking),
+        }
+    }
+
+    /// Whether it is of the same block as another.
+    fn is_of(&self, other: &Count) -> bool
+        ensures { result ≡ same_point self.now.of other.now.of }
+    {
+        self.of.is(&other.of)
+    }
+
+    /// Whether its block is before another's.
+    fn is_before(&self, other: &Count) -> bool
+        ensures { result ≡ point_before self.now.of other.now.of }
+    {
+        self.of.is_before(&other.of)
+    }
+}
+
+/// One count more: of each block the greatest is kept.
+///
+/// # Errors
+///
+/// `Memory` where memory runs out.
+pub(crate) fn put_count(counts: &mut Vec<Count>, count: Count) -> Result<(), Memory>
+    ensures { IfOk result (λ _. counts.new.items ≡ with_count count counts.old.items) }
+{
+    counts.reserve(1)?;
+    let mut place = 0;
+    while place < counts.len() {
+        let other = counts[place];
+        if count.is_of(&other) {
+            counts[place] = other.greater(&count);
+            return Ok(());
+        }
+        if count.is_before(&other) {
+            counts.insert(place, count).unwrap();
+            return Ok(());
+        }
+        place += 1;
+    }
+    counts.push(count).unwrap();
+    Ok(())
+}
+
 /// What others asked for: source symbols and infos as spans of which no two share a position, and of each block the
 /// greatest count, all in order.
 #[derive(Debug, Drop)]
 pub(crate) struct Heard {
     alloc: Global,
-    symbols: Vec<Span>,
-    infos: Vec<Span>,
-    counts: Vec<Count>,
+    pub symbols: Vec<Span>,
+    pub infos: Vec<Span>,
+    pub counts: Vec<Count>,
 }
 
 impl Model for Heard {
@@ -130,6 +182,22 @@ impl Heard {
         ensures { result ≡ heard_nothing }
     {
         Heard::new(self.alloc)
+    }
+
+    /// The same once more, beside it.
+    ///
+    /// # Errors
+    ///
+    /// `Memory` where memory runs out.
+    pub fn copy(&self) -> Result<Heard, Memory>
+        ensures { IfOk result (λ copy. copy ≡ self.now) }
+    {
+        Ok(Heard {
+            alloc: self.alloc,
+            symbols: self.symbols.as_slice().to_vec(self.alloc)?,
+            infos: self.infos.as_slice().to_vec(self.alloc)?,
+            counts: self.counts.as_slice().to_vec(self.alloc)?,
+        })
     }
 
     /// All is forgotten.

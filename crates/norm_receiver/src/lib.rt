@@ -6,12 +6,17 @@ mod delivering;
 mod entering;
 mod feedback;
 mod heard;
+mod hearing;
 mod needs;
 mod numbers;
+mod overhearing;
 mod parts;
+mod receiver;
 mod receiving;
 mod requesting;
 mod taking;
 
+pub use crate::delivering::is_of_no_stream;
 pub use crate::numbers::{FlushPlace, Numbers};
+pub use crate::receiver::Receiver;
 pub use crate::requesting::Need;

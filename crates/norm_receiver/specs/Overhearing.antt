@@ -1,0 +1,44 @@
+-- What is heard of requests, in the words of the code.
+use Rattle.std.specs.Prelude.{ℕ, ◌≤◌, List, map, flat_map, fold, length}
+use Rattle.norm_base.specs.Settings.{Settings}
+use Rattle.norm_ext.specs.Asking.{Span, Count, item_named, item_span, pairs, block_span, object_span}
+use Rattle.norm_ext.specs.declared.head.Item.{Item}
+use Rattle.fec_plan.specs.Points.{point_of}
+use Rattle.norm_receive_rules.specs.Heard.{Heard, with_proper, with_count}
+use Rattle.norm_receiver.specs.declared.overhearing.Width.{Width}
+use Rattle.norm_receiver.specs.declared.overhearing.Width.TheVariants as width
+
+-- a span as wide as it counts
+abbrev pub widened : Width → Span → Span
+widened width.Symbols s = s
+widened width.Blocks s = block_span s
+widened width.Objects s = object_span s
+
+-- these spans more, each so wide
+abbrev pub with_spans : Width → List Span → List Span → List Span
+with_spans w old spans = fold with_proper old (map (widened w) spans)
+
+-- what items name, each by itself, and pair by pair
+abbrev pub items_spans : Settings → ℕ → List Item → List Span
+items_spans p known items = flat_map item_span (map (item_named p known) items)
+
+abbrev pub pairs_spans : Settings → ℕ → List Item → List Span
+pairs_spans p known items = pairs (map (item_named p known) items)
+
+-- the count that an item's place says
+abbrev pub count_at : Span → Count
+count_at s = record { of = point_of s.first; lacking = s.first.symbol }
+
+-- these counts more
+abbrev pub with_counts : List Count → List Span → List Count
+with_counts old spans = fold (λ counts c. with_count c counts) old (map count_at spans)
+
+-- the most spans, and the most counts, that are kept of what was heard
+abbrev pub most_heard : ℕ
+most_heard = 4096
+
+-- no more is kept than that
+pub record IsBounded (heard : Heard) : Type 0 where
+  pub symbols : length heard.symbols ≤ most_heard
+  pub infos : length heard.infos ≤ most_heard
+  pub counts : length heard.counts ≤ most_heard

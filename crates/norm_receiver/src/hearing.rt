@@ -1,0 +1,71 @@
+//! What a receiver hears of what others ask for (RFC 5401 section 3.2.2, RFC 5740 section 5.3): the NACKs of other nodes, and
+//! the sender's word of what it was asked for.
+
+ghost use Rattle.std.specs.Prelude.{◌≡◌, IfOk, OnErr};
+ghost use Rattle.norm_ext.specs.Requests.{IsRequests, requests_of};
+ghost use Rattle.norm_receive_rules.specs.ReceiverState.{ReceiverState};
+ghost use Rattle.norm_receive_rules.specs.Overhearing.{overheard};
+ghost use Rattle.norm_receiver.specs.Delivering.{adv_heard, nack_heard};
+ghost use Rattle.norm_receiver.specs.ReceiverKept.{Stands};
+ghost use Rattle.norm_receiver.specs.Inside.{kept_of};
+
+use crate::parts::Parts;
+use norm_base::Memory;
+use norm_ext::{CmdHead, requests_of as requests_in};
+use norm_fbmsg::NackMsg;
+
+impl Parts {
+    /// Requests, a list of whole ones, count while a back-off runs.
+    fn overhear(&mut self, requests: &[u8]) -> Result<(), Memory>
+        requires { IsRequests requests.now }
+        ensures profile { self.new.profile ≡ self.old.profile }
+        ensures state { IfOk result (λ _. (s : ReceiverState) → Stands (kept_of self.old) s
+            → Stands (kept_of self.new) (overheard self.old.profile (requests_of requests.now) s)) }
+        ensures refused { OnErr result ((s : ReceiverState) → Stands (kept_of self.old) s → Stands (kept_of self.new) s) }
+    {
+        if self.numbers.backoff.is_none() {
+            return Ok(());
+        }
+        let requests = requests_in(requests);
+        self.heard = self
+            .heard
+            .with_requests(&self.profile, self.numbers.known, requests)?;
+        Ok(())
+    }
+
+    /// A NACK: it counts where it is of another node, to this sender and of this instance.
+    pub(crate) fn hear_nack(&mut self, msg: &NackMsg<'_>) -> Result<(), Memory>
+        requires { IsRequests msg.now.requests.now }
+        ensures profile { self.new.profile ≡ self.old.profile }
+        ensures state { IfOk result (λ _. (s : ReceiverState) → Stands (kept_of self.old) s → Stands (kept_of self.new) (nack_heard self.old.profile msg.now s)) }
+        ensures refused { OnErr result ((s : ReceiverState) → Stands (kept_of self.old) s → Stands (kept_of self.new) s) }
+    {
+        if msg.source == self.numbers.node {
+            return Ok(());
+        }
+        if msg.sender.number() != self.profile.sender {
+            return Ok(());
+        }
+        if !self.numbers.is_in(msg.instance) {
+            return Ok(());
+        }
+        self.overhear(msg.requests)
+    }
+
+    /// The sender's word of what it was asked for: it counts where it is of this sender and instance.
+    pub(crate) fn hear_adv(&mut self, head: &CmdHead, requests: &[u8]) -> Result<(), Memory>
+        requires { IsRequests requests.now }
+        ensures profile { self.new.profile ≡ self.old.profile }
+        ensures state { IfOk result (λ _. (s : ReceiverState) → Stands (kept_of self.old) s
+            → Stands (kept_of self.new) (adv_heard self.old.profile head.now (requests_of requests.now) s)) }
+        ensures refused { OnErr result ((s : ReceiverState) → Stands (kept_of self.old) s → Stands (kept_of self.new) s) }
+    {
+        if head.source.number() != self.profile.sender {
+            return Ok(());
+        }
+        if !self.numbers.is_in(head.instance) {
+            return Ok(());
+        }
+        self.overhear(requests)
+    }
+}

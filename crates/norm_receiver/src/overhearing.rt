@@ -1,0 +1,316 @@
+//! What a receiver hears others ask for while it backs off (RFC 5401 section 3.2.2, RFC 5740 section 5.3).
+
+ghost use Rattle.std.specs.Prelude.{◌≡◌, ◌<◌, ◌||◌, [], ◌∷◌, IfOk, IsTrue, filter, fold, map};
+ghost use Rattle.norm_ext.specs.Asking.{span, is_proper, named, named_spans, asked_spans, asked_counts, where_flag, has_flag, segment_flag, block_flag};
+ghost use Rattle.fec_plan.specs.Points.{point_of};
+ghost use Rattle.norm_ext.specs.RequestView.{request_of};
+ghost use Rattle.norm_ext.specs.Requests.{items_named};
+ghost use Rattle.norm_receive_rules.specs.Heard.{with_proper, with_count, asked_infos, heard_also};
+ghost use Rattle.norm_receiver.specs.Overhearing.{widened, with_spans, with_counts, items_spans, pairs_spans, IsBounded};
+
+use crate::heard::{Count, Heard, Span, put_count, put_span};
+use fec_plan::{Point, Position};
+use norm_base::{Memory, Profile};
+use norm_ext::flags::{WANT_BLOCK, WANT_INFO, WANT_OBJECT, WANT_SEGMENT};
+use norm_ext::items::{ends_of, has_flag, position_of, split_item, split_pair};
+use norm_ext::{Form, Request, Requests};
+
+/// The greatest number of a block, and that of a symbol, that a message names.
+const LAST_BLOCK: u32 = 16_777_215;
+
+const LAST_SYMBOL: u8 = 255;
+
+/// So many spans of each kind, and so many counts, are kept of what was heard.
+const MOST_HEARD: usize = 4096;
+
+/// How much of what a request names counts: the symbols themselves, their blocks, or their objects.
+#[derive(Clone, Copy, Debug)]
+pub(crate) enum Width {
+    Symbols,
+    Blocks,
+    Objects,
+}
+
+/// The span from one position to another, as wide as it counts.
+fn widened(width: Width, first: Position, last: Position) -> Span
+    ensures { result ≡ widened width (span first last) }
+{
+    match width {
+        Width::Symbols => Span { first, last },
+        Width::Blocks => Span {
+            first: Position { symbol: 0, ..first },
+            last: Position {
+                symbol: LAST_SYMBOL,
+                ..last
+            },
+        },
+        Width::Objects => Span {
+            first: Position {
+                index: first.index,
+                block: 0,
+                symbol: 0,
+            },
+            last: Position {
+                index: last.index,
+                block: LAST_BLOCK,
+                symbol: LAST_SYMBOL,
+            },
+        },
+    }
+}
+
+/// One span more, where its first end is not after its last.
+fn put_proper(spans: &mut Vec<Span>, span: Span) -> Result<(), Memory>
+    ensures { IfOk result (λ _. spans.new.items ≡ with_proper spans.old.items span) }
+{
+    if span.last.is_before(&span.first) {
+        return Ok(());
+    }
+    put_span(spans, span)
+}
+
+/// What items name, each by itself.
+fn hear_items(
+    spans: &mut Vec<Span>,
+    profile: &Profile,
+    known: u32,
+    width: Width,
+    items: &[u8],
+) -> Result<(), Memory>
+    ensures { IfOk result (λ _. spans.new.items ≡ with_spans width spans.old.items (items_spans profile.now known (items_named items.now))) }
+{
+    let mut rest = items;
+    'items: while let Some((item, behind)) = split_item(rest) {
+        if let Some(at) = position_of(profile, known, item) {
+            put_proper(spans, widened(width, at, at))?;
+        }
+        rest = behind;
+    }
+    Ok(())
+}
+
+/// What two positions name as the ends of a range, where it is not empty.
+fn put_pair(
+    spans: &mut Vec<Span>,
+    width: Width,
+    first: Position,
+    last: Position,
+) -> Result<(), Memory>
+    ensures { IfOk result (λ _. spans.new.items ≡ with_spans width spans.old.items (filter is_proper (span first last ∷ []))) }
+{
+    if last.is_before(&first) {
+        return Ok(());
+    }
+    put_proper(spans, widened(width, first, last))
+}
+
+/// What pairs of items name, where a range is not empty.
+fn hear_ranges(
+    spans: &mut Vec<Span>,
+    profile: &Profile,
+    known: u32,
+    width: Width,
+    items: &[u8],
+) -> Result<(), Memory>
+    ensures { IfOk result (λ _. spans.new.items ≡ with_spans width spans.old.items (filter is_proper (pairs_spans profile.now known (items_named items.now)))) }
+{
+    let mut rest = items;
+    'pairs: while let Some((first, last, behind)) = split_pair(rest) {
+        if let Some(ends) = ends_of(profile, known, first, last) {
+            put_pair(spans, width, ends.0, ends.1)?;
+        }
+        rest = behind;
+    }
+    Ok(())
+}
+
+/// What a request names, so wide.
+fn hear_named(
+    spans: &mut Vec<Span>,
+    profile: &Profile,
+    known: u32,
+    width: Width,
+    request: &Request<'_>,
+) -> Result<(), Memory>
+    ensures { IfOk result (λ _. spans.new.items ≡ with_spans width spans.old.items (named_spans (named profile.now known (request_of request.now)))) }
+{
+    match request.form {
+        Form::Items => hear_items(spans, profile, known, width, request.items),
+        Form::Ranges => hear_ranges(spans, profile, known, width, request.items),
+        Form::Erasures => Ok(()),
+    }
+}
+
+/// The count that an item's place says.
+fn count_at(at: Position) -> Count
+    ensures { result ≡ record { of = point_of at; lacking = at.symbol } }
+{
+    Count {
+        of: at.point(),
+        lacking: at.symbol,
+    }
+}
+
+/// The counts that items say.
+fn hear_counts(
+    counts: &mut Vec<Count>,
+    profile: &Profile,
+    known: u32,
+    items: &[u8],
+) -> Result<(), Memory>
+    ensures { IfOk result (λ _. counts.new.items ≡ with_counts counts.old.items (items_spans profile.now known (items_named items.now))) }
+{
+    let mut rest = items;
+    'items: while let Some((item, behind)) = split_item(rest) {
+        if let Some(at) = position_of(profile, known, item) {
+            put_count(counts, count_at(at))?;
+        }
+        rest = behind;
+    }
+    Ok(())
+}
+
+/// What a request names, so wide, where its flags have this one.
+fn hear_where(
+    spans: &mut Vec<Span>,
+    profile: &Profile,
+    known: u32,
+    kind: (u8, Width),
+    request: &Request<'_>,
+) -> Result<(), Memory>
+    requires { 0 < kind.0 }
+    ensures { IfOk result (λ _. spans.new.items ≡ fold with_proper spans.old.items (where_flag request.now.flags kind.0 (map (widened kind.1) (named_spans (named profile.now known (request_of request.now)))))) }
+{
+    if !has_flag(request.flags, kind.0) {
+        return Ok(());
+    }
+    hear_named(spans, profile, known, kind.1, request)
+}
+
+/// The spans of source symbols that a request asks for.
+fn hear_symbols(
+    spans: &mut Vec<Span>,
+    profile: &Profile,
+    known: u32,
+    request: &Request<'_>,
+) -> Result<(), Memory>
+    ensures { IfOk result (λ _. spans.new.items ≡ fold with_proper spans.old.items (asked_spans (named profile.now known (request_of request.now)))) }
+{
+    hear_where(
+        spans,
+        profile,
+        known,
+        (WANT_SEGMENT, Width::Symbols),
+        request,
+    )?;
+    hear_where(spans, profile, known, (WANT_BLOCK, Width::Blocks), request)?;
+    hear_where(
+        spans,
+        profile,
+        known,
+        (WANT_OBJECT, Width::Objects),
+        request,
+    )?;
+    Ok(())
+}
+
+/// The infos that a request asks for.
+fn hear_infos(
+    spans: &mut Vec<Span>,
+    profile: &Profile,
+    known: u32,
+    request: &Request<'_>,
+) -> Result<(), Memory>
+    ensures { IfOk result (λ _. spans.new.items ≡ fold with_proper spans.old.items (asked_infos (named profile.now known (request_of request.now)))) }
+{
+    hear_where(spans, profile, known, (WANT_INFO, Width::Objects), request)
+}
+
+/// Whether the flags of erasures ask for the symbols of blocks.
+fn wants_symbols(flags: u8) -> bool
+    ensures { result ≡ (has_flag flags segment_flag || has_flag flags block_flag) }
+{
+    has_flag(flags, WANT_SEGMENT) || has_flag(flags, WANT_BLOCK)
+}
+
+/// The counts that a request asks for.
+fn hear_lacking(
+    counts: &mut Vec<Count>,
+    profile: &Profile,
+    known: u32,
+    request: &Request<'_>,
+) -> Result<(), Memory>
+    ensures { IfOk result (λ _. counts.new.items ≡ fold (λ counts c. with_count c counts) counts.old.items (asked_counts (named profile.now known (request_of request.now)))) }
+{
+    match request.form {
+        Form::Items | Form::Ranges => Ok(()),
+        Form::Erasures => {
+            if !wants_symbols(request.flags) {
+                return Ok(());
+            }
+            hear_counts(counts, profile, known, request.items)
+        }
+    }
+}
+
+impl Heard {
+    /// A request more. Where memory runs out, some of it may have been heard.
+    fn hear_request(
+        &mut self,
+        profile: &Profile,
+        known: u32,
+        request: &Request<'_>,
+    ) -> Result<(), Memory>
+        ensures { IfOk result (λ _. self.new ≡ heard_also self.old (named profile.now known (request_of request.now))) }
+    {
+        hear_symbols(&mut self.symbols, profile, known, request)?;
+        hear_infos(&mut self.infos, profile, known, request)?;
+        hear_lacking(&mut self.counts, profile, known, request)
+    }
+
+    /// These requests more. Where memory runs out, some of them may have been heard.
+    fn hear_requests(
+        &mut self,
+        profile: &Profile,
+        known: u32,
+        requests: Requests<'_>,
+    ) -> Result<(), Memory>
+        ensures { IfOk result (λ _. self.new ≡ fold heard_also self.old (map (named profile.now known) requests.entry)) }
+    {
+        'requests: for request in requests {
+            self.hear_request(profile, known, &request)?;
+        }
+        Ok(())
+    }
+
+    /// Whether it is within the bound on what is kept.
+    fn is_bounded(&self) -> bool
+        ensures { IsTrue result → IsBounded self.now }
+    {
+        self.symbols.len() <= MOST_HEARD
+            && self.infos.len() <= MOST_HEARD
+            && self.counts.len() <= MOST_HEARD
+    }
+
+    /// It and these requests more, beside it.
+    ///
+    /// # Errors
+    ///
+    /// `Memory` where memory runs out, or more would be kept than the bound.
+    pub(crate) fn with_requests(
+        &self,
+        profile: &Profile,
+        known: u32,
+        requests: Requests<'_>,
+    ) -> Result<Heard, Memory>
+        ensures heard { IfOk result (λ more. more ≡ fold heard_also self.now (map (named profile.now known) requests.entry)) }
+        ensures bounded { IfOk result IsBounded }
+    {
+        let mut more = self.copy()?;
+        more.hear_requests(profile, known, requests)?;
+        if !more.is_bounded() {
+            return Err(Memory);
+        }
+        Ok(more)
+    }
+}

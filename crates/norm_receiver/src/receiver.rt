@@ -1,0 +1,103 @@
+//! The receiver of a session.
+
+ghost use Rattle.std.specs.Prelude.{◌≡◌, [], not, length, IfOk, OnErr, IfNone, IfSome, IsSome};
+ghost use Rattle.norm_ext.specs.Reading.{decoded};
+ghost use Rattle.norm_receive_rules.specs.ReceiverState.{ReceiverState, receiver_opening};
+ghost use Rattle.norm_receive_rules.specs.Acknowledging.{lost_nothing};
+ghost use Rattle.norm_receive_rules.specs.Receiving.{received};
+ghost use Rattle.norm_receive_rules.specs.Taking.{took};
+ghost use Rattle.norm_receiver.specs.Delivering.{IsOfNoStream};
+ghost use Rattle.norm_receiver.specs.ReceiverSound.{StandsFor};
+
+use crate::parts::Parts;
+use norm_base::{InstanceId, Memory, Moment, NodeId, Profile};
+use norm_order::Up;
+use std::alloc::Global;
+use std::marker::Model;
+
+/// The receiver of a session: it hands up the objects of the sender's transport order, instance by instance.
+///
+/// What drives it hands it each datagram as it comes ([`deliver`](Receiver::deliver)), with a draw for the back-off that
+/// may begin, and after each takes what was handed up by [`take_up`](Receiver::take_up) until that is `None`. Datagrams
+/// may come in any order, and may hold any octets but those of a stream, which `is_of_no_stream` tells. A tick, by which it asks for repair and
+/// acknowledges, is not there yet.
+#[derive(Debug, Drop)]
+pub struct Receiver {
+    parts: Parts,
+}
+
+impl Model for Receiver {
+    ghost use Rattle.norm_receiver.specs.ReceiverKept.{ReceiverKept};
+    ghost use Rattle.norm_receiver.specs.ReceiverSound.{ReceiverSound};
+    ghost use Rattle.norm_receiver.specs.Inside.{kept_of};
+
+    ghost Value = { ReceiverKept };
+
+    ghost view = { λ r. kept_of r.parts };
+
+    ghost invariant = { λ r. ReceiverSound (kept_of r.parts) };
+}
+
+impl Receiver {
+    /// A node's receiver as it begins, in no instance.
+    ///
+    /// # Errors
+    ///
+    /// `Memory` where memory runs out.
+    pub fn new(alloc: Global, profile: &Profile, node: NodeId) -> Result<Receiver, Memory>
+        ensures profile { IfOk result (λ receiver. receiver.p ≡ profile.now) }
+        ensures stands { IfOk result (λ receiver. StandsFor receiver (receiver_opening node)) }
+    {
+        let parts = Parts::new(alloc, profile, node)?;
+        Ok(Receiver { parts })
+    }
+
+    /// Takes in a datagram, which is of no stream: a message of the sender, or what another node asks for. Any other
+    /// octets change nothing.
+    ///
+    /// # Errors
+    ///
+    /// `Memory` where memory runs out, or more was heard of others than is kept; all is then as if the datagram had been
+    /// lost.
+    pub fn deliver(&mut self, bytes: &[u8], now: Moment, draw: u32) -> Result<(), Memory>
+        requires { IsOfNoStream (decoded bytes.now) }
+        ensures profile { self.new.p ≡ self.old.p }
+        ensures stands { IfOk result (λ _. (s : ReceiverState) → StandsFor self.old s → StandsFor self.new (received self.old.p s bytes.now now draw)) }
+        ensures refused { OnErr result ((s : ReceiverState) → StandsFor self.old s → StandsFor self.new s) }
+    {
+        self.parts.deliver(bytes, now, draw)
+    }
+
+    /// Takes the next hand-up. `None` exactly where all that was handed up was taken, and then nothing changes. It takes no
+    /// memory.
+    pub fn take_up(&mut self) -> Option<Up>
+        ensures profile { self.new.p ≡ self.old.p }
+        ensures stands { (s : ReceiverState) → StandsFor self.old s → StandsFor self.new (took s).0 × (result ≡ (took s).1) }
+        ensures none { IfNone result ((self.old.hold.ups ≡ []) × (self.new ≡ self.old)) }
+        ensures some { IfSome result (λ _. (s : ReceiverState) → StandsFor self.old s → IsSome s.instance) }
+    {
+        self.parts.take_up()
+    }
+
+    /// How many hand-ups were not taken.
+    pub fn ups(&self) -> usize
+        ensures exact { result ≡ length self.now.hold.ups }
+        ensures stands { (s : ReceiverState) → StandsFor self.now s → result ≡ length s.holding.ups }
+    {
+        self.parts.ups()
+    }
+
+    /// The current instance, if one began.
+    pub fn instance(&self) -> Option<InstanceId>
+        ensures { (s : ReceiverState) → StandsFor self.now s → result ≡ s.instance }
+    {
+        self.parts.instance()
+    }
+
+    /// Whether an object was lost in this instance.
+    pub fn has_lost(&self) -> bool
+        ensures { (s : ReceiverState) → StandsFor self.now s → lost_nothing s.holding ≡ not result }
+    {
+        self.parts.has_lost()
+    }
+}
