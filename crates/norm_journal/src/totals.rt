@@ -1,6 +1,7 @@
 //! The counts of a run's summary.
 
-ghost use Rattle.std.specs.Prelude.{◌≡◌, ◌∷◌, [], decimal, IfOk, OnOk};
+ghost use Rattle.std.specs.Prelude.{◌≡◌, ◌+◌, ◌<◌, ◌^◌, ◌∷◌, [], decimal, IfOk, OnOk};
+ghost use Rattle.std.specs.Bool.{Decides};
 ghost use Rattle.norm_text.specs.Words.{with_words};
 ghost use Rattle.norm_journal.specs.Lines.{end_line};
 ghost use Rattle.norm_journal.specs.Totals.{nothing_counted, with_gave, with_up, with_news, CountsFit};
@@ -9,6 +10,13 @@ use norm_order::Up;
 use norm_send_rules::{News, Outcome, Receipt, SendFault};
 use norm_text::Line;
 use std::alloc::{AllocError, Global};
+
+/// Whether so many more make a count of 64 bits.
+fn fits(count: u64, more: u64) -> bool
+    ensures { Decides result (count + more < 2 ^ 64) }
+{
+    more <= u64::MAX - count
+}
 
 /// What a run counts.
 #[derive(Clone, Copy, Debug, PartialEq, Eq)]
@@ -45,6 +53,34 @@ impl Totals {
         }
     }
 
+    // Proof: each count is a number of 64 bits, which a proof knows of those that are read.
+    fn are_counts(&self)
+        ensures { CountsFit self.now }
+    {
+        let Totals {
+            objects,
+            octets,
+            handed,
+            lost,
+            satisfied,
+            expired,
+            cut,
+        } = *self;
+    }
+
+    /// Whether the counts fit into 64 bits with what a command gave.
+    pub fn has_room_for_gave(&self, gave: &Result<Receipt, SendFault>) -> bool
+        ensures { Decides result (CountsFit (with_gave gave.now self.now)) }
+    {
+        self.are_counts();
+        match gave {
+            Ok(Receipt::Object { len, .. }) => { fits(self.objects, 1) && fits(self.octets, *len) }
+            Ok(Receipt::Opened { .. }) => fits(self.objects, 1),
+            Ok(Receipt::Wrote { len, .. }) => fits(self.octets, *len),
+            _ => true,
+        }
+    }
+
     /// Counts what a command gave: an object or a stream that was accepted, and octets. The counts must fit into 64 bits then.
     pub fn count_gave(&mut self, gave: &Result<Receipt, SendFault>)
         requires { CountsFit (with_gave gave.now self.old) }
@@ -61,6 +97,18 @@ impl Totals {
         }
     }
 
+    /// Whether the counts fit into 64 bits with a hand-up.
+    pub fn has_room_for_up(&self, up: &Up) -> bool
+        ensures { Decides result (CountsFit (with_up up.now self.now)) }
+    {
+        self.are_counts();
+        match up {
+            Up::Object { .. } | Up::StreamEnd { .. } => fits(self.handed, 1),
+            Up::Lost { .. } => fits(self.lost, 1),
+            _ => true,
+        }
+    }
+
     /// Counts a hand-up: an object or an ended stream, or a loss. The counts must fit into 64 bits then.
     pub fn count_up(&mut self, up: &Up)
         requires { CountsFit (with_up up.now self.old) }
@@ -70,6 +118,22 @@ impl Totals {
             Up::Object { .. } | Up::StreamEnd { .. } => self.handed += 1,
             Up::Lost { .. } => self.lost += 1,
             _ => {}
+        }
+    }
+
+    /// Whether the counts fit into 64 bits with a watermark that ended.
+    pub fn has_room_for_news(&self, news: &News) -> bool
+        ensures { Decides result (CountsFit (with_news news.now self.now)) }
+    {
+        self.are_counts();
+        let News::Done { outcome, .. } = news else {
+            return true;
+        };
+        match outcome {
+            Outcome::Open { .. } => true,
+            Outcome::Satisfied => fits(self.satisfied, 1),
+            Outcome::Expired { .. } => fits(self.expired, 1),
+            Outcome::Cut => fits(self.cut, 1),
         }
     }
 
