@@ -22,6 +22,18 @@ fn gives(alloc: Global, verb: &Verb, gave: Receipt, text: &[u8]) -> bool {
     }
 }
 
+/// What the first mark gives.
+fn marked() -> Receipt {
+    Receipt::Mark {
+        mark: 1,
+        at: Position {
+            index: 0,
+            block: 1,
+            symbol: 3,
+        },
+    }
+}
+
 #[test]
 fn what_is_given_has_its_line(rt: HostRuntime) -> Result<(), Fail> {
     let alloc = rt.alloc();
@@ -33,18 +45,10 @@ fn what_is_given_has_its_line(rt: HostRuntime) -> Result<(), Fail> {
     };
     let object = Receipt::Object { index: 2, len: 5 };
     assert!(rt; gives(alloc, &file, object, b"enq 3 12 7 2 file 5\n"));
-    let mark = Receipt::Mark {
-        mark: 1,
-        at: Position {
-            index: 0,
-            block: 1,
-            symbol: 3,
-        },
-    };
     let all = Verb::Mark { quorum: None };
-    assert!(rt; gives(alloc, &all, mark, b"mark 3 12 7 1 0 1 3\n"));
+    assert!(rt; gives(alloc, &all, marked(), b"mark 3 12 7 1 0 1 3\n"));
     let two = Verb::Mark { quorum: Some(2) };
-    assert!(rt; gives(alloc, &two, mark, b"mark 3 12 7 1 0 1 3 2\n"));
+    assert!(rt; gives(alloc, &two, marked(), b"mark 3 12 7 1 0 1 3 2\n"));
     let strike = Verb::Strike { node: 3 };
     assert!(rt; gives(alloc, &strike, Receipt::Struck { node }, b"strike 3 12 3\n"));
     Ok(())
