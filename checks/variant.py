@@ -54,7 +54,8 @@ class Variant:
         for folder, _, names in os.walk(target):
             for n in names:
                 path = os.path.join(folder, n)
-                put(path, self.named(open(path, encoding='utf-8').read()))
+                text = self.named(open(path, encoding='utf-8').read())
+                put(path, self.called(text) if n.endswith('.rt') else text)
 
     @staticmethod
     def uses(text, new):
@@ -66,6 +67,9 @@ class Variant:
 
     def name_of(self, crate):
         return self.changed.get(crate, crate)
+
+    def called(self, text):
+        return re.sub(r'\b(\w+)(?=::)', lambda m: self.name_of(m.group(1)), text)
 
     def named(self, text):
         return re.sub(r'\bRattle\.(\w+)', lambda m: 'Rattle.' + self.name_of(m.group(1)), text)
