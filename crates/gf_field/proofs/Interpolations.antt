@@ -7,7 +7,7 @@ use Rattle.std.proofs.lemmas.Nat.{xor_lt}
 use Rattle.std.proofs.lemmas.Bool.{eqb-false, ne_eqb, eq-eqb}
 use Rattle.std.proofs.lemmas.List.{length-map}
 use Rattle.std.proofs.lemmas.Map.Keys.{IsDistinct-head, IsDistinct-tail}
-use Rattle.gf_field.specs.Octet.{AreOctets}
+use Rattle.gf_field.specs.Element.{AreElements}
 use Rattle.gf_field.specs.Product.{product}
 use Rattle.gf_field.specs.Inverse.{inverse}
 use Rattle.gf_field.specs.Polynomial.{value_at, GoesThrough}
@@ -55,10 +55,10 @@ length-others m (p ∷ ps) d (inr h) =
     ap (λ qs. suc (length qs)) (others-other m p ps (among-apart p m ps (IsDistinct-head nat_eq p ps d) h))
     ∙ ap suc (length-others m ps (IsDistinct-tail nat_eq p ps d) h)
 
-pub others-octets : (m : ℕ) (ps : List ℕ) → AreOctets ps → AreOctets (others m ps)
+pub others-octets : (m : ℕ) (ps : List ℕ) → AreElements ps → AreElements (others m ps)
 others-octets m [] h = tt
 others-octets m (p ∷ ps) h =
-    elim (p == m) as (λ b. AreOctets (cond (not b) (p ∷ others m ps) (others m ps)))
+    elim (p == m) as (λ b. AreElements (cond (not b) (p ∷ others m ps) (others m ps)))
     [ true ↦ others-octets m ps h.1 | false ↦ (h.0, others-octets m ps h.1) ]
 
 pub others-apart : (m : ℕ) (ps : List ℕ) → AllByRecursion (λ p. p ≡ m → ⊥) (others m ps)
@@ -90,7 +90,7 @@ positive zero h = absurd (h refl)
 positive (suc n) h = omega arith
 
 -- at an octet that is no place the product is not 0
-pub differences-pos : (ps : List ℕ) (x : ℕ) → AreOctets ps → x < 256 → AllByRecursion (λ p. p ≡ x → ⊥) ps → 0 < differences ps x
+pub differences-pos : (ps : List ℕ) (x : ℕ) → AreElements ps → x < 256 → AllByRecursion (λ p. p ≡ x → ⊥) ps → 0 < differences ps x
 unfolding differences
 differences-pos [] x o low h = omega arith
 differences-pos (p ∷ ps) x o low h =
@@ -128,7 +128,7 @@ coefficient-lt : (ps : List ℕ) (m x : ℕ) → coefficient ps m x < 256
 unfolding coefficient
 coefficient-lt ps m x = product-lt (differences (others m ps) x) (inverse (differences (others m ps) m))
 
-coefficient-own : (ps : List ℕ) (m : ℕ) → AreOctets ps → m < 256 → coefficient ps m m ≡ 1
+coefficient-own : (ps : List ℕ) (m : ℕ) → AreElements ps → m < 256 → coefficient ps m m ≡ 1
 unfolding coefficient
 coefficient-own ps m o low =
     product-inverse (differences (others m ps) m)
@@ -162,7 +162,7 @@ weighted_sum-further ps ms vs (q ∷ qs) m v h apart =
     ∙ ap (λ n. n ∷ map (weighted_sum ps (m ∷ ms) (v ∷ vs)) qs) (xor_zero_l (weighted_sum ps ms vs q))
     ∙ ap (λ ns. weighted_sum ps ms vs q ∷ ns) (weighted_sum-further ps ms vs qs m v h.1 apart.1)
 
-weighted_sum-meets : (ps ms vs : List ℕ) → AreOctets ps → AreOctets ms → AreOctets vs → AllByRecursion (λ q. Among q ps) ms → IsDistinct nat_eq ms → length vs ≡ length ms → map (weighted_sum ps ms vs) ms ≡ vs
+weighted_sum-meets : (ps ms vs : List ℕ) → AreElements ps → AreElements ms → AreElements vs → AllByRecursion (λ q. Among q ps) ms → IsDistinct nat_eq ms → length vs ≡ length ms → map (weighted_sum ps ms vs) ms ≡ vs
 unfolding weighted_sum
 weighted_sum-meets ps [] [] o lows small h d e = refl
 weighted_sum-meets ps [] (v ∷ vs) o lows small h d e = absurd (omega arith)
@@ -188,7 +188,7 @@ unfolding Among
 all_among [] = tt
 all_among (p ∷ ps) = (inl refl, among-more p ps ps (all_among ps))
 
-pub interpolated-meets : (ps vs : List ℕ) → AreOctets ps → AreOctets vs → IsDistinct nat_eq ps → length vs ≡ length ps → map (interpolated ps vs) ps ≡ vs
+pub interpolated-meets : (ps vs : List ℕ) → AreElements ps → AreElements vs → IsDistinct nat_eq ps → length vs ≡ length ps → map (interpolated ps vs) ps ≡ vs
 unfolding interpolated
 interpolated-meets ps vs o small d e = weighted_sum-meets ps ps vs o o small (all_among ps) d e
 
@@ -197,7 +197,7 @@ interpolated-meets ps vs o small d e = weighted_sum-meets ps ps vs o o small (al
 -- the function is that of a polynomial of degree below k
 record IsPolynomial (k : ℕ) (f : ℕ → ℕ) : Type 0 where
   coefficients : List ℕ
-  octets : AreOctets coefficients
+  octets : AreElements coefficients
   few : length coefficients ≡ k
   agrees : (x : ℕ) → f x ≡ value_at coefficients x
 
@@ -210,7 +210,7 @@ unfolding zeros
 zeros-zero [] = tt
 zeros-zero (p ∷ ps) = (refl, zeros-zero ps)
 
-zeros-octets : (ps : List ℕ) → AreOctets (zeros ps)
+zeros-octets : (ps : List ℕ) → AreElements (zeros ps)
 unfolding zeros
 zeros-octets [] = tt
 zeros-octets (p ∷ ps) = (omega arith, zeros-octets ps)
@@ -248,7 +248,7 @@ polynomial_sum k f g p q =
           ∙ sym (value_at-added p.coefficients q.coefficients x);
     }
 
-scaled-octets : (n : ℕ) (cs : List ℕ) → AreOctets (map (product n) cs)
+scaled-octets : (n : ℕ) (cs : List ℕ) → AreElements (map (product n) cs)
 scaled-octets n [] = tt
 scaled-octets n (c ∷ cs) = (product-lt n c, scaled-octets n cs)
 
@@ -273,7 +273,7 @@ lengthened : List ℕ → List ℕ
 lengthened [] = 0 ∷ []
 lengthened (c ∷ cs) = c ∷ lengthened cs
 
-lengthened-octets : (cs : List ℕ) → AreOctets cs → AreOctets (lengthened cs)
+lengthened-octets : (cs : List ℕ) → AreElements cs → AreElements (lengthened cs)
 unfolding lengthened
 lengthened-octets [] h = (omega arith, tt)
 lengthened-octets (c ∷ cs) h = (h.0, lengthened-octets cs h.1)
@@ -352,7 +352,7 @@ pub record FormulaHolds (places values : List ℕ) : Type 0 where
   pub through : GoesThrough coefficients places values
   pub formula : (x : ℕ) → interpolated places values x ≡ value_at coefficients x
 
-pub formula_holds : (places values : List ℕ) → AreOctets places → AreOctets values → IsDistinct nat_eq places → length values ≡ length places → FormulaHolds places values
+pub formula_holds : (places values : List ℕ) → AreElements places → AreElements values → IsDistinct nat_eq places → length values ≡ length places → FormulaHolds places values
 unfolding interpolated
 formula_holds ps vs o small d e =
     let p : IsPolynomial (length ps) (weighted_sum ps ps vs) = polynomial_weighted_sum ps ps vs d (all_among ps) in
@@ -367,7 +367,7 @@ formula_holds ps vs o small d e =
     }
 
 -- each polynomial through the points has the values of the formula
-pub value_from_formula : (cs places values : List ℕ) → AreOctets places → AreOctets values → IsDistinct nat_eq places → length values ≡ length places → GoesThrough cs places values → (x : ℕ) → value_at cs x ≡ interpolated places values x
+pub value_from_formula : (cs places values : List ℕ) → AreElements places → AreElements values → IsDistinct nat_eq places → length values ≡ length places → GoesThrough cs places values → (x : ℕ) → value_at cs x ≡ interpolated places values x
 value_from_formula cs ps vs o small d e through x =
     let f : FormulaHolds ps vs = formula_holds ps vs o small d e in
     ap (λ ks. value_at ks x) (same_polynomial cs f.coefficients ps vs o d through f.through) ∙ sym (f.formula x)

@@ -6,13 +6,17 @@ use Rattle.std.proofs.lemmas.Bool.Decides.{Decides-eqb}
 use Rattle.std.proofs.lemmas.Map.Made.{IsDistinct-from_AllPairs}
 use Rattle.std.proofs.lemmas.List.{get_or-map, length-map}
 use Rattle.std.proofs.lemmas.List.FromFn.{length-range_with_len, get_or-range_with_len, length-map-range_with_len}
-use Rattle.std.proofs.lemmas.List.Elements.{recursion_from_All, All-map}
-use Rattle.gf_field.specs.Octet.{AreOctets}
+use Rattle.std.proofs.lemmas.List.Elements.{recursion_from_All, All-map, All-from_get_or}
+use Rattle.gf_field.specs.Element.{AreElements}
 use Rattle.gf_field.specs.Power.{power, powers}
 use Rattle.gf_field.specs.Polynomial.{value_at, GoesThrough}
 use Rattle.gf_field.specs.Symbol.{AreIds}
 use Rattle.gf_field.proofs.Powers.{power-lt, same_from_power}
 use Rattle.gf_field.proofs.Interpolations.{FormulaHolds, formula_holds}
+
+-- octets are elements of the field
+pub elements_of_octets : (xs : List ℕ) → ((i : ℕ) → get_or xs i 0 < 256) → AreElements xs
+elements_of_octets xs h = recursion_from_All (λ a. a < 256) xs (All-from_get_or (λ a. a < 256) xs 0 (λ i l. h i))
 
 pub distinct_from_pairs : (xs : List ℕ) → AllPairs (λ x y. x ≢ y) xs → IsDistinct nat_eq xs
 distinct_from_pairs xs h = IsDistinct-from_AllPairs Decides-eqb xs h
@@ -26,7 +30,7 @@ powers_differ ids h low i j d lt in_list same =
     (same_from_power (get_or ids i 0) (get_or ids j 0) (low i 0 before) (low j 0 within)
     (sym (get_or-map power ids i 0 d before) ∙ same ∙ get_or-map power ids j 0 d within))
 
-pub powers_octets : (ids : List ℕ) → AreOctets (map power ids)
+pub powers_octets : (ids : List ℕ) → AreElements (map power ids)
 powers_octets ids = recursion_from_All (λ a. a < 256) (map power ids) (All-map (λ a. a < 256) power ids (λ k d h. power-lt (get_or ids k d)))
 
 pub range_differs : (n : ℕ) → AllPairs (λ x y. x ≢ y) (range_with_len 0 n)
@@ -50,7 +54,7 @@ value_at_id cs ids vs i h lt =
     ∙ ap (λ ws. get_or ws i 0) h.meets
 
 -- the formula for the points at ids
-pub formula_at_ids : (k n : ℕ) (ids vs : List ℕ) → n ≤ 255 → AreIds k n ids → length vs ≡ k → AreOctets vs → FormulaHolds (map power ids) vs
+pub formula_at_ids : (k n : ℕ) (ids vs : List ℕ) → n ≤ 255 → AreIds k n ids → length vs ≡ k → AreElements vs → FormulaHolds (map power ids) vs
 formula_at_ids k n ids vs fits are count octets =
     formula_holds (map power ids) vs (powers_octets ids) octets
     (distinct_from_pairs (map power ids) (powers_differ ids are.different (λ i d h. below i d h)))

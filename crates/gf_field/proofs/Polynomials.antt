@@ -5,7 +5,7 @@ use Rattle.std.specs.List.{AllByRecursion, IsDistinct}
 use Rattle.std.specs.Int.Bits.{xor_self, xor_zero_l, xor_zero_r, xor_assoc}
 use Rattle.std.proofs.lemmas.Nat.{xor_lt}
 use Rattle.std.proofs.lemmas.Bool.{eqb-false}
-use Rattle.gf_field.specs.Octet.{AreOctets}
+use Rattle.gf_field.specs.Element.{AreElements}
 use Rattle.gf_field.specs.Product.{product}
 use Rattle.gf_field.specs.Polynomial.{value_at, GoesThrough}
 use Rattle.gf_field.proofs.Sums.{xor_left, xor_four, xor_twice, same_from_xor}
@@ -17,7 +17,7 @@ use Rattle.gf_field.proofs.Inverses.{zero_from_product}
 abbrev pub AreZero : List ℕ → Type 0
 AreZero cs = AllByRecursion (λ c. c ≡ 0) cs
 
-pub value_at-lt : (cs : List ℕ) (x : ℕ) → AreOctets cs → value_at cs x < 256
+pub value_at-lt : (cs : List ℕ) (x : ℕ) → AreElements cs → value_at cs x < 256
 unfolding value_at
 value_at-lt [] x h = omega arith
 value_at-lt (c ∷ cs) x h = xor_lt 8 c (product x (value_at cs x)) h.0 (product-lt x (value_at cs x))
@@ -40,7 +40,7 @@ unfolding quotient
 length-quotient p [] = refl
 length-quotient p (d ∷ ds) = ap suc (length-quotient p ds)
 
-quotient-octets : (p : ℕ) (cs : List ℕ) → AreOctets cs → AreOctets (quotient p cs)
+quotient-octets : (p : ℕ) (cs : List ℕ) → AreElements cs → AreElements (quotient p cs)
 unfolding quotient
 quotient-octets p [] h = tt
 quotient-octets p (d ∷ ds) h = (value_at-lt (d ∷ ds) p h, quotient-octets p ds h.1)
@@ -78,7 +78,7 @@ difference-pos x p h = go (bit_xor x p) refl
     go (suc n) e = omega arith
 
 -- where the polynomial is zero at p and at x, its quotient by x - p is zero at x
-quotient-zero_at : (p x c : ℕ) (cs : List ℕ) → AreOctets (c ∷ cs) → p < 256 → x < 256 → (p ≡ x → ⊥) → value_at (c ∷ cs) p ≡ 0 → value_at (c ∷ cs) x ≡ 0 → value_at (quotient p cs) x ≡ 0
+quotient-zero_at : (p x c : ℕ) (cs : List ℕ) → AreElements (c ∷ cs) → p < 256 → x < 256 → (p ≡ x → ⊥) → value_at (c ∷ cs) p ≡ 0 → value_at (c ∷ cs) x ≡ 0 → value_at (quotient p cs) x ≡ 0
 quotient-zero_at p x c cs o p_low x_low differ zero_p zero_x =
     zero_from_product (bit_xor x p) (value_at (quotient p cs) x) (difference-pos x p differ)
     (xor_lt 8 x p x_low p_low) (value_at-lt (quotient p cs) x (quotient-octets p cs o.1))
@@ -86,7 +86,7 @@ quotient-zero_at p x c cs o p_low x_low differ zero_p zero_x =
     ∙ ap (λ n. bit_xor n (product (bit_xor x p) (value_at (quotient p cs) x))) (sym zero_p)
     ∙ sym (divides p x c cs) ∙ zero_x)
 
-quotient-zeros : (p c : ℕ) (cs places : List ℕ) → AreOctets (c ∷ cs) → p < 256 → AreOctets places → AllByRecursion (λ y. nat_eq p y ≡ false) places → value_at (c ∷ cs) p ≡ 0 → AllByRecursion (λ x. value_at (c ∷ cs) x ≡ 0) places → AllByRecursion (λ x. value_at (quotient p cs) x ≡ 0) places
+quotient-zeros : (p c : ℕ) (cs places : List ℕ) → AreElements (c ∷ cs) → p < 256 → AreElements places → AllByRecursion (λ y. nat_eq p y ≡ false) places → value_at (c ∷ cs) p ≡ 0 → AllByRecursion (λ x. value_at (c ∷ cs) x ≡ 0) places → AllByRecursion (λ x. value_at (quotient p cs) x ≡ 0) places
 quotient-zeros p c cs [] o p_low lows differ zero_p zeros = tt
 quotient-zeros p c cs (x ∷ xs) o p_low lows differ zero_p zeros = (
   quotient-zero_at p x c cs o p_low lows.0 (eqb-false p x differ.0) zero_p zeros.0,
@@ -102,7 +102,7 @@ zero_from_quotient p (d ∷ ds) h =
     (sym (xor_zero_r d) ∙ ap (bit_xor d) (sym (ap (product p) (value_at_zero ds p rest) ∙ product-zero p)) ∙ h.0, rest)
 
 -- a polynomial of degree below k with k different zeros is zero
-pub zero_polynomial : (places cs : List ℕ) → AreOctets cs → AreOctets places → IsDistinct nat_eq places → length cs ≤ length places → AllByRecursion (λ x. value_at cs x ≡ 0) places → AreZero cs
+pub zero_polynomial : (places cs : List ℕ) → AreElements cs → AreElements places → IsDistinct nat_eq places → length cs ≤ length places → AllByRecursion (λ x. value_at cs x ≡ 0) places → AreZero cs
 unfolding value_at
 zero_polynomial places [] o lows apart few zeros = tt
 zero_polynomial [] (c ∷ cs) o lows apart few zeros = absurd (omega arith)
@@ -128,7 +128,7 @@ value_at-added (c ∷ cs) (d ∷ ds) x =
     ∙ ap (bit_xor (bit_xor c d)) (product-xor_r x (value_at cs x) (value_at ds x))
     ∙ xor_four c d (product x (value_at cs x)) (product x (value_at ds x))
 
-pub added-octets : (cs ds : List ℕ) → AreOctets cs → AreOctets ds → AreOctets (added cs ds)
+pub added-octets : (cs ds : List ℕ) → AreElements cs → AreElements ds → AreElements (added cs ds)
 unfolding added
 added-octets [] ds p q = q
 added-octets (c ∷ cs) [] p q = p
@@ -156,7 +156,7 @@ added-zeros cs ds (x ∷ xs) e =
     (value_at-added cs ds x ∙ ap (λ n. bit_xor n (value_at ds x)) same ∙ xor_self (value_at ds x), added-zeros cs ds xs rest)
 
 -- through points with different places goes at most one polynomial
-pub same_polynomial : (cs ds places values : List ℕ) → AreOctets places → IsDistinct nat_eq places → GoesThrough cs places values → GoesThrough ds places values → cs ≡ ds
+pub same_polynomial : (cs ds places values : List ℕ) → AreElements places → IsDistinct nat_eq places → GoesThrough cs places values → GoesThrough ds places values → cs ≡ ds
 same_polynomial cs ds places values lows apart p q =
     let alike : length cs ≡ length ds = p.few ∙ sym q.few in
     same_from_added cs ds alike

@@ -8,7 +8,7 @@ use Rattle.std.proofs.lemmas.Nat.{xor_lt}
 use Rattle.std.proofs.lemmas.List.{get_or-map, get_or-replicate, length-map, length-replicate, ext_get_or}
 use Rattle.std.proofs.lemmas.List.FromFn.{length-map-range_with_len, get_or-map-range_with_len}
 use Rattle.std.proofs.lemmas.List.Elements.{All-from_recursion}
-use Rattle.gf_field.specs.Octet.{AreOctets}
+use Rattle.gf_field.specs.Element.{AreElements}
 use Rattle.gf_field.specs.Product.{product, shifts}
 use Rattle.gf_field.specs.Power.{power, powers}
 use Rattle.gf_field.specs.Polynomial.{value_at, GoesThrough}
@@ -21,12 +21,12 @@ use Rattle.gf_field.proofs.Places.{distinct_from_pairs, powers_differ, powers_oc
 
 -- ---- octets
 
-pub each_octet : (xs : List ℕ) → AreOctets xs → (i : ℕ) → get_or xs i 0 < 256
+pub each_octet : (xs : List ℕ) → AreElements xs → (i : ℕ) → get_or xs i 0 < 256
 each_octet [] h i = omega arith
 each_octet (x ∷ xs) h zero = h.0
 each_octet (x ∷ xs) h (suc i) = each_octet xs h.1 i
 
-pub octets_at-octets : (t : ℕ) (symbols : List (List ℕ)) → AllByRecursion AreOctets symbols → AreOctets (octets_at t symbols)
+pub octets_at-octets : (t : ℕ) (symbols : List (List ℕ)) → AllByRecursion AreElements symbols → AreElements (octets_at t symbols)
 octets_at-octets t [] h = tt
 octets_at-octets t (s ∷ ss) h = (each_octet s h.0 t, octets_at-octets t ss h.1)
 
@@ -48,7 +48,7 @@ length-scaled_onto vs xs [] = refl
 length-scaled_onto vs [] (y ∷ ys) = refl
 length-scaled_onto vs (x ∷ xs) (y ∷ ys) = ap suc (length-scaled_onto vs xs ys)
 
-scaled_onto-octets : (c : ℕ) (xs ys : List ℕ) → AreOctets ys → AreOctets (scaled_onto (shifts 8 (c % 256)) xs ys)
+scaled_onto-octets : (c : ℕ) (xs ys : List ℕ) → AreElements ys → AreElements (scaled_onto (shifts 8 (c % 256)) xs ys)
 unfolding scaled_onto product
 scaled_onto-octets c xs [] h = tt
 scaled_onto-octets c [] (y ∷ ys) h = h
@@ -62,11 +62,11 @@ length-weighted_symbols size places (m ∷ ms) (s ∷ ss) x =
     length-scaled_onto (shifts 8 (coefficient places m x % 256)) s (weighted_symbols size places ms ss x)
     ∙ length-weighted_symbols size places ms ss x
 
-pub zeros-octets : (size : ℕ) → AreOctets (replicate size 0)
+pub zeros-octets : (size : ℕ) → AreElements (replicate size 0)
 zeros-octets zero = tt
 zeros-octets (suc size) = (omega arith, zeros-octets size)
 
-weighted_symbols-octets : (size : ℕ) (places ms : List ℕ) (symbols : List (List ℕ)) (x : ℕ) → AreOctets (weighted_symbols size places ms symbols x)
+weighted_symbols-octets : (size : ℕ) (places ms : List ℕ) (symbols : List (List ℕ)) (x : ℕ) → AreElements (weighted_symbols size places ms symbols x)
 unfolding weighted_symbols
 weighted_symbols-octets size places [] symbols x = zeros-octets size
 weighted_symbols-octets size places (m ∷ ms) [] x = zeros-octets size
@@ -151,7 +151,7 @@ pub length-encoded_symbol : (size j : ℕ) (sources : List (List ℕ)) → lengt
 unfolding encoded_symbol
 length-encoded_symbol size j sources = length-symbol_at size (powers (length sources)) sources (power j)
 
-encoded_symbol-octets : (size j : ℕ) (sources : List (List ℕ)) → AreOctets (encoded_symbol size sources j)
+encoded_symbol-octets : (size j : ℕ) (sources : List (List ℕ)) → AreElements (encoded_symbol size sources j)
 unfolding encoded_symbol symbol_at
 encoded_symbol-octets size j sources = weighted_symbols-octets size (powers (length sources)) (powers (length sources)) sources (power j)
 
@@ -218,7 +218,7 @@ encoded_symbols k size ids sources count = record {
     sizes [] = tt
     sizes (i ∷ is) = (length-encoded_symbol size i sources, sizes is)
 
-    octets : (is : List ℕ) → AllByRecursion AreOctets (map (encoded_symbol size sources) is)
+    octets : (is : List ℕ) → AllByRecursion AreElements (map (encoded_symbol size sources) is)
     octets [] = tt
     octets (i ∷ is) = (encoded_symbol-octets size i sources, octets is)
 

@@ -1,7 +1,7 @@
 -- The laws of the field, stated for octets: numbers below 256.
 use Rattle.std.specs.Prelude.{ℕ, List, [], ◌≡◌, ◌<◌, ◌≤◌, length, map, slice_index, slice_index_or, bit_xor, nat_eq}
 use Rattle.std.specs.List.{AllByRecursion, IsDistinct}
-use Rattle.gf_field.specs.Octet.{AreOctets}
+use Rattle.gf_field.specs.Element.{AreElements}
 use Rattle.gf_field.specs.Product.{product}
 use Rattle.gf_field.specs.Power.{power, powers}
 use Rattle.gf_field.specs.Polynomial.{value_at, GoesThrough}
@@ -40,14 +40,14 @@ pub record PowerLaws : Type 0 where
 -- a polynomial of degree below k with k different zeros is zero
 abbrev pub ZerosLaw : Type 0
 ZerosLaw =
-    (coefficients zeros : List ℕ) → AreOctets coefficients → AreOctets zeros → IsDistinct nat_eq zeros
+    (coefficients zeros : List ℕ) → AreElements coefficients → AreElements zeros → IsDistinct nat_eq zeros
     → length coefficients ≤ length zeros → AllByRecursion (λ x. value_at coefficients x ≡ 0) zeros
     → AllByRecursion (λ c. c ≡ 0) coefficients
 
 -- places that are different octets, and an octet for each
 pub record ArePoints (places values : List ℕ) : Type 0 where
-  pub places_octets : AreOctets places
-  pub values_octets : AreOctets values
+  pub places_octets : AreElements places
+  pub values_octets : AreElements values
   pub different : IsDistinct nat_eq places
   pub paired : length values ≡ length places
 
@@ -77,7 +77,7 @@ pub record SymbolValues : Type 0 where
 -- any k encoded symbols of a block with different ids give its source symbols, each of which is an encoded symbol
 pub record SymbolLaws : Type 0 where
   pub size : (size j : ℕ) (sources : List (List ℕ)) → length (encoded_symbol size sources j) ≡ size
-  pub octets : (size j : ℕ) (sources : List (List ℕ)) → AreOctets (encoded_symbol size sources j)
+  pub octets : (size j : ℕ) (sources : List (List ℕ)) → AreElements (encoded_symbol size sources j)
   pub own : (k size j : ℕ) (sources : List (List ℕ)) → k ≤ 255 → j < k → AreSymbols k size sources
       → encoded_symbol size sources j ≡ slice_index_or sources j []
   pub solved : (k size : ℕ) (ids : List ℕ) (sources : List (List ℕ)) → k ≤ 255 → AreSymbols k size sources → AreIds k 255 ids

@@ -1,4 +1,4 @@
-pub mod Octet
+pub mod Element
 pub mod Product
 pub mod Inverse
 pub mod Power

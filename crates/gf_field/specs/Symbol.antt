@@ -2,7 +2,7 @@
 -- polynomial goes through the symbols of a block: its value at the power j of alpha is the octet of symbol j.
 use Rattle.std.specs.Prelude.{ℕ, ◌%◌, ◌==◌, ◌≡◌, ◌≢◌, ◌<◌, true, false, Option, Some, None, List, [], ◌∷◌, length, map, replicate, slice_index, bit_xor}
 use Rattle.std.specs.List.{All, AllPairs, AllByRecursion, range_with_len}
-use Rattle.gf_field.specs.Octet.{AreOctets}
+use Rattle.gf_field.specs.Element.{AreElements}
 use Rattle.gf_field.specs.Product.{shifts, sum_at_bits}
 use Rattle.gf_field.specs.Power.{power, powers}
 use Rattle.gf_field.specs.Interpolation.{coefficient}
@@ -11,7 +11,7 @@ use Rattle.gf_field.specs.Interpolation.{coefficient}
 pub record AreSymbols (k size : ℕ) (symbols : List (List ℕ)) : Type 0 where
   pub count : length symbols ≡ k
   pub sizes : AllByRecursion (λ s. length s ≡ size) symbols
-  pub octets : AllByRecursion AreOctets symbols
+  pub octets : AllByRecursion AreElements symbols
 
 -- k different ids of symbols among the first n
 pub record AreIds (k n : ℕ) (ids : List ℕ) : Type 0 where

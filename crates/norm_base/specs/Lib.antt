@@ -10,4 +10,5 @@ pub mod Given
 pub mod Faults
 pub mod Told
 pub mod Contents
+pub mod Octets
 pub mod Network

@@ -5,13 +5,13 @@ use Rattle.norm_ext.specs.Message.{Message}
 use Rattle.norm_ext.specs.Spells.{Spells}
 use Rattle.norm_ext.specs.Reading.{decoded}
 use Rattle.norm_ext.specs.declared.refusal.Refusal.{Refusal}
-use Rattle.norm_ext.proofs.PieceLemmas.{IsOctets}
+use Rattle.norm_base.specs.Octets.{AreOctets}
 use Rattle.norm_ext.proofs.ReadIsSpelled.{read_is_spelled}
 use Rattle.norm_ext.proofs.SpelledIsRead.{spelled_is_read}
 use Rattle.norm_codec.specs.declared.message.Message.{Message as Lent}
 use Rattle.norm_codec.specs.View.{message_of}
 
-pub is_found : (octets : List ℕ) (r : Result Lent Refusal) → IsOctets octets → MatchResult r (λ m. decoded octets ≡ Ok (message_of m)) (λ refusal. decoded octets ≡ Err refusal)
+pub is_found : (octets : List ℕ) (r : Result Lent Refusal) → AreOctets octets → MatchResult r (λ m. decoded octets ≡ Ok (message_of m)) (λ refusal. decoded octets ≡ Err refusal)
     → IfOk r (λ m. Spells (message_of m) octets)
 is_found octets (Ok m) fits e = read_is_spelled (message_of m) octets fits e
 is_found octets (Err refusal) fits e = tt

@@ -3,7 +3,8 @@ use Rattle.std.proofs.Common.{◌≡◌, ℕ, zero, suc, ◌+◌, ◌-◌, ◌<�
 use Rattle.std.specs.List.{AllByRecursion, flat_map}
 use Rattle.std.proofs.lemmas.List.{drop_at, take-append-drop, length-take}
 use Rattle.norm_ext.specs.Pieces.{checked_then, checked_behind}
-use Rattle.norm_ext.proofs.PieceLemmas.{IsOctets, IsKind, first_checked, first_failed, unroll_checked, drop_pred}
+use Rattle.norm_base.specs.Octets.{AreOctets}
+use Rattle.norm_ext.proofs.PieceLemmas.{IsKind, first_checked, first_failed, unroll_checked, drop_pred}
 
 pub record Found {A E : Type 0} (octets_of : A → List ℕ) (Fits : A → Type 0) (check : ℕ → List ℕ → Result (Unit {0}) E) (from : ℕ) (list : List ℕ) (fault : E) : Type 0 where
   pub before : List A
@@ -20,7 +21,7 @@ err_same r f g a b = cc
 
 -- at the front, or behind the piece at the front
 front_or_rest : {A E : Type 0} (octets_of : A → List ℕ) (Fits : A → Type 0) (first : List ℕ → A) (len : List ℕ → ℕ) (check : ℕ → List ℕ → Result (Unit {0}) E) (kind : IsKind octets_of Fits first len check)
-    → (from : ℕ) (x : ℕ) (xs : List ℕ) (fault : E) → IsOctets (x ∷ xs) → (r : Result (Unit {0}) E) → check from (x ∷ xs) ≡ r
+    → (from : ℕ) (x : ℕ) (xs : List ℕ) (fault : E) → AreOctets (x ∷ xs) → (r : Result (Unit {0}) E) → check from (x ∷ xs) ≡ r
     → checked_then r (checked_behind check len (suc from) (len (x ∷ xs) - 1) xs) ≡ Err fault
     → (len (x ∷ xs) - 1 ≤ length xs → checked_behind check len (suc from) (len (x ∷ xs) - 1) xs ≡ Err fault → Found octets_of Fits check (suc from + (len (x ∷ xs) - 1)) (drop (len (x ∷ xs) - 1) xs) fault)
     → Found octets_of Fits check from (x ∷ xs) fault
@@ -49,7 +50,7 @@ front_or_rest octets_of Fits first len check kind from x xs fault fits (Ok u) is
     }
 
 pub found : {A E : Type 0} (octets_of : A → List ℕ) (Fits : A → Type 0) (first : List ℕ → A) (len : List ℕ → ℕ) (check : ℕ → List ℕ → Result (Unit {0}) E) (kind : IsKind octets_of Fits first len check)
-    → (from skip : ℕ) (xs : List ℕ) (fault : E) → IsOctets xs → skip ≤ length xs → checked_behind check len from skip xs ≡ Err fault
+    → (from skip : ℕ) (xs : List ℕ) (fault : E) → AreOctets xs → skip ≤ length xs → checked_behind check len from skip xs ≡ Err fault
     → Found octets_of Fits check (from + skip) (drop skip xs) fault
 found octets_of Fits first len check kind from zero [] fault fits h e = absurd cc
 found octets_of Fits first len check kind from (suc skip) [] fault fits h e = absurd cc

@@ -6,7 +6,8 @@ use Rattle.std.proofs.lemmas.List.{take_at, drop-take, length-take}
 use Rattle.norm_ext.specs.Extensions.{Extension, extension_octets, extension_length, first_extension, extension_checked, extensions_of, extensions_checked, IsExtension, IsChecked, most_words, extension_of, content_at}
 use Rattle.norm_ext.specs.declared.refusal.ExtFault.TheVariants.{ZeroLength, Overrun}
 use Rattle.norm_ext.specs.Pieces.{checked_behind}
-use Rattle.norm_ext.proofs.PieceLemmas.{IsOctets, IsKind, unroll, ok_first, ok_rest, unroll_checked, first_checked, ok_anywhere, together}
+use Rattle.norm_base.specs.Octets.{AreOctets}
+use Rattle.norm_ext.proofs.PieceLemmas.{IsKind, unroll, ok_first, ok_rest, unroll_checked, first_checked, ok_anywhere, together}
 
 -- a test that refuses nothing
 passes : {A : Type 0} (b : Bool) (x : A) (r : Result (Unit {0}) A) → cond b (Err x) r ≡ Ok tt → (b ≡ false) × (r ≡ Ok tt)
@@ -95,7 +96,7 @@ first_spelled at (kind ∷ words ∷ rest) p =
       | inr high ↦ spelled_short kind (words ∷ rest) high ∙ ap (λ (n : ℕ). take n (kind ∷ words ∷ rest)) (sym (length_short kind (words ∷ rest) high))
     ]
 
-first_fits : (at : ℕ) (xs : List ℕ) → IsOctets xs → Passes xs → IsExtension (first_extension xs)
+first_fits : (at : ℕ) (xs : List ℕ) → AreOctets xs → Passes xs → IsExtension (first_extension xs)
 first_fits at [] fits p = absurd (omega (arith, p.four))
 first_fits at (kind ∷ []) fits p = absurd (omega (arith, p.four))
 first_fits at (kind ∷ words ∷ rest) fits p =
@@ -243,7 +244,7 @@ extension_size (x ∷ list) all =
     omega (arith, rest, all.0.whole, length-append (extension_octets x) (flat_map extension_octets list))
 
 -- the extensions of a list put together again are the list
-pub exts_together : (exts : List ℕ) → IsOctets exts → IsChecked exts → flat_map extension_octets (extensions_of exts) ≡ exts
+pub exts_together : (exts : List ℕ) → AreOctets exts → IsChecked exts → flat_map extension_octets (extensions_of exts) ≡ exts
 exts_together exts fits is = together extension_octets first_extension extension_length extension_checked extension_kind 0 0 exts fits (omega arith) is.checked
 
 -- a list that is walked to its end and refused nowhere is whole

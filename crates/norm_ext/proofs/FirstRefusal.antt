@@ -2,14 +2,14 @@
 use Rattle.std.proofs.Common.{◌≡◌, ℕ, List, length, refl, sym, ap, ◌∙◌}
 use Rattle.norm_ext.specs.Laws.{RefusedIsFirst, FirstIsRefused, SpelledIsNotRefused}
 use Rattle.norm_ext.specs.Reading.{decoded}
-use Rattle.norm_ext.proofs.PieceLemmas.{IsOctets}
+use Rattle.norm_base.specs.Octets.{AreOctets}
 use Rattle.norm_ext.proofs.TurnLemmas.{AllRefuse, refused_first, first_refused, none_refused}
 use Rattle.norm_ext.proofs.ReadingSteps.{steps_of, outcome, refused_outcome, outcome_refused, decoded_outcome}
 use Rattle.norm_ext.proofs.SpelledIsRead.{spelled_is_read}
 use Rattle.norm_ext.proofs.StepLemmas.{short_refuses, version_refuses, type_refuses, least_refuses, past_refuses, encoding_refuses, sub_type_refuses}
 use Rattle.norm_ext.proofs.PartLemmas.{extensions_refuse, encodings_refuse, nodes_refuse, list_refuses}
 
-all_refuse : (octets : List ℕ) → IsOctets octets → AllRefuse octets 0 (steps_of octets)
+all_refuse : (octets : List ℕ) → AreOctets octets → AllRefuse octets 0 (steps_of octets)
 unfolding steps_of
 all_refuse octets fits = (
   short_refuses octets,

@@ -21,7 +21,8 @@ use Rattle.norm_ext.specs.declared.refusal.ExtFault.{ExtFault}
 use Rattle.norm_ext.specs.declared.refusal.ExtFault.TheVariants.{ZeroLength, Overrun}
 use Rattle.norm_ext.specs.declared.refusal.Refusal.{Refusal}
 use Rattle.norm_ext.specs.declared.refusal.Refusal.TheVariants.{Short, Version, BadType, HeaderLength, FecId, BadNode}
-use Rattle.norm_ext.proofs.PieceLemmas.{IsOctets, octets-take, octets-drop, together, all_fit}
+use Rattle.norm_base.specs.Octets.{AreOctets}
+use Rattle.norm_ext.proofs.PieceLemmas.{octets-take, octets-drop, together, all_fit}
 use Rattle.norm_ext.proofs.NumberLemmas.{spelled_2, spelled_4, below_2, spelled_name, name_fits}
 use Rattle.norm_ext.proofs.RequestLemmas.{not_refused, so_not, request_kind}
 use Rattle.norm_ext.proofs.ExtensionLemmas.{extension_kind}
@@ -105,13 +106,13 @@ take_drop from n octets h =
     ap (λ (t : List ℕ). take (n - from) (drop from octets) ++ t) (ap (λ (k : ℕ). drop k octets) (sym e) ∙ sym (drop-drop (n - from) from octets))
     ∙ take-append-drop (n - from) (drop from octets)
 
-pub tail_is : (words : ℕ) (octets : List ℕ) → IsOctets octets → words ≤ words_of octets → 4 * words_of octets ≤ length octets → words_of octets < 256
+pub tail_is : (words : ℕ) (octets : List ℕ) → AreOctets octets → words ≤ words_of octets → 4 * words_of octets ≤ length octets → words_of octets < 256
     → header_extensions_checked (4 * words) octets ≡ Ok tt → IsTail words octets
 tail_is words octets fits least most below e =
     let from : ℕ = 4 * words in
     let list : List ℕ = header_from from octets in
     let checked = extensions_pass (extensions_checked from list) e in
-    let list-fits : IsOctets list = octets-take (4 * words_of octets - from) (drop from octets) (octets-drop from octets fits) in
+    let list-fits : AreOctets list = octets-take (4 * words_of octets - from) (drop from octets) (octets-drop from octets fits) in
     let spelled : extensions_octets (extensions_of list) ≡ list = together extension_octets first_extension extension_length extension_checked extension_kind from 0 list list-fits (omega arith) checked in
     let size : length list ≡ 4 * words_of octets - from = omega (arith, length-take (4 * words_of octets - from) (drop from octets), length-drop from octets) in
     let words-is : words_with words (extensions_of list) ≡ words_of octets = omega (arith, ap length spelled, size) in
@@ -173,17 +174,17 @@ pub append_none : (xs ys : List ℕ) → length ys ≡ 0 → xs ++ ys ≡ xs
 append_none xs [] none = append-nil xs
 append_none xs (y ∷ ys) none = absurd (omega arith)
 
-pub requests_together : (at : ℕ) (xs : List ℕ) → IsOctets xs → requests_checked at xs ≡ Ok tt → requests_octets (requests_of xs) ≡ xs
+pub requests_together : (at : ℕ) (xs : List ℕ) → AreOctets xs → requests_checked at xs ≡ Ok tt → requests_octets (requests_of xs) ≡ xs
 requests_together at xs fits ok = together request_octets first_request request_length request_checked request_kind at 0 xs fits (omega arith) ok
 
-pub requests_fit : (at : ℕ) (xs : List ℕ) → IsOctets xs → requests_checked at xs ≡ Ok tt → AllByRecursion IsRequest (requests_of xs)
+pub requests_fit : (at : ℕ) (xs : List ℕ) → AreOctets xs → requests_checked at xs ≡ Ok tt → AllByRecursion IsRequest (requests_of xs)
 requests_fit at xs fits ok = all_fit IsRequest first_request request_length request_checked request_kind at 0 xs fits ok
 
 -- the one item of a flush's acknowledgement
 abbrev pub mark_in : List ℕ → Item
 mark_in content = record { object = number 2 2 content; id = name_at 4 content }
 
-pub mark_spelled : (xs : List ℕ) → IsOctets xs → length xs ≡ 8 → octet 0 xs ≡ 5
+pub mark_spelled : (xs : List ℕ) → AreOctets xs → length xs ≡ 8 → octet 0 xs ≡ 5
     → (item_octets (record { reserved = octet 1 xs; item = mark_in xs }) ++ [] ≡ xs) × IsItem (mark_in xs)
 mark_spelled (a ∷ b ∷ c ∷ d ∷ e ∷ f ∷ g ∷ h ∷ []) fits eight five = (
   ap (λ (t : List ℕ). (5 ∷ b ∷ t ++ name_octets (name_at 0 (e ∷ f ∷ g ∷ h ∷ []))) ++ []) (spelled_2 c d [] (fits 2) (fits 3))

@@ -5,7 +5,7 @@ use Rattle.byteorder.specs.Endian.{big_bytes}
 use Rattle.fec_plan.specs.Payload.{Name, name_octets, IsName}
 use Rattle.norm_ext.specs.Numbers.{number, name_at}
 use Rattle.norm_ext.specs.Lists.{nodes_of, objects_of}
-use Rattle.norm_ext.proofs.PieceLemmas.{IsOctets}
+use Rattle.norm_base.specs.Octets.{AreOctets}
 
 -- ---- two octets, and four
 
@@ -59,7 +59,7 @@ name_again name rest is =
 
 -- ---- lists of numbers
 
-pub nodes_together : (xs : List ℕ) → IsOctets xs → length xs % 4 ≡ 0 → flat_map (big_bytes 4) (nodes_of xs) ≡ xs
+pub nodes_together : (xs : List ℕ) → AreOctets xs → length xs % 4 ≡ 0 → flat_map (big_bytes 4) (nodes_of xs) ≡ xs
 nodes_together [] fits whole = refl
 nodes_together (a ∷ []) fits whole = absurd (omega (arith, whole))
 nodes_together (a ∷ b ∷ []) fits whole = absurd (omega (arith, whole))
@@ -68,7 +68,7 @@ nodes_together (a ∷ b ∷ c ∷ d ∷ rest) fits whole =
     ap (λ (t : List ℕ). t ++ flat_map (big_bytes 4) (nodes_of rest)) (spelled_4 a b c d [] (fits 0) (fits 1) (fits 2) (fits 3))
     ∙ ap (λ (t : List ℕ). a ∷ b ∷ c ∷ d ∷ t) (nodes_together rest (λ i. fits (suc (suc (suc (suc i))))) (omega (arith, whole)))
 
-pub nodes_fit : (xs : List ℕ) → IsOctets xs → AllByRecursion (λ n. n < 4294967296) (nodes_of xs)
+pub nodes_fit : (xs : List ℕ) → AreOctets xs → AllByRecursion (λ n. n < 4294967296) (nodes_of xs)
 nodes_fit [] fits = tt
 nodes_fit (a ∷ []) fits = tt
 nodes_fit (a ∷ b ∷ []) fits = tt
@@ -84,14 +84,14 @@ pub nodes_whole : (nodes : List ℕ) → length (flat_map (big_bytes 4) nodes) %
 nodes_whole [] = refl
 nodes_whole (n ∷ nodes) = let rest = nodes_whole nodes in omega (arith, rest)
 
-pub objects_together : (xs : List ℕ) → IsOctets xs → length xs % 2 ≡ 0 → flat_map (big_bytes 2) (objects_of xs) ≡ xs
+pub objects_together : (xs : List ℕ) → AreOctets xs → length xs % 2 ≡ 0 → flat_map (big_bytes 2) (objects_of xs) ≡ xs
 objects_together [] fits whole = refl
 objects_together (a ∷ []) fits whole = absurd (omega (arith, whole))
 objects_together (a ∷ b ∷ rest) fits whole =
     ap (λ (t : List ℕ). t ++ flat_map (big_bytes 2) (objects_of rest)) (spelled_2 a b [] (fits 0) (fits 1))
     ∙ ap (λ (t : List ℕ). a ∷ b ∷ t) (objects_together rest (λ i. fits (suc (suc i))) (omega (arith, whole)))
 
-pub objects_fit : (xs : List ℕ) → IsOctets xs → AllByRecursion (λ n. n < 65536) (objects_of xs)
+pub objects_fit : (xs : List ℕ) → AreOctets xs → AllByRecursion (λ n. n < 65536) (objects_of xs)
 objects_fit [] fits = tt
 objects_fit (a ∷ []) fits = tt
 objects_fit (a ∷ b ∷ rest) fits = (below_2 a b [] (fits 0) (fits 1), objects_fit rest (λ i. fits (suc (suc i))))

@@ -18,7 +18,8 @@ use Rattle.norm_ext.specs.declared.refusal.ExtFault.{ExtFault}
 use Rattle.norm_ext.specs.declared.refusal.ExtFault.TheVariants.{ZeroLength, Overrun}
 use Rattle.norm_ext.specs.declared.refusal.Refusal.{Refusal}
 use Rattle.norm_ext.specs.declared.refusal.Refusal.TheVariants.{Ext, RequestForm, RequestLength, ItemFec, BadNode, BadList}
-use Rattle.norm_ext.proofs.PieceLemmas.{IsOctets, octets-take, octets-drop, first_failed, first_checked}
+use Rattle.norm_base.specs.Octets.{AreOctets}
+use Rattle.norm_ext.proofs.PieceLemmas.{octets-take, octets-drop, first_failed, first_checked}
 use Rattle.norm_ext.proofs.NumberLemmas.{spelled_2, spelled_name, below_2, name_fits}
 use Rattle.norm_ext.proofs.ExtensionLemmas.{extension_kind}
 use Rattle.norm_ext.proofs.RequestLemmas.{chosen, form_is, form_again, request_kind, items_more, items_size, eight, not_refused, so_not}
@@ -116,7 +117,7 @@ extension_told : (fault : ExtFault) → extension_refused (Err fault) ≡ Err (E
 extension_told (ZeroLength at) = refl
 extension_told (Overrun at) = refl
 
-bad_extension : (from : ℕ) (list : List ℕ) (fault : ExtFault) → IsOctets list → extensions_checked from list ≡ Err fault → BadExtension from list (place_in fault)
+bad_extension : (from : ℕ) (list : List ℕ) (fault : ExtFault) → AreOctets list → extensions_checked from list ≡ Err fault → BadExtension from list (place_in fault)
 bad_extension from list fault fits e =
     let f = found extension_octets IsExtension first_extension extension_length extension_checked extension_kind from 0 list fault fits (omega arith) e in
     let w = extension_wrong f.at f.rest fault f.wrong in
@@ -134,7 +135,7 @@ extension_bad from list at b =
     ∙ failed extension_octets IsExtension first_extension extension_length extension_checked extension_kind from b.begins.before b.rest w.0 at b.begins.whole b.begins.some b.begins.place w.1)
     ∙ extension_told w.0 ∙ ap (λ (n : ℕ). Err (Ext n)) w.2
 
-header_octets : (from : ℕ) (octets : List ℕ) → IsOctets octets → IsOctets (header_from from octets)
+header_octets : (from : ℕ) (octets : List ℕ) → AreOctets octets → AreOctets (header_from from octets)
 header_octets from octets fits = octets-take (4 * words_of octets - from) (drop from octets) (octets-drop from octets fits)
 
 extensions_fail : (octets : List ℕ) (r : Refusal) → turn_of r ≡ 7 → Applies r octets → where_so (layout_of octets).extended (header_extensions_checked (extensions_at octets) octets) ≡ Err r
@@ -143,7 +144,7 @@ extensions_fail octets (Ext at) turn a =
     (extension_bad (extensions_at octets) (header_from (extensions_at octets) octets) at a.1)
 extensions_fail octets _ turn a = absurd (omega (arith, turn))
 
-pub extensions_refuse : (octets : List ℕ) → IsOctets octets → Refuses octets 7 (where_so (layout_of octets).extended (header_extensions_checked (extensions_at octets) octets))
+pub extensions_refuse : (octets : List ℕ) → AreOctets octets → Refuses octets 7 (where_so (layout_of octets).extended (header_extensions_checked (extensions_at octets) octets))
 extensions_refuse octets fits = record {
   found = λ r e.
       let from : ℕ = extensions_at octets in
@@ -175,7 +176,7 @@ record FoundItem (from : ℕ) (list : List ℕ) (r : Refusal) : Type 0 where
   wrong : id ≢ 5
   same : ItemFec at id ≡ r
 
-items_found : (from : ℕ) (xs : List ℕ) (r : Refusal) → IsOctets xs → items_checked from xs ≡ Err r → FoundItem from xs r
+items_found : (from : ℕ) (xs : List ℕ) (r : Refusal) → AreOctets xs → items_checked from xs ≡ Err r → FoundItem from xs r
 items_found from (a ∷ b ∷ c ∷ d ∷ e ∷ f ∷ g ∷ h ∷ rest) r fits failed =
     elim (then_err (refused_if (not (eqb a 5)) (ItemFec from a)) (items_checked (from + 8) rest) r failed) [
       | inl w ↦
@@ -294,10 +295,10 @@ Told from list (RequestLength at) = BadLength from list at
 Told from list (ItemFec at id) = BadItem from list at id
 Told from list _ = ⊥
 
-in_items : (n : ℕ) (xs : List ℕ) → IsOctets xs → IsOctets (take n (drop 4 xs))
+in_items : (n : ℕ) (xs : List ℕ) → AreOctets xs → AreOctets (take n (drop 4 xs))
 in_items n xs fits = octets-take n (drop 4 xs) (octets-drop 4 xs fits)
 
-form_told : (o : Option Form) (from : ℕ) (list : List ℕ) (at : ℕ) (rest : List ℕ) (r : Refusal) → IsOctets rest → Begins request_octets IsRequest from list at rest → form_of (octet 0 rest) ≡ o
+form_told : (o : Option Form) (from : ℕ) (list : List ℕ) (at : ℕ) (rest : List ℕ) (r : Refusal) → AreOctets rest → Begins request_octets IsRequest from list at rest → form_of (octet 0 rest) ≡ o
     → request_checked_as o at rest ≡ Err r → Told from list r
 form_told None from list at rest r fits begins is e =
     let same : RequestForm at ≡ r = cc in
@@ -326,15 +327,15 @@ form_told (Some form) from list at rest r fits begins is e =
           })
     ]
 
-rest_octets : (front rest : List ℕ) → IsOctets (front ++ rest) → IsOctets rest
+rest_octets : (front rest : List ℕ) → AreOctets (front ++ rest) → AreOctets rest
 rest_octets [] rest fits = fits
 rest_octets (x ∷ front) rest fits = rest_octets front rest (λ i. fits (suc i))
 
-request_told : (from : ℕ) (list : List ℕ) (r : Refusal) → IsOctets list → requests_checked from list ≡ Err r → Told from list r
+request_told : (from : ℕ) (list : List ℕ) (r : Refusal) → AreOctets list → requests_checked from list ≡ Err r → Told from list r
 request_told from list r fits e =
     let f = found request_octets IsRequest first_request request_length request_checked request_kind from 0 list r fits (omega arith) e in
     let front : List ℕ = flat_map request_octets f.before in
-    let whole : IsOctets (front ++ f.rest) = subst IsOctets f.joined fits in
+    let whole : AreOctets (front ++ f.rest) = subst AreOctets f.joined fits in
     form_told (form_of (octet 0 f.rest)) from list f.at f.rest r (rest_octets front f.rest whole)
     (record { before = f.before; whole = f.whole; joined = f.joined; place = omega (arith, f.place); some = f.some }) refl f.wrong
 
@@ -391,7 +392,7 @@ told_applies octets (RequestLength at) is b = (refl, (is, b))
 told_applies octets (ItemFec at id) is b = (refl, subst (λ (k : Content). BadEncoding k (content_at octets) (content_of octets) at id) (sym is) b)
 told_applies octets _ is b = absurd b
 
-encodings_found : (k : Content) (octets : List ℕ) (r : Refusal) → IsOctets octets → (layout_of octets).content ≡ k → encodings_step k (content_at octets) (content_of octets) ≡ Err r → (turn_of r ≡ 8) × Applies r octets
+encodings_found : (k : Content) (octets : List ℕ) (r : Refusal) → AreOctets octets → (layout_of octets).content ≡ k → encodings_step k (content_at octets) (content_of octets) ≡ Err r → (turn_of r ≡ 8) × Applies r octets
 encodings_found Requests octets r fits is e =
     told_applies octets r is (request_told (content_at octets) (content_of octets) r (octets-drop (4 * words_of octets) octets fits) e)
 encodings_found OneItem octets r fits is e =
@@ -417,7 +418,7 @@ encodings_fail octets (RequestLength at) turn a =
 encodings_fail octets (ItemFec at id) turn a = item_fails (layout_of octets).content (content_at octets) (content_of octets) at id a
 encodings_fail octets _ turn a = absurd (omega (arith, turn))
 
-pub encodings_refuse : (octets : List ℕ) → IsOctets octets → Refuses octets 8 (encodings_step (layout_of octets).content (content_at octets) (content_of octets))
+pub encodings_refuse : (octets : List ℕ) → AreOctets octets → Refuses octets 8 (encodings_step (layout_of octets).content (content_at octets) (content_of octets))
 encodings_refuse octets fits = record {
   found = λ r e. encodings_found (layout_of octets).content octets r fits refl e;
   fails = λ r turn a. encodings_fail octets r turn a;

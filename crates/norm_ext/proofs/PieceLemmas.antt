@@ -4,16 +4,13 @@ use Rattle.std.specs.List.{AllByRecursion}
 use Rattle.std.specs.List.{flat_map}
 use Rattle.std.proofs.lemmas.List.{drop_at, take-append-drop, get_or-drop, get_or-take, get_or_past, length-take}
 use Rattle.std.proofs.lemmas.Bool.{cases_lt}
+use Rattle.norm_base.specs.Octets.{AreOctets}
 use Rattle.norm_ext.specs.Pieces.{pieces_behind, checked_then, checked_behind}
 
--- each of them is an octet
-abbrev pub IsOctets : List ℕ → Type 0
-IsOctets octets = (i : ℕ) → get_or octets i 0 < 256
-
-pub octets-drop : (n : ℕ) (octets : List ℕ) → IsOctets octets → IsOctets (drop n octets)
+pub octets-drop : (n : ℕ) (octets : List ℕ) → AreOctets octets → AreOctets (drop n octets)
 octets-drop n octets h i = rw get_or-drop (h (n + i))
 
-pub octets-take : (n : ℕ) (octets : List ℕ) → IsOctets octets → IsOctets (take n octets)
+pub octets-take : (n : ℕ) (octets : List ℕ) → AreOctets octets → AreOctets (take n octets)
 octets-take n octets h i =
     elim (cases_lt i n) [
       | inl lt ↦ rw (get_or-take n octets i 0 lt) (h i)
@@ -50,8 +47,8 @@ pub record IsKind {A E : Type 0} (octets_of : A → List ℕ) (Fits : A → Type
   pub some : (at : ℕ) (xs : List ℕ) → check at xs ≡ Ok tt → 0 < len xs
   pub within : (at : ℕ) (xs : List ℕ) → check at xs ≡ Ok tt → len xs ≤ length xs
   pub anywhere : (at other : ℕ) (xs : List ℕ) → check at xs ≡ Ok tt → check other xs ≡ Ok tt
-  pub spelled : (at : ℕ) (xs : List ℕ) → IsOctets xs → check at xs ≡ Ok tt → octets_of (first xs) ≡ take (len xs) xs
-  pub fits : (at : ℕ) (xs : List ℕ) → IsOctets xs → check at xs ≡ Ok tt → Fits (first xs)
+  pub spelled : (at : ℕ) (xs : List ℕ) → AreOctets xs → check at xs ≡ Ok tt → octets_of (first xs) ≡ take (len xs) xs
+  pub fits : (at : ℕ) (xs : List ℕ) → AreOctets xs → check at xs ≡ Ok tt → Fits (first xs)
   pub again_some : (a : A) → Fits a → 0 < length (octets_of a)
   pub again_len : (a : A) (rest : List ℕ) → Fits a → len (octets_of a ++ rest) ≡ length (octets_of a)
   pub again_first : (a : A) (rest : List ℕ) → Fits a → first (octets_of a ++ rest) ≡ a
@@ -100,7 +97,7 @@ ok_rest len check kind at other xs some ok =
 
 -- the pieces put together again are the list
 pub together : {A E : Type 0} (octets_of : A → List ℕ) {Fits : A → Type 0} (first : List ℕ → A) (len : List ℕ → ℕ) (check : ℕ → List ℕ → Result (Unit {0}) E) (kind : IsKind octets_of Fits first len check) (at skip : ℕ) (xs : List ℕ)
-    → IsOctets xs → skip ≤ length xs → checked_behind check len at skip xs ≡ Ok tt → flat_map octets_of (pieces_behind first len skip xs) ≡ drop skip xs
+    → AreOctets xs → skip ≤ length xs → checked_behind check len at skip xs ≡ Ok tt → flat_map octets_of (pieces_behind first len skip xs) ≡ drop skip xs
 together octets_of first len check kind at zero [] fits h ok = refl
 together octets_of first len check kind at (suc skip) [] fits h ok = refl
 together octets_of first len check kind at zero (x ∷ xs) fits h ok =
@@ -115,7 +112,7 @@ together octets_of first len check kind at (suc skip) (x ∷ xs) fits h ok =
 
 -- each of them can be spelled
 pub all_fit : {A E : Type 0} {octets_of : A → List ℕ} (Fits : A → Type 0) (first : List ℕ → A) (len : List ℕ → ℕ) (check : ℕ → List ℕ → Result (Unit {0}) E) (kind : IsKind octets_of Fits first len check) (at skip : ℕ) (xs : List ℕ)
-    → IsOctets xs → checked_behind check len at skip xs ≡ Ok tt → AllByRecursion Fits (pieces_behind first len skip xs)
+    → AreOctets xs → checked_behind check len at skip xs ≡ Ok tt → AllByRecursion Fits (pieces_behind first len skip xs)
 all_fit Fits first len check kind at zero [] fits ok = tt
 all_fit Fits first len check kind at (suc skip) [] fits ok = tt
 all_fit Fits first len check kind at zero (x ∷ xs) fits ok =

@@ -15,7 +15,7 @@ use Rattle.norm_ext.specs.declared.kinds.SubType.TheVariants as commands
 use Rattle.norm_ext.specs.declared.refusal.Refusal.{Refusal}
 use Rattle.norm_ext.specs.declared.refusal.Refusal.TheVariants.{BadType, BadList, ItemFec}
 use Rattle.norm_ext.specs.declared.refusal.Refusal.TheVariants as refusals
-use Rattle.norm_ext.proofs.PieceLemmas.{IsOctets}
+use Rattle.norm_base.specs.Octets.{AreOctets}
 use Rattle.norm_ext.proofs.RequestLemmas.{not_refused, so_not, chosen}
 use Rattle.norm_ext.proofs.MessageLemmas.{bind_ok, pass_ok, IsHeader, header_is, encoding_is, mark_in}
 use Rattle.norm_ext.proofs.Takes.{info_spelled, data_spelled, flush_spelled, squelch_spelled, eot_spelled, repair_adv_spelled, ack_req_spelled, opaque_spelled, nack_spelled, ack_mark_spelled, ack_unread_spelled, report_spelled}
@@ -32,7 +32,7 @@ list_is width xs e = eqb-true (length xs % width) 0 (so_not _ (not_refused (not 
 none_is : (xs : List ℕ) → refused_if (not (eqb (length xs) 0)) (BadList (length xs)) ≡ Ok tt → length xs ≡ 0
 none_is xs e = eqb-true (length xs) 0 (so_not _ (not_refused (not (eqb (length xs) 0)) (BadList (length xs)) e))
 
-info_takes : (octets : List ℕ) (m : Message) → IsOctets octets → info_read octets ≡ Ok m → Spells m octets
+info_takes : (octets : List ℕ) (m : Message) → AreOctets octets → info_read octets ≡ Ok m → Spells m octets
 unfolding info_read
 info_takes octets m fits e =
     let header = pass_ok (header_checked types.Info octets) _ m e in
@@ -43,7 +43,7 @@ info_takes octets m fits e =
     let same = ok_same _ m source.1 in
     subst (λ (x : Message). Spells x octets) same (info_spelled octets fits is.first is.least is.most (encoding_is (octet 13 octets) encoding.0) extensions.0 source.0)
 
-data_takes : (octets : List ℕ) (m : Message) → IsOctets octets → data_read octets ≡ Ok m → Spells m octets
+data_takes : (octets : List ℕ) (m : Message) → AreOctets octets → data_read octets ≡ Ok m → Spells m octets
 unfolding data_read
 data_takes octets m fits e =
     let header = pass_ok (header_checked types.Data octets) _ m e in
@@ -54,7 +54,7 @@ data_takes octets m fits e =
     let same = ok_same _ m source.1 in
     subst (λ (x : Message). Spells x octets) same (data_spelled octets fits is.first is.least is.most (encoding_is (octet 13 octets) encoding.0) extensions.0 source.0)
 
-flush_takes : (octets : List ℕ) (m : Message) → IsOctets octets → octet 0 octets ≡ 19 → 5 ≤ words_of octets → 4 * words_of octets ≤ length octets → octet 12 octets ≡ 1 → flush_read octets ≡ Ok m → Spells m octets
+flush_takes : (octets : List ℕ) (m : Message) → AreOctets octets → octet 0 octets ≡ 19 → 5 ≤ words_of octets → 4 * words_of octets ≤ length octets → octet 12 octets ≡ 1 → flush_read octets ≡ Ok m → Spells m octets
 unfolding flush_read
 flush_takes octets m fits first least most sub e =
     let encoding = pass_ok (encoding_checked (octet 13 octets)) _ m e in
@@ -64,7 +64,7 @@ flush_takes octets m fits first least most sub e =
     let same = ok_same _ m list.1 in
     subst (λ (x : Message). Spells x octets) same (flush_spelled octets fits first least most sub (encoding_is (octet 13 octets) encoding.0) extensions.0 source.0 (list_is 4 (content_of octets) list.0))
 
-squelch_takes : (octets : List ℕ) (m : Message) → IsOctets octets → octet 0 octets ≡ 19 → 5 ≤ words_of octets → 4 * words_of octets ≤ length octets → octet 12 octets ≡ 3 → squelch_read octets ≡ Ok m → Spells m octets
+squelch_takes : (octets : List ℕ) (m : Message) → AreOctets octets → octet 0 octets ≡ 19 → 5 ≤ words_of octets → 4 * words_of octets ≤ length octets → octet 12 octets ≡ 3 → squelch_read octets ≡ Ok m → Spells m octets
 unfolding squelch_read
 squelch_takes octets m fits first least most sub e =
     let encoding = pass_ok (encoding_checked (octet 13 octets)) _ m e in
@@ -74,7 +74,7 @@ squelch_takes octets m fits first least most sub e =
     let same = ok_same _ m list.1 in
     subst (λ (x : Message). Spells x octets) same (squelch_spelled octets fits first least most sub (encoding_is (octet 13 octets) encoding.0) extensions.0 source.0 (list_is 2 (content_of octets) list.0))
 
-eot_takes : (octets : List ℕ) (m : Message) → IsOctets octets → octet 0 octets ≡ 19 → 4 ≤ words_of octets → 4 * words_of octets ≤ length octets → octet 12 octets ≡ 2 → eot_read octets ≡ Ok m → Spells m octets
+eot_takes : (octets : List ℕ) (m : Message) → AreOctets octets → octet 0 octets ≡ 19 → 4 ≤ words_of octets → 4 * words_of octets ≤ length octets → octet 12 octets ≡ 2 → eot_read octets ≡ Ok m → Spells m octets
 unfolding eot_read
 eot_takes octets m fits first least most sub e =
     let extensions = pass_ok (header_extensions_checked 16 octets) _ m e in
@@ -83,7 +83,7 @@ eot_takes octets m fits first least most sub e =
     let same = ok_same _ m content.1 in
     subst (λ (x : Message). Spells x octets) same (eot_spelled octets fits first least most sub extensions.0 source.0 (none_is (content_of octets) content.0))
 
-repair_adv_takes : (octets : List ℕ) (m : Message) → IsOctets octets → octet 0 octets ≡ 19 → 4 ≤ words_of octets → 4 * words_of octets ≤ length octets → octet 12 octets ≡ 5 → repair_adv_read octets ≡ Ok m → Spells m octets
+repair_adv_takes : (octets : List ℕ) (m : Message) → AreOctets octets → octet 0 octets ≡ 19 → 4 ≤ words_of octets → 4 * words_of octets ≤ length octets → octet 12 octets ≡ 5 → repair_adv_read octets ≡ Ok m → Spells m octets
 unfolding repair_adv_read
 repair_adv_takes octets m fits first least most sub e =
     let extensions = pass_ok (header_extensions_checked 16 octets) _ m e in
@@ -92,7 +92,7 @@ repair_adv_takes octets m fits first least most sub e =
     let same = ok_same _ m source.1 in
     subst (λ (x : Message). Spells x octets) same (repair_adv_spelled octets fits first least most sub extensions.0 source.0 requests.0)
 
-ack_req_takes : (octets : List ℕ) (m : Message) → IsOctets octets → octet 0 octets ≡ 19 → 4 ≤ words_of octets → 4 * words_of octets ≤ length octets → octet 12 octets ≡ 6 → ack_req_read octets ≡ Ok m → Spells m octets
+ack_req_takes : (octets : List ℕ) (m : Message) → AreOctets octets → octet 0 octets ≡ 19 → 4 ≤ words_of octets → 4 * words_of octets ≤ length octets → octet 12 octets ≡ 6 → ack_req_read octets ≡ Ok m → Spells m octets
 unfolding ack_req_read
 ack_req_takes octets m fits first least most sub e =
     let extensions = pass_ok (header_extensions_checked 16 octets) _ m e in
@@ -101,14 +101,14 @@ ack_req_takes octets m fits first least most sub e =
     let same = ok_same _ m list.1 in
     subst (λ (x : Message). Spells x octets) same (ack_req_spelled octets fits first least most sub extensions.0 source.0 (list_is 4 (content_of octets) list.0))
 
-opaque_takes : (octets : List ℕ) (m : Message) → IsOctets octets → octet 0 octets ≡ 19 → 4 ≤ words_of octets → 4 * words_of octets ≤ length octets → (octet 12 octets ≡ 4) ⊎ (octet 12 octets ≡ 7) → opaque_read octets ≡ Ok m → Spells m octets
+opaque_takes : (octets : List ℕ) (m : Message) → AreOctets octets → octet 0 octets ≡ 19 → 4 ≤ words_of octets → 4 * words_of octets ≤ length octets → (octet 12 octets ≡ 4) ⊎ (octet 12 octets ≡ 7) → opaque_read octets ≡ Ok m → Spells m octets
 unfolding opaque_read
 opaque_takes octets m fits first least most sub e =
     let source = pass_ok (member_checked (source_of octets)) _ m e in
     let same = ok_same _ m source.1 in
     subst (λ (x : Message). Spells x octets) same (opaque_spelled octets fits first least most sub source.0)
 
-nack_takes : (octets : List ℕ) (m : Message) → IsOctets octets → nack_read octets ≡ Ok m → Spells m octets
+nack_takes : (octets : List ℕ) (m : Message) → AreOctets octets → nack_read octets ≡ Ok m → Spells m octets
 unfolding nack_read
 nack_takes octets m fits e =
     let header = pass_ok (header_checked types.Nack octets) _ m e in
@@ -120,7 +120,7 @@ nack_takes octets m fits e =
     let same = ok_same _ m sender.1 in
     subst (λ (x : Message). Spells x octets) same (nack_spelled octets fits is.first is.least is.most extensions.0 source.0 sender.0 requests.0)
 
-report_takes : (octets : List ℕ) (m : Message) → IsOctets octets → report_read octets ≡ Ok m → Spells m octets
+report_takes : (octets : List ℕ) (m : Message) → AreOctets octets → report_read octets ≡ Ok m → Spells m octets
 unfolding report_read
 report_takes octets m fits e =
     let header = pass_ok (header_checked types.Report octets) _ m e in
@@ -138,7 +138,7 @@ tests true true id a b x y is = (refl, eqb-true id 5 (so_not (eqb id 5) (not_ref
 tests true false id a b x y is = absurd cc
 tests false eight id a b x y is = absurd cc
 
-ack_by : (two : Bool) (octets : List ℕ) → IsOctets octets → octet 0 octets ≡ 21 → 6 ≤ words_of octets → 4 * words_of octets ≤ length octets
+ack_by : (two : Bool) (octets : List ℕ) → AreOctets octets → octet 0 octets ≡ 21 → 6 ≤ words_of octets → 4 * words_of octets ≤ length octets
     → header_extensions_checked 24 octets ≡ Ok tt → member_checked (source_of octets) ≡ Ok tt → member_checked (number 4 8 octets) ≡ Ok tt
     → eqb (octet 14 octets) 2 ≡ two
     → ack_encoding_checked (octet 14 octets) (4 * words_of octets) (content_of octets) ≡ Ok tt → ack_length_checked (octet 14 octets) (content_of octets) ≡ Ok tt
@@ -160,7 +160,7 @@ ack_by true octets fits first least most extensions source sender is encoding si
 ack_by false octets fits first least most extensions source sender is encoding size =
     ack_unread_spelled octets fits first least most extensions source sender (eqb-false (octet 14 octets) 2 is)
 
-ack_takes : (octets : List ℕ) (m : Message) → IsOctets octets → ack_read octets ≡ Ok m → Spells m octets
+ack_takes : (octets : List ℕ) (m : Message) → AreOctets octets → ack_read octets ≡ Ok m → Spells m octets
 unfolding ack_read
 ack_takes octets m fits e =
     let content : List ℕ = content_of octets in
@@ -223,7 +223,7 @@ sub_type_is n sub_type e =
           ]
     ]
 
-command_takes_by : (sub_type : SubType) (octets : List ℕ) (m : Message) → IsOctets octets → IsHeader types.Command octets → octet 12 octets ≡ sub_type_number sub_type
+command_takes_by : (sub_type : SubType) (octets : List ℕ) (m : Message) → AreOctets octets → IsHeader types.Command octets → octet 12 octets ≡ sub_type_number sub_type
     → command_by sub_type octets ≡ Ok m → Spells m octets
 command_takes_by commands.Flush octets m fits is sub e =
     flush_takes octets m fits is.first (let five = flush_least octets (least_words types.Command octets) refl sub in omega (arith, is.least, five)) is.most sub e
@@ -239,7 +239,7 @@ some_is : {A : Type 0} (o : Option A) (refusal : Refusal) (x : A) → some_or o 
 some_is (Some y) refusal x e = cc
 some_is None refusal x e = absurd cc
 
-command_takes : (octets : List ℕ) (m : Message) → IsOctets octets → command_read octets ≡ Ok m → Spells m octets
+command_takes : (octets : List ℕ) (m : Message) → AreOctets octets → command_read octets ≡ Ok m → Spells m octets
 unfolding command_read
 command_takes octets m fits e =
     let header = pass_ok (header_checked types.Command octets) _ m e in
@@ -249,7 +249,7 @@ command_takes octets m fits e =
 
 -- ---- any message
 
-takes_by : (kind : MessageType) (octets : List ℕ) (m : Message) → IsOctets octets → read_as kind octets ≡ Ok m → Spells m octets
+takes_by : (kind : MessageType) (octets : List ℕ) (m : Message) → AreOctets octets → read_as kind octets ≡ Ok m → Spells m octets
 takes_by types.Info octets m fits e = info_takes octets m fits e
 takes_by types.Data octets m fits e = data_takes octets m fits e
 takes_by types.Command octets m fits e = command_takes octets m fits e
@@ -257,7 +257,7 @@ takes_by types.Nack octets m fits e = nack_takes octets m fits e
 takes_by types.Ack octets m fits e = ack_takes octets m fits e
 takes_by types.Report octets m fits e = report_takes octets m fits e
 
-pub read_is_spelled : (m : Message) (octets : List ℕ) → IsOctets octets → decoded octets ≡ Ok m → Spells m octets
+pub read_is_spelled : (m : Message) (octets : List ℕ) → AreOctets octets → decoded octets ≡ Ok m → Spells m octets
 unfolding decoded
 read_is_spelled m octets fits e =
     let version = pass_ok (version_checked octets) _ m e in

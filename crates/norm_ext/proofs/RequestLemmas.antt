@@ -16,7 +16,8 @@ use Rattle.norm_ext.specs.declared.refusal.Refusal.TheVariants.{RequestLength, I
 use Rattle.norm_ext.specs.Steps.{refused_if}
 use Rattle.norm_ext.specs.Pieces.{checked_then, checked_behind}
 use Rattle.norm_ext.proofs.NumberLemmas.{spelled_2, spelled_name, again_2, name_again, name_fits, below_2}
-use Rattle.norm_ext.proofs.PieceLemmas.{IsOctets, octets-take, IsKind, both_checked, first_checked, unroll, ok_first, ok_rest, ok_anywhere, unroll_checked}
+use Rattle.norm_base.specs.Octets.{AreOctets}
+use Rattle.norm_ext.proofs.PieceLemmas.{octets-take, IsKind, both_checked, first_checked, unroll, ok_first, ok_rest, ok_anywhere, unroll_checked}
 
 -- ---- items
 
@@ -59,7 +60,7 @@ pub record ItemsOf (xs : List ℕ) : Type 0 where
   pub many : 8 * length (items_of xs) ≡ length xs
   pub fit : AllByRecursion IsRequestItem (items_of xs)
 
-pub items_spelled : (at : ℕ) (xs : List ℕ) → IsOctets xs → length xs % 8 ≡ 0 → items_checked at xs ≡ Ok tt → ItemsOf xs
+pub items_spelled : (at : ℕ) (xs : List ℕ) → AreOctets xs → length xs % 8 ≡ 0 → items_checked at xs ≡ Ok tt → ItemsOf xs
 items_spelled at [] fits whole ok = record { together = refl; many = refl; fit = tt }
 items_spelled at (a ∷ b ∷ c ∷ d ∷ e ∷ f ∷ g ∷ h ∷ rest) fits whole ok =
     let both = both_checked (refused_if (not (eqb a 5)) (ItemFec at a)) (items_checked (at + 8) rest) ok in
@@ -181,7 +182,7 @@ record First (xs : List ℕ) : Type 0 where
   pub spelled : request_octets (first_request xs) ≡ take (request_length xs) xs
   pub fits : IsRequest (first_request xs)
 
-first_of : (xs : List ℕ) → IsOctets xs → Passes xs → First xs
+first_of : (xs : List ℕ) → AreOctets xs → Passes xs → First xs
 first_of [] fits p = absurd (omega (arith, p.four))
 first_of (a ∷ []) fits p = absurd (omega (arith, p.four))
 first_of (a ∷ b ∷ []) fits p = absurd (omega (arith, p.four))

@@ -10,11 +10,12 @@ use Rattle.norm_ext.specs.Message.{Info, Data, Flush, Eot, Squelch, RepairAdv, A
 use Rattle.norm_ext.specs.Octets.{object_octets, command_octets, extensions_octets, requests_octets, nodes_octets, objects_octets, words_with}
 use Rattle.norm_ext.specs.Spells.{Spells}
 use Rattle.norm_ext.specs.Reading.{words_of, content_of, header_from, header_extensions_checked, member_checked, source_of, sequence_of, object_head_of, command_head_of}
-use Rattle.norm_ext.proofs.PieceLemmas.{IsOctets, octets-drop}
+use Rattle.norm_base.specs.Octets.{AreOctets}
+use Rattle.norm_ext.proofs.PieceLemmas.{octets-drop}
 use Rattle.norm_ext.proofs.NumberLemmas.{spelled_2, spelled_4, below_2, below_4, spelled_name, name_fits, nodes_together, nodes_fit, objects_together, objects_fit}
 use Rattle.norm_ext.proofs.MessageLemmas.{tail_is, front_spelled, object_spelled, command_spelled, member_is, requests_together, requests_fit, mark_in, mark_spelled, append_none, upper, lower}
 
-pub info_spelled : (octets : List ℕ) → IsOctets octets → octet 0 octets ≡ 16 + 1 → 4 ≤ words_of octets → 4 * words_of octets ≤ length octets → octet 13 octets ≡ 5 → header_extensions_checked 16 octets ≡ Ok tt → member_checked (source_of octets) ≡ Ok tt
+pub info_spelled : (octets : List ℕ) → AreOctets octets → octet 0 octets ≡ 16 + 1 → 4 ≤ words_of octets → 4 * words_of octets ≤ length octets → octet 13 octets ≡ 5 → header_extensions_checked 16 octets ≡ Ok tt → member_checked (source_of octets) ≡ Ok tt
     → Spells (Info (record { head = object_head_of octets; extensions = extensions_of (header_from 16 octets); info = content_of octets })) octets
 info_spelled (c0 ∷ c1 ∷ c2 ∷ c3 ∷ c4 ∷ c5 ∷ c6 ∷ c7 ∷ c8 ∷ c9 ∷ c10 ∷ c11 ∷ c12 ∷ c13 ∷ c14 ∷ c15 ∷ rest) fits first least most five extensions source =
     let octets : List ℕ = c0 ∷ c1 ∷ c2 ∷ c3 ∷ c4 ∷ c5 ∷ c6 ∷ c7 ∷ c8 ∷ c9 ∷ c10 ∷ c11 ∷ c12 ∷ c13 ∷ c14 ∷ c15 ∷ rest in
@@ -32,7 +33,7 @@ info_spelled (c0 ∷ c1 ∷ c2 ∷ c3 ∷ c4 ∷ c5 ∷ c6 ∷ c7 ∷ c8 ∷ c9 
     }
 info_spelled _ fits first least most five extensions source = absurd (omega arith)
 
-pub data_spelled : (octets : List ℕ) → IsOctets octets → octet 0 octets ≡ 16 + 2 → 5 ≤ words_of octets → 4 * words_of octets ≤ length octets → octet 13 octets ≡ 5 → header_extensions_checked 20 octets ≡ Ok tt → member_checked (source_of octets) ≡ Ok tt
+pub data_spelled : (octets : List ℕ) → AreOctets octets → octet 0 octets ≡ 16 + 2 → 5 ≤ words_of octets → 4 * words_of octets ≤ length octets → octet 13 octets ≡ 5 → header_extensions_checked 20 octets ≡ Ok tt → member_checked (source_of octets) ≡ Ok tt
     → Spells (Data (record { head = object_head_of octets; id = name_at 16 octets; extensions = extensions_of (header_from 20 octets); payload = content_of octets })) octets
 data_spelled (c0 ∷ c1 ∷ c2 ∷ c3 ∷ c4 ∷ c5 ∷ c6 ∷ c7 ∷ c8 ∷ c9 ∷ c10 ∷ c11 ∷ c12 ∷ c13 ∷ c14 ∷ c15 ∷ c16 ∷ c17 ∷ c18 ∷ c19 ∷ rest) fits first least most five extensions source =
     let octets : List ℕ = c0 ∷ c1 ∷ c2 ∷ c3 ∷ c4 ∷ c5 ∷ c6 ∷ c7 ∷ c8 ∷ c9 ∷ c10 ∷ c11 ∷ c12 ∷ c13 ∷ c14 ∷ c15 ∷ c16 ∷ c17 ∷ c18 ∷ c19 ∷ rest in
@@ -51,7 +52,7 @@ data_spelled (c0 ∷ c1 ∷ c2 ∷ c3 ∷ c4 ∷ c5 ∷ c6 ∷ c7 ∷ c8 ∷ c9 
     }
 data_spelled _ fits first least most five extensions source = absurd (omega arith)
 
-pub flush_spelled : (octets : List ℕ) → IsOctets octets → octet 0 octets ≡ 16 + 3 → 5 ≤ words_of octets → 4 * words_of octets ≤ length octets → octet 12 octets ≡ 1 → octet 13 octets ≡ 5 → header_extensions_checked 20 octets ≡ Ok tt → member_checked (source_of octets) ≡ Ok tt → length (content_of octets) % 4 ≡ 0
+pub flush_spelled : (octets : List ℕ) → AreOctets octets → octet 0 octets ≡ 16 + 3 → 5 ≤ words_of octets → 4 * words_of octets ≤ length octets → octet 12 octets ≡ 1 → octet 13 octets ≡ 5 → header_extensions_checked 20 octets ≡ Ok tt → member_checked (source_of octets) ≡ Ok tt → length (content_of octets) % 4 ≡ 0
     → Spells (Flush (record { head = command_head_of octets; object = number 2 14 octets; id = name_at 16 octets; extensions = extensions_of (header_from 20 octets); nodes = nodes_of (content_of octets) })) octets
 flush_spelled (c0 ∷ c1 ∷ c2 ∷ c3 ∷ c4 ∷ c5 ∷ c6 ∷ c7 ∷ c8 ∷ c9 ∷ c10 ∷ c11 ∷ c12 ∷ c13 ∷ c14 ∷ c15 ∷ c16 ∷ c17 ∷ c18 ∷ c19 ∷ rest) fits first least most sub five extensions source whole =
     let octets : List ℕ = c0 ∷ c1 ∷ c2 ∷ c3 ∷ c4 ∷ c5 ∷ c6 ∷ c7 ∷ c8 ∷ c9 ∷ c10 ∷ c11 ∷ c12 ∷ c13 ∷ c14 ∷ c15 ∷ c16 ∷ c17 ∷ c18 ∷ c19 ∷ rest in
@@ -73,7 +74,7 @@ flush_spelled (c0 ∷ c1 ∷ c2 ∷ c3 ∷ c4 ∷ c5 ∷ c6 ∷ c7 ∷ c8 ∷ c9
     }
 flush_spelled _ fits first least most sub five extensions source whole = absurd (omega arith)
 
-pub squelch_spelled : (octets : List ℕ) → IsOctets octets → octet 0 octets ≡ 16 + 3 → 5 ≤ words_of octets → 4 * words_of octets ≤ length octets → octet 12 octets ≡ 3 → octet 13 octets ≡ 5 → header_extensions_checked 20 octets ≡ Ok tt → member_checked (source_of octets) ≡ Ok tt → length (content_of octets) % 2 ≡ 0
+pub squelch_spelled : (octets : List ℕ) → AreOctets octets → octet 0 octets ≡ 16 + 3 → 5 ≤ words_of octets → 4 * words_of octets ≤ length octets → octet 12 octets ≡ 3 → octet 13 octets ≡ 5 → header_extensions_checked 20 octets ≡ Ok tt → member_checked (source_of octets) ≡ Ok tt → length (content_of octets) % 2 ≡ 0
     → Spells (Squelch (record { head = command_head_of octets; object = number 2 14 octets; id = name_at 16 octets; extensions = extensions_of (header_from 20 octets); invalid = objects_of (content_of octets) })) octets
 squelch_spelled (c0 ∷ c1 ∷ c2 ∷ c3 ∷ c4 ∷ c5 ∷ c6 ∷ c7 ∷ c8 ∷ c9 ∷ c10 ∷ c11 ∷ c12 ∷ c13 ∷ c14 ∷ c15 ∷ c16 ∷ c17 ∷ c18 ∷ c19 ∷ rest) fits first least most sub five extensions source whole =
     let octets : List ℕ = c0 ∷ c1 ∷ c2 ∷ c3 ∷ c4 ∷ c5 ∷ c6 ∷ c7 ∷ c8 ∷ c9 ∷ c10 ∷ c11 ∷ c12 ∷ c13 ∷ c14 ∷ c15 ∷ c16 ∷ c17 ∷ c18 ∷ c19 ∷ rest in
@@ -95,7 +96,7 @@ squelch_spelled (c0 ∷ c1 ∷ c2 ∷ c3 ∷ c4 ∷ c5 ∷ c6 ∷ c7 ∷ c8 ∷ 
     }
 squelch_spelled _ fits first least most sub five extensions source whole = absurd (omega arith)
 
-pub eot_spelled : (octets : List ℕ) → IsOctets octets → octet 0 octets ≡ 16 + 3 → 4 ≤ words_of octets → 4 * words_of octets ≤ length octets → octet 12 octets ≡ 2 → header_extensions_checked 16 octets ≡ Ok tt → member_checked (source_of octets) ≡ Ok tt → length (content_of octets) ≡ 0
+pub eot_spelled : (octets : List ℕ) → AreOctets octets → octet 0 octets ≡ 16 + 3 → 4 ≤ words_of octets → 4 * words_of octets ≤ length octets → octet 12 octets ≡ 2 → header_extensions_checked 16 octets ≡ Ok tt → member_checked (source_of octets) ≡ Ok tt → length (content_of octets) ≡ 0
     → Spells (Eot (record { head = command_head_of octets; extensions = extensions_of (header_from 16 octets) })) octets
 eot_spelled (c0 ∷ c1 ∷ c2 ∷ c3 ∷ c4 ∷ c5 ∷ c6 ∷ c7 ∷ c8 ∷ c9 ∷ c10 ∷ c11 ∷ c12 ∷ c13 ∷ c14 ∷ c15 ∷ rest) fits first least most sub extensions source none =
     let octets : List ℕ = c0 ∷ c1 ∷ c2 ∷ c3 ∷ c4 ∷ c5 ∷ c6 ∷ c7 ∷ c8 ∷ c9 ∷ c10 ∷ c11 ∷ c12 ∷ c13 ∷ c14 ∷ c15 ∷ rest in
@@ -113,7 +114,7 @@ eot_spelled (c0 ∷ c1 ∷ c2 ∷ c3 ∷ c4 ∷ c5 ∷ c6 ∷ c7 ∷ c8 ∷ c9 �
     }
 eot_spelled _ fits first least most sub extensions source none = absurd (omega arith)
 
-pub repair_adv_spelled : (octets : List ℕ) → IsOctets octets → octet 0 octets ≡ 16 + 3 → 4 ≤ words_of octets → 4 * words_of octets ≤ length octets → octet 12 octets ≡ 5 → header_extensions_checked 16 octets ≡ Ok tt → member_checked (source_of octets) ≡ Ok tt → requests_checked (4 * words_of octets) (content_of octets) ≡ Ok tt
+pub repair_adv_spelled : (octets : List ℕ) → AreOctets octets → octet 0 octets ≡ 16 + 3 → 4 ≤ words_of octets → 4 * words_of octets ≤ length octets → octet 12 octets ≡ 5 → header_extensions_checked 16 octets ≡ Ok tt → member_checked (source_of octets) ≡ Ok tt → requests_checked (4 * words_of octets) (content_of octets) ≡ Ok tt
     → Spells (RepairAdv (record { head = command_head_of octets; flags = octet 13 octets; extensions = extensions_of (header_from 16 octets); requests = requests_of (content_of octets) })) octets
 repair_adv_spelled (c0 ∷ c1 ∷ c2 ∷ c3 ∷ c4 ∷ c5 ∷ c6 ∷ c7 ∷ c8 ∷ c9 ∷ c10 ∷ c11 ∷ c12 ∷ c13 ∷ c14 ∷ c15 ∷ rest) fits first least most sub extensions source requests =
     let octets : List ℕ = c0 ∷ c1 ∷ c2 ∷ c3 ∷ c4 ∷ c5 ∷ c6 ∷ c7 ∷ c8 ∷ c9 ∷ c10 ∷ c11 ∷ c12 ∷ c13 ∷ c14 ∷ c15 ∷ rest in
@@ -133,7 +134,7 @@ repair_adv_spelled (c0 ∷ c1 ∷ c2 ∷ c3 ∷ c4 ∷ c5 ∷ c6 ∷ c7 ∷ c8 �
     }
 repair_adv_spelled _ fits first least most sub extensions source requests = absurd (omega arith)
 
-pub ack_req_spelled : (octets : List ℕ) → IsOctets octets → octet 0 octets ≡ 16 + 3 → 4 ≤ words_of octets → 4 * words_of octets ≤ length octets → octet 12 octets ≡ 6 → header_extensions_checked 16 octets ≡ Ok tt → member_checked (source_of octets) ≡ Ok tt → length (content_of octets) % 4 ≡ 0
+pub ack_req_spelled : (octets : List ℕ) → AreOctets octets → octet 0 octets ≡ 16 + 3 → 4 ≤ words_of octets → 4 * words_of octets ≤ length octets → octet 12 octets ≡ 6 → header_extensions_checked 16 octets ≡ Ok tt → member_checked (source_of octets) ≡ Ok tt → length (content_of octets) % 4 ≡ 0
     → Spells (AckReq (record { head = command_head_of octets; ack_type = octet 14 octets; ack_id = octet 15 octets; extensions = extensions_of (header_from 16 octets); nodes = nodes_of (content_of octets) })) octets
 ack_req_spelled (c0 ∷ c1 ∷ c2 ∷ c3 ∷ c4 ∷ c5 ∷ c6 ∷ c7 ∷ c8 ∷ c9 ∷ c10 ∷ c11 ∷ c12 ∷ c13 ∷ c14 ∷ c15 ∷ rest) fits first least most sub extensions source whole =
     let octets : List ℕ = c0 ∷ c1 ∷ c2 ∷ c3 ∷ c4 ∷ c5 ∷ c6 ∷ c7 ∷ c8 ∷ c9 ∷ c10 ∷ c11 ∷ c12 ∷ c13 ∷ c14 ∷ c15 ∷ rest in
@@ -153,7 +154,7 @@ ack_req_spelled (c0 ∷ c1 ∷ c2 ∷ c3 ∷ c4 ∷ c5 ∷ c6 ∷ c7 ∷ c8 ∷ 
     }
 ack_req_spelled _ fits first least most sub extensions source whole = absurd (omega arith)
 
-pub opaque_spelled : (octets : List ℕ) → IsOctets octets → octet 0 octets ≡ 16 + 3 → 4 ≤ words_of octets → 4 * words_of octets ≤ length octets → (octet 12 octets ≡ 4) ⊎ (octet 12 octets ≡ 7) → member_checked (source_of octets) ≡ Ok tt
+pub opaque_spelled : (octets : List ℕ) → AreOctets octets → octet 0 octets ≡ 16 + 3 → 4 ≤ words_of octets → 4 * words_of octets ≤ length octets → (octet 12 octets ≡ 4) ⊎ (octet 12 octets ≡ 7) → member_checked (source_of octets) ≡ Ok tt
     → Spells (Opaque (record { head = command_head_of octets; sub_type = octet 12 octets; words = words_of octets; rest = drop 13 octets })) octets
 opaque_spelled (c0 ∷ c1 ∷ c2 ∷ c3 ∷ c4 ∷ c5 ∷ c6 ∷ c7 ∷ c8 ∷ c9 ∷ c10 ∷ c11 ∷ c12 ∷ c13 ∷ c14 ∷ c15 ∷ rest) fits first least most sub source =
     let octets : List ℕ = c0 ∷ c1 ∷ c2 ∷ c3 ∷ c4 ∷ c5 ∷ c6 ∷ c7 ∷ c8 ∷ c9 ∷ c10 ∷ c11 ∷ c12 ∷ c13 ∷ c14 ∷ c15 ∷ rest in
@@ -167,7 +168,7 @@ opaque_spelled (c0 ∷ c1 ∷ c2 ∷ c3 ∷ c4 ∷ c5 ∷ c6 ∷ c7 ∷ c8 ∷ c
     }
 opaque_spelled _ fits first least most sub source = absurd (omega arith)
 
-pub nack_spelled : (octets : List ℕ) → IsOctets octets → octet 0 octets ≡ 16 + 4 → 6 ≤ words_of octets → 4 * words_of octets ≤ length octets → header_extensions_checked 24 octets ≡ Ok tt → member_checked (source_of octets) ≡ Ok tt → member_checked (number 4 8 octets) ≡ Ok tt → requests_checked (4 * words_of octets) (content_of octets) ≡ Ok tt
+pub nack_spelled : (octets : List ℕ) → AreOctets octets → octet 0 octets ≡ 16 + 4 → 6 ≤ words_of octets → 4 * words_of octets ≤ length octets → header_extensions_checked 24 octets ≡ Ok tt → member_checked (source_of octets) ≡ Ok tt → member_checked (number 4 8 octets) ≡ Ok tt → requests_checked (4 * words_of octets) (content_of octets) ≡ Ok tt
     → Spells (Nack (record { source = source_of octets; sequence = sequence_of octets; sender = number 4 8 octets; instance = number 2 12 octets; extensions = extensions_of (header_from 24 octets); requests = requests_of (content_of octets) })) octets
 nack_spelled (c0 ∷ c1 ∷ c2 ∷ c3 ∷ c4 ∷ c5 ∷ c6 ∷ c7 ∷ c8 ∷ c9 ∷ c10 ∷ c11 ∷ c12 ∷ c13 ∷ c14 ∷ c15 ∷ c16 ∷ c17 ∷ c18 ∷ c19 ∷ c20 ∷ c21 ∷ c22 ∷ c23 ∷ rest) fits first least most extensions source sender requests =
     let octets : List ℕ = c0 ∷ c1 ∷ c2 ∷ c3 ∷ c4 ∷ c5 ∷ c6 ∷ c7 ∷ c8 ∷ c9 ∷ c10 ∷ c11 ∷ c12 ∷ c13 ∷ c14 ∷ c15 ∷ c16 ∷ c17 ∷ c18 ∷ c19 ∷ c20 ∷ c21 ∷ c22 ∷ c23 ∷ rest in
@@ -188,7 +189,7 @@ nack_spelled (c0 ∷ c1 ∷ c2 ∷ c3 ∷ c4 ∷ c5 ∷ c6 ∷ c7 ∷ c8 ∷ c9 
     }
 nack_spelled _ fits first least most extensions source sender requests = absurd (omega arith)
 
-pub ack_mark_spelled : (octets : List ℕ) → IsOctets octets → octet 0 octets ≡ 16 + 5 → 6 ≤ words_of octets → 4 * words_of octets ≤ length octets → header_extensions_checked 24 octets ≡ Ok tt → member_checked (source_of octets) ≡ Ok tt → member_checked (number 4 8 octets) ≡ Ok tt → octet 14 octets ≡ 2 → length (content_of octets) ≡ 8 → octet 0 (content_of octets) ≡ 5
+pub ack_mark_spelled : (octets : List ℕ) → AreOctets octets → octet 0 octets ≡ 16 + 5 → 6 ≤ words_of octets → 4 * words_of octets ≤ length octets → header_extensions_checked 24 octets ≡ Ok tt → member_checked (source_of octets) ≡ Ok tt → member_checked (number 4 8 octets) ≡ Ok tt → octet 14 octets ≡ 2 → length (content_of octets) ≡ 8 → octet 0 (content_of octets) ≡ 5
     → Spells (Ack (record { source = source_of octets; sequence = sequence_of octets; sender = number 4 8 octets; instance = number 2 12 octets; ack_type = octet 14 octets; ack_id = octet 15 octets; extensions = extensions_of (header_from 24 octets); content = Mark (mark_in (content_of octets)) })) octets
 ack_mark_spelled (c0 ∷ c1 ∷ c2 ∷ c3 ∷ c4 ∷ c5 ∷ c6 ∷ c7 ∷ c8 ∷ c9 ∷ c10 ∷ c11 ∷ c12 ∷ c13 ∷ c14 ∷ c15 ∷ c16 ∷ c17 ∷ c18 ∷ c19 ∷ c20 ∷ c21 ∷ c22 ∷ c23 ∷ rest) fits first least most extensions source sender two eight five =
     let octets : List ℕ = c0 ∷ c1 ∷ c2 ∷ c3 ∷ c4 ∷ c5 ∷ c6 ∷ c7 ∷ c8 ∷ c9 ∷ c10 ∷ c11 ∷ c12 ∷ c13 ∷ c14 ∷ c15 ∷ c16 ∷ c17 ∷ c18 ∷ c19 ∷ c20 ∷ c21 ∷ c22 ∷ c23 ∷ rest in
@@ -209,7 +210,7 @@ ack_mark_spelled (c0 ∷ c1 ∷ c2 ∷ c3 ∷ c4 ∷ c5 ∷ c6 ∷ c7 ∷ c8 ∷
     }
 ack_mark_spelled _ fits first least most extensions source sender two eight five = absurd (omega arith)
 
-pub ack_unread_spelled : (octets : List ℕ) → IsOctets octets → octet 0 octets ≡ 16 + 5 → 6 ≤ words_of octets → 4 * words_of octets ≤ length octets → header_extensions_checked 24 octets ≡ Ok tt → member_checked (source_of octets) ≡ Ok tt → member_checked (number 4 8 octets) ≡ Ok tt → octet 14 octets ≢ 2
+pub ack_unread_spelled : (octets : List ℕ) → AreOctets octets → octet 0 octets ≡ 16 + 5 → 6 ≤ words_of octets → 4 * words_of octets ≤ length octets → header_extensions_checked 24 octets ≡ Ok tt → member_checked (source_of octets) ≡ Ok tt → member_checked (number 4 8 octets) ≡ Ok tt → octet 14 octets ≢ 2
     → Spells (Ack (record { source = source_of octets; sequence = sequence_of octets; sender = number 4 8 octets; instance = number 2 12 octets; ack_type = octet 14 octets; ack_id = octet 15 octets; extensions = extensions_of (header_from 24 octets); content = Unread (content_of octets) })) octets
 ack_unread_spelled (c0 ∷ c1 ∷ c2 ∷ c3 ∷ c4 ∷ c5 ∷ c6 ∷ c7 ∷ c8 ∷ c9 ∷ c10 ∷ c11 ∷ c12 ∷ c13 ∷ c14 ∷ c15 ∷ c16 ∷ c17 ∷ c18 ∷ c19 ∷ c20 ∷ c21 ∷ c22 ∷ c23 ∷ rest) fits first least most extensions source sender other =
     let octets : List ℕ = c0 ∷ c1 ∷ c2 ∷ c3 ∷ c4 ∷ c5 ∷ c6 ∷ c7 ∷ c8 ∷ c9 ∷ c10 ∷ c11 ∷ c12 ∷ c13 ∷ c14 ∷ c15 ∷ c16 ∷ c17 ∷ c18 ∷ c19 ∷ c20 ∷ c21 ∷ c22 ∷ c23 ∷ rest in
@@ -228,7 +229,7 @@ ack_unread_spelled (c0 ∷ c1 ∷ c2 ∷ c3 ∷ c4 ∷ c5 ∷ c6 ∷ c7 ∷ c8 �
     }
 ack_unread_spelled _ fits first least most extensions source sender other = absurd (omega arith)
 
-pub report_spelled : (octets : List ℕ) → IsOctets octets → octet 0 octets ≡ 16 + 6 → 2 ≤ words_of octets → 4 * words_of octets ≤ length octets → member_checked (source_of octets) ≡ Ok tt
+pub report_spelled : (octets : List ℕ) → AreOctets octets → octet 0 octets ≡ 16 + 6 → 2 ≤ words_of octets → 4 * words_of octets ≤ length octets → member_checked (source_of octets) ≡ Ok tt
     → Spells (Report (record { source = source_of octets; sequence = sequence_of octets; words = words_of octets; rest = drop 8 octets })) octets
 report_spelled (c0 ∷ c1 ∷ c2 ∷ c3 ∷ c4 ∷ c5 ∷ c6 ∷ c7 ∷ rest) fits first least most source =
     let octets : List ℕ = c0 ∷ c1 ∷ c2 ∷ c3 ∷ c4 ∷ c5 ∷ c6 ∷ c7 ∷ rest in

@@ -1,5 +1,6 @@
 -- What is promised of the grammar, and of the indices that ids name.
-use Rattle.std.specs.Prelude.{◌≡◌, ◌<◌, ◌≤◌, ◌+◌, ◌↔◌, ℕ, List, [], ◌∷◌, ◌++◌, length, slice_index, None, Some, Ok, Err}
+use Rattle.std.specs.Prelude.{◌≡◌, ◌<◌, ◌≤◌, ◌+◌, ◌↔◌, ℕ, List, [], ◌∷◌, ◌++◌, length, None, Some, Ok, Err}
+use Rattle.norm_base.specs.Octets.{AreOctets}
 use Rattle.norm_base.specs.Settings.{Settings}
 use Rattle.norm_base.specs.Sizes.{id_count}
 use Rattle.norm_ext.specs.ObjectIds.{last_index, ids_below, ids_above, object_id, index_named}
@@ -12,10 +13,6 @@ use Rattle.norm_ext.specs.Requests.{IsRequests, requests_of}
 use Rattle.norm_ext.specs.Asked.{Asked, IsAsked, requests_asked, asked_octets, octets_behind}
 use Rattle.norm_ext.specs.Applies.{Applies, IsFirst}
 use Rattle.norm_ext.specs.declared.refusal.Refusal.{Refusal}
-
--- each of them is an octet
-abbrev pub AreOctets : List ℕ → Type 0
-AreOctets octets = (i : ℕ) → slice_index octets i < 256
 
 -- what is read of octets is spelled by them
 abbrev pub ReadIsSpelled : Type 0

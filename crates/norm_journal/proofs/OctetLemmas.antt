@@ -4,8 +4,7 @@ use Rattle.std.specs.Prelude.{◌==◌, ◌⊎◌, IfSome, IsSome, replicate, �
 use Rattle.std.specs.List.{AllByRecursion}
 use Rattle.std.specs.Option.{option_map, option_to_list}
 use Rattle.std.proofs.lemmas.Option.{none-some, same_Some, option_and_then_some}
-use Rattle.hex.specs.Hex.{IsBytes}
-use Rattle.gf_field.specs.Octet.{AreOctets}
+use Rattle.norm_base.specs.Octets.{AreOctets}
 use Rattle.norm_ext.specs.Written.{Written}
 use Rattle.norm_script.specs.Scripts.{IsLine, IsVerb}
 use Rattle.norm_script.specs.declared.script.Line.{Line}
@@ -34,22 +33,19 @@ use Rattle.norm_journal.specs.WorldEvents.{world_event, world_events}
 use Rattle.norm_journal.proofs.FollowLemmas.{judges_what_follows}
 use Rattle.norm_journal.proofs.OfferLemmas.{told_at, repeated_at}
 
-octets_of_bytes : (xs : List ℕ) → IsBytes xs → AreOctets xs
-octets_of_bytes [] h = tt
-octets_of_bytes (x ∷ xs) h = (h zero, octets_of_bytes xs (λ i. h (suc i)))
-
 zeros_are_octets : (n : ℕ) → AreOctets (replicate n 0)
-zeros_are_octets zero = tt
-zeros_are_octets (suc n) = (omega arith, zeros_are_octets n)
+zeros_are_octets zero i = omega arith
+zeros_are_octets (suc n) zero = omega arith
+zeros_are_octets (suc n) (suc i) = zeros_are_octets n i
 
 -- the job of a command of a script
 command_job : (files : Files) (v : Verb) (given : Job) → IsVerb v → IsJobOf files v given
     → ((name octets : List ℕ) → given ≡ job.File name octets → AreOctets octets) → IsJob given
-command_job files (verb.Data None octets) (job.Data other bytes) is its read = subst AreOctets its.1 (octets_of_bytes octets is.octets)
-command_job files (verb.Data (Some info) octets) (job.Data other bytes) is its read = subst AreOctets its.1 (octets_of_bytes octets is.object.octets)
+command_job files (verb.Data None octets) (job.Data other bytes) is its read = subst AreOctets its.1 is.octets
+command_job files (verb.Data (Some info) octets) (job.Data other bytes) is its read = subst AreOctets its.1 is.object.octets
 command_job files (verb.File name) (job.File other octets) is its read = read other octets refl
 command_job files verb.Open job.Open is its read = tt
-command_job files (verb.Write octets) (job.Write bytes) is its read = subst AreOctets its (octets_of_bytes octets is.octets)
+command_job files (verb.Write octets) (job.Write bytes) is its read = subst AreOctets its is.octets
 command_job files verb.Close job.Close is its read = tt
 command_job files (verb.Mark quorum) (job.Mark other) is its read = tt
 command_job files (verb.Restart instance) (job.Restart other) is its read = omega (arith, is, its)
@@ -57,11 +53,11 @@ command_job files (verb.Strike node) (job.Strike other) is its read = tt
 command_job files _ _ is its read = absurd its
 
 known_job : (v : Verb) (given : Job) → IsVerb v → job_of v ≡ Some given → IsJob given
-known_job (verb.Data None octets) given is its = subst IsJob (same_Some (job.Data None octets) given its) (octets_of_bytes octets is.octets)
-known_job (verb.Data (Some info) octets) given is its = subst IsJob (same_Some (job.Data (Some info) octets) given its) (octets_of_bytes octets is.object.octets)
+known_job (verb.Data None octets) given is its = subst IsJob (same_Some (job.Data None octets) given its) is.octets
+known_job (verb.Data (Some info) octets) given is its = subst IsJob (same_Some (job.Data (Some info) octets) given its) is.object.octets
 known_job (verb.File name) given is its = absurd (none-some given its)
 known_job verb.Open given is its = subst IsJob (same_Some job.Open given its) tt
-known_job (verb.Write octets) given is its = subst IsJob (same_Some (job.Write octets) given its) (octets_of_bytes octets is.octets)
+known_job (verb.Write octets) given is its = subst IsJob (same_Some (job.Write octets) given its) is.octets
 known_job verb.Close given is its = subst IsJob (same_Some job.Close given its) tt
 known_job (verb.Mark quorum) given is its = subst IsJob (same_Some (job.Mark quorum) given its) tt
 known_job (verb.Restart instance) given is its =

@@ -4,7 +4,8 @@ use Rattle.std.specs.Prelude.{All, IfSome, ⊤, is_some, option_and_then}
 use Rattle.std.specs.Option.{option_map}
 use Rattle.std.proofs.lemmas.Option.{none-some, same_Some}
 use Rattle.std.proofs.lemmas.List.Elements.{All-head, All-tail}
-use Rattle.hex.specs.Hex.{encode_lower, IsBytes, decode_of}
+use Rattle.norm_base.specs.Octets.{AreOctets}
+use Rattle.hex.specs.Hex.{encode_lower, decode_of}
 use Rattle.hex.proofs.HexLemmas.{decode_of-encode_lower}
 use Rattle.fec_plan.specs.declared.position.Position.{Position}
 use Rattle.norm_base.specs.declared.kinds.Kind.{Kind}
@@ -55,7 +56,7 @@ decoded result = elim result [ Ok xs ↦ xs | Err fault ↦ [] ]
 octets : List ℕ → List ℕ
 octets word = decoded (decode_of word)
 
-octets_back : (xs : List ℕ) → IsBytes xs → octets (encode_lower xs) ≡ xs
+octets_back : (xs : List ℕ) → AreOctets xs → octets (encode_lower xs) ≡ xs
 unfolding octets
 octets_back xs h = ap decoded (decode_of-encode_lower xs h)
 

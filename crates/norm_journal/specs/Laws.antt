@@ -1,7 +1,7 @@
 -- What is promised of the judge.
 use Rattle.std.specs.Prelude.{◌≡◌, ℕ, ◌==◌, List, [], ◌∷◌, ◌++◌, length, map, filter, true, false, None, Some, IsSome, ⊤}
 use Rattle.std.specs.List.{flat_map, AllByRecursion}
-use Rattle.gf_field.specs.Octet.{AreOctets}
+use Rattle.norm_base.specs.Octets.{AreOctets}
 use Rattle.norm_base.specs.Settings.{Settings}
 use Rattle.norm_base.specs.declared.node.Origin.{Origin}
 use Rattle.norm_ext.specs.Written.{Written}

@@ -1,7 +1,7 @@
 -- What a printed line says: all that stands in it, as the event had it.
 use Rattle.std.specs.Prelude.{◌≡◌, ℕ, ◌<◌, ◌^◌, List, length, All, Option, None, Some, Result, Ok, Err, IfSome, is_some, option_and_then, ⊤}
 use Rattle.std.specs.Option.{option_map}
-use Rattle.hex.specs.Hex.{IsBytes}
+use Rattle.norm_base.specs.Octets.{AreOctets}
 use Rattle.fec_plan.specs.declared.position.Position.{Position}
 use Rattle.norm_base.specs.declared.kinds.Kind.{Kind}
 use Rattle.norm_base.specs.declared.node.Origin.{Origin}
@@ -104,7 +104,7 @@ pub record PositionInRange (at : Position) : Type 0 where
 
 -- octets are below 256, and their count is a number of 64 bits
 pub record OctetsInRange (octets : List ℕ) : Type 0 where
-  pub each : IsBytes octets
+  pub each : AreOctets octets
   pub count : Is64 (length octets)
 
 -- a hand-up's numbers have 64 bits, and its octets are below 256

@@ -4,7 +4,7 @@ use Rattle.std.specs.Prelude.{min, nat_eq, ◌==◌, Option, Some, None, ⊤}
 use Rattle.std.specs.List.{AllByRecursion, IsDistinct}
 use Rattle.std.proofs.lemmas.Bool.{eqb-true, ne_eqb}
 use Rattle.std.proofs.lemmas.List.{ext_get_or, get_or-take, length-take, take_all, length-map}
-use Rattle.gf_field.specs.Octet.{AreOctets}
+use Rattle.gf_field.specs.Element.{AreElements}
 use Rattle.gf_field.specs.Power.{power}
 use Rattle.gf_field.specs.Symbol.{octets_at, symbol_at, given, solved_symbol}
 use Rattle.gf_field.proofs.Powers.{same_from_power}
@@ -16,7 +16,7 @@ use Rattle.norm_safety.proofs.SolvedLemmas.{coded_at, own_octet, solved_octet}
 -- an encoded symbol of the block that has these sources; a source symbol may be shorter than the coded size
 pub record IsCoded (size : ℕ) (sources : List (List ℕ)) (h : Held) : Type 0 where
   pub below : h.at.symbol < 255
-  pub octets : AreOctets h.octets
+  pub octets : AreElements h.octets
   pub coded : (t : ℕ) → t < size → get_or h.octets t 0 ≡ coded_at size sources t h.at.symbol
   pub own : h.at.symbol < length sources → h.octets ≡ get_or sources h.at.symbol []
 
@@ -44,7 +44,7 @@ distinct_places size sources (h ∷ held) up are =
 
 -- ---- the octets of what is held
 
-held_octets : (size : ℕ) (sources : List (List ℕ)) (held : List Held) → AllByRecursion (IsCoded size sources) held → AllByRecursion AreOctets (octets_of_held held)
+held_octets : (size : ℕ) (sources : List (List ℕ)) (held : List Held) → AllByRecursion (IsCoded size sources) held → AllByRecursion AreElements (octets_of_held held)
 held_octets size sources [] are = tt
 held_octets size sources (h ∷ held) are = (are.0.octets, held_octets size sources held are.1)
 
@@ -73,7 +73,7 @@ given_own size j sources (h ∷ held) s lt are e = go (h.at.symbol == j) refl e 
 
 -- ---- a source symbol of a block is solved, but for zeros behind it
 
-pub solved_front : (size j n : ℕ) (sources : List (List ℕ)) (held : List Held) → length sources ≤ 255 → AllByRecursion AreOctets sources
+pub solved_front : (size j n : ℕ) (sources : List (List ℕ)) (held : List Held) → length sources ≤ 255 → AllByRecursion AreElements sources
     → j < length sources → length (get_or sources j []) ≡ min size n → length sources ≤ length held → Climbing (ids_of held)
     → AllByRecursion (IsCoded size sources) held
     → take n (solved_symbol size (ids_of held) (octets_of_held held) j) ≡ get_or sources j []

@@ -5,7 +5,7 @@ use Rattle.std.specs.List.{AllByRecursion, filter, range_with_len}
 use Rattle.std.proofs.lemmas.Bool.{and_parts, eqb-true, ltb-false}
 use Rattle.std.proofs.lemmas.Bool.Decides.{Decides-ltb}
 use Rattle.std.proofs.lemmas.List.FromFn.{length-map-range_with_len, get_or-map-range_with_len}
-use Rattle.gf_field.specs.Octet.{AreOctets}
+use Rattle.gf_field.specs.Element.{AreElements}
 use Rattle.gf_field.specs.Symbol.{encoded_symbol}
 use Rattle.gf_field.proofs.Symbols.{symbol_laws}
 use Rattle.norm_base.specs.Settings.{Settings}
@@ -71,26 +71,26 @@ climbs index block (h ∷ held) up = go (is_in index block h) refl (climbs index
 
 -- ---- the sources of a block
 
-octets-take : (n : ℕ) (xs : List ℕ) → AreOctets xs → AreOctets (take n xs)
+octets-take : (n : ℕ) (xs : List ℕ) → AreElements xs → AreElements (take n xs)
 octets-take zero xs are = tt
 octets-take (suc n) [] are = tt
 octets-take (suc n) (x ∷ xs) are = (are.0, octets-take n xs are.1)
 
-octets-drop : (n : ℕ) (xs : List ℕ) → AreOctets xs → AreOctets (drop n xs)
+octets-drop : (n : ℕ) (xs : List ℕ) → AreElements xs → AreElements (drop n xs)
 octets-drop zero xs are = are
 octets-drop (suc n) [] are = tt
 octets-drop (suc n) (x ∷ xs) are = octets-drop n xs are.1
 
-source-octets : (p : Settings) (kind : Kind) (info : Option (List ℕ)) (octets : List ℕ) (number : ℕ) → AreOctets octets
-    → AreOctets (source_octets p (Whole kind info octets) number)
+source-octets : (p : Settings) (kind : Kind) (info : Option (List ℕ)) (octets : List ℕ) (number : ℕ) → AreElements octets
+    → AreElements (source_octets p (Whole kind info octets) number)
 source-octets p kind info octets number are = octets-take p.e (drop (number * p.e) octets) (octets-drop (number * p.e) octets are)
 
-each_source : (f : ℕ → List ℕ) → ((j : ℕ) → AreOctets (f j)) → (js : List ℕ) → AllByRecursion AreOctets (map f js)
+each_source : (f : ℕ → List ℕ) → ((j : ℕ) → AreElements (f j)) → (js : List ℕ) → AllByRecursion AreElements (map f js)
 each_source f are [] = tt
 each_source f are (j ∷ js) = (are j, each_source f are js)
 
-pub sources-octets : (p : Settings) (kind : Kind) (info : Option (List ℕ)) (octets : List ℕ) (block : ℕ) → AreOctets octets
-    → AllByRecursion AreOctets (block_sources p (Whole kind info octets) block)
+pub sources-octets : (p : Settings) (kind : Kind) (info : Option (List ℕ)) (octets : List ℕ) (block : ℕ) → AreElements octets
+    → AllByRecursion AreElements (block_sources p (Whole kind info octets) block)
 sources-octets p kind info octets block are =
     let cut : Cut = cut_of (length octets) p.e p.b p.max_n in
     each_source (λ symbol. source_octets p (Whole kind info octets) (symbol_number cut block symbol))
@@ -126,7 +126,7 @@ encoded_few p s block k n most = go (closed_in s block == source_symbols s.cut b
 -- ---- what is held of a block is encoded
 
 coded_one : (p : Settings) → CutRange p → (kind : Kind) (info : Option (List ℕ)) (octets : List ℕ) → 0 < length octets → length octets ≤ p.octets
-    → AreOctets octets → (h : Held) → nat_lt h.at.symbol (encoded_in (shape_of p (Whole kind info octets)) h.at.block) ≡ true
+    → AreElements octets → (h : Held) → nat_lt h.at.symbol (encoded_in (shape_of p (Whole kind info octets)) h.at.block) ≡ true
     → h.octets ≡ symbol_octets p (Whole kind info octets) h.at.block h.at.symbol
     → IsCoded p.e (block_sources p (Whole kind info octets) h.at.block) h
 coded_one p range kind info octets some most are h low is =
@@ -138,11 +138,11 @@ coded_one p range kind info octets some most are h low is =
     let few_encoded : encoded_in (shape_of p object) h.at.block ≤ 255 =
     encoded_few p (shape_of p object) h.at.block few (few_encoding p range (length octets) some most h.at.block) range.most_n in
     let below : h.at.symbol < 255 = (let lt = (Decides-ltb h.at.symbol (encoded_in (shape_of p object) h.at.block)).0 low in omega (arith, lt, few_encoded)) in
-    let all : AllByRecursion AreOctets sources = sources-octets p kind info octets h.at.block are in
+    let all : AllByRecursion AreElements sources = sources-octets p kind info octets h.at.block are in
     go below (omega (arith, count, few)) all (nat_lt h.at.symbol k) refl is
   where
     go : h.at.symbol < 255 → length (block_sources p (Whole kind info octets) h.at.block) ≤ 255
-        → AllByRecursion AreOctets (block_sources p (Whole kind info octets) h.at.block)
+        → AllByRecursion AreElements (block_sources p (Whole kind info octets) h.at.block)
         → (b : Bool) → nat_lt h.at.symbol (source_symbols (cut_of (length octets) p.e p.b p.max_n) h.at.block) ≡ b
         → h.octets ≡ elim b [
           | true ↦ source_octets p (Whole kind info octets) (symbol_number (cut_of (length octets) p.e p.b p.max_n) h.at.block h.at.symbol)
@@ -158,7 +158,7 @@ coded_one p range kind info octets some most are h low is =
         let count : length sources ≡ k = length-sources p kind info octets h.at.block in
         record {
           below = below;
-          octets = subst AreOctets (sym is) (source-octets p kind info octets number are);
+          octets = subst AreElements (sym is) (source-octets p kind info octets number are);
           coded = λ t within. ap (λ xs. get_or xs t 0) own ∙ sym (own_octet p.e t h.at.symbol sources few all within (omega (arith, lt, count)));
           own = λ _. own;
         }
@@ -168,14 +168,14 @@ coded_one p range kind info octets some most are h low is =
         let count : length sources ≡ k = length-sources p kind info octets h.at.block in
         record {
           below = below;
-          octets = subst AreOctets (sym is) (symbol_laws.octets p.e h.at.symbol sources);
+          octets = subst AreElements (sym is) (symbol_laws.octets p.e h.at.symbol sources);
           coded = λ t within. ap (λ xs. get_or xs t 0) is;
           own = λ lt. let no : k ≤ h.at.symbol = ltb-false h.at.symbol k e in absurd (omega (arith, no, lt, count));
         }
 
 -- what is held of a block of the object is encoded
 pub held_coded : (p : Settings) → CutRange p → (kind : Kind) (info : Option (List ℕ)) (octets : List ℕ) → 0 < length octets → length octets ≤ p.octets
-    → AreOctets octets → (index block : ℕ) (held : List Held) → AllByRecursion (IsOfObject p (Whole kind info octets) index) held
+    → AreElements octets → (index block : ℕ) (held : List Held) → AllByRecursion (IsOfObject p (Whole kind info octets) index) held
     → AllByRecursion (IsCoded p.e (block_sources p (Whole kind info octets) block)) (filter (is_in index block) held)
 held_coded p range kind info octets some most are index block [] of = tt
 held_coded p range kind info octets some most are index block (h ∷ held) of =

@@ -5,7 +5,7 @@ use Rattle.std.specs.List.{AllByRecursion, list_all, flat_map, range_with_len}
 use Rattle.std.proofs.lemmas.Bool.{eqb-true}
 use Rattle.std.proofs.lemmas.Grind.{div_ceil_times}
 use Rattle.std.proofs.lemmas.List.{length-take, length-drop, take_all}
-use Rattle.gf_field.specs.Octet.{AreOctets}
+use Rattle.gf_field.specs.Element.{AreElements}
 use Rattle.gf_field.specs.Symbol.{solved_symbol}
 use Rattle.gf_field.proofs.Octets.{below_passes}
 use Rattle.norm_base.specs.Settings.{Settings}
@@ -50,7 +50,7 @@ plan_cut p kind info octets s plan h =
 
 -- a source symbol that is solved is its piece of the object, but for zeros behind it
 symbol_front : (p : Settings) → CutRange p → (kind : Kind) (info : Option (List ℕ)) (octets : List ℕ) → 0 < length octets
-    → length octets ≤ p.octets → AreOctets octets → (s : Holding) (plan : Plan) → ObjectHeld p (Whole kind info octets) s plan
+    → length octets ≤ p.octets → AreElements octets → (s : Holding) (plan : Plan) → ObjectHeld p (Whole kind info octets) s plan
     → (block symbol : ℕ) → symbol < source_symbols (cut_for p octets) block → is_done s plan block ≡ true
     → take (length octets - (before_in p octets block + symbol) * p.e)
     (elim (block_value s plan block symbol) [ Some found ↦ found | None ↦ [] ])
@@ -84,7 +84,7 @@ symbol_front p range kind info octets some most are s plan h block symbol lt don
 
 -- the octets of a block stand behind those of the blocks before it
 block_front : (p : Settings) → CutRange p → (kind : Kind) (info : Option (List ℕ)) (octets : List ℕ) → 0 < length octets
-    → length octets ≤ p.octets → AreOctets octets → (s : Holding) (plan : Plan) → ObjectHeld p (Whole kind info octets) s plan
+    → length octets ≤ p.octets → AreElements octets → (s : Holding) (plan : Plan) → ObjectHeld p (Whole kind info octets) s plan
     → (block : ℕ) (front : List ℕ) → block < blocks (cut_for p octets) → is_done s plan block ≡ true → IsFront p.e octets (before_in p octets block) front
     → IsFront p.e octets (before_in p octets (block + 1)) (front ++ block_octets s plan block)
 block_front p range kind info octets some most are s plan h block front lt done start =
@@ -107,7 +107,7 @@ block_front p range kind info octets some most are s plan h block front lt done 
 
 -- Its octets are the object's.
 pub object_again : (p : Settings) → CutRange p → (kind : Kind) (info : Option (List ℕ)) (octets : List ℕ) → 0 < length octets
-    → length octets ≤ p.octets → AreOctets octets → (s : Holding) (plan : Plan) → ObjectHeld p (Whole kind info octets) s plan
+    → length octets ≤ p.octets → AreElements octets → (s : Holding) (plan : Plan) → ObjectHeld p (Whole kind info octets) s plan
     → object_octets s plan ≡ octets
 object_again p range kind info octets some most are s plan h =
     let t : ℕ = symbols_in (length octets) p.e in

@@ -4,7 +4,7 @@ use Rattle.std.proofs.Common.{◌≡◌, ℕ, zero, suc, ◌-◌, ◌<◌, ◌�
 use Rattle.std.specs.Prelude.{bit_xor, nat_eq}
 use Rattle.std.specs.List.{AllByRecursion, IsDistinct, range_with_len}
 use Rattle.std.proofs.lemmas.List.{get_or-map, length-map, length-append, length-replicate}
-use Rattle.gf_field.specs.Octet.{AreOctets}
+use Rattle.gf_field.specs.Element.{AreElements}
 use Rattle.gf_field.specs.Product.{product}
 use Rattle.gf_field.specs.Power.{power, powers}
 use Rattle.gf_field.specs.Polynomial.{value_at, GoesThrough}
@@ -25,7 +25,7 @@ unfolding value_at
 value_at-zeros [] n x = value_at_zero (replicate n 0) x (zeros-zero n)
 value_at-zeros (c ∷ cs) n x = ap (λ v. bit_xor c (product x v)) (value_at-zeros cs n x)
 
-padded-octets : (cs : List ℕ) (n : ℕ) → AreOctets cs → AreOctets (cs ++ replicate n 0)
+padded-octets : (cs : List ℕ) (n : ℕ) → AreElements cs → AreElements (cs ++ replicate n 0)
 padded-octets [] n h = zeros-octets n
 padded-octets (c ∷ cs) n h = (h.0, padded-octets cs n h.1)
 
@@ -35,7 +35,7 @@ padded-octets (c ∷ cs) n h = (h.0, padded-octets cs n h.1)
 abbrev pub coded_at : ℕ → List (List ℕ) → ℕ → ℕ → ℕ
 coded_at size sources t j = get_or (encoded_symbol size sources j) t 0
 
-through : (t : ℕ) (sources : List (List ℕ)) → length sources ≤ 255 → AllByRecursion AreOctets sources
+through : (t : ℕ) (sources : List (List ℕ)) → length sources ≤ 255 → AllByRecursion AreElements sources
     → FormulaHolds (powers (length sources)) (octets_at t sources)
 through t sources most are =
     formula_at_ids (length sources) 255 (range_with_len 0 (length sources)) (octets_at t sources) (omega arith)
@@ -47,7 +47,7 @@ unfolding encoded_symbol
 coded_value size t j sources lt f = symbol_at-at size t (powers (length sources)) sources (power j) lt ∙ f.formula (power j)
 
 -- a source symbol's own octets, up to its end
-pub own_octet : (size t j : ℕ) (sources : List (List ℕ)) → length sources ≤ 255 → AllByRecursion AreOctets sources → t < size → j < length sources
+pub own_octet : (size t j : ℕ) (sources : List (List ℕ)) → length sources ≤ 255 → AllByRecursion AreElements sources → t < size → j < length sources
     → coded_at size sources t j ≡ get_or (get_or sources j []) t 0
 own_octet size t j sources most are lt within =
     let f = through t sources most are in
@@ -64,8 +64,8 @@ meets_at size t sources cs h (i ∷ is) =
     ap (λ v. v ∷ map (value_at cs) (map power is)) (sym (h i)) ∙ ap (λ vs. coded_at size sources t i ∷ vs) (meets_at size t sources cs h is)
 
 pub solved_octet : (size t j : ℕ) (sources : List (List ℕ)) (ids : List ℕ) (symbols : List (List ℕ))
-    → length sources ≤ 255 → AllByRecursion AreOctets sources → t < size
-    → IsDistinct nat_eq (map power ids) → AllByRecursion AreOctets symbols → length sources ≤ length ids
+    → length sources ≤ 255 → AllByRecursion AreElements sources → t < size
+    → IsDistinct nat_eq (map power ids) → AllByRecursion AreElements symbols → length sources ≤ length ids
     → map (coded_at size sources t) ids ≡ octets_at t symbols
     → get_or (symbol_at size (map power ids) symbols (power j)) t 0 ≡ coded_at size sources t j
 solved_octet size t j sources ids symbols most are lt distinct octets enough same =

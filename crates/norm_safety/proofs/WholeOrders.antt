@@ -4,7 +4,8 @@ use Rattle.std.specs.Prelude.{◌==◌, nat_le, nat_lt, is_none, unwrap_or}
 use Rattle.std.specs.List.{AllByRecursion}
 use Rattle.std.proofs.lemmas.Bool.Decides.{Decides-ltb, leb_tells}
 use Rattle.std.proofs.lemmas.List.{reverse-append}
-use Rattle.gf_field.specs.Octet.{AreOctets}
+use Rattle.gf_field.specs.Element.{AreElements}
+use Rattle.gf_field.proofs.Places.{elements_of_octets}
 use Rattle.norm_base.specs.Settings.{Settings}
 use Rattle.norm_base.specs.declared.kinds.Kind.{Kind}
 use Rattle.norm_base.specs.declared.kinds.Kind.TheVariants as kind
@@ -38,7 +39,7 @@ use Rattle.norm_safety.proofs.CommandSteps.{where_free, first_none, no_parts, ma
 
 -- data or a file, of octets, and no larger than the profile lets it be
 abbrev pub IsSized : Settings → Object → Type 0
-IsSized p (Whole kind info octets) = (0 < length octets) × (length octets ≤ p.octets) × (info_length info ≤ p.e) × AreOctets octets
+IsSized p (Whole kind info octets) = (0 < length octets) × (length octets ≤ p.octets) × (info_length info ≤ p.e) × AreElements octets
 IsSized p (Stream parts) = ⊥
 
 -- each entry is such
@@ -117,7 +118,7 @@ free_case p by None s after receipt h = h refl
 free_case p by (Some fault) s after receipt h = Stays (keeps_steady p s s (keeps_all s))
 
 -- an object that has no fault joins
-object_case : (p : Settings) (by : Origin) (kind : Kind) (info : Option (List ℕ)) (octets : List ℕ) (s : SenderState) → AreOctets octets
+object_case : (p : Settings) (by : Origin) (kind : Kind) (info : Option (List ℕ)) (octets : List ℕ) (s : SenderState) → AreElements octets
     → object_fault p s info octets ≡ None → CommandCase p s by (joined p by (Whole kind info octets) s)
 object_case p by kind info octets s are none =
     let first = first_none _ _ _ none in
@@ -195,10 +196,10 @@ cut_mark_case p s by quorum all =
 pub command_case : (p : Settings) (s : SenderState) (by : Origin) (job : Job) → AreSized p s.current.order → IsJob job → OpensNone job
     → CommandCase p s by (commanded p s by job).0
 command_case p s by (job.Data info bytes) all are none =
-    free_case p by (object_fault p s info bytes) s (joined p by (Whole kind.Data info bytes) s) _ (object_case p by kind.Data info bytes s are)
+    free_case p by (object_fault p s info bytes) s (joined p by (Whole kind.Data info bytes) s) _ (object_case p by kind.Data info bytes s (elements_of_octets bytes are))
 command_case p s by (job.File name bytes) all are none =
     free_case p by (object_fault p s (Some name) bytes) s (joined p by (Whole kind.File (Some name) bytes) s) _
-    (object_case p by kind.File (Some name) bytes s are)
+    (object_case p by kind.File (Some name) bytes s (elements_of_octets bytes are))
 command_case p s by job.Open all are none = absurd none
 command_case p s by (job.Write bytes) all are none =
     let parts = parts_now s ++ Write by bytes ∷ [] in

@@ -2,7 +2,7 @@
 -- of data and files alone.
 use Rattle.std.specs.Prelude.{◌<◌, List, ⊤}
 use Rattle.std.specs.List.{AllByRecursion}
-use Rattle.gf_field.specs.Octet.{AreOctets}
+use Rattle.norm_base.specs.Octets.{AreOctets}
 use Rattle.norm_send_rules.specs.declared.job.Job.{Job}
 use Rattle.norm_send_rules.specs.declared.job.Job.TheVariants as job
 use Rattle.norm_safety.specs.Events.{Event, Commanded}

@@ -4,7 +4,8 @@ use Rattle.std.specs.List.{list_all}
 use Rattle.std.proofs.lemmas.Fmt.{decimal_by_steps, first_decimal, decimal_nonempty, decimal_digit}
 use Rattle.std.proofs.lemmas.List.Folds.{list_all-append}
 use Rattle.std.proofs.lemmas.List.Sums.{fold-append, list_all-from_AllPass}
-use Rattle.hex.specs.Hex.{IsBytes, encode_lower, is_hex_digit, lower_digits}
+use Rattle.norm_base.specs.Octets.{AreOctets}
+use Rattle.hex.specs.Hex.{encode_lower, is_hex_digit, lower_digits}
 use Rattle.hex.proofs.HexLemmas.{decode_of-ok, decode_of-encode_lower, length-encode_with}
 use Rattle.norm_script.specs.Meaning.{contents}
 use Rattle.norm_script.specs.Scripts.{IsContents}
@@ -107,7 +108,7 @@ decimal-word n h = all_weaker is_digit is_inner digit_inner (decimal n) (spells 
 hex_inner : (c : ℕ) → is_hex_digit c ≡ true → is_inner c ≡ true
 hex_inner c e = grind arith
 
-pub hex-word : (bytes : List ℕ) → IsBytes bytes → is_word (encode_lower bytes) ≡ true
+pub hex-word : (bytes : List ℕ) → AreOctets bytes → is_word (encode_lower bytes) ≡ true
 hex-word bytes h =
     all_weaker is_hex_digit is_inner hex_inner (encode_lower bytes)
     (list_all-from_AllPass is_hex_digit (encode_lower bytes) (decode_of-ok (encode_lower bytes) bytes (decode_of-encode_lower bytes h)).1)

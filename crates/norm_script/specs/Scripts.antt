@@ -1,6 +1,6 @@
 use Rattle.std.specs.Prelude.{◌≡◌, ℕ, ◌+◌, ◌≤◌, ◌==◌, true, List, [], ◌∷◌, ◌++◌, length, count_by, None, Some}
 use Rattle.std.specs.List.{AllByRecursion}
-use Rattle.hex.specs.Hex.{IsBytes}
+use Rattle.norm_base.specs.Octets.{AreOctets}
 use Rattle.norm_base.specs.Settings.{InRange}
 use Rattle.norm_script.specs.Commands.{Commands}
 use Rattle.norm_script.specs.Words.{is_name}
@@ -18,7 +18,7 @@ use Rattle.norm_script.specs.declared.script.Verb.TheVariants as verb
 pub record IsContents (bytes : List ℕ) : Type 0 where
   pub some : 1 ≤ length bytes
   pub most : length bytes ≤ 8192
-  pub octets : IsBytes bytes
+  pub octets : AreOctets bytes
 
 -- contents and an info stand on one line
 pub record IsObject (bytes info : List ℕ) : Type 0 where

@@ -12,7 +12,8 @@ use Rattle.std.proofs.lemmas.Grind.{div_ceil_times}
 use Rattle.norm_base.specs.Settings.{Settings}
 use Rattle.norm_base.specs.declared.kinds.Kind.{Kind}
 use Rattle.fec_plan.specs.Partition.{Cut, cut_of, IsSound, symbols_in, blocks_in, symbols_before, blocks, source_symbols, encoding_symbols, symbol_number, sent_octets}
-use Rattle.gf_field.specs.Octet.{AreOctets}
+use Rattle.norm_base.specs.Octets.{AreOctets}
+use Rattle.gf_field.specs.Element.{AreElements}
 use Rattle.gf_field.specs.Product.{sum_at_bits, shifts}
 use Rattle.gf_field.specs.Power.{power, powers}
 use Rattle.gf_field.specs.Interpolation.{coefficient}
@@ -95,12 +96,12 @@ joined_pieces e s octets a (suc n) =
     ∙ sym (take-add e (n * e) (drop ((s + a) * e) octets))
     ∙ ap (λ k. take k (drop ((s + a) * e) octets)) (let z : e + n * e ≡ suc n * e = omega (arith, suc-mul n e) in z)
 
-octets_of_take : (n : ℕ) (xs : List ℕ) → ((i : ℕ) → get_or xs i 0 < 256) → AreOctets (take n xs)
+octets_of_take : (n : ℕ) (xs : List ℕ) → AreOctets xs → AreElements (take n xs)
 octets_of_take zero xs each = tt
 octets_of_take (suc n) [] each = tt
 octets_of_take (suc n) (x ∷ xs) each = (each 0, octets_of_take n xs (λ i. each (suc i)))
 
-octets_of_drop : (n : ℕ) (xs : List ℕ) → ((i : ℕ) → get_or xs i 0 < 256) → (i : ℕ) → get_or (drop n xs) i 0 < 256
+octets_of_drop : (n : ℕ) (xs : List ℕ) → AreOctets xs → (i : ℕ) → get_or (drop n xs) i 0 < 256
 octets_of_drop n xs each i = subst (λ k. k < 256) (sym (get_or-drop n xs i 0)) (each (n + i))
 
 sizes_of_pieces : (e s : ℕ) (octets : List ℕ) (a n : ℕ) → (s + a + n) * e ≤ length octets → AllByRecursion (λ x. length x ≡ e) (pieces_of e s octets a n)
@@ -114,7 +115,7 @@ sizes_of_pieces e s octets a (suc n) room = (first, sizes_of_pieces e s octets (
     rest : (s + (a + 1) + n) * e ≤ length octets
     rest = let same : (s + (a + 1) + n) * e ≡ (s + a + suc n) * e = ap (λ k. k * e) (omega arith) in omega (arith, same, room)
 
-octets_of_pieces : (e s : ℕ) (octets : List ℕ) (a n : ℕ) → ((i : ℕ) → get_or octets i 0 < 256) → AllByRecursion AreOctets (pieces_of e s octets a n)
+octets_of_pieces : (e s : ℕ) (octets : List ℕ) (a n : ℕ) → AreOctets octets → AllByRecursion AreElements (pieces_of e s octets a n)
 octets_of_pieces e s octets a zero each = tt
 octets_of_pieces e s octets a (suc n) each =
     (octets_of_take e (drop ((s + a) * e) octets) (octets_of_drop ((s + a) * e) octets each), octets_of_pieces e s octets (a + 1) n each)
@@ -160,7 +161,7 @@ filled_encoded size symbols j =
 
 -- symbol j of the codeword of a block of padded octets is the block's encoded symbol
 block_symbol : (k n e s m j : ℕ) (octets symbol : List ℕ) → k ≤ n → n ≤ 255 → j < n → (s + k) * e ≤ length (octets ++ replicate m 0)
-    → ((i : ℕ) → get_or (octets ++ replicate m 0) i 0 < 256) → length symbol ≡ e
+    → AreOctets (octets ++ replicate m 0) → length symbol ≡ e
     → IsSymbol k n e (take (k * e) (drop (s * e) (octets ++ replicate m 0))) j symbol
     → symbol ≡ encoded_symbol e (pieces_of e s octets 0 k) j
 block_symbol k n e s m j octets symbol fits few lt room each long is =
@@ -248,7 +249,7 @@ parity_is : (p : Settings) (kind : Kind) (info : Option (List ℕ)) (octets pari
     → source_symbols (cut_of (length octets) p.e p.b p.max_n) block ≤ symbol
     → symbol < encoding_symbols (cut_of (length octets) p.e p.b p.max_n) block
     → encoding_symbols (cut_of (length octets) p.e p.b p.max_n) block ≤ 255
-    → ((i : ℕ) → get_or (whole_symbols p.e octets) i 0 < 256) → length parity ≡ p.e
+    → AreOctets (whole_symbols p.e octets) → length parity ≡ p.e
     → IsSymbol (source_symbols (cut_of (length octets) p.e p.b p.max_n) block) (encoding_symbols (cut_of (length octets) p.e p.b p.max_n) block) p.e
     (take (source_symbols (cut_of (length octets) p.e p.b p.max_n) block * p.e)
     (drop (symbol_number (cut_of (length octets) p.e p.b p.max_n) block 0 * p.e) (whole_symbols p.e octets))) symbol parity
@@ -270,7 +271,7 @@ parity_is p kind info octets parity block symbol sound there not_source encoded 
 -- the parity symbol of the pieces is the block's
 pub parity_appended : (c : Cut) (pieces : List ℕ) (p : Settings) (kind : Kind) (info : Option (List ℕ)) (octets old new parity : List ℕ) (block symbol : ℕ)
     → HoldsObject c pieces p octets → IsSound c → block < blocks c → source_symbols c block ≤ symbol → symbol < encoding_symbols c block
-    → encoding_symbols c block ≤ 255 → ((i : ℕ) → get_or pieces i 0 < 256) → length parity ≡ c.e
+    → encoding_symbols c block ≤ 255 → AreOctets pieces → length parity ≡ c.e
     → IsSymbol (source_symbols c block) (encoding_symbols c block) c.e (take (source_symbols c block * c.e) (drop (symbol_number c block 0 * c.e) pieces)) symbol parity
     → new ≡ old ++ parity
     → new ≡ old ++ symbol_octets p (Whole kind info octets) block symbol

@@ -4,7 +4,7 @@ use Rattle.std.specs.List.{slice_range}
 use Rattle.std.proofs.lemmas.List.{get_or-take, length-take-le}
 use Rattle.std.proofs.lemmas.List.Edits.{get_or-between}
 use Rattle.std.proofs.lemmas.List.Elements.{All-from_get_or}
-use Rattle.gf_field.specs.Octet.{AreOctets}
+use Rattle.gf_field.specs.Element.{AreElements}
 use Rattle.gf_field.proofs.Symbols.{each_octet}
 use Rattle.rs_block.specs.Column.{column}
 use Rattle.rs_block.specs.Codeword.{Codeword, HasSymbolAt, IsSymbol, GoesThroughAt, AreSources, AreIds}
@@ -27,7 +27,7 @@ codeword-take k n m s w fits most p = record {
 symbol-octet : (symbols : List ℕ) (size i t : ℕ) → t < size → get_or (slice_range symbols (i * size) (i * size + size)) t 0 ≡ get_or symbols (i * size + t) 0
 symbol-octet symbols size i t h = get_or-between symbols (i * size) (i * size + size) t 0 (omega arith)
 
-own_symbol : (k n size j : ℕ) (source : List ℕ) → k ≤ n → n ≤ 255 → j < k → AreOctets source → IsSymbol k n size source j (slice_range source (j * size) (j * size + size))
+own_symbol : (k n size j : ℕ) (source : List ℕ) → k ≤ n → n ≤ 255 → j < k → AreElements source → IsSymbol k n size source j (slice_range source (j * size) (j * size + size))
 own_symbol k n size j source fits most lt octets t t_lt =
     let e : (word : List ℕ) × Codeword k n (column k size source t) word =
     codeword_exists k n (column k size source t) fits most (length-column k size source t) (column-octets k size source t (each_octet source octets)) in

@@ -8,8 +8,9 @@ use Rattle.std.proofs.Math.Nat.{mod-eq_of_lt, mod-lt}
 use Rattle.std.proofs.lemmas.Nat.{xor_lt}
 use Rattle.std.proofs.lemmas.Bool.{cases_lt}
 use Rattle.std.proofs.lemmas.List.{drop_all, ext_get_or, get_or-map, get_or-set_other, get_or-set_same, length-map}
-use Rattle.std.proofs.lemmas.List.Elements.{recursion_from_All, All-from_get_or, All-from_recursion}
-use Rattle.gf_field.specs.Octet.{AreOctets}
+use Rattle.std.proofs.lemmas.List.Elements.{All-from_recursion}
+use Rattle.norm_base.specs.Octets.{AreOctets}
+use Rattle.gf_field.specs.Element.{AreElements}
 use Rattle.gf_field.specs.Product.{product}
 use Rattle.gf_field.specs.Power.{power}
 use Rattle.gf_field.specs.Inverse.{inverse}
@@ -21,12 +22,9 @@ use Rattle.gf_field.proofs.Powers.{power-lt, power-add, power_255, power_mod}
 use Rattle.std.proofs.lemmas.List.FromFn.{length-map-range_with_len, get_or-map-range_with_len}
 use Rattle.gf_field.proofs.Products.{product_assoc, product_comm, one-product_octet, product-one_octet}
 use Rattle.gf_field.proofs.Inverses.{cancel, same_inverse, positive_from_product}
+use Rattle.gf_field.proofs.Places.{elements_of_octets}
 use Rattle.gf_field.proofs.Polynomials.{difference-pos}
 use Rattle.gf_field.proofs.Interpolations.{Among, all_among, differences-lt, differences-others, others-same, others-other}
-
--- numbers that are octets at each index
-pub octets_from_each : (xs : List ℕ) → ((i : ℕ) → get_or xs i 0 < 256) → AreOctets xs
-octets_from_each xs h = recursion_from_All (λ a. a < 256) xs (All-from_get_or (λ a. a < 256) xs 0 (λ i l. h i))
 
 drop_next : (xs : List ℕ) (i : ℕ) → i < length xs → drop i xs ≡ get_or xs i 0 ∷ drop (i + 1) xs
 drop_next xs i h = drop-cons xs i 0 h ∙ ap (λ n. get_or xs i 0 ∷ drop n xs) (let e : suc i ≡ i + 1 = omega arith in e)
@@ -96,7 +94,7 @@ weight_is ps m log is =
 
 -- ---- a coefficient from the product of all differences and a weight
 
-pub coefficient_from_all : (ps : List ℕ) (m x : ℕ) → AreOctets ps → IsDistinct nat_eq ps → Among m ps → m < 256 → x < 256 → (m ≡ x → ⊥)
+pub coefficient_from_all : (ps : List ℕ) (m x : ℕ) → AreElements ps → IsDistinct nat_eq ps → Among m ps → m < 256 → x < 256 → (m ≡ x → ⊥)
     → product (product (differences ps x) (inverse (bit_xor x m))) (inverse (differences (others m ps) m)) ≡ coefficient ps m x
 unfolding coefficient
 coefficient_from_all ps m x o d h m_low x_low differ =
@@ -125,14 +123,14 @@ unfolding column
 get_or-column k size symbols t i h =
     get_or-map-range_with_len (λ j. get_or symbols (j * size + t) 0) 0 k i i 0 h (zero-add i)
 
-pub entry_is : (ps ws : List ℕ) (i x all entry : ℕ) → ((j : ℕ) → get_or ps j 0 < 256) → IsDistinct nat_eq ps → AreWeights ps ws → i < length ps → x < 256 → (get_or ps i 0 ≡ x → ⊥) → power all ≡ differences ps x
+pub entry_is : (ps ws : List ℕ) (i x all entry : ℕ) → AreOctets ps → IsDistinct nat_eq ps → AreWeights ps ws → i < length ps → x < 256 → (get_or ps i 0 ≡ x → ⊥) → power all ≡ differences ps x
     → entry ≡ product (product (power all) (inverse (bit_xor x (get_or ps i 0)))) (power (get_or ws i 0)) → entry ≡ coefficient ps (get_or ps i 0) x
 unfolding weight_at
 entry_is ps ws i x all entry o d w h low away e entry_e =
     entry_e
     ∙ ap (λ n. product (product (power all) (inverse (bit_xor x (get_or ps i 0)))) n) (w.each i h)
     ∙ ap (λ n. product (product n (inverse (bit_xor x (get_or ps i 0)))) (inverse (differences (others (get_or ps i 0) ps) (get_or ps i 0)))) e
-    ∙ coefficient_from_all ps (get_or ps i 0) x (octets_from_each ps o) d
+    ∙ coefficient_from_all ps (get_or ps i 0) x (elements_of_octets ps o) d
     (All-from_recursion (λ q. Among q ps) ps (all_among ps) i 0 h) (o i) low away
 
 -- a row that has each coefficient is the row

@@ -5,7 +5,7 @@ use Rattle.std.proofs.Math.ListN.{get_or-append}
 use Rattle.std.proofs.Math.Nat.{div-add-mod, div-lt_iff_lt-mul, mod-lt, suc-mul}
 use Rattle.std.proofs.lemmas.List.{get_or-map, get_or-append_right, ext_get_or}
 use Rattle.std.proofs.lemmas.List.Elements.{All-from_get_or}
-use Rattle.gf_field.specs.Octet.{AreOctets}
+use Rattle.gf_field.specs.Element.{AreElements}
 use Rattle.gf_field.specs.Power.{power, powers}
 use Rattle.gf_field.specs.Interpolation.{interpolated}
 use Rattle.gf_field.specs.Symbol.{AreSymbols, AreIds, octets_at, encoded_symbol, solved_sources}
@@ -34,14 +34,14 @@ concat-at size (suc i) t (s ∷ ss) h lt t_lt =
     ∙ ap (λ n. get_or (concat ss) n 0) (let e : suc i * size + t - size ≡ i * size + t = omega (arith, suc-mul i size) in e)
     ∙ concat-at size i t ss h.1 (omega arith) t_lt
 
-concat-octets : (symbols : List (List ℕ)) → AllByRecursion AreOctets symbols → (i : ℕ) → get_or (concat symbols) i 0 < 256
+concat-octets : (symbols : List (List ℕ)) → AllByRecursion AreElements symbols → (i : ℕ) → get_or (concat symbols) i 0 < 256
 concat-octets symbols h = each_octet (concat symbols) (octets symbols h)
   where
-    joined : (xs ys : List ℕ) → AreOctets xs → AreOctets ys → AreOctets (xs ++ ys)
+    joined : (xs ys : List ℕ) → AreElements xs → AreElements ys → AreElements (xs ++ ys)
     joined [] ys p q = q
     joined (x ∷ xs) ys p q = (p.0, joined xs ys p.1 q)
 
-    octets : (ss : List (List ℕ)) → AllByRecursion AreOctets ss → AreOctets (concat ss)
+    octets : (ss : List (List ℕ)) → AllByRecursion AreElements ss → AreElements (concat ss)
     octets [] p = tt
     octets (s ∷ ss) p = joined s (concat ss) p.0 (octets ss p.1)
 

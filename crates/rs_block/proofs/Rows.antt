@@ -8,6 +8,7 @@ use Rattle.std.proofs.lemmas.Bool.{cases_lt}
 use Rattle.std.proofs.lemmas.List.{get_or-map, get_or-append_right, length-map, ext_get_or}
 use Rattle.std.proofs.lemmas.List.FromFn.{get_or-map-range_with_len}
 use Rattle.std.proofs.lemmas.List.Edits.{get_or-between, length-between}
+use Rattle.norm_base.specs.Octets.{AreOctets}
 use Rattle.gf_field.specs.Power.{power, powers}
 use Rattle.gf_field.specs.Interpolation.{coefficient}
 use Rattle.gf_field.proofs.Places.{length-powers}
@@ -85,7 +86,7 @@ whole_cut len rest k size pos whole sum =
 
 -- the sum over the front, and the sum over the back added to it, is the symbol of the whole
 pub symbol_in_two : (k n size j t cut : ℕ) (front back whole_row row rest first out : List ℕ) (filled width width' : ℕ) → k ≤ n → n ≤ 255 → j < n → t < size
-    → ((i : ℕ) → get_or (front ++ back) i 0 < 256)
+    → AreOctets (front ++ back)
     → IsCut (length front) (length back) k size cut → whole_row ≡ coefficients (powers k) (power j)
     → row ≡ take cut whole_row → rest ≡ drop cut whole_row → length row ≡ cut → length rest ≡ k - cut → filled ≡ 0 → width ≡ size → width' ≡ size
     → get_or first t 0 ≡ bit_xor filled (combined row (column (length row) width front t))
@@ -113,7 +114,7 @@ symbol_in_two k n size j t cut front back whole_row row rest first out filled wi
     ∙ interpolated_by_row (powers k) (column k size (front ++ back) t) (power j))
 
 -- octets of two pieces
-pub pieces_octets : (front back : List ℕ) → ((i : ℕ) → get_or front i 0 < 256) → ((i : ℕ) → get_or back i 0 < 256) → (i : ℕ) → get_or (front ++ back) i 0 < 256
+pub pieces_octets : (front back : List ℕ) → AreOctets front → AreOctets back → (i : ℕ) → get_or (front ++ back) i 0 < 256
 pieces_octets front back f b i = go (cases_lt i (length front))
   where
     go : (i < length front) ⊎ (length front ≤ i) → get_or (front ++ back) i 0 < 256

@@ -4,7 +4,8 @@ use Rattle.std.specs.List.{All, AllPairs, range_with_len}
 use Rattle.std.proofs.lemmas.List.{get_or-map, length-map, ext_get_or}
 use Rattle.std.proofs.lemmas.List.FromFn.{length-range_with_len, get_or-range_with_len, length-map-range_with_len, get_or-map-range_with_len, map-range_with_len_more}
 use Rattle.std.proofs.lemmas.List.Elements.{recursion_from_All, All-map}
-use Rattle.gf_field.specs.Octet.{AreOctets}
+use Rattle.norm_base.specs.Octets.{AreOctets}
+use Rattle.gf_field.specs.Element.{AreElements}
 use Rattle.gf_field.specs.Power.{power}
 use Rattle.gf_field.specs.Polynomial.{value_at}
 use Rattle.gf_field.specs.Interpolation.{interpolated}
@@ -26,7 +27,7 @@ get_or-word_of : (cs : List ℕ) (n j : ℕ) → j < n → get_or (word_of cs n)
 unfolding word_of
 get_or-word_of cs n j h = get_or-map-range_with_len (λ i. value_at cs (power i)) 0 n j j 0 h (zero-add j)
 
-pub codeword_of : (k n : ℕ) (s cs : List ℕ) → k ≤ n → length s ≡ k → AreOctets cs → length cs ≡ k → ((j : ℕ) → j < k → value_at cs (power j) ≡ get_or s j 0) → Codeword k n s (word_of cs n)
+pub codeword_of : (k n : ℕ) (s cs : List ℕ) → k ≤ n → length s ≡ k → AreElements cs → length cs ≡ k → ((j : ℕ) → j < k → value_at cs (power j) ≡ get_or s j 0) → Codeword k n s (word_of cs n)
 unfolding word_of
 codeword_of k n s cs fits count octets few starts = record {
   sources = count;
@@ -38,7 +39,7 @@ codeword_of k n s cs fits count octets few starts = record {
   starts = λ j h. get_or-word_of cs n j (omega arith) ∙ starts j h;
 }
 
-pub column-octets : (k size : ℕ) (symbols : List ℕ) (t : ℕ) → ((i : ℕ) → get_or symbols i 0 < 256) → AreOctets (column k size symbols t)
+pub column-octets : (k size : ℕ) (symbols : List ℕ) (t : ℕ) → AreOctets symbols → AreElements (column k size symbols t)
 unfolding column
 column-octets k size symbols t h =
     recursion_from_All (λ a. a < 256) (column k size symbols t)
@@ -70,7 +71,7 @@ away_from_sources ps k j x e at h small =
     (λ i lt same. absurd (omega (arith, get_or-range_with_len 0 k i 0 (omega (arith, length-range_with_len 0 k)), length-range_with_len 0 k, same)))
 
 -- at the place of a given symbol the formula gives its octet
-pub formula_at_given : (ids vs : List ℕ) (i j : ℕ) → AllPairs (λ x y. x ≢ y) ids → All (λ n. n < 255) ids → AreOctets vs → length vs ≡ length ids → i < length ids → get_or ids i 0 ≡ j
+pub formula_at_given : (ids vs : List ℕ) (i j : ℕ) → AllPairs (λ x y. x ≢ y) ids → All (λ n. n < 255) ids → AreElements vs → length vs ≡ length ids → i < length ids → get_or ids i 0 ≡ j
     → interpolated (map power ids) vs (power j) ≡ get_or vs i 0
 formula_at_given ids vs i j differ low octets count h e =
     ap (λ n. interpolated (map power ids) vs (power n)) (sym e)
@@ -81,7 +82,7 @@ formula_at_given ids vs i j differ low octets count h e =
     (count ∙ sym (length-map ids power)))
 
 -- the octets of a given symbol are those of the formula at its place
-pub given_octet : (ids symbols : List ℕ) (size i j t : ℕ) → AreIds (length ids) 255 ids → ((n : ℕ) → get_or symbols n 0 < 256) → i < length ids → get_or ids i 0 ≡ j
+pub given_octet : (ids symbols : List ℕ) (size i j t : ℕ) → AreIds (length ids) 255 ids → AreOctets symbols → i < length ids → get_or ids i 0 ≡ j
     → get_or symbols (i * size + t) 0 ≡ interpolated (map power ids) (column (length ids) size symbols t) (power j)
 given_octet ids symbols size i j t are octets h e =
     sym (get_or-column (length ids) size symbols t i h)
@@ -91,7 +92,7 @@ given_octet ids symbols size i j t are octets h e =
 -- ---- what the encoder and the solver compute
 
 -- the value of the formula is a symbol of the codeword
-pub symbol_from_formula : (k n size j t : ℕ) (source out : List ℕ) → k ≤ n → n ≤ 255 → j < n → ((i : ℕ) → get_or source i 0 < 256)
+pub symbol_from_formula : (k n size j t : ℕ) (source out : List ℕ) → k ≤ n → n ≤ 255 → j < n → AreOctets source
     → get_or out t 0 ≡ interpolated (powers k) (column k size source t) (power j) → HasSymbolAt k n size source j out t
 symbol_from_formula k n size j t source out fits most lt octets e =
     let f : FormulaHolds (powers k) (column k size source t) =
@@ -105,7 +106,7 @@ symbol_from_formula k n size j t source out fits most lt octets e =
     }
 
 -- the same, with what the program has in the places of these words
-pub symbol_from_program : (ps source out : List ℕ) (k n size width j t x : ℕ) → ps ≡ powers k → width ≡ size → x ≡ power j → k ≤ n → n ≤ 255 → j < n → ((i : ℕ) → get_or source i 0 < 256)
+pub symbol_from_program : (ps source out : List ℕ) (k n size width j t x : ℕ) → ps ≡ powers k → width ≡ size → x ≡ power j → k ≤ n → n ≤ 255 → j < n → AreOctets source
     → get_or out t 0 ≡ interpolated ps (column (length ps) width source t) x → HasSymbolAt k n size source j out t
 symbol_from_program ps source out k n size width j t x places wide at fits most lt octets e =
     symbol_from_formula k n size j t source out fits most lt octets
@@ -116,7 +117,7 @@ symbol_from_program ps source out k n size width j t x places wide at fits most 
     ∙ ap (λ m. interpolated (powers k) (column m size source t) (power j)) (length-powers k))
 
 -- where each source is the value of the formula, they are the sources of the codeword through the symbols
-pub sources_from_formula : (k size t : ℕ) (ids symbols out : List ℕ) → k ≤ 255 → AreIds k 255 ids → ((i : ℕ) → get_or symbols i 0 < 256)
+pub sources_from_formula : (k size t : ℕ) (ids symbols out : List ℕ) → k ≤ 255 → AreIds k 255 ids → AreOctets symbols
     → ((j : ℕ) → j < k → get_or out (j * size + t) 0 ≡ interpolated (map power ids) (column k size symbols t) (power j))
     → GoesThroughAt k size ids symbols out t
 sources_from_formula k size t ids symbols out most are octets h =
@@ -135,7 +136,7 @@ sources_from_formula k size t ids symbols out most are octets h =
 
 -- ---- the laws
 
-pub codeword_exists : (k n : ℕ) (s : List ℕ) → k ≤ n → n ≤ 255 → length s ≡ k → AreOctets s → (word : List ℕ) × Codeword k n s word
+pub codeword_exists : (k n : ℕ) (s : List ℕ) → k ≤ n → n ≤ 255 → length s ≡ k → AreElements s → (word : List ℕ) × Codeword k n s word
 codeword_exists k n s fits most count octets =
     let f : FormulaHolds (powers k) s = formula_at_ids k n (range_with_len 0 k) s most (range_ids k n fits) count octets in (
       word_of f.coefficients n,

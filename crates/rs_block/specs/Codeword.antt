@@ -1,7 +1,7 @@
 -- The codewords of RFC 5510 section 8.2: symbol j is the value at the power j of alpha of a polynomial of
 -- degree below k, and the first k symbols are the source symbols.
 use Rattle.std.specs.Prelude.{ℕ, List, ◌≡◌, ◌<◌, ◌+◌, ◌*◌, length, slice_index}
-use Rattle.gf_field.specs.Octet.{AreOctets}
+use Rattle.gf_field.specs.Element.{AreElements}
 pub use Rattle.gf_field.specs.Symbol.{AreIds}
 use Rattle.gf_field.specs.Power.{power}
 use Rattle.gf_field.specs.Polynomial.{value_at}
@@ -12,7 +12,7 @@ pub record Codeword (k n : ℕ) (source word : List ℕ) : Type 0 where
   pub sources : length source ≡ k
   pub symbols : length word ≡ n
   pub coefficients : List ℕ
-  pub octets : AreOctets coefficients
+  pub octets : AreElements coefficients
   pub few : length coefficients ≡ k
   pub values : (j : ℕ) → j < n → value_at coefficients (power j) ≡ slice_index word j
   pub starts : (j : ℕ) → j < k → slice_index word j ≡ slice_index source j

@@ -1,13 +1,13 @@
 -- The laws of codewords.
 use Rattle.std.specs.Prelude.{ℕ, List, ◌≡◌, ◌<◌, ◌≤◌, ◌+◌, ◌*◌, length, slice_index}
 use Rattle.std.specs.List.{All, concat, slice_range}
-use Rattle.gf_field.specs.Octet.{AreOctets}
+use Rattle.gf_field.specs.Element.{AreElements}
 use Rattle.gf_field.specs.Symbol.{AreSymbols, encoded_symbol, solved_sources}
 use Rattle.rs_block.specs.Codeword.{Codeword, IsSymbol, AreSources, AreIds}
 
 -- any k octets have a codeword, and no other one; and codewords with the same octets at k different ids are one
 pub record CodewordLaws : Type 0 where
-  pub exists : (k n : ℕ) (source : List ℕ) → k ≤ n → n ≤ 255 → length source ≡ k → AreOctets source
+  pub exists : (k n : ℕ) (source : List ℕ) → k ≤ n → n ≤ 255 → length source ≡ k → AreElements source
       → (word : List ℕ) × Codeword k n source word
   pub only : (k n : ℕ) (source word other : List ℕ) → k ≤ n → n ≤ 255
       → Codeword k n source word → Codeword k n source other → word ≡ other
@@ -17,7 +17,7 @@ pub record CodewordLaws : Type 0 where
 
 -- each source symbol is a symbol of the codeword, and solving any k symbols of a block gives its sources
 pub record SymbolLaws : Type 0 where
-  pub own : (k n size j : ℕ) (source : List ℕ) → k ≤ n → n ≤ 255 → j < k → AreOctets source
+  pub own : (k n size j : ℕ) (source : List ℕ) → k ≤ n → n ≤ 255 → j < k → AreElements source
       → IsSymbol k n size source j (slice_range source (j * size) (j * size + size))
   pub sources : (k n size : ℕ) (ids symbols source solved : List ℕ) → k ≤ n → n ≤ 255 → AreIds k n ids
       → ((i : ℕ) → i < k → IsSymbol k n size source (slice_index ids i) (slice_range symbols (i * size) (i * size + size)))

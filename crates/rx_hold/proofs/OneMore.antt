@@ -6,7 +6,7 @@ use Rattle.std.proofs.lemmas.Bool.{cases_eq, cases_order}
 use Rattle.std.proofs.lemmas.List.{length-append, get_or-set_same, get_or-set_other, take_at}
 use Rattle.std.proofs.lemmas.List.Concat.{flat_map-cons}
 use Rattle.fec_plan.specs.Partition.{Cut, blocks, sent_octets}
-use Rattle.gf_field.specs.Octet.{AreOctets}
+use Rattle.gf_field.specs.Element.{AreElements}
 use Rattle.norm_order.specs.Symbols.{padded}
 use Rattle.norm_receive_rules.specs.Holding.{Held}
 use Rattle.rx_hold.specs.BlockState.{held_at}
@@ -20,7 +20,7 @@ use Rattle.rx_hold.proofs.Alone.{some_in}
 
 -- ---- what is padded
 
-padded_octets : (n : ℕ) (xs : List ℕ) → AreOctets xs → AreOctets (xs ++ replicate n 0)
+padded_octets : (n : ℕ) (xs : List ℕ) → AreElements xs → AreElements (xs ++ replicate n 0)
 padded_octets zero [] h = tt
 padded_octets (suc n) [] h = (omega arith, padded_octets n [] tt)
 padded_octets n (x ∷ xs) h = (h.0, padded_octets n xs h.1)
@@ -29,7 +29,7 @@ padded_octets n (x ∷ xs) h = (h.0, padded_octets n xs h.1)
 pub sent_of : (c : Cut) (block q : ℕ) (payload : List ℕ) → length payload ≡ sent_octets c block q → take (sent_octets c block q) (padded c.e payload) ≡ payload
 sent_of c block q payload long = take_at payload (replicate (c.e - length payload) 0) (sent_octets c block q) long
 
-is_coded : (c : Cut) (block q : ℕ) (payload : List ℕ) → length payload ≡ sent_octets c block q → length payload ≤ c.e → AreOctets payload → IsCoded c block q (padded c.e payload)
+is_coded : (c : Cut) (block q : ℕ) (payload : List ℕ) → length payload ≡ sent_octets c block q → length payload ≤ c.e → AreElements payload → IsCoded c block q (padded c.e payload)
 is_coded c block q payload long fits octets = record {
   long = length-padded c.e payload fits;
   octets = padded_octets (c.e - length payload) payload octets;
@@ -92,7 +92,7 @@ pub record Comes (c : Cut) (block q : ℕ) (payload ids octets after_ids after_o
   pub small : q < 255
   pub long : length payload ≡ sent_octets c block q
   pub fits : length payload ≤ c.e
-  pub bytes : AreOctets payload
+  pub bytes : AreElements payload
   pub new : has_id q (block_ids c ids block) ≡ false
   pub symbols : (b id : ℕ) → b < blocks c → id < 255 → coded_symbol c after_ids after_octets b id ≡ with_coded block q (padded c.e payload) (coded_symbol c ids octets) b id
   pub others : (b : ℕ) → b ≢ block → block_ids c after_ids b ≡ block_ids c ids b

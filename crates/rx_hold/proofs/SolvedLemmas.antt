@@ -5,23 +5,21 @@ use Rattle.std.specs.List.{AllByRecursion}
 use Rattle.std.proofs.lemmas.Bool.{eqb-true, eq-eqb, cases_lt, ne_eqb}
 use Rattle.std.proofs.lemmas.List.{length-take, length-drop, get_or-take, get_or-drop, get_or_past}
 use Rattle.std.proofs.Math.Nat.{suc-mul}
-use Rattle.gf_field.specs.Octet.{AreOctets}
+use Rattle.gf_field.specs.Element.{AreElements}
 use Rattle.gf_field.specs.Symbol.{AreSymbols, AreIds, encoded_symbol, given}
+use Rattle.norm_base.specs.Octets.{AreOctets}
 use Rattle.rs_block.specs.Solver.{SolverState}
 use Rattle.rs_block.specs.Column.{column}
 use Rattle.rs_block.specs.Codeword.{Codeword, AreSources, GoesThroughAt, IsSymbol}
-use Rattle.rs_block.proofs.Formula.{octets_from_each, length-column, get_or-column}
+use Rattle.gf_field.proofs.Places.{elements_of_octets}
+use Rattle.rs_block.proofs.Formula.{length-column, get_or-column}
 use Rattle.rs_block.proofs.Words.{column-octets, codeword_exists}
 use Rattle.rs_block.proofs.Functions.{function_laws}
 use Rattle.rx_hold.specs.Places.{pieces, has_id, free_places, encoded_among, symbol_in, with_one}
 use Rattle.rx_hold.proofs.FreePlaces.{length-pieces, concat_pieces, none_free}
 
--- octets all below 256
-abbrev pub AreBytes : List ℕ → Type 0
-AreBytes xs = (i : ℕ) → get_or xs i 0 < 256
-
 -- where each source symbol lies at its own place, the row is the sources
-pub own_sources : (k size : ℕ) (ids row : List ℕ) → AreIds k 255 ids → EachIndex ids (λ i. slice_index ids i ≡ i) → AreBytes row → AreSources k size ids row row
+pub own_sources : (k size : ℕ) (ids row : List ℕ) → AreIds k 255 ids → EachIndex ids (λ i. slice_index ids i ≡ i) → AreOctets row → AreSources k size ids row row
 own_sources k size ids row are own octets t lt =
     let most : k ≤ 255 = most_own (cases_lt 255 k) in
     let w : (word : List ℕ) × Codeword k 255 (column k size row t) word =
@@ -43,13 +41,13 @@ own_sources k size ids row are own octets t lt =
 
 -- ---- the symbols of a row
 
-pub bytes_take : (n : ℕ) (xs : List ℕ) → AreBytes xs → AreBytes (take n xs)
+pub bytes_take : (n : ℕ) (xs : List ℕ) → AreOctets xs → AreOctets (take n xs)
 bytes_take n xs octets i = elim (cases_lt i n) [
   | inl lt ↦ (let e = get_or-take n xs i 0 lt in let b = octets i in omega (arith, e, b))
   | inr le ↦ (let e = get_or_past (take n xs) i 0 (omega (arith, length-take n xs, le)) in omega (arith, e))
 ]
 
-pub bytes_drop : (n : ℕ) (xs : List ℕ) → AreBytes xs → AreBytes (drop n xs)
+pub bytes_drop : (n : ℕ) (xs : List ℕ) → AreOctets xs → AreOctets (drop n xs)
 bytes_drop n xs octets i = let e = get_or-drop n xs i 0 in let b = octets (n + i) in omega (arith, e, b)
 
 sizes_of : (size k : ℕ) (row : List ℕ) → length row ≡ k * size → AllByRecursion (λ s. length s ≡ size) (pieces size k row)
@@ -60,12 +58,12 @@ sizes_of size (suc k) row long = (
   sizes_of size k (drop size row) (omega (arith, length-drop size row, long, suc-mul k size)),
 )
 
-octets_of : (size k : ℕ) (row : List ℕ) → AreBytes row → AllByRecursion AreOctets (pieces size k row)
+octets_of : (size k : ℕ) (row : List ℕ) → AreOctets row → AllByRecursion AreElements (pieces size k row)
 unfolding pieces
 octets_of size zero row octets = tt
-octets_of size (suc k) row octets = (octets_from_each (take size row) (bytes_take size row octets), octets_of size k (drop size row) (bytes_drop size row octets))
+octets_of size (suc k) row octets = (elements_of_octets (take size row) (bytes_take size row octets), octets_of size k (drop size row) (bytes_drop size row octets))
 
-pub symbols_are : (size k : ℕ) (row : List ℕ) → length row ≡ k * size → AreBytes row → AreSymbols k size (pieces size k row)
+pub symbols_are : (size k : ℕ) (row : List ℕ) → length row ≡ k * size → AreOctets row → AreSymbols k size (pieces size k row)
 symbols_are size k row long octets = record { count = length-pieces size k row; sizes = sizes_of size k row long; octets = octets_of size k row octets }
 
 piece_octet : (size k i t : ℕ) (row : List ℕ) → length row ≡ k * size → i < k → t < size → get_or (get_or (pieces size k row) i []) t 0 ≡ get_or row (i * size + t) 0
@@ -87,7 +85,7 @@ piece_long size (suc k) (suc i) row long less = piece_long size k i (drop size r
 -- ---- solving
 
 -- the symbol at a place is the encoded one
-pub encoded_there : (k size : ℕ) (ids row solved : List ℕ) → k ≤ 255 → AreIds k 255 ids → length row ≡ k * size → length solved ≡ k * size → AreBytes solved
+pub encoded_there : (k size : ℕ) (ids row solved : List ℕ) → k ≤ 255 → AreIds k 255 ids → length row ≡ k * size → length solved ≡ k * size → AreOctets solved
     → AreSources k size ids row solved → (i : ℕ) → i < k → get_or (pieces size k row) i [] ≡ encoded_symbol size (pieces size k solved) (get_or ids i 0)
 encoded_there k size ids row solved most are long long' octets sources i less =
     function_laws.encoded_only k 255 size (get_or ids i 0) (pieces size k solved) (get_or (pieces size k row) i []) most (omega arith)
@@ -113,7 +111,7 @@ encoded_given size id (i ∷ is) (x ∷ xs) sources long each =
     go true e rest = ap (λ n. Some (encoded_symbol size sources n)) (sym (eqb-true i id e)) ∙ ap Some (sym (each 0 (omega arith)))
     go false e rest = rest
 
-pub solved_given : (k size : ℕ) (ids row solved : List ℕ) → k ≤ 255 → AreIds k 255 ids → length row ≡ k * size → length solved ≡ k * size → AreBytes solved
+pub solved_given : (k size : ℕ) (ids row solved : List ℕ) → k ≤ 255 → AreIds k 255 ids → length row ≡ k * size → length solved ≡ k * size → AreOctets solved
     → AreSources k size ids row solved → (id : ℕ) → encoded_among size ids (pieces size k solved) id ≡ given ids (pieces size k row) id
 solved_given k size ids row solved most are long long' octets sources id =
     encoded_given size id ids (pieces size k row) (pieces size k solved) (length-pieces size k row ∙ sym are.count)
@@ -147,7 +145,7 @@ with_one_same q id x f g same = go (id == q)
     go false = same
 
 pub put_done : (k size q : ℕ) (ids after row kept solved x : List ℕ) → length ids ≡ k → length after ≡ k → AreIds k 255 after → free_places after ≡ 0 → free_places ids ≡ free_places after + 1
-    → length kept ≡ k * size → length solved ≡ k * size → k ≤ 255 → AreBytes solved → AreSources k size after kept solved
+    → length kept ≡ k * size → length solved ≡ k * size → k ≤ 255 → AreOctets solved → AreSources k size after kept solved
     → ((id : ℕ) → id < 255 → given after (pieces size k kept) id ≡ with_one q x (given ids (pieces size k row)) id)
     → (id : ℕ) → id < 255 → symbol_in size after solved id ≡ with_one q x (symbol_in size ids row) id
 put_done k size q ids after row kept solved x count count' are none lacks long long' most octets sources symbols id small =
@@ -161,7 +159,7 @@ put_done k size q ids after row kept solved x count count' are none lacks long l
 pub put_last : (shape : SolverState) (size q : ℕ) (ids after row kept solved x : List ℕ) (o : Option ℕ) → shape ≡ record { k = length ids; size = size } → length ids ≤ 255
     → length after ≡ length ids → AreIds shape.k 255 after → free_places ids ≡ free_places after + 1
     → MatchOption o (EachIndex after (λ i. slice_index after i ≢ 255)) (λ i. (i < length after) × (slice_index after i ≡ 255)) → is_some o ≡ false
-    → length row ≡ length ids * size → length kept ≡ length row → length solved ≡ length kept → AreBytes solved → AreSources shape.k shape.size after kept solved
+    → length row ≡ length ids * size → length kept ≡ length row → length solved ≡ length kept → AreOctets solved → AreSources shape.k shape.size after kept solved
     → ((id : ℕ) → id < 255 → given after (pieces size (length ids) kept) id ≡ with_one q x (given ids (pieces size (length ids) row)) id)
     → (id : ℕ) → id < 255 → symbol_in size after solved id ≡ with_one q x (symbol_in size ids row) id
 put_last shape size q ids after row kept solved x (Some i) is most count are lacks found none long kept_long solved_long octets sources symbols = absurd (cc none)

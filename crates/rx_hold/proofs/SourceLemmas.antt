@@ -6,13 +6,14 @@ use Rattle.std.specs.Int.Bits.{xor_zero_l}
 use Rattle.std.proofs.Math.Nat.{suc-mul}
 use Rattle.std.proofs.Math.ListN.{get_or-append}
 use Rattle.std.proofs.lemmas.List.{get_or-append_right, length-map, append-nil}
-use Rattle.gf_field.specs.Octet.{AreOctets}
+use Rattle.gf_field.specs.Element.{AreElements}
 use Rattle.gf_field.specs.Product.{product, shifts, sum_at_bits}
 use Rattle.gf_field.specs.Power.{power}
 use Rattle.gf_field.specs.Interpolation.{coefficient}
 use Rattle.gf_field.specs.Symbol.{AreSymbols, AreIds, scaled_onto, weighted_symbols, symbol_at, given, encoded_symbol, solved_symbol, solved_sources}
 use Rattle.gf_field.proofs.Products.{product-zero}
 use Rattle.gf_field.proofs.Symbols.{length-weighted_symbols}
+use Rattle.norm_base.specs.Octets.{AreOctets}
 use Rattle.rs_block.specs.Column.{column}
 use Rattle.rs_block.specs.Codeword.{Codeword, AreSources, HasSymbolAt}
 use Rattle.rs_block.proofs.Formula.{length-column}
@@ -23,7 +24,7 @@ use Rattle.norm_receive_rules.specs.Holding.{Held}
 use Rattle.norm_receive_rules.specs.BlockValue.{ids_of, octets_of_held}
 use Rattle.rx_hold.specs.Places.{pieces}
 use Rattle.rx_hold.proofs.FreePlaces.{length-padded, concat_pieces}
-use Rattle.rx_hold.proofs.SolvedLemmas.{AreBytes, symbols_are}
+use Rattle.rx_hold.proofs.SolvedLemmas.{symbols_are}
 
 -- ---- zeros behind a symbol change nothing
 
@@ -131,7 +132,7 @@ row_again size (h ∷ hs) = ap (λ r. padded size h.octets ++ r) (row_again size
 pub record IsEncoded (size : ℕ) (sources : List (List ℕ)) (h : Held) : Type 0 where
   pub small : h.at.symbol < 255
   pub short : length h.octets ≤ size
-  pub octets : AreOctets (padded size h.octets)
+  pub octets : AreElements (padded size h.octets)
   pub is : padded size h.octets ≡ encoded_symbol size sources h.at.symbol
 
 shorts : (size : ℕ) (sources : List (List ℕ)) (hs : List Held) → AllByRecursion (IsEncoded size sources) hs → AreShort size hs
@@ -142,11 +143,11 @@ sizes_of : (size : ℕ) (sources : List (List ℕ)) (hs : List Held) → AllByRe
 sizes_of size sources [] all = tt
 sizes_of size sources (h ∷ hs) all = (length-padded size h.octets all.0.short, sizes_of size sources hs all.1)
 
-octets_are : (size : ℕ) (sources : List (List ℕ)) (hs : List Held) → AllByRecursion (IsEncoded size sources) hs → AllByRecursion AreOctets (map (padded size) (octets_of_held hs))
+octets_are : (size : ℕ) (sources : List (List ℕ)) (hs : List Held) → AllByRecursion (IsEncoded size sources) hs → AllByRecursion AreElements (map (padded size) (octets_of_held hs))
 octets_are size sources [] all = tt
 octets_are size sources (h ∷ hs) all = (all.0.octets, octets_are size sources hs all.1)
 
-all_meet : (k size t : ℕ) (row word : List ℕ) (hs : List Held) → k ≤ 255 → t < size → length row ≡ k * size → AreBytes row → Codeword k 255 (column k size row t) word
+all_meet : (k size t : ℕ) (row word : List ℕ) (hs : List Held) → k ≤ 255 → t < size → length row ≡ k * size → AreOctets row → Codeword k 255 (column k size row t) word
     → AllByRecursion (IsEncoded size (pieces size k row)) hs → AllByRecursion (Meets size t word) hs
 all_meet k size t row word [] most lt long bytes is all = tt
 all_meet k size t row word (h ∷ hs) most lt long bytes is all =
@@ -158,7 +159,7 @@ all_meet k size t row word (h ∷ hs) most lt long bytes is all =
     (ap (λ w. get_or w h.at.symbol 0) same ∙ sym s.octet ∙ ap (λ xs. get_or xs t 0) (sym e.is), all_meet k size t row word hs most lt long bytes is all.1)
 
 -- the sources that lie in the row are those that the held symbols give
-pub row_is : (k size : ℕ) (row : List ℕ) (hs : List Held) → k ≤ 255 → length row ≡ k * size → AreBytes row → length hs ≡ k → AreIds k 255 (ids_of hs)
+pub row_is : (k size : ℕ) (row : List ℕ) (hs : List Held) → k ≤ 255 → length row ≡ k * size → AreOctets row → length hs ≡ k → AreIds k 255 (ids_of hs)
     → AllByRecursion (IsEncoded size (pieces size k row)) hs
     → row ≡ concat (map (padded size) (solved_sources size (ids_of hs) (octets_of_held hs)))
 row_is k size row hs most long bytes count ids all =

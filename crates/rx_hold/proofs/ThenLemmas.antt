@@ -5,7 +5,7 @@ use Rattle.std.proofs.lemmas.Bool.{cases_eq, cases_lt, eq-eqb, eqb-true, ltb-tru
 use Rattle.std.proofs.lemmas.List.{length-set, get_or-set_same, get_or-set_other}
 use Rattle.fec_plan.specs.Partition.{Cut, blocks, source_symbols, encoding_symbols, sent_octets}
 use Rattle.fec_plan.specs.Points.{position}
-use Rattle.gf_field.specs.Octet.{AreOctets}
+use Rattle.gf_field.specs.Element.{AreElements}
 use Rattle.norm_order.specs.Sets.{with_member}
 use Rattle.norm_order.specs.Symbols.{padded}
 use Rattle.norm_receive_rules.specs.Holding.{Held}
@@ -108,7 +108,7 @@ counts_most x block q payload counts c sound is same after b lt = go (cases_eq b
 
 -- ---- the object
 
-pub object_then : (x : Inside) (rows : Rows) (counts : Vec ℕ Global) (short block q : ℕ) (payload : List ℕ) → IsObject x → IsNews x block q payload → AreOctets payload
+pub object_then : (x : Inside) (rows : Rows) (counts : Vec ℕ Global) (short block q : ℕ) (payload : List ℕ) → IsObject x → IsNews x block q payload → AreElements payload
     → rows.plan ≡ x.rows.plan → AreRows rows
     → ((b id : ℕ) → b < blocks x.rows.plan → id < 255 → coded_symbol x.rows.plan rows.ids.items rows.octets.items b id
     ≡ with_coded block q (padded x.rows.plan.e payload) (coded_symbol x.rows.plan x.rows.ids.items x.rows.octets.items) b id)

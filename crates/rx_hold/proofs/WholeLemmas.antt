@@ -7,13 +7,14 @@ use Rattle.std.proofs.lemmas.List.{length-map, length-take, take_all}
 use Rattle.std.proofs.Math.Nat.{mul-le-mul_right, add-mul}
 use Rattle.fec_plan.specs.Partition.{Cut, cut_of, blocks, source_symbols, all_symbols, symbol_number, sent_octets, coded_octets}
 use Rattle.gf_field.specs.Symbol.{encoded_symbol, solved_symbol, solved_sources}
-use Rattle.gf_field.specs.Octet.{AreOctets}
+use Rattle.gf_field.specs.Element.{AreElements}
 use Rattle.norm_order.specs.Symbols.{padded}
 use Rattle.norm_receive_rules.specs.Holding.{Held, HeldInfo}
 use Rattle.norm_receive_rules.specs.Plans.{cut_of_plan, info_of}
 use Rattle.norm_receive_rules.specs.BlockValue.{ids_of, octets_of_held}
 use Rattle.norm_receive_rules.specs.HandingUp.{block_octets, object_octets, is_whole}
 use Rattle.norm_receive_rules.specs.Plans.{has_its_info}
+use Rattle.norm_base.specs.Octets.{AreOctets}
 use Rattle.rx_hold.specs.BlockState.{held_at}
 use Rattle.rx_hold.specs.ObjectState.{ObjectState, alone}
 use Rattle.rx_hold.specs.ObjectSound.{IsObject, IsBlock, object_view, plan_inside, symbols_inside}
@@ -25,7 +26,7 @@ use Rattle.rx_hold.proofs.Cuts.{start_none, start_next, start_all, ends_within, 
 use Rattle.rx_hold.proofs.Alone.{held_of_block}
 use Rattle.rx_hold.proofs.ObjectLemmas.{done_before, object_all_done}
 use Rattle.rx_hold.proofs.RowLemmas.{part_long}
-use Rattle.rx_hold.proofs.SolvedLemmas.{AreBytes, full_in, bytes_take, bytes_drop}
+use Rattle.rx_hold.proofs.SolvedLemmas.{full_in, bytes_take, bytes_drop}
 use Rattle.rx_hold.proofs.SourceLemmas.{IsEncoded, row_is}
 use Rattle.rx_hold.proofs.Covering.{Covers, covers_range, blocks_covered, rows_join}
 use Rattle.rx_hold.proofs.DoneBlocks.{handed_block, block_below, held_ids, encoded_some, solved_reaches}
@@ -101,7 +102,7 @@ done_there x sound all block lt =
       most = omega (arith, few, most);
     }
 
-row_there : (x : Inside) → IsObject x → AreBytes x.rows.octets.items → (block : ℕ) → block < blocks x.rows.plan → IsDone x block
+row_there : (x : Inside) → IsObject x → AreOctets x.rows.octets.items → (block : ℕ) → block < blocks x.rows.plan → IsDone x block
     → block_row x.rows.plan x.rows.octets.items block ≡ concat (map (padded x.rows.plan.e) (sources_at x block))
 row_there x sound bytes block lt done =
     row_is (source_symbols x.rows.plan block) x.rows.plan.e (block_row x.rows.plan x.rows.octets.items block) (held_in x.index x.rows.plan (symbols_inside x) block) done.most done.long
@@ -120,7 +121,7 @@ row_there x sound bytes block lt done =
         record {
           small = small;
           short = omega (arith, length-take (sent_octets x.rows.plan block id) s, sent);
-          octets = subst AreOctets (sym coded.zeros) coded.octets;
+          octets = subst AreElements (sym coded.zeros) coded.octets;
           is =
               coded.zeros
               ∙ encoded_some x.rows.plan.e id (block_ids x.rows.plan x.rows.ids.items block) (pieces x.rows.plan.e (length (block_ids x.rows.plan x.rows.ids.items block)) (block_row x.rows.plan x.rows.octets.items block)) s
@@ -168,7 +169,7 @@ all_done_of x sound whole =
     second true b e = e
     second false b e = absurd (cc e)
 
-pub object_bytes : (x : Inside) → IsObject x → AreBytes x.rows.octets.items → is_whole (alone (object_view x)) (plan_inside x) ≡ true
+pub object_bytes : (x : Inside) → IsObject x → AreOctets x.rows.octets.items → is_whole (alone (object_view x)) (plan_inside x) ≡ true
     → take x.fti.l x.rows.octets.items ≡ object_octets (alone (object_view x)) (plan_inside x)
 object_bytes x sound bytes whole =
     let c : Cut = x.rows.plan in

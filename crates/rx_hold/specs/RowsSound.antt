@@ -1,14 +1,14 @@
 -- What the rows of an object's blocks keep.
 use Rattle.std.specs.Prelude.{ℕ, ◌≡◌, ◌≤◌, ◌-◌, ◌*◌, List, take, length, true, is_some}
 use Rattle.fec_plan.specs.Partition.{Cut, IsSound, blocks, source_symbols, all_symbols, sent_octets}
-use Rattle.gf_field.specs.Octet.{AreOctets}
+use Rattle.gf_field.specs.Element.{AreElements}
 use Rattle.norm_order.specs.Symbols.{padded}
 use Rattle.rx_hold.specs.declared.rows.Rows.{Rows}
 
 -- a coded symbol has e octets, which are those that are sent of it, and zeros
 pub record IsCoded (c : Cut) (block id : ℕ) (symbol : List ℕ) : Type 0 where
   pub long : length symbol ≡ c.e
-  pub octets : AreOctets symbol
+  pub octets : AreElements symbol
   pub zeros : padded c.e (take (sent_octets c block id) symbol) ≡ symbol
 
 -- There is a place for each source symbol of an object. The solvers are for the first and the last block, and each block is

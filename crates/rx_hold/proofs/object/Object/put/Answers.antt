@@ -2,7 +2,7 @@ use Rattle.std.proofs.Common.{◌≡◌, ◌+◌, ◌<◌, ℕ, subst, ap, ◌�
 use Rattle.std.specs.Prelude.{slice_index}
 use Rattle.std.specs.Vec.{with_item}
 use Rattle.fec_plan.specs.Partition.{blocks, source_symbols}
-use Rattle.rs_block.proofs.Formula.{octets_from_each}
+use Rattle.gf_field.proofs.Places.{elements_of_octets}
 use Rattle.rx_hold.proofs.Cuts.{few_sources}
 use Rattle.rx_hold.proofs.ObjectLemmas.{read_at}
 use Rattle.rx_hold.proofs.ThenLemmas.{news, counts_done, counts_most, object_then, view_then}
@@ -57,7 +57,7 @@ invariant_of-self c =
     let counted = c.self.invariant.counted in
     let read = read_at c.self.inside.counts.items c.args.block c.index_mut.result.now (omega (arith, within, counted)) c.index_mut.ensures.value in
     object_then c.self.inside c.put.new.self _ c.next_short-self-inside.result c.args.block c.args.symbol c.args.payload.now c.self.invariant n
-    (octets_from_each c.args.payload.now (λ i. let byte = c.type_inv.payload i in byte.fits))
+    (elements_of_octets c.args.payload.now (λ i. let byte = c.type_inv.payload i in byte.fits))
     c.put.ensures.plan c.put.ensures.rows c.put.ensures.symbols c.put.ensures.others c.put.ensures.lacks c.put.ensures.apart
     (ap (λ m. set c.self.inside.counts.items c.args.block (m + 1)) read)
     c.next_short-self-inside.ensures.few
