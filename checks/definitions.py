@@ -1,18 +1,19 @@
 #!/usr/bin/env python3
 """Evaluates the definitions of the protocol (crates/*/specs) on recorded runs.
 
-    checks/definitions.py [--traces DIR] [--count N] [--safe] [--cases] [--damaged] [--journals] [--errors] [--gate] [NAME ..]
+    checks/definitions.py [--runs DIR] [--count N] [--safe] [--cases] [--damaged] [--journals] [--errors] [--rules [--write]] [--gate] [NAME ..]
 
-A recorded run is a list of events with what each gave, and where the nodes stood at its end (checks/traces). For each run
+A recorded run is a list of events with what each gave, and where the nodes stood at its end (checks/runs). For each run
 antt computes the defined steps, event by event, and compares each answer and the end state with the record: the proof of
 the statement "they never part" is `refl`. Nothing is proved or built of the crates, and no code of theirs is run.
 
 Without a flag the runs are compared. `--safe` evaluates the tests of lawfulness and safety along each lawful run, `--cases` the
-small runs and values of checks/cases.py, `--damaged` the tests of safety on damaged runs, and `--errors` looks whether
-each deliberate error of checks/errors.py in a definition is noticed. `--journals` judges each recorded journal, which has to be
+small runs and values of checks/cases, `--damaged` the tests of safety on damaged runs, and `--errors` looks whether
+each deliberate error of checks/errors in a definition is noticed by the case that it names. `--rules` compares the rows of
+docs/protocol.md with what stands here, and with `--write` prints them again. `--journals` judges each recorded journal, which has to be
 accepted event by event, to end as recorded and to print the recorded text, and damaged ones, which have to be refused (with
-`--count N` those of the N shortest). `--gate` compares ten runs, and evaluates the cases, the damaged runs, all journals and the
-damaged ones of the ten shortest. NAME is a part of a run's name, or with `--errors` of an error's words, and `--count N` takes N
+`--count N` those of the N shortest). `--gate` compares the rows and ten runs, and evaluates the cases, the damaged runs, all journals
+and the damaged ones of the ten shortest. NAME is a part of a run's name, or with `--errors` of an error's words, and `--count N` takes N
 runs evenly. Exit status: 0 where all is as expected, 1 where something differs, 2 where the evaluation failed.
 """
 import argparse, glob, json, os, re, sys, tempfile, time
@@ -20,8 +21,8 @@ import argparse, glob, json, os, re, sys, tempfile, time
 sys.dont_write_bytecode = True
 HERE = os.path.dirname(os.path.abspath(__file__))
 sys.path.insert(0, HERE)
-import terms                                                    # noqa: E402
-from evaluating import Failed, Workspace, found_in              # noqa: E402
+from evaluate import terms                                      # noqa: E402
+from evaluate.evaluating import Failed, Workspace, found_in     # noqa: E402
 
 
 def runs_of(folder, names, count):
@@ -62,22 +63,22 @@ def compare(space, runs, more=()):
 
 def judge(a, count=0):
     """Judges the recorded journals, and damaged ones of as many."""
-    import journals
-    recorded = journals.runs_of(a.traces, a.names)
+    from evaluate import journals
+    recorded = journals.runs_of(a.runs, a.names)
     with tempfile.TemporaryDirectory() as scratch:
-        return journals.look(journals.Judge(scratch), recorded, journals.runs_of(a.traces, a.names, a.count or count))
+        return journals.look(journals.Judge(scratch), recorded, journals.runs_of(a.runs, a.names, a.count or count))
 
 
 def main():
     a = argparse.ArgumentParser(description=__doc__, formatter_class=argparse.RawDescriptionHelpFormatter)
     a.add_argument('names', nargs='*')
-    a.add_argument('--traces', default=os.path.join(HERE, 'traces'))
+    a.add_argument('--runs', default=os.path.join(HERE, 'runs'))
     a.add_argument('--count', type=int, default=0)
     a.add_argument('--work')
-    for flag in ('safe', 'cases', 'damaged', 'journals', 'errors', 'gate'):
+    for flag in ('safe', 'cases', 'damaged', 'journals', 'errors', 'rules', 'write', 'gate'):
         a.add_argument('--' + flag, action='store_true')
     a = a.parse_args()
-    runs = list(runs_of(a.traces, [] if a.errors else a.names, 0 if a.gate else a.count))
+    runs = list(runs_of(a.runs, [] if a.errors else a.names, 0 if a.gate else a.count))
     began = time.time()
     with tempfile.TemporaryDirectory() as scratch:
         try:
@@ -88,16 +89,21 @@ def main():
                 said, differ = errors.look(space, runs, a.names)
             elif a.journals:
                 said, differ = judge(a)
+            elif a.rules:
+                from evaluate import rules
+                said, differ = rules.look(a.write)
             elif a.safe:
                 said, differ = compare(space, [], [(n, *terms.safe_case(n, r)) for n, r in lawful])
             elif a.gate or a.damaged or a.cases:
                 import cases
-                import damaged
+                from evaluate import damaged
                 more = (cases.cases() if a.gate or a.cases else []) + (damaged.cases(lawful) if a.gate or a.damaged else [])
                 said, differ = compare(space, [runs[i * len(runs) // 10] for i in range(10)] if a.gate else [], more)
                 if a.gate:
+                    from evaluate import rules
                     judged, refused = judge(a, 10)
-                    said, differ = '%s, %s' % (said, judged), differ + refused
+                    there, astray = rules.look()
+                    said, differ = '%s, %s, %s' % (said, judged, there), differ + refused + astray
             else:
                 said, differ = compare(space, runs)
         except Failed as e:

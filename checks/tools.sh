@@ -15,17 +15,17 @@ if ! there python3; then
     missing 'everything' 'python3 is not there'
     exit 0
 fi
-python3 checks/tools.py || exit 1
+python3 checks/tools/compare.py || exit 1
 
 # The dissector: on lines with what they are shown as, and on the recorded runs with what the program shows of them.
 if there tshark; then
-    checks/dissector.py "$fixtures/datagrams" "$fixtures/shown" || exit 1
+    checks/tools/dissector.py "$fixtures/datagrams" "$fixtures/shown" || exit 1
     if [ -x "$program" ]; then
-        runs=$(find checks/traces checks/runs examples -name '*.json' 2>/dev/null)
+        runs=$(find checks/runs examples -name '*.json' 2>/dev/null)
         # shellcheck disable=SC2086 # each name is a word
-        checks/dissector.py --runs $runs >"$scratch/lines" || exit 1
+        checks/tools/dissector.py --runs $runs >"$scratch/lines" || exit 1
         "$program" show <"$scratch/lines" >"$scratch/shown"
-        checks/dissector.py "$scratch/lines" "$scratch/shown" || exit 1
+        checks/tools/dissector.py "$scratch/lines" "$scratch/shown" || exit 1
     else
         missing 'the dissector on recorded runs' "$program is not there"
     fi

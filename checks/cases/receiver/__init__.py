@@ -1,0 +1,1 @@
+"""Cases of the receiver's rules, a file for each rule."""

@@ -1,0 +1,1 @@
+"""Cases of the sender's rules, a file for each rule."""

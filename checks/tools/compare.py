@@ -1,0 +1,363 @@
+#!/usr/bin/env python3
+"""The tools of tools/ and man/ on recorded runs, on a run made by hand (examples/repair.json), and on bad input.
+
+compare.py PART ..     PART is wire, pcap, journal, ladder, profile or manual; checks/tools.sh runs all of them
+
+Expected values are those of the recorded runs, of the lines in checks/tools and of the rules, never a tool's own output."""
+from __future__ import annotations
+
+import glob
+import importlib.machinery
+import importlib.util
+import itertools
+import json
+import math
+import os
+import re
+import struct
+import subprocess
+import sys
+import tempfile
+import xml.etree.ElementTree as tree
+from types import ModuleType
+from typing import Any, Iterator
+
+sys.dont_write_bytecode = True
+HERE = os.path.dirname(os.path.abspath(__file__))
+ROOT = os.path.dirname(os.path.dirname(HERE))
+TOOLS, FIXTURES = os.path.join(ROOT, 'tools'), HERE
+REPAIR = os.path.join(ROOT, 'examples', 'repair.json')
+sys.path[:0] = [TOOLS, HERE]
+import dissector  # noqa: E402
+import norm_journal  # noqa: E402
+import norm_keys  # noqa: E402
+import norm_ladder  # noqa: E402
+import norm_wire as wire  # noqa: E402
+
+PROGRAM = os.path.join(ROOT, 'crates', 'normd', 'out', 'normd')
+WITH_PROFILE = b'{"profile": {"sender": 1, "receivers": 1, "port": 40000, "first": 0, "step": 1, "gap": 1}, "events": [%s]}'
+failures: list[str] = []
+
+
+def wants(name: str, wanted: Any, got: Any) -> None:
+    """Notes a row that differs, with its name."""
+    if wanted != got:
+        failures.append(f'{name}: wanted {str(wanted)[:300]}, and got {str(got)[:300]}')
+
+
+def text(path: str) -> str:
+    with open(path, encoding='utf-8') as file:
+        return file.read()
+
+
+def recorded(pattern: str = '*') -> list[str]:
+    """The recorded runs, and the one that was made by hand."""
+    return sorted(glob.glob(os.path.join(ROOT, 'checks', 'runs', pattern + '.json'))) + [REPAIR]
+
+
+def run(*words: str, given: bytes = b'', tool: str = TOOLS) -> tuple[int, bytes, str]:
+    """A tool's status and what it wrote."""
+    done = subprocess.run([os.path.join(tool, words[0]), *words[1:]], input=given, capture_output=True, cwd=ROOT,
+                          env={**os.environ, 'PYTHONDONTWRITEBYTECODE': '1'}, check=False)
+    return done.returncode, done.stdout, done.stderr.decode()
+
+
+def refused(name: str, status: int, *words: str, given: bytes = b'') -> None:
+    """Bad input gets its status and one sentence on standard error, nothing on standard output and no file."""
+    with tempfile.TemporaryDirectory() as folder:
+        got, out, said = run(*words, '-o', os.path.join(folder, 'out'), given=given)
+        wants(name + ', its status', status, got)
+        wants(name + ', its output', (b'', []), (out, os.listdir(folder)))
+        wants(name + ', its sentence', True, said.startswith(words[0] + ': ') and said.count('\n') == 1 and said.endswith('.\n'))
+
+
+def module(name: str) -> ModuleType:
+    """A tool as a module."""
+    loader = importlib.machinery.SourceFileLoader(name, os.path.join(TOOLS, name))
+    spec = importlib.util.spec_from_loader(name, loader)
+    assert spec is not None
+    made = importlib.util.module_from_spec(spec)
+    sys.modules[name] = made
+    loader.exec_module(made)
+    return made
+
+
+def runs() -> Iterator[tuple[str, dict[str, Any], wire.Run]]:
+    """Each recorded run by its name, as it stands and as the tools read it."""
+    for path in recorded():
+        yield os.path.basename(path), json.loads(text(path)), wire.run_of(path, wire.read_file(path))
+
+
+def check_wire() -> str:
+    """The lines of `show` in Python: on fixtures, and where the program is built on every datagram of the recorded runs."""
+    lines, shown = (text(os.path.join(FIXTURES, name)).splitlines() for name in ('datagrams', 'shown'))
+    for place, (line, wanted) in enumerate(zip(lines, shown, strict=True), 1):
+        wants(f'datagram {place}', wanted, wire.show(bytes.fromhex(line)))
+    if not os.access(PROGRAM, os.X_OK):
+        return f'{len(lines)} datagrams; not run: the comparison with `normd show`, since the program is not built'
+    of_runs = dissector.datagrams_of_runs(recorded())
+    of_runs += dissector.damaged(of_runs)
+    given = ''.join(octets.hex() + '\n' for octets in of_runs).encode()
+    out = subprocess.run([PROGRAM, 'show'], input=given, capture_output=True, check=False).stdout.decode().splitlines()
+    for place, (octets, wanted) in enumerate(zip(of_runs, out, strict=True), 1):
+        wants(f'datagram {octets.hex()} of the recorded runs, or damaged', wanted, wire.show(octets))
+    return f'{len(lines)} datagrams, and {len(of_runs)} of recorded runs and damaged ones as `normd show` prints them'
+
+
+def packets(capture: bytes) -> list[tuple[int, int, int, bytes]]:
+    """The packets of a capture: moment in microseconds, both ports, and the octets behind the heads of IPv4 and UDP."""
+    at, found = 24, []
+    while at < len(capture):
+        seconds, micros, size = struct.unpack('<III', capture[at:at + 12])
+        frame = capture[at + 16:at + 16 + size]
+        found.append((seconds * 1_000_000 + micros, *struct.unpack('>HH', frame[20:24]), frame[28:]))
+        at += 16 + size
+    return found
+
+
+def wanted_packets(made: dict[str, Any]) -> list[tuple[int, int, int, bytes]]:
+    """What a capture of a recorded run has to have."""
+    profile, now, found = made['profile'], 0, []
+    for event in made['events']:
+        if isinstance(event, str):
+            continue
+        now = event.get('now', now)
+        hub, sender = profile['port'], profile['sender']
+        if 'offer' in event:
+            found.append((now, hub + 1 + event['offer'] - sender, hub, bytes.fromhex(event['bytes'])))
+        elif 'took' in event or 'deliver' in event:
+            node = event.get('took', event.get('deliver'))
+            port = hub + 1 + node - sender if sender <= node <= sender + profile['receivers'] else hub - 1
+            found.append((now, hub, port, bytes.fromhex(event['bytes'])))
+    return found
+
+
+def check_pcap() -> str:
+    """Captures of recorded runs and of lines, the way back, and bad input."""
+    pcap, count = module('pcap'), 0
+    for name, made, r in runs():
+        wanted = wanted_packets(made)
+        wants(f'pcap of {name}', wanted, packets(pcap.capture(list(pcap.packets_of_run(r, False)))))
+        count += len(wanted)
+    lines = text(os.path.join(FIXTURES, 'datagrams')).encode()
+    with tempfile.TemporaryDirectory() as folder:
+        capture = os.path.join(folder, 'lines.pcap')
+        wants('lines as a capture', 0, run('pcap', os.path.join(FIXTURES, 'datagrams'), '-o', capture)[0])
+        wants('lines of a capture', (0, lines, ''), run('pcap', '--lines', capture))
+        octets = wire.read_file(capture)
+    refused('a capture that is cut', 3, 'pcap', '--lines', '-', given=octets[:-1])
+    refused('a capture of other ports', 3, 'pcap', '--lines', '-', '--port', '2000', given=octets)
+    refused('no capture', 3, 'pcap', '--lines', '-', given=b'%PDF-1.4 and more than twenty-four octets')
+    refused('a run that is cut', 3, 'pcap', '-', given=text(REPAIR).encode()[:3000])
+    refused('another JSON', 3, 'pcap', '-', given=b'{"events": []}')
+    refused('an event that is none', 3, 'pcap', '-', given=WITH_PROFILE % b'{"offers": 1}')
+    refused('a node that is none', 3, 'pcap', '-', given=WITH_PROFILE % b'{"offer": "1", "bytes": ""}')
+    refused('a moment that is none', 3, 'pcap', '-', given=WITH_PROFILE % b'{"turn": 1, "now": -1}')
+    refused('no hexadecimal', 3, 'pcap', '-', given=b'12080\n')
+    refused('no datagram', 3, 'pcap', '-', given=b'\n\n')
+    refused('no text', 3, 'pcap', '-', given=b'\xff\xfe')
+    refused('no file', 1, 'pcap', os.path.join(FIXTURES, 'none'))
+    return f'{count} packets of recorded runs, lines and back, bad input'
+
+
+# The table of examples/repair.json: both receivers hand up 256 octets, and are listed past its one watermark.
+REPAIR_TABLE = '''\
+watermark  instance  past   quorum  outcome    2    3
+1          7         0.0.3  all     satisfied  yes  yes
+
+receiver  objects  octets  lost  listed past
+2         1        256     0     0.0.3 of 7
+3         1        256     0     0.0.3 of 7
+
+objects 1 octets 256 handed 2 lost 0 satisfied 1 expired 0 cut 0
+whole
+'''
+# A quorum of one that is met, then a strike: the journal is written by the rules, with its table.
+STRUCK = '''\
+enq 1 1 7 0 data 1
+up 2 7 0 data 1 - 01
+mark 1 2 7 1 0 0 0 1
+past 2 7 0 0 0
+done 1 satisfied
+mark 1 3 7 2 0 0 0
+strike 1 4 3
+done 2 satisfied
+no 1 5 last-member 2
+end objects 1 octets 1 handed 1 lost 0 satisfied 2 expired 0 cut 0
+'''
+STRUCK_LINES = '''\
+watermark,instance,index,block,symbol,quorum,outcome,receiver,listed
+1,7,0,0,0,1,satisfied,2,yes
+1,7,0,0,0,1,satisfied,3,no
+2,7,0,0,0,all,satisfied,2,yes
+2,7,0,0,0,all,satisfied,3,struck
+'''
+
+
+def check_states(name: str, made: dict[str, Any]) -> int:
+    """A recorded journal's table says what its `done` lines say: who was left, and that enough were listed."""
+    profile, journal = made['profile'], norm_journal.journal_of(name, made['output'], False)
+    first = profile['sender'] + 1
+    receivers = norm_journal.known(journal, list(range(first, first + profile['receivers'])))
+    for mark in journal.marks.values():
+        states = {r.node: journal.state(mark, r) for r in receivers}
+        left = tuple(node for node, state in states.items() if state in ('no', 'later'))
+        listed = sum(state == 'yes' for state in states.values())
+        members = sum(state != 'struck' for state in states.values())
+        if mark.outcome == 'expired':
+            wants(f'{name}, left of watermark {mark.number}', mark.left, left)
+        if mark.outcome == 'satisfied':
+            wants(f'{name}, watermark {mark.number} has enough', True, listed >= min(mark.quorum or len(receivers), members))
+    return len(journal.marks)
+
+
+def check_journal() -> str:
+    """Tables of recorded journals, of one made by hand, and bad input."""
+    journals = [(name, made) for name, made, _ in runs() if 'output' in made]
+    marks = sum(check_states(name, made) for name, made in journals)
+    wants('the table of examples/repair.json', (0, REPAIR_TABLE.encode(), ''), run('journal', 'table', REPAIR))
+    wants('quorum and strike', (0, STRUCK_LINES.encode(), ''), run('journal', 'table', '--csv', '--receivers', '2', '-', given=STRUCK.encode()))
+    cut = STRUCK.encode()[:STRUCK.index('done 2')]
+    wants('a journal so far', 0, run('journal', 'table', '--so-far', '-', given=cut)[0])
+    refused('a journal without its end', 3, 'journal', 'table', '-', given=cut)
+    refused('a journal that is cut in a line', 3, 'journal', 'table', '-', given=STRUCK.encode()[:-4])
+    refused('a journal that lacks a line', 3, 'journal', 'table', '-', given=STRUCK.replace('up 2 7 0 data 1 - 01\n', '').encode())
+    refused('a watermark that ends twice', 3, 'journal', 'table', '-', given=STRUCK.replace('done 2', 'done 1').encode())
+    refused('a line behind the end', 3, 'journal', 'table', '-', given=(STRUCK + 'restart 1 1 8\n').encode())
+    refused('a text that is no journal', 3, 'journal', 'table', os.path.join(ROOT, 'README.md'))
+    refused('a refused session', 3, 'journal', 'table', '-', given=b'refused line 3\n')
+    refused('a run without a journal', 3, 'journal', 'table', '-', given=WITH_PROFILE % b'')
+    return f'{len(journals)} recorded journals with {marks} watermarks, bad input'
+
+
+def arrows(made: dict[str, Any]) -> tuple[int, int]:
+    """Of a recorded run the pairs of an offer and a member that it was for, and those of them that it never came to."""
+    sender, count = made['profile']['sender'], made['profile']['receivers']
+    members, offers, came = set(range(sender, sender + count + 1)), {}, set()
+    for event in made['events']:
+        if isinstance(event, dict) and 'offer' in event:
+            offers[event['bytes']] = event['offer']
+        elif isinstance(event, dict) and ('took' in event or 'deliver' in event):
+            came.add((event['bytes'], event.get('took', event.get('deliver'))))
+    pairs = {(octets, node) for octets, source in offers.items() for node in members - {source}}
+    return len(pairs), len(pairs - came)
+
+
+def check_ladder() -> str:
+    """Pictures of recorded runs are whole XML, with as many broken arrows as datagrams never came, and bad input."""
+    count, broken = 0, 0
+    for name, made, r in runs():
+        if not any('offer' in event for event in made['events'] if isinstance(event, dict)):
+            continue
+        drawn = tree.fromstring(norm_ladder.ladder(r, norm_ladder.Part(0, 2**64)))
+        lost = sum(e.get('class') == 'lost' for e in drawn.iter()) - 1  # one stands in the legend
+        ups = sum(bool(e.get('up')) for e in made['events'] if isinstance(e, dict))
+        signs = sum(e.get('class') in ('up', 'drop') for e in drawn.iter()) - 2
+        wants(f'broken arrows of {name}', arrows(made)[1], lost)
+        wants(f'hand-ups of {name} are marked', bool(ups), bool(signs))
+        count, broken = count + 1, broken + lost
+    part = run('journal', 'ladder', REPAIR, '--from', '16000', '--to', '16000')
+    wants('a part of a run', (0, True, False), (part[0], b'parity' in part[1], b'NACK wants' in part[1]))
+    picture = os.path.join(ROOT, 'docs', 'pictures', 'repair.svg')
+    wants('the picture in docs/pictures is that of examples/repair.json', wire.read_file(picture), run('journal', 'ladder', REPAIR)[1])
+    refused('a run that is cut', 3, 'journal', 'ladder', '-', given=text(REPAIR).encode()[:5000])
+    refused('a journal in place of a run', 3, 'journal', 'ladder', '-', given=STRUCK.encode())
+    refused('a hand-up of nothing', 3, 'journal', 'ladder', '-', given=WITH_PROFILE % b'{"up": {"object": 1}, "node": 2}')
+    refused('nothing in that part', 3, 'journal', 'ladder', REPAIR, '--from', '900000')
+    return f'{count} recorded runs, {broken} broken arrows, bad input'
+
+
+def unquantised(code: int) -> float:
+    """The round trip time in seconds that a message's code says, by RFC 5401."""
+    return (code + 1) * 1e-6 if code <= 31 else 1000.0 / math.exp((255 - code) / 13.0)
+
+
+def check_profile_row(profile: ModuleType, row: tuple[int, int, int, float, int]) -> None:
+    """A profile meets the table of keys and what was asked."""
+    size, receivers, rate, loss, rtt = row
+    asked = profile.Asked(size, -(-size // profile.MOST_OBJECT), receivers, rate, loss, rtt)
+    keys, name = profile.choose(asked).keys, f'the profile of {row}'
+    wants(f'{name} is one', None, norm_keys.fault_of(keys))
+    wants(f'{name} keeps to the rate', True, keys['gap'] == 1 or (keys['e'] + 60) * 8e6 / keys['gap'] <= rate)
+    short = sum(math.comb(keys['max_n'], n) * (1 - loss) ** n * loss ** (keys['max_n'] - n) for n in range(keys['b']))
+    wants(f'{name} has parity for all receivers', True, (1 - short) ** receivers >= 0.98)
+    wants(f'{name} has no more auto than parity', True, keys['auto'] <= keys['max_n'] - keys['b'])
+    wants(f'{name} waits a round trip and two turns', True, keys['grtt'] >= rtt + 2 * keys['step'] and keys['step'] == keys['gap'])
+    said = unquantised(keys['grtt_code']) * 1e6
+    wants(f'{name} says its round trip time', True, keys['grtt'] <= said * 1.001 <= keys['grtt'] * 1.09)
+    symbols = -(-asked.object_octets() // keys['e'])
+    new = asked.objects * (symbols + -(-symbols // keys['b']) * keys['auto'])
+    least = asked.objects + 1 + new + -(-2 * keys['grtt'] // keys['step']) + 2 + 2
+    wants(f'{name} has turns for all symbols and a flush', True, keys['turns'] >= least)
+
+
+def check_profile() -> str:
+    """Profiles over many transfers, the two forms of one, and what no profile meets."""
+    profile, count = module('profile'), 0
+    sizes, rates, losses = (1, 64, 1401, 65_537, 9_000_000, 40_000_000), (10_000, 1_000_000, 50_000_000), (0.0, 0.001, 0.05, 0.4)
+    for size, receivers, rate, loss, rtt in itertools.product(sizes, (1, 7, 16), rates, losses, (0, 200_000)):
+        check_profile_row(profile, (size, receivers, rate, loss, rtt))
+        count += 1
+    script = run('profile', '--size', '1M', '--rate', '10M', '--loss', '2', '--receivers', '3')
+    document = run('profile', '--size', '1M', '--rate', '10M', '--loss', '2', '--receivers', '3', '--toml')
+    lines = [line for line in script[1].decode().splitlines() if not line.startswith('#')]
+    wants('a profile is made of set lines', True, bool(lines) and all(re.fullmatch(r'set \w+ \d+', line) for line in lines))
+    keys = [line.replace(' = ', ' ') for line in document[1].decode().splitlines() if not line.startswith('#')]
+    wants('both forms say the same', lines, [f'set {key}' for key in keys])
+    refused('more turns than a run has', 3, 'profile', '--size', '1G', '--rate', '1G', '--loss', '90', '--receivers', '16')
+    refused('a rate that no gap meets', 3, 'profile', '--size', '1M', '--rate', '900')
+    refused('more objects than a script has', 3, 'profile', '--size', '1M', '--rate', '1M', '--objects', '5k')
+    for name, words in (('no size', ['--rate', '1M']), ('a size of nothing', ['--size', '0', '--rate', '1M']),
+                        ('17 receivers', ['--size', '1', '--rate', '1M', '--receivers', '17']),
+                        ('a loss of all', ['--size', '1', '--rate', '1M', '--loss', '91'])):
+        wants(f'{name}, its status', 2, run('profile', *words)[0])
+    return f'{count} transfers, both forms, bad input'
+
+
+def plain(page: str) -> str:
+    """A manual page's source without its fonts and its spaces that do not break."""
+    return re.sub(r'\\f[A-Z]|(?m:^\.(?:B|I|BR|IB|BI) )|"', '', page.replace('\\~', ' ').replace('\\-', '-'))
+
+
+def check_commands(docs: str, page: str) -> None:
+    """norm-script(5) has each command of docs/session.md, and says of the same ones that they are not built."""
+    entries = {' '.join(head.split()): says for head, says in re.findall(r'(?m)^\.TP\n(.+)\n((?:[^.\n].*\n)+)', page)}
+    for command, runs_today in re.findall(r'(?m)^\| `(P [a-z][^`]*)` \| [^|]*\|(?: ([^|]*) \|)?$', docs):
+        says = entries.get(command)
+        wants(f'norm-script(5) has `{command}`', True, says is not None)
+        wants(f'norm-script(5) says that `{command}` is not built', runs_today == 'no', 'Not built yet' in (says or ''))
+
+
+def check_manual() -> str:
+    """The manual says what the table of keys and docs/session.md say, and each tool tells how it is called."""
+    wants('the keys of norm-script(5)', (0, b'', ''), run('keys', '--check', tool=os.path.join(ROOT, 'man')))
+    docs, program, script = (plain(text(os.path.join(ROOT, *path))) for path in
+                             (('docs', 'session.md'), ('man', 'normd.1'), ('man', 'norm-script.5')))
+    check_commands(docs, script)
+    for status in sorted(set(re.findall(r'(?m)^\| (\d+) \| ', docs))):
+        wants(f'normd(1) has status {status}', True, f'\n.TP\n{status}\n' in program)
+    for line in re.findall(r'`((?:info|data|flush|eot|adv|ackreq|opaque|nack|ack|report) SRC [^`]*)`', docs):
+        wants(f'normd(1) has the line {line}', True, f'\n{line}\n' in program)
+    for tool in ('pcap', 'journal', 'profile'):
+        wants(f'{tool} --help', 0, run(tool, '--help')[0])
+        wants(f'tools/README.md shows {tool}', True, f'$ tools/{tool} ' in text(os.path.join(TOOLS, 'README.md')))
+    return f'{len(norm_keys.keys())} keys, the tools\' own help'
+
+
+PARTS = {'wire': check_wire, 'pcap': check_pcap, 'journal': check_journal, 'ladder': check_ladder, 'profile': check_profile,
+         'manual': check_manual}
+
+
+def main() -> int:
+    for part in sys.argv[1:] or PARTS:
+        before = len(failures)
+        says = PARTS[part]()
+        if len(failures) == before:
+            print(f'tools: {part}: {says}')
+    for failure in failures[:20]:
+        print(f'tools: {failure}')
+    return 1 if failures else 0
+
+
+if __name__ == '__main__':
+    sys.exit(main())
