@@ -1,19 +1,3 @@
-#!/bin/sh
-# Takes the figure of docs/performance.md on reading a message: 64 DATA of 1,440 octets with EXT_FTI, each decoded 16,384
-# times, five times over. The program is proved and built by LLVM in a folder of its own.
-set -e
-top=$(cd "$(dirname "$0")/.." && pwd)
-work=$(mktemp -d)
-trap 'rm -rf "$work"' EXIT
-mkdir -p "$work/crates/decodes/src"
-for crate in norm_base fec_plan norm_ext norm_objmsg norm_cmdmsg norm_fbmsg norm_codec; do
-    cp -r "$top/crates/$crate" "$work/crates/"
-    rm -rf "$work/crates/$crate/must-fail"
-done
-cd "$work"
-grep -E '^(norm_base|fec_plan|norm_ext|norm_objmsg|norm_cmdmsg|norm_fbmsg|norm_codec):' "$top/crates.txt" > crates.txt
-printf 'decodes: norm_base fec_plan norm_ext norm_objmsg norm_codec\n' >> crates.txt
-cat > crates/decodes/src/main.rt << 'END'
 //! Decodes 64 datagrams of 1,440 octets, each 16,384 times.
 #![tactic(auto)]
 
@@ -82,6 +66,3 @@ fn main(rt: HostRuntime) -> Result<(), Fail> {
     }
     Ok(())
 }
-END
-(cd crates/decodes && rt run > run.txt 2> log.txt) || { tail -20 crates/decodes/log.txt; exit 1; }
-cat crates/decodes/run.txt

@@ -1,29 +1,3 @@
-#!/bin/sh
-# Takes the figures of docs/performance.md on what receivers ask a sender for: the least times of some rounds of 1,000 requests on
-# one thread, of a program that is proved and built by LLVM in a folder of its own.
-set -e
-top=$(cd "$(dirname "$0")/.." && pwd)
-work=$(mktemp -d)
-trap 'rm -rf "$work"' EXIT
-mkdir -p "$work/crates/round/src" "$work/crates/round/proofs/admit_all"
-for crate in gf_field norm_base fec_plan rs_block norm_ext norm_order norm_send_rules obj_buffer nack_union; do
-    cp -r "$top/crates/$crate" "$work/crates/"
-    rm -rf "$work/crates/$crate/must-fail"
-done
-cd "$work"
-cat > crates.txt << 'END'
-gf_field:
-norm_base:
-fec_plan: thiserror
-rs_block: gf_field norm_base
-norm_ext: byteorder norm_base fec_plan
-norm_order: norm_base fec_plan gf_field
-norm_send_rules: norm_base fec_plan gf_field norm_ext norm_order thiserror
-obj_buffer: norm_base fec_plan gf_field rs_block norm_ext norm_order
-nack_union: norm_base fec_plan norm_order norm_send_rules norm_ext obj_buffer
-round: norm_base fec_plan norm_ext nack_union
-END
-cat > crates/round/src/main.rt << 'END'
 //! Times of rounds of requests.
 #![tactic(auto)]
 
@@ -180,15 +154,3 @@ fn main(rt: HostRuntime) -> io::Result<()> {
     println!(rt; "1000000 times nothing wanted in {idle} ns")?;
     Ok(())
 }
-END
-cat > crates/round/proofs/admit_all/Invariants.antt << 'END'
-use Rattle.std.proofs.Common.{◌≡◌, length}
-use Rattle.round.proofs.admit_all.Given as goal
-
-abbrev pub invariant-loop-index : goal.invariant-loop-index
-invariant-loop-index l = (l.union.kept.first ≡ 0) × (length l.union.kept.objects ≡ l.index)
-END
-(cd crates/round && rt run > run.txt 2> log.txt) || { grep -v ': proved' crates/round/log.txt | tail -40; exit 1; }
-for run in 1 2 3; do
-    crates/round/out/round
-done

@@ -1,19 +1,3 @@
-#!/bin/sh
-# Takes the figures of docs/performance.md on the networks in memory: 12,000 offers of 1,440 octets to 16 receivers over the
-# network by chance (loss 100, late 3), all taken; the time of an offer and of a take, and the most memory that it had. The
-# program is proved and built by LLVM in a folder of its own.
-set -e
-top=$(cd "$(dirname "$0")/.." && pwd)
-work=$(mktemp -d)
-trap 'rm -rf "$work"' EXIT
-mkdir -p "$work/crates/network/src"
-for crate in norm_base norm_memory; do
-    cp -r "$top/crates/$crate" "$work/crates/"
-    rm -rf "$work/crates/$crate/must-fail"
-done
-cd "$work"
-printf 'norm_base:\nnorm_memory: norm_base rand_pcg rand_core\nnetwork: norm_base norm_memory\n' > crates.txt
-cat > crates/network/src/main.rt << 'END'
 //! 12,000 offers of 1,440 octets to 16 receivers over chance, all taken.
 #![tactic(auto)]
 
@@ -62,8 +46,3 @@ fn main(rt: HostRuntime) -> Result<(), Fail> {
     println!(rt; "{status}")?;
     Ok(())
 }
-END
-(cd crates/network && rt run > run.txt 2> log.txt) || { tail -20 crates/network/log.txt; exit 1; }
-for run in 1 2 3; do
-    crates/network/out/network | grep -E '^takes|VmHWM'
-done

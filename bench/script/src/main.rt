@@ -1,18 +1,3 @@
-#!/bin/sh
-# Takes the figure of docs/performance.md on the reader of scripts: a script of 4,096 commands of 16,384 hexadecimal digits each,
-# 67 MB, read five times. The program is proved and built by LLVM in a folder of its own.
-set -e
-top=$(cd "$(dirname "$0")/.." && pwd)
-work=$(mktemp -d)
-trap 'rm -rf "$work"' EXIT
-mkdir -p "$work/crates/scripts/src"
-for crate in norm_base norm_text norm_script; do
-    cp -r "$top/crates/$crate" "$work/crates/"
-    rm -rf "$work/crates/$crate/must-fail"
-done
-cd "$work"
-printf 'norm_base:\nnorm_text: norm_base hex itoa simdutf8\nnorm_script: norm_base norm_text hex thiserror arrayvec itoa\nscripts: norm_base norm_script\n' > crates.txt
-cat > crates/scripts/src/main.rt << 'END'
 //! Reads a script of 4,096 commands of 16,384 hexadecimal digits each.
 #![tactic(auto)]
 
@@ -54,6 +39,3 @@ fn main(rt: HostRuntime) -> Result<(), Fail> {
     }
     Ok(())
 }
-END
-(cd crates/scripts && rt run > run.txt 2> log.txt) || { tail -20 crates/scripts/log.txt; exit 1; }
-cat crates/scripts/run.txt

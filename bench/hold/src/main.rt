@@ -1,29 +1,3 @@
-#!/bin/sh
-# Takes the figures of docs/performance.md on what a receiver holds: an object of 16 MiB that is put and handed up, of source
-# symbols alone and with every fifth replaced by parity, beside the solver alone; and the memory of a hold (by GNU time). The
-# program is proved and built by LLVM in a folder of its own.
-set -e
-top=$(cd "$(dirname "$0")/.." && pwd)
-work=$(mktemp -d)
-trap 'rm -rf "$work"' EXIT
-mkdir -p "$work/crates/held/src" "$work/crates/held/proofs/are_ids" "$work/crates/held/proofs/best_solve"
-for crate in gf_field norm_base fec_plan rs_block norm_ext norm_order norm_receive_rules rx_hold; do
-    cp -r "$top/crates/$crate" "$work/crates/"
-    rm -rf "$work/crates/$crate/must-fail"
-done
-cd "$work"
-cat > crates.txt << 'END'
-gf_field:
-norm_base:
-fec_plan: thiserror
-rs_block: gf_field norm_base
-norm_ext: byteorder norm_base fec_plan
-norm_order: norm_base fec_plan gf_field
-norm_receive_rules: norm_base fec_plan gf_field norm_ext norm_order
-rx_hold: norm_base fec_plan gf_field rs_block norm_ext norm_order norm_receive_rules
-held: norm_base fec_plan gf_field rs_block norm_ext norm_order norm_receive_rules rx_hold
-END
-cat > crates/held/src/main.rt << 'END'
 //! Times of a hold and of a solver; with the word `hold` or `parity` one object that is held and handed up, and with any
 //! other word nothing, so that the memory of each can be seen.
 #![tactic(auto)]
@@ -210,26 +184,3 @@ fn main(rt: HostRuntime) -> io::Result<()> {
     println!(rt; "solve alone: {solve} ns a block, {} MB/s", rate(280_000, solve))?;
     Ok(())
 }
-END
-cat > crates/held/proofs/are_ids/Invariants.antt << 'END'
-use Rattle.std.proofs.Common.{ℕ, ◌<◌, get_or}
-use Rattle.held.proofs.are_ids.Given as goal
-
-abbrev pub invariant-loop-i : goal.invariant-loop-i
-invariant-loop-i l =
-    ((a b : ℕ) → a < b → b < l.i → get_or l.ids a 0 < get_or l.ids b 0) × ((a : ℕ) → a < l.i → get_or l.ids a 0 < 255)
-END
-cat > crates/held/proofs/best_solve/Invariants.antt << 'END'
-use Rattle.std.proofs.Common.{◌≡◌}
-use Rattle.held.proofs.best_solve.Given as goal
-
-abbrev pub invariant-loop : goal.invariant-loop
-invariant-loop g l = l.solver ≡ l.fn.solver
-END
-(cd crates/held && rt run > run.txt 2> log.txt) || { grep -v ': proved' crates/held/log.txt | tail -40; exit 1; }
-for run in 1 2 3; do
-    crates/held/out/held
-done
-for word in nothing hold parity; do
-    /usr/bin/time -f "$word: %M KiB at the most" crates/held/out/held $word
-done

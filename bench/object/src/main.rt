@@ -1,27 +1,3 @@
-#!/bin/sh
-# Takes the figures of docs/performance.md on the symbols of an object: the least time of some runs on one thread, of a program
-# that is proved and built by LLVM in a folder of its own.
-set -e
-top=$(cd "$(dirname "$0")/.." && pwd)
-work=$(mktemp -d)
-trap 'rm -rf "$work"' EXIT
-mkdir -p "$work/crates/object/src"
-for crate in gf_field norm_base fec_plan rs_block norm_ext norm_order obj_buffer; do
-    cp -r "$top/crates/$crate" "$work/crates/"
-    rm -rf "$work/crates/$crate/must-fail"
-done
-cd "$work"
-cat > crates.txt << 'END'
-gf_field:
-norm_base:
-fec_plan: thiserror
-rs_block: gf_field norm_base
-norm_ext: byteorder norm_base fec_plan
-norm_order: norm_base fec_plan gf_field
-obj_buffer: norm_base fec_plan gf_field rs_block norm_ext norm_order
-object: norm_base fec_plan rs_block obj_buffer
-END
-cat > crates/object/src/main.rt << 'END'
 //! Times of the symbols of an object.
 #![tactic(auto)]
 
@@ -140,8 +116,3 @@ fn main(rt: HostRuntime) -> io::Result<()> {
     println!(rt; "1000 times Code::parity {c} ns")?;
     Ok(())
 }
-END
-(cd crates/object && rt run > run.txt 2> log.txt) || { grep -v ': proved' crates/object/log.txt | tail -40; exit 1; }
-for run in 1 2 3; do
-    crates/object/out/object
-done

@@ -1,20 +1,3 @@
-#!/bin/sh
-# Takes the figures of docs/performance.md on digits: octets of several counts put as lower-case hexadecimal digits behind an empty
-# text that has room for them, five times over, as often as makes 256 MiB of octets. The program is proved and built by LLVM in a
-# folder of its own.
-set -e
-top=$(cd "$(dirname "$0")/.." && pwd)
-work=$(mktemp -d)
-trap 'rm -rf "$work"' EXIT
-mkdir -p "$work/crates/texts/src"
-for crate in norm_base norm_text; do
-    cp -r "$top/crates/$crate" "$work/crates/"
-    rm -rf "$work/crates/$crate/must-fail"
-done
-cd "$work"
-grep -E '^(norm_base|norm_text):' "$top/crates.txt" > crates.txt
-printf 'texts: norm_base norm_text\n' >> crates.txt
-cat > crates/texts/src/main.rt << 'END'
 //! Puts octets as digits.
 #![tactic(auto)]
 
@@ -57,6 +40,3 @@ fn main(rt: HostRuntime) -> io::Result<()> {
     }
     Ok(())
 }
-END
-(cd crates/texts && rt run > run.txt 2> log.txt) || { grep -v ': proved' crates/texts/log.txt | tail -40; exit 1; }
-crates/texts/out/texts

@@ -1,39 +1,3 @@
-#!/bin/sh
-# Takes the figure of docs/performance.md on the producers' ring: 16,384 commands from one thread to another through a ring of 16,384
-# places, twenty times. The program is proved and built by LLVM in a folder of its own.
-set -e
-top=$(cd "$(dirname "$0")/.." && pwd)
-work=$(mktemp -d)
-trap 'rm -rf "$work"' EXIT
-mkdir -p "$work/crates/ring/src"
-for crate in gf_field norm_base fec_plan norm_ext norm_order norm_send_rules mark_book producer_gate; do
-    cp -r "$top/crates/$crate" "$work/crates/"
-    rm -rf "$work/crates/$crate/must-fail"
-done
-cd "$work"
-cat > crates.txt << 'END'
-gf_field:
-norm_base:
-fec_plan: thiserror
-norm_ext: byteorder norm_base fec_plan
-norm_order: norm_base fec_plan gf_field
-norm_send_rules: norm_base fec_plan gf_field norm_ext norm_order thiserror
-mark_book: norm_base fec_plan norm_ext norm_order norm_send_rules byteorder indexmap
-producer_gate: norm_base norm_send_rules mark_book crossbeam_queue atomic_table
-ring: norm_base producer_gate
-END
-for loop in 'insist tries' 'produce items' 'pull_all pulls'; do
-    set -- $loop
-    mkdir -p "crates/ring/proofs/$1"
-    cat > "crates/ring/proofs/$1/Invariants.antt" << END
-use Rattle.std.proofs.Common.{◌≡◌}
-use Rattle.ring.proofs.$1.Given as goal
-
-abbrev pub invariant-$2 : goal.invariant-$2
-invariant-$2 g l = l.seat.gate ≡ l.initial.seat.gate
-END
-done
-cat > crates/ring/src/main.rt << 'END'
 //! One thread submits with four seats in turn, and another pulls.
 #![tactic(auto)]
 
@@ -120,6 +84,3 @@ fn main(rt: HostRuntime) -> Result<(), Fail> {
     }
     Ok(())
 }
-END
-(cd crates/ring && rt run > run.txt 2> log.txt) || { tail -20 crates/ring/log.txt; exit 1; }
-cat crates/ring/run.txt
