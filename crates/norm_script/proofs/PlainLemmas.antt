@@ -9,8 +9,9 @@ use Rattle.hex.specs.Hex.{encode_lower}
 use Rattle.norm_base.specs.Keys.{row_of, keys, key_named, place_of_word}
 use Rattle.norm_base.specs.declared.key.Key.{Key}
 use Rattle.norm_base.specs.declared.key.Key.TheVariants as key
-use Rattle.norm_script.specs.Meaning.{number_for, value_for, setting_of, contents, data_of, file_of, write_of, restart_of, mark_of, strike_of, verb_with, verb_alone, verb_of_words, verb_of, command_of, meaning_of_words, meaning_of, is_passed_over, ends_with_return, or_return}
+use Rattle.norm_script.specs.Meaning.{number_for, value_for, setting_of, contents, data_of, file_of, write_of, restart_of, mark_of, strike_of, verb_with, verb_alone, verb_of_words, verb_of, command_of, meaning_of_words, meaning_of, is_passed_over, or_spelling}
 use Rattle.norm_script.specs.Plain.{lower_case, has_digits, lower_behind, lower_words, lower_line, plain_line}
+use Rattle.norm_script.specs.Spelling.{spelling_of}
 use Rattle.norm_script.specs.Steps.{◌>>=◌}
 use Rattle.norm_script.specs.Text.{split_at_first}
 use Rattle.norm_script.specs.Words.{is_text, is_number, value_of, number_within, contents_of, is_name}
@@ -264,15 +265,15 @@ Says line (Command p v) = (is_passed_over line ≡ false) × (plain_line line �
 
 pub line_says : (line : List ℕ) → IfOk (meaning_of line) (Says line)
 line_says line = IfOk-cond (Says line) (not (nat_le (length line) 16500)) (Err (why.LongLine (length line)))
-    (cond (is_passed_over line) (Ok Nothing) (or_return (ends_with_return line) (meaning_of_words line))) (λ e. tt)
-    (λ e. IfOk-cond (Says line) (is_passed_over line) (Ok Nothing) (or_return (ends_with_return line) (meaning_of_words line)) (λ f. f)
-    (λ f. returned f (ends_with_return line) (meaning_of_words line) (words_written line)))
+    (cond (is_passed_over line) (Ok Nothing) (or_spelling (spelling_of line) (meaning_of_words line))) (λ e. tt)
+    (λ e. IfOk-cond (Says line) (is_passed_over line) (Ok Nothing) (or_spelling (spelling_of line) (meaning_of_words line)) (λ f. f)
+    (λ f. spelled f (spelling_of line) (meaning_of_words line) (words_written line)))
   where
     counted : is_passed_over line ≡ false → (m : Meaning) → IsWritten line m → Says line m
     counted f Nothing h = absurd h
     counted f (Set k v) h = (f, h)
     counted f (Command p v) h = (f, h)
 
-    returned : is_passed_over line ≡ false → (b : Bool) (r : Result Meaning Why) → IfOk r (IsWritten line) → IfOk (or_return b r) (Says line)
-    returned f b (Ok m) h = counted f m h
-    returned f b (Err reason) h = tt
+    spelled : is_passed_over line ≡ false → (s : Option Why) (r : Result Meaning Why) → IfOk r (IsWritten line) → IfOk (or_spelling s r) (Says line)
+    spelled f s (Ok m) h = counted f m h
+    spelled f s (Err reason) h = tt

@@ -1,4 +1,4 @@
-use Rattle.std.proofs.Common.{◌≡◌, sym, ap, ◌+◌, ◌*◌, ◌≤◌, ℕ, List, [], ◌∷◌, length, Option, Some, None, Result, Ok, Err, Bool, refl, arith, nat_eq, nat_le, cond, codes}
+use Rattle.std.proofs.Common.{◌≡◌, sym, ap, ◌+◌, ◌*◌, ◌≤◌, ℕ, List, [], ◌∷◌, length, Option, Some, None, Result, Ok, Err, refl, arith, nat_eq, nat_le, cond, codes}
 use Rattle.std.specs.Prelude.{◌&&◌, IfOk, IfSome, not}
 use Rattle.std.specs.Option.{ok_or, option_map}
 use Rattle.std.specs.Result.{result_ok}
@@ -6,8 +6,9 @@ use Rattle.std.specs.Cmp.Lexicographic.{same_text}
 use Rattle.hex.specs.Hex.{decode_of}
 use Rattle.hex.proofs.HexLemmas.{decode_of-ok}
 use Rattle.norm_base.specs.Keys.{keys, key_named}
-use Rattle.norm_script.specs.Meaning.{contents, data_of, file_of, write_of, restart_of, mark_of, strike_of, verb_with, verb_alone, verb_of_words, verb_of, command_of, meaning_of_words, meaning_of, is_passed_over, ends_with_return, or_return, setting_of, value_for}
+use Rattle.norm_script.specs.Meaning.{contents, data_of, file_of, write_of, restart_of, mark_of, strike_of, verb_with, verb_alone, verb_of_words, verb_of, command_of, meaning_of_words, meaning_of, is_passed_over, or_spelling, setting_of, value_for}
 use Rattle.norm_script.specs.Scripts.{IsContents, IsVerb, IsMeaning}
+use Rattle.norm_script.specs.Spelling.{spelling_of}
 use Rattle.norm_script.specs.Steps.{◌>>=◌}
 use Rattle.norm_script.specs.Text.{split_at_first}
 use Rattle.norm_script.specs.Words.{is_text, is_number, value_of, number_within, contents_of, is_name}
@@ -163,15 +164,15 @@ words-ok line fits =
     (IfOk-ok_or (Parted line) (split_at_first 32 line) why.NoForm (split-length 32 line))
     (λ p len. IfOk-cond IsMeaning (is_text p.0 (codes "set")) (setting_of p.1) (command_of p.0 p.1) (λ e. setting-ok p.1) (λ e. command-ok p.0 p.1 (omega (arith, len))))
 
-return-ok : (b : Bool) (r : Result Meaning Why) → IfOk r IsMeaning → IfOk (or_return b r) IsMeaning
-return-ok b (Ok m) h = h
-return-ok b (Err e) h = tt
+spelling-ok : (s : Option Why) (r : Result Meaning Why) → IfOk r IsMeaning → IfOk (or_spelling s r) IsMeaning
+spelling-ok s (Ok m) h = h
+spelling-ok s (Err e) h = tt
 
 pub meaning-ok : (line : List ℕ) → IfOk (meaning_of line) IsMeaning
 meaning-ok line =
     IfOk-cond IsMeaning (not (nat_le (length line) 16500)) (Err (why.LongLine (length line)))
-    (cond (is_passed_over line) (Ok Nothing) (or_return (ends_with_return line) (meaning_of_words line))) (λ e. tt)
-    (λ e. IfOk-cond IsMeaning (is_passed_over line) (Ok Nothing) (or_return (ends_with_return line) (meaning_of_words line)) (λ e. tt)
-    (λ f. return-ok (ends_with_return line) (meaning_of_words line) (words-ok line (grind arith))))
+    (cond (is_passed_over line) (Ok Nothing) (or_spelling (spelling_of line) (meaning_of_words line))) (λ e. tt)
+    (λ e. IfOk-cond IsMeaning (is_passed_over line) (Ok Nothing) (or_spelling (spelling_of line) (meaning_of_words line)) (λ e. tt)
+    (λ f. spelling-ok (spelling_of line) (meaning_of_words line) (words-ok line (grind arith))))
 
 pub ruleset laws = (meaning-ok)

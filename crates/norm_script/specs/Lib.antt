@@ -1,4 +1,6 @@
 pub mod Text
+pub mod Spelling
+pub mod Sentences
 pub mod Words
 pub mod Steps
 pub mod Meaning

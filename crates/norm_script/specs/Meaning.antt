@@ -1,7 +1,8 @@
-use Rattle.std.specs.Prelude.{ℕ, ◌-◌, ◌==◌, ◌||◌, Bool, not, List, length, codes, nat_le, Option, None, Some, Result, Ok, Err, if◌then◌else◌, slice_index}
+use Rattle.std.specs.Prelude.{ℕ, ◌==◌, ◌||◌, Bool, not, List, length, codes, nat_le, Option, None, Some, Result, Ok, Err, if◌then◌else◌, slice_index}
 use Rattle.std.specs.Option.{ok_or}
 use Rattle.norm_base.specs.Keys.{row_of, keys, key_named, place_of_word}
 use Rattle.norm_base.specs.declared.key.Key.{Key}
+use Rattle.norm_script.specs.Spelling.{spelling_of}
 use Rattle.norm_script.specs.Steps.{◌>>=◌}
 use Rattle.norm_script.specs.Text.{split_at_first}
 use Rattle.norm_script.specs.Words.{is_text, is_number, value_of, number_within, contents_of, is_name}
@@ -118,16 +119,13 @@ meaning_of_words line = do
 abbrev pub is_passed_over : List ℕ → Bool
 is_passed_over line = length line == 0 || slice_index line 0 == 35
 
--- a carriage return at a line's end is the reason why it has no meaning
-abbrev pub or_return : Bool → Result Meaning Why → Result Meaning Why
-or_return returns (Ok meaning) = Ok meaning
-or_return returns (Err reason) = Err (if returns then why.CarriageReturn else reason)
-
-abbrev pub ends_with_return : List ℕ → Bool
-ends_with_return line = slice_index line (length line - 1) == 13
+-- where a line that has no meaning is spelt as no script is, that is why
+abbrev pub or_spelling : Option Why → Result Meaning Why → Result Meaning Why
+or_spelling spelling (Ok meaning) = Ok meaning
+or_spelling spelling (Err reason) = Err (elim spelling [ Some other ↦ other | None ↦ reason ])
 
 -- what a line of at most 16,500 octets means
 abbrev pub meaning_of : List ℕ → Result Meaning Why
 meaning_of line =
     if not (nat_le (length line) 16500) then Err (why.LongLine (length line)) else
-    (if is_passed_over line then Ok Nothing else or_return (ends_with_return line) (meaning_of_words line))
+    (if is_passed_over line then Ok Nothing else or_spelling (spelling_of line) (meaning_of_words line))

@@ -4,7 +4,7 @@
 //! meaning; `why_refused` says why that line has none. `read_commands` reads a script for a profile that is
 //! given, and `read` reads as much of the grammar as it is told to. `generate` writes a script to try a
 //! session with. The program reads with these, and `norm_session` runs what they read. `split_at_first` cuts a
-//! text at a line feed or a space, for whoever reads other lines.
+//! text at a line feed or a space, and `spelling_of` says how an editor spelt a line, for whoever reads other lines.
 #![tactic(auto)]
 
 mod built;
@@ -16,7 +16,9 @@ mod meaning;
 mod reader;
 mod refusal;
 mod script;
+mod sentences;
 mod setting;
+mod spelling;
 mod words;
 
 pub use crate::generator::generate;
@@ -26,4 +28,5 @@ pub use crate::reader::{read, read_commands, read_script, why_refused};
 pub use crate::refusal::{Extent, Refusal, ScriptFault, Why};
 pub use crate::script::{Line, Script, Verb};
 pub use crate::setting::Setting;
+pub use crate::spelling::spelling_of;
 pub use crate::words::split_at_first;

@@ -1,11 +1,13 @@
 //! What a line of a script means by itself.
 
 ghost use Rattle.std.specs.Prelude.{◌≡◌, ◌≤◌, ◌==◌, ◌||◌, length, slice_index, IfOk};
-ghost use Rattle.norm_script.specs.Meaning.{number_for, value_for, setting_of, contents, data_of, file_of, write_of, restart_of, mark_of, strike_of, verb_with, verb_alone, verb_of, command_of, meaning_of_words, is_passed_over, ends_with_return, meaning_of};
+ghost use Rattle.norm_script.specs.Meaning.{number_for, value_for, setting_of, contents, data_of, file_of, write_of, restart_of, mark_of, strike_of, verb_with, verb_alone, verb_of, command_of, meaning_of_words, is_passed_over, meaning_of};
+ghost use Rattle.norm_script.specs.Spelling.{spelling_of};
 ghost use Rattle.norm_script.specs.Text.{split_at_first};
 
 use crate::refusal::Why;
 use crate::script::Verb;
+use crate::spelling::spelling_of;
 use crate::words::{contents_of, is_number, name_of, number_within, split_at_first, value_up_to};
 use norm_base::{Key, Memory, Octets};
 use std::alloc::Global;
@@ -255,14 +257,6 @@ fn is_passed_over(line: &[u8]) -> bool
     line.is_empty() || line[0] == b'#'
 }
 
-/// Whether a line's last octet is a carriage return.
-fn ends_with_return(line: &[u8]) -> bool
-    requires { 1 ≤ length line.now }
-    ensures { result ≡ ends_with_return line.now }
-{
-    line[line.len() - 1] == b'\r'
-}
-
 /// What a line means, or why it has no meaning.
 pub(crate) fn meaning_of(alloc: Global, line: &[u8]) -> Result<Result<Meaning, Why>, Memory>
     ensures { IfOk result (λ meaning. meaning ≡ meaning_of line.now) }
@@ -277,7 +271,6 @@ pub(crate) fn meaning_of(alloc: Global, line: &[u8]) -> Result<Result<Meaning, W
     }
     match meaning_of_words(alloc, line)? {
         Ok(meaning) => Ok(Ok(meaning)),
-        Err(_) if ends_with_return(line) => Ok(Err(Why::CarriageReturn)),
-        Err(why) => Ok(Err(why)),
+        Err(why) => Ok(Err(spelling_of(line).unwrap_or(why))),
     }
 }

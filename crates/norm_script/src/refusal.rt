@@ -1,7 +1,6 @@
 //! Why a script is refused.
 
 use norm_base::Key;
-use std::fmt;
 use thiserror::Error;
 
 /// How much of the grammar is read.
@@ -14,57 +13,65 @@ pub enum Extent {
 }
 
 /// Why a line of a script has no meaning.
-#[derive(Clone, Copy, Debug, PartialEq, Eq, Error)]
+#[derive(Clone, Copy, Debug, PartialEq, Eq)]
 pub enum Why {
-    #[error("it ends with a carriage return: write lines that end with a line feed alone")]
+    /// It begins with the byte order mark of UTF-8.
+    ByteOrderMark,
+    /// It has an octet as UTF-16 has.
+    Utf16,
+    /// It ends with a carriage return.
     CarriageReturn,
-    #[error("the line has {octets} octets, and a line has at most 16500")]
+    /// It ends with a space.
+    SpaceAtEnd,
+    /// It has two spaces in a row.
+    TwoSpaces,
+    /// It has so many octets, and is longer than a line may be.
     LongLine { octets: u64 },
-    #[error("a script has at most 8192 lines")]
+    /// It is a line more than a script may have.
     ManyLines,
-    #[error("it is neither `set KEY VALUE` nor `P VERB ..`, P a producer's number from 1 on")]
+    /// It is neither a setting nor a command.
     NoForm,
-    #[error("it sets no key that there is")]
+    /// It sets no key that there is.
     NoKey,
-    #[error("the value of {} is a number, in decimal digits without a sign or leading zeros", .key.row().name)]
+    /// The key's value is a number, and no number is there.
     NoNumber { key: Key },
-    #[error("the value is none of the words of {}", .key.row().name)]
+    /// The key's value is a word, and another is there.
     NoWord { key: Key },
-    #[error("{value} is below {}, the least {}", .key.row().least, .key.row().name)]
+    /// The value is below the key's least.
     Below { key: Key, value: u32 },
-    #[error("the value is above {}, the greatest {}", .key.row().greatest, .key.row().name)]
+    /// The value is above the key's greatest.
     Above { key: Key },
-    #[error("the key {} was set on line {line}", .key.row().name)]
+    /// The key was set on this line already.
     Twice { key: Key, line: u32 },
-    #[error("no key is set here: keys are set before every command")]
+    /// A key is set behind a command.
     AfterCommand,
-    #[error("max_n is {max_n}, and has to be at least b, which is {b}")]
+    /// The settings make max_n less than b.
     MaxBelowB { max_n: u32, b: u32 },
-    #[error("blocks * b * e is {blocks} * {b} * {e}, which is above 16777216")]
+    /// The settings make a stream's buffer too long.
     Buffer { blocks: u32, b: u32, e: u32 },
-    #[error("a command is data, file, open, write, close, mark, restart or strike, each with its words")]
+    /// No command has this verb, or these words.
     NoVerb,
-    #[error("contents are an even number of hexadecimal digits, 2 to 16384")]
+    /// Contents are no hexadecimal digits, or too many.
     NoContents,
-    #[error("a name is 1 to 64 letters, digits, `.`, `_` or `-`, and does not begin with `.`")]
+    /// It is no name of a file.
     NoName,
-    #[error("an instance is a number from 0 to 65535")]
+    /// It is no instance id.
     NoInstance,
-    #[error("a quorum is a number from 1 to 16")]
+    /// It is no quorum.
     NoQuorum,
-    #[error("a node is a number from 1 to 4294967294")]
+    /// It is no node id.
     NoNode,
-    #[error("a script has at most 4096 commands")]
+    /// It is a command more than a script may have.
     ManyCommands,
-    #[error("the producer is {producer}, and there are {producers}")]
+    /// There is no such producer.
     Producer { producer: u32, producers: u32 },
-    #[error("the key {} cannot be set yet", .key.row().name)]
+    /// The key cannot be set yet.
     KeyUnbuilt { key: Key },
-    #[error("a session runs only `1 data HEX` yet")]
+    /// The command is not built yet.
     VerbUnbuilt,
-    #[error("a session runs at most 256 commands yet")]
+    /// It is a command more than a session runs yet.
     ManyUnbuilt,
-    #[error("the object has {octets} octets, and a symbol {e}")]
+    /// The object is longer than a symbol, which a session does not send yet.
     Object { octets: u64, e: u32 },
 }
 
@@ -73,19 +80,6 @@ pub enum Why {
 pub struct Refusal {
     pub line: u32,
     pub why: Why,
-}
-
-impl fmt::Display for Refusal {
-    fn fmt<W: fmt::Write>(&self, f: &mut fmt::Formatter<W>) -> fmt::Result {
-        match self.why {
-            Why::CarriageReturn => write!(
-                f,
-                "line {} ends with a carriage return: write lines that end with a line feed alone",
-                self.line
-            ),
-            why => write!(f, "line {}: {}", self.line, why),
-        }
-    }
 }
 
 /// Why a script was not read.

@@ -137,7 +137,7 @@ fn said(alloc: Global, text: &[u8], extent: Extent) -> Result<String, Fail> {
 }
 
 /// Refused scripts and the reasons.
-const REASONS: [(&[u8], Extent, &str); 6] = [
+const REASONS: [(&[u8], Extent, &str); 10] = [
     (
         b"set e 64\n\nset e 65",
         Extent::Whole,
@@ -156,12 +156,32 @@ const REASONS: [(&[u8], Extent, &str); 6] = [
     (
         b"set e 64\r\n",
         Extent::Whole,
-        "line 1 ends with a carriage return: write lines that end with a line feed alone",
+        "line 1: it ends with a carriage return: write lines that end with a line feed alone",
     ),
     (
         b"set e 64\n1 data 00010203040506070809000102030405060708090001020304050607080900010203040506070809000102030405060708090001020304050607080900010203 ",
         Extent::Built,
-        "line 2: contents are an even number of hexadecimal digits, 2 to 16384",
+        "line 2: it ends with a space",
+    ),
+    (
+        b"1 data 616",
+        Extent::Built,
+        "line 1: contents are an even number of hexadecimal digits, 2 to 16384",
+    ),
+    (
+        b"\xef\xbb\xbfset e 64",
+        Extent::Whole,
+        "line 1: it begins with a byte order mark: write UTF-8 without one",
+    ),
+    (
+        b"s\0e\0t\0",
+        Extent::Whole,
+        "line 1: it has an octet 0, 254 or 255, as UTF-16 has: write ASCII or UTF-8",
+    ),
+    (
+        b"set  e 64",
+        Extent::Whole,
+        "line 1: it has two spaces in a row: words have one between them",
     ),
     (
         b"set e 64\n1 data 0001020304050607080900010203040506070809000102030405060708090001020304050607080900010203040506070809000102030405060708090001020304",

@@ -1,0 +1,67 @@
+//! How editors spell a text otherwise than a script is spelt.
+
+ghost use Rattle.std.specs.Prelude.{◌≡◌, ◌≤◌, ◌==◌, false, length};
+ghost use Rattle.std.specs.List.{list_any};
+ghost use Rattle.norm_script.specs.Spelling.{begins_with_mark, is_wide, last_octet, has_two_spaces, spelling_of};
+
+use crate::refusal::Why;
+
+/// Whether a line begins with the byte order mark of UTF-8.
+fn begins_with_mark(line: &[u8]) -> bool
+    ensures { result ≡ begins_with_mark line.now }
+{
+    3 <= line.len() && line[0] == 0xef && line[1] == 0xbb && line[2] == 0xbf
+}
+
+/// Whether it has an octet 0, 254 or 255.
+fn is_wide(line: &[u8]) -> bool
+    ensures { result ≡ list_any is_wide line.now }
+{
+    line.iter().any(|octet| *octet == 0 || 254 <= *octet)
+}
+
+/// Whether it has two spaces in a row.
+fn has_two_spaces(line: &[u8]) -> bool
+    ensures { result ≡ has_two_spaces false line.now }
+{
+    let mut behind = false;
+    for octet in line {
+        let space = *octet == b' ';
+        if behind && space {
+            return true;
+        }
+        behind = space;
+    }
+    false
+}
+
+/// Whether its last octet is this one.
+fn ends_with(line: &[u8], octet: u8) -> bool
+    requires { 1 ≤ length line.now }
+    ensures { result ≡ (last_octet line.now == octet) }
+{
+    line[line.len() - 1] == octet
+}
+
+/// How a line that is not empty is spelt otherwise than a script is, as editors do. `None` where it has none of these.
+pub fn spelling_of(line: &[u8]) -> Option<Why>
+    requires { 1 ≤ length line.now }
+    ensures { result ≡ spelling_of line.now }
+{
+    if begins_with_mark(line) {
+        return Some(Why::ByteOrderMark);
+    }
+    if is_wide(line) {
+        return Some(Why::Utf16);
+    }
+    if ends_with(line, b'\r') {
+        return Some(Why::CarriageReturn);
+    }
+    if ends_with(line, b' ') {
+        return Some(Why::SpaceAtEnd);
+    }
+    if has_two_spaces(line) {
+        return Some(Why::TwoSpaces);
+    }
+    None
+}
