@@ -1,4 +1,4 @@
-use Rattle.std.specs.Prelude.{ℕ, ◌==◌, ◌&&◌, ◌||◌, nat_le, not, List, [], ◌∷◌, ◌++◌, length, Bool, slice_index}
+use Rattle.std.specs.Prelude.{ℕ, ◌==◌, ◌&&◌, ◌||◌, nat_le, not, List, ◌∷◌, ◌++◌, length, Bool, slice_index}
 use Rattle.std.specs.List.{list_all}
 
 -- The names of files, as a script may give them.

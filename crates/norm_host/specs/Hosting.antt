@@ -1,4 +1,4 @@
-use Rattle.std.specs.Prelude.{ℕ, List, [], ◌∷◌, ◌++◌, Bool, true, false, Option, Some, if◌then◌else◌}
+use Rattle.std.specs.Prelude.{ℕ, List, [], ◌∷◌, ◌++◌, Bool, true, false, Some, if◌then◌else◌}
 use Rattle.norm_base.specs.Faults.{one_more}
 use Rattle.norm_base.specs.Network.{Network}
 use Rattle.norm_base.specs.Settings.{Settings}
@@ -7,7 +7,7 @@ use Rattle.norm_base.specs.declared.kinds.FabricKind.TheVariants as kind
 use Rattle.norm_base.specs.declared.kinds.Local.{Local}
 use Rattle.norm_memory.specs.Chances.{ChanceState, chance_unstarted, chance_started, chance_offer, chance_take}
 use Rattle.norm_memory.specs.Direct.{direct_offer}
-use Rattle.norm_memory.specs.Networks.{NetworkState, unstarted, started, next_answer, after_take}
+use Rattle.norm_memory.specs.Networks.{NetworkState, unstarted, started, after_take}
 
 -- A network that is one of two by the profile of its last start: its starts, which of the two it is, and how often a
 -- call failed.

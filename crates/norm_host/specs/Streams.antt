@@ -1,7 +1,9 @@
+use Rattle.std.specs.Prelude.{ℕ, List, string_bytes}
+use Rattle.norm_host.specs.declared.folder.FolderFiles.{FolderFiles}
 use Rattle.norm_host.specs.declared.std_source.StdSource.{StdSource}
 use Rattle.norm_host.specs.declared.std_sink.StdSink.{StdSink}
 
--- What stands under a source and a sink of the process.
+-- What stands under a source and a sink of the process, and which folder files are of.
 
 -- the reader under a source
 abbrev pub reader_of : {R : Type 0} → StdSource R → R
@@ -10,3 +12,7 @@ reader_of s = s.reader
 -- the writer under a sink
 abbrev pub writer_of : {W : Type 0} → StdSink W → W
 writer_of s = s.writer
+
+-- the folder of files, as its path
+abbrev pub folder_of : {F : Type 0} → FolderFiles F → List ℕ
+folder_of f = string_bytes f.folder

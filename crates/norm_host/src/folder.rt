@@ -1,13 +1,18 @@
 //! The files of one folder.
 
-ghost use Rattle.std.specs.Prelude.{◌≡◌, ◌<◌, ◌≤◌, None, IsTrue, length, string_bytes, IfSome, IfNone, IfOk, OnOk, is_err, true, false};
+ghost use Rattle.std.specs.Prelude.{◌≡◌, ◌↔◌, ◌<◌, ◌≤◌, None, Ok, IsTrue, IsOk, length, string_bytes, IfOk, IfErr, OnOk, is_err, true, false};
+ghost use Rattle.std.specs.Fs.{metadata_len, file_type, IsFile};
+ghost use Rattle.std.specs.Io.Seek.{MovesTo};
+ghost use Rattle.std.specs.IoError.{error_kind};
+ghost use Rattle.std.specs.declared.io.ErrorKind.TheVariants.{NotFound, IsADirectory};
 ghost use Rattle.std.specs.List.{list_all};
 ghost use Rattle.norm_base.specs.Faults.{Counts, file_failed};
 ghost use Rattle.norm_host.specs.FileNames.{is_name_octet, is_file_name, path_in};
+ghost use Rattle.norm_host.specs.Streams.{folder_of};
 
-use norm_base::{Failed, FileFault, Files, Memory};
+use norm_base::{Cause, Failed, FileFault, Files, Memory};
 use std::alloc::{AllocError, Global};
-use std::fs;
+use std::fs::{self, Metadata};
 use std::io::{self, ErrorKind, Read, Seek, SeekFrom};
 
 /// Whether it is an ASCII letter or digit, `.`, `_` or `-`.
@@ -45,6 +50,36 @@ fn path_in(alloc: Global, folder: &str, name: &str) -> Result<String, AllocError
     Ok(path)
 }
 
+/// How many octets a plain file has, as its metadata say. Any other file is as a folder.
+fn length_in(metadata: &Metadata) -> io::Result<u64>
+    ensures file { IsOk result ↔ IsFile (file_type metadata.now) }
+    ensures length { IfOk result (λ n. n ≡ metadata_len metadata.now) }
+    ensures other { IfErr result (λ error. error_kind error ≡ IsADirectory) }
+{
+    if metadata.is_file() {
+        return Ok(metadata.len());
+    }
+    Err(io::Error::from(ErrorKind::IsADirectory))
+}
+
+/// Goes to an offset of a file.
+fn seek_to<S: Seek>(file: &mut S, offset: u64) -> io::Result<()>
+    ensures { MovesTo (S.stream_position file.old) (S.stream_position file.new) offset result }
+{
+    file.seek(SeekFrom::Start(offset))?;
+    Ok(())
+}
+
+/// Why a call gave nothing: no file has that name exactly where the error is of that kind.
+fn fault_of(error: &io::Error) -> FileFault
+    ensures { (result ≡ FileFault.Absent) ↔ (error_kind error.now ≡ NotFound) }
+{
+    if error.kind() == ErrorKind::NotFound {
+        return FileFault::Absent;
+    }
+    FileFault::Failed
+}
+
 /// The files of one folder. A name that is none of a file there, also one with a slash or that begins with a
 /// `.`, is absent, and put nowhere. A read of 0 octets, and want of memory, are faults. It tells nothing of
 /// what the files hold.
@@ -54,85 +89,102 @@ pub struct FolderFiles<F> {
     alloc: Global,
     folder: String,
     faults: u64,
+    cause: Option<Cause>,
 }
 
 impl<F: fs::Files + Drop> FolderFiles<F> {
     /// The files of this folder.
-    pub fn of(alloc: Global, files: F, folder: &str) -> Result<FolderFiles<F>, Memory> {
+    pub fn of(alloc: Global, files: F, folder: &str) -> Result<FolderFiles<F>, Memory>
+        ensures { IfOk result (λ made. folder_of made ≡ folder.now) }
+    {
         Ok(FolderFiles {
             files,
             alloc,
             folder: String::from_str(alloc, folder)?,
             faults: 0,
+            cause: None,
         })
     }
 
-    /// The path of a file in the folder.
-    fn path(&self, name: &str) -> Result<String, FileFault>
-        ensures { IfOk result (λ path. (string_bytes path ≡ path_in (string_bytes self.now.folder) name.now) × IsTrue (is_file_name name.now)) }
+    /// What the last failed call was about. `None` before one, and where there was no memory to keep it.
+    pub fn cause(&self) -> Option<&Cause> {
+        self.cause.as_ref()
+    }
+
+    /// The path of a file in the folder. A name that is none of a file is one that is not found, and no other is.
+    fn path(&self, name: &str) -> io::Result<String>
+        ensures path { IfOk result (λ path. (string_bytes path ≡ path_in (string_bytes self.now.folder) name.now) × IsTrue (is_file_name name.now)) }
+        ensures absent { IfErr result (λ error. (error_kind error ≡ NotFound) ↔ (is_file_name name.now ≡ false)) }
     {
         if !is_file_name(name.as_bytes()) {
-            return Err(FileFault::Absent);
+            return Err(io::Error::from(ErrorKind::NotFound));
         }
-        path_in(self.alloc, &self.folder, name).map_err(|_| FileFault::Failed)
+        Ok(path_in(self.alloc, &self.folder, name)?)
     }
 
     /// How many octets the plain file at this path has.
-    fn plain_length(&self, path: &str) -> Result<u64, FileFault> {
-        let metadata = fs::metadata(&self.files, path).map_err(|e| fault_of(&e))?;
-        if metadata.is_file() {
-            return Ok(metadata.len());
-        }
-        Err(FileFault::Failed)
+    fn plain_length(&self, path: &str) -> io::Result<u64> {
+        length_in(&fs::metadata(&self.files, path)?)
     }
 
     /// How many octets a file has.
-    fn length_of(&self, name: &str) -> Result<u64, FileFault> {
+    fn length_of(&self, name: &str) -> io::Result<u64> {
         let path = self.path(name)?;
         self.plain_length(path.as_str())
     }
 
-    /// Reads at least one octet of a file.
-    fn read_of(&self, name: &str, offset: u64, buf: &mut [u8]) -> Result<usize, FileFault>
+    /// Reads at least one octet of a file, from an offset on.
+    fn read_of(&self, name: &str, offset: u64, buf: &mut [u8]) -> io::Result<usize>
         ensures { IfOk result (λ n. (0 < n) × (n ≤ length buf.old)) }
     {
         let path = self.path(name)?;
         self.plain_length(path.as_str())?;
-        let mut file = fs::open(&self.files, path.as_str()).map_err(|e| fault_of(&e))?;
-        if file.seek(SeekFrom::Start(offset)).is_err() {
-            return Err(FileFault::Failed);
-        }
-        match file.read(buf) {
-            Ok(n) if n > 0 => Ok(n),
-            _ => Err(FileFault::Failed),
+        let mut file = fs::open(&self.files, path.as_str())?;
+        seek_to(&mut file, offset)?;
+        match file.read(buf)? {
+            0 => Err(io::Error::from(ErrorKind::UnexpectedEof)),
+            n => Ok(n),
         }
     }
 
     /// Writes a file anew, unless what has its name is no plain file.
-    fn write_of(&self, name: &str, bytes: &[u8]) -> Result<(), FileFault> {
+    fn write_of(&self, name: &str, bytes: &[u8]) -> io::Result<()> {
         let path = self.path(name)?;
-        if self.plain_length(path.as_str()) == Err(FileFault::Failed) {
-            return Err(FileFault::Failed);
+        if let Err(error) = self.plain_length(path.as_str()) {
+            if fault_of(&error) == FileFault::Failed {
+                return Err(error);
+            }
         }
-        fs::write(&self.files, path.as_str(), bytes).map_err(|_| FileFault::Failed)
+        fs::write(&self.files, path.as_str(), bytes)
     }
 
-    /// Counts a call that failed.
-    fn count<T>(&mut self, answer: &Result<T, FileFault>)
-        ensures { Counts self.old.faults self.new.faults (file_failed answer.now) }
+    /// Keeps what a failed call was about, and counts it.
+    fn keep(&mut self, name: &str, error: io::Error)
+        ensures { Counts self.old.faults self.new.faults true }
     {
-        if let Err(FileFault::Failed) = answer {
-            self.faults = self.faults.saturating_add(1);
+        self.faults = self.faults.saturating_add(1);
+        self.cause = match path_in(self.alloc, &self.folder, name) {
+            Ok(path) => Some(Cause::File { path, error }),
+            Err(_) => None,
+        };
+    }
+
+    /// What a call answers. One that failed is counted.
+    fn answer<T>(&mut self, name: &str, done: io::Result<T>) -> Result<T, FileFault>
+        ensures same { IfOk result (λ x. done ≡ Ok x) }
+        ensures counted { Counts self.old.faults self.new.faults (file_failed result) }
+    {
+        match done {
+            Ok(x) => Ok(x),
+            Err(error) => match fault_of(&error) {
+                FileFault::Absent => Err(FileFault::Absent),
+                FileFault::Failed => {
+                    self.keep(name, error);
+                    Err(FileFault::Failed)
+                }
+            },
         }
     }
-}
-
-/// Why a call gave nothing.
-fn fault_of(error: &io::Error) -> FileFault {
-    if error.kind() == ErrorKind::NotFound {
-        return FileFault::Absent;
-    }
-    FileFault::Failed
 }
 
 impl<F: fs::Files + Drop> Files for FolderFiles<F> {
@@ -141,23 +193,21 @@ impl<F: fs::Files + Drop> Files for FolderFiles<F> {
     ghost fault_count = { λ s. s.faults };
 
     fn length(&mut self, name: &str) -> Result<u64, FileFault> {
-        let answer = self.length_of(name);
-        self.count(&answer);
-        answer
+        let done = self.length_of(name);
+        self.answer(name, done)
     }
 
     fn read_at(&mut self, name: &str, offset: u64, buf: &mut [u8]) -> Result<usize, FileFault> {
-        let answer = self.read_of(name, offset, buf);
-        self.count(&answer);
-        answer
+        let done = self.read_of(name, offset, buf);
+        self.answer(name, done)
     }
 
     fn put(&mut self, name: &str, bytes: &[u8]) -> Result<(), Failed> {
-        if self.write_of(name, bytes).is_ok() {
-            return Ok(());
+        if let Err(error) = self.write_of(name, bytes) {
+            self.keep(name, error);
+            return Err(Failed);
         }
-        self.faults = self.faults.saturating_add(1);
-        Err(Failed)
+        Ok(())
     }
 
     fn faults(&self) -> u64 {

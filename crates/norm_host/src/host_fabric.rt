@@ -7,10 +7,12 @@ ghost use Rattle.norm_host.specs.Hosting.{is_chance, network_of, host_told, host
 ghost use Rattle.norm_memory.specs.Chances.{chance_started};
 ghost use Rattle.norm_memory.specs.Networks.{started, next_answer};
 
-use norm_base::{Datagram, Fabric, FabricFault, FabricKind, Local, Memory, NodeId, Profile};
+use norm_base::{Cause, Datagram, Fabric, FabricFault, FabricKind, Local, Memory, NodeId, Profile};
 use norm_memory::{ChanceFabric, DirectFabric};
 use std::alloc::Global;
+use std::io::{self, ErrorKind};
 use std::marker::Model;
+use std::net::{Ipv4Addr, SocketAddr, SocketAddrV4};
 
 /// Begins a session over the network that the profile names. There is none for `udp`.
 fn begin(
@@ -40,6 +42,15 @@ pub struct HostFabric {
     direct: DirectFabric,
     chance: ChanceFabric,
     faults: u64,
+    cause: Option<Cause>,
+}
+
+/// What a start with `udp` was about: its port is not bound, since there is no network of that kind yet.
+fn unbound(profile: &Profile) -> Cause {
+    Cause::Socket {
+        address: SocketAddr::from(SocketAddrV4::new(Ipv4Addr::LOCALHOST, profile.port)),
+        error: io::Error::from(ErrorKind::Unsupported),
+    }
 }
 
 impl Model for HostFabric {
@@ -61,7 +72,13 @@ impl HostFabric {
             direct: DirectFabric::new(alloc)?,
             chance: ChanceFabric::new(alloc)?,
             faults: 0,
+            cause: None,
         })
+    }
+
+    /// What the last failed start was about. `None` before one.
+    pub fn cause(&self) -> Option<&Cause> {
+        self.cause.as_ref()
     }
 }
 
@@ -85,6 +102,7 @@ impl Fabric for HostFabric {
         if let Err(fault) = begun {
             if fault == FabricFault::Failed {
                 self.faults = self.faults.saturating_add(1);
+                self.cause = Some(unbound(profile));
             }
             return Err(fault);
         }

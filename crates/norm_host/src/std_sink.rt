@@ -1,12 +1,12 @@
 //! A writer of std as a sink.
 
-ghost use Rattle.std.specs.Prelude.{◌≡◌, None, is_err, OnOk};
+ghost use Rattle.std.specs.Prelude.{◌≡◌, None, true, is_err, OnOk};
 ghost use Rattle.std.specs.Io.KnownBytes.{Appends};
 ghost use Rattle.norm_base.specs.Faults.{Counts};
 ghost use Rattle.norm_host.specs.Streams.{writer_of};
 
-use norm_base::{Failed, Sink};
-use std::io::Write;
+use norm_base::{Cause, Failed, Sink};
+use std::io::{self, Write};
 
 /// A writer of std as a sink. It tells nothing of what was written, but what the writer tells goes on: a
 /// write that was Ok wrote all octets and flushed them.
@@ -14,6 +14,7 @@ use std::io::Write;
 pub struct StdSink<W> {
     writer: W,
     faults: u64,
+    cause: Option<Cause>,
 }
 
 impl<W: Write> StdSink<W> {
@@ -22,7 +23,25 @@ impl<W: Write> StdSink<W> {
         ensures writer { writer_of result ≡ writer }
         ensures faults { ⟦<StdSink<W> as Sink>⟧.fault_count result ≡ 0 }
     {
-        StdSink { writer, faults: 0 }
+        StdSink {
+            writer,
+            faults: 0,
+            cause: None,
+        }
+    }
+
+    /// What the last failed write was about. `None` before one.
+    pub fn cause(&self) -> Option<&Cause> {
+        self.cause.as_ref()
+    }
+
+    /// Keeps why a write failed, and counts it.
+    fn keep(&mut self, error: io::Error)
+        ensures writer { writer_of self.new ≡ writer_of self.old }
+        ensures counted { Counts self.old.faults self.new.faults true }
+    {
+        self.faults = self.faults.saturating_add(1);
+        self.cause = Some(Cause::Output { error });
     }
 }
 
@@ -35,11 +54,15 @@ impl<W: Write> Sink for StdSink<W> {
         ensures passes { OnOk result (Appends (W.contents (writer_of self.old)) (W.contents (writer_of self.new)) bytes.now) }
         ensures cause { Counts self.old.faults self.new.faults (is_err result) }
     {
-        if self.writer.write_all(bytes).is_ok() && self.writer.flush().is_ok() {
-            return Ok(());
+        if let Err(error) = self.writer.write_all(bytes) {
+            self.keep(error);
+            return Err(Failed);
         }
-        self.faults = self.faults.saturating_add(1);
-        Err(Failed)
+        if let Err(error) = self.writer.flush() {
+            self.keep(error);
+            return Err(Failed);
+        }
+        Ok(())
     }
 
     fn faults(&self) -> u64 {

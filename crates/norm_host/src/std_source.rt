@@ -1,12 +1,12 @@
 //! A reader of std as a source.
 
-ghost use Rattle.std.specs.Prelude.{◌≡◌, ◌+◌, ◌^◌, ◌<◌, ◌≤◌, None, Some, IsTrue, length, is_err, IfOk, OnOk, OnErr};
+ghost use Rattle.std.specs.Prelude.{◌≡◌, ◌↔◌, ◌+◌, ◌^◌, ◌<◌, ◌≤◌, None, Some, true, IsTrue, length, is_err, IfOk, OnOk, OnErr};
 ghost use Rattle.std.specs.Io.KnownBytes.{ReadConsumes};
 ghost use Rattle.norm_base.specs.Faults.{Counts};
 ghost use Rattle.norm_host.specs.Streams.{reader_of};
 
-use norm_base::{Failed, Source};
-use std::io::Read;
+use norm_base::{Cause, Failed, Source};
+use std::io::{self, ErrorKind, Read};
 
 /// The octets that a source gives at most.
 const MOST: u64 = (1 << 63) - 1;
@@ -19,6 +19,7 @@ pub struct StdSource<R> {
     reader: R,
     given: u64,
     faults: u64,
+    cause: Option<Cause>,
 }
 
 impl<R: Read> StdSource<R> {
@@ -32,12 +33,28 @@ impl<R: Read> StdSource<R> {
             reader,
             given: 0,
             faults: 0,
+            cause: None,
         }
+    }
+
+    /// What the last failed read was about. `None` before one.
+    pub fn cause(&self) -> Option<&Cause> {
+        self.cause.as_ref()
+    }
+
+    /// Keeps why a read failed, and counts it.
+    fn keep(&mut self, error: io::Error)
+        ensures reader { reader_of self.new ≡ reader_of self.old }
+        ensures given { self.new.given ≡ self.old.given }
+        ensures counted { Counts self.old.faults self.new.faults true }
+    {
+        self.faults = self.faults.saturating_add(1);
+        self.cause = Some(Cause::Input { error });
     }
 
     /// Whether it may give so many octets more.
     fn has_room(&self, more: u64) -> bool
-        ensures { IsTrue result → self.now.given + more < 2 ^ 63 }
+        ensures { IsTrue result ↔ (self.now.given + more < 2 ^ 63) }
     {
         more <= MOST && self.given <= MOST - more
     }
@@ -59,15 +76,19 @@ impl<R: Read> Source for StdSource<R> {
         ensures cause { Counts self.old.faults self.new.faults (is_err result) }
     {
         if !self.has_room(buf.len() as u64) {
-            self.faults = self.faults.saturating_add(1);
+            self.keep(io::Error::from(ErrorKind::FileTooLarge));
             return Err(Failed);
         }
-        let Ok(n) = self.reader.read(buf) else {
-            self.faults = self.faults.saturating_add(1);
-            return Err(Failed);
-        };
-        self.given += n as u64;
-        Ok(n)
+        match self.reader.read(buf) {
+            Ok(n) => {
+                self.given += n as u64;
+                Ok(n)
+            }
+            Err(error) => {
+                self.keep(error);
+                Err(Failed)
+            }
+        }
     }
 
     fn faults(&self) -> u64 {
