@@ -1,17 +1,18 @@
 #!/bin/sh
-# Runs the built program at the statuses 0, 2, 3, 4, 5 and 9, and compares what it writes on standard output and standard error.
+# Runs the built program at the statuses 0, 1, 2, 3, 4, 5 and 9, and compares what it writes on standard output and standard error.
 # It is run after `rt ci`, which leaves the program; the first row that differs is named, and ends it with status 1.
 cd "$(dirname "$0")/.." || exit 1
 program=crates/normd/out/normd
 usage='usage: normd session | show | generate N | send PROFILE | recv PROFILE NODE | hub PROFILE'
+version='normd 0.1.0'
 rows=0
 
-[ -x "$program" ] || { echo "program: $program is not there: run 'rt ci' first"; exit 1; }
+[ -x "$program" ] || { echo "program: $program is not there: run './build' first"; exit 1; }
 scratch=$(mktemp -d) || exit 1
 trap 'rm -rf "$scratch"' EXIT
 
 # row NAME STATUS OUTPUT WORD..: the input stands in $scratch/in. The output is compared with its line feeds, and so is
-# standard error with $reason, the one line that may stand there; at `some` any one line may.
+# standard error with $reason, the lines that may stand there.
 reason=
 row() {
     name=$1 wanted=$2 output=$3
@@ -19,25 +20,39 @@ row() {
     "$program" "$@" <"$scratch/in" >"$scratch/out" 2>"$scratch/err"
     ended $? "$name" "$wanted"
     printf '%b' "$output" | cmp -s - "$scratch/out" || { echo "program: $name wrote"; cat "$scratch/out"; exit 1; }
-    if [ "$reason" = some ]; then
-        [ "$(wc -l <"$scratch/err")" = 1 ] || { echo "program: $name said"; cat "$scratch/err"; exit 1; }
-    else
-        printf '%b' "$reason" | cmp -s - "$scratch/err" || { echo "program: $name said"; cat "$scratch/err"; exit 1; }
-    fi
+    said "$name"
 }
 
-# script INPUT OUTPUT: a script that is run to its end. refused LINE INPUT: one of which this line is the first without meaning.
+# said NAME: standard error is $reason, which is none for the next row.
+said() {
+    printf '%b' "$reason" | cmp -s - "$scratch/err" || { echo "program: $1 said"; cat "$scratch/err"; exit 1; }
+    reason=
+}
+
+# script INPUT OUTPUT: a script that is run to its end. refused LINE WHY INPUT: one of which this line is the first without meaning.
 script() {
     printf '%b' "$1" >"$scratch/in"
-    reason=
     row "the script $1" 0 "$2" session
 }
 
 refused() {
-    printf '%b' "$2" >"$scratch/in"
-    reason=some
-    row "the script $2" 3 "refused line $1\n" session
-    reason=
+    printf '%b' "$3" >"$scratch/in"
+    reason="line $1: $2\n"
+    row "the script $3" 3 "refused line $1\n" session
+}
+
+# unshown LINE WHY OUTPUT INPUT: datagrams of which this line spells none.
+unshown() {
+    printf '%b' "$4" >"$scratch/in"
+    reason="line $1: $2\n"
+    row "the datagrams $4" 3 "$3refused line $1\n" show
+}
+
+# words WHY WORD..: words that are no command.
+words() {
+    reason="$1\n$version\n"
+    shift
+    row "the words $*" 2 "$usage\n" "$@"
 }
 
 # digits N: that many digits 0.
@@ -51,68 +66,100 @@ ended() {
     [ "$1" = "$3" ] || { echo "program: $2 ended with status $1, and not $3"; exit 1; }
 }
 
+# Sessions, and words.
 cp examples/hello.norm "$scratch/in"
 row 'a session' 0 'enq 1 1 7 0 data 5\nup 2 7 0 data 5 - 68656c6c6f\nend objects 1 octets 5 handed 1 lost 0 satisfied 0 expired 0 cut 0\n' session
-row 'no words' 2 "$usage\n"
-row 'a word too many' 2 "$usage\n" session now
-row 'a word that is no text' 2 "$usage\n" "$(printf '\377\376')"
+words 'no word says what to do'
+words 'the word sessions is unknown' sessions
+words 'the word normd is unknown' normd session
+words 'the word hub is not built yet' hub profile
+words 'the word now is one too many behind session' session now
+words 'the word now is one too many behind show' show now
+words 'a word is not UTF-8' "$(printf '\377\376')"
 script '' 'end objects 0 octets 0 handed 0 lost 0 satisfied 0 expired 0 cut 0\n'
 one='enq 1 1 1 0 data 1\nup 2 1 0 data 1 - 61\nend objects 1 octets 1 handed 1 lost 0 satisfied 0 expired 0 cut 0\n'
 script '1 data 61\n' "$one"
 script '1 data 61' "$one"
 script '# a comment\n\n1 data 61\n\n# \0303\0251' "$one"
 script 'set instance 7\nset e 64\nset b 4\n1 data 68656c6c6f\n' 'enq 1 1 7 0 data 5\nup 2 7 0 data 5 - 68656c6c6f\nend objects 1 octets 5 handed 1 lost 0 satisfied 0 expired 0 cut 0\n'
-refused 2 "set e 64\n1 data $(digits 130)\n"
-refused 1 '1 mark\n'
-refused 1 '1 mark 1\n'
-refused 1 '1 strike 2\n'
-refused 1 'set e 63\n'
-refused 3 '#\nset e 64\nset e 64\n'
-refused 2 '1 data 61\nset e 64\n1 mark\n'
-refused 1 '1 data 6\n'
-refused 1 'set e\n'
-refused 1 'set e 064\n'
-refused 1 'set  e 64\n'
-refused 2 '\n1 data 61\r\n'
-refused 1 '1 data \0303\0251\n'
-refused 1 '2 data 61\n'
-refused 257 "$(digits 257 | sed 's/0/1 data 61\\n/g')"
-printf 'set e 64\n1 data 6\n' >"$scratch/in"
-reason='line 2: contents are an even number of hexadecimal digits, 2 to 16384\n'
-row 'a line without meaning' 3 'refused line 2\n' session
-printf 'set e 64\r\n' >"$scratch/in"
-reason='line 1 ends with a carriage return: write lines that end with a line feed alone\n'
-row 'a carriage return' 3 'refused line 1\n' session
-printf '1 data 61\n1 mark\n' >"$scratch/in"
-reason='line 2: a session runs only `1 data HEX` yet\n'
-row 'a command that is not built' 3 'refused line 2\n' session
-reason=
+
+# Lines of a script without a meaning, and why.
+contents='contents are an even number of hexadecimal digits, 2 to 16384'
+form='it is neither `set KEY VALUE` nor `P VERB ..`, P a producer'"'"'s number from 1 on'
+only='a session runs only `1 data HEX` yet'
+refused 2 'the object has 65 octets, and a symbol 64' "set e 64\n1 data $(digits 130)\n"
+refused 1 "$only" '1 mark\n'
+refused 1 "$only" '1 mark 1\n'
+refused 1 "$only" '1 strike 2\n'
+refused 2 "$only" '1 data 61\n1 mark\n'
+refused 1 '63 is below 64, the least e' 'set e 63\n'
+refused 1 'the value is above 200, the greatest b' 'set b 201\n'
+refused 3 'the key e was set on line 2' '#\nset e 64\nset e 64\n'
+refused 2 'no key is set here: keys are set before every command' '1 data 61\nset e 64\n1 mark\n'
+refused 2 "$contents" 'set e 64\n1 data 6\n'
+refused 1 "$contents" '1 data \0303\0251\n'
+refused 1 "$form" 'set e\n'
+refused 1 "$form" ' 1 data 61\n'
+refused 1 'the value of e is a number, in decimal digits without a sign or leading zeros' 'set e 064\n'
+refused 1 'the key receivers cannot be set yet' 'set receivers 2\n'
+refused 1 'it sets no key that there is' 'set f 64\n'
+refused 1 'the producer is 2, and there are 1' '2 data 61\n'
+refused 257 'a session runs at most 256 commands yet' "$(digits 257 | sed 's/0/1 data 61\\n/g')"
+refused 1 'it ends with a carriage return: write lines that end with a line feed alone' 'set e 64\r\n'
+refused 2 'it ends with a carriage return: write lines that end with a line feed alone' '\n1 data 61\r\n'
+refused 1 'it begins with a byte order mark: write UTF-8 without one' '\0357\0273\0277set e 64\n'
+refused 1 'it has an octet 0, 254 or 255, as UTF-16 has: write ASCII or UTF-8' '\0377\0376s\0000e\0000t\0000\n\0000'
+refused 1 'it has an octet 0, 254 or 255, as UTF-16 has: write ASCII or UTF-8' 's\0000e\0000t\0000 \0000e\0000\n'
+refused 1 'it ends with a space' '1 data 61 \n'
+refused 1 'it has two spaces in a row: words have one between them' 'set  e 64\n'
+
+# Datagrams, and lines that spell none.
 printf '1908000000000001\n\n1304E4DB0000000183CD53C40600FF3E' >"$scratch/in"
 row 'datagrams of which one is refused' 9 'refused type 9\nackreq 1 58587 33741 83.12.4 255 62 -\n' show
 printf '13041685fffffffe8068007702000001\n' >"$scratch/in"
 row 'a datagram' 0 'eot 4294967294 5765 32872 0.7.7\n' show
 printf '\n13041685fffffffe8068007702000001\n1908000000000001\n' >"$scratch/in"
 row 'datagrams behind an empty line' 9 'eot 4294967294 5765 32872 0.7.7\nrefused type 9\n' show
-printf '1908000000000001\nxy\n1908000000000001\n' >"$scratch/in"
-reason='line 2: a datagram is an even number of hexadecimal digits, at most 3000\n'
-row 'a line that is no hexadecimal' 3 'refused type 9\nrefused line 2\n' show
-reason=
 printf '16029ABB00002010' >"$scratch/in"
 row 'a datagram without a line feed' 0 'report 8208 39611\n' show
 digits 3000 >"$scratch/in"
 row 'a line of 3000 digits' 9 'refused version 0\n' show
-digits 3001 >"$scratch/in"
-reason=some
-row 'a line of 3001 digits' 3 'refused line 1\n' show
-reason=
-row 'a show with a word too many' 2 "$usage\n" show now
+unshown 1 'it has more than 3000 octets' '' "$(digits 3001)"
+unshown 2 'it has an octet that is no hexadecimal digit' 'refused type 9\n' '1908000000000001\nxy\n1908000000000001\n'
+unshown 1 'it has an odd number of hexadecimal digits' '' '190800000000000\n'
+unshown 1 'it ends with a carriage return: write lines that end with a line feed alone' '' '1908000000000001\r\n'
+unshown 1 'it begins with a byte order mark: write UTF-8 without one' '' '\0357\0273\02771908000000000001\n'
+unshown 1 'it has an octet 0, 254 or 255, as UTF-16 has: write ASCII or UTF-8' '' '1\00009\0000\n'
+unshown 1 'it ends with a space' '' '1908000000000001 \n'
+unshown 1 'it has two spaces in a row: words have one between them' '' '1908  000000000001\n'
 
+# Faults, and what they were about.
 "$program" session <. >"$scratch/out" 2>"$scratch/err"
 ended $? 'a folder as input' 4
 echo 'fault read' | cmp -s - "$scratch/out" || { echo 'program: a folder as input wrote'; cat "$scratch/out"; exit 1; }
+reason='cannot read the input: Is a directory (os error 21)\n'
+said 'a folder as input'
+"$program" show <. >"$scratch/out" 2>"$scratch/err"
+ended $? 'a folder as datagrams' 4
+reason='cannot read the input: Is a directory (os error 21)\n'
+said 'a folder as datagrams'
 
 if [ -w /dev/full ]; then
     "$program" session <examples/hello.norm >/dev/full 2>"$scratch/err"
     ended $? 'an output without room' 5
+    reason='cannot write the output: No space left on device (os error 28)\n'
+    said 'an output without room'
+fi
+"$program" session <examples/hello.norm >&- 2>"$scratch/err"
+ended $? 'an output that is closed' 5
+reason='cannot write the output: Bad file descriptor (os error 9)\n'
+said 'an output that is closed'
+
+# A script longer than the memory that the process may take.
+if (ulimit -v 200000) 2>/dev/null; then
+    { echo '#'; head -c 300000000 /dev/zero | tr '\0' '#'; } | (ulimit -v 200000; exec "$program" session) >"$scratch/out" 2>"$scratch/err"
+    ended $? 'a script that does not fit in memory' 1
+    reason='out of memory\n'
+    said 'a script that does not fit in memory'
 fi
 echo "program: $rows rows passed"

@@ -32,7 +32,7 @@ read_ends Read words i j u w r s k t is h = λ n f. (is, record { cause = h.0; n
 read_ends Done words i j u w r s k t is h = absurd h
 read_ends Words words i j u w r s k t is h = absurd h
 read_ends Datagram words i j u w r s k t is h = absurd h
-read_ends (Line n) words i j u w r s k t is h = absurd h
+read_ends (Line n why) words i j u w r s k t is h = absurd h
 read_ends (Refused refusal) words i j u w r s k t is h = absurd h
 read_ends Write words i j u w r s k t is h = absurd h
 read_ends Fabric words i j u w r s k t is h = absurd h
@@ -63,7 +63,7 @@ text_ends (Refused refusal) words text i j u w r s k t is input quiet h = λ n f
 text_ends Done words text i j u w r s k t is input quiet h = absurd h
 text_ends Words words text i j u w r s k t is input quiet h = absurd h
 text_ends Datagram words text i j u w r s k t is input quiet h = absurd h
-text_ends (Line n) words text i j u w r s k t is input quiet h = absurd h
+text_ends (Line n why) words text i j u w r s k t is input quiet h = absurd h
 text_ends Read words text i j u w r s k t is input quiet h = absurd h
 text_ends Write words text i j u w r s k t is input quiet h = absurd h
 text_ends Fabric words text i j u w r s k t is input quiet h = absurd h
@@ -129,7 +129,7 @@ last_ends Write words script journal whole i j m n u v w r s f g k l t p reads r
 last_ends Memory words script journal whole i j m n u v w r s f g k l t p reads runs writes calls h = absurd h
 last_ends Words words script journal whole i j m n u v w r s f g k l t p reads runs writes calls h = absurd h
 last_ends Datagram words script journal whole i j m n u v w r s f g k l t p reads runs writes calls h = absurd h
-last_ends (Line number) words script journal whole i j m n u v w r s f g k l t p reads runs writes calls h = absurd h
+last_ends (Line number why) words script journal whole i j m n u v w r s f g k l t p reads runs writes calls h = absurd h
 last_ends (Refused refusal) words script journal whole i j m n u v w r s f g k l t p reads runs writes calls h = absurd h
 last_ends Read words script journal whole i j m n u v w r s f g k l t p reads runs writes calls h = absurd h
 last_ends Fabric words script journal whole i j m n u v w r s f g k l t p reads runs writes calls h = absurd h

@@ -157,7 +157,7 @@ EndsSession Write before after = FailedWrite before after
 EndsSession Fabric before after = FailedCall before after
 EndsSession Words before after = ⊥
 EndsSession Datagram before after = ⊥
-EndsSession (Line n) before after = ⊥
+EndsSession (Line n why) before after = ⊥
 
 -- of words that are not a show's: they are no command exactly where the ending says so, and else a session was run
 abbrev pub Ends : Ending → List (List ℕ) → Outside → Outside → Type 0

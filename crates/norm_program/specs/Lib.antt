@@ -1,4 +1,5 @@
 pub mod StatusOf
+pub mod Reasons
 pub mod Ends
 pub mod ShowEnds
 pub mod Commands

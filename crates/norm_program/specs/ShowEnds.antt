@@ -1,9 +1,9 @@
 -- How `show` ends, and what each ending says.
-use Rattle.std.specs.Prelude.{◌≡◌, ℕ, List, Bool, true, false, codes}
+use Rattle.std.specs.Prelude.{◌≡◌, ℕ, Bool, true, false, codes}
 use Rattle.norm_base.specs.Faults.{one_more}
 use Rattle.norm_base.specs.Told.{Pieces}
 use Rattle.norm_show.specs.Progress.{ShowsAll, ShowsLess}
-use Rattle.norm_show.specs.declared.fault.ShowFault.{ShowFault}
+use Rattle.norm_show.specs.declared.fault.NoDatagram.{NoDatagram}
 use Rattle.norm_show.specs.declared.fault.ShowFault.TheVariants as fault
 use Rattle.norm_program.specs.Ends.{Outside, Says, refused_line}
 use Rattle.norm_program.specs.declared.status.Ending.{Ending}
@@ -21,10 +21,10 @@ pub record ShownAll (refused : Bool) (before after : Outside) : Type 0 where
   pub reads : after.read_faults ≡ before.read_faults
   pub writes : after.write_faults ≡ before.write_faults
 
--- A line spells no datagram: the lines before it were shown, and a last line says which it is.
-pub record ShownToLine (n : ℕ) (before after : Outside) : Type 0 where
+-- A line spells no datagram, for this reason: the lines before it were shown, and a last line says which it is.
+pub record ShownToLine (n : ℕ) (why : NoDatagram) (before after : Outside) : Type 0 where
   pub unsaid : Pieces
-  pub shows : ShowsLess (fault.Line n) before.input after.input before.written unsaid
+  pub shows : ShowsLess (fault.Line n why) before.input after.input before.written unsaid
   pub output : Says unsaid after.written before.write_faults after.write_faults (refused_line n)
   pub alone : Alone before after
   pub reads : after.read_faults ≡ before.read_faults
@@ -54,7 +54,7 @@ pub record ShownSome (before after : Outside) : Type 0 where
 abbrev pub ShowEnds : Ending → Outside → Outside → Type 0
 ShowEnds Done before after = ShownAll false before after
 ShowEnds Datagram before after = ShownAll true before after
-ShowEnds (Line n) before after = ShownToLine n before after
+ShowEnds (Line n why) before after = ShownToLine n why before after
 ShowEnds Read before after = ShownToFault before after
 ShowEnds Write before after = ShownInPart before after
 ShowEnds Memory before after = ShownSome before after
@@ -64,7 +64,7 @@ ShowEnds Fabric before after = ⊥
 ShowEnds Spent before after = ⊥
 
 -- how a line that spells no datagram ends the program: it is said, or there was no memory for that
-abbrev pub IsLineEnding : Ending → ℕ → (unwritten written : Pieces) → (before now : ℕ) → Type 0
-IsLineEnding (Line m) n unwritten written before now = (m ≡ n) × Says unwritten written before now (refused_line n)
-IsLineEnding Memory n unwritten written before now = (written ≡ unwritten) × (now ≡ before)
-IsLineEnding _ n unwritten written before now = ⊥
+abbrev pub IsLineEnding : Ending → ℕ → NoDatagram → (unwritten written : Pieces) → (before now : ℕ) → Type 0
+IsLineEnding (Line m reason) n why unwritten written before now = (m ≡ n) × (reason ≡ why) × Says unwritten written before now (refused_line n)
+IsLineEnding Memory n why unwritten written before now = (written ≡ unwritten) × (now ≡ before)
+IsLineEnding _ n why unwritten written before now = ⊥

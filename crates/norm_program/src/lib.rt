@@ -1,14 +1,17 @@
 //! The program as a library: its words (`words`), its input (`input`), what each command does (`program`, `show`), and
 //! the statuses (`status`). `normd` makes the real objects, reads the words by `arguments`, and ends with what `run` answers;
-//! `run` does for its words what `norm_main` does, which programs and tests call over objects of their own.
+//! `run` does for its words what `norm_main` does, which programs and tests call over objects of their own. What stands on
+//! standard error is in `reason`.
 #![tactic(auto)]
 
 mod input;
 mod program;
+mod reason;
 mod show;
 mod status;
 mod words;
 
 pub use crate::program::{norm_main, run};
+pub use crate::reason::{needed, say_cause};
 pub use crate::status::{Ending, Status};
 pub use crate::words::{WordsFault, arguments};

@@ -8,6 +8,7 @@ ghost use Rattle.norm_script.specs.Reading.{script_of};
 ghost use Rattle.norm_session.specs.SessionRun.{IsScript};
 
 use crate::input::{InputFault, read_all};
+use crate::reason::{explain, explain_no_text};
 use crate::show::show;
 use crate::status::{Ending, Status};
 use crate::words::WordsFault;
@@ -233,23 +234,9 @@ pub fn norm_main<R: Threads + Wait + Sync, S: Source, K: Sink, F: Fabric, D: Fil
     end_of(rt, alloc, words, input, output, fabric, files, clock).status()
 }
 
-/// Says on standard error why a line was refused.
-fn explain(rt: &impl Eprint, ending: &Ending) {
-    match ending {
-        Ending::Refused { refusal } => {
-            let _ = eprintln!(rt; "{refusal}");
-        }
-        Ending::Line { number } => {
-            let _ = eprintln!(rt;
-                "line {number}: a datagram is an even number of hexadecimal digits, at most 3000"
-            );
-        }
-        _ => {}
-    }
-}
-
 /// The program as a process: the words after its name, or why there are none, and the objects that it
-/// has. Its exit code is the status of `norm_main` for these words. Why a line was refused goes to standard error.
+/// has. Its exit code is the status of `norm_main` for these words. Why words, a line or the memory ended it goes to standard
+/// error, and `say_cause` says what a failed call was about.
 pub fn run<R: Threads + Wait + Sync + Eprint, S: Source, K: Sink, F: Fabric, D: Files, C: Clock>(
     rt: &R,
     alloc: Global,
@@ -274,11 +261,15 @@ pub fn run<R: Threads + Wait + Sync + Eprint, S: Source, K: Sink, F: Fabric, D: 
         Ok(words) => words,
         Err(WordsFault::NotText) => {
             say(output, USAGE);
+            explain_no_text(rt);
             return ExitCode::from(Ending::Words.status());
         }
-        Err(WordsFault::Memory) => return ExitCode::from(Ending::Memory.status()),
+        Err(WordsFault::Memory) => {
+            explain(rt, Ending::Memory, &[]);
+            return ExitCode::from(Ending::Memory.status());
+        }
     };
     let ending = end_of(rt, alloc, &words, input, output, fabric, files, clock);
-    explain(rt, &ending);
+    explain(rt, ending, &words);
     ExitCode::from(ending.status())
 }

@@ -8,17 +8,17 @@ ghost use Rattle.norm_program.specs.ShowEnds.{ShowEnds, IsLineEnding};
 use crate::program::{refused_line, say};
 use crate::status::Ending;
 use norm_base::{Sink, Source};
-use norm_show::ShowFault;
+use norm_show::{NoDatagram, ShowFault};
 use std::alloc::Global;
 
 /// The last line where line `number` spells no datagram, and how that ends the program.
-fn refuse_line<K: Sink>(alloc: Global, number: u64, output: &mut K) -> Ending
-    ensures { IsLineEnding result number (K.pieces output.old) (K.pieces output.new) (K.fault_count output.old) (K.fault_count output.new) }
+fn refuse_line<K: Sink>(alloc: Global, number: u64, why: NoDatagram, output: &mut K) -> Ending
+    ensures { IsLineEnding result number why (K.pieces output.old) (K.pieces output.new) (K.fault_count output.old) (K.fault_count output.new) }
 {
     match refused_line(alloc, number) {
         Ok(line) => {
             say(output, line.as_bytes());
-            Ending::Line { number }
+            Ending::Line { number, why }
         }
         Err(_) => Ending::Memory,
     }
@@ -33,7 +33,7 @@ pub(crate) fn show<S: Source, K: Sink>(alloc: Global, input: &mut S, output: &mu
     match norm_show::show(alloc, input, output) {
         Ok(false) => Ending::Done,
         Ok(true) => Ending::Datagram,
-        Err(ShowFault::Line { number }) => refuse_line(alloc, number, output),
+        Err(ShowFault::Line { number, why }) => refuse_line(alloc, number, why, output),
         Err(ShowFault::Read) => {
             say(output, b"fault read\n");
             Ending::Read

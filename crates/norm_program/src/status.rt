@@ -6,6 +6,7 @@ ghost use Rattle.norm_program.specs.StatusOf.{status_of};
 ghost use Rattle.norm_program.specs.declared.status.Ending.TheVariants as ending;
 
 use norm_script::Refusal;
+use norm_show::NoDatagram;
 use std::alloc::AllocError;
 use std::marker::Model;
 use std::process::ExitCode;
@@ -57,7 +58,7 @@ pub enum Ending {
     /// A line of the script has no meaning, or is none that a session can run today.
     Refused { refusal: Refusal },
     /// A line to be shown, of this number, spells no datagram.
-    Line { number: u64 },
+    Line { number: u64, why: NoDatagram },
     /// A read failed.
     Read,
     /// A write failed.

@@ -1,6 +1,6 @@
 //! The words of the command line.
 
-ghost use Rattle.std.specs.Prelude.{◌≡◌, ◌↔◌};
+ghost use Rattle.std.specs.Prelude.{◌≡◌, ◌↔◌, drop, map, string_bytes};
 ghost use Rattle.std.specs.IoError.{error_kind};
 ghost use Rattle.std.specs.declared.io.ErrorKind.TheVariants.{OutOfMemory};
 ghost use Rattle.norm_program.specs.declared.words.WordsFault.TheVariants as fault;
@@ -40,8 +40,18 @@ impl<T: Drop> From<AllocFailed<T>> for WordsFault {
 /// The words after the program's name.
 pub fn arguments<R: Env + Alloc<A = Global>>(rt: &R) -> Result<Vec<String>, WordsFault> {
     let mut words = Vec::new(rt.alloc());
-    for word in env::args(rt)?.skip(1) {
+    for word in env::args(rt)? {
         words.push(word)?;
     }
+    drop_first(&mut words);
     Ok(words)
+}
+
+/// Takes the first word out, which is the program's name.
+fn drop_first(words: &mut Vec<String>)
+    ensures { map string_bytes words.new.items ≡ drop 1 (map string_bytes words.old.items) }
+{
+    if !words.is_empty() {
+        words.remove(0);
+    }
 }

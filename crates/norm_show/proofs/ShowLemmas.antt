@@ -9,8 +9,9 @@ use Rattle.norm_ext.specs.Reading.{decoded}
 use Rattle.norm_script.specs.Text.{text_lines, split_at_first}
 use Rattle.norm_script.proofs.LineLemmas.{text_whole}
 use Rattle.norm_show.specs.Line.{line_of}
-use Rattle.norm_show.specs.Showing.{Showing, beside, datagram_in, shown_or_stops, line_shown, lines_shown, nothing_shown}
+use Rattle.norm_show.specs.Showing.{Showing, beside, datagram_in, why_short, why_none, shown_or_stops, line_shown, lines_shown, nothing_shown}
 use Rattle.norm_show.specs.Progress.{Progress, progress_opening, shown_from, Shows, ShowsLine, ShowsEnd, Leaves, ShowsAll, ShowsUpTo, ShowsLess}
+use Rattle.norm_show.specs.declared.fault.NoDatagram.TheVariants.{Long}
 use Rattle.norm_show.specs.declared.fault.ShowFault.{ShowFault}
 use Rattle.norm_show.specs.declared.fault.ShowFault.TheVariants as fault
 use Rattle.norm_show.proofs.SplitLemmas.{line_ends, goes_on_with, none-append}
@@ -39,7 +40,7 @@ pub shows-datagram : (n x : ℕ) (xs octets : List ℕ) (refused : Bool) (u w : 
 shows-datagram n x xs octets refused u w spelled is written =
     record {
       lines = line_of (decoded octets) ∷ [];
-      is = λ s. ap (λ o. shown_or_stops n o s) (sym spelled) ∙ ap (λ b. beside (line_of (decoded octets) ∷ []) b s) (sym is);
+      is = λ s. ap (λ o. shown_or_stops n (why_none (x ∷ xs)) o s) (sym spelled) ∙ ap (λ b. beside (line_of (decoded octets) ∷ []) b s) (sym is);
       output = written;
     }
 
@@ -49,18 +50,19 @@ pub leaves-datagram : (n : ℕ) (line octets : List ℕ) (u w : Pieces) → 0 < 
 leaves-datagram n [] octets u w some spelled front s = absurd (omega (arith, some))
 leaves-datagram n (x ∷ xs) octets u w some spelled front s =
     let it : GainsFront (gained u []) w (line_of (decoded octets)) = rw (← gained-nil u) front in
-    let same : shown_or_stops n (Some octets) s ≡ shown_or_stops n (datagram_in (x ∷ xs)) s = ap (λ o. shown_or_stops n o s) spelled in
+    let why = why_none (x ∷ xs) in
+    let same : shown_or_stops n why (Some octets) s ≡ shown_or_stops n why (datagram_in (x ∷ xs)) s = ap (λ o. shown_or_stops n why o s) spelled in
     ([], line_of (decoded octets), s.lines, ap (λ (t : Showing). t.lines) (sym same), it)
 
 -- a line that is too long spells no datagram
-pub stops-line : (n x : ℕ) (xs : List ℕ) (s : Showing) → 3000 < length (x ∷ xs) → line_shown n (x ∷ xs) s ≡ record { lines = []; refused = false; stop = Some n }
+pub stops-line : (n x : ℕ) (xs : List ℕ) (s : Showing) → 3000 < length (x ∷ xs) → line_shown n (x ∷ xs) s ≡ record { lines = []; refused = false; stop = Some (n, Long) }
 stops-line n x xs s long =
-    ap (λ (b : Bool). shown_or_stops n (cond b (result_ok (decode_of (x ∷ xs))) None) s) (lt-leb (length (x ∷ xs)) 3000 long)
+    ap (λ (b : Bool). shown_or_stops n (cond b (why_short (x ∷ xs)) Long) (cond b (result_ok (decode_of (x ∷ xs))) None) s) (lt-leb (length (x ∷ xs)) 3000 long)
 
 -- ---- faults
 
 pub leaves-kept : (why : ShowFault) (refused : Bool) (u w : Pieces) (s : Showing) → Leaves why u w s → Leaves why u w (beside [] refused s)
-leaves-kept (fault.Line n) refused u w s h = h
+leaves-kept (fault.Line n why) refused u w s h = h
 leaves-kept fault.Write refused u w s h = h
 leaves-kept fault.Memory refused u w s h = h
 leaves-kept fault.Read refused u w s h = h
@@ -68,7 +70,7 @@ leaves-kept fault.Read refused u w s h = h
 -- what is left behind lines that were written
 pub leaves-later : (why : ShowFault) (lines : List (List ℕ)) (refused : Bool) (u v w : Pieces) (s : Showing) → v ≡ gained u lines → Leaves why v w s
     → Leaves why u w (beside lines refused s)
-leaves-later (fault.Line n) lines refused u v w s written h =
+leaves-later (fault.Line n why) lines refused u v w s written h =
     (h.0, h.1 ∙ ap (λ (p : Pieces). gained p s.lines) written ∙ gained-gained u lines s.lines)
 leaves-later fault.Write lines refused u v w s written h =
     let place : gained v h.0 ≡ gained u (lines ++ h.0) = ap (λ (p : Pieces). gained p h.0) written ∙ gained-gained u lines h.0 in
@@ -155,18 +157,18 @@ leaves-ended why p line u w same none leaves more =
 -- ---- a line that is too long, whatever follows
 
 too-long : (n : ℕ) (xs more : List ℕ) → split_at_first 10 xs ≡ None → 3000 < length xs
-    → lines_shown n (text_lines (xs ++ more)) ≡ record { lines = []; refused = false; stop = Some n }
+    → lines_shown n (text_lines (xs ++ more)) ≡ record { lines = []; refused = false; stop = Some (n, Long) }
 too-long n [] more none long = absurd (omega (arith, long))
 too-long n (x ∷ xs) more none long =
     let g = goes_on_with x xs more none in
     ap (lines_shown n) g.is ∙ stops-line n x (xs ++ g.tail) (lines_shown (n + 1) g.others) (omega (arith, long, length-append xs g.tail))
 
 pub leaves-long : (p : Progress) (front : List ℕ) → split_at_first 10 p.rest ≡ None → split_at_first 10 front ≡ None → 3000 < length p.rest + length front
-    → (u : Pieces) (more : List ℕ) → Leaves (fault.Line p.number) u u (shown_from p (front ++ more))
+    → (u : Pieces) (more : List ℕ) → Leaves (fault.Line p.number Long) u u (shown_from p (front ++ more))
 leaves-long p front none front-none long u more =
     let xs : List ℕ = p.rest ++ front in
     let is = too-long p.number xs more (none-append p.rest front none front-none) (omega (arith, long, length-append p.rest front)) in
-    let P : Showing → Type 0 = λ s. Leaves (fault.Line p.number) u u (beside [] p.refused s) in
+    let P : Showing → Type 0 = λ s. Leaves (fault.Line p.number Long) u u (beside [] p.refused s) in
     subst P (sym (ap (λ (t : List ℕ). lines_shown p.number (text_lines t)) (sym (append_assoc p.rest front more)) ∙ is)) (refl, gained-nil u)
 
 -- ---- the last line
@@ -293,7 +295,7 @@ all-left why before middle after p none u v w s taken empty ended leaves =
 
 -- each fault of these is none of reading
 pub less : (why : ShowFault) (before after : Option (List ℕ)) (u w : Pieces) → ShowsUpTo why before after u w → ShowsLess why before after u w
-less (fault.Line n) before after u w shows = shows
+less (fault.Line n why) before after u w shows = shows
 less fault.Write before after u w shows = shows
 less fault.Memory before after u w shows = shows
 less fault.Read before after u w shows = absurd shows.leaves

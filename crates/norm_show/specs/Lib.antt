@@ -1,5 +1,6 @@
 pub mod Words
 pub mod Line
+pub mod Sentences
 pub mod Showing
 pub mod Progress
 pub mod ShowCause

@@ -42,7 +42,7 @@ pub record ShowsEnd (p : Progress) (refused : Bool) (unwritten written : Pieces)
 -- What a fault leaves of what is to be shown. A line that spells no datagram: all before it was written. A failed write:
 -- all before a line, and a front of that. Want of memory: all before some line.
 abbrev pub Leaves : ShowFault → (unwritten written : Pieces) → Showing → Type 0
-Leaves (fault.Line n) unwritten written s = (s.stop ≡ Some n) × (written ≡ gained unwritten s.lines)
+Leaves (fault.Line n why) unwritten written s = (s.stop ≡ Some (n, why)) × (written ≡ gained unwritten s.lines)
 Leaves fault.Write unwritten written s =
     (done : List (List ℕ)) × (line : List ℕ) × (others : List (List ℕ)) × (s.lines ≡ done ++ line ∷ others) × GainsFront (gained unwritten done) written line
 Leaves fault.Memory unwritten written s =

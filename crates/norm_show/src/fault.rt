@@ -4,13 +4,44 @@ ghost use Rattle.std.specs.Prelude.{◌≡◌};
 ghost use Rattle.norm_show.specs.declared.fault.ShowFault.TheVariants as fault;
 
 use norm_base::{Failed, Memory};
+use norm_script::Why;
 use std::alloc::AllocError;
+use std::fmt;
+
+/// Why a line spells no datagram.
+#[derive(Clone, Copy, Debug, PartialEq, Eq)]
+pub enum NoDatagram {
+    /// It has more than 3,000 octets.
+    Long,
+    /// It is spelt as no line is, as by an editor.
+    Spelt { why: Why },
+    /// It has an odd number of octets.
+    Odd,
+    /// It has an octet that is no hexadecimal digit.
+    NoDigit,
+}
+
+impl fmt::Display for NoDatagram {
+    ghost use Rattle.std.specs.Prelude.{Some};
+    ghost use Rattle.norm_show.specs.Sentences.{sentence_of_none};
+
+    ghost output = { λ why. Some (sentence_of_none why) };
+
+    fn fmt<W: fmt::Write>(&self, f: &mut fmt::Formatter<W>) -> fmt::Result {
+        match *self {
+            NoDatagram::Long => f.write_str("it has more than 3000 octets"),
+            NoDatagram::Spelt { why } => write!(f, "{why}"),
+            NoDatagram::Odd => f.write_str("it has an odd number of hexadecimal digits"),
+            NoDatagram::NoDigit => f.write_str("it has an octet that is no hexadecimal digit"),
+        }
+    }
+}
 
 /// What ended it before the input's end.
 #[derive(Clone, Copy, Debug, PartialEq, Eq)]
 pub enum ShowFault {
     /// The line of this number, from 1, spells no datagram.
-    Line { number: u64 },
+    Line { number: u64, why: NoDatagram },
     /// A read failed.
     Read,
     /// A write failed.

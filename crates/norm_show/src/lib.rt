@@ -10,6 +10,6 @@ mod shown;
 mod stream;
 mod words;
 
-pub use crate::fault::ShowFault;
+pub use crate::fault::{NoDatagram, ShowFault};
 pub use crate::shown::{Shown, show_line};
 pub use crate::stream::show;

@@ -3,15 +3,15 @@
 ghost use Rattle.std.specs.Prelude.{◌≡◌, ◌+◌, ◌≤◌, ◌<◌, ◌^◌, ◌||◌, ℕ, List, [], ◌∷◌, ◌++◌, IfOk, IfErr, OnOk, None, length};
 ghost use Rattle.norm_base.specs.Told.{Pieces};
 ghost use Rattle.norm_script.specs.Text.{split_at_first};
-ghost use Rattle.norm_show.specs.Showing.{Showing, datagram_in, line_shown};
+ghost use Rattle.norm_show.specs.Showing.{Showing, datagram_in, why_none, line_shown};
 ghost use Rattle.norm_show.specs.Progress.{Progress, progress_opening, shown_from, Shows, ShowsLine, ShowsEnd, Leaves, ShowsAll, ShowsLess};
 ghost use Rattle.norm_show.specs.ShowCause.{WriteCause, ReadCause};
 
-use crate::fault::ShowFault;
+use crate::fault::{NoDatagram, ShowFault};
 use crate::shown::show_line;
 use hex::FromHexError;
 use norm_base::{Failed, Memory, Octets, Sink, Source};
-use norm_script::split_at_first;
+use norm_script::{spelling_of, split_at_first};
 use std::alloc::Global;
 use std::marker::Model;
 
@@ -36,6 +36,23 @@ fn datagram_in(alloc: Global, line: &[u8]) -> Result<Option<Octets>, Memory>
     }
 }
 
+/// Why a line that spells no datagram spells none.
+fn why_none(line: &[u8]) -> NoDatagram
+    requires { 1 ≤ length line.now }
+    ensures { result ≡ why_none line.now }
+{
+    if line.len() > MOST_DIGITS {
+        return NoDatagram::Long;
+    }
+    if let Some(why) = spelling_of(line) {
+        return NoDatagram::Spelt { why };
+    }
+    if line.len() % 2 == 1 {
+        return NoDatagram::Odd;
+    }
+    NoDatagram::NoDigit
+}
+
 /// Shows line n. Answers whether its datagram was refused.
 fn show_text<K: Sink>(
     alloc: Global,
@@ -51,7 +68,10 @@ fn show_text<K: Sink>(
         return Ok(false);
     }
     let Some(datagram) = datagram_in(alloc, line)? else {
-        return Err(ShowFault::Line { number });
+        return Err(ShowFault::Line {
+            number,
+            why: why_none(line),
+        });
     };
     let shown = show_line(alloc, datagram.bytes())?;
     match output.write(shown.line.bytes()) {
@@ -110,6 +130,7 @@ impl Reader {
         if front.len() > MOST_DIGITS.saturating_sub(self.rest.len()) {
             return Err(ShowFault::Line {
                 number: self.number,
+                why: NoDatagram::Long,
             });
         }
         self.rest.extend_from_slice(front)?;

@@ -1,0 +1,146 @@
+//! What stands on standard error, for people: why words, a line or the memory ended the program, and what a failed call of
+//! the outside was about.
+
+ghost use Rattle.std.specs.Prelude.{◌≡◌, ◌∷◌, Some, map, string_bytes, Ok, Err, MatchResult};
+ghost use Rattle.std.specs.Fmt.{DisplaysOnOk};
+ghost use Rattle.std.specs.Process.{exit_status};
+ghost use Rattle.norm_program.specs.Reasons.{is_built, is_unbuilt, extra_reason, words_reason, has_reason, reason_of};
+ghost use Rattle.norm_program.specs.StatusOf.{status_of};
+ghost use Rattle.norm_program.specs.declared.status.Ending.TheVariants as ending;
+
+use crate::status::Ending;
+use norm_base::{Cause, Memory};
+use std::fmt;
+use std::process::ExitCode;
+
+/// The program's name and version.
+const VERSION: &str = "normd 0.1.0";
+
+/// Whether a word is a command that stands alone.
+fn is_built(word: &str) -> bool
+    ensures { result ≡ is_built word.now }
+{
+    word.as_bytes() == b"session".as_slice() || word.as_bytes() == b"show".as_slice()
+}
+
+/// Whether a word is one of the usage line that the program does not do yet.
+fn is_unbuilt(word: &str) -> bool
+    ensures { result ≡ is_unbuilt word.now }
+{
+    let word = word.as_bytes();
+    word == b"generate".as_slice()
+        || word == b"send".as_slice()
+        || word == b"recv".as_slice()
+        || word == b"hub".as_slice()
+}
+
+/// Why a command that stands alone is refused with these words behind it.
+fn say_extra<W: fmt::Write>(word: &str, others: &[String], f: &mut fmt::Formatter<W>) -> fmt::Result
+    ensures { DisplaysOnOk W.write_str_gives f.old result (Some (extra_reason word.now (map string_bytes others.now))) f.new }
+{
+    match others {
+        [] => Ok(()),
+        [extra, ..] => {
+            let extra = extra.as_str();
+            write!(f, "the word {extra} is one too many behind {word}")
+        }
+    }
+}
+
+/// Why a first word is refused, with these behind it.
+fn say_first<W: fmt::Write>(word: &str, others: &[String], f: &mut fmt::Formatter<W>) -> fmt::Result
+    ensures { DisplaysOnOk W.write_str_gives f.old result (Some (words_reason (word.now ∷ map string_bytes others.now))) f.new }
+{
+    if is_built(word) {
+        return say_extra(word, others, f);
+    }
+    if is_unbuilt(word) {
+        return write!(f, "the word {word} is not built yet");
+    }
+    write!(f, "the word {word} is unknown")
+}
+
+/// Why words are refused.
+fn say_words<W: fmt::Write>(words: &[String], f: &mut fmt::Formatter<W>) -> fmt::Result
+    ensures { DisplaysOnOk W.write_str_gives f.old result (Some (words_reason (map string_bytes words.now))) f.new }
+{
+    match words {
+        [] => f.write_str("no word says what to do"),
+        [word, others @ ..] => say_first(word.as_str(), others, f),
+    }
+}
+
+/// The reason of an ending, under the words of the call.
+#[derive(Drop)]
+pub(crate) struct Reason<'a> {
+    pub ending: Ending,
+    pub words: &'a [String],
+}
+
+impl fmt::Display for Reason<'_> {
+    ghost output = { λ r. Some (reason_of r.ending (map string_bytes r.words.now)) };
+
+    fn fmt<W: fmt::Write>(&self, f: &mut fmt::Formatter<W>) -> fmt::Result {
+        match self.ending {
+            Ending::Memory => f.write_str("out of memory"),
+            Ending::Words => say_words(self.words, f),
+            Ending::Refused { refusal } => write!(f, "{refusal}"),
+            Ending::Line { number, why } => write!(f, "line {number}: {why}"),
+            Ending::Done
+            | Ending::Datagram
+            | Ending::Read
+            | Ending::Write
+            | Ending::Fabric
+            | Ending::Spent => Ok(()),
+        }
+    }
+}
+
+impl Ending {
+    /// Whether standard error says why, beside what a failed call of the outside was about.
+    pub(crate) fn has_reason(&self) -> bool
+        ensures { result ≡ has_reason self.now }
+    {
+        matches!(
+            self,
+            Ending::Memory | Ending::Words | Ending::Refused { .. } | Ending::Line { .. }
+        )
+    }
+}
+
+/// Says on standard error why the program ended so, and beside the usage line which program it is.
+pub(crate) fn explain(rt: &impl Eprint, ending: Ending, words: &[String]) {
+    if ending.has_reason() {
+        let reason = Reason { ending, words };
+        let _ = eprintln!(rt; "{reason}");
+    }
+    if ending == Ending::Words {
+        let _ = eprintln!(rt; "{VERSION}");
+    }
+}
+
+/// Says on standard error that a word is no text, and which program it is.
+pub(crate) fn explain_no_text(rt: &impl Eprint) {
+    let _ = eprintln!(rt; "a word is not UTF-8");
+    let _ = eprintln!(rt; "{VERSION}");
+}
+
+/// Says on standard error what a failed call of the outside was about, where one failed.
+pub fn say_cause(rt: &impl Eprint, cause: Option<&Cause>) {
+    if let Some(cause) = cause {
+        let _ = eprintln!(rt; "{cause}");
+    }
+}
+
+/// What was made; or where there was no memory for it the exit code, and standard error says why.
+pub fn needed<T>(rt: &impl Eprint, made: Result<T, Memory>) -> Result<T, ExitCode>
+    ensures { MatchResult result (λ x. made ≡ Ok x) (λ code. exit_status code ≡ status_of ending.Memory) }
+{
+    match made {
+        Ok(made) => Ok(made),
+        Err(Memory) => {
+            explain(rt, Ending::Memory, &[]);
+            Err(ExitCode::from(Ending::Memory.status()))
+        }
+    }
+}
