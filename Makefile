@@ -1,4 +1,4 @@
-# Installs the proved program, its manual, the examples and the dissector. Nothing is built here: `rt ci` proves and builds.
+# Installs the proved program, its manual, the examples and the dissector. Nothing is built here: `./build` proves and builds it, and so does the gate.
 #
 #   make install PREFIX=/usr/local      DESTDIR= is put before each path
 #   make uninstall PREFIX=/usr/local
@@ -19,9 +19,9 @@ help:
 	@sed -n '1,/^PREFIX/s/^# \{0,1\}//p' Makefile
 
 proved:
-	@test -x $(program) || { echo "make: the proved program is not there: run 'rt ci' first." >&2; exit 1; }
+	@test -x $(program) || { echo "make: the proved program is not there: run './build' first." >&2; exit 1; }
 	@newer=$$($(sources) -newer $(program) -print | head -n 1); test -z "$$newer" || \
-		{ echo "make: $$newer is newer than the proved program: run 'rt ci' first." >&2; exit 1; }
+		{ echo "make: $$newer is newer than the proved program: run './build' first." >&2; exit 1; }
 
 install: proved
 	$(INSTALL) -d $(bin) $(man)/man1 $(man)/man5 $(share) $(examples)

@@ -1,6 +1,6 @@
 #!/bin/sh
-# Runs the wrapper ./normd where the program is built and where it is not, and where the tool or the unproved run fails.
-# It is run after `rt ci`; the first row that differs is named, and ends it with status 1.
+# Runs the wrapper ./normd where the program is built and where it is not, where the tool or the unproved run fails, and where the
+# program does not compile; and ./build. It is run after `rt ci`; the first row that differs is named, and ends it with status 1.
 cd "$(dirname "$0")/.." || exit 1
 top=$(pwd -P)
 usage='usage: normd session | show | generate N | send PROFILE | recv PROFILE NODE | hub PROFILE'
@@ -18,12 +18,13 @@ wrong() {
     exit 1
 }
 
-# row NAME STATUS OUTPUT LINES: what ended with $status is compared, and the lines that stand on standard error are counted.
+# row NAME STATUS OUTPUT LINES: what ended with $status is compared, and the lines that stand on standard error are counted, but for
+# those that say how long it takes.
 row() {
     rows=$((rows + 1))
     [ "$status" = "$2" ] || wrong "$1 ended with status $status, and not $2"
     [ "$(cat "$scratch/out")" = "$3" ] || wrong "$1 wrote something else"
-    [ "$(wc -l <"$scratch/err")" = "$4" ] || wrong "$1 did not write $4 lines on standard error"
+    [ "$(grep -vc '^normd: compiling and running for [0-9]* seconds\.$' "$scratch/err")" = "$4" ] || wrong "$1 did not write $4 lines on standard error"
 }
 
 # run FOLDER NORMD WORD..: from another folder; the input stands in $scratch/in.
@@ -41,7 +42,9 @@ cp examples/hello.norm "$scratch/in"
 run / "$scratch/again" session
 row 'the proved program through links' 0 "$hello" 0
 run / "$scratch/again" sessions
-row 'the proved program at other words' 2 "$usage" 0
+row 'the proved program at other words' 2 "$usage" 2
+grep -q '^the word sessions is unknown$' "$scratch/err" || wrong 'why words are refused is lost'
+grep -q '^normd [0-9.]*$' "$scratch/err" || wrong 'the version is lost'
 echo '1 mark' >"$scratch/in"
 run / "$scratch/again" session
 row 'the proved program at a refused line' 3 'refused line 1' 1
@@ -66,6 +69,13 @@ printf '#!/bin/sh\necho "run=none proved=no" >&2\nexit 2\n' >"$scratch/fake/rt"
 run / env PATH="$scratch/fake:$PATH" "$copy/normd" session
 row 'a run that failed' 125 '' 2
 
+printf '#!/bin/sh\necho "lib.rt:1:2: error[unexpected-token]: a word" >&2\necho "run=none proved=no" >&2\nexit 1\n' >"$scratch/fake/rt"
+run / env PATH="$scratch/fake:$PATH" "$copy/normd" session
+row 'a program that does not compile' 125 '' 3
+grep -q 'error\[unexpected-token\]: a word' "$scratch/err" || wrong 'what the tool says of a program that does not compile is lost'
+run / env PATH="$scratch/fake:$PATH" "$copy/build"
+row 'a build that fails' 1 '' 4
+
 run / "$copy/normd" session
 row 'the unproved program' 0 "$hello" 1
 run / "$copy/normd" "$(printf '\377\376')"
@@ -73,4 +83,12 @@ row 'a word that is no text, unproved' 125 '' 2
 (cd / && exec "$copy/normd" session) </ >"$scratch/out" 2>"$scratch/err"
 status=$?
 row 'a folder as input, unproved' 125 '' 2
+sed -i '1i fn' "$copy/crates/normd/src/main.rt"
+run / "$copy/normd" session
+[ "$status" = 125 ] || wrong "a program that does not compile ended with status $status"
+grep -q 'error\[' "$scratch/err" || wrong 'what the tool says of the program is lost'
+
+# The tool's own build, over what was proved.
+run / "$top/build"
+row './build' 0 '' 2
 echo "wrapper: $rows rows passed"
