@@ -17,6 +17,7 @@ fn insist<R: Wait>(rt: &R, gate: &Gate, seat: &mut Seat, item: u32)
     requires { seat.old.gate ≡ gate.now.id }
     ensures { seat.new.gate ≡ seat.old.gate }
 {
+    // Proof: the label names the loop for its invariant.
     'tries: for _ in rt.forever() {
         if gate.submit(rt, seat, item).is_ok() {
             break;
@@ -30,6 +31,7 @@ fn produce<R: Wait>(rt: &R, gate: &Gate, seat: &mut Seat)
     requires { seat.old.gate ≡ gate.now.id }
     ensures { seat.new.gate ≡ seat.old.gate }
 {
+    // Proof: the label names the loop for its invariant.
     'items: for item in 0..EACH {
         insist(rt, gate, seat, item + 1);
     }
@@ -45,6 +47,7 @@ fn pull_all<R: Wait>(
 )
     requires { seat.old.gate ≡ gate.now.id }
 {
+    // Proof: the label names the loop for its invariant.
     'pulls: for _ in rt.forever() {
         if into.len() >= count {
             break;

@@ -194,6 +194,7 @@ fn forget_all(past: &mut IndexMap<NodeId, Option<Position>>)
     ensures forgotten { past.new.entries ≡ map unsaid past.old.entries }
     ensures unique { IsUnique nat_eq past.new }
 {
+    // Proof: by place, since a map's values go by index in what is said of them.
     for place in 0..past.len() {
         past[place] = None;
     }

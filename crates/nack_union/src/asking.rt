@@ -21,6 +21,7 @@ pub fn ask_range(objects: &mut [Marks], first: u32, from: usize, to: usize, name
         → MoreOf (named_part named.flags (span named.first named.last)) (first + k) (get_or objects.old k d) (get_or objects.new k d) }
     ensures rest { (k : ℕ) (d : Marked) → (k < from) ⊎ (to ≤ k) → get_or objects.new k d ≡ get_or objects.old k d }
 {
+    // Proof: the label names the loop for its invariant.
     'places: for place in from..to {
         objects[place].ask_named(first + place as u32, &named);
     }
@@ -31,6 +32,7 @@ pub fn hold_all(objects: &[Marks])
     ensures planned { AllByRecursion IsPlanned objects.now }
     ensures rise { AllByRecursion (λ m. Rises m.asked) objects.now }
 {
+    // Proof: the label names the loop for its invariant.
     'objects: for object in objects {
         object.hold();
     }

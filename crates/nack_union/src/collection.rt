@@ -105,6 +105,7 @@ fn close_all(objects: &mut [Marks]) -> u32
     ensures queued { result ≡ min (new_wants objects.old) 4294967295 }
 {
     let mut queued = 0u64;
+    // Proof: the label names the loop for its invariant.
     'objects: for object in objects.iter_mut() {
         queued = queued.saturating_add(object.close() as u64);
     }
@@ -277,8 +278,10 @@ impl Collection {
     fn ask_items(&mut self, profile: &Profile, known: u32, flags: u8, items: &[u8])
         ensures { HasPart (items_part flags (items_spans profile.now known (items_named items.now))) self.old self.new }
     {
+        // Proof: what is kept is looked at, and with it that it is sound.
         let _ = &self.objects;
         let mut rest = items;
+        // Proof: the label names the loop for its invariant.
         'items: while let Some((item, behind)) = split_item(rest) {
             if let Some(at) = position_of(profile, known, item) {
                 self.ask_item(flags, at);
@@ -291,8 +294,10 @@ impl Collection {
     fn ask_ranges(&mut self, profile: &Profile, known: u32, flags: u8, items: &[u8])
         ensures { HasPart (ranges_part flags (pairs_spans profile.now known (items_named items.now))) self.old self.new }
     {
+        // Proof: what is kept is looked at, and with it that it is sound.
         let _ = &self.objects;
         let mut rest = items;
+        // Proof: the label names the loop for its invariant.
         'pairs: while let Some((first, last, behind)) = split_pair(rest) {
             if let Some(ends) = ends_of(profile, known, first, last) {
                 self.ask_pair(flags, ends.0, ends.1);
@@ -305,8 +310,10 @@ impl Collection {
     fn ask_counts(&mut self, profile: &Profile, known: u32, items: &[u8])
         ensures { HasPart (counts_part (items_spans profile.now known (items_named items.now))) self.old self.new }
     {
+        // Proof: what is kept is looked at, and with it that it is sound.
         let _ = &self.objects;
         let mut rest = items;
+        // Proof: the label names the loop for its invariant.
         'items: while let Some((item, behind)) = split_item(rest) {
             if let Some(at) = position_of(profile, known, item) {
                 self.count_block(at);
@@ -337,6 +344,7 @@ impl Collection {
         ensures earliest { self.new.earliest ≡ earliest_with self.old.earliest (map (named profile.now known) requests.entry) }
     {
         let mut earliest = self.earliest;
+        // Proof: the label names the loop for its invariant.
         'requests: for request in requests {
             self.ask_request(profile, known, &request);
             earliest = lesser(earliest, earliest_of(profile, known, &request));

@@ -55,6 +55,7 @@ fn least_of_items(profile: &Profile, known: u32, items: &[u8]) -> Option<u32>
 {
     let mut least = None;
     let mut rest = items;
+    // Proof: the label names the loop for its invariant.
     'items: while let Some((item, behind)) = split_item(rest) {
         least = lesser_at(least, position_of(profile, known, item));
         rest = behind;
@@ -94,6 +95,7 @@ fn least_of_ranges(profile: &Profile, known: u32, items: &[u8]) -> Option<u32>
 {
     let mut least = None;
     let mut rest = items;
+    // Proof: the label names the loop for its invariant.
     'pairs: while let Some((first, last, behind)) = split_pair(rest) {
         least = lesser_at(least, begin_of(profile, known, first, last));
         rest = behind;

@@ -108,6 +108,7 @@ fn insert_sources(set: &mut Mask, plan: &Plan, from: usize, to: usize)
         .saturating_sub(1)
         .div_ceil(BLOCK)
         .min(plan.blocks() as usize);
+    // Proof: the label names the loop for its invariant.
     'runs: for block in first..behind {
         let start = slot_of(block as u32, 0);
         let end = start + usize::from(plan.source_len(block as u32));

@@ -70,6 +70,7 @@ impl Mask {
     pub fn rises(&self)
         ensures { Rises self.now.members }
     {
+        // Proof: what is kept is looked at, and with it that it is sound.
         let _ = &self.words;
     }
 
@@ -96,7 +97,9 @@ impl Mask {
         ensures members { (place : ℕ) → is_member nat_lt place self.new.members ≡ (is_member nat_lt place self.old.members || in_run from to place) }
         ensures size { self.new.size ≡ self.old.size }
     {
+        // Proof: what is kept is looked at, and with it that it is sound.
         let _ = &self.words;
+        // Proof: the label names the loop for its invariant.
         'places: for place in from..to {
             self.insert(place);
         }
@@ -137,8 +140,10 @@ impl Mask {
         ensures size { self.new.size ≡ self.old.size }
         ensures other_size { other.new.size ≡ other.old.size }
     {
+        // Proof: what is kept is looked at, and with it that it is sound.
         let _ = &self.words;
         let mut new = 0;
+        // Proof: the label names the loop for its invariant.
         'places: while let Some(place) = other.take_lowest() {
             if self.insert(place) {
                 new += 1;

@@ -18,6 +18,7 @@ fn count_fresh(sent: &Mask, block: u32, from: u8, to: u8) -> u8
     ensures { result ≡ length (fresh_symbols sent.now.members block from (to - from)) }
 {
     let mut fresh = 0;
+    // Proof: the label names the loop for its invariant.
     'symbols: for symbol in from..to {
         if !sent.contains(slot_of(block, symbol)) {
             fresh += 1;
@@ -34,6 +35,7 @@ fn ask_fresh(asked: &mut Mask, sent: &Mask, block: u32, from: u8, to: u8, count:
     ensures size { asked.new.size ≡ asked.old.size }
 {
     let mut left = count;
+    // Proof: the label names the loop for its invariant.
     'symbols: for symbol in from..to {
         let slot = slot_of(block, symbol);
         if left == 0 {
@@ -52,6 +54,7 @@ fn ask_below(asked: &mut Mask, block: u32, to: u8)
     ensures members { asked.new.members ≡ with_members nat_lt (map (symbol_slot block) (range_with_len 0 to)) asked.old.members }
     ensures size { asked.new.size ≡ asked.old.size }
 {
+    // Proof: the label names the loop for its invariant.
     'symbols: for symbol in 0..to {
         asked.insert(slot_of(block, symbol));
     }
@@ -85,6 +88,7 @@ pub fn ask_counted(asked: &mut Mask, sent: &Mask, plan: &Plan, counts: &[u8])
     ensures size { asked.new.size ≡ asked.old.size }
     ensures repairable { (block : ℕ) → 0 < slice_index counts.now block → IsRepairable plan.now block }
 {
+    // Proof: the label names the loop for its invariant.
     'counted: for block in 0..plan.blocks() {
         let lacking = counts[block as usize];
         if lacking > 0 {

@@ -1,6 +1,7 @@
 //! The names, numbers and traits that every crate of normd stands on (RFC 5740 section 4.1).
 #![tactic(auto)]
 
+mod cause;
 mod clock;
 mod datagram;
 mod fabric;
@@ -16,6 +17,7 @@ mod profile;
 mod sink;
 mod source;
 
+pub use crate::cause::Cause;
 pub use crate::clock::Clock;
 pub use crate::datagram::{DATAGRAM_ROOM, Datagram, SYMBOL_ROOM};
 pub use crate::fabric::Fabric;

@@ -80,6 +80,7 @@ fn hear_items(
     ensures { IfOk result (λ _. spans.new.items ≡ with_spans width spans.old.items (items_spans profile.now known (items_named items.now))) }
 {
     let mut rest = items;
+    // Proof: the label names the loop for its invariant.
     'items: while let Some((item, behind)) = split_item(rest) {
         if let Some(at) = position_of(profile, known, item) {
             put_proper(spans, widened(width, at, at))?;
@@ -115,6 +116,7 @@ fn hear_ranges(
     ensures { IfOk result (λ _. spans.new.items ≡ with_spans width spans.old.items (filter is_proper (pairs_spans profile.now known (items_named items.now)))) }
 {
     let mut rest = items;
+    // Proof: the label names the loop for its invariant.
     'pairs: while let Some((first, last, behind)) = split_pair(rest) {
         if let Some(ends) = ends_of(profile, known, first, last) {
             put_pair(spans, width, ends.0, ends.1)?;
@@ -161,6 +163,7 @@ fn hear_counts(
     ensures { IfOk result (λ _. counts.new.items ≡ with_counts counts.old.items (items_spans profile.now known (items_named items.now))) }
 {
     let mut rest = items;
+    // Proof: the label names the loop for its invariant.
     'items: while let Some((item, behind)) = split_item(rest) {
         if let Some(at) = position_of(profile, known, item) {
             put_count(counts, count_at(at))?;
@@ -277,6 +280,7 @@ impl Heard {
     ) -> Result<(), Memory>
         ensures { IfOk result (λ _. self.new ≡ fold heard_also self.old (map (named profile.now known) requests.entry)) }
     {
+        // Proof: the label names the loop for its invariant.
         'requests: for request in requests {
             self.hear_request(profile, known, &request)?;
         }

@@ -233,6 +233,7 @@ pub(crate) fn read_head(alloc: Global, extent: Extent, text: &[u8]) -> Result<Be
     let mut head = Head::new(alloc);
     let mut rest = text;
     let mut n = 1;
+    // Proof: the label names the loop for its invariant.
     'lines: while !rest.is_empty() {
         let (line, more) = first_line(rest);
         if !head.take_line(alloc, extent, n, line)? {

@@ -135,6 +135,7 @@ fn read_from(
     let mut lines = Vec::new(alloc);
     let mut rest = text;
     let mut n = n;
+    // Proof: the label names the loop for its invariant.
     'lines: while !rest.is_empty() {
         let (line, more) = first_line(rest);
         if let Some(why) = take_line(alloc, extent, &profile, &mut lines, n, line)? {

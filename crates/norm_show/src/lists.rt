@@ -26,6 +26,7 @@ pub(crate) fn put_nodes(line: &mut Line, list: &[u8]) -> Result<(), AllocError>
     }
     line.number(u64::from(read_32(list, 0)))?;
     let mut rest = list.split_at(NODE).1;
+    // Proof: the label names the loop for its invariant.
     'nodes: while rest.len() >= NODE {
         line.number_piece(b',', u64::from(read_32(rest, 0)))?;
         rest = rest.split_at(NODE).1;
@@ -42,6 +43,7 @@ pub(crate) fn put_objects(line: &mut Line, list: &[u8]) -> Result<(), AllocError
     }
     line.number(u64::from(read_16(list, 0)))?;
     let mut rest = list.split_at(OBJECT).1;
+    // Proof: the label names the loop for its invariant.
     'objects: while rest.len() >= OBJECT {
         line.number_piece(b',', u64::from(read_16(rest, 0)))?;
         rest = rest.split_at(OBJECT).1;
@@ -70,6 +72,7 @@ fn put_items(line: &mut Line, items: &[u8]) -> Result<(), AllocError>
     };
     put_item(line, b':', first)?;
     let mut rest = behind;
+    // Proof: the label names the loop for its invariant.
     'items: while let Some((item, behind)) = split_item(rest) {
         put_item(line, b'+', item)?;
         rest = behind;

@@ -145,6 +145,7 @@ impl Reader {
         ensures cause { WriteCause result (K.fault_count output.old) (K.fault_count output.new) }
     {
         let mut rest = piece;
+        // Proof: the label names the loop for its invariant.
         'lines: while let Some((front, behind)) = split_at_first(rest, LINE_FEED) {
             self.add(front)?;
             self.end_line(alloc, output)?;
@@ -178,6 +179,7 @@ pub fn show<S: Source, K: Sink>(
 {
     let mut reader = Reader::new(alloc);
     let mut buffer = [0u8; PIECE];
+    // Proof: the label names the loop for its invariant.
     'pieces: loop {
         let Ok(n) = input.read(&mut buffer) else {
             return Err(ShowFault::Read);

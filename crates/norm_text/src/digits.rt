@@ -94,6 +94,7 @@ pub fn put_digits(text: &mut Vec<u8>, octets: &[u8])
     ensures { text.new.items ≡ text.old.items ++ encode_lower octets.now }
 {
     let mut rest = octets;
+    // Proof: the label names the loop for its invariant.
     'lanes: while rest.len() >= LANES {
         let (front, behind) = rest.split_at(LANES);
         put_lanes(text, front);

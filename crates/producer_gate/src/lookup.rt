@@ -34,6 +34,7 @@ pub(crate) fn find_last(words: &Words, place: &mut Place, count: usize, mark: u6
     ensures seen { result ≡ last_of mark (map entry_in (known_in place.old.me.0)) }
 {
     let mut left = count;
+    // Proof: the label names the loop for its invariant.
     'back: while left > 0 {
         left -= 1;
         if first_at(words, place, left) == mark {

@@ -138,6 +138,7 @@ fn room_for(profile: &Profile, held: &VecDeque<Held>, octets: u32, len: u32) -> 
         → result.0 ≡ has_to_go profile.now len entries }
 {
     let mut left = octets;
+    // Proof: by place, so that the loop's invariant speaks of so many objects.
     for place in 0..held.len() {
         let few = held.len() - place < usize::from(profile.window);
         if few && left + len <= profile.octets {
@@ -286,6 +287,7 @@ impl Window {
     pub fn streams(&self) -> u32
         ensures { (s : SenderState) → Stands self.now s → result ≡ streams s }
     {
+        // Proof: what is kept is looked at, and with it that it is sound.
         let _ = &self.held;
         0
     }
@@ -423,6 +425,7 @@ impl Window {
         ensures { (s : SenderState) → Stands self.now s
             → result ≡ may_all_go self.now.p s self.now.drop.index (take count (window s)) }
     {
+        // Proof: by place, so that the loop's invariant speaks of so many objects.
         for place in 0..count {
             if !self.may_go(place) {
                 return false;
