@@ -1,7 +1,9 @@
+pub mod BesideLemmas
 pub mod FrontLemmas
 pub mod HandUpLemmas
 pub mod HeardLemmas
 pub mod HoldingSteps
 pub mod NeedLemmas
 pub mod PassedLemmas
+pub mod SeenLemmas
 pub mod StepLemmas

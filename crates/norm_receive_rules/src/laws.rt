@@ -1,6 +1,6 @@
 //! What is promised of the receiver's rules. Each law is the contract of a function that does nothing.
 
-ghost use Rattle.norm_receive_rules.specs.Laws.{FrontLaws, HandUpLaws, HeardLaws, NeedsLaws, PassedLaws, StepLaws};
+ghost use Rattle.norm_receive_rules.specs.Laws.{BesideLaws, FrontLaws, HandUpLaws, HeardLaws, NeedsLaws, PassedLaws, SeenLaws, StepLaws};
 
 /// Hand-ups go on from the hand-up point: each joins those before it, and the point never goes back.
 #[tactic(auto, using(crate::proofs::HandUpLemmas::hand_up_laws))]
@@ -26,14 +26,26 @@ pub fn steps()
     ensures { StepLaws }
 {}
 
-/// Where anything is needed, something of the object at the hand-up point is, where that is no stream.
-#[tactic(auto, using(crate::proofs::FrontLemmas::front_laws))]
-pub fn front()
-    ensures { FrontLaws }
+/// Hand-ups and a squelch change nothing beside what is held, and there no plan, symbol or info.
+#[tactic(auto, using(crate::proofs::BesideLemmas::beside_laws))]
+pub fn beside()
+    ensures { BesideLaws }
 {}
 
-/// Of a stream each block before the hand-up point's is done.
+/// Of a stream each block before the hand-up point's is done, and nothing before it in its block is an end.
 #[tactic(auto, using(crate::proofs::PassedLemmas::passed_laws))]
 pub fn passed()
     ensures { PassedLaws }
+{}
+
+/// The block of each held symbol was seen.
+#[tactic(auto, using(crate::proofs::SeenLemmas::seen_laws))]
+pub fn seen()
+    ensures { SeenLaws }
+{}
+
+/// Where anything is needed, something of the object at the hand-up point is; of a stream while a block is left for its end.
+#[tactic(auto, using(crate::proofs::FrontLemmas::front_laws))]
+pub fn front()
+    ensures { FrontLaws }
 {}
