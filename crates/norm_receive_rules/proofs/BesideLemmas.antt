@@ -1,6 +1,9 @@
 -- Hand-ups and a squelch change nothing beside what is held, and there no plan, symbol or info.
-use Rattle.std.proofs.Common.{◌≡◌, ℕ, zero, suc, ◌-◌, ◌⊎◌, inl, inr, List, [], ◌∷◌, ◌++◌, length, Bool, true, false, Option, None, Some, Result, Ok, refl, sym, ap, subst, ◌∙◌, append_assoc, append-nil}
+use Rattle.std.proofs.Common.{◌≡◌, ℕ, zero, suc, ◌+◌, ◌-◌, ◌<◌, ◌≤◌, arith, ◌⊎◌, inl, inr, List, [], ◌∷◌, ◌++◌, length, Bool, true, false, Option, None, Some, Result, Ok, refl, sym, ap, subst, ◌∙◌, append_assoc, append-nil}
 use Rattle.std.specs.Prelude.{nat_lt, ◌==◌, ◌&&◌, unwrap_or, option_and_then}
+use Rattle.std.specs.List.{AllByRecursion}
+use Rattle.std.proofs.lemmas.Bool.{cases_lt}
+use Rattle.std.proofs.lemmas.Bool.Decides.{Decides-ltb}
 use Rattle.norm_base.specs.Settings.{Settings}
 use Rattle.fec_plan.specs.Points.{Point, point}
 use Rattle.fec_plan.specs.declared.position.Position.{Position}
@@ -14,7 +17,7 @@ use Rattle.norm_receive_rules.specs.AllNeeds.{needs_nothing}
 use Rattle.norm_receive_rules.specs.BackingOff.{may_back_off, backs_off, may_need}
 use Rattle.norm_receive_rules.specs.HandingUp.{after_object, handed, is_whole, kind_of, told_info, object_octets, hands_object, segment_up, after_segment, open_before, next_segment, hands_segment, hands_next, hands_one, hands_most, handed_up}
 use Rattle.norm_receive_rules.specs.Holding.{Holding, Plan}
-use Rattle.norm_receive_rules.specs.Laws.{HoldsSame, IsTaking, IsHandingUp, IsLosing, IsAlikeBeside, BesideLaws}
+use Rattle.norm_receive_rules.specs.Laws.{HoldsSame, LosesMore, IsTaking, IsHandingUp, IsLosing, IsAlikeBeside, BesideLaws}
 use Rattle.norm_receive_rules.specs.Leaving.{is_in, goes_to, enters}
 use Rattle.norm_receive_rules.specs.Losing.{loses_one, loses_before, is_cut_off, squelched}
 use Rattle.norm_receive_rules.specs.Plans.{says_stream, plan_of, has_its_info}
@@ -112,8 +115,22 @@ handing_up p s = record {
 -- losing changes what was lost too
 pub record OnlyLoses (s t : Holding) : Type 0 where
   pub holds : HoldsSame s t
-  pub lost : (more : List ℕ) × (t.lost ≡ s.lost ++ more)
+  pub lost : LosesMore s t
   pub goes : GoesOn s t
+
+pub index_on : (a b : Position) → (a ≡ b) ⊎ Before a b → a.index ≤ b.index
+index_on a b (inl same) = let e = ap (λ (x : Position). x.index) same in omega arith
+index_on a b (inr (inl (inl less))) = omega arith
+index_on a b (inr (inl (inr (same, less)))) = omega arith
+index_on a b (inr (inr ((same, also), less))) = omega arith
+
+pub all_above : (a b : ℕ) → a ≤ b → (xs : List ℕ) → AllByRecursion (λ x. b ≤ x) xs → AllByRecursion (λ x. a ≤ x) xs
+all_above a b le [] h = tt
+all_above a b le (x ∷ xs) h = (let z = h.0 in omega arith, all_above a b le xs h.1)
+
+pub all_of_both : (a : ℕ) (xs ys : List ℕ) → AllByRecursion (λ x. a ≤ x) xs → AllByRecursion (λ x. a ≤ x) ys → AllByRecursion (λ x. a ≤ x) (xs ++ ys)
+all_of_both a [] ys h k = k
+all_of_both a (x ∷ xs) ys h k = (h.0, all_of_both a xs ys h.1 k)
 
 joined : {X : Type 0} (xs ys zs a b : List X) → ys ≡ xs ++ a → zs ≡ ys ++ b → zs ≡ xs ++ (a ++ b)
 joined xs ys zs a b e f = f ∙ ap (λ l. l ++ b) e ∙ append_assoc xs a b
@@ -131,21 +148,26 @@ then_goes s t u h k = (
 loses_then : (s t u : Holding) → OnlyLoses s t → OnlyLoses t u → OnlyLoses s u
 loses_then s t u h k = record {
   holds = same_then s t u h.holds k.holds;
-  lost = (h.lost.0 ++ k.lost.0, joined s.lost t.lost u.lost h.lost.0 k.lost.0 h.lost.1 k.lost.1);
+  lost = (
+    h.lost.0 ++ k.lost.0,
+    joined s.lost t.lost u.lost h.lost.0 k.lost.0 h.lost.1 k.lost.1,
+    all_of_both s.point.index h.lost.0 k.lost.0 h.lost.2
+        (all_above s.point.index t.point.index (index_on s.point t.point h.goes.1) k.lost.0 k.lost.2),
+  );
   goes = then_goes s t u h.goes k.goes;
 }
 
-up_loses : (p : Settings) (s : Holding) → OnlyLoses s (handed_up p s)
+pub up_loses : (p : Settings) (s : Holding) → OnlyLoses s (handed_up p s)
 up_loses p s = record {
   holds = (most_hands (length s.held) p s).holds;
-  lost = ([], (most_hands (length s.held) p s).lost ∙ sym (append-nil s.lost));
+  lost = ([], (most_hands (length s.held) p s).lost ∙ sym (append-nil s.lost), tt);
   goes = most (length s.held) p s;
 }
 
 one_loses : (s : Holding) → OnlyLoses s (loses_one s)
 one_loses s = record {
   holds = record { plans = refl; held = refl; infos = refl };
-  lost = (s.point.index ∷ [], refl);
+  lost = (s.point.index ∷ [], refl, (omega arith, tt));
   goes = (
     (up.Lost s.point.index ∷ [], refl),
     inr ((before_decides s.point (after_object s.point.index)).0 (to_next_object s.point s.point.index refl)),
@@ -190,6 +212,40 @@ losing p first s =
       ups = all.goes.0;
       point = not_back s.point (squelched p first s).point all.goes.1;
     }
+
+-- nothing before the squelch's index is left
+up_on : (p : Settings) (s : Holding) → s.point.index ≤ (handed_up p s).point.index
+up_on p s = index_on s.point (handed_up p s).point (up_loses p s).goes.1
+
+before_leaves : (n : ℕ) (p : Settings) (index : ℕ) (s : Holding) → index ≤ s.point.index + n → index ≤ (loses_before n p index s).point.index
+unfolding loses_before
+before_leaves zero p index s le = let on = up_on p s in omega arith
+before_leaves (suc n) p index s le = go (nat_lt t.point.index index) refl (before_leaves n p index (loses_one t))
+  where
+    t : Holding
+    t = handed_up p s
+
+    go : (b : Bool) → nat_lt t.point.index index ≡ b → (index ≤ (loses_one t).point.index + n → index ≤ (loses_before n p index (loses_one t)).point.index)
+        → index ≤ (elim b as (λ _. Holding) [ true ↦ loses_before n p index (loses_one t) | false ↦ t ]).point.index
+    go true e more = more (let on = up_on p s in omega arith)
+    go false e more = by (cases_lt t.point.index index)
+      where
+        by : (t.point.index < index) ⊎ (index ≤ t.point.index) → index ≤ t.point.index
+        by (inl less) = absurd (clash (sym e ∙ (Decides-ltb t.point.index index).1 less))
+        by (inr le) = le
+
+leaving_none : (p : Settings) (first : Point) (s : Holding) → first.index ≤ (squelched p first s).point.index
+leaving_none p first s = go (t.point.index == first.index && is_cut_off t first)
+  where
+    t : Holding
+    t = loses_before (first.index - s.point.index) p first.index s
+
+    before : first.index ≤ t.point.index
+    before = before_leaves (first.index - s.point.index) p first.index s (omega arith)
+
+    go : (b : Bool) → first.index ≤ (elim b as (λ _. Holding) [ true ↦ handed_up p (loses_one t) | false ↦ t ]).point.index
+    go true = let on = up_on p (loses_one t) in omega (arith, before)
+    go false = before
 
 -- ---- taking
 
@@ -258,6 +314,7 @@ beside_laws = record {
   takes = taking;
   hands_up = handing_up;
   loses = losing;
+  leaves_none = leaving_none;
   taken = λ s. refl;
   squelch = λ p m index s. refl;
   heard = λ p s bytes now draw m e inside.

@@ -1,8 +1,11 @@
 pub mod BesideLemmas
+pub mod DueLemmas
 pub mod FrontLemmas
 pub mod HandUpLemmas
 pub mod HeardLemmas
 pub mod HoldingSteps
+pub mod InstanceLemmas
+pub mod NackLemmas
 pub mod NeedLemmas
 pub mod PassedLemmas
 pub mod SeenLemmas

@@ -34,7 +34,7 @@ use Rattle.norm_receive_rules.specs.declared.words.Fit.TheVariants as fit
 use Rattle.norm_receive_rules.specs.declared.words.Put.{Put}
 use Rattle.norm_receive_rules.specs.declared.words.Put.TheVariants as put
 use Rattle.norm_receive_rules.proofs.HandUpLemmas.{index_of_found}
-use Rattle.norm_receive_rules.proofs.HoldingSteps.{IsKept, steps_keep}
+use Rattle.norm_receive_rules.proofs.HoldingSteps.{HoldingIsKept, steps_keep}
 
 clash : false ≡ true → ⊥
 clash e = cc
@@ -836,7 +836,7 @@ taken_passed p s h = go s.ups
     go (up ∷ more) = more_passed p s (record s { ups = more }) (plan_of s s.point.index) (same_held s (record s { ups = more }) refl refl)
         (λ plan found stream symbol octets e. e) h
 
-is_kept : (p : Settings) → IsKept p (λ s. HasPassed p s)
+is_kept : (p : Settings) → HoldingIsKept p (λ s. HasPassed p s)
 is_kept p = record {
   nothing = record { block = refl; symbol = refl };
   symbol = λ at extensions flags payload s h.

@@ -25,7 +25,7 @@ use Rattle.norm_receive_rules.specs.declared.words.Put.{Put}
 use Rattle.norm_receive_rules.specs.declared.words.Put.TheVariants as put
 use Rattle.norm_receive_rules.proofs.BesideLemmas.{handing_up, losing, taking}
 use Rattle.norm_receive_rules.proofs.HandUpLemmas.{index_of_found}
-use Rattle.norm_receive_rules.proofs.HoldingSteps.{IsKept, steps_keep}
+use Rattle.norm_receive_rules.proofs.HoldingSteps.{HoldingIsKept, steps_keep}
 use Rattle.norm_receive_rules.proofs.PassedLemmas.{new_found, taken_new, seen_found, kept_new}
 
 clash : false ≡ true → ⊥
@@ -202,7 +202,7 @@ object_seen p at extensions flags brings s kept h = go (fti_of extensions)
     go (Some f) = put (fitted (fit_of p s at.index f flags) at.index f flags s) (fitted_seen p (fit_of p s at.index f flags) at.index f flags s refl h)
         (lets_put (fit_of p s at.index f flags))
 
-is_kept : (p : Settings) → IsKept p (λ s. each_was_seen s ≡ true)
+is_kept : (p : Settings) → HoldingIsKept p (λ s. each_was_seen s ≡ true)
 is_kept p = record {
   nothing = refl;
   symbol = λ at extensions flags payload s h.

@@ -1,7 +1,7 @@
 -- What is promised of the receiver's rules.
-use Rattle.std.specs.Prelude.{◌≡◌, ◌<◌, ◌≤◌, ℕ, List, ◌++◌, flat_map, Bool, true, false, not, ◌||◌, nat_le, Option, None, Some, IfSome, Ok}
+use Rattle.std.specs.Prelude.{◌≡◌, ◌<◌, ◌≤◌, ◌⊎◌, ℕ, List, ◌++◌, flat_map, Bool, true, false, not, ◌||◌, nat_le, Option, None, Some, IfSome, Ok}
 use Rattle.std.specs.Bool.{Decides}
-use Rattle.std.specs.List.{list_all, list_any}
+use Rattle.std.specs.List.{list_all, list_any, AllByRecursion}
 use Rattle.norm_base.specs.Settings.{Settings}
 use Rattle.fec_plan.specs.Points.{Point, point, position, position_before, reaches}
 use Rattle.fec_plan.specs.declared.position.Position.{Position}
@@ -10,6 +10,7 @@ use Rattle.norm_receive_rules.specs.Holding.{Holding, Held, Plan, holding_nothin
 use Rattle.norm_receive_rules.specs.ReceiverState.{ReceiverState, receiver_opening}
 use Rattle.norm_receive_rules.specs.ReceiverStep.{ReceiverEvent, receiver_step}
 use Rattle.norm_ext.specs.Asking.{Named, Span, asked_spans, asks_info, asked_counts}
+use Rattle.norm_ext.specs.InstanceIds.{is_above}
 use Rattle.norm_ext.specs.Message.{Squelch, SquelchCommand}
 use Rattle.norm_ext.specs.Reading.{decoded}
 use Rattle.norm_receive_rules.specs.Heard.{heard_all}
@@ -65,9 +66,15 @@ pub record HeardLaws : Type 0 where
 abbrev pub HoldsNothingOutside : ReceiverState → Type 0
 HoldsNothingOutside s = s.instance ≡ None → s.holding ≡ holding_nothing
 
--- A receiver stays the node that it is, whatever happens to it; and while it is in no instance it holds nothing.
+-- it is the same instance, or the first, or one that lies above
+abbrev pub GoesOnTo : Option ℕ → Option ℕ → Type 0
+GoesOnTo from to = (to ≡ from) ⊎ ((id : ℕ) × (to ≡ Some id) × IfSome from (λ current. is_above current id ≡ true))
+
+-- A receiver stays the node that it is, whatever happens to it; it goes on to instances that lie above its own; and while it
+-- is in none it holds nothing.
 pub record StepLaws : Type 0 where
   pub node : (p : Settings) (s : ReceiverState) (event : ReceiverEvent) → (receiver_step p s event).0.node ≡ s.node
+  pub instance : (p : Settings) (s : ReceiverState) (event : ReceiverEvent) → GoesOnTo s.instance (receiver_step p s event).0.instance
   pub begins : (node : ℕ) → HoldsNothingOutside (receiver_opening node)
   pub goes_on : (p : Settings) (s : ReceiverState) (event : ReceiverEvent) → HoldsNothingOutside s → HoldsNothingOutside (receiver_step p s event).0
 
@@ -149,10 +156,14 @@ pub record IsHandingUp (s after : Holding) : Type 0 where
   pub ups : HasMore s after
   pub point : reaches after.point s.point ≡ true
 
+-- further objects are lost, none of them before the one at the hand-up point
+abbrev pub LosesMore : Holding → Holding → Type 0
+LosesMore s after = (more : List ℕ) × (after.lost ≡ s.lost ++ more) × AllByRecursion (λ index. s.point.index ≤ index) more
+
 -- a squelch is handing up and losing: it changes what was lost too
 pub record IsLosing (s after : Holding) : Type 0 where
   pub holds : HoldsSame s after
-  pub lost : (more : List ℕ) × (after.lost ≡ s.lost ++ more)
+  pub lost : LosesMore s after
   pub ups : HasMore s after
   pub point : reaches after.point s.point ≡ true
 
@@ -167,11 +178,12 @@ pub record IsAlikeBeside (s after : ReceiverState) : Type 0 where
   pub due : after.knows.due ≡ s.knows.due
 
 -- Hand-ups and a squelch change nothing beside what is held: each goes from what was held to what is held then, and there
--- leaves plans, symbols and infos.
+-- leaves plans, symbols and infos. After a squelch nothing before its index is left.
 pub record BesideLaws : Type 0 where
   pub takes : (s : Holding) → IsTaking s (up_taken s).0
   pub hands_up : (p : Settings) (s : Holding) → IsHandingUp s (handed_up p s)
   pub loses : (p : Settings) (first : Point) (s : Holding) → IsLosing s (squelched p first s)
+  pub leaves_none : (p : Settings) (first : Point) (s : Holding) → first.index ≤ (squelched p first s).point.index
   pub taken : (s : ReceiverState) → (took s).0 ≡ record s { holding = (up_taken s.holding).0 }
   pub squelch : (p : Settings) (m : SquelchCommand) (index : ℕ) (s : ReceiverState)
       → squelch_received p m index s ≡ record s { holding = squelched p (point index m.id.block) s.holding }

@@ -24,3 +24,6 @@ pub mod Ticking
 pub mod Taking
 pub mod ReceiverStep
 pub mod Laws
+pub mod InstanceLaws
+pub mod DueLaws
+pub mod NackLaws

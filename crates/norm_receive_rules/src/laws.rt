@@ -1,6 +1,9 @@
 //! What is promised of the receiver's rules. Each law is the contract of a function that does nothing.
 
+ghost use Rattle.norm_receive_rules.specs.DueLaws.{DueLaws};
+ghost use Rattle.norm_receive_rules.specs.InstanceLaws.{InstanceLaws};
 ghost use Rattle.norm_receive_rules.specs.Laws.{BesideLaws, FrontLaws, HandUpLaws, HeardLaws, NeedsLaws, PassedLaws, SeenLaws, StepLaws};
+ghost use Rattle.norm_receive_rules.specs.NackLaws.{NackLaws};
 
 /// Hand-ups go on from the hand-up point: each joins those before it, and the point never goes back.
 #[tactic(auto, using(crate::proofs::HandUpLemmas::hand_up_laws))]
@@ -42,6 +45,24 @@ pub fn passed()
 #[tactic(auto, using(crate::proofs::SeenLemmas::seen_laws))]
 pub fn seen()
     ensures { SeenLaws }
+{}
+
+/// An instance that a receiver left is never entered again.
+#[tactic(auto, using(crate::proofs::InstanceLemmas::instance_laws))]
+pub fn instances()
+    ensures { InstanceLaws }
+{}
+
+/// What a receiver acknowledges was handed up.
+#[tactic(auto, using(crate::proofs::DueLemmas::due_laws))]
+pub fn acknowledgements()
+    ensures { DueLaws }
+{}
+
+/// A NACK asks for the longest beginning of what is needed that fits; a need was heard where all of it was asked for.
+#[tactic(auto, using(crate::proofs::NackLemmas::nack_laws))]
+pub fn nacks()
+    ensures { NackLaws }
 {}
 
 /// Where anything is needed, something of the object at the hand-up point is; of a stream while a block is left for its end.
