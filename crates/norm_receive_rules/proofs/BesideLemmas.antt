@@ -51,7 +51,7 @@ this_state x y e = cc
 none_is : (x : Holding) → None ≡ Some x → ⊥
 none_is x e = cc
 
-one_hands : (p : Settings) (s after : Holding) → hands_one p s ≡ Some after → OnlyHands s after
+pub one_hands : (p : Settings) (s after : Holding) → hands_one p s ≡ Some after → OnlyHands s after
 one_hands p s after e = go (plan_of s s.point.index) e
   where
     this : (ups : List Up) (point : Position) → Some (handed ups point s) ≡ Some after → OnlyHands s after

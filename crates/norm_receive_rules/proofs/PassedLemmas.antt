@@ -41,7 +41,7 @@ clash e = cc
 
 -- ---- as many symbols as there are different ids
 
-filter_few : {X : Type 0} (q : X → Bool) (xs : List X) → length (filter q xs) ≤ length xs
+pub filter_few : {X : Type 0} (q : X → Bool) (xs : List X) → length (filter q xs) ≤ length xs
 filter_few q [] = omega arith
 filter_few q (x ∷ xs) = go (q x) (filter_few q xs)
   where
@@ -80,7 +80,7 @@ others id other lt (x ∷ xs) e = go (x.at.symbol == other) (x.at.symbol == id) 
     go false true e f g more = more g
     go false false e f g more = ap (λ b. b || list_any (λ (h : Held). h.at.symbol == other) rest) e ∙ more g
 
-many_ids : (n : ℕ) (xs : List Held) → ((id : ℕ) → id < n → list_any (λ (h : Held). h.at.symbol == id) xs ≡ true) → n ≤ length xs
+pub many_ids : (n : ℕ) (xs : List Held) → ((id : ℕ) → id < n → list_any (λ (h : Held). h.at.symbol == id) xs ≡ true) → n ≤ length xs
 many_ids zero xs each = omega arith
 many_ids (suc n) xs each =
     let lt = fewer n xs (each n (omega arith)) in
@@ -351,11 +351,11 @@ first_still symbol q x other xs = ap octets_in (found xs)
         go false true e = behind (q y) y (filter q (with_member held_before x xs)) (filter q xs) e
         go false false e = refl
 
-or_false : (a b : Bool) → (a || b) ≡ false → (a ≡ false) × (b ≡ false)
+pub or_false : (a b : Bool) → (a || b) ≡ false → (a ≡ false) × (b ≡ false)
 or_false true b h = absurd (clash (sym h))
 or_false false b h = (refl, h)
 
-both_true : (a b : Bool) → (a && b) ≡ true → (a ≡ true) × (b ≡ true)
+pub both_true : (a b : Bool) → (a && b) ≡ true → (a ≡ true) × (b ≡ true)
 both_true true b e = (refl, e)
 both_true false b e = absurd (clash e)
 
@@ -449,7 +449,7 @@ keeps_values p at payload s kept plan found stream symbol octets e =
         held_value plan s.point.block symbol (filter q (with_member held_before x s.held)) octets stream
         (first_still symbol q x (λ is. other_id first is (at.symbol == symbol) refl) s.held ∙ first)
 
-symbol_passed : (p : Settings) (word : Put) (at : Position) (payload : List ℕ) (s : Holding) → put_of p s at payload ≡ word → HasPassed p s
+pub symbol_passed : (p : Settings) (word : Put) (at : Position) (payload : List ℕ) (s : Holding) → put_of p s at payload ≡ word → HasPassed p s
     → HasPassed p (with_symbol word at payload s)
 symbol_passed p put.Had at payload s e h = h
 symbol_passed p put.Away at payload s e h = h
@@ -474,7 +474,7 @@ same_held s t held at = record {
       (filter (λ (y : Held). y.at.index == to.index && y.at.block == to.block) xs) ≡ true in subst H (sym held) e);
 }
 
-info_passed : (p : Settings) (word : Put) (index : ℕ) (info : List ℕ) (s : Holding) → HasPassed p s → HasPassed p (with_info word index info s)
+pub info_passed : (p : Settings) (word : Put) (index : ℕ) (info : List ℕ) (s : Holding) → HasPassed p s → HasPassed p (with_info word index info s)
 info_passed p put.Had index info s h = h
 info_passed p put.Away index info s h = h
 info_passed p put.Unfit index info s h = h
@@ -516,7 +516,7 @@ new_found index x (y ∷ plans) = go (plan_before x y) (plan_before y x) (new_fo
 abbrev word_of : Bool → Bool → Bool → Fit
 word_of a b c = elim (first_where ((a, fit.Known) ∷ (b, fit.Away) ∷ (c, fit.Unfit) ∷ [])) [ Some word ↦ word | None ↦ fit.Taken ]
 
-unfit : (a b c : Bool) → word_of a b c ≡ fit.Taken → c ≡ false
+pub unfit : (a b c : Bool) → word_of a b c ≡ fit.Taken → c ≡ false
 unfolding first_where
 unfit true b c h = absurd (cc)
 unfit false true c h = absurd (cc)
@@ -535,7 +535,7 @@ taken_new p s index f flags e =
         let known = or_false _ _ first.0 in
         absurd (clash (sym known.1 ∙ ap (λ (o : Option Plan). is_some o) is))
 
-fitted_passed : (p : Settings) (word : Fit) (index : ℕ) (f : Fti) (flags : ℕ) (s : Holding) → fit_of p s index f flags ≡ word → HasPassed p s
+pub fitted_passed : (p : Settings) (word : Fit) (index : ℕ) (f : Fti) (flags : ℕ) (s : Holding) → fit_of p s index f flags ≡ word → HasPassed p s
     → HasPassed p (fitted word index f flags s)
 fitted_passed p fit.Known index f flags s e h = h
 fitted_passed p fit.Away index f flags s e h = h
@@ -584,7 +584,7 @@ seen_found at index (x ∷ plans) =
     moves true = refl
     moves false = refl
 
-seen_passed : (p : Settings) (at : Point) (s : Holding) → HasPassed p s → HasPassed p (sees_block at s)
+pub seen_passed : (p : Settings) (at : Point) (s : Holding) → HasPassed p s → HasPassed p (sees_block at s)
 seen_passed p at s h =
     let P : Option Plan → Type 0 = λ found. PassedBy p (sees_block at s) found in
     subst P (sym (seen_found at s.point.index s.plans)) (go (plan_of s s.point.index) (more_passed p s (sees_block at s) (plan_of s s.point.index)
@@ -615,7 +615,7 @@ at_next : (p : Settings) (ups : List Up) (index : ℕ) (s : Holding) → HasPass
 at_next p ups index s = starts_here p (handed ups (after_object index) s) (record { block = refl; symbol = refl })
 
 -- a symbol of a stream that has a value is there
-value_there : (s : Holding) (plan : Plan) (block symbol : ℕ) (octets : List ℕ) → says_stream plan.flags ≡ true
+pub value_there : (s : Holding) (plan : Plan) (block symbol : ℕ) (octets : List ℕ) → says_stream plan.flags ≡ true
     → block_value s plan block symbol ≡ Some octets → IsThere s plan (position plan.index block symbol)
 value_there s plan block symbol octets stream e = go (is_done s plan block) _ refl e
   where
@@ -725,7 +725,7 @@ same_state x y e = cc
 no_state : (x : Holding) → None ≡ Some x → ⊥
 no_state x e = cc
 
-one_passed : (p : Settings) (s after : Holding) → hands_one p s ≡ Some after → HasPassed p s → HasPassed p after
+pub one_passed : (p : Settings) (s after : Holding) → hands_one p s ≡ Some after → HasPassed p s → HasPassed p after
 one_passed p s after e h = go (plan_of s s.point.index) refl e
   where
     same : (t : Holding) → Some t ≡ Some after → HasPassed p t → HasPassed p after
@@ -803,7 +803,7 @@ object_passed p at extensions flags brings s kept h = go (fti_of extensions)
     go (Some f) = put (sees_block (point_of at) (fitted (fit_of p s at.index f flags) at.index f flags s))
         (seen_passed p (point_of at) _ (fitted_passed p (fit_of p s at.index f flags) at.index f flags s refl h)) (lets_put (fit_of p s at.index f flags))
 
-lost_passed : (p : Settings) (s : Holding) → HasPassed p (loses_one s)
+pub lost_passed : (p : Settings) (s : Holding) → HasPassed p (loses_one s)
 lost_passed p s = starts_here p (loses_one s) (record { block = refl; symbol = refl })
 
 before_passed : (p : Settings) (n index : ℕ) (s : Holding) → HasPassed p s → HasPassed p (loses_before n p index s)
@@ -825,7 +825,7 @@ squelched_passed p first s h =
     go t true k = up_passed p (loses_one t) (lost_passed p t)
     go t false k = k
 
-taken_passed : (p : Settings) (s : Holding) → HasPassed p s → HasPassed p (up_taken s).0
+pub taken_passed : (p : Settings) (s : Holding) → HasPassed p s → HasPassed p (up_taken s).0
 taken_passed p s h = go s.ups
   where
     holding_of : Holding × Option Up → Holding

@@ -27,3 +27,5 @@ pub mod Laws
 pub mod InstanceLaws
 pub mod DueLaws
 pub mod NackLaws
+pub mod FarLaws
+pub mod OpenLaws

@@ -1,9 +1,11 @@
 //! What is promised of the receiver's rules. Each law is the contract of a function that does nothing.
 
 ghost use Rattle.norm_receive_rules.specs.DueLaws.{DueLaws};
+ghost use Rattle.norm_receive_rules.specs.FarLaws.{FarLaws};
 ghost use Rattle.norm_receive_rules.specs.InstanceLaws.{InstanceLaws};
 ghost use Rattle.norm_receive_rules.specs.Laws.{BesideLaws, FrontLaws, HandUpLaws, HeardLaws, NeedsLaws, PassedLaws, SeenLaws, StepLaws};
 ghost use Rattle.norm_receive_rules.specs.NackLaws.{NackLaws};
+ghost use Rattle.norm_receive_rules.specs.OpenLaws.{OpenLaws};
 
 /// Hand-ups go on from the hand-up point: each joins those before it, and the point never goes back.
 #[tactic(auto, using(crate::proofs::HandUpLemmas::hand_up_laws))]
@@ -63,6 +65,18 @@ pub fn acknowledgements()
 #[tactic(auto, using(crate::proofs::NackLemmas::nack_laws))]
 pub fn nacks()
     ensures { NackLaws }
+{}
+
+/// Handing up goes as far as it can: after each step nothing more can be handed up.
+#[tactic(auto, using(crate::proofs::FarLemmas::far_laws))]
+pub fn far()
+    ensures { FarLaws }
+{}
+
+/// Of a stream's parts none is handed up before its open.
+#[tactic(auto, using(crate::proofs::OpenLemmas::open_laws))]
+pub fn opens()
+    ensures { OpenLaws }
 {}
 
 /// Where anything is needed, something of the object at the hand-up point is; of a stream while a block is left for its end.
