@@ -9,3 +9,4 @@ pub mod OrderLemmas
 pub mod SearchLemmas
 pub mod WalkLemmas
 pub mod AskLemmas
+pub mod TickingLemmas

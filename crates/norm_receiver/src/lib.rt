@@ -18,6 +18,7 @@ mod receiving;
 mod requesting;
 mod searching;
 mod taking;
+mod ticking;
 
 pub use crate::delivering::is_of_no_stream;
 pub use crate::numbers::{FlushPlace, Numbers};
