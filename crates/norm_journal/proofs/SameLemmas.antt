@@ -23,8 +23,10 @@ use Rattle.norm_send_rules.specs.declared.news.Outcome.{Outcome}
 use Rattle.norm_send_rules.specs.declared.news.Outcome.TheVariants as outcome
 use Rattle.norm_safety.specs.Events.{Answer, Gave, Sent, Took, Told, Silent}
 use Rattle.norm_safety.specs.Fronts.{same_up}
+use Rattle.norm_safety.specs.SatisfiedExactly.{same_outcome}
 use Rattle.norm_safety.proofs.FrontLemmas.{ups_same, up_itself}
-use Rattle.norm_journal.specs.Same.{same_receipt, same_stream, same_enqueue, same_mark, same_strike, same_fault, same_gave, same_outcome, same_news, same_answer}
+use Rattle.norm_safety.proofs.SatisfiedRun.{outcome_itself}
+use Rattle.norm_journal.specs.Same.{same_receipt, same_stream, same_enqueue, same_mark, same_strike, same_fault, same_gave, same_news, same_answer}
 use Rattle.norm_journal.proofs.NameLemmas.{both, both_true}
 
 clash : false ≡ true → ⊥
@@ -150,12 +152,6 @@ outcomes_same outcome.Satisfied outcome.Satisfied e = refl
 outcomes_same (outcome.Expired a) (outcome.Expired b) e = ap outcome.Expired (one a b e)
 outcomes_same outcome.Cut outcome.Cut e = refl
 outcomes_same _ _ e = absurd (clash e)
-
-outcome_itself : (a : Outcome) → same_outcome a a ≡ true
-outcome_itself (outcome.Open a) = itself a
-outcome_itself outcome.Satisfied = refl
-outcome_itself (outcome.Expired a) = itself a
-outcome_itself outcome.Cut = refl
 
 news_same : (a b : News) → same_news a b ≡ true → a ≡ b
 news_same (news.Past a at) (news.Past b there) e =

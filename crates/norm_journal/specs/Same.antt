@@ -19,10 +19,9 @@ use Rattle.norm_send_rules.specs.declared.fault.SendFault.{SendFault}
 use Rattle.norm_send_rules.specs.declared.fault.SendFault.TheVariants as send
 use Rattle.norm_send_rules.specs.declared.news.News.{News}
 use Rattle.norm_send_rules.specs.declared.news.News.TheVariants as news
-use Rattle.norm_send_rules.specs.declared.news.Outcome.{Outcome}
-use Rattle.norm_send_rules.specs.declared.news.Outcome.TheVariants as outcome
 use Rattle.norm_safety.specs.Events.{Answer, Gave, Took, Told, Silent}
 use Rattle.norm_safety.specs.Fronts.{same_up}
+use Rattle.norm_safety.specs.SatisfiedExactly.{same_outcome}
 
 -- two receipts
 abbrev pub same_receipt : Receipt → Receipt → Bool
@@ -83,14 +82,6 @@ abbrev pub same_gave : Result Receipt SendFault → Result Receipt SendFault →
 same_gave (Ok a) (Ok b) = same_receipt a b
 same_gave (Err a) (Err b) = same_fault a b
 same_gave _ _ = false
-
--- two outcomes
-abbrev pub same_outcome : Outcome → Outcome → Bool
-same_outcome (outcome.Open a) (outcome.Open b) = a == b
-same_outcome outcome.Satisfied outcome.Satisfied = true
-same_outcome (outcome.Expired a) (outcome.Expired b) = a == b
-same_outcome outcome.Cut outcome.Cut = true
-same_outcome _ _ = false
 
 -- two changes
 abbrev pub same_news : News → News → Bool

@@ -6,7 +6,7 @@ use norm_send_rules::{Job, News, Receipt, SendFault};
 use std::marker::Model;
 
 /// What happened in a session, with what it gave.
-#[derive(Clone, Debug, PartialEq, Eq, Drop)]
+#[derive(Debug, Drop)]
 pub enum Event {
     /// The network was started.
     Start,

@@ -5,7 +5,7 @@ ghost use Rattle.std.specs.Prelude.{◌≡◌, IfOk};
 use norm_base::{Kind, Memory, Octets};
 
 /// One hand-up of a receiver, in transport order.
-#[derive(Clone, Debug, PartialEq, Eq, Drop)]
+#[derive(Debug, Drop)]
 pub enum Up {
     /// A whole data object or file, with its info; a file's info is its name.
     Object {

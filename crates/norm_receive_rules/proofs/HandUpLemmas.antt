@@ -32,7 +32,7 @@ hands ups point s after on e =
       ap (λ (state : Holding). position_before s.point state.point) (sym same) ∙ on,
     )
 
-to_next_object : (at : Position) (index : ℕ) → index ≡ at.index → position_before at (after_object index) ≡ true
+pub to_next_object : (at : Position) (index : ℕ) → index ≡ at.index → position_before at (after_object index) ≡ true
 to_next_object at index same = (before_decides at (after_object index)).1 (inl (inl (omega arith)))
 
 when_whole : (whole : Bool) (ups : List Up) (point : Position) (s after : Holding) → position_before s.point point ≡ true
@@ -98,10 +98,10 @@ one : (p : Settings) (s after : Holding) → hands_one p s ≡ Some after → Ha
 one p s after e = when_found p (plan_of s s.point.index) s after (λ plan found. index_of_found s.point.index s.plans plan found) e
 
 -- further hand-ups, and the point where it was or behind
-abbrev GoesOn : Holding → Holding → Type 0
+abbrev pub GoesOn : Holding → Holding → Type 0
 GoesOn s after = (HasMore s after) × ((s.point ≡ after.point) ⊎ Before s.point after.point)
 
-behind_still : (a b c : Position) → Before a b → (b ≡ c) ⊎ Before b c → Before a c
+pub behind_still : (a b c : Position) → Before a b → (b ≡ c) ⊎ Before b c → Before a c
 behind_still a b c h (inl same) = subst (λ (d : Position). Before a d) same h
 behind_still a b c h (inr k) = before_both a b c h k
 
@@ -111,7 +111,7 @@ then_more s middle after first rest = (
   inr (behind_still s.point middle.point after.point ((before_decides s.point middle.point).0 first.1) rest.1),
 )
 
-most : (n : ℕ) (p : Settings) (s : Holding) → GoesOn s (hands_most n p s)
+pub most : (n : ℕ) (p : Settings) (s : Holding) → GoesOn s (hands_most n p s)
 unfolding hands_most
 most zero p s = (([], sym (append-nil s.ups)), inl refl)
 most (suc n) p s = go (hands_one p s) refl (λ after. most n p after)
@@ -121,7 +121,7 @@ most (suc n) p s = go (hands_one p s) refl (λ after. most n p after)
     go (Some after) e more = then_more s after (hands_most n p after) (one p s after e) (more after)
     go None e more = (([], sym (append-nil s.ups)), inl refl)
 
-not_back : (a b : Position) → (a ≡ b) ⊎ Before a b → reaches b a ≡ true
+pub not_back : (a b : Position) → (a ≡ b) ⊎ Before a b → reaches b a ≡ true
 not_back a b h = (Decides-not _ (before_decides b a)).1 (not_both a b h)
 
 pub hand_up_laws : HandUpLaws

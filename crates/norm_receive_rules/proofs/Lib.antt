@@ -1,7 +1,14 @@
+pub mod BesideLemmas
+pub mod DueLemmas
+pub mod FarLemmas
 pub mod FrontLemmas
 pub mod HandUpLemmas
 pub mod HeardLemmas
 pub mod HoldingSteps
+pub mod InstanceLemmas
+pub mod NackLemmas
 pub mod NeedLemmas
+pub mod OpenLemmas
 pub mod PassedLemmas
+pub mod SeenLemmas
 pub mod StepLemmas

@@ -2,19 +2,21 @@
 use Rattle.std.proofs.Common.{◌≡◌, ℕ, zero, suc, cond, ◌+◌, ◌-◌, ◌<◌, ◌≤◌, ◌⊎◌, inl, inr, List, [], ◌∷◌, ◌++◌, map, length, Bool, true, false, Option, None, Some, refl, sym, ap, subst, ◌∙◌, arith}
 use Rattle.std.specs.Prelude.{filter, find, max, not, nat_lt, ◌==◌, ◌&&◌, ◌||◌, is_some, option_map}
 use Rattle.std.specs.List.{list_any}
-use Rattle.std.proofs.lemmas.Bool.{cases_lt}
+use Rattle.std.proofs.lemmas.Bool.{cases_lt, ne_eqb}
 use Rattle.std.proofs.lemmas.Bool.Decides.{Decides-ltb, Decides-eqb}
 use Rattle.norm_base.specs.Settings.{Settings}
-use Rattle.fec_plan.specs.Partition.{source_symbols}
+use Rattle.fec_plan.specs.Partition.{source_symbols, coded_octets}
 use Rattle.fec_plan.specs.Points.{Point, point_of, position}
 use Rattle.fec_plan.specs.declared.position.Position.{Position}
+use Rattle.gf_field.specs.Power.{power}
+use Rattle.gf_field.specs.Symbol.{given, solved_symbol, symbol_at}
 use Rattle.norm_ext.specs.Extensions.{Extension, fti_of}
 use Rattle.norm_ext.specs.declared.fti.Fti.{Fti}
 use Rattle.norm_order.specs.First.{first_where}
 use Rattle.norm_order.specs.Sets.{with_member}
 use Rattle.norm_order.specs.declared.up.Up.{Up}
 use Rattle.norm_order.specs.declared.up.Up.TheVariants as up
-use Rattle.norm_receive_rules.specs.BlockValue.{block_value, held_symbol}
+use Rattle.norm_receive_rules.specs.BlockValue.{ids_of, octets_of_held, block_value, held_symbol}
 use Rattle.norm_receive_rules.specs.Fitting.{is_known_plan, is_away, is_unfit, fit_of, fitted, lets_put, plan_before, with_plan}
 use Rattle.norm_receive_rules.specs.HandingUp.{after_object, handed, is_whole, kind_of, told_info, object_octets, hands_object, segment_length, segment_up, open_before, next_segment, hands_segment, hands_next, hands_one, hands_most, handed_up}
 use Rattle.norm_receive_rules.specs.Holding.{Holding, Plan, Held, new_plan}
@@ -22,7 +24,8 @@ use Rattle.norm_receive_rules.specs.Laws.{IsAtStart, IsPassed, PassedBy, HasPass
 use Rattle.norm_receive_rules.specs.Losing.{loses_one, loses_before, is_cut_off, squelched}
 use Rattle.norm_receive_rules.specs.NothingMissing.{IsThere}
 use Rattle.norm_receive_rules.specs.Plans.{cut_of_plan, says_stream, plan_of, is_over, held_of, holds, is_done, has_its_info}
-use Rattle.norm_receive_rules.specs.Putting.{put_of, put_symbol, with_symbol, put_info_of, put_info, with_info, held_before}
+use Rattle.norm_receive_rules.specs.StreamNeeds.{is_end}
+use Rattle.norm_receive_rules.specs.Putting.{is_far, is_misfit, put_by, put_of, put_symbol, with_symbol, put_info_of, put_info, with_info, held_before}
 use Rattle.norm_receive_rules.specs.Receiving.{object_held}
 use Rattle.norm_receive_rules.specs.Seeing.{plan_seen, sees_block}
 use Rattle.norm_receive_rules.specs.Taking.{up_taken}
@@ -30,14 +33,15 @@ use Rattle.norm_receive_rules.specs.declared.words.Fit.{Fit}
 use Rattle.norm_receive_rules.specs.declared.words.Fit.TheVariants as fit
 use Rattle.norm_receive_rules.specs.declared.words.Put.{Put}
 use Rattle.norm_receive_rules.specs.declared.words.Put.TheVariants as put
-use Rattle.norm_receive_rules.proofs.HoldingSteps.{IsKept, steps_keep}
+use Rattle.norm_receive_rules.proofs.HandUpLemmas.{index_of_found}
+use Rattle.norm_receive_rules.proofs.HoldingSteps.{HoldingIsKept, steps_keep}
 
 clash : false ≡ true → ⊥
 clash e = cc
 
 -- ---- as many symbols as there are different ids
 
-filter_few : {X : Type 0} (q : X → Bool) (xs : List X) → length (filter q xs) ≤ length xs
+pub filter_few : {X : Type 0} (q : X → Bool) (xs : List X) → length (filter q xs) ≤ length xs
 filter_few q [] = omega arith
 filter_few q (x ∷ xs) = go (q x) (filter_few q xs)
   where
@@ -76,7 +80,7 @@ others id other lt (x ∷ xs) e = go (x.at.symbol == other) (x.at.symbol == id) 
     go false true e f g more = more g
     go false false e f g more = ap (λ b. b || list_any (λ (h : Held). h.at.symbol == other) rest) e ∙ more g
 
-many_ids : (n : ℕ) (xs : List Held) → ((id : ℕ) → id < n → list_any (λ (h : Held). h.at.symbol == id) xs ≡ true) → n ≤ length xs
+pub many_ids : (n : ℕ) (xs : List Held) → ((id : ℕ) → id < n → list_any (λ (h : Held). h.at.symbol == id) xs ≡ true) → n ≤ length xs
 many_ids zero xs each = omega arith
 many_ids (suc n) xs each =
     let lt = fewer n xs (each n (omega arith)) in
@@ -85,19 +89,116 @@ many_ids (suc n) xs each =
 
 -- ---- what holds of another state that holds as much
 
-starts : (s : Holding) (found : Option Plan) → IsAtStart s → PassedBy s found
-starts s None h = h
-starts s (Some plan) h = go (says_stream plan.flags)
+starts : (p : Settings) (s : Holding) (found : Option Plan) → IsAtStart s → PassedBy p s found
+starts p s None h = h
+starts p s (Some plan) h = go (says_stream plan.flags)
   where
-    go : (b : Bool) → elim b as (λ _. Type 0) [ true ↦ IsPassed s plan | false ↦ IsAtStart s ]
+    go : (b : Bool) → elim b as (λ _. Type 0) [ true ↦ IsPassed p s plan | false ↦ IsAtStart s ]
     go true = record {
       done = λ block lt. absurd (let z = h.block in omega arith);
       there = λ symbol lt. absurd (let z = h.symbol in omega arith);
+      no_end = λ symbol lt. absurd (let z = h.symbol in omega arith);
     }
     go false = h
 
-starts_here : (s : Holding) → IsAtStart s → HasPassed s
-starts_here s h = starts s (plan_of s s.point.index) h
+starts_here : (p : Settings) (s : Holding) → IsAtStart s → HasPassed p s
+starts_here p s h = starts p s (plan_of s s.point.index) h
+
+-- ---- what a source symbol is keeps, once it is there
+
+-- what a symbol of a block is, by what is held of the block
+abbrev value_by : Plan → ℕ → ℕ → List Held → Option (List ℕ)
+value_by plan block symbol held = elim (source_symbols (cut_of_plan plan) block - length held == 0) [
+  | true ↦ Some (solved_symbol (coded_octets (cut_of_plan plan)) (ids_of held) (octets_of_held held) symbol)
+  | false ↦ elim (says_stream plan.flags) [ true ↦ held_symbol held symbol | false ↦ None ]
+]
+
+given_found : (held : List Held) (symbol : ℕ) → given (ids_of held) (octets_of_held held) symbol ≡ held_symbol held symbol
+unfolding given
+given_found [] symbol = refl
+given_found (x ∷ held) symbol = go (x.at.symbol == symbol) (given_found held symbol)
+  where
+    rest : Option (List ℕ)
+    rest = given (ids_of held) (octets_of_held held) symbol
+
+    octets_in : Option Held → Option (List ℕ)
+    octets_in found = elim found [ Some h ↦ Some h.octets | None ↦ None ]
+
+    go : (b : Bool) → rest ≡ held_symbol held symbol
+        → elim b as (λ _. Option (List ℕ)) [ true ↦ Some x.octets | false ↦ rest ]
+        ≡ octets_in (cond b (Some x) (find (λ (h : Held). h.at.symbol == symbol) held))
+    go true e = refl
+    go false e = e
+
+-- a symbol of a stream that is held is what is held
+held_value : (plan : Plan) (block symbol : ℕ) (held : List Held) (octets : List ℕ) → says_stream plan.flags ≡ true
+    → held_symbol held symbol ≡ Some octets → value_by plan block symbol held ≡ Some octets
+unfolding solved_symbol
+held_value plan block symbol held octets stream e = go (source_symbols (cut_of_plan plan) block - length held == 0)
+  where
+    size : ℕ
+    size = coded_octets (cut_of_plan plan)
+
+    solved : Option (List ℕ) → List ℕ
+    solved found = elim found [ Some s ↦ s | None ↦ symbol_at size (map power (ids_of held)) (octets_of_held held) (power symbol) ]
+
+    opened : solved_symbol size (ids_of held) (octets_of_held held) symbol ≡ solved (given (ids_of held) (octets_of_held held) symbol)
+    opened = refl
+
+    by_kind : Bool → Option (List ℕ)
+    by_kind b = elim b as (λ _. Option (List ℕ)) [ true ↦ held_symbol held symbol | false ↦ None ]
+
+    go : (b : Bool) → elim b as (λ _. Option (List ℕ)) [
+      | true ↦ Some (solved_symbol size (ids_of held) (octets_of_held held) symbol)
+      | false ↦ by_kind (says_stream plan.flags)
+    ] ≡ Some octets
+    go true = ap (λ (o : List ℕ). Some o) (opened ∙ ap solved (given_found held symbol ∙ e))
+    go false = ap by_kind stream ∙ e
+
+found_any : (symbol : ℕ) (octets : List ℕ) (xs : List Held) → held_symbol xs symbol ≡ Some octets → list_any (λ (h : Held). h.at.symbol == symbol) xs ≡ true
+found_any symbol octets [] e = absurd (none e)
+  where
+    none : None ≡ Some octets → ⊥
+    none h = cc
+found_any symbol octets (x ∷ xs) e = go (x.at.symbol == symbol) e (found_any symbol octets xs)
+  where
+    go : (b : Bool) → elim (cond b (Some x) (find (λ (h : Held). h.at.symbol == symbol) xs)) as (λ _. Option (List ℕ)) [ Some h ↦ Some h.octets | None ↦ None ] ≡ Some octets
+        → (held_symbol xs symbol ≡ Some octets → list_any (λ (h : Held). h.at.symbol == symbol) xs ≡ true)
+        → (b || list_any (λ (h : Held). h.at.symbol == symbol) xs) ≡ true
+    go true f more = refl
+    go false f more = more f
+
+any_found : (symbol : ℕ) (xs : List Held) → list_any (λ (h : Held). h.at.symbol == symbol) xs ≡ true
+    → (octets : List ℕ) × (held_symbol xs symbol ≡ Some octets)
+any_found symbol [] e = absurd (clash e)
+any_found symbol (x ∷ xs) e = go (x.at.symbol == symbol) e (any_found symbol xs)
+  where
+    octets_in : Option Held → Option (List ℕ)
+    octets_in found = elim found [ Some h ↦ Some h.octets | None ↦ None ]
+
+    go : (b : Bool) → (b || list_any (λ (h : Held). h.at.symbol == symbol) xs) ≡ true
+        → (list_any (λ (h : Held). h.at.symbol == symbol) xs ≡ true → (octets : List ℕ) × (held_symbol xs symbol ≡ Some octets))
+        → (octets : List ℕ) × (octets_in (cond b (Some x) (find (λ (h : Held). h.at.symbol == symbol) xs)) ≡ Some octets)
+    go true f more = (x.octets, refl)
+    go false f more = more f
+
+-- a symbol of a stream that is there has a value
+pub there_value : (s : Holding) (plan : Plan) (block symbol : ℕ) → says_stream plan.flags ≡ true → IsThere s plan (position plan.index block symbol)
+    → (octets : List ℕ) × (block_value s plan block symbol ≡ Some octets)
+there_value s plan block symbol stream (inl done) =
+    let held = held_of s plan.index block in
+    let solved : List ℕ = solved_symbol (coded_octets (cut_of_plan plan)) (ids_of held) (octets_of_held held) symbol in
+    let other : Option (List ℕ) = elim (says_stream plan.flags) [ true ↦ held_symbol held symbol | false ↦ None ] in
+    (solved, ap (λ (b : Bool). elim b as (λ _. Option (List ℕ)) [ true ↦ Some solved | false ↦ other ]) done)
+there_value s plan block symbol stream (inr is) =
+    let held = held_of s plan.index block in
+    let found = any_found symbol held is in
+    (found.0, held_value plan block symbol held found.0 stream found.1)
+
+-- a source symbol of the hand-up point's block that has a value has it there too
+abbrev KeepsValues : Holding → Holding → Plan → Type 0
+KeepsValues s t plan = (symbol : ℕ) (octets : List ℕ) → block_value s plan s.point.block symbol ≡ Some octets
+    → block_value t plan s.point.block symbol ≡ Some octets
 
 -- what the other has is done and held here too
 pub record HasAll (s t : Holding) : Type 0 where
@@ -111,24 +212,41 @@ start_still s t all h = record {
   symbol = ap (λ (at : Position). at.symbol) all.point ∙ h.symbol;
 }
 
-more_passed : (s t : Holding) (found : Option Plan) → HasAll s t → PassedBy s found → PassedBy t found
-more_passed s t None all h = start_still s t all h
-more_passed s t (Some plan) all h = go (says_stream plan.flags) h
+more_passed : (p : Settings) (s t : Holding) (found : Option Plan) → HasAll s t
+    → ((plan : Plan) → found ≡ Some plan → says_stream plan.flags ≡ true → KeepsValues s t plan) → PassedBy p s found → PassedBy p t found
+more_passed p s t None all keeps h = start_still s t all h
+more_passed p s t (Some plan) all keeps h = go (says_stream plan.flags) refl h
   where
+    segment_ends : Option (List ℕ) → Bool
+    segment_ends found = elim found [ Some octets ↦ segment_length p octets == 0 | None ↦ false ]
+
+    no_end_still : says_stream plan.flags ≡ true → (symbol : ℕ) → IsThere s plan (position plan.index s.point.block symbol)
+        → is_end p s plan (position plan.index s.point.block symbol) ≡ false → is_end p t plan (position plan.index s.point.block symbol) ≡ false
+    no_end_still stream symbol is e =
+        let value = there_value s plan s.point.block symbol stream is in
+        ap segment_ends (keeps plan refl stream symbol value.0 value.1 ∙ sym value.1) ∙ e
+
     still : (at : Position) → IsThere s plan at → IsThere t plan at
     still at (inl done) = inl (all.done plan at.block done)
     still at (inr held) = inr (all.held at held)
 
-    go : (b : Bool) → elim b as (λ _. Type 0) [ true ↦ IsPassed s plan | false ↦ IsAtStart s ] → elim b as (λ _. Type 0) [ true ↦ IsPassed t plan | false ↦ IsAtStart t ]
-    go true h = record {
+    go : (b : Bool) → says_stream plan.flags ≡ b
+        → elim b as (λ _. Type 0) [ true ↦ IsPassed p s plan | false ↦ IsAtStart s ]
+        → elim b as (λ _. Type 0) [ true ↦ IsPassed p t plan | false ↦ IsAtStart t ]
+    go true stream h = record {
       done = λ block lt. all.done plan block (h.done block (let same = ap (λ (at : Position). at.block) all.point in omega arith));
       there = λ symbol lt. (
           let S : ℕ → Type 0 = λ block. IsThere t plan (position plan.index block symbol) in
           subst S (sym (ap (λ (at : Position). at.block) all.point))
           (still (position plan.index s.point.block symbol) (h.there symbol (let same = ap (λ (at : Position). at.symbol) all.point in omega arith)))
           );
+      no_end = λ symbol lt. (
+          let E : ℕ → Type 0 = λ block. is_end p t plan (position plan.index block symbol) ≡ false in
+          let within : symbol < s.point.symbol = let same = ap (λ (at : Position). at.symbol) all.point in omega arith in
+          subst E (sym (ap (λ (at : Position). at.block) all.point)) (no_end_still stream symbol (h.there symbol within) (h.no_end symbol within))
+          );
     }
-    go false h = start_still s t all h
+    go false stream h = start_still s t all h
 
 -- ---- a symbol more
 
@@ -187,19 +305,164 @@ any_grows r q x (y ∷ xs) e = go (held_before x y) (held_before y x) (any_grows
 none_lacking : (k m n : ℕ) → m ≤ n → (k - m == 0) ≡ true → (k - n == 0) ≡ true
 none_lacking k m n le e = (Decides-eqb (k - n) 0).1 (let z = (Decides-eqb (k - m) 0).0 e in omega arith)
 
-symbol_passed : (word : Put) (at : Position) (payload : List ℕ) (s : Holding) → HasPassed s → HasPassed (with_symbol word at payload s)
-symbol_passed put.Had at payload s h = h
-symbol_passed put.Away at payload s h = h
-symbol_passed put.Unfit at payload s h = h
-symbol_passed put.Kept at payload s h =
+-- what an element that a test refuses joins is the same under the test
+not_among : (q : Held → Bool) (x : Held) → q x ≡ false → (xs : List Held) → filter q (with_member held_before x xs) ≡ filter q xs
+unfolding with_member
+not_among q x out [] = ap (λ b. cond b (x ∷ []) []) out
+not_among q x out (y ∷ xs) = go (held_before x y) (held_before y x) (not_among q x out xs)
+  where
+    go : (b c : Bool) → filter q (with_member held_before x xs) ≡ filter q xs → filter q (elim b as (λ _. List Held) [
+      | true ↦ x ∷ y ∷ xs
+      | false ↦ elim c [ true ↦ y ∷ with_member held_before x xs | false ↦ y ∷ xs ]
+    ]) ≡ filter q (y ∷ xs)
+    go true c e = ap (λ b. cond b (x ∷ filter q (y ∷ xs)) (filter q (y ∷ xs))) out
+    go false true e = ap (λ (zs : List Held). cond (q y) (y ∷ zs) zs) e
+    go false false e = refl
+
+-- and where it is among them but no symbol of this id, the first of that id is the same
+first_still : (symbol : ℕ) (q : Held → Bool) (x : Held) → (q x ≡ true → (x.at.symbol == symbol) ≡ false) → (xs : List Held)
+    → held_symbol (filter q (with_member held_before x xs)) symbol ≡ held_symbol (filter q xs) symbol
+unfolding with_member
+first_still symbol q x other xs = ap octets_in (found xs)
+  where
+    octets_in : Option Held → Option (List ℕ)
+    octets_in o = elim o [ Some h ↦ Some h.octets | None ↦ None ]
+
+    first : List Held → Option Held
+    first ys = find (λ (h : Held). h.at.symbol == symbol) ys
+
+    joined : (b : Bool) → q x ≡ b → (ys : List Held) → first (cond b (x ∷ ys) ys) ≡ first ys
+    joined true e ys = ap (λ c. cond c (Some x) (first ys)) (other e)
+    joined false e ys = refl
+
+    behind : (b : Bool) (y : Held) (ys zs : List Held) → first ys ≡ first zs → first (cond b (y ∷ ys) ys) ≡ first (cond b (y ∷ zs) zs)
+    behind true y ys zs e = ap (λ (o : Option Held). cond (y.at.symbol == symbol) (Some y) o) e
+    behind false y ys zs e = e
+
+    found : (xs : List Held) → first (filter q (with_member held_before x xs)) ≡ first (filter q xs)
+    found [] = joined (q x) refl []
+    found (y ∷ xs) = go (held_before x y) (held_before y x) (found xs)
+      where
+        go : (b c : Bool) → first (filter q (with_member held_before x xs)) ≡ first (filter q xs) → first (filter q (elim b as (λ _. List Held) [
+          | true ↦ x ∷ y ∷ xs
+          | false ↦ elim c [ true ↦ y ∷ with_member held_before x xs | false ↦ y ∷ xs ]
+        ])) ≡ first (filter q (y ∷ xs))
+        go true c e = joined (q x) refl (filter q (y ∷ xs))
+        go false true e = behind (q y) y (filter q (with_member held_before x xs)) (filter q xs) e
+        go false false e = refl
+
+pub or_false : (a b : Bool) → (a || b) ≡ false → (a ≡ false) × (b ≡ false)
+or_false true b h = absurd (clash (sym h))
+or_false false b h = (refl, h)
+
+pub both_true : (a b : Bool) → (a && b) ≡ true → (a ≡ true) × (b ≡ true)
+both_true true b e = (refl, e)
+both_true false b e = absurd (clash e)
+
+-- the word of a symbol by the three tests
+abbrev put_word : Bool → Bool → Bool → Put
+put_word a b c = elim (first_where ((a, put.Had) ∷ (b, put.Away) ∷ (c, put.Unfit) ∷ [])) [ Some word ↦ word | None ↦ put.Kept ]
+
+not_had : (a b c : Bool) → put_word a b c ≡ put.Kept → a ≡ false
+unfolding first_where
+not_had true b c h = absurd (cc)
+not_had false b c h = refl
+
+-- of a symbol that is kept its object has a plan, it is not held, and its block is not done
+pub record IsNew (s : Holding) (at : Position) (plan : Plan) : Type 0 where
+  pub planned : plan_of s at.index ≡ Some plan
+  pub held : holds s at ≡ false
+  pub done : is_done s plan at.block ≡ false
+
+pub kept_new : (p : Settings) (s : Holding) (at : Position) (payload : List ℕ) → put_of p s at payload ≡ put.Kept → (plan : Plan) × IsNew s at plan
+kept_new p s at payload e = go (is_over s at.index) (plan_of s at.index) refl e
+  where
+    go : (b : Bool) (found : Option Plan) → plan_of s at.index ≡ found → elim b as (λ _. Put) [
+      | true ↦ put.Had
+      | false ↦ elim found [ Some plan ↦ put_by p s plan at payload | None ↦ put.Away ]
+    ] ≡ put.Kept → (plan : Plan) × IsNew s at plan
+    go true found is f = absurd (cc)
+    go false None is f = absurd (cc)
+    go false (Some plan) is f =
+        let tests = or_false (holds s at) (is_done s plan at.block) (not_had (holds s at || is_done s plan at.block) (is_far p s plan at.block) (is_misfit p plan at payload) f) in
+        (plan, record { planned = is; held = tests.0; done = tests.1 })
+
+same_plan : (x y : Plan) → Some x ≡ Some y → x ≡ y
+same_plan x y e = cc
+
+-- a symbol that is kept leaves the value of each source symbol that has one
+keeps_values : (p : Settings) (at : Position) (payload : List ℕ) (s : Holding) → put_of p s at payload ≡ put.Kept
+    → (plan : Plan) → plan_of s s.point.index ≡ Some plan → says_stream plan.flags ≡ true → KeepsValues s (with_symbol put.Kept at payload s) plan
+keeps_values p at payload s kept plan found stream symbol octets e =
+    go (is_done s plan s.point.block) refl e
+  where
+    x : Held
+    x = record { at = at; octets = payload }
+
+    q : Held → Bool
+    q h = h.at.index == plan.index && h.at.block == s.point.block
+
+    held : List Held
+    held = held_of s plan.index s.point.block
+
+    new : (other : Plan) × IsNew s at other
+    new = kept_new p s at payload kept
+
+    -- a kept symbol of this block has this plan
+    own : (at.index == plan.index) ≡ true → is_done s plan at.block ≡ false
+    own same =
+        let here : s.point.index ≡ at.index = sym (index_of_found s.point.index s.plans plan found) ∙ sym ((Decides-eqb at.index plan.index).0 same) in
+        let mine : new.0 ≡ plan = same_plan new.0 plan (sym new.1.planned ∙ sym (ap (λ n. plan_of s n) here) ∙ found) in
+        let D : Plan → Type 0 = λ y. is_done s y at.block ≡ false in subst D mine new.1.done
+
+    not_here : is_done s plan s.point.block ≡ true → (b : Bool) → q x ≡ b → q x ≡ false
+    not_here done false is = is
+    not_here done true is =
+        let parts = both_true (at.index == plan.index) (at.block == s.point.block) is in
+        let D : ℕ → Type 0 = λ n. is_done s plan n ≡ false in
+        absurd (clash (sym (subst D ((Decides-eqb at.block s.point.block).0 parts.1) (own parts.0)) ∙ done))
+
+    other_id : held_symbol held symbol ≡ Some octets → q x ≡ true → (b : Bool) → (at.symbol == symbol) ≡ b → (at.symbol == symbol) ≡ false
+    other_id first is false not = not
+    other_id first is true same =
+        let parts = both_true (at.index == plan.index) (at.block == s.point.block) is in
+        let H : ℕ → ℕ → ℕ → Type 0 = λ index block id. holds s (position index block id) ≡ false in
+        let none : holds s (position plan.index s.point.block symbol) ≡ false =
+        subst (λ id. H plan.index s.point.block id) ((Decides-eqb at.symbol symbol).0 same)
+        (subst (λ block. H plan.index block at.symbol) ((Decides-eqb at.block s.point.block).0 parts.1)
+        (subst (λ index. H index at.block at.symbol) ((Decides-eqb at.index plan.index).0 parts.0) new.1.held)) in
+        absurd (clash (sym none ∙ found_any symbol octets held first))
+
+    by_kind : Bool → Option (List ℕ)
+    by_kind b = elim b as (λ _. Option (List ℕ)) [ true ↦ held_symbol held symbol | false ↦ None ]
+
+    go : (b : Bool) → is_done s plan s.point.block ≡ b
+        → elim b as (λ _. Option (List ℕ)) [
+          | true ↦ Some (solved_symbol (coded_octets (cut_of_plan plan)) (ids_of held) (octets_of_held held) symbol)
+          | false ↦ by_kind (says_stream plan.flags)
+        ] ≡ Some octets
+        → value_by plan s.point.block symbol (filter q (with_member held_before x s.held)) ≡ Some octets
+    go true done f =
+        ap (value_by plan s.point.block symbol) (not_among q x (not_here done (q x) refl) s.held) ∙ e
+    go false undone f =
+        let first : held_symbol held symbol ≡ Some octets = sym (ap by_kind stream) ∙ f in
+        held_value plan s.point.block symbol (filter q (with_member held_before x s.held)) octets stream
+        (first_still symbol q x (λ is. other_id first is (at.symbol == symbol) refl) s.held ∙ first)
+
+pub symbol_passed : (p : Settings) (word : Put) (at : Position) (payload : List ℕ) (s : Holding) → put_of p s at payload ≡ word → HasPassed p s
+    → HasPassed p (with_symbol word at payload s)
+symbol_passed p put.Had at payload s e h = h
+symbol_passed p put.Away at payload s e h = h
+symbol_passed p put.Unfit at payload s e h = h
+symbol_passed p put.Kept at payload s e h =
     let x : Held = record { at = at; octets = payload } in
-    more_passed s (with_symbol put.Kept at payload s) (plan_of s s.point.index) (record {
+    more_passed p s (with_symbol put.Kept at payload s) (plan_of s s.point.index) (record {
       point = refl;
       done = λ plan block e.
           none_lacking (source_symbols (cut_of_plan plan) block) (length (held_of s plan.index block)) _
           (grows (λ (y : Held). y.at.index == plan.index && y.at.block == block) x s.held) e;
       held = λ to e. any_grows (λ (y : Held). y.at.symbol == to.symbol) (λ (y : Held). y.at.index == to.index && y.at.block == to.block) x s.held e;
-    }) h
+    }) (λ plan found stream. keeps_values p at payload s e plan found stream) h
 
 -- the same symbols and the same point
 same_held : (s t : Holding) → t.held ≡ s.held → t.point ≡ s.point → HasAll s t
@@ -211,16 +474,17 @@ same_held s t held at = record {
       (filter (λ (y : Held). y.at.index == to.index && y.at.block == to.block) xs) ≡ true in subst H (sym held) e);
 }
 
-info_passed : (word : Put) (index : ℕ) (info : List ℕ) (s : Holding) → HasPassed s → HasPassed (with_info word index info s)
-info_passed put.Had index info s h = h
-info_passed put.Away index info s h = h
-info_passed put.Unfit index info s h = h
-info_passed put.Kept index info s h =
-    more_passed s (with_info put.Kept index info s) (plan_of s s.point.index) (same_held s (with_info put.Kept index info s) refl refl) h
+pub info_passed : (p : Settings) (word : Put) (index : ℕ) (info : List ℕ) (s : Holding) → HasPassed p s → HasPassed p (with_info word index info s)
+info_passed p put.Had index info s h = h
+info_passed p put.Away index info s h = h
+info_passed p put.Unfit index info s h = h
+info_passed p put.Kept index info s h =
+    more_passed p s (with_info put.Kept index info s) (plan_of s s.point.index) (same_held s (with_info put.Kept index info s) refl refl)
+    (λ plan found stream symbol octets e. e) h
 
 -- ---- a plan more
 
-new_found : (index : ℕ) (x : Plan) (plans : List Plan)
+pub new_found : (index : ℕ) (x : Plan) (plans : List Plan)
     → (find (λ (y : Plan). y.index == index) (with_member plan_before x plans) ≡ find (λ (y : Plan). y.index == index) plans)
     ⊎ ((x.index == index) ≡ true)
 unfolding with_member
@@ -252,19 +516,15 @@ new_found index x (y ∷ plans) = go (plan_before x y) (plan_before y x) (new_fo
 abbrev word_of : Bool → Bool → Bool → Fit
 word_of a b c = elim (first_where ((a, fit.Known) ∷ (b, fit.Away) ∷ (c, fit.Unfit) ∷ [])) [ Some word ↦ word | None ↦ fit.Taken ]
 
-unfit : (a b c : Bool) → word_of a b c ≡ fit.Taken → c ≡ false
+pub unfit : (a b c : Bool) → word_of a b c ≡ fit.Taken → c ≡ false
 unfolding first_where
 unfit true b c h = absurd (cc)
 unfit false true c h = absurd (cc)
 unfit false false true h = absurd (cc)
 unfit false false false h = refl
 
-or_false : (a b : Bool) → (a || b) ≡ false → (a ≡ false) × (b ≡ false)
-or_false true b h = absurd (clash (sym h))
-or_false false b h = (refl, h)
-
 -- what is taken up had no plan
-taken_new : (p : Settings) (s : Holding) (index : ℕ) (f : Fti) (flags : ℕ) → fit_of p s index f flags ≡ fit.Taken → plan_of s index ≡ None
+pub taken_new : (p : Settings) (s : Holding) (index : ℕ) (f : Fti) (flags : ℕ) → fit_of p s index f flags ≡ fit.Taken → plan_of s index ≡ None
 taken_new p s index f flags e =
     go (plan_of s index) refl (unfit (is_over s index || is_known_plan s index f flags) (is_away p s index f flags) (is_unfit p s index f flags) e)
   where
@@ -275,8 +535,8 @@ taken_new p s index f flags e =
         let known = or_false _ _ first.0 in
         absurd (clash (sym known.1 ∙ ap (λ (o : Option Plan). is_some o) is))
 
-fitted_passed : (p : Settings) (word : Fit) (index : ℕ) (f : Fti) (flags : ℕ) (s : Holding) → fit_of p s index f flags ≡ word → HasPassed s
-    → HasPassed (fitted word index f flags s)
+pub fitted_passed : (p : Settings) (word : Fit) (index : ℕ) (f : Fti) (flags : ℕ) (s : Holding) → fit_of p s index f flags ≡ word → HasPassed p s
+    → HasPassed p (fitted word index f flags s)
 fitted_passed p fit.Known index f flags s e h = h
 fitted_passed p fit.Away index f flags s e h = h
 fitted_passed p fit.Unfit index f flags s e h = h
@@ -288,19 +548,20 @@ fitted_passed p fit.Taken index f flags s e h = go (new_found s.point.index (new
     all : HasAll s t
     all = same_held s t refl refl
 
-    go : (plan_of t s.point.index ≡ plan_of s s.point.index) ⊎ ((index == s.point.index) ≡ true) → PassedBy t (plan_of t s.point.index)
+    go : (plan_of t s.point.index ≡ plan_of s s.point.index) ⊎ ((index == s.point.index) ≡ true) → PassedBy p t (plan_of t s.point.index)
     go (inl same) =
-        let P : Option Plan → Type 0 = λ found. PassedBy t found in subst P (sym same) (more_passed s t (plan_of s s.point.index) all h)
+        let P : Option Plan → Type 0 = λ found. PassedBy p t found in
+        subst P (sym same) (more_passed p s t (plan_of s s.point.index) all (λ plan found stream symbol octets v. v) h)
     go (inr here) =
         let none : plan_of s s.point.index ≡ None =
         ap (λ (n : ℕ). plan_of s n) (sym ((Decides-eqb index s.point.index).0 here)) ∙ taken_new p s index f flags e in
-        let P : Option Plan → Type 0 = λ found. PassedBy s found in
+        let P : Option Plan → Type 0 = λ found. PassedBy p s found in
         let start : IsAtStart s = subst P none h in
-        starts t (plan_of t s.point.index) (record { block = start.block; symbol = start.symbol })
+        starts p t (plan_of t s.point.index) (record { block = start.block; symbol = start.symbol })
 
 -- ---- a block that is seen
 
-seen_found : (at : Point) (index : ℕ) (plans : List Plan) → find (λ (y : Plan). y.index == index) (map (plan_seen at) plans)
+pub seen_found : (at : Point) (index : ℕ) (plans : List Plan) → find (λ (y : Plan). y.index == index) (map (plan_seen at) plans)
     ≡ option_map (plan_seen at) (find (λ (y : Plan). y.index == index) plans)
 seen_found at index [] = refl
 seen_found at index (x ∷ plans) =
@@ -323,50 +584,38 @@ seen_found at index (x ∷ plans) =
     moves true = refl
     moves false = refl
 
-seen_passed : (at : Point) (s : Holding) → HasPassed s → HasPassed (sees_block at s)
-seen_passed at s h =
-    let P : Option Plan → Type 0 = λ found. PassedBy (sees_block at s) found in
-    subst P (sym (seen_found at s.point.index s.plans)) (go (plan_of s s.point.index) (more_passed s (sees_block at s) (plan_of s s.point.index) (same_held s (sees_block at s) refl refl) h))
+pub seen_passed : (p : Settings) (at : Point) (s : Holding) → HasPassed p s → HasPassed p (sees_block at s)
+seen_passed p at s h =
+    let P : Option Plan → Type 0 = λ found. PassedBy p (sees_block at s) found in
+    subst P (sym (seen_found at s.point.index s.plans)) (go (plan_of s s.point.index) (more_passed p s (sees_block at s) (plan_of s s.point.index)
+    (same_held s (sees_block at s) refl refl) (λ plan found stream symbol octets v. v) h))
   where
     t : Holding
     t = sees_block at s
 
-    one : (plan : Plan) (b c : Bool) → says_stream plan.flags ≡ c → elim c as (λ _. Type 0) [ true ↦ IsPassed t plan | false ↦ IsAtStart t ]
-        → PassedBy t (Some (elim b as (λ _. Plan) [ true ↦ record plan { seen = max plan.seen at.block } | false ↦ plan ]))
+    one : (plan : Plan) (b c : Bool) → says_stream plan.flags ≡ c → elim c as (λ _. Type 0) [ true ↦ IsPassed p t plan | false ↦ IsAtStart t ]
+        → PassedBy p t (Some (elim b as (λ _. Plan) [ true ↦ record plan { seen = max plan.seen at.block } | false ↦ plan ]))
     one plan true c e k = by c (says_stream plan.flags) (sym e) k
       where
-        by : (c d : Bool) → c ≡ d → elim c as (λ _. Type 0) [ true ↦ IsPassed t plan | false ↦ IsAtStart t ]
-            → elim d as (λ _. Type 0) [ true ↦ IsPassed t (record plan { seen = max plan.seen at.block }) | false ↦ IsAtStart t ]
-        by true true f k = record { done = k.done; there = k.there }
+        by : (c d : Bool) → c ≡ d → elim c as (λ _. Type 0) [ true ↦ IsPassed p t plan | false ↦ IsAtStart t ]
+            → elim d as (λ _. Type 0) [ true ↦ IsPassed p t (record plan { seen = max plan.seen at.block }) | false ↦ IsAtStart t ]
+        by true true f k = record { done = k.done; there = k.there; no_end = k.no_end }
         by false false f k = k
         by true false f k = absurd (clash (sym f))
         by false true f k = absurd (clash f)
-    one plan false c e k = subst (λ (d : Bool). elim d as (λ _. Type 0) [ true ↦ IsPassed t plan | false ↦ IsAtStart t ]) (sym e) k
+    one plan false c e k = subst (λ (d : Bool). elim d as (λ _. Type 0) [ true ↦ IsPassed p t plan | false ↦ IsAtStart t ]) (sym e) k
 
-    go : (found : Option Plan) → PassedBy t found → PassedBy t (option_map (plan_seen at) found)
+    go : (found : Option Plan) → PassedBy p t found → PassedBy p t (option_map (plan_seen at) found)
     go None k = k
     go (Some plan) k = one plan (plan.index == at.index && says_stream plan.flags) (says_stream plan.flags) refl k
 
 -- ---- hand-ups
 
-at_next : (ups : List Up) (index : ℕ) (s : Holding) → HasPassed (handed ups (after_object index) s)
-at_next ups index s = starts_here (handed ups (after_object index) s) (record { block = refl; symbol = refl })
-
-found_any : (symbol : ℕ) (octets : List ℕ) (xs : List Held) → held_symbol xs symbol ≡ Some octets → list_any (λ (h : Held). h.at.symbol == symbol) xs ≡ true
-found_any symbol octets [] e = absurd (none e)
-  where
-    none : None ≡ Some octets → ⊥
-    none h = cc
-found_any symbol octets (x ∷ xs) e = go (x.at.symbol == symbol) e (found_any symbol octets xs)
-  where
-    go : (b : Bool) → elim (cond b (Some x) (find (λ (h : Held). h.at.symbol == symbol) xs)) as (λ _. Option (List ℕ)) [ Some h ↦ Some h.octets | None ↦ None ] ≡ Some octets
-        → (held_symbol xs symbol ≡ Some octets → list_any (λ (h : Held). h.at.symbol == symbol) xs ≡ true)
-        → (b || list_any (λ (h : Held). h.at.symbol == symbol) xs) ≡ true
-    go true f more = refl
-    go false f more = more f
+at_next : (p : Settings) (ups : List Up) (index : ℕ) (s : Holding) → HasPassed p (handed ups (after_object index) s)
+at_next p ups index s = starts_here p (handed ups (after_object index) s) (record { block = refl; symbol = refl })
 
 -- a symbol of a stream that has a value is there
-value_there : (s : Holding) (plan : Plan) (block symbol : ℕ) (octets : List ℕ) → says_stream plan.flags ≡ true
+pub value_there : (s : Holding) (plan : Plan) (block symbol : ℕ) (octets : List ℕ) → says_stream plan.flags ≡ true
     → block_value s plan block symbol ≡ Some octets → IsThere s plan (position plan.index block symbol)
 value_there s plan block symbol octets stream e = go (is_done s plan block) _ refl e
   where
@@ -405,17 +654,19 @@ behind long goes_on at = elim long [
   | suc n ↦ elim goes_on [ true ↦ position at.index at.block (at.symbol + 1) | false ↦ position at.index (at.block + 1) 0 ]
 ]
 
-segment_passed : (plan : Plan) (ups : List Up) (s : Holding) (long : ℕ) → plan_of s s.point.index ≡ Some plan → says_stream plan.flags ≡ true → HasPassed s
+segment_passed : (p : Settings) (plan : Plan) (ups : List Up) (s : Holding) (octets : List ℕ) (long : ℕ) → segment_length p octets ≡ long
+    → plan_of s s.point.index ≡ Some plan → says_stream plan.flags ≡ true → HasPassed p s
     → IsThere s plan (position plan.index s.point.block s.point.symbol)
-    → HasPassed (handed ups (behind long (nat_lt (s.point.symbol + 1) (source_symbols (cut_of_plan plan) s.point.block)) s.point) s)
-segment_passed plan ups s zero found stream h next = at_next ups s.point.index s
-segment_passed plan ups s (suc n) found stream h next = go (nat_lt (s.point.symbol + 1) (source_symbols (cut_of_plan plan) s.point.block)) refl
+    → block_value s plan s.point.block s.point.symbol ≡ Some octets
+    → HasPassed p (handed ups (behind long (nat_lt (s.point.symbol + 1) (source_symbols (cut_of_plan plan) s.point.block)) s.point) s)
+segment_passed p plan ups s octets zero is found stream h next value = at_next p ups s.point.index s
+segment_passed p plan ups s octets (suc n) is found stream h next value = go (nat_lt (s.point.symbol + 1) (source_symbols (cut_of_plan plan) s.point.block)) refl
   where
     Of : Holding → Bool → Type 0
-    Of t b = elim b as (λ _. Type 0) [ true ↦ IsPassed t plan | false ↦ IsAtStart t ]
+    Of t b = elim b as (λ _. Type 0) [ true ↦ IsPassed p t plan | false ↦ IsAtStart t ]
 
-    passed : IsPassed s plan
-    passed = let P : Option Plan → Type 0 = λ o. PassedBy s o in subst (Of s) stream (subst P found h)
+    passed : IsPassed p s plan
+    passed = let P : Option Plan → Type 0 = λ o. PassedBy p s o in subst (Of s) stream (subst P found h)
 
     up_to : (symbol : ℕ) → symbol < s.point.symbol + 1 → IsThere s plan (position plan.index s.point.block symbol)
     up_to symbol lt = elim (cases_lt symbol s.point.symbol) [
@@ -423,6 +674,18 @@ segment_passed plan ups s (suc n) found stream h next = go (nat_lt (s.point.symb
       | inr ge ↦ (
           let T : ℕ → Type 0 = λ n. IsThere s plan (position plan.index s.point.block n) in
           subst T (let same : s.point.symbol ≡ symbol = omega arith in same) next
+          )
+    ]
+
+    segment_ends : Option (List ℕ) → Bool
+    segment_ends o = elim o [ Some octets ↦ segment_length p octets == 0 | None ↦ false ]
+
+    no_end : (symbol : ℕ) → symbol < s.point.symbol + 1 → is_end p s plan (position plan.index s.point.block symbol) ≡ false
+    no_end symbol lt = elim (cases_lt symbol s.point.symbol) [
+      | inl less ↦ passed.no_end symbol less
+      | inr ge ↦ (
+          let E : ℕ → Type 0 = λ n. is_end p s plan (position plan.index s.point.block n) ≡ false in
+          subst E (let same : s.point.symbol ≡ symbol = omega arith in same) (ap segment_ends value ∙ ap (λ n. n == 0) is ∙ ne_eqb (suc n) 0 (λ e. absurd (omega arith)))
           )
     ]
 
@@ -444,17 +707,17 @@ segment_passed plan ups s (suc n) found stream h next = go (nat_lt (s.point.symb
           | inr ge ↦ absurd (clash (sym e ∙ (Decides-ltb (s.point.symbol + 1) (source_symbols (cut_of_plan plan) s.point.block)).1 (omega arith)))
         ]
 
-    of_stream : (t : Holding) → plan_of t t.point.index ≡ Some plan → IsPassed t plan → HasPassed t
-    of_stream t there k = let P : Option Plan → Type 0 = λ o. PassedBy t o in subst P (sym there) (subst (Of t) (sym stream) k)
+    of_stream : (t : Holding) → plan_of t t.point.index ≡ Some plan → IsPassed p t plan → HasPassed p t
+    of_stream t there k = let P : Option Plan → Type 0 = λ o. PassedBy p t o in subst P (sym there) (subst (Of t) (sym stream) k)
 
     go : (b : Bool) → nat_lt (s.point.symbol + 1) (source_symbols (cut_of_plan plan) s.point.block) ≡ b
-        → HasPassed (handed ups (elim b as (λ _. Position) [
+        → HasPassed p (handed ups (elim b as (λ _. Position) [
           | true ↦ position s.point.index s.point.block (s.point.symbol + 1)
           | false ↦ position s.point.index (s.point.block + 1) 0
         ]) s)
-    go true e = of_stream (handed ups (position s.point.index s.point.block (s.point.symbol + 1)) s) found (record { done = passed.done; there = up_to })
+    go true e = of_stream (handed ups (position s.point.index s.point.block (s.point.symbol + 1)) s) found (record { done = passed.done; there = up_to; no_end = no_end })
     go false e = of_stream (handed ups (position s.point.index (s.point.block + 1) 0) s) found
-        (record { done = before e; there = λ symbol lt. absurd (omega arith) })
+        (record { done = before e; there = λ symbol lt. absurd (omega arith); no_end = λ symbol lt. absurd (omega arith) })
 
 same_state : (x y : Holding) → Some x ≡ Some y → x ≡ y
 same_state x y e = cc
@@ -462,38 +725,38 @@ same_state x y e = cc
 no_state : (x : Holding) → None ≡ Some x → ⊥
 no_state x e = cc
 
-one_passed : (p : Settings) (s after : Holding) → hands_one p s ≡ Some after → HasPassed s → HasPassed after
+pub one_passed : (p : Settings) (s after : Holding) → hands_one p s ≡ Some after → HasPassed p s → HasPassed p after
 one_passed p s after e h = go (plan_of s s.point.index) refl e
   where
-    same : (t : Holding) → Some t ≡ Some after → HasPassed t → HasPassed after
-    same t f k = let P : Holding → Type 0 = λ x. HasPassed x in subst P (same_state t after f) k
+    same : (t : Holding) → Some t ≡ Some after → HasPassed p t → HasPassed p after
+    same t f k = let P : Holding → Type 0 = λ x. HasPassed p x in subst P (same_state t after f) k
 
     objects : (plan : Plan) (b : Bool)
         → elim b as (λ _. Option Holding) [
           | true ↦ Some (handed (up.Object plan.index (kind_of plan.flags) (told_info s plan) (object_octets s plan) ∷ []) (after_object plan.index) s)
           | false ↦ None
-        ] ≡ Some after → HasPassed after
-    objects plan true f = same _ f (at_next _ plan.index s)
+        ] ≡ Some after → HasPassed p after
+    objects plan true f = same _ f (at_next p _ plan.index s)
     objects plan false f = absurd (no_state after f)
 
     segments : (plan : Plan) → plan_of s s.point.index ≡ Some plan → says_stream plan.flags ≡ true → (o : Option (List ℕ)) → next_segment s plan ≡ o
-        → elim o as (λ _. Option Holding) [ Some symbol ↦ Some (hands_segment p s plan symbol) | None ↦ None ] ≡ Some after → HasPassed after
+        → elim o as (λ _. Option Holding) [ Some symbol ↦ Some (hands_segment p s plan symbol) | None ↦ None ] ≡ Some after → HasPassed p after
     segments plan found stream None is f = absurd (no_state after f)
     segments plan found stream (Some symbol) is f =
         same (hands_segment p s plan symbol) f
-        (segment_passed plan (open_before s.point ++ segment_up p s.point.index symbol ∷ []) s (segment_length p symbol) found stream h
-        (value_there s plan s.point.block s.point.symbol symbol stream is))
+        (segment_passed p plan (open_before s.point ++ segment_up p s.point.index symbol ∷ []) s symbol (segment_length p symbol) refl found stream h
+        (value_there s plan s.point.block s.point.symbol symbol stream is) is)
 
     streams : (plan : Plan) → plan_of s s.point.index ≡ Some plan → says_stream plan.flags ≡ true → (b : Bool)
         → elim b as (λ _. Option Holding) [
           | true ↦ elim (next_segment s plan) [ Some symbol ↦ Some (hands_segment p s plan symbol) | None ↦ None ]
           | false ↦ None
-        ] ≡ Some after → HasPassed after
+        ] ≡ Some after → HasPassed p after
     streams plan found stream true f = segments plan found stream (next_segment s plan) refl f
     streams plan found stream false f = absurd (no_state after f)
 
     kinds : (plan : Plan) → plan_of s s.point.index ≡ Some plan → (b : Bool) → says_stream plan.flags ≡ b
-        → elim b as (λ _. Option Holding) [ true ↦ hands_next p s plan | false ↦ hands_object s plan ] ≡ Some after → HasPassed after
+        → elim b as (λ _. Option Holding) [ true ↦ hands_next p s plan | false ↦ hands_object s plan ] ≡ Some after → HasPassed p after
     kinds plan found true stream f = streams plan found stream (has_its_info s plan) f
     kinds plan found false stream f = objects plan (is_whole s plan) f
 
@@ -501,34 +764,34 @@ one_passed p s after e h = go (plan_of s s.point.index) refl e
         → elim o as (λ _. Option Holding) [
           | Some plan ↦ elim (says_stream plan.flags) [ true ↦ hands_next p s plan | false ↦ hands_object s plan ]
           | None ↦ None
-        ] ≡ Some after → HasPassed after
+        ] ≡ Some after → HasPassed p after
     go None found f = absurd (no_state after f)
     go (Some plan) found f = kinds plan found (says_stream plan.flags) refl f
 
-most_passed : (p : Settings) (n : ℕ) (s : Holding) → HasPassed s → HasPassed (hands_most n p s)
+most_passed : (p : Settings) (n : ℕ) (s : Holding) → HasPassed p s → HasPassed p (hands_most n p s)
 unfolding hands_most
 most_passed p zero s h = h
 most_passed p (suc n) s h = go (hands_one p s) refl (λ t k. most_passed p n t k)
   where
-    go : (next : Option Holding) → hands_one p s ≡ next → ((t : Holding) → HasPassed t → HasPassed (hands_most n p t))
-        → HasPassed (elim next as (λ _. Holding) [ Some after ↦ hands_most n p after | None ↦ s ])
+    go : (next : Option Holding) → hands_one p s ≡ next → ((t : Holding) → HasPassed p t → HasPassed p (hands_most n p t))
+        → HasPassed p (elim next as (λ _. Holding) [ Some after ↦ hands_most n p after | None ↦ s ])
     go None e more = h
     go (Some after) e more = more after (one_passed p s after e h)
 
-up_passed : (p : Settings) (s : Holding) → HasPassed s → HasPassed (handed_up p s)
+up_passed : (p : Settings) (s : Holding) → HasPassed p s → HasPassed p (handed_up p s)
 up_passed p s h = most_passed p (length s.held) s h
 
 -- ---- a message, and a squelch
 
 object_passed : (p : Settings) (at : Position) (extensions : List Extension) (flags : ℕ) (brings : Holding → Holding) (s : Holding)
-    → ((t : Holding) → HasPassed t → HasPassed (brings t)) → HasPassed s → HasPassed (object_held p at extensions flags brings s)
+    → ((t : Holding) → HasPassed p t → HasPassed p (brings t)) → HasPassed p s → HasPassed p (object_held p at extensions flags brings s)
 object_passed p at extensions flags brings s kept h = go (fti_of extensions)
   where
-    put : (t : Holding) → HasPassed t → (b : Bool) → HasPassed (elim b as (λ _. Holding) [ true ↦ handed_up p (brings t) | false ↦ t ])
+    put : (t : Holding) → HasPassed p t → (b : Bool) → HasPassed p (elim b as (λ _. Holding) [ true ↦ handed_up p (brings t) | false ↦ t ])
     put t k true = up_passed p (brings t) (kept t k)
     put t k false = k
 
-    go : (found : Option Fti) → HasPassed (elim found as (λ _. Holding) [
+    go : (found : Option Fti) → HasPassed p (elim found as (λ _. Holding) [
       | Some f ↦ (
           let word = fit_of p s at.index f flags in
           let s' = sees_block (point_of at) (fitted word at.index f flags s) in
@@ -536,55 +799,56 @@ object_passed p at extensions flags brings s kept h = go (fti_of extensions)
           )
       | None ↦ handed_up p (brings (sees_block (point_of at) s))
     ])
-    go None = put (sees_block (point_of at) s) (seen_passed (point_of at) s h) true
+    go None = put (sees_block (point_of at) s) (seen_passed p (point_of at) s h) true
     go (Some f) = put (sees_block (point_of at) (fitted (fit_of p s at.index f flags) at.index f flags s))
-        (seen_passed (point_of at) _ (fitted_passed p (fit_of p s at.index f flags) at.index f flags s refl h)) (lets_put (fit_of p s at.index f flags))
+        (seen_passed p (point_of at) _ (fitted_passed p (fit_of p s at.index f flags) at.index f flags s refl h)) (lets_put (fit_of p s at.index f flags))
 
-lost_passed : (s : Holding) → HasPassed (loses_one s)
-lost_passed s = starts_here (loses_one s) (record { block = refl; symbol = refl })
+pub lost_passed : (p : Settings) (s : Holding) → HasPassed p (loses_one s)
+lost_passed p s = starts_here p (loses_one s) (record { block = refl; symbol = refl })
 
-before_passed : (p : Settings) (n index : ℕ) (s : Holding) → HasPassed s → HasPassed (loses_before n p index s)
+before_passed : (p : Settings) (n index : ℕ) (s : Holding) → HasPassed p s → HasPassed p (loses_before n p index s)
 unfolding loses_before
 before_passed p zero index s h = up_passed p s h
 before_passed p (suc n) index s h = go (nat_lt (handed_up p s).point.index index) (λ t k. before_passed p n index t k)
   where
-    go : (b : Bool) → ((t : Holding) → HasPassed t → HasPassed (loses_before n p index t))
-        → HasPassed (elim b as (λ _. Holding) [ true ↦ loses_before n p index (loses_one (handed_up p s)) | false ↦ handed_up p s ])
-    go true more = more (loses_one (handed_up p s)) (lost_passed (handed_up p s))
+    go : (b : Bool) → ((t : Holding) → HasPassed p t → HasPassed p (loses_before n p index t))
+        → HasPassed p (elim b as (λ _. Holding) [ true ↦ loses_before n p index (loses_one (handed_up p s)) | false ↦ handed_up p s ])
+    go true more = more (loses_one (handed_up p s)) (lost_passed p (handed_up p s))
     go false more = up_passed p s h
 
-squelched_passed : (p : Settings) (first : Point) (s : Holding) → HasPassed s → HasPassed (squelched p first s)
+squelched_passed : (p : Settings) (first : Point) (s : Holding) → HasPassed p s → HasPassed p (squelched p first s)
 squelched_passed p first s h =
     let t : Holding = loses_before (first.index - s.point.index) p first.index s in
     go t (t.point.index == first.index && is_cut_off t first) (before_passed p (first.index - s.point.index) first.index s h)
   where
-    go : (t : Holding) (b : Bool) → HasPassed t → HasPassed (elim b as (λ _. Holding) [ true ↦ handed_up p (loses_one t) | false ↦ t ])
-    go t true k = up_passed p (loses_one t) (lost_passed t)
+    go : (t : Holding) (b : Bool) → HasPassed p t → HasPassed p (elim b as (λ _. Holding) [ true ↦ handed_up p (loses_one t) | false ↦ t ])
+    go t true k = up_passed p (loses_one t) (lost_passed p t)
     go t false k = k
 
-taken_passed : (s : Holding) → HasPassed s → HasPassed (up_taken s).0
-taken_passed s h = go s.ups
+pub taken_passed : (p : Settings) (s : Holding) → HasPassed p s → HasPassed p (up_taken s).0
+taken_passed p s h = go s.ups
   where
     holding_of : Holding × Option Up → Holding
     holding_of step = step.0
 
-    go : (ups : List Up) → HasPassed (holding_of (elim ups [ up ∷ more ↦ (record s { ups = more }, Some up) | [] ↦ (s, None) ]))
+    go : (ups : List Up) → HasPassed p (holding_of (elim ups [ up ∷ more ↦ (record s { ups = more }, Some up) | [] ↦ (s, None) ]))
     go [] = h
-    go (up ∷ more) = more_passed s (record s { ups = more }) (plan_of s s.point.index) (same_held s (record s { ups = more }) refl refl) h
+    go (up ∷ more) = more_passed p s (record s { ups = more }) (plan_of s s.point.index) (same_held s (record s { ups = more }) refl refl)
+        (λ plan found stream symbol octets e. e) h
 
-is_kept : (p : Settings) → IsKept p (λ s. HasPassed s)
+is_kept : (p : Settings) → HoldingIsKept p (λ s. HasPassed p s)
 is_kept p = record {
   nothing = record { block = refl; symbol = refl };
   symbol = λ at extensions flags payload s h.
-      object_passed p at extensions flags (put_symbol p at payload) s (λ t k. symbol_passed (put_of p t at payload) at payload t k) h;
+      object_passed p at extensions flags (put_symbol p at payload) s (λ t k. symbol_passed p (put_of p t at payload) at payload t refl k) h;
   info = λ at extensions flags index info s h.
-      object_passed p at extensions flags (put_info p index info) s (λ t k. info_passed (put_info_of p t index info) index info t k) h;
+      object_passed p at extensions flags (put_info p index info) s (λ t k. info_passed p (put_info_of p t index info) index info t k) h;
   squelch = λ first s h. squelched_passed p first s h;
-  take = λ s h. taken_passed s h;
+  take = λ s h. taken_passed p s h;
 }
 
 pub passed_laws : PassedLaws
 passed_laws = record {
-  begins = λ node. record { block = refl; symbol = refl };
-  goes_on = λ p s event h. steps_keep p (λ t. HasPassed t) (is_kept p) s event h;
+  begins = λ p node. record { block = refl; symbol = refl };
+  goes_on = λ p s event h. steps_keep p (λ t. HasPassed p t) (is_kept p) s event h;
 }

@@ -1,9 +1,10 @@
 -- What every step of a receiver keeps.
-use Rattle.std.proofs.Common.{◌≡◌, ℕ, List, [], ◌∷◌, Bool, true, false, Option, None, Some, Result, Ok, Err, refl, sym, ap, subst, ◌∙◌}
+use Rattle.std.proofs.Common.{◌≡◌, ℕ, inl, inr, List, [], ◌∷◌, Bool, true, false, Option, None, Some, Result, Ok, Err, refl, sym, ap, subst, ◌∙◌}
 use Rattle.std.specs.Prelude.{◌==◌, ◌&&◌, not, nat_le, flat_map, unwrap_or, option_and_then}
 use Rattle.std.proofs.lemmas.Bool.Decides.{Decides-eqb}
 use Rattle.norm_base.specs.Settings.{Settings}
 use Rattle.fec_plan.specs.declared.position.Position.{Position}
+use Rattle.norm_ext.specs.InstanceIds.{is_above}
 use Rattle.norm_ext.specs.Message.{Message, Info, Data, Flush, Eot, Squelch, RepairAdv, AckReq, Opaque, Nack, Ack, Report}
 use Rattle.norm_ext.specs.ObjectIds.{index_named}
 use Rattle.norm_ext.specs.Reading.{decoded}
@@ -11,7 +12,7 @@ use Rattle.norm_ext.specs.Written.{Written, writes}
 use Rattle.norm_receive_rules.specs.AllNeeds.{needs, needs_nothing}
 use Rattle.norm_receive_rules.specs.BackingOff.{may_back_off, backs_off, may_need}
 use Rattle.norm_receive_rules.specs.Holding.{Holding, holding_nothing}
-use Rattle.norm_receive_rules.specs.Laws.{HoldsNothingOutside, StepLaws}
+use Rattle.norm_receive_rules.specs.Laws.{HoldsNothingOutside, GoesOnTo, StepLaws}
 use Rattle.norm_receive_rules.specs.Leaving.{is_in, goes_to, enters}
 use Rattle.norm_receive_rules.specs.Nack.{indices_of, fitting, nack_message, ack_message}
 use Rattle.norm_receive_rules.specs.Needs.{Need}
@@ -22,14 +23,15 @@ use Rattle.norm_receive_rules.specs.Receiving.{info_received, data_received, flu
 use Rattle.norm_receive_rules.specs.Taking.{up_taken, took}
 use Rattle.norm_receive_rules.specs.Ticking.{sends, holds_off, are_heard, asks, asks_where_needed, ends_back_off, ticked}
 
--- the same node; and where nothing was held outside of instances, nothing is
+-- the same node, in its instance or in one that it goes on to; and where nothing was held outside of instances, nothing is
 pub record Stays (s t : ReceiverState) : Type 0 where
   pub node : t.node ≡ s.node
+  pub instance : GoesOnTo s.instance t.instance
   pub outside : HoldsNothingOutside s → HoldsNothingOutside t
 
 -- the same node in the same instance, where the same is held
 same_held : (s t : ReceiverState) → t.node ≡ s.node → t.instance ≡ s.instance → t.holding ≡ s.holding → Stays s t
-same_held s t node instance holding = record { node = node; outside = λ h out. holding ∙ h (sym instance ∙ out) }
+same_held s t node instance holding = record { node = node; instance = inl instance; outside = λ h out. holding ∙ h (sym instance ∙ out) }
 
 unchanged : (s : ReceiverState) → Stays s s
 unchanged s = same_held s s refl refl refl
@@ -38,8 +40,8 @@ never : (id : ℕ) → Some id ≡ None → ⊥
 never id e = cc
 
 -- the same node in an instance
-in_one : (s t : ReceiverState) (id : ℕ) → t.node ≡ s.node → t.instance ≡ Some id → Stays s t
-in_one s t id node is = record { node = node; outside = λ h out. absurd (never id (sym is ∙ out)) }
+in_one : (s t : ReceiverState) (id : ℕ) → GoesOnTo s.instance (Some id) → t.node ≡ s.node → t.instance ≡ Some id → Stays s t
+in_one s t id goes node is = record { node = node; instance = subst (λ (o : Option ℕ). GoesOnTo s.instance o) (sym is) goes; outside = λ h out. absurd (never id (sym is ∙ out)) }
 
 -- ---- a tick
 
@@ -54,8 +56,8 @@ tick_stays p s now = due s.knows.due
       | true ↦ (record t { knows = holds_off p now t.knows }, None)
       | false ↦ sends (writes (nack_message p t wanted) (flat_map indices_of wanted)) (record t { knows = holds_off p now t.knows })
     ]))
-    asked wanted t h true = record { node = h.node; outside = h.outside }
-    asked wanted t h false = record { node = h.node; outside = h.outside }
+    asked wanted t h true = record { node = h.node; instance = h.instance; outside = h.outside }
+    asked wanted t h false = record { node = h.node; instance = h.instance; outside = h.outside }
 
     needed : (t : ReceiverState) → Stays s t → (none : Bool) → Stays s (state_of (elim none [
       | true ↦ (t, None)
@@ -113,10 +115,10 @@ in_it s id e = go s.instance e
 
 instance_stays : (p : Settings) (now draw source id object : ℕ) (brings : ℕ → ReceiverState → ReceiverState) (s : ReceiverState)
     → ((index : ℕ) (t : ReceiverState) → KeepsIds t (brings index t)) → Stays s (in_instance p now draw source id object brings s)
-instance_stays p now draw source id object brings s keeps = go (source == p.sender) (is_in s id) refl (goes_to s id)
+instance_stays p now draw source id object brings s keeps = go (source == p.sender) (is_in s id) refl (goes_to s id) refl
   where
-    taken : (t : ReceiverState) → t.node ≡ s.node → t.instance ≡ Some id → Stays s (unwrap_or (takes_in p now draw object brings t) s)
-    taken t node instance = by (index_named p t.knows.known object)
+    taken : (t : ReceiverState) → GoesOnTo s.instance (Some id) → t.node ≡ s.node → t.instance ≡ Some id → Stays s (unwrap_or (takes_in p now draw object brings t) s)
+    taken t goes node instance = by (index_named p t.knows.known object)
       where
         by : (named : Option ℕ) → Stays s (unwrap_or (elim named [
           | Some index ↦ Some (may_need p now draw (brings index (record t { knows = learns index t.knows })))
@@ -126,18 +128,22 @@ instance_stays p now draw source id object brings s keeps = go (source == p.send
         by (Some index) =
             let k = keeps index (record t { knows = learns index t.knows }) in
             let n = need_keeps p now draw (brings index (record t { knows = learns index t.knows })) in
-            in_one s (may_need p now draw (brings index (record t { knows = learns index t.knows }))) id
+            in_one s (may_need p now draw (brings index (record t { knows = learns index t.knows }))) id goes
             (n.node ∙ k.node ∙ node) (n.instance ∙ k.instance ∙ instance)
 
-    go : (own inside : Bool) → is_in s id ≡ inside → (above : Bool) → Stays s (elim own [
+    entering : (found : Option ℕ) → elim found [ Some current ↦ is_above current id | None ↦ true ] ≡ true → GoesOnTo found (Some id)
+    entering None e = inr (id, refl, tt)
+    entering (Some current) e = inr (id, refl, e)
+
+    go : (own inside : Bool) → is_in s id ≡ inside → (above : Bool) → goes_to s id ≡ above → Stays s (elim own [
       | true ↦ unwrap_or (option_and_then (takes_in p now draw object brings)
           (elim inside [ true ↦ Some s | false ↦ elim above [ true ↦ Some (enters id s) | false ↦ None ] ])) s
       | false ↦ s
     ])
-    go false inside e above = unchanged s
-    go true true e above = taken s refl (in_it s id e)
-    go true false e true = taken (enters id s) refl refl
-    go true false e false = unchanged s
+    go false inside e above f = unchanged s
+    go true true e above f = taken s (inl (sym (in_it s id e))) refl (in_it s id e)
+    go true false e true f = taken (enters id s) (entering s.instance f) refl refl
+    go true false e false f = unchanged s
 
 where_stays : (b : Bool) (s t : ReceiverState) → Stays s t → Stays s (elim b [ true ↦ t | false ↦ s ])
 where_stays true s t h = h
@@ -169,6 +175,7 @@ message_stays p s now draw (Err refusal) = unchanged s
 took_stays : (s : ReceiverState) → Stays s (took s).0
 took_stays s = record {
   node = refl;
+  instance = inl refl;
   outside = λ h out. (let T : Holding → Type 0 = λ holding. (up_taken holding).0 ≡ holding_nothing in subst T (sym (h out)) refl);
 }
 
@@ -180,6 +187,7 @@ steps_stay p s UpTaken = took_stays s
 pub step_laws : StepLaws
 step_laws = record {
   node = λ p s event. (steps_stay p s event).node;
+  instance = λ p s event. (steps_stay p s event).instance;
   begins = λ node out. refl;
   goes_on = λ p s event. (steps_stay p s event).outside;
 }

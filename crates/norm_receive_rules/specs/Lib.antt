@@ -24,3 +24,8 @@ pub mod Ticking
 pub mod Taking
 pub mod ReceiverStep
 pub mod Laws
+pub mod InstanceLaws
+pub mod DueLaws
+pub mod NackLaws
+pub mod FarLaws
+pub mod OpenLaws

@@ -5,3 +5,8 @@ pub mod SpanLemmas
 pub mod CountLemmas
 pub mod OverhearingLemmas
 pub mod ReceiverLemmas
+pub mod OrderLemmas
+pub mod SearchLemmas
+pub mod WalkLemmas
+pub mod AskLemmas
+pub mod TickingLemmas

@@ -15,7 +15,7 @@ use Rattle.norm_receive_rules.specs.StreamNeeds.{stream_needs}
 use Rattle.rx_hold.specs.HoldState.{IsFirstShort, flags_at, plan_at}
 use Rattle.norm_receiver.specs.Quiet.{is_nil, is_behind}
 
-clash : {X : Type 0} → false ≡ true → X
+pub clash : {X : Type 0} → false ≡ true → X
 clash e = absurd (go e)
   where
     go : false ≡ true → ⊥
@@ -84,10 +84,10 @@ blocks_quiet s plan n (Some b) is le = go (cases_lt b n)
 same_plan : (x y : Plan) → Some x ≡ Some y → x ≡ y
 same_plan x y e = cc
 
-never_plan : (plan : Plan) → None ≡ Some plan → ⊥
+pub never_plan : (plan : Plan) → None ≡ Some plan → ⊥
 never_plan plan e = cc
 
-index_of_found : (index : ℕ) (plans : List Plan) (plan : Plan) → find (λ (x : Plan). x.index == index) plans ≡ Some plan → plan.index ≡ index
+pub index_of_found : (index : ℕ) (plans : List Plan) (plan : Plan) → find (λ (x : Plan). x.index == index) plans ≡ Some plan → plan.index ≡ index
 index_of_found index [] plan e = absurd (never_plan plan e)
 index_of_found index (x ∷ plans) plan e = go (x.index == index) refl e (λ found. index_of_found index plans plan found)
   where
@@ -133,7 +133,7 @@ planned_quiet p farthest flush s plan e =
 
 -- ---- the answers of the code
 
-no_plan : (found : Option Plan) → option_map (λ (plan : Plan). plan.flags) found ≡ None → found ≡ None
+pub no_plan : (found : Option Plan) → option_map (λ (plan : Plan). plan.flags) found ≡ None → found ≡ None
 no_plan None e = refl
 no_plan (Some plan) e = absurd (no e)
   where
@@ -162,14 +162,14 @@ pub quiet_no_cut : (p : Settings) (farthest : Option Point) (flush : Option Posi
 quiet_no_cut p farthest flush s index covered is none = quiet_unknown p farthest flush s index covered is (no_cut (plan_of s index) (sym none))
 
 -- that an object with these flags lacks its info
-its_info : (s : Holding) (plan : Plan) (info : Bool) → says_info plan.flags ≡ info → not (has_its_info s plan) ≡ (info && not (is_some (info_of s plan.index)))
+pub its_info : (s : Holding) (plan : Plan) (info : Bool) → says_info plan.flags ≡ info → not (has_its_info s plan) ≡ (info && not (is_some (info_of s plan.index)))
 its_info s plan info e = ap (λ b. not (elim b as (λ _. Bool) [ true ↦ is_some (info_of s plan.index) | false ↦ true ])) e ∙ go info
   where
     go : (b : Bool) → not (elim b as (λ _. Bool) [ true ↦ is_some (info_of s plan.index) | false ↦ true ]) ≡ (b && not (is_some (info_of s plan.index)))
     go true = refl
     go false = refl
 
-flags_found : (flags : ℕ) (found : Option Plan) → Some flags ≡ option_map (λ (plan : Plan). plan.flags) found
+pub flags_found : (flags : ℕ) (found : Option Plan) → Some flags ≡ option_map (λ (plan : Plan). plan.flags) found
     → (Q : Option Plan → Type 0) → ((plan : Plan) → found ≡ Some plan → plan.flags ≡ flags → Q (Some plan)) → Q found
 flags_found flags None e Q h = absurd (no e)
   where

@@ -1,5 +1,5 @@
 -- The numbers of a receiver's state: all of it but what it holds and what it heard.
-use Rattle.std.specs.Prelude.{ℕ, None, Some}
+use Rattle.std.specs.Prelude.{ℕ, Bool, false, nat_le, Option, None, Some}
 use Rattle.norm_receive_rules.specs.ReceiverState.{ReceiverState}
 use Rattle.norm_receiver.specs.declared.numbers.Numbers.{Numbers}
 
@@ -34,3 +34,7 @@ opening_numbers node = record {
 -- as an instance begins: the node and the sequence number stay
 abbrev pub entering_numbers : ℕ → Numbers → Numbers
 entering_numbers instance n = record (opening_numbers n.node) { instance = Some instance; sequence = n.sequence }
+
+-- whether a back-off runs whose moment is reached
+abbrev pub has_ended : ℕ → Option ℕ → Bool
+has_ended now backoff = elim backoff [ Some ends ↦ nat_le ends now | None ↦ false ]

@@ -41,7 +41,7 @@ impl Parts {
     }
 
     /// Whether nothing is needed.
-    fn needs_nothing(&self) -> bool
+    pub(crate) fn needs_nothing(&self) -> bool
         ensures { (s : ReceiverState) → Stands (kept_of self.now) s → result ≡ needs_nothing self.now.profile s }
     {
         is_all_quiet(&self.hold, &self.numbers)

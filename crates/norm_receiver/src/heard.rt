@@ -1,6 +1,6 @@
 //! What a receiver heard others ask for while it backs off (RFC 5401 section 3.2.2).
 
-ghost use Rattle.std.specs.Prelude.{◌≡◌, IfOk, max};
+ghost use Rattle.std.specs.Prelude.{◌≡◌, ◌&&◌, nat_le, IfOk, max};
 ghost use Rattle.fec_plan.specs.Points.{position_before, point_before, same_point};
 ghost use Rattle.norm_receive_rules.specs.Heard.{heard_nothing, joined, with_span, with_count};
 
@@ -118,6 +118,13 @@ impl Count {
     {
         self.of.is_before(&other.of)
     }
+
+    /// Whether it asks for as many symbols of a block.
+    pub fn asks_for(&self, at: Point, wanted: u8) -> bool
+        ensures { result ≡ (same_point self.now.of at && nat_le wanted self.now.lacking) }
+    {
+        self.of.is(&at) && wanted <= self.lacking
+    }
 }
 
 /// One count more: of each block the greatest is kept.
@@ -147,16 +154,16 @@ pub(crate) fn put_count(counts: &mut Vec<Count>, count: Count) -> Result<(), Mem
 }
 
 /// What others asked for: source symbols and infos as spans of which no two share a position, and of each block the
-/// greatest count, all in order.
+/// greatest count, as requests are added one by one.
 #[derive(Debug, Drop)]
-pub(crate) struct Heard {
-    alloc: Global,
+pub(crate) struct Lists {
+    pub alloc: Global,
     pub symbols: Vec<Span>,
     pub infos: Vec<Span>,
     pub counts: Vec<Count>,
 }
 
-impl Model for Heard {
+impl Model for Lists {
     ghost use Rattle.norm_receive_rules.specs.Heard.{Heard as Meaning};
 
     ghost Value = { Meaning };
@@ -164,12 +171,12 @@ impl Model for Heard {
     ghost view = { λ h. record { symbols = h.symbols.items; infos = h.infos.items; counts = h.counts.items } };
 }
 
-impl Heard {
+impl Lists {
     /// Nothing was heard. It takes no memory.
-    pub fn new(alloc: Global) -> Heard
+    fn new(alloc: Global) -> Lists
         ensures { result ≡ heard_nothing }
     {
-        Heard {
+        Lists {
             alloc,
             symbols: Vec::new(alloc),
             infos: Vec::new(alloc),
@@ -177,22 +184,15 @@ impl Heard {
         }
     }
 
-    /// Another in which nothing was heard. It takes no memory.
-    pub fn anew(&self) -> Heard
-        ensures { result ≡ heard_nothing }
-    {
-        Heard::new(self.alloc)
-    }
-
     /// The same once more, beside it.
     ///
     /// # Errors
     ///
     /// `Memory` where memory runs out.
-    pub fn copy(&self) -> Result<Heard, Memory>
+    pub fn copy(&self) -> Result<Lists, Memory>
         ensures { IfOk result (λ copy. copy ≡ self.now) }
     {
-        Ok(Heard {
+        Ok(Lists {
             alloc: self.alloc,
             symbols: self.symbols.as_slice().to_vec(self.alloc)?,
             infos: self.infos.as_slice().to_vec(self.alloc)?,
@@ -201,11 +201,53 @@ impl Heard {
     }
 
     /// All is forgotten.
-    pub fn clear(&mut self)
+    fn clear(&mut self)
         ensures { self.new ≡ heard_nothing }
     {
         self.symbols.clear();
         self.infos.clear();
         self.counts.clear();
+    }
+}
+
+/// What others asked for, all in order, so that it can be searched.
+#[derive(Debug, Drop)]
+pub(crate) struct Heard {
+    pub lists: Lists,
+}
+
+impl Model for Heard {
+    ghost use Rattle.norm_receive_rules.specs.Heard.{Heard as Meaning};
+    ghost use Rattle.norm_receiver.specs.Orderly.{IsOrderly};
+
+    ghost Value = { Meaning };
+
+    ghost view = { λ h. h.lists };
+
+    ghost invariant = { λ h. IsOrderly h.lists };
+}
+
+impl Heard {
+    /// Nothing was heard. It takes no memory.
+    pub fn new(alloc: Global) -> Heard
+        ensures { result ≡ heard_nothing }
+    {
+        Heard {
+            lists: Lists::new(alloc),
+        }
+    }
+
+    /// Another in which nothing was heard. It takes no memory.
+    pub fn anew(&self) -> Heard
+        ensures { result ≡ heard_nothing }
+    {
+        Heard::new(self.lists.alloc)
+    }
+
+    /// All is forgotten.
+    pub fn clear(&mut self)
+        ensures { self.new ≡ heard_nothing }
+    {
+        self.lists.clear();
     }
 }

@@ -2,11 +2,13 @@
 #![tactic(auto)]
 
 mod acknowledging;
+mod asking;
 mod delivering;
 mod entering;
 mod feedback;
 mod heard;
 mod hearing;
+mod nacking;
 mod needs;
 mod numbers;
 mod overhearing;
@@ -14,7 +16,9 @@ mod parts;
 mod receiver;
 mod receiving;
 mod requesting;
+mod searching;
 mod taking;
+mod ticking;
 
 pub use crate::delivering::is_of_no_stream;
 pub use crate::numbers::{FlushPlace, Numbers};

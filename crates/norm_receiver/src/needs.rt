@@ -18,7 +18,7 @@ use rx_hold::Hold;
 const HAS_INFO: u8 = 4;
 
 /// Whether the sender was seen to be past an object, or flushed it or a later one.
-fn is_covered(farthest: &Option<Point>, flush: &Option<Position>, index: u32) -> bool
+pub(crate) fn is_covered(farthest: &Option<Point>, flush: &Option<Position>, index: u32) -> bool
     ensures { result ≡ is_covered farthest.now flush.now index }
 {
     if let Some(at) = farthest {
@@ -69,7 +69,7 @@ fn blocks_flushed(flush: &Option<Position>, index: u32, all: u32) -> u32
 }
 
 /// How many of an object's blocks lie before the farthest point, or at most at the flush's.
-fn blocks_due(numbers: &Numbers, index: u32, all: u32) -> u32
+pub(crate) fn blocks_due(numbers: &Numbers, index: u32, all: u32) -> u32
     ensures exact { result ≡ blocks_due numbers.now.farthest numbers.now.flush index all }
     ensures most { result ≤ all }
 {
@@ -79,7 +79,7 @@ fn blocks_due(numbers: &Numbers, index: u32, all: u32) -> u32
 }
 
 /// Whether the info of a covered object is missing: it has one by its flags, and that is not held.
-fn lacks_info(hold: &Hold, index: u32, flags: u8, covered: bool) -> bool
+pub(crate) fn lacks_info(hold: &Hold, index: u32, flags: u8, covered: bool) -> bool
     requires { hold.now.point.index ≤ index }
     ensures { (s : Holding) → HoldStands hold.now s → result ≡ (covered && (says_info flags && not (is_some (info_of s index)))) }
 {
@@ -122,7 +122,7 @@ fn is_quiet(hold: &Hold, numbers: &Numbers, index: u32) -> bool
 }
 
 /// One more than the last index that was seen or flushed.
-fn last_known(numbers: &Numbers) -> u64
+pub(crate) fn last_known(numbers: &Numbers) -> u64
     ensures exact { result ≡ last_known numbers.now.farthest numbers.now.flush }
     ensures most { result ≤ 4294967296 }
 {

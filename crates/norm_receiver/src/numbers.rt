@@ -4,7 +4,7 @@ ghost use Rattle.std.specs.Prelude.{◌≡◌, ◌+◌, ◌*◌, ◌%◌, ◌<�
 ghost use Rattle.fec_plan.specs.Points.{IsBlock, further, further_point};
 ghost use Rattle.norm_ext.specs.InstanceIds.{is_above};
 ghost use Rattle.norm_order.specs.Moments.{moment_after};
-ghost use Rattle.norm_receiver.specs.Numbers.{opening_numbers, entering_numbers};
+ghost use Rattle.norm_receiver.specs.Numbers.{opening_numbers, entering_numbers, has_ended};
 
 use fec_plan::{PayloadId, Point, Position};
 use norm_base::{InstanceId, Moment, NodeId, Profile};
@@ -194,6 +194,16 @@ impl Numbers {
         Numbers {
             backoff: Some(moment_after(now, u64::from(draw) % most)),
             ..*self
+        }
+    }
+
+    /// Whether a back-off runs whose moment is reached.
+    pub(crate) fn ends_back_off(&self, now: Moment) -> bool
+        ensures { result ≡ has_ended now self.now.backoff }
+    {
+        match self.backoff {
+            Some(ends) => ends.0 <= now.0,
+            None => false,
         }
     }
 

@@ -8,7 +8,7 @@ ghost use Rattle.norm_ext.specs.Requests.{items_named};
 ghost use Rattle.norm_receive_rules.specs.Heard.{with_proper, with_count, asked_infos, heard_also};
 ghost use Rattle.norm_receiver.specs.Overhearing.{widened, with_spans, with_counts, items_spans, pairs_spans, IsBounded};
 
-use crate::heard::{Count, Heard, Span, put_count, put_span};
+use crate::heard::{Count, Heard, Lists, Span, put_count, put_span};
 use fec_plan::{Point, Position};
 use norm_base::{Memory, Profile};
 use norm_ext::flags::{WANT_BLOCK, WANT_INFO, WANT_OBJECT, WANT_SEGMENT};
@@ -256,7 +256,7 @@ fn hear_lacking(
     }
 }
 
-impl Heard {
+impl Lists {
     /// A request more. Where memory runs out, some of it may have been heard.
     fn hear_request(
         &mut self,
@@ -295,7 +295,9 @@ impl Heard {
             && self.infos.len() <= MOST_HEARD
             && self.counts.len() <= MOST_HEARD
     }
+}
 
+impl Heard {
     /// It and these requests more, beside it.
     ///
     /// # Errors
@@ -310,11 +312,11 @@ impl Heard {
         ensures heard { IfOk result (λ more. more ≡ fold heard_also self.now (map (named profile.now known) requests.entry)) }
         ensures bounded { IfOk result IsBounded }
     {
-        let mut more = self.copy()?;
-        more.hear_requests(profile, known, requests)?;
-        if !more.is_bounded() {
+        let mut lists = self.lists.copy()?;
+        lists.hear_requests(profile, known, requests)?;
+        if !lists.is_bounded() {
             return Err(Memory);
         }
-        Ok(more)
+        Ok(Heard { lists })
     }
 }

@@ -6,11 +6,12 @@ ghost use Rattle.norm_receive_rules.specs.ReceiverState.{ReceiverState, receiver
 ghost use Rattle.norm_receive_rules.specs.Acknowledging.{lost_nothing};
 ghost use Rattle.norm_receive_rules.specs.Receiving.{received};
 ghost use Rattle.norm_receive_rules.specs.Taking.{took};
+ghost use Rattle.norm_receive_rules.specs.Ticking.{ticked};
 ghost use Rattle.norm_receiver.specs.Delivering.{IsOfNoStream};
-ghost use Rattle.norm_receiver.specs.ReceiverSound.{StandsFor};
+ghost use Rattle.norm_receiver.specs.ReceiverSound.{StandsFor, IsTick};
 
 use crate::parts::Parts;
-use norm_base::{InstanceId, Memory, Moment, NodeId, Profile};
+use norm_base::{Datagram, InstanceId, Memory, Moment, NodeId, Profile, Sent};
 use norm_order::Up;
 use std::alloc::Global;
 use std::marker::Model;
@@ -19,8 +20,8 @@ use std::marker::Model;
 ///
 /// What drives it hands it each datagram as it comes ([`deliver`](Receiver::deliver)), with a draw for the back-off that
 /// may begin, and after each takes what was handed up by [`take_up`](Receiver::take_up) until that is `None`. Datagrams
-/// may come in any order, and may hold any octets but those of a stream, which `is_of_no_stream` tells. A tick, by which it asks for repair and
-/// acknowledges, is not there yet.
+/// may come in any order, and may hold any octets but those of a stream, which `is_of_no_stream` tells. At each moment it
+/// is asked for the datagram to send ([`tick`](Receiver::tick)), by which it acknowledges and asks for repair.
 #[derive(Debug, Drop)]
 pub struct Receiver {
     parts: Parts,
@@ -77,6 +78,16 @@ impl Receiver {
         ensures some { IfSome result (λ _. (s : ReceiverState) → StandsFor self.old s → IsSome s.instance) }
     {
         self.parts.take_up()
+    }
+
+    /// Sends the acknowledgement that is due, or else ends a back-off whose moment is reached: then it asks for what is
+    /// needed, where others did not ask for all of it. All that was handed up must have been taken. It takes no memory.
+    pub fn tick(&mut self, now: Moment, out: &mut Datagram) -> Sent
+        requires taken { self.old.hold.ups ≡ [] }
+        ensures profile { self.new.p ≡ self.old.p }
+        ensures stands { (s : ReceiverState) → StandsFor self.old s → IsTick self.new out.new result (ticked self.old.p s now) }
+    {
+        self.parts.tick(now, out)
     }
 
     /// How many hand-ups were not taken.

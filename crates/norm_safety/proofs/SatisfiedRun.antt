@@ -179,12 +179,12 @@ exact_all s t was numbered later k (v ∷ vs) (w ∷ ws) many marks went old new
   exact_all s t was numbered later (suc k) vs ws (omega (arith, many)) (rest_numbered k w ws marks) went.1 old.1 new.1 exact.1,
 )
 
--- an outcome stays
-same_itself : (o : Outcome) → same_outcome o o ≡ true
-same_itself (outcome.Open left) = (Decides-eqb left left).1 refl
-same_itself outcome.Satisfied = refl
-same_itself (outcome.Expired left) = (Decides-eqb left left).1 refl
-same_itself outcome.Cut = refl
+-- an outcome is itself
+pub outcome_itself : (o : Outcome) → same_outcome o o ≡ true
+outcome_itself (outcome.Open left) = (Decides-eqb left left).1 refl
+outcome_itself outcome.Satisfied = refl
+outcome_itself (outcome.Expired left) = (Decides-eqb left left).1 refl
+outcome_itself outcome.Cut = refl
 
 stays_pair : (t : SenderState) (test : Watermark → Bool) (v w : Watermark) → Became test v w → watermark_of t w.mark ≡ Some w → keeps_outcome t v ≡ true
 stays_pair t test v w became in_new = go v.ended refl
@@ -203,7 +203,7 @@ stays_pair t test v w became in_new = go v.ended refl
     go (Some o) is =
         let same : w.ended ≡ Some o = became.ended (ap is_none_of is) ∙ is in
         ap (λ (found : Option Watermark). after found o) (ap (watermark_of t) (sym became.mark) ∙ in_new)
-        ∙ ap (λ (ended : Option Outcome). ended_as ended o) same ∙ same_itself o
+        ∙ ap (λ (ended : Option Outcome). ended_as ended o) same ∙ outcome_itself o
 
 stays_all : (t : SenderState) (vs ws : List Watermark) → Went (met_by t.listings) vs ws → AllFound t.watermarks ws
     → list_all (keeps_outcome t) vs ≡ true

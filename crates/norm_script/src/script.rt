@@ -4,7 +4,7 @@ use norm_base::{Octets, Profile, Text};
 use std::marker::Model;
 
 /// What a command does.
-#[derive(Clone, Debug, PartialEq, Eq, Drop)]
+#[derive(Debug, Drop)]
 pub enum Verb {
     /// Sends a data object, with its info if it has one.
     Data { info: Option<Octets>, bytes: Octets },
@@ -25,7 +25,7 @@ pub enum Verb {
 }
 
 /// A command: its producer, that producer's number of it (1, 2, ..), and what it does.
-#[derive(Clone, Debug, PartialEq, Eq, Drop)]
+#[derive(Debug, Drop)]
 pub struct Line {
     pub producer: u32,
     pub number: u64,

@@ -7,7 +7,7 @@ use norm_base::{InstanceId, Memory, NodeId, Octets};
 use norm_order::copy_of_octets;
 
 /// What a sender is asked to do.
-#[derive(Clone, Debug, PartialEq, Eq, Drop)]
+#[derive(Debug, Drop)]
 pub enum Job {
     /// Enqueues a data object, with info or without.
     Data { info: Option<Octets>, bytes: Octets },

@@ -1,0 +1,60 @@
+//! A NACK as it is put together, need by need (RFC 5740 section 4.3.1).
+
+ghost use Rattle.std.specs.Prelude.{◌≡◌, ◌≤◌, ◌&&◌, ℕ, List, Bool};
+ghost use Rattle.fec_plan.specs.Partition.{most_symbol};
+ghost use Rattle.norm_receive_rules.specs.Needs.{Need as Meaning};
+ghost use Rattle.norm_receiver.specs.Requesting.{need_of, IsNeed};
+ghost use Rattle.norm_receiver.specs.Walking.{Walked, walk_need, asking_nothing, HasRoom, IsAt};
+
+use crate::requesting::{Need, ask};
+use norm_base::{Datagram, Profile};
+use norm_ext::RequestWriter;
+
+/// A NACK as far as what is needed was gone through.
+#[derive(Debug, Drop)]
+pub(crate) struct Asking {
+    pub writer: RequestWriter,
+    /// Whether others asked for all that it asks for.
+    pub all_heard: bool,
+    /// Whether a need did not fit any more.
+    pub full: bool,
+}
+
+/// Whether both are so.
+fn are_both(one: bool, other: bool) -> bool
+    ensures { result ≡ (one && other) }
+{
+    one && other
+}
+
+impl Asking {
+    /// As it begins: at most e octets are asked with.
+    pub fn new(profile: &Profile) -> Asking
+        ensures begun { result ≡ asking_nothing profile.now }
+        ensures few { profile.now.e ≤ most_symbol }
+    {
+        Asking {
+            writer: RequestWriter::new(profile.e),
+            all_heard: true,
+            full: false,
+        }
+    }
+
+    /// A need more, which others asked for or not. Behind one that did not fit, nothing is asked for.
+    pub fn add(&mut self, profile: &Profile, need: Need, heard: bool, out: &mut Datagram)
+        requires need { IsNeed need }
+        requires room { HasRoom self.old.writer out.old }
+        ensures room { HasRoom self.new.writer out.new }
+        ensures walked { (test : Meaning → Bool) (front : List ℕ) (w : Walked) → heard ≡ test (need_of need)
+            → IsAt profile.now test self.old out.old front w → IsAt profile.now test self.new out.new front (walk_need profile.now w (need_of need)) }
+    {
+        if self.full {
+            return;
+        }
+        if !ask(profile, need, &mut self.writer, out) {
+            self.full = true;
+            return;
+        }
+        self.all_heard = are_both(self.all_heard, heard);
+    }
+}

@@ -1,0 +1,4 @@
+mod RowLemmas
+mod LatestLemmas
+mod EventLemmas
+mod PushLemmas

@@ -1,0 +1,7 @@
+pub mod Names
+pub mod HandUps
+pub mod Pieces
+pub mod Latest
+pub mod Offered
+pub mod Events
+pub mod Told

@@ -1,0 +1,75 @@
+//! What is kept of an event.
+
+ghost use Rattle.std.specs.Prelude.{◌≡◌};
+ghost use Rattle.norm_record.specs.Events.{rare_event};
+ghost use Rattle.norm_record.specs.Told.{told_of};
+
+use crate::seen::Seen;
+use norm_base::{Moment, NodeId, Octets, Origin, Sent};
+use norm_send_rules::{Job, News, Receipt, SendFault};
+
+/// An event without its octets: these stand at its place among what is kept.
+#[derive(Clone, Copy, Debug, PartialEq, Eq)]
+pub(crate) enum Entry {
+    Turn { t: u32, now: Moment },
+    Tick { node: NodeId, sent: Sent },
+    /// The offer at this place.
+    Offer { from: NodeId, at: u32 },
+    /// A take of the offer at this place.
+    Took { to: NodeId, at: u32 },
+    /// A take of octets that were no latest offer, at this place among such takes.
+    Apart { to: NodeId, at: u32 },
+    Empty,
+    /// The hand-up at this place.
+    Up { node: NodeId, at: u32 },
+    /// The rare event at this place.
+    Rare { at: u32 },
+}
+
+/// An event that is kept whole.
+#[derive(Debug, Drop)]
+pub(crate) enum Rare {
+    Start,
+    Pull {
+        by: Origin,
+    },
+    Job {
+        by: Origin,
+        job: Option<Job>,
+        gave: Result<Receipt, SendFault>,
+    },
+    Length {
+        by: Origin,
+        name: Octets,
+        len: u64,
+        fault: SendFault,
+    },
+    News(News),
+    End,
+}
+
+impl Rare {
+    /// The event, lent.
+    pub(crate) fn seen(&self) -> Seen<'_>
+        ensures { told_of result ≡ rare_event self.now }
+    {
+        match self {
+            Rare::Start => Seen::Start,
+            Rare::Pull { by } => Seen::Pull { by: *by },
+            Rare::Job { by, job, gave } => Seen::Job { by: *by, job, gave },
+            Rare::Length {
+                by,
+                name,
+                len,
+                fault,
+            } => Seen::Length {
+                by: *by,
+                name: name.bytes(),
+                len: *len,
+                fault,
+            },
+            Rare::News(news) => Seen::News(news),
+            Rare::End => Seen::End,
+        }
+    }
+}

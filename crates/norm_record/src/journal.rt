@@ -1,0 +1,249 @@
+//! A journal that is kept.
+
+ghost use Rattle.std.specs.Prelude.{◌≡◌, ◌<◌, [], length, slice_get, Some, sum_by};
+ghost use Rattle.norm_journal.specs.declared.event.Event.TheVariants as event;
+ghost use Rattle.norm_record.specs.Events.{rare_event};
+ghost use Rattle.norm_record.specs.Offered.{Adds, TakesOffered, offered};
+ghost use Rattle.norm_record.specs.Told.{told_of};
+
+use crate::entry::{Entry, Rare};
+use crate::offers::Offers;
+use crate::row::Row;
+use crate::seen::Seen;
+use crate::ups::{HandUp, Ups};
+use norm_base::{InstanceId, Memory, Moment, NodeId, Octets, Origin, Sent};
+use norm_order::Up;
+use norm_send_rules::{Job, News, Receipt, SendFault};
+use std::alloc::Global;
+use std::marker::Model;
+
+/// The events of a session in their order, seen as the list of `norm_journal::Event`, each octet kept once. Each push adds its
+/// event at the end. Where there is no memory, or more than 2^32 - 1 of a kind, it answers `Memory`, and all is as it was.
+#[derive(Debug, Drop)]
+pub struct Journal {
+    entries: Vec<Entry>,
+    offers: Offers,
+    /// What was taken and is no latest offer.
+    apart: Row,
+    ups: Ups,
+    rares: Vec<Rare>,
+}
+
+impl Model for Journal {
+    ghost use Rattle.std.specs.Prelude.{List};
+    ghost use Rattle.norm_journal.specs.declared.event.Event.{Event};
+
+    ghost Value = { List Event };
+
+    ghost use Rattle.norm_record.specs.Events.{events_of, IsKept};
+
+    ghost view = { λ j. events_of
+        (record { offers = j.offers; apart = j.apart; ups = j.ups; rares = j.rares.items })
+        j.entries.items };
+
+    ghost invariant = { λ j. IsKept
+        (record { offers = j.offers; apart = j.apart; ups = j.ups; rares = j.rares.items })
+        j.entries.items };
+}
+
+impl Journal {
+    /// A journal without events. It takes no memory.
+    pub fn new(alloc: Global) -> Journal
+        ensures { result ≡ [] }
+    {
+        Journal {
+            entries: Vec::new(alloc),
+            offers: Offers::new(alloc),
+            apart: Row::new(alloc),
+            ups: Ups::new(alloc),
+            rares: Vec::new(alloc),
+        }
+    }
+
+    /// How many events there are.
+    pub fn len(&self) -> usize
+        ensures { result ≡ length self.now }
+    {
+        self.entries.len()
+    }
+
+    /// How many octets of datagrams are kept. Where each take is of the latest offer with its source and sequence number, these are
+    /// the octets that were offered, each once.
+    pub fn octets(&self) -> usize
+        ensures { TakesOffered self.now → result ≡ sum_by length (offered self.now) }
+    {
+        self.offers.octets().saturating_add(self.apart.octets())
+    }
+
+    /// The event at a place, lent.
+    pub fn event(&self, i: usize) -> Seen<'_>
+        requires { i < length self.now }
+        ensures { slice_get self.now i ≡ Some (told_of result) }
+    {
+        match self.entries[i] {
+            Entry::Turn { t, now } => Seen::Turn { t, now },
+            Entry::Tick { node, sent } => Seen::Tick { node, sent },
+            Entry::Offer { from, at } => Seen::Offer {
+                from,
+                bytes: self.offers.offer(at),
+            },
+            Entry::Took { to, at } => Seen::Took {
+                to,
+                bytes: self.offers.offer(at),
+            },
+            Entry::Apart { to, at } => Seen::Took {
+                to,
+                bytes: self.apart.piece(at as usize),
+            },
+            Entry::Empty => Seen::Empty,
+            Entry::Up { node, at } => {
+                let hand_up = self.ups.hand_up(at);
+                Seen::Up {
+                    node,
+                    instance: hand_up.instance,
+                    up: &hand_up.up,
+                }
+            }
+            Entry::Rare { at } => self.rares[at as usize].seen(),
+        }
+    }
+
+    /// The network was started.
+    pub fn push_start(&mut self) -> Result<(), Memory>
+        ensures { Adds self.old self.new result event.Start }
+    {
+        self.push_rare(Rare::Start)
+    }
+
+    /// A turn began, at its moment.
+    pub fn push_turn(&mut self, t: u32, now: Moment) -> Result<(), Memory>
+        ensures { Adds self.old self.new result (event.Turn t now) }
+    {
+        self.entries.push(Entry::Turn { t, now })?;
+        Ok(())
+    }
+
+    /// A command was pulled from its producer.
+    pub fn push_pull(&mut self, by: Origin) -> Result<(), Memory>
+        ensures { Adds self.old self.new result (event.Pull by) }
+    {
+        self.push_rare(Rare::Pull { by })
+    }
+
+    /// A command was offered to the sender, with its job where this is the first offer, and what the sender gave.
+    pub fn push_job(
+        &mut self,
+        by: Origin,
+        job: Option<Job>,
+        gave: Result<Receipt, SendFault>,
+    ) -> Result<(), Memory>
+        ensures { Adds self.old self.new result (event.Job by job gave) }
+    {
+        self.push_rare(Rare::Job { by, job, gave })
+    }
+
+    /// A file of so many octets was offered to the sender, which refused it.
+    pub fn push_length(
+        &mut self,
+        by: Origin,
+        name: Octets,
+        len: u64,
+        fault: SendFault,
+    ) -> Result<(), Memory>
+        ensures { Adds self.old self.new result (event.Length by name len fault) }
+    {
+        self.push_rare(Rare::Length {
+            by,
+            name,
+            len,
+            fault,
+        })
+    }
+
+    /// A node ticked.
+    pub fn push_tick(&mut self, node: NodeId, sent: Sent) -> Result<(), Memory>
+        ensures { Adds self.old self.new result (event.Tick node sent) }
+    {
+        self.entries.push(Entry::Tick { node, sent })?;
+        Ok(())
+    }
+
+    /// A node's datagram was offered to the network.
+    pub fn push_offer(&mut self, from: NodeId, octets: &[u8]) -> Result<(), Memory>
+        ensures { Adds self.old self.new result (event.Offer from octets.now) }
+    {
+        self.entries.reserve(1)?;
+        let at = self.offers.keep(octets)?;
+        self.entries.push_reserved(Entry::Offer { from, at });
+        Ok(())
+    }
+
+    /// A datagram was taken from the network.
+    pub fn push_took(&mut self, to: NodeId, octets: &[u8]) -> Result<(), Memory>
+        ensures { Adds self.old self.new result (event.Took to octets.now) }
+    {
+        self.entries.reserve(1)?;
+        if let Some(at) = self.offers.find(octets) {
+            self.entries.push_reserved(Entry::Took { to, at });
+            return Ok(());
+        }
+        let Ok(at) = u32::try_from(self.apart.len()) else {
+            return Err(Memory);
+        };
+        self.apart.keep(octets)?;
+        self.entries.push_reserved(Entry::Apart { to, at });
+        Ok(())
+    }
+
+    /// The network had no datagram ready.
+    pub fn push_empty(&mut self) -> Result<(), Memory>
+        ensures { Adds self.old self.new result event.Empty }
+    {
+        self.entries.push(Entry::Empty)?;
+        Ok(())
+    }
+
+    /// A receiver handed something up.
+    pub fn push_up(&mut self, node: NodeId, instance: InstanceId, up: Up) -> Result<(), Memory>
+        ensures { Adds self.old self.new result (event.Up node instance up) }
+    {
+        let hand_up = HandUp { instance, up };
+        self.entries.reserve(1)?;
+        if let Some(at) = self.ups.find(&hand_up) {
+            self.entries.push_reserved(Entry::Up { node, at });
+            return Ok(());
+        }
+        let at = self.ups.keep(hand_up)?;
+        self.entries.push_reserved(Entry::Up { node, at });
+        Ok(())
+    }
+
+    /// The sender told a change.
+    pub fn push_news(&mut self, news: News) -> Result<(), Memory>
+        ensures { Adds self.old self.new result (event.News news) }
+    {
+        self.push_rare(Rare::News(news))
+    }
+
+    /// The run ended, and its summary was made.
+    pub fn push_end(&mut self) -> Result<(), Memory>
+        ensures { Adds self.old self.new result event.End }
+    {
+        self.push_rare(Rare::End)
+    }
+}
+
+impl Journal {
+    /// An event that is kept whole.
+    fn push_rare(&mut self, rare: Rare) -> Result<(), Memory>
+        ensures { Adds self.old self.new result (rare_event rare) }
+    {
+        let Ok(at) = u32::try_from(self.rares.len()) else {
+            return Err(Memory);
+        };
+        self.entries.reserve(1)?;
+        self.rares.push(rare)?;
+        self.entries.push_reserved(Entry::Rare { at });
+        Ok(())
+    }
+}

@@ -1,0 +1,13 @@
+//! The journal of a session as it is kept: each octet once, seen by contracts as the list of its events.
+#![tactic(auto)]
+
+mod entry;
+mod journal;
+mod latest;
+mod offers;
+mod row;
+mod seen;
+mod ups;
+
+pub use crate::journal::Journal;
+pub use crate::seen::Seen;

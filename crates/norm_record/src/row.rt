@@ -1,0 +1,83 @@
+//! Octets in pieces, all in one row.
+
+ghost use Rattle.std.specs.Prelude.{◌≡◌, ◌<◌, ◌++◌, ◌∷◌, [], length, slice_get, Some, sum_by, OnOk, OnErr};
+
+use norm_base::Memory;
+use std::alloc::Global;
+use std::marker::Model;
+
+/// A piece of the row: its first octet's place, and how many it has.
+#[derive(Clone, Copy, Debug, PartialEq, Eq)]
+pub(crate) struct Piece {
+    from: usize,
+    len: usize,
+}
+
+/// Pieces of octets, seen as the list of them.
+#[derive(Debug, Drop)]
+pub(crate) struct Row {
+    octets: Vec<u8>,
+    pieces: Vec<Piece>,
+}
+
+impl Model for Row {
+    ghost use Rattle.std.specs.Prelude.{ℕ, List};
+
+    ghost Value = { List (List ℕ) };
+
+    ghost use Rattle.norm_record.specs.Pieces.{pieces_of, ArePieces};
+
+    ghost view = { λ row. pieces_of row.octets.items row.pieces.items };
+
+    ghost invariant = { λ row. ArePieces row.octets.items row.pieces.items };
+}
+
+impl Row {
+    /// A row without pieces. It takes no memory.
+    pub(crate) fn new(alloc: Global) -> Row
+        ensures { result ≡ [] }
+    {
+        Row {
+            octets: Vec::new(alloc),
+            pieces: Vec::new(alloc),
+        }
+    }
+
+    /// How many pieces there are.
+    pub(crate) fn len(&self) -> usize
+        ensures { result ≡ length self.now }
+    {
+        self.pieces.len()
+    }
+
+    /// How many octets there are.
+    pub(crate) fn octets(&self) -> usize
+        ensures { result ≡ sum_by length self.now }
+    {
+        self.octets.len()
+    }
+
+    /// The piece at a place, lent.
+    pub(crate) fn piece(&self, at: usize) -> &[u8]
+        requires { at < length self.now }
+        ensures { slice_get self.now at ≡ Some result.now }
+    {
+        let Piece { from, len } = self.pieces[at];
+        self.octets.as_slice().split_at(from).1.split_at(len).0
+    }
+
+    /// Keeps one more piece. Where there is no memory all stays.
+    pub(crate) fn keep(&mut self, octets: &[u8]) -> Result<(), Memory>
+        ensures kept { OnOk result (self.new ≡ self.old ++ octets.now ∷ []) }
+        ensures refused { OnErr result (self.new ≡ self.old) }
+    {
+        self.pieces.reserve(1)?;
+        let piece = Piece {
+            from: self.octets.len(),
+            len: octets.len(),
+        };
+        self.octets.extend_from_slice(octets)?;
+        self.pieces.push_reserved(piece);
+        Ok(())
+    }
+}

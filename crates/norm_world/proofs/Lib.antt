@@ -1,0 +1,4 @@
+pub mod WorldLemmas
+pub mod SenderEvents
+pub mod ReceiverEvents
+pub mod NewLemmas

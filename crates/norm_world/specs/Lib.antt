@@ -1,0 +1,2 @@
+pub mod WorldKept
+pub mod WorldMoves

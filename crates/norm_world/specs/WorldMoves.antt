@@ -1,0 +1,45 @@
+-- What a call of a world leaves and answers: it is an event of the rules.
+use Rattle.std.specs.Prelude.{◌≡◌, ℕ, List, [], ◌∷◌, ◌++◌, Option, None, Some, slice_get, length, ⊤}
+use Rattle.std.specs.Option.{option_map}
+use Rattle.norm_base.specs.Datagrams.{datagram_of}
+use Rattle.norm_base.specs.declared.kinds.Sent.{Sent as Said}
+use Rattle.norm_ext.specs.Written.{Written}
+use Rattle.norm_base.specs.Settings.{Settings}
+use Rattle.norm_receive_rules.specs.ReceiverState.{receiver_opening}
+use Rattle.norm_receiver.specs.ReceiverKept.{ReceiverKept}
+use Rattle.norm_receiver.specs.ReceiverSound.{StandsFor as ReceiverStands}
+use Rattle.norm_safety.specs.Events.{Event, Answer, Sent}
+use Rattle.norm_safety.specs.World.{World}
+use Rattle.norm_safety.specs.WorldStep.{world_step, run}
+use Rattle.norm_world.specs.WorldKept.{WorldKept, StandsFor, HasRun, node_at, place_of}
+
+-- A call is this event, and its answer fits. For each world of the rules that was stood for, the one after the event is; and
+-- so, for each list of events, that list with this event at its end.
+pub record IsEvent (old new : WorldKept) (event : Event) (Fits : Answer → Type 0) : Type 0 where
+  pub steps : (w : World) → StandsFor old w → StandsFor new (world_step old.p w event).0 × Fits (world_step old.p w event).1
+  pub runs : (events : List Event) → HasRun old events
+      → HasRun new (events ++ event ∷ []) × Fits (world_step old.p (run old.p events) event).1
+
+-- nothing happened: what was stood for is
+abbrev pub IsNoEvent : WorldKept → WorldKept → Type 0
+IsNoEvent old new = (w : World) → StandsFor old w → StandsFor new w
+
+-- A tick's answer fits: it is a datagram of these octets where one was written, and none where none was.
+pub record IsSent (said : Said) (out : List ℕ) (answer : Answer) : Type 0 where
+  pub datagram : Option Written
+  pub answer_is : answer ≡ Sent datagram
+  pub octets : datagram_of said out ≡ option_map (λ (w : Written). w.octets) datagram
+
+-- all hand-ups of a receiver were taken
+abbrev pub AreTaken : Option ReceiverKept → Type 0
+AreTaken None = ⊤
+AreTaken (Some k) = k.hold.ups ≡ []
+
+-- the receiver of a node
+abbrev pub receiver_of : WorldKept → ℕ → Option ReceiverKept
+receiver_of k node = slice_get k.receivers (place_of k.p node)
+
+-- the first so many receivers of a profile, as they begin
+pub record AreBegun (p : Settings) (ks : List ReceiverKept) (many : ℕ) : Type 0 where
+  pub count : length ks ≡ many
+  pub begun : (place : ℕ) (k : ReceiverKept) → slice_get ks place ≡ Some k → (k.p ≡ p) × ReceiverStands k (receiver_opening (node_at p place))
