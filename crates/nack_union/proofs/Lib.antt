@@ -39,3 +39,4 @@ pub mod Requested
 pub mod Summed
 pub mod Rising
 pub mod Heard
+pub mod Retired

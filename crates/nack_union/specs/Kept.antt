@@ -66,6 +66,10 @@ closed_union u = record u { objects = map closed_marks u.objects; earliest = Non
 abbrev pub with_object : Marked → Kept → Kept
 with_object m u = record u { objects = u.objects ++ m ∷ [] }
 
+-- the union without its objects before an index
+abbrev pub retired : ℕ → Kept → Kept
+retired index u = record u { first = index; objects = drop (index - u.first) u.objects }
+
 -- the union with other marks of the object with an index
 abbrev pub with_marks : ℕ → Marked → Kept → Kept
 with_marks index m u = record u { objects = set u.objects (index - u.first) m }

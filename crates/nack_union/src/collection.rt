@@ -19,7 +19,7 @@ ghost use Rattle.norm_send_rules.specs.declared.want.Want.{Want as Wanted};
 ghost use Rattle.norm_send_rules.specs.declared.want.Want.TheVariants.{Symbol};
 ghost use Rattle.norm_order.specs.Sets.{with_member};
 ghost use Rattle.nack_union.specs.Slots.{symbol_slot};
-ghost use Rattle.nack_union.specs.Kept.{Kept, Marked, Holds, IsEncodedIn, known_of, begun_union, admitted, with_object, shape_of_marked, closed_marks, closed_union, IsCounted, with_marks};
+ghost use Rattle.nack_union.specs.Kept.{Kept, Marked, Holds, IsEncodedIn, known_of, begun_union, admitted, with_object, shape_of_marked, closed_marks, closed_union, IsCounted, with_marks, retired};
 ghost use Rattle.nack_union.specs.More.{HasPart, named_part, symbol_part, count_part, part_where, item_part, items_part, ranges_part, counts_part, request_part, requests_part};
 ghost use Rattle.nack_union.specs.Adding.{HasAdded, IsPlanned};
 ghost use Rattle.norm_ext.specs.Requests.{items_named};
@@ -183,6 +183,7 @@ impl Collection {
     pub fn retire(&mut self, index: u32) -> bool
         requires not_back { self.old.first ≤ index }
         requires within { index ≤ self.old.first + length self.old.objects }
+        ensures exact { self.new ≡ retired index self.old }
         ensures collects { (p : Settings) (s : SenderState) (asked : List Asked) → Holds p self.old s → Collects p self.old s asked
             → Collects p self.new (dropped_to (point index 0) s) asked }
         ensures stands { (p : Settings) (s : SenderState) → Holds p self.old s

@@ -64,6 +64,7 @@ closed_stands k now union queued early s stands answer profile e h =
     subst (λ (t : SenderState). Agrees (record k { union = union; pace = closed_at (nat_lt 0 queued) early k.pace }) t) (sym o.closed)
     (record {
       window_profile = h.window_profile;
+      filling = h.filling;
       union_profile = profile ∙ h.union_profile;
       window = h.window;
       union = under;

@@ -64,6 +64,7 @@ pub expired_stands : (k : SenderKept) (book : BookState) (kept : Bool) (mark : �
     → Agrees (record k { book = book; pace = counted_by kept k.pace }) (expired mark s)
 expired_stands k book kept mark s h listed is = record {
   window_profile = h.window_profile;
+  filling = h.filling;
   union_profile = h.union_profile;
   window = expired_window (keeps_oldest s (given_up mark s)) mark s k.window h.window;
   union = expired_union (keeps_oldest s (given_up mark s)) mark s k.union h.union;
@@ -174,6 +175,7 @@ pub flush_sent : (k : SenderKept) (pace : Pace) (now : ℕ) (at : Position) (out
 flush_sent k pace now at out w s h same few counted written = record {
   stands = record {
     window_profile = h.window_profile;
+    filling = h.filling;
     union_profile = h.union_profile;
     window = h.window;
     union = h.union;

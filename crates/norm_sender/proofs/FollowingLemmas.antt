@@ -47,10 +47,11 @@ pace_read true s t = refl
 pace_read false s t = refl
 
 pub followed_stands : (k : SenderKept) (window : WindowState) (kept : Bool) (s t : SenderState) → IsBehind k s (with_book t s)
-    → window.p ≡ k.window.p → WindowStands window (counted_anew s (with_book t s)) → kept ≡ keeps_oldest s (with_book t s)
+    → window.p ≡ k.window.p → window.filling ≡ k.window.filling → WindowStands window (counted_anew s (with_book t s)) → kept ≡ keeps_oldest s (with_book t s)
     → Agrees (record k { window = window; pace = counted_by kept k.pace }) (counted_anew s (with_book t s))
-followed_stands k window kept s t h profile behind is = record {
+followed_stands k window kept s t h profile filling behind is = record {
   window_profile = profile ∙ h.window_profile;
+  filling = filling ∙ h.filling;
   union_profile = h.union_profile;
   window = behind;
   union = union_read (keeps_oldest s (with_book t s)) k.union s t h.union;

@@ -77,6 +77,7 @@ pub credited_behind : (k : SenderKept) (book : BookState) (node : ℕ) (at : Pos
     → BookStands k.p book (credited node at s) → IsBehind (record k { book = book }) s (with_book (credited_book node at s) s)
 credited_behind k book node at s h listed = record {
   window_profile = h.window_profile;
+  filling = h.filling;
   union_profile = h.union_profile;
   window = h.window;
   union = h.union;
@@ -161,6 +162,7 @@ pub joined_stands : (k : SenderKept) (union : UnionState) (octets : List ℕ) (n
     → Agrees (record k { union = union; pace = opened_at k.p now k.pace }) (joined_round k.p s now (requests_of octets))
 joined_stands k union octets now s h some profile after = record {
   window_profile = h.window_profile;
+  filling = h.filling;
   union_profile = profile ∙ h.union_profile;
   window = joined_window k.p s now (requests_of octets) k.window h.window;
   union = subst (λ (q : Settings). UnionStands union (joined_round q s now (requests_of octets))) h.union_profile after;

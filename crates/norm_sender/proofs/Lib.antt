@@ -1,4 +1,7 @@
 pub mod ClosingLemmas
+pub mod CommandingLemmas
+pub mod EnqueuingLemmas
+pub mod FilingLemmas
 pub mod FlushingLemmas
 pub mod FollowingLemmas
 pub mod HearingLemmas

@@ -1,5 +1,6 @@
 -- What a sender stands for after each of its calls.
-use Rattle.std.proofs.Common.{◌≡◌, ℕ, zero, suc, ◌+◌, List, [], ◌∷◌, length, refl, sym, subst, ap, arith}
+use Rattle.std.proofs.Common.{◌≡◌, ℕ, zero, suc, ◌+◌, List, [], ◌∷◌, length, Option, Some, None, refl, sym, subst, ap, arith}
+use Rattle.std.specs.Prelude.{MatchOption}
 use Rattle.std.proofs.lemmas.List.{length-append}
 use Rattle.norm_base.specs.Members.{receivers_of}
 use Rattle.norm_base.specs.Settings.{Settings, InRange}
@@ -14,19 +15,41 @@ use Rattle.norm_send_rules.specs.Hearing.{heard}
 use Rattle.norm_send_rules.specs.Telling.{told}
 use Rattle.norm_send_rules.specs.Reached.{IsReached}
 use Rattle.norm_send_rules.proofs.ReachedLemmas.{reached_laws}
-use Rattle.tx_window.specs.WindowState.{WindowState, empty_window, Stands as WindowStands}
+use Rattle.tx_window.specs.WindowState.{WindowState, Filling, empty_window, Stands as WindowStands}
 use Rattle.nack_union.specs.UnionState.{UnionState, empty_union, Stands as UnionStands}
 use Rattle.mark_book.specs.BookState.{Stands as BookStands}
 use Rattle.norm_sender.specs.Pacing.{pace_of}
-use Rattle.norm_sender.specs.SenderKept.{SenderKept, Agrees, Stands, SenderSound}
+use Rattle.norm_sender.specs.SenderKept.{SenderKept, Agrees, Stands}
+use Rattle.norm_sender.specs.Filling.{HasBegun}
+use Rattle.norm_sender.specs.SenderSound.{SenderSound}
 use Rattle.norm_sender.specs.SenderMoves.{IsSent, IsTick}
 use Rattle.norm_sender.specs.Wanted.{IsStanding}
 
--- what the parts of a sender need of it
-pub standing : (k : SenderKept) → SenderSound k → IsStanding k
-standing k sound = record { state = sound.state; stands = sound.stands.agrees; wants = sound.stands.reached.wants }
+-- What holds of each sender, by whether a file is begun.
 
-under : (p q : Settings) (s : SenderState) → q ≡ p → IsReached p s → IsReached q s
+abbrev sound_where : SenderKept → SenderState → List ℕ → Option Filling → Type 0
+sound_where k s name found = MatchOption found (Stands k s) (λ (f : Filling). HasBegun k s name f.len f.octets)
+
+-- where none is begun, a sender stands for its state
+pub stands_here : (k : SenderKept) (sound : SenderSound k) → k.window.filling ≡ None → Stands k sound.state
+stands_here k sound none = subst (sound_where k sound.state sound.name) none sound.stands
+
+-- and where one is, it stood for it before
+pub begun_here : (k : SenderKept) (sound : SenderSound k) (f : Filling) → k.window.filling ≡ Some f → HasBegun k sound.state sound.name f.len f.octets
+begun_here k sound f is = subst (sound_where k sound.state sound.name) is sound.stands
+
+pub sound_standing : (k : SenderKept) (s : SenderState) → Stands k s → SenderSound k
+sound_standing k s h = record { state = s; name = []; stands = subst (sound_where k s []) (sym h.agrees.filling) h }
+
+pub sound_begun : (k : SenderKept) (s : SenderState) (name : List ℕ) (len : ℕ) (octets : List ℕ) → HasBegun k s name len octets → SenderSound k
+sound_begun k s name len octets h = record { state = s; name = name; stands = subst (sound_where k s name) (sym h.fills.filling) h }
+
+-- what the parts of a sender need of it
+pub standing : (k : SenderKept) (s : SenderState) → Stands k s → IsStanding k
+standing k s h = record { state = s; stands = h.agrees; wants = h.reached.wants }
+
+-- what is reached under a profile is under one that equals it
+pub under : (p q : Settings) (s : SenderState) → q ≡ p → IsReached p s → IsReached q s
 under p q s same h = subst (λ (r : Settings). IsReached r s) (sym same) h
 
 pub ticks : (k new : SenderKept) (out : List ℕ) (answer : Sent) (now : ℕ) (s : SenderState) → InRange k.p → new.p ≡ k.p
@@ -67,6 +90,7 @@ pub begins : (k : SenderKept) (instance : ℕ) → InRange k.p → k.window ≡ 
 begins k instance range window_is union_is window union book pace = record {
   agrees = record {
     window_profile = ap (λ (w : WindowState). w.p) window_is;
+    filling = ap (λ (w : WindowState). w.filling) window_is;
     union_profile = ap (λ (u : UnionState). u.p) union_is;
     window = window;
     union = union;

@@ -147,6 +147,7 @@ pub want_sent : (k : SenderKept) (p : Settings) (now repair : ℕ) (w : Want) (o
 want_sent k p now repair w out s same h written = record {
   stands = record {
     window_profile = h.window_profile;
+    filling = h.filling;
     union_profile = h.union_profile;
     window = sent_window p now repair w s k.window h.window;
     union = sent_union p now repair w s k.union h.union;

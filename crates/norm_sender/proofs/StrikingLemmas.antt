@@ -20,6 +20,7 @@ not_struck : (k : SenderKept) (book : BookState) (node : ℕ) (fault : StrikeFau
     → Agrees (record k { book = book }) (struck_where node s found).0
 not_struck k book node fault s (Some f) h listed e = record {
   window_profile = h.window_profile;
+  filling = h.filling;
   union_profile = h.union_profile;
   window = h.window;
   union = h.union;

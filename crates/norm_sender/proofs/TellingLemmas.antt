@@ -40,6 +40,7 @@ told_pace s (n ∷ nodes) marks = refl
 pub told_agrees : (k : SenderKept) (book : BookState) (s : SenderState) → Agrees k s → BookStands k.p book (told s).0 → Agrees (record k { book = book }) (told s).0
 told_agrees k book s h after = record {
   window_profile = h.window_profile;
+  filling = h.filling;
   union_profile = h.union_profile;
   window = told_window s s.untold_nodes s.untold_marks k.window h.window;
   union = told_union s s.untold_nodes s.untold_marks k.union h.union;

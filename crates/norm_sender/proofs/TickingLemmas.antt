@@ -52,6 +52,7 @@ squelch_sent k out now s index block h due index_is block_is written =
     (record {
       stands = record {
         window_profile = h.window_profile;
+        filling = h.filling;
         union_profile = h.union_profile;
         window = h.window;
         union = h.union;
@@ -82,6 +83,7 @@ pub goes_on_stands : (k : SenderKept) (s : SenderState) (w next : Want) (pace : 
     → Agrees (record k { pace = pace }) (record s { next = behind w })
 goes_on_stands k s w next pace h is becomes = record {
   window_profile = h.window_profile;
+  filling = h.filling;
   union_profile = h.union_profile;
   window = h.window;
   union = h.union;
@@ -149,6 +151,7 @@ pub took : (k : SenderKept) (union : UnionState) (s : SenderState) (rest : List 
     → UnionStands union (record s { wants = rest }) → Agrees (record k { union = union }) (record s { wants = rest })
 took k union s rest h same after = record {
   window_profile = h.window_profile;
+  filling = h.filling;
   union_profile = same ∙ h.union_profile;
   window = h.window;
   union = after;

@@ -1,7 +1,10 @@
 pub mod Pacing
 pub mod Heads
 pub mod SenderKept
+pub mod Filling
+pub mod SenderSound
 pub mod Inside
 pub mod SenderMoves
 pub mod Feedback
 pub mod Wanted
+pub mod Commands

@@ -1,5 +1,5 @@
 -- What a sender keeps, and for which states of the rules it stands.
-use Rattle.std.specs.Prelude.{◌≡◌}
+use Rattle.std.specs.Prelude.{◌≡◌, None}
 use Rattle.norm_base.specs.Settings.{Settings}
 use Rattle.norm_send_rules.specs.SenderState.{SenderState}
 use Rattle.norm_send_rules.specs.Reached.{IsReached}
@@ -17,9 +17,11 @@ pub record SenderKept : Type 0 where
   pub book : BookState
   pub pace : Pace
 
--- A sender agrees with a state where each of its parts stands for it, under its profile, and its numbers are the state's.
+-- A sender agrees with a state where each of its parts stands for it, under its profile, and its numbers are the state's. No
+-- object is begun of which octets are missing.
 pub record Agrees (k : SenderKept) (s : SenderState) : Type 0 where
   pub window_profile : k.window.p ≡ k.p
+  pub filling : k.window.filling ≡ None
   pub union_profile : k.union.p ≡ k.p
   pub window : WindowStands k.window s
   pub union : UnionStands k.union s
@@ -30,8 +32,3 @@ pub record Agrees (k : SenderKept) (s : SenderState) : Type 0 where
 pub record Stands (k : SenderKept) (s : SenderState) : Type 0 where
   pub agrees : Agrees k s
   pub reached : IsReached k.p s
-
--- What holds of each sender: it stands for some state.
-pub record SenderSound (k : SenderKept) : Type 0 where
-  pub state : SenderState
-  pub stands : Stands k state

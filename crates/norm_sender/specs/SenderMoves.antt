@@ -1,5 +1,5 @@
 -- What a call of a sender leaves and answers.
-use Rattle.std.specs.Prelude.{ℕ, ◌≡◌, List, Option}
+use Rattle.std.specs.Prelude.{ℕ, ◌≡◌, List, Option, None}
 use Rattle.std.specs.Option.{option_map}
 use Rattle.norm_base.specs.Settings.{Settings}
 use Rattle.norm_base.specs.Datagrams.{datagram_of}
@@ -45,6 +45,7 @@ with_book t s = record s {
 -- The sender agrees with a state but for its book, which is ahead: it stands for another one.
 pub record IsBehind (k : SenderKept) (s t : SenderState) : Type 0 where
   pub window_profile : k.window.p ≡ k.p
+  pub filling : k.window.filling ≡ None
   pub union_profile : k.union.p ≡ k.p
   pub window : WindowStands k.window s
   pub union : UnionStands k.union s

@@ -2,6 +2,8 @@
 #![tactic(auto)]
 
 mod closing;
+mod commanding;
+mod enqueuing;
 mod flushing;
 mod following;
 mod hearing;
@@ -11,10 +13,12 @@ mod parts;
 mod restarting;
 mod sender;
 mod sending;
+mod streaming;
 mod striking;
 mod telling;
 mod ticking;
 mod writing;
 
+pub use crate::commanding::opens_none;
 pub use crate::pace::Pace;
 pub use crate::sender::Sender;

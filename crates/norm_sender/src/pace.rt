@@ -1,6 +1,6 @@
 //! The numbers of a sender: what it keeps beside its objects, their wants, and its receivers.
 
-ghost use Rattle.std.specs.Prelude.{◌≡◌, ◌+◌, ◌%◌, ◌<◌, false, true, nat_lt, Some};
+ghost use Rattle.std.specs.Prelude.{◌≡◌, ◌+◌, ◌%◌, ◌<◌, ◌||◌, false, true, nat_lt, Some};
 ghost use Rattle.norm_base.specs.Settings.{Settings};
 ghost use Rattle.norm_ext.specs.InstanceIds.{rise};
 ghost use Rattle.norm_send_rules.specs.SenderState.{SenderState, sender_opening};
@@ -109,6 +109,16 @@ impl Pace {
     {
         Pace {
             squelch_due: false,
+            ..*self
+        }
+    }
+
+    /// Objects were dropped. Where that took away a want, a squelch is due.
+    pub(crate) fn retired(&self, dropped: bool) -> Pace
+        ensures { result ≡ record self.now { squelch_due = self.now.squelch_due || dropped } }
+    {
+        Pace {
+            squelch_due: self.squelch_due || dropped,
             ..*self
         }
     }

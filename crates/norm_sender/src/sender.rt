@@ -1,9 +1,10 @@
 //! The sender of a session.
 
-ghost use Rattle.std.specs.Prelude.{◌≡◌, ◌≢◌, ◌+◌, IfOk, IfNone, Err, length};
+ghost use Rattle.std.specs.Prelude.{ℕ, ◌≡◌, ◌≢◌, ◌+◌, ◌≤◌, ◌++◌, true, List, [], IfOk, IfErr, IfNone, IsErr, IsSome, Some, None, Ok, Err, MatchOption, length};
 ghost use Rattle.norm_base.specs.Members.{receivers_of};
-ghost use Rattle.norm_base.specs.declared.node.Origin.{Origin};
+ghost use Rattle.norm_base.specs.declared.node.Origin.{Origin as By};
 ghost use Rattle.norm_send_rules.specs.SenderState.{SenderState, sender_opening};
+ghost use Rattle.norm_send_rules.specs.Commanding.{commanded};
 ghost use Rattle.norm_send_rules.specs.Hearing.{heard};
 ghost use Rattle.norm_send_rules.specs.Marking.{marked};
 ghost use Rattle.norm_send_rules.specs.Restarting.{restarted};
@@ -12,6 +13,12 @@ ghost use Rattle.norm_send_rules.specs.Telling.{told};
 ghost use Rattle.norm_send_rules.specs.Ticking.{ticked, is_idle};
 ghost use Rattle.norm_send_rules.specs.Watermarks.{open_watermarks};
 ghost use Rattle.norm_send_rules.specs.declared.fault.MarkFault.TheVariants as fault;
+ghost use Rattle.norm_send_rules.specs.declared.fault.SendFault.TheVariants as send_fault;
+ghost use Rattle.norm_send_rules.specs.declared.job.Job.TheVariants as job;
+ghost use Rattle.tx_window.specs.Taking.{room_made, with_piece};
+ghost use Rattle.tx_window.specs.WindowState.{Filling};
+ghost use Rattle.norm_sender.specs.Commands.{opens_none, answer_of, GivesBack};
+ghost use Rattle.norm_sender.specs.Filling.{HasBegun, file_of};
 ghost use Rattle.norm_sender.specs.SenderKept.{Stands};
 ghost use Rattle.norm_sender.specs.SenderMoves.{IsTick};
 
@@ -19,8 +26,8 @@ use crate::pace::Pace;
 use crate::parts::{Parts, hold_range};
 use mark_book::Book;
 use nack_union::Union;
-use norm_base::{Datagram, InstanceId, Memory, Moment, NodeId, Profile, Sent};
-use norm_send_rules::{MarkFault, News, Receipt, SendFault, StrikeFault};
+use norm_base::{Datagram, InstanceId, Memory, Moment, NodeId, Octets, Origin, Profile, Sent};
+use norm_send_rules::{Job, MarkFault, News, Receipt, SendFault, StrikeFault};
 use std::alloc::Global;
 use std::marker::Model;
 use tx_window::Window;
@@ -30,14 +37,19 @@ use tx_window::Window;
 /// A timer drives it. At each moment it is handed the datagrams that came ([`deliver`](Sender::deliver)) and asked for
 /// the one to send ([`tick`](Sender::tick)); the datagrams may come in any order, and may hold any octets. What changed
 /// of its members is taken by [`news`](Sender::news) until that is `None`. None of these takes memory. A tick costs the
-/// octets of its datagram, and a datagram heard what its requests name. Commands may come between any two calls.
+/// octets of its datagram, and a datagram heard what its requests name. Commands ([`command`](Sender::command)) may come
+/// between any two calls. An object costs its octets, which are copied once, and one that waits for room what is looked at of the
+/// window. A file may come in pieces: [`begin_file`](Sender::begin_file), then [`file_piece`](Sender::file_piece) until all
+/// its octets are there, then [`end_file`](Sender::end_file), or at any time [`leave_file`](Sender::leave_file); from the
+/// first of them to the last no other call may come.
 #[derive(Debug, Drop)]
 pub struct Sender {
     parts: Parts,
 }
 
 impl Model for Sender {
-    ghost use Rattle.norm_sender.specs.SenderKept.{SenderKept, SenderSound};
+    ghost use Rattle.norm_sender.specs.SenderKept.{SenderKept};
+    ghost use Rattle.norm_sender.specs.SenderSound.{SenderSound};
     ghost use Rattle.norm_sender.specs.Inside.{kept_of};
 
     ghost Value = { SenderKept };
@@ -66,6 +78,7 @@ impl Sender {
     /// `Memory` where memory runs out.
     pub fn new(alloc: Global, profile: &Profile, instance: InstanceId) -> Result<Sender, Memory>
         ensures profile { IfOk result (λ sender. sender.p ≡ profile.now) }
+        ensures ready { IfOk result (λ sender. sender.window.filling ≡ None) }
         ensures stands { IfOk result (λ sender. Stands sender (sender_opening profile.now instance)) }
     {
         hold_range(profile);
@@ -87,7 +100,9 @@ impl Sender {
     /// Hears a datagram: a NACK of a receiver, or an acknowledgement of a member, to this sender and its current
     /// instance. Any other octets change nothing. It takes no memory.
     pub fn deliver(&mut self, bytes: &[u8], now: Moment)
+        requires { self.old.window.filling ≡ None }
         ensures profile { self.new.p ≡ self.old.p }
+        ensures ready { self.new.window.filling ≡ None }
         ensures stands { (s : SenderState) → Stands self.old s → Stands self.new (heard self.old.p s bytes.now now) }
     {
         self.parts.deliver(bytes, now);
@@ -96,10 +111,92 @@ impl Sender {
     /// Ends a repair round whose time has come, and writes the datagram that is to be sent now, if there is one. It takes
     /// no memory.
     pub fn tick(&mut self, now: Moment, out: &mut Datagram) -> Sent
+        requires { self.old.window.filling ≡ None }
         ensures profile { self.new.p ≡ self.old.p }
+        ensures ready { self.new.window.filling ≡ None }
         ensures stands { (s : SenderState) → Stands self.old s → IsTick self.new out.new result (ticked self.old.p s now) }
     {
         self.parts.tick(now, out)
+    }
+
+    /// Obeys a command that opens no stream ([`opens_none`](crate::opens_none)), of a producer, at a moment. Neither whose it was nor
+    /// when it came makes a difference to what a sender keeps.
+    ///
+    /// # Errors
+    ///
+    /// The fault that the rules name, and with it the command, or `Memory` without it, which stands for every want of memory.
+    /// Then nothing changes. A command that waits for room is answered before any memory is taken for it.
+    pub fn command(
+        &mut self,
+        by: Origin,
+        job: Job,
+        now: Moment,
+    ) -> Result<Receipt, (Option<Job>, SendFault)>
+        requires ready { self.old.window.filling ≡ None }
+        requires carried { opens_none job ≡ true }
+        ensures profile { self.new.p ≡ self.old.p }
+        ensures ready { self.new.window.filling ≡ None }
+        ensures stands { (s : SenderState) → Stands self.old s → answer_of result ≢ Err send_fault.Memory
+            → Stands self.new (commanded self.old.p s by job).0 × (answer_of result ≡ (commanded self.old.p s by job).1) }
+        ensures back { IfErr result (λ refusal. GivesBack job refusal) }
+        ensures memory { answer_of result ≡ Err send_fault.Memory → self.new ≡ self.old }
+    {
+        let _ = (by, now);
+        self.parts.command(job)
+    }
+
+    /// Begins a file of so many octets under a name, and drops what has to go for it. Only this call of a file takes memory.
+    ///
+    /// # Errors
+    ///
+    /// The fault by which [`command`](Sender::command) would refuse each file of this name and length, and with it the name, or
+    /// `Memory` without it. Then nothing changes.
+    pub fn begin_file(&mut self, name: Octets, len: u64) -> Result<(), (Option<Octets>, SendFault)>
+        requires { self.old.window.filling ≡ None }
+        ensures profile { self.new.p ≡ self.old.p }
+        ensures filling { IfOk result (λ _. self.new.window.filling ≡ Some (file_of name len [])) }
+        ensures begun { IfOk result (λ _. (s : SenderState) → Stands self.old s → HasBegun self.new s name len []) }
+        ensures refused { IfErr result (λ refusal. (s : SenderState) (by : By) (octets : List ℕ) → Stands self.old s → length octets ≡ len
+            → refusal.1 ≢ send_fault.Memory → commanded self.old.p s by (job.File name octets) ≡ (s, Err refusal.1)) }
+        ensures back { IfErr result (λ refusal. GivesBack name refusal) }
+        ensures same { IsErr result → self.new ≡ self.old }
+    {
+        self.parts.begin_file(name, len)
+    }
+
+    /// Takes the next octets of the file that was begun.
+    pub fn file_piece(&mut self, piece: &[u8])
+        requires { MatchOption self.old.window.filling ⊥ (λ f. length f.octets + length piece.now ≤ f.len) }
+        ensures profile { self.new.p ≡ self.old.p }
+        ensures filling { (f : Filling) → self.old.window.filling ≡ Some f → self.new.window.filling ≡ Some (with_piece piece.now f) }
+        ensures begun { (s : SenderState) (name octets : List ℕ) (len : ℕ) → HasBegun self.old s name len octets
+            → HasBegun self.new s name len (octets ++ piece.now) }
+    {
+        self.parts.fill(piece);
+    }
+
+    /// The file that was begun joins the order, and the receipt is that of [`command`](Sender::command) with all its octets.
+    pub fn end_file(&mut self, by: Origin, now: Moment) -> Receipt
+        requires { MatchOption self.old.window.filling ⊥ (λ f. length f.octets ≡ f.len) }
+        ensures profile { self.new.p ≡ self.old.p }
+        ensures ready { self.new.window.filling ≡ None }
+        ensures stands { (s : SenderState) (name octets : List ℕ) (len : ℕ) → HasBegun self.old s name len octets
+            → Stands self.new (commanded self.old.p s by (job.File name octets)).0
+            × (Ok result ≡ (commanded self.old.p s by (job.File name octets)).1) }
+    {
+        let _ = (by, now);
+        self.parts.finish()
+    }
+
+    /// Gives up the file that was begun. What was dropped for it stays dropped.
+    pub fn leave_file(&mut self)
+        requires { IsSome self.old.window.filling }
+        ensures profile { self.new.p ≡ self.old.p }
+        ensures ready { self.new.window.filling ≡ None }
+        ensures left { (s : SenderState) (name octets : List ℕ) (len : ℕ) → HasBegun self.old s name len octets
+            → Stands self.new (room_made self.old.p len s) }
+    {
+        self.parts.leave();
     }
 
     /// Asks that so many members, or all of them, confirm everything that was enqueued so far. The watermark is satisfied
@@ -111,8 +208,10 @@ impl Sender {
     /// instance enqueued nothing, and else `TooMany` exactly where 16 watermarks are open; or `Memory`. Then nothing
     /// changes.
     pub fn mark(&mut self, quorum: Option<u32>) -> Result<Receipt, MarkFault>
+        requires { self.old.window.filling ≡ None }
         ensures profile { self.new.p ≡ self.old.p }
-        ensures stands { (s : SenderState) (by : Origin) → Stands self.old s → result ≢ Err fault.Memory
+        ensures ready { self.new.window.filling ≡ None }
+        ensures stands { (s : SenderState) (by : By) → Stands self.old s → result ≢ Err fault.Memory
             → Stands self.new (marked self.old.p s by quorum).0 × (result ≡ (marked self.old.p s by quorum).1) }
         ensures memory { result ≡ Err fault.Memory → self.new ≡ self.old }
     {
@@ -126,7 +225,9 @@ impl Sender {
     ///
     /// `IdUsed` exactly where the id does not lie above each one before. Then nothing changes.
     pub fn restart(&mut self, instance: InstanceId) -> Result<Receipt, SendFault>
+        requires { self.old.window.filling ≡ None }
         ensures profile { self.new.p ≡ self.old.p }
+        ensures ready { self.new.window.filling ≡ None }
         ensures stands { (s : SenderState) → Stands self.old s → Stands self.new (restarted s instance).0 × (result ≡ (restarted s instance).1) }
     {
         self.parts.restart(instance)
@@ -139,7 +240,9 @@ impl Sender {
     /// `NotMember` exactly where the node is no receiver or was struck, and `LastMember` exactly where it is the only
     /// member. Then nothing changes.
     pub fn strike(&mut self, node: NodeId) -> Result<Receipt, StrikeFault>
+        requires { self.old.window.filling ≡ None }
         ensures profile { self.new.p ≡ self.old.p }
+        ensures ready { self.new.window.filling ≡ None }
         ensures stands { (s : SenderState) → Stands self.old s → Stands self.new (strikes s node).0 × (result ≡ (strikes s node).1) }
     {
         self.parts.strike(node)
@@ -148,7 +251,9 @@ impl Sender {
     /// The first change that was not told yet: a member that is newly listed past a position, or else a watermark that
     /// ended. `None` exactly where nothing is left to be told, and then nothing changes.
     pub fn news(&mut self) -> Option<News>
+        requires { self.old.window.filling ≡ None }
         ensures profile { self.new.p ≡ self.old.p }
+        ensures ready { self.new.window.filling ≡ None }
         ensures stands { (s : SenderState) → Stands self.old s → Stands self.new (told s).0 × (result ≡ (told s).1) }
         ensures same { IfNone result (self.new ≡ self.old) }
     {

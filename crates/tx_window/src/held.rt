@@ -62,8 +62,8 @@ impl Model for Held {
     ghost invariant = { HeldSound };
 }
 
-/// The plan of an object of so many octets.
-pub(crate) fn plan_of(profile: &Profile, len: u32) -> Plan
+/// How an object of so many octets is cut, 1 to 16,777,216 of them.
+pub fn plan_of(profile: &Profile, len: u32) -> Plan
     requires some { 1 ≤ len }
     requires most { len ≤ 16777216 }
     ensures { result ≡ cut_of len profile.now.e profile.now.b profile.now.max_n }

@@ -9,4 +9,5 @@ pub mod laws;
 mod ring;
 mod window;
 
-pub use crate::window::{About, Window};
+pub use crate::held::plan_of;
+pub use crate::window::{About, Window, info_len};

@@ -234,7 +234,7 @@ fn size_fault(profile: &Profile, info: usize, len: u64) -> Option<EnqueueFault>
 }
 
 /// How many octets an info has; without one there are none.
-fn info_len(info: &Option<Octets>) -> usize
+pub fn info_len(info: &Option<Octets>) -> usize
     ensures { result ≡ info_length info.now }
 {
     match info {
@@ -523,6 +523,16 @@ impl Window {
         self.begun = Some(begun);
         self.filled = 0;
         Ok(())
+    }
+
+    /// How many octets the object has that was begun.
+    pub fn begun_len(&self) -> u32
+        ensures { (f : Filling) → self.now.filling ≡ Some f → result ≡ f.len }
+    {
+        match &self.begun {
+            Some(begun) => begun.len(),
+            None => 0,
+        }
     }
 
     /// Puts the next octets of the object that was begun into the window.

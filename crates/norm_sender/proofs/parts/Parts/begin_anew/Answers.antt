@@ -8,6 +8,7 @@ returns-clause-stands c s h =
     let k = kept_of c.args.self.now in
     record {
       window_profile = ap (λ (w : WindowState). w.p) c.clear.ensures.empty ∙ h.window_profile;
+      filling = ap (λ (w : WindowState). w.filling) c.clear.ensures.empty;
       union_profile = c.clear-2.ensures.profile ∙ h.union_profile;
       window = c.clear.ensures.begun c.args.instance s h.window;
       union = c.clear-2.ensures.begun c.args.instance s h.union;

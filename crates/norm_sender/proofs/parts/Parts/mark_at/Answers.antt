@@ -18,6 +18,7 @@ returns-in-Err-clause-stands c s by h some =
       subst (λ (step : SenderState × Result Receipt MarkFault). Agrees (record k { book = c.request.new.self }) step.0) (sym done)
           (record {
             window_profile = h.window_profile;
+            filling = h.filling;
             union_profile = h.union_profile;
             window = h.window;
             union = h.union;
@@ -36,6 +37,7 @@ returns-in-Ok-clause-stands c s by h some =
       subst (λ (step : SenderState × Result Receipt MarkFault). Agrees (kept_of c.follow.new.self) step.0) (sym done)
           (c.follow.ensures.stands s t (record {
             window_profile = h.window_profile;
+            filling = h.filling;
             union_profile = h.union_profile;
             window = h.window;
             union = h.union;

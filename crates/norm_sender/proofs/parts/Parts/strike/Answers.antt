@@ -30,6 +30,7 @@ returns-in-Ok-clause-stands c s h =
       subst (λ (step : SenderState × Result Receipt StrikeFault). Agrees (kept_of c.follow.new.self) step.0) (sym done)
           (c.follow.ensures.stands s t (record {
             window_profile = h.window_profile;
+            filling = h.filling;
             union_profile = h.union_profile;
             window = h.window;
             union = h.union;

@@ -1,10 +1,11 @@
-use Rattle.std.proofs.Common.{◌≡◌, ◌≢◌, ◌∙◌, ◌⊎◌, inl, inr, Err, ap, sym, subst}
+use Rattle.std.proofs.Common.{◌≡◌, ◌≢◌, ◌∙◌, ◌⊎◌, inl, inr, Err, None, ap, sym, subst}
 use Rattle.norm_send_rules.specs.Marking.{marked}
 use Rattle.norm_send_rules.specs.declared.job.Job.TheVariants.{Mark}
 use Rattle.norm_send_rules.specs.declared.fault.MarkFault.TheVariants.{Memory}
 use Rattle.norm_sender.specs.Inside.{kept_of}
-use Rattle.norm_sender.specs.SenderKept.{SenderKept, Stands, SenderSound}
-use Rattle.norm_sender.proofs.SenderLemmas.{commands, anyone}
+use Rattle.norm_sender.specs.SenderKept.{SenderKept, Stands}
+use Rattle.norm_sender.specs.SenderSound.{SenderSound}
+use Rattle.norm_sender.proofs.SenderLemmas.{stands_here, sound_standing, commands, anyone}
 use Rattle.norm_sender.proofs.MarkingLemmas.{memory_or_not}
 use Rattle.norm_sender.proofs.sender.Sender.mark.Goals as goal
 
@@ -35,9 +36,23 @@ invariant_of-self c = by (memory_or_not c.mark.result)
     by : (c.mark.result ≡ Err Memory) ⊎ (c.mark.result ≢ Err Memory) → SenderSound new
     by (inl lacking) = subst SenderSound (sym (c.mark.ensures.memory lacking)) c.self.invariant
     by (inr some) =
-        let here = c.self.invariant in
-        record {
-          state = (marked k.p here.state anyone c.args.quorum).0;
-          stands = commands k new anyone (Mark c.args.quorum) here.state c.mark.ensures.range c.mark.ensures.profile
-              (c.mark.ensures.stands here.state anyone here.stands.agrees some).0 here.stands.reached;
-        }
+        let s = c.self.invariant.state in
+        let here = stands_here k c.self.invariant (ap (λ (v : SenderKept). v.window.filling) c.self.view_is ∙ c.requires) in
+        sound_standing new (marked k.p s anyone c.args.quorum).0
+        (commands k new anyone (Mark c.args.quorum) s c.mark.ensures.range c.mark.ensures.profile (c.mark.ensures.stands s anyone here.agrees some).0 here.reached)
+
+pub returns-clause-ready : goal.returns-clause-ready
+returns-clause-ready c = by (memory_or_not c.mark.result)
+  where
+    k : SenderKept
+    k = kept_of c.self.inside.parts
+
+    new : SenderKept
+    new = kept_of c.mark.new.self
+
+    by : (c.mark.result ≡ Err Memory) ⊎ (c.mark.result ≢ Err Memory) → new.window.filling ≡ None
+    by (inl lacking) = ap (λ (v : SenderKept). v.window.filling) (c.mark.ensures.memory lacking ∙ c.self.view_is) ∙ c.requires
+    by (inr some) =
+        let s = c.self.invariant.state in
+        let here = stands_here k c.self.invariant (ap (λ (v : SenderKept). v.window.filling) c.self.view_is ∙ c.requires) in
+        (commands k new anyone (Mark c.args.quorum) s c.mark.ensures.range c.mark.ensures.profile (c.mark.ensures.stands s anyone here.agrees some).0 here.reached).agrees.filling

@@ -3,7 +3,7 @@ use Rattle.std.specs.Prelude.{IfNone}
 use Rattle.norm_send_rules.specs.Telling.{told}
 use Rattle.norm_sender.specs.Inside.{kept_of}
 use Rattle.norm_sender.specs.SenderKept.{SenderKept, Stands}
-use Rattle.norm_sender.proofs.SenderLemmas.{tells}
+use Rattle.norm_sender.proofs.SenderLemmas.{stands_here, sound_standing, tells}
 use Rattle.norm_sender.proofs.sender.Sender.news.Goals as goal
 
 pub returns-clause-profile : goal.returns-clause-profile
@@ -24,8 +24,14 @@ pub invariant_of-self : goal.invariant_of-self
 invariant_of-self c =
     let k = kept_of c.self.inside.parts in
     let new = kept_of c.news.new.self in
-    let here = c.self.invariant in
-    record {
-      state = (told here.state).0;
-      stands = tells k new here.state c.news.ensures.range c.news.ensures.profile (c.news.ensures.stands here.state here.stands.agrees).0 here.stands.reached;
-    }
+    let s = c.self.invariant.state in
+    let here = stands_here k c.self.invariant (ap (λ (v : SenderKept). v.window.filling) c.self.view_is ∙ c.requires) in
+    sound_standing new (told s).0 (tells k new s c.news.ensures.range c.news.ensures.profile (c.news.ensures.stands s here.agrees).0 here.reached)
+
+pub returns-clause-ready : goal.returns-clause-ready
+returns-clause-ready c =
+    let k = kept_of c.self.inside.parts in
+    let new = kept_of c.news.new.self in
+    let s = c.self.invariant.state in
+    let here = stands_here k c.self.invariant (ap (λ (v : SenderKept). v.window.filling) c.self.view_is ∙ c.requires) in
+    (tells k new s c.news.ensures.range c.news.ensures.profile (c.news.ensures.stands s here.agrees).0 here.reached).agrees.filling

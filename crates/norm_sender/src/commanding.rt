@@ -1,0 +1,179 @@
+//! Commands (RFC 5740 section 5.1): each goes to its rule, and a refusal gives it back but for want of memory.
+
+ghost use Rattle.std.specs.Prelude.{ℕ, ◌≡◌, ◌≢◌, true, List, [], length, Some, Err, IfOk, IfErr, IsErr};
+ghost use Rattle.norm_base.specs.Settings.{InRange};
+ghost use Rattle.norm_base.specs.declared.node.Origin.{Origin};
+ghost use Rattle.norm_send_rules.specs.SenderState.{SenderState};
+ghost use Rattle.norm_send_rules.specs.Commanding.{commanded};
+ghost use Rattle.norm_send_rules.specs.declared.fault.SendFault.TheVariants as send_fault;
+ghost use Rattle.norm_send_rules.specs.declared.job.Job.TheVariants as job;
+ghost use Rattle.norm_sender.specs.Commands.{opens_none, mark_refusal, GivesBack, Obeys};
+ghost use Rattle.norm_sender.specs.SenderKept.{Agrees};
+ghost use Rattle.norm_sender.specs.Filling.{Fills, file_of};
+ghost use Rattle.norm_sender.specs.Inside.{kept_of};
+ghost use Rattle.norm_sender.specs.Wanted.{IsStanding};
+
+use crate::parts::{Parts, hold_range};
+use crate::streaming::write_fault;
+use norm_base::{InstanceId, Kind, NodeId, Octets};
+use norm_send_rules::{EnqueueFault, Job, MarkFault, Receipt, SendFault};
+
+/// What a command is answered: a receipt, or the fault, with the command but for want of memory.
+pub(crate) type Answer = Result<Receipt, (Option<Job>, SendFault)>;
+
+/// Whether a command opens no stream. A sender carries those that open none.
+pub fn opens_none(job: &Job) -> bool
+    ensures { result ≡ opens_none job.now }
+{
+    !matches!(job, Job::Open)
+}
+
+/// What a refused mark is answered.
+fn mark_refusal(quorum: Option<u32>, fault: MarkFault) -> (Option<Job>, SendFault)
+    ensures { result ≡ mark_refusal quorum fault }
+{
+    match fault {
+        MarkFault::Memory => (None, SendFault::Memory),
+        MarkFault::Quorum { .. } | MarkFault::NothingEnqueued | MarkFault::TooMany { .. } => {
+            (Some(Job::Mark { quorum }), SendFault::Mark(fault))
+        }
+    }
+}
+
+impl Parts {
+    /// Enqueues a data object.
+    fn enqueue_data(&mut self, info: Option<Octets>, bytes: Octets) -> Answer
+        requires { IsStanding (kept_of self.old) }
+        ensures profile { self.new.profile ≡ self.old.profile }
+        ensures obeys { Obeys (kept_of self.old) (kept_of self.new) (job.Data info bytes) result }
+    {
+        match self.enqueue(Kind::Data, info, bytes) {
+            Ok(receipt) => Ok(receipt),
+            Err((back, fault)) => match back {
+                Some((info, bytes)) => {
+                    Err((Some(Job::Data { info, bytes }), SendFault::Enqueue(fault)))
+                }
+                None => Err((None, SendFault::Memory)),
+            },
+        }
+    }
+
+    /// Enqueues a file, of which the name is the info.
+    fn enqueue_file(&mut self, name: Octets, bytes: Octets) -> Answer
+        requires { IsStanding (kept_of self.old) }
+        ensures profile { self.new.profile ≡ self.old.profile }
+        ensures obeys { Obeys (kept_of self.old) (kept_of self.new) (job.File name bytes) result }
+    {
+        match self.enqueue(Kind::File, Some(name), bytes) {
+            Ok(receipt) => Ok(receipt),
+            Err((back, fault)) => match back {
+                Some((info, bytes)) => match info {
+                    Some(name) => Err((Some(Job::File { name, bytes }), SendFault::Enqueue(fault))),
+                    None => Err((None, SendFault::Memory)),
+                },
+                None => Err((None, SendFault::Memory)),
+            },
+        }
+    }
+
+    /// Begins a file of so many octets, of which the name is the info.
+    pub(crate) fn begin_file(
+        &mut self,
+        name: Octets,
+        len: u64,
+    ) -> Result<(), (Option<Octets>, SendFault)>
+        requires { IsStanding (kept_of self.old) }
+        ensures range { InRange self.old.profile }
+        ensures profile { self.new.profile ≡ self.old.profile }
+        ensures filling { IfOk result (λ _. self.new.window.filling ≡ Some (file_of name len [])) }
+        ensures begun { IfOk result (λ _. (s : SenderState) → Agrees (kept_of self.old) s → Fills (kept_of self.new) s (file_of name len [])) }
+        ensures refused { IfErr result (λ refusal. (s : SenderState) (by : Origin) (octets : List ℕ) → Agrees (kept_of self.old) s
+            → length octets ≡ len → refusal.1 ≢ send_fault.Memory → commanded self.old.profile s by (job.File name octets) ≡ (s, Err refusal.1)) }
+        ensures back { IfErr result (λ refusal. GivesBack name refusal) }
+        ensures same { IsErr result → kept_of self.new ≡ kept_of self.old }
+    {
+        match self.begin(Kind::File, Some(name), len) {
+            Ok(()) => Ok(()),
+            Err((back, fault)) => match back {
+                Some(info) => match info {
+                    Some(name) => Err((Some(name), SendFault::Enqueue(fault))),
+                    None => Err((None, SendFault::Memory)),
+                },
+                None => Err((None, SendFault::Memory)),
+            },
+        }
+    }
+
+    /// Makes a watermark.
+    fn mark_for(&mut self, quorum: Option<u32>) -> Answer
+        ensures profile { self.new.profile ≡ self.old.profile }
+        ensures obeys { Obeys (kept_of self.old) (kept_of self.new) (job.Mark quorum) result }
+    {
+        match self.mark(quorum) {
+            Ok(receipt) => Ok(receipt),
+            Err(fault) => Err(mark_refusal(quorum, fault)),
+        }
+    }
+
+    /// Begins another instance.
+    fn restart_in(&mut self, instance: InstanceId) -> Answer
+        requires { IsStanding (kept_of self.old) }
+        ensures profile { self.new.profile ≡ self.old.profile }
+        ensures obeys { Obeys (kept_of self.old) (kept_of self.new) (job.Restart instance) result }
+    {
+        match self.restart(instance) {
+            Ok(receipt) => Ok(receipt),
+            Err(fault) => Err((Some(Job::Restart { instance }), fault)),
+        }
+    }
+
+    /// Strikes a member.
+    fn strike_off(&mut self, node: NodeId) -> Answer
+        ensures profile { self.new.profile ≡ self.old.profile }
+        ensures obeys { Obeys (kept_of self.old) (kept_of self.new) (job.Strike node) result }
+    {
+        match self.strike(node) {
+            Ok(receipt) => Ok(receipt),
+            Err(fault) => Err((Some(Job::Strike { node }), SendFault::Strike(fault))),
+        }
+    }
+
+    /// Octets for a stream, of which none is open.
+    fn refuse_write(&mut self, bytes: Octets) -> Answer
+        ensures profile { self.new.profile ≡ self.old.profile }
+        ensures obeys { Obeys (kept_of self.old) (kept_of self.new) (job.Write bytes) result }
+    {
+        let fault = write_fault(&self.profile, bytes.bytes().len());
+        Err((Some(Job::Write { bytes }), SendFault::Enqueue(fault)))
+    }
+
+    /// The end of a stream, of which none is open.
+    fn refuse_close(&mut self) -> Answer
+        ensures profile { self.new.profile ≡ self.old.profile }
+        ensures obeys { Obeys (kept_of self.old) (kept_of self.new) job.Close result }
+    {
+        Err((Some(Job::Close), SendFault::Enqueue(EnqueueFault::NoStream)))
+    }
+
+    /// Obeys a command.
+    pub(crate) fn command(&mut self, job: Job) -> Answer
+        requires standing { IsStanding (kept_of self.old) }
+        requires carried { opens_none job ≡ true }
+        ensures range { InRange self.old.profile }
+        ensures profile { self.new.profile ≡ self.old.profile }
+        ensures obeys { Obeys (kept_of self.old) (kept_of self.new) job result }
+    {
+        hold_range(&self.profile);
+        match job {
+            Job::Data { info, bytes } => self.enqueue_data(info, bytes),
+            Job::File { name, bytes } => self.enqueue_file(name, bytes),
+            // Proof: what opens a stream does not come here.
+            Job::Open => Err((None, SendFault::Memory)),
+            Job::Write { bytes } => self.refuse_write(bytes),
+            Job::Close => self.refuse_close(),
+            Job::Mark { quorum } => self.mark_for(quorum),
+            Job::Restart { instance } => self.restart_in(instance),
+            Job::Strike { node } => self.strike_off(node),
+        }
+    }
+}
