@@ -5,15 +5,8 @@ from evaluate import terms
 from evaluate.variant import Failed, Variant, put
 
 HERE = os.path.dirname(os.path.abspath(__file__))
-<<<<<<< HEAD:checks/evaluate/evaluating.py
 REPO = os.path.dirname(os.path.dirname(HERE))
-SHARED = '\n'.join(open(os.path.join(HERE, f), encoding='utf-8').read() for f in ('Shown.txt', 'Small.txt', 'Damage.txt'))
-=======
-REPO = os.path.dirname(HERE)
-TOP = 'norm_safety'                                             # it stands on all crates of definitions
 SHARED = '\n'.join(open(os.path.join(HERE, f), encoding='utf-8').read() for f in ('Shown.txt', 'Small.txt', 'Damage.txt', 'Laws.txt'))
-PUBLIC = re.findall(r'^(?:abbrev pub|pub data) (\S+) :', terms.NUMERALS + SHARED, re.M) + ['Do', 'Pass', 'Look']
->>>>>>> m/laws:checks/evaluating.py
 
 
 class Workspace:
