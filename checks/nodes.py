@@ -139,7 +139,7 @@ def compare(tally, name, node, events, came, shown):
 def main():
     p = argparse.ArgumentParser(description=__doc__, formatter_class=argparse.RawDescriptionHelpFormatter)
     p.add_argument('names', nargs='*')
-    p.add_argument('--traces', default=os.path.join(HERE, 'traces'))
+    p.add_argument('--traces', default=os.path.join(HERE, 'runs'))
     p.add_argument('--program', default=PROGRAM)
     for flag in ('unproved', 'receivers', 'senders'):
         p.add_argument('--' + flag, action='store_true')
