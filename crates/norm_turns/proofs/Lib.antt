@@ -1,3 +1,4 @@
 pub mod SoFarLemmas
 pub mod SendingLemmas
 pub mod TakingLemmas
+pub mod EndingLemmas

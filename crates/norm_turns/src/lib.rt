@@ -1,6 +1,7 @@
 //! The turns of a session over the nodes' world (RFC 5740 section 5), each event of which the judge of journals accepts.
 #![tactic(auto)]
 
+mod ending;
 mod fault;
 mod run;
 mod sending;

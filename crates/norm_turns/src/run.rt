@@ -29,6 +29,8 @@ impl Model for Run {
 
     ghost Value = { RunKept };
 
+    ghost use Rattle.norm_world.specs.WorldKept.{IsReady};
+
     ghost view = { λ r. record {
       p = r.profile;
       world = r.world;
@@ -40,6 +42,8 @@ impl Model for Run {
       pulled = r.pulled;
       waiting = r.waiting;
     } };
+
+    ghost invariant = { λ r. IsReady r.world };
 }
 
 /// The sender's node.

@@ -13,17 +13,19 @@ use Rattle.norm_receive_rules.specs.ReceiverStep as receiver
 use Rattle.norm_send_rules.specs.SenderStep as sender
 use Rattle.norm_receive_rules.specs.Receiving.{received}
 use Rattle.norm_receive_rules.specs.Taking.{took}
+use Rattle.norm_receive_rules.specs.Ticking.{ticked}
+use Rattle.norm_base.specs.declared.kinds.Sent.{Sent as Said}
 use Rattle.norm_receiver.specs.ReceiverKept.{ReceiverKept}
-use Rattle.norm_receiver.specs.ReceiverSound.{StandsFor as ReceiverStands}
+use Rattle.norm_receiver.specs.ReceiverSound.{StandsFor as ReceiverStands, IsTick}
 use Rattle.norm_safety.proofs.WorldLemmas.{world_laws}
-use Rattle.norm_safety.specs.Events.{Event, Answer, Delivered, UpTaken, Took, Silent}
+use Rattle.norm_safety.specs.Events.{Event, Answer, Delivered, Ticked, UpTaken, Sent, Took, Silent}
 use Rattle.norm_safety.specs.Hands.{instance_at}
 use Rattle.norm_safety.specs.World.{World, receiver_at}
 use Rattle.norm_safety.specs.WorldLaws.{is_senders, to_receiver, comes_to}
 use Rattle.norm_safety.specs.WorldStep.{receiver_move, node_move, moved, world_step}
 use Rattle.norm_sender.specs.SenderKept.{SenderKept, Stands as SenderStands}
 use Rattle.norm_world.specs.WorldKept.{WorldKept, StandsFor, IsReceiver, node_at, place_of}
-use Rattle.norm_world.specs.WorldMoves.{IsEvent, IsNoEvent, AreTaken, receiver_of}
+use Rattle.norm_world.specs.WorldMoves.{IsEvent, IsNoEvent, IsSent, AreTaken, receiver_of}
 use Rattle.norm_world.proofs.WorldLemmas.{kept, is_event}
 
 -- ---- a receiver's node and its place
@@ -176,6 +178,27 @@ takes p s rs node k new result place at same h =
     (at_node p s rs node k new (UpTaken node) receiver.UpTaken (λ answer. answer ≡ Took result)
     at.receiver at.there refl refl same (λ r st. (h r st).0)
     (λ w r found under stands. world_laws.takes p w node r found ∙ ap Took (sym (h r stands).1)))
+
+pub ticks : (p : Settings) (s : SenderKept) (rs : List ReceiverKept) (node : ℕ) (k new : ReceiverKept) (now : ℕ) (out : List ℕ) (said : Said) (place : ℕ)
+    → IsPlace p rs node place k → new.p ≡ k.p → ((r : ReceiverState) → ReceiverStands k r → IsTick new out said (ticked k.p r now))
+    → IsEvent (kept p s rs) (kept p s (set rs place new)) (Ticked node now) (IsSent said out)
+ticks p s rs node k new now out said place at same h =
+    let e = at.receiver in
+    subst (λ i. IsEvent (kept p s rs) (kept p s (set rs i new)) (Ticked node now) (IsSent said out)) (sym at.is)
+    (at_node p s rs node k new (Ticked node now) (receiver.Ticked now) (IsSent said out)
+    e at.there (no_sender p node e) refl same (λ r st. (h r st).stands)
+    (λ w r found under stands.
+    let step = subst (λ (q : Settings). IsTick new out said (ticked q r now)) under (h r stands) in
+    let is : (world_step p w (Ticked node now)).1 ≡ Sent (ticked p r now).1 =
+    ap (λ b. (moved p w (node_move b (receiver_at w node) (sender.Ticked now) (receiver.Ticked now))).1) (no_sender p node e)
+    ∙ ap (λ o. (moved p w (receiver_move o (receiver.Ticked now))).1) found in
+    record { datagram = (ticked p r now).1; answer_is = is; octets = step.octets }))
+
+-- the hand-ups of the receiver at a place
+pub taken_there : (p : Settings) (s : SenderKept) (rs : List ReceiverKept) (node : ℕ) (k : ReceiverKept) (place : ℕ) (v : WorldKept) → IsPlace p rs node place k
+    → kept p s rs ≡ v → AreTaken (receiver_of v node) → k.hold.ups ≡ []
+taken_there p s rs node k place v at same taken =
+    subst AreTaken at.there (subst (λ (u : WorldKept). AreTaken (receiver_of u node)) (sym same) taken)
 
 -- a receiver that is another, for the same states
 pub rests : (p : Settings) (s : SenderKept) (rs : List ReceiverKept) (node : ℕ) (k new : ReceiverKept) (place : ℕ) → IsPlace p rs node place k

@@ -13,18 +13,12 @@ use Rattle.norm_safety.specs.WorldStep.{node_move, moved, world_step}
 use Rattle.norm_send_rules.specs.SenderState.{SenderState}
 use Rattle.norm_send_rules.specs.SenderStep as sender
 use Rattle.norm_receive_rules.specs.ReceiverStep as receiver
-use Rattle.norm_send_rules.specs.Commanding.{refused_as}
+use Rattle.norm_send_rules.specs.Commanding.{commanded}
 use Rattle.norm_send_rules.specs.Hearing.{heard}
-use Rattle.norm_send_rules.specs.Restarting.{restarted}
-use Rattle.norm_send_rules.specs.Striking.{strikes}
-use Rattle.norm_send_rules.specs.Marking.{marked}
 use Rattle.norm_send_rules.specs.Telling.{told}
 use Rattle.norm_send_rules.specs.Ticking.{ticked}
-use Rattle.norm_send_rules.specs.declared.fault.MarkFault.{MarkFault}
 use Rattle.norm_send_rules.specs.declared.fault.SendFault.{SendFault}
-use Rattle.norm_send_rules.specs.declared.fault.SendFault.TheVariants as send
-use Rattle.norm_send_rules.specs.declared.fault.StrikeFault.{StrikeFault}
-use Rattle.norm_send_rules.specs.declared.job.Job.TheVariants as job
+use Rattle.norm_send_rules.specs.declared.job.Job.{Job}
 use Rattle.norm_send_rules.specs.declared.job.Receipt.{Receipt}
 use Rattle.norm_send_rules.specs.declared.news.News.{News}
 use Rattle.norm_sender.specs.SenderKept.{SenderKept, Stands}
@@ -38,32 +32,14 @@ moved_to : (p : Settings) (s new : SenderKept) (rs : List ReceiverKept) (w : Wor
     → Stands new t → StandsFor (kept p new rs) (record w { sender = t })
 moved_to p s new rs w t same st after = record { profile = same ∙ st.profile; sender = after; receivers = st.receivers }
 
-pub marks : (p : Settings) (s new : SenderKept) (rs : List ReceiverKept) (by : Origin) (quorum : Option ℕ) (now : ℕ) (result : Result Receipt MarkFault)
-    → new.p ≡ s.p → ((x : SenderState) → Stands s x → Stands new (marked s.p x by quorum).0 × (result ≡ (marked s.p x by quorum).1))
-    → IsEvent (kept p s rs) (kept p new rs) (Commanded by (job.Mark quorum) now) (λ answer. answer ≡ Gave (refused_as send.Mark result))
-marks p s new rs by quorum now result same h =
-    is_event (kept p s rs) (kept p new rs) (Commanded by (job.Mark quorum) now) (λ answer. answer ≡ Gave (refused_as send.Mark result)) refl
+pub commands : (p : Settings) (s new : SenderKept) (rs : List ReceiverKept) (by : Origin) (job : Job) (now : ℕ) (result : Result Receipt SendFault)
+    → new.p ≡ s.p → ((x : SenderState) → Stands s x → Stands new (commanded s.p x by job).0 × (result ≡ (commanded s.p x by job).1))
+    → IsEvent (kept p s rs) (kept p new rs) (Commanded by job now) (λ answer. answer ≡ Gave result)
+commands p s new rs by job now result same h =
+    is_event (kept p s rs) (kept p new rs) (Commanded by job now) (λ answer. answer ≡ Gave result) refl
     (λ w st.
-    let after = subst (λ (q : Settings). Stands new (marked q w.sender by quorum).0 × (result ≡ (marked q w.sender by quorum).1)) st.profile (h w.sender st.sender) in
-    (moved_to p s new rs w (marked p w.sender by quorum).0 same st after.0, ap (λ r. Gave (refused_as send.Mark r)) (sym after.1)))
-
-pub restarts : (p : Settings) (s new : SenderKept) (rs : List ReceiverKept) (by : Origin) (instance now : ℕ) (result : Result Receipt SendFault)
-    → new.p ≡ s.p → ((x : SenderState) → Stands s x → Stands new (restarted x instance).0 × (result ≡ (restarted x instance).1))
-    → IsEvent (kept p s rs) (kept p new rs) (Commanded by (job.Restart instance) now) (λ answer. answer ≡ Gave result)
-restarts p s new rs by instance now result same h =
-    is_event (kept p s rs) (kept p new rs) (Commanded by (job.Restart instance) now) (λ answer. answer ≡ Gave result) refl
-    (λ w st.
-    let after = h w.sender st.sender in
-    (moved_to p s new rs w (restarted w.sender instance).0 same st after.0, ap (λ r. Gave r) (sym after.1)))
-
-pub strikes_one : (p : Settings) (s new : SenderKept) (rs : List ReceiverKept) (by : Origin) (node now : ℕ) (result : Result Receipt StrikeFault)
-    → new.p ≡ s.p → ((x : SenderState) → Stands s x → Stands new (strikes x node).0 × (result ≡ (strikes x node).1))
-    → IsEvent (kept p s rs) (kept p new rs) (Commanded by (job.Strike node) now) (λ answer. answer ≡ Gave (refused_as send.Strike result))
-strikes_one p s new rs by node now result same h =
-    is_event (kept p s rs) (kept p new rs) (Commanded by (job.Strike node) now) (λ answer. answer ≡ Gave (refused_as send.Strike result)) refl
-    (λ w st.
-    let after = h w.sender st.sender in
-    (moved_to p s new rs w (strikes w.sender node).0 same st after.0, ap (λ r. Gave (refused_as send.Strike r)) (sym after.1)))
+    let after = subst (λ (q : Settings). Stands new (commanded q w.sender by job).0 × (result ≡ (commanded q w.sender by job).1)) st.profile (h w.sender st.sender) in
+    (moved_to p s new rs w (commanded p w.sender by job).0 same st after.0, ap (λ r. Gave r) (sym after.1)))
 
 pub tells : (p : Settings) (s new : SenderKept) (rs : List ReceiverKept) (result : Option News)
     → new.p ≡ s.p → ((x : SenderState) → Stands s x → Stands new (told x).0 × (result ≡ (told x).1))

@@ -42,3 +42,7 @@ pub record StandsFor (k : WorldKept) (w : World) : Type 0 where
 -- A world stands for a list of events where it stands for the world of the rules after them.
 abbrev pub HasRun : WorldKept → List Event → Type 0
 HasRun k events = StandsFor k (run k.p events)
+
+-- no file is begun of which octets are missing
+abbrev pub IsReady : WorldKept → Type 0
+IsReady k = k.sender.window.filling ≡ None

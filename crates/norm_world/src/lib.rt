@@ -8,3 +8,5 @@ pub use crate::fault::DeliverFault;
 pub use crate::world::World;
 /// What is promised of lists of events: when they are lawful, and that lawful ones are safe.
 pub use norm_safety::laws;
+/// The test for what a command's condition asks.
+pub use norm_sender::opens_none;

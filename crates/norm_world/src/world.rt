@@ -10,11 +10,9 @@ ghost use Rattle.norm_receiver.specs.ReceiverKept.{ReceiverKept};
 ghost use Rattle.norm_safety.specs.Events.{Commanded, Delivered, Ticked, Offered, UpTaken, NewsAsked, Gave, Took, Told, Silent};
 ghost use Rattle.norm_safety.specs.Hands.{instance_at as instance_in};
 ghost use Rattle.norm_safety.specs.World.{World as Rules, world_opening};
-ghost use Rattle.norm_send_rules.specs.Commanding.{refused_as};
-ghost use Rattle.norm_send_rules.specs.declared.fault.MarkFault.TheVariants as mark;
 ghost use Rattle.norm_send_rules.specs.declared.fault.SendFault.TheVariants as send;
-ghost use Rattle.norm_send_rules.specs.declared.job.Job.TheVariants as job;
-ghost use Rattle.norm_world.specs.WorldKept.{StandsFor, place_of};
+ghost use Rattle.norm_sender.specs.Commands.{opens_none, answer_of, GivesBack};
+ghost use Rattle.norm_world.specs.WorldKept.{StandsFor, IsReady, place_of};
 ghost use Rattle.norm_world.specs.WorldMoves.{IsEvent, IsNoEvent, IsSent, AreTaken, receiver_of, AreBegun};
 ghost use Rattle.norm_world.specs.declared.fault.DeliverFault.TheVariants as fault;
 
@@ -22,15 +20,14 @@ use crate::fault::DeliverFault;
 use norm_base::{Datagram, InstanceId, Memory, Moment, NodeId, Origin, Profile, Sent};
 use norm_order::Up;
 use norm_receiver::{Receiver, is_of_no_stream};
-use norm_send_rules::{MarkFault, News, Receipt, SendFault, StrikeFault};
+use norm_send_rules::{Job, News, Receipt, SendFault};
 use norm_sender::Sender;
 use std::alloc::Global;
 use std::marker::Model;
 
 /// A sender and the receivers of its profile, in the order of their ids.
 ///
-/// Each call is one event of the nodes' world: a command ([`mark`](World::mark), [`restart`](World::restart),
-/// [`strike`](World::strike)), a datagram that is delivered, a node's tick, an offer of what it gave, a hand-up that is
+/// Each call is one event of the nodes' world: a command ([`job`](World::job)), a datagram that is delivered, a node's tick, an offer of what it gave, a hand-up that is
 /// taken, or news that are asked for. So a world stands for the list of the events so far, and what holds of each such list
 /// ([`laws`](crate::laws)) holds of what it did. It keeps no datagrams: that what is delivered was offered before is for
 /// whoever drives it.
@@ -81,6 +78,7 @@ impl World {
     /// `Memory` where memory runs out.
     pub fn new(alloc: Global, profile: &Profile) -> Result<World, Memory>
         ensures profile { IfOk result (λ world. world.p ≡ profile.now) }
+        ensures ready { IfOk result (λ world. IsReady world) }
         ensures stands { IfOk result (λ world. StandsFor world (world_opening profile.now)) }
     {
         let sender = Sender::new(alloc, profile, InstanceId(profile.instance))?;
@@ -132,51 +130,27 @@ impl World {
         self.receivers[place(&self.profile, node)].instance()
     }
 
-    /// A command: all members, or so many, are asked to confirm everything that was enqueued so far.
+    /// A command, which opens no stream ([`opens_none`](crate::opens_none)), of a producer.
     ///
     /// # Errors
     ///
-    /// As [`Sender::mark`] says; then nothing changes.
-    pub fn mark(
+    /// The fault that the rules name, and with it the command, or `Memory` without it, which stands for every want of memory.
+    /// Then nothing changes.
+    pub fn job(
         &mut self,
         by: Origin,
-        quorum: Option<u32>,
+        job: Job,
         now: Moment,
-    ) -> Result<Receipt, MarkFault>
+    ) -> Result<Receipt, (Option<Job>, SendFault)>
+        requires ready { IsReady self.old }
+        requires carried { opens_none job ≡ true }
         ensures profile { self.new.p ≡ self.old.p }
-        ensures event { result ≢ Err mark.Memory → IsEvent self.old self.new (Commanded by (job.Mark quorum) now) (λ answer. answer ≡ Gave (refused_as send.Mark result)) }
-        ensures memory { result ≡ Err mark.Memory → self.new ≡ self.old }
+        ensures ready { IsReady self.new }
+        ensures event { answer_of result ≢ Err send.Memory → IsEvent self.old self.new (Commanded by job now) (λ answer. answer ≡ Gave (answer_of result)) }
+        ensures back { IfErr result (λ refusal. GivesBack job refusal) }
+        ensures memory { answer_of result ≡ Err send.Memory → self.new ≡ self.old }
     {
-        self.sender.mark(quorum)
-    }
-
-    /// A command: another instance begins.
-    ///
-    /// # Errors
-    ///
-    /// As [`Sender::restart`] says; then nothing changes.
-    pub fn restart(
-        &mut self,
-        by: Origin,
-        instance: InstanceId,
-        now: Moment,
-    ) -> Result<Receipt, SendFault>
-        ensures profile { self.new.p ≡ self.old.p }
-        ensures event { IsEvent self.old self.new (Commanded by (job.Restart instance) now) (λ answer. answer ≡ Gave result) }
-    {
-        self.sender.restart(instance)
-    }
-
-    /// A command: a member is struck for good.
-    ///
-    /// # Errors
-    ///
-    /// As [`Sender::strike`] says; then nothing changes.
-    pub fn strike(&mut self, by: Origin, node: NodeId, now: Moment) -> Result<Receipt, StrikeFault>
-        ensures profile { self.new.p ≡ self.old.p }
-        ensures event { IsEvent self.old self.new (Commanded by (job.Strike node) now) (λ answer. answer ≡ Gave (refused_as send.Strike result)) }
-    {
-        self.sender.strike(node)
+        self.sender.command(by, job, now)
     }
 
     /// A datagram comes to a node. A receiver gets it with a draw, for the back-off that may begin; to the sender it makes no
@@ -193,8 +167,10 @@ impl World {
         now: Moment,
         draw: u32,
     ) -> Result<(), DeliverFault>
-        requires { is_node self.old.p to ≡ true }
+        requires ready { IsReady self.old }
+        requires member { is_node self.old.p to ≡ true }
         ensures profile { self.new.p ≡ self.old.p }
+        ensures ready { IsReady self.new }
         ensures event { IfOk result (λ _. IsEvent self.old self.new (Delivered to bytes.now now draw) (λ answer. answer ≡ Silent)) }
         ensures refused { OnErr result (IsNoEvent self.old self.new) }
         ensures stream { (result ≡ Err fault.Stream) ↔ (is_receiver self.old.p to ≡ true) × (IsOfNoStream (decoded bytes.now) → ⊥) }
@@ -213,10 +189,25 @@ impl World {
 
     /// The sender ticks: it writes the datagram that is to be sent now, if there is one. It takes no memory.
     pub fn tick_sender(&mut self, now: Moment, out: &mut Datagram) -> Sent
+        requires { IsReady self.old }
+        ensures ready { IsReady self.new }
         ensures profile { self.new.p ≡ self.old.p }
         ensures event { IsEvent self.old self.new (Ticked self.old.p.sender now) (IsSent result out.new) }
     {
         self.sender.tick(now, out)
+    }
+
+    /// A receiver ticks, all of whose hand-ups were taken: it writes the datagram that is to be sent now, if there is one. It takes no
+    /// memory.
+    pub fn tick_receiver(&mut self, node: NodeId, now: Moment, out: &mut Datagram) -> Sent
+        requires receiver { is_receiver self.old.p node ≡ true }
+        requires taken { AreTaken (receiver_of self.old node) }
+        ensures profile { self.new.p ≡ self.old.p }
+        ensures sender { self.new.sender ≡ self.old.sender }
+        ensures event { IsEvent self.old self.new (Ticked node now) (IsSent result out.new) }
+    {
+        let place = place(&self.profile, node);
+        self.receivers[place].tick(now, out)
     }
 
     /// A node's datagram is offered to the network. Nothing of it is kept.
@@ -229,6 +220,7 @@ impl World {
     pub fn take_up(&mut self, node: NodeId) -> Option<Up>
         requires { is_receiver self.old.p node ≡ true }
         ensures profile { self.new.p ≡ self.old.p }
+        ensures sender { self.new.sender ≡ self.old.sender }
         ensures event { IsEvent self.old self.new (UpTaken node) (λ answer. answer ≡ Took result) }
         ensures none { IfNone result (AreTaken (receiver_of self.new node) × (self.new ≡ self.old)) }
         ensures some { IfSome result (λ _. (w : Rules) → StandsFor self.old w → IsSome (instance_in w node)) }
@@ -240,6 +232,8 @@ impl World {
     /// The sender's next change that was not told yet. `None` exactly where nothing is left to be told, and then nothing
     /// changes. It takes no memory.
     pub fn news(&mut self) -> Option<News>
+        requires { IsReady self.old }
+        ensures ready { IsReady self.new }
         ensures profile { self.new.p ≡ self.old.p }
         ensures event { IsEvent self.old self.new NewsAsked (λ answer. answer ≡ Told result) }
         ensures none { IfNone result (self.new ≡ self.old) }

@@ -14,7 +14,7 @@ pub returns-then-not-is_receiver-clause-event : goal.returns-then-not-is_receive
 returns-then-not-is_receiver-clause-event c =
     let i = c.self.inside in
     let no : is_receiver i.profile c.args.to ≡ false = search rules in
-    let member : is_node i.profile c.args.to ≡ true = subst (λ (v : WorldKept). is_node v.p c.args.to ≡ true) (sym c.self.view_is) c.requires in
+    let member : is_node i.profile c.args.to ≡ true = subst (λ (v : WorldKept). is_node v.p c.args.to ≡ true) (sym c.self.view_is) c.requires.member in
     turned _ _ _ (λ (p : Settings). Delivered c.args.to c.args.bytes.now c.args.now c.args.draw) _ c.self.view_is
     (subst (λ n. IsEvent (kept i.profile i.sender i.receivers.items) (kept i.profile c.deliver.new.self i.receivers.items)
     (Delivered n c.args.bytes.now c.args.now c.args.draw) (λ answer. answer ≡ Silent)) (sym (is_sender i.profile c.args.to member no))
