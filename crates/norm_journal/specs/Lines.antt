@@ -1,5 +1,5 @@
 -- The line of an event.
-use Rattle.std.specs.Prelude.{ℕ, List, [], ◌∷◌, ◌++◌, length, codes, Option, None, Some, Result, Ok, Err}
+use Rattle.std.specs.Prelude.{ℕ, Bool, true, false, List, [], ◌∷◌, ◌++◌, length, codes, Option, None, Some, Result, Ok, Err}
 use Rattle.std.specs.Option.{option_map}
 use Rattle.std.specs.Fmt.{decimal}
 use Rattle.hex.specs.Hex.{encode_lower}
@@ -26,6 +26,11 @@ use Rattle.norm_send_rules.specs.declared.news.Outcome.TheVariants as outcome
 use Rattle.norm_journal.specs.declared.totals.Totals.{Totals}
 use Rattle.norm_text.specs.Words.{line, kind_word, info_word}
 use Rattle.norm_journal.specs.Words.{origin_words, position_words, node_words}
+
+-- a text that is a line, if it is one
+abbrev pub line_if : Bool → List ℕ → Option (List ℕ)
+line_if true text = Some text
+line_if false text = None
 
 -- an accepted command, in the sender's instance
 abbrev pub enq_line : Origin → ℕ → ℕ → List (List ℕ) → List ℕ

@@ -1,9 +1,8 @@
-//! The journal of a session.
+//! The events of a session. Contracts see a journal as the list of them; `norm_record` keeps one.
 
 use norm_base::{InstanceId, Moment, NodeId, Octets, Origin, Sent};
 use norm_order::Up;
 use norm_send_rules::{Job, News, Receipt, SendFault};
-use std::marker::Model;
 
 /// What happened in a session, with what it gave.
 #[derive(Debug, Drop)]
@@ -60,19 +59,4 @@ pub enum Event {
     News(News),
     /// The run ended, and its summary was made.
     End,
-}
-
-/// The events of a session in their order.
-#[derive(Debug, Drop)]
-pub struct Journal {
-    pub events: Vec<Event>,
-}
-
-impl Model for Journal {
-    ghost use Rattle.std.specs.Prelude.{List};
-    ghost use Rattle.norm_journal.specs.declared.event.Event.{Event};
-
-    ghost Value = { List Event };
-
-    ghost view = { λ j. j.events.items };
 }

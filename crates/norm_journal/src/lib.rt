@@ -1,6 +1,6 @@
 //! The journal of a session: its events, and the judge that says which journals a session may have.
 //!
-//! An [`Event`] is one thing that a session did, with what it gave; a [`Journal`] is all of them in order. The judge is a
+//! An [`Event`] is one thing that a session did, with what it gave; a journal is the list of all of them in order. The judge is a
 //! definition (`specs/Accepting`): it goes over the events and answers the state after each that may come there.
 #![tactic(auto)]
 
@@ -10,6 +10,6 @@ mod lines;
 mod totals;
 mod words;
 
-pub use crate::event::{Event, Journal};
+pub use crate::event::Event;
 pub use crate::lines::{gave_line, news_line, refusal_line, up_line};
 pub use crate::totals::{Totals, end_line};

@@ -1,9 +1,10 @@
-//! The lines that a session prints, each of them made in one piece.
+//! The lines that a session prints, each of them made in one piece, in memory that is kept from line to line. Where there is no memory
+//! for one, a front of it may stand.
 
 ghost use Rattle.std.specs.Prelude.{◌≡◌, ◌∷◌, [], ◌++◌, codes, decimal, length, IfOk, OnOk};
 ghost use Rattle.std.specs.Option.{option_map};
 ghost use Rattle.norm_text.specs.Words.{with_word, with_words, line, kind_word, info_word};
-ghost use Rattle.norm_journal.specs.Lines.{kind_of, quorum_of, enq_line, receipt_line, no_line, gave_line, part_line, up_line, done_line, news_line, reason_of, enqueue_reason, number_words};
+ghost use Rattle.norm_journal.specs.Lines.{line_if, kind_of, quorum_of, enq_line, receipt_line, no_line, gave_line, part_line, up_line, done_line, news_line, reason_of, enqueue_reason, number_words};
 ghost use Rattle.norm_journal.specs.Words.{origin_words, position_words, node_words};
 ghost use Rattle.hex.specs.Hex.{encode_lower};
 
@@ -16,130 +17,130 @@ use norm_send_rules::{
     EnqueueFault, MarkFault, News, Outcome, Receipt, SendFault, StreamFault, StrikeFault,
 };
 use norm_text::{Line, kind_word};
-use std::alloc::{AllocError, Global};
+use std::alloc::AllocError;
 
 /// The beginning of an accepted command's line: its name, the sender's instance, and the object's index.
 fn begin_enq(
-    alloc: Global,
+    text: &mut Line,
     by: Origin,
     instance: InstanceId,
     index: u32,
-) -> Result<Line, AllocError>
-    ensures { IfOk result (λ text. text ≡ with_words (codes "enq") (origin_words by ++ decimal instance ∷ decimal index ∷ [])) }
+) -> Result<(), AllocError>
+    ensures { OnOk result (text.new ≡ with_words (codes "enq") (origin_words by ++ decimal instance ∷ decimal index ∷ [])) }
 {
-    let mut line = Line::begin(alloc, b"enq", 0)?;
-    put_origin(&mut line, by)?;
-    line.number(u64::from(instance.0))?;
-    line.number(u64::from(index))?;
-    Ok(line)
+    text.restart(b"enq", 0)?;
+    put_origin(text, by)?;
+    text.number(u64::from(instance.0))?;
+    text.number(u64::from(index))?;
+    Ok(())
 }
 
 /// The line of an object.
 fn object_line(
-    alloc: Global,
+    text: &mut Line,
     by: Origin,
     instance: InstanceId,
     index: u32,
     kind: Kind,
     len: u64,
-) -> Result<Vec<u8>, AllocError>
-    ensures { IfOk result (λ text. text.items ≡ enq_line by instance index (kind_word kind ∷ decimal len ∷ [])) }
+) -> Result<(), AllocError>
+    ensures { OnOk result (text.new ≡ enq_line by instance index (kind_word kind ∷ decimal len ∷ [])) }
 {
-    let mut line = begin_enq(alloc, by, instance, index)?;
-    line.word(kind_word(kind).as_bytes())?;
-    line.number(len)?;
-    line.end()
+    begin_enq(text, by, instance, index)?;
+    text.word(kind_word(kind).as_bytes())?;
+    text.number(len)?;
+    text.finish()
 }
 
 /// The line of a stream's command that has one word.
 fn stream_line(
-    alloc: Global,
+    text: &mut Line,
     by: Origin,
     instance: InstanceId,
     index: u32,
     word: &[u8],
-) -> Result<Vec<u8>, AllocError>
-    ensures { IfOk result (λ text. text.items ≡ enq_line by instance index (word.now ∷ [])) }
+) -> Result<(), AllocError>
+    ensures { OnOk result (text.new ≡ enq_line by instance index (word.now ∷ [])) }
 {
-    let mut line = begin_enq(alloc, by, instance, index)?;
-    line.word(word)?;
-    line.end()
+    begin_enq(text, by, instance, index)?;
+    text.word(word)?;
+    text.finish()
 }
 
 /// The line of a write.
 fn write_line(
-    alloc: Global,
+    text: &mut Line,
     by: Origin,
     instance: InstanceId,
     index: u32,
     offset: u32,
     len: u64,
-) -> Result<Vec<u8>, AllocError>
-    ensures { IfOk result (λ text. text.items ≡ enq_line by instance index (codes "write" ∷ decimal len ∷ decimal offset ∷ [])) }
+) -> Result<(), AllocError>
+    ensures { OnOk result (text.new ≡ enq_line by instance index (codes "write" ∷ decimal len ∷ decimal offset ∷ [])) }
 {
-    let mut line = begin_enq(alloc, by, instance, index)?;
-    line.word(b"write")?;
-    line.number(len)?;
-    line.number(u64::from(offset))?;
-    line.end()
+    begin_enq(text, by, instance, index)?;
+    text.word(b"write")?;
+    text.number(len)?;
+    text.number(u64::from(offset))?;
+    text.finish()
 }
 
 /// The beginning of a watermark's line: all but its quorum.
 fn begin_mark(
-    alloc: Global,
+    text: &mut Line,
     by: Origin,
     instance: InstanceId,
     number: u32,
     at: Position,
-) -> Result<Line, AllocError>
-    ensures { IfOk result (λ text. text ≡ with_words (codes "mark")
+) -> Result<(), AllocError>
+    ensures { OnOk result (text.new ≡ with_words (codes "mark")
         (origin_words by ++ decimal instance ∷ decimal number ∷ position_words at)) }
 {
-    let mut line = Line::begin(alloc, b"mark", 0)?;
-    put_origin(&mut line, by)?;
-    line.number(u64::from(instance.0))?;
-    line.number(u64::from(number))?;
-    put_position(&mut line, at)?;
-    Ok(line)
+    text.restart(b"mark", 0)?;
+    put_origin(text, by)?;
+    text.number(u64::from(instance.0))?;
+    text.number(u64::from(number))?;
+    put_position(text, at)?;
+    Ok(())
 }
 
 /// The line of a watermark.
 fn mark_line(
-    alloc: Global,
+    text: &mut Line,
     by: Origin,
     instance: InstanceId,
     number: u32,
     at: Position,
     quorum: Option<u32>,
-) -> Result<Vec<u8>, AllocError>
-    ensures { IfOk result (λ text. text.items ≡ line (codes "mark")
+) -> Result<(), AllocError>
+    ensures { OnOk result (text.new ≡ line (codes "mark")
         (origin_words by ++ decimal instance ∷ decimal number ∷ position_words at ++ number_words quorum)) }
 {
-    let mut line = begin_mark(alloc, by, instance, number, at)?;
+    begin_mark(text, by, instance, number, at)?;
     if let Some(q) = quorum {
-        line.number(u64::from(q))?;
+        text.number(u64::from(q))?;
     }
-    line.end()
+    text.finish()
 }
 
 /// The line of a restart.
-fn restart_line(alloc: Global, by: Origin, next: InstanceId) -> Result<Vec<u8>, AllocError>
-    ensures { IfOk result (λ text. text.items ≡ line (codes "restart") (origin_words by ++ decimal next ∷ [])) }
+fn restart_line(text: &mut Line, by: Origin, next: InstanceId) -> Result<(), AllocError>
+    ensures { OnOk result (text.new ≡ line (codes "restart") (origin_words by ++ decimal next ∷ [])) }
 {
-    let mut line = Line::begin(alloc, b"restart", 0)?;
-    put_origin(&mut line, by)?;
-    line.number(u64::from(next.0))?;
-    line.end()
+    text.restart(b"restart", 0)?;
+    put_origin(text, by)?;
+    text.number(u64::from(next.0))?;
+    text.finish()
 }
 
 /// The line of a strike.
-fn strike_line(alloc: Global, by: Origin, node: NodeId) -> Result<Vec<u8>, AllocError>
-    ensures { IfOk result (λ text. text.items ≡ line (codes "strike") (origin_words by ++ decimal node ∷ [])) }
+fn strike_line(text: &mut Line, by: Origin, node: NodeId) -> Result<(), AllocError>
+    ensures { OnOk result (text.new ≡ line (codes "strike") (origin_words by ++ decimal node ∷ [])) }
 {
-    let mut line = Line::begin(alloc, b"strike", 0)?;
-    put_origin(&mut line, by)?;
-    line.number(u64::from(node.number()))?;
-    line.end()
+    text.restart(b"strike", 0)?;
+    put_origin(text, by)?;
+    text.number(u64::from(node.number()))?;
+    text.finish()
 }
 
 /// What an object's command enqueues.
@@ -164,28 +165,26 @@ fn quorum_of(verb: &Verb) -> Option<u32>
 
 /// The line of what a command did.
 fn receipt_line(
-    alloc: Global,
+    text: &mut Line,
     by: Origin,
     instance: InstanceId,
     verb: &Verb,
     receipt: &Receipt,
-) -> Result<Vec<u8>, AllocError>
-    ensures { IfOk result (λ text. text.items ≡ receipt_line by instance verb.now receipt.now) }
+) -> Result<(), AllocError>
+    ensures { OnOk result (text.new ≡ receipt_line by instance verb.now receipt.now) }
 {
     match receipt {
         Receipt::Object { index, len } => {
-            object_line(alloc, by, instance, *index, kind_of(verb), *len)
+            object_line(text, by, instance, *index, kind_of(verb), *len)
         }
-        Receipt::Opened { index } => stream_line(alloc, by, instance, *index, b"open"),
+        Receipt::Opened { index } => stream_line(text, by, instance, *index, b"open"),
         Receipt::Wrote { index, offset, len } => write_line(
-            alloc, by, instance, *index, *offset, *len,
+            text, by, instance, *index, *offset, *len,
         ),
-        Receipt::Closed { index } => stream_line(alloc, by, instance, *index, b"close"),
-        Receipt::Mark { mark, at } => {
-            mark_line(alloc, by, instance, *mark, *at, quorum_of(verb))
-        }
-        Receipt::Restarted { instance } => restart_line(alloc, by, *instance),
-        Receipt::Struck { node } => strike_line(alloc, by, *node),
+        Receipt::Closed { index } => stream_line(text, by, instance, *index, b"close"),
+        Receipt::Mark { mark, at } => { mark_line(text, by, instance, *mark, *at, quorum_of(verb)) }
+        Receipt::Restarted { instance } => restart_line(text, by, *instance),
+        Receipt::Struck { node } => strike_line(text, by, *node),
     }
 }
 
@@ -236,89 +235,86 @@ fn reason_of(fault: &SendFault) -> Option<Reason>
 }
 
 /// The line of a command that was refused for this reason.
-fn no_line(
-    alloc: Global,
-    by: Origin,
-    word: &str,
-    number: Option<u64>,
-) -> Result<Vec<u8>, AllocError>
-    ensures { IfOk result (λ text. text.items ≡ no_line by (word.now, number)) }
+fn no_line(text: &mut Line, by: Origin, word: &str, number: Option<u64>) -> Result<(), AllocError>
+    ensures { OnOk result (text.new ≡ no_line by (word.now, number)) }
 {
-    let mut line = Line::begin(alloc, b"no", 0)?;
-    put_origin(&mut line, by)?;
-    line.word(word.as_bytes())?;
+    text.restart(b"no", 0)?;
+    put_origin(text, by)?;
+    text.word(word.as_bytes())?;
     if let Some(n) = number {
-        line.number(n)?;
+        text.number(n)?;
     }
-    line.end()
+    text.finish()
 }
 
 /// The line of what a command gave, in the sender's instance before it. A command that has to wait has no line.
 pub fn gave_line(
-    alloc: Global,
+    text: &mut Line,
     by: Origin,
     instance: InstanceId,
     verb: &Verb,
     gave: &Result<Receipt, SendFault>,
-) -> Result<Option<Vec<u8>>, AllocError>
-    ensures { IfOk result (λ text. option_map (λ octets. octets.items) text ≡ gave_line by instance verb.now gave.now) }
+) -> Result<bool, AllocError>
+    ensures { IfOk result (λ has. line_if has text.new ≡ gave_line by instance verb.now gave.now) }
 {
     match gave {
-        Ok(receipt) => Ok(Some(receipt_line(alloc, by, instance, verb, receipt)?)),
-        Err(fault) => refusal_line(alloc, by, fault),
+        Ok(receipt) => {
+            receipt_line(text, by, instance, verb, receipt)?;
+            Ok(true)
+        }
+        Err(fault) => refusal_line(text, by, fault),
     }
 }
 
 /// The line of a command that was refused. One that has to wait has none.
-pub fn refusal_line(
-    alloc: Global,
-    by: Origin,
-    fault: &SendFault,
-) -> Result<Option<Vec<u8>>, AllocError>
-    ensures { IfOk result (λ text. option_map (λ octets. octets.items) text ≡ option_map (no_line by) (reason_of fault.now)) }
+pub fn refusal_line(text: &mut Line, by: Origin, fault: &SendFault) -> Result<bool, AllocError>
+    ensures { IfOk result (λ has. line_if has text.new ≡ option_map (no_line by) (reason_of fault.now)) }
 {
     match reason_of(fault) {
-        Some((word, number)) => Ok(Some(no_line(alloc, by, word, number)?)),
-        None => Ok(None),
+        Some((word, number)) => {
+            no_line(text, by, word, number)?;
+            Ok(true)
+        }
+        None => Ok(false),
     }
 }
 
 /// The beginning of a hand-up's line, with room for so many octets of contents.
 fn begin_up(
-    alloc: Global,
+    text: &mut Line,
     node: NodeId,
     instance: InstanceId,
     index: u32,
     contents: usize,
-) -> Result<Line, AllocError>
-    ensures { IfOk result (λ text. text ≡ with_words (codes "up") (decimal node ∷ decimal instance ∷ decimal index ∷ [])) }
+) -> Result<(), AllocError>
+    ensures { OnOk result (text.new ≡ with_words (codes "up") (decimal node ∷ decimal instance ∷ decimal index ∷ [])) }
 {
-    let mut line = Line::begin(alloc, b"up", contents)?;
-    line.number(u64::from(node.number()))?;
-    line.number(u64::from(instance.0))?;
-    line.number(u64::from(index))?;
-    Ok(line)
+    text.restart(b"up", contents)?;
+    text.number(u64::from(node.number()))?;
+    text.number(u64::from(instance.0))?;
+    text.number(u64::from(index))?;
+    Ok(())
 }
 
 /// The line of an object that was handed up.
 fn object_up_line(
-    alloc: Global,
+    text: &mut Line,
     node: NodeId,
     instance: InstanceId,
     index: u32,
     kind: Kind,
     info: &Option<Octets>,
     octets: &[u8],
-) -> Result<Vec<u8>, AllocError>
-    ensures { IfOk result (λ text. text.items ≡ part_line node instance index
+) -> Result<(), AllocError>
+    ensures { OnOk result (text.new ≡ part_line node instance index
         (kind_word kind ∷ decimal (length octets.now) ∷ info_word info.now ∷ encode_lower octets.now ∷ [])) }
 {
-    let mut line = begin_up(alloc, node, instance, index, contents_of(info, octets))?;
-    line.word(kind_word(kind).as_bytes())?;
-    line.number(octets.len() as u64)?;
-    line.info(info)?;
-    line.contents(octets)?;
-    line.end()
+    begin_up(text, node, instance, index, contents_of(info, octets))?;
+    text.word(kind_word(kind).as_bytes())?;
+    text.number(octets.len() as u64)?;
+    text.info(info)?;
+    text.contents(octets)?;
+    text.finish()
 }
 
 /// How many octets an object's line shows.
@@ -331,47 +327,47 @@ fn contents_of(info: &Option<Octets>, octets: &[u8]) -> usize {
 
 /// The line of a segment that was handed up.
 fn bytes_line(
-    alloc: Global,
+    text: &mut Line,
     node: NodeId,
     instance: InstanceId,
     index: u32,
     offset: u32,
     octets: &[u8],
-) -> Result<Vec<u8>, AllocError>
-    ensures { IfOk result (λ text. text.items ≡ part_line node instance index
+) -> Result<(), AllocError>
+    ensures { OnOk result (text.new ≡ part_line node instance index
         (codes "bytes" ∷ decimal offset ∷ decimal (length octets.now) ∷ encode_lower octets.now ∷ [])) }
 {
-    let mut line = begin_up(alloc, node, instance, index, octets.len())?;
-    line.word(b"bytes")?;
-    line.number(u64::from(offset))?;
-    line.number(octets.len() as u64)?;
-    line.contents(octets)?;
-    line.end()
+    begin_up(text, node, instance, index, octets.len())?;
+    text.word(b"bytes")?;
+    text.number(u64::from(offset))?;
+    text.number(octets.len() as u64)?;
+    text.contents(octets)?;
+    text.finish()
 }
 
 /// The line of a hand-up that has one word.
 fn part_line(
-    alloc: Global,
+    text: &mut Line,
     node: NodeId,
     instance: InstanceId,
     index: u32,
     word: &[u8],
-) -> Result<Vec<u8>, AllocError>
-    ensures { IfOk result (λ text. text.items ≡ part_line node instance index (word.now ∷ [])) }
+) -> Result<(), AllocError>
+    ensures { OnOk result (text.new ≡ part_line node instance index (word.now ∷ [])) }
 {
-    let mut line = begin_up(alloc, node, instance, index, 0)?;
-    line.word(word)?;
-    line.end()
+    begin_up(text, node, instance, index, 0)?;
+    text.word(word)?;
+    text.finish()
 }
 
 /// The line of a node's hand-up, in the instance that it is in.
 pub fn up_line(
-    alloc: Global,
+    text: &mut Line,
     node: NodeId,
     instance: InstanceId,
     up: &Up,
-) -> Result<Vec<u8>, AllocError>
-    ensures { IfOk result (λ text. text.items ≡ up_line node instance up.now) }
+) -> Result<(), AllocError>
+    ensures { OnOk result (text.new ≡ up_line node instance up.now) }
 {
     match up {
         Up::Object {
@@ -379,101 +375,113 @@ pub fn up_line(
             kind,
             info,
             bytes,
-        } => object_up_line(alloc, node, instance, *index, *kind, info, bytes.bytes()),
-        Up::StreamOpen { index } => part_line(alloc, node, instance, *index, b"open"),
+        } => object_up_line(text, node, instance, *index, *kind, info, bytes.bytes()),
+        Up::StreamOpen { index } => part_line(text, node, instance, *index, b"open"),
         Up::StreamBytes {
             index,
             offset,
             bytes,
-        } => bytes_line(alloc, node, instance, *index, *offset, bytes.bytes()),
-        Up::StreamEnd { index } => part_line(alloc, node, instance, *index, b"end"),
-        Up::Lost { index } => part_line(alloc, node, instance, *index, b"lost"),
+        } => bytes_line(text, node, instance, *index, *offset, bytes.bytes()),
+        Up::StreamEnd { index } => part_line(text, node, instance, *index, b"end"),
+        Up::Lost { index } => part_line(text, node, instance, *index, b"lost"),
     }
 }
 
 /// The line of a new listing.
 fn past_line(
-    alloc: Global,
+    text: &mut Line,
     instance: InstanceId,
     node: NodeId,
     at: Position,
-) -> Result<Vec<u8>, AllocError>
-    ensures { IfOk result (λ text. text.items ≡ line (codes "past") (decimal node ∷ decimal instance ∷ position_words at)) }
+) -> Result<(), AllocError>
+    ensures { OnOk result (text.new ≡ line (codes "past") (decimal node ∷ decimal instance ∷ position_words at)) }
 {
-    let mut line = Line::begin(alloc, b"past", 0)?;
-    line.number(u64::from(node.number()))?;
-    line.number(u64::from(instance.0))?;
-    put_position(&mut line, at)?;
-    line.end()
+    text.restart(b"past", 0)?;
+    text.number(u64::from(node.number()))?;
+    text.number(u64::from(instance.0))?;
+    put_position(text, at)?;
+    text.finish()
 }
 
 /// The line of a watermark that ended, without members that are left.
-fn ended_line(alloc: Global, mark: u32, word: &[u8]) -> Result<Vec<u8>, AllocError>
-    ensures { IfOk result (λ text. text.items ≡ line (codes "done") (decimal mark ∷ word.now ∷ [])) }
+fn ended_line(text: &mut Line, mark: u32, word: &[u8]) -> Result<(), AllocError>
+    ensures { OnOk result (text.new ≡ line (codes "done") (decimal mark ∷ word.now ∷ [])) }
 {
-    let mut line = Line::begin(alloc, b"done", 0)?;
-    line.number(u64::from(mark))?;
-    line.word(word)?;
-    line.end()
+    text.restart(b"done", 0)?;
+    text.number(u64::from(mark))?;
+    text.word(word)?;
+    text.finish()
 }
 
 /// Puts a node.
-fn put_node(line: &mut Line, node: NodeId) -> Result<(), AllocError>
-    ensures { OnOk result (line.new ≡ with_word line.old (decimal node)) }
+fn put_node(text: &mut Line, node: NodeId) -> Result<(), AllocError>
+    ensures { OnOk result (text.new ≡ with_word text.old (decimal node)) }
 {
-    line.number(u64::from(node.number()))
+    text.number(u64::from(node.number()))
 }
 
 /// Puts nodes.
-fn put_nodes(line: &mut Line, nodes: &[NodeId]) -> Result<(), AllocError>
-    ensures { OnOk result (line.new ≡ with_words line.old (node_words nodes.now)) }
+fn put_nodes(text: &mut Line, nodes: &[NodeId]) -> Result<(), AllocError>
+    ensures { OnOk result (text.new ≡ with_words text.old (node_words nodes.now)) }
 {
     for node in nodes {
-        put_node(line, *node)?;
+        put_node(text, *node)?;
     }
     Ok(())
 }
 
 /// The line of a watermark that expired, with the members that are left.
-fn expired_line(alloc: Global, mark: u32, left: &[NodeId]) -> Result<Vec<u8>, AllocError>
-    ensures { IfOk result (λ text. text.items ≡ line (codes "done") (decimal mark ∷ codes "expired" ∷ node_words left.now)) }
+fn expired_line(text: &mut Line, mark: u32, left: &[NodeId]) -> Result<(), AllocError>
+    ensures { OnOk result (text.new ≡ line (codes "done") (decimal mark ∷ codes "expired" ∷ node_words left.now)) }
 {
-    let mut line = Line::begin(alloc, b"done", 0)?;
-    line.number(u64::from(mark))?;
-    line.word(b"expired")?;
-    put_nodes(&mut line, left)?;
-    line.end()
+    text.restart(b"done", 0)?;
+    text.number(u64::from(mark))?;
+    text.word(b"expired")?;
+    put_nodes(text, left)?;
+    text.finish()
 }
 
 /// The line of a change that the sender told, in its instance, with the members that are left of a watermark. A watermark that
 /// is open has no line.
 pub fn news_line(
-    alloc: Global,
+    text: &mut Line,
     instance: InstanceId,
     left: &[NodeId],
     news: &News,
-) -> Result<Option<Vec<u8>>, AllocError>
-    ensures { IfOk result (λ text. option_map (λ octets. octets.items) text ≡ news_line instance left.now news.now) }
+) -> Result<bool, AllocError>
+    ensures { IfOk result (λ has. line_if has text.new ≡ news_line instance left.now news.now) }
 {
     match news {
-        News::Past { node, at } => Ok(Some(past_line(alloc, instance, *node, *at)?)),
-        News::Done { mark, outcome } => done_line(alloc, *mark, left, outcome),
+        News::Past { node, at } => {
+            past_line(text, instance, *node, *at)?;
+            Ok(true)
+        }
+        News::Done { mark, outcome } => done_line(text, *mark, left, outcome),
     }
 }
 
 /// The line of a watermark's outcome.
 fn done_line(
-    alloc: Global,
+    text: &mut Line,
     mark: u32,
     left: &[NodeId],
     outcome: &Outcome,
-) -> Result<Option<Vec<u8>>, AllocError>
-    ensures { IfOk result (λ text. option_map (λ octets. octets.items) text ≡ done_line mark left.now outcome.now) }
+) -> Result<bool, AllocError>
+    ensures { IfOk result (λ has. line_if has text.new ≡ done_line mark left.now outcome.now) }
 {
     match outcome {
-        Outcome::Open { .. } => Ok(None),
-        Outcome::Satisfied => Ok(Some(ended_line(alloc, mark, b"satisfied")?)),
-        Outcome::Expired { .. } => Ok(Some(expired_line(alloc, mark, left)?)),
-        Outcome::Cut => Ok(Some(ended_line(alloc, mark, b"cut")?)),
+        Outcome::Open { .. } => Ok(false),
+        Outcome::Satisfied => {
+            ended_line(text, mark, b"satisfied")?;
+            Ok(true)
+        }
+        Outcome::Expired { .. } => {
+            expired_line(text, mark, left)?;
+            Ok(true)
+        }
+        Outcome::Cut => {
+            ended_line(text, mark, b"cut")?;
+            Ok(true)
+        }
     }
 }

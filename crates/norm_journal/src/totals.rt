@@ -1,6 +1,6 @@
 //! The counts of a run's summary.
 
-ghost use Rattle.std.specs.Prelude.{◌≡◌, ◌+◌, ◌<◌, ◌^◌, ◌∷◌, [], decimal, IfOk, OnOk};
+ghost use Rattle.std.specs.Prelude.{◌≡◌, ◌+◌, ◌<◌, ◌^◌, ◌∷◌, [], decimal, OnOk};
 ghost use Rattle.std.specs.Bool.{Decides};
 ghost use Rattle.norm_text.specs.Words.{with_words};
 ghost use Rattle.norm_journal.specs.Lines.{end_line};
@@ -9,7 +9,7 @@ ghost use Rattle.norm_journal.specs.Totals.{nothing_counted, with_gave, with_up,
 use norm_order::Up;
 use norm_send_rules::{News, Outcome, Receipt, SendFault};
 use norm_text::Line;
-use std::alloc::{AllocError, Global};
+use std::alloc::AllocError;
 
 /// Whether so many more make a count of 64 bits.
 fn fits(count: u64, more: u64) -> bool
@@ -154,24 +154,24 @@ impl Totals {
 }
 
 /// Puts a count behind its word.
-fn put_count(line: &mut Line, word: &[u8], n: u64) -> Result<(), AllocError>
-    ensures { OnOk result (line.new ≡ with_words line.old (word.now ∷ decimal n ∷ [])) }
+fn put_count(text: &mut Line, word: &[u8], n: u64) -> Result<(), AllocError>
+    ensures { OnOk result (text.new ≡ with_words text.old (word.now ∷ decimal n ∷ [])) }
 {
-    line.word(word)?;
-    line.number(n)
+    text.word(word)?;
+    text.number(n)
 }
 
 /// The summary's line.
-pub fn end_line(alloc: Global, totals: &Totals) -> Result<Vec<u8>, AllocError>
-    ensures { IfOk result (λ text. text.items ≡ end_line totals.now) }
+pub fn end_line(text: &mut Line, totals: &Totals) -> Result<(), AllocError>
+    ensures { OnOk result (text.new ≡ end_line totals.now) }
 {
-    let mut line = Line::begin(alloc, b"end", 0)?;
-    put_count(&mut line, b"objects", totals.objects)?;
-    put_count(&mut line, b"octets", totals.octets)?;
-    put_count(&mut line, b"handed", totals.handed)?;
-    put_count(&mut line, b"lost", totals.lost)?;
-    put_count(&mut line, b"satisfied", totals.satisfied)?;
-    put_count(&mut line, b"expired", totals.expired)?;
-    put_count(&mut line, b"cut", totals.cut)?;
-    line.end()
+    text.restart(b"end", 0)?;
+    put_count(text, b"objects", totals.objects)?;
+    put_count(text, b"octets", totals.octets)?;
+    put_count(text, b"handed", totals.handed)?;
+    put_count(text, b"lost", totals.lost)?;
+    put_count(text, b"satisfied", totals.satisfied)?;
+    put_count(text, b"expired", totals.expired)?;
+    put_count(text, b"cut", totals.cut)?;
+    text.finish()
 }

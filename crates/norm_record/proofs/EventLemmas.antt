@@ -9,8 +9,10 @@ use Rattle.norm_journal.specs.declared.event.Event.TheVariants as event
 use Rattle.norm_record.specs.declared.entry.Entry.{Entry}
 use Rattle.norm_record.specs.declared.entry.Entry.TheVariants as entry
 use Rattle.norm_record.specs.declared.entry.Rare.TheVariants as rare
-use Rattle.norm_record.specs.Events.{Stores, event_of, events_of, IsThere, IsKept, rare_event, up_event, no_hand_up}
+use Rattle.norm_record.specs.Events.{Stores, event_of, events_of, IsThere, IsKept, rare_event, up_event, no_hand_up, turn_event, no_turn}
 use Rattle.norm_record.specs.Offered.{offered, TakesOffered}
+use Rattle.norm_record.specs.Once.{UpsKept}
+use Rattle.norm_record.proofs.OnceLemmas.{no_ups}
 
 -- a list that only grew at its end
 pub record Grown {X : Type 0} (old new : List X) : Type 0 where
@@ -36,9 +38,10 @@ pub record Extends (s t : Stores) : Type 0 where
   pub apart : Grown s.apart t.apart
   pub ups : Grown s.ups t.ups
   pub rares : Grown s.rares t.rares
+  pub turns : Grown s.turns t.turns
 
 still_there : (s t : Stores) → Extends s t → (e : Entry) → IsThere s e → IsThere t e
-still_there s t x (entry.Turn n now) h = h
+still_there s t x (entry.Turn at) h = longer at x.turns h
 still_there s t x (entry.Tick node sent) h = h
 still_there s t x (entry.Offer from at) h = longer at x.offers h
 still_there s t x (entry.Took to at) h = longer at x.offers h
@@ -48,7 +51,7 @@ still_there s t x (entry.Up node at) h = longer at x.ups h
 still_there s t x (entry.Rare at) h = longer at x.rares h
 
 same_event : (s t : Stores) → Extends s t → (e : Entry) → IsThere s e → event_of t e ≡ event_of s e
-same_event s t x (entry.Turn n now) h = refl
+same_event s t x (entry.Turn at) h = ap turn_event (at_place no_turn at x.turns h)
 same_event s t x (entry.Tick node sent) h = refl
 same_event s t x (entry.Offer from at) h = ap (event.Offer from) (at_place [] at x.offers h)
 same_event s t x (entry.Took to at) h = ap (event.Took to) (at_place [] at x.offers h)
@@ -70,9 +73,11 @@ all_of_none P = search rules
 abbrev pub Kept : List Event → Stores → List Entry → Event → Type 0
 Kept old t es e = IsKept t es × (events_of t es ≡ old ++ e ∷ [])
 
--- what the new offers and takes have to be
-abbrev pub Fits : List Event → Stores → Stores → Event → Type 0
-Fits old s t e = (t.offers ≡ s.offers ++ offered (e ∷ [])) × (TakesOffered (old ++ e ∷ []) → s.apart ≡ [] → t.apart ≡ [])
+-- what the new offers, takes and hand-ups have to be
+pub record Fits (old : List Event) (s t : Stores) (e : Event) : Type 0 where
+  pub offers : t.offers ≡ s.offers ++ offered (e ∷ [])
+  pub apart : TakesOffered (old ++ e ∷ []) → s.apart ≡ [] → t.apart ≡ []
+  pub ups : UpsKept t.ups (old ++ e ∷ [])
 
 offered-append : (es fs : List Event) → offered (es ++ fs) ≡ offered es ++ offered fs
 offered-append es fs =
@@ -91,8 +96,9 @@ one_event_more s t es es' entry e kept x is there event fits =
       record {
         there = All-append (IsThere t) es (entry ∷ []) (All-weaker (IsThere s) (IsThere t) (still_there s t x) es kept.there)
             (All-cons (IsThere t) entry [] there (all_of_none (IsThere t)));
-        offers = fits.0 ∙ ap (λ xs. xs ++ offered (e ∷ [])) kept.offers ∙ sym (offered-append (events_of s es) (e ∷ [])) ∙ ap offered (sym events);
-        apart = λ takes. let now = subst TakesOffered events takes in fits.1 now (kept.apart (takes_before (events_of s es) e now));
+        offers = fits.offers ∙ ap (λ xs. xs ++ offered (e ∷ [])) kept.offers ∙ sym (offered-append (events_of s es) (e ∷ [])) ∙ ap offered (sym events);
+        apart = λ takes. let now = subst TakesOffered events takes in fits.apart now (kept.apart (takes_before (events_of s es) e now));
+        ups = subst (UpsKept t.ups) (sym events) fits.ups;
       },
       events,
     )
@@ -102,3 +108,13 @@ one_event_more s t es es' entry e kept x is there event fits =
         map-append (event_of t) es (entry ∷ [])
         ∙ ap (λ xs. xs ++ event_of t entry ∷ []) (same_events s t x es kept.there)
         ∙ ap (λ x. events_of s es ++ x ∷ []) event
+
+-- nothing is kept
+pub nothing_kept : (s : Stores) (es : List Entry) → s.offers ≡ [] → s.apart ≡ [] → s.ups ≡ [] → es ≡ [] → IsKept s es
+nothing_kept s es offers apart ups none =
+    subst (IsKept s) (sym none) (record {
+      there = all_of_none (IsThere s);
+      offers = offers;
+      apart = λ takes. apart;
+      ups = subst (λ new. UpsKept new []) (sym ups) no_ups;
+    })

@@ -1,4 +1,5 @@
 mod RowLemmas
 mod LatestLemmas
+mod OnceLemmas
 mod EventLemmas
 mod PushLemmas

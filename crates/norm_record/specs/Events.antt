@@ -7,15 +7,18 @@ use Rattle.norm_journal.specs.declared.event.Event.TheVariants as event
 use Rattle.norm_record.specs.declared.entry.Entry.{Entry}
 use Rattle.norm_record.specs.declared.entry.Entry.TheVariants as entry
 use Rattle.norm_record.specs.declared.entry.Rare.{Rare}
+use Rattle.norm_record.specs.declared.entry.Turn.{Turn}
 use Rattle.norm_record.specs.declared.entry.Rare.TheVariants as rare
 use Rattle.norm_record.specs.Offered.{offered, TakesOffered}
+use Rattle.norm_record.specs.Once.{UpsKept}
 
--- the offers, the takes that are no offer, the hand-ups and the rare events, each kept once
+-- the offers, the takes that are no offer, the hand-ups, the rare events and the turns, each kept once
 pub record Stores : Type 0 where
   pub offers : List (List ℕ)
   pub apart : List (List ℕ)
   pub ups : List HandUp
   pub rares : List Rare
+  pub turns : List Turn
 
 -- an event that is kept whole
 abbrev pub rare_event : Rare → Event
@@ -30,13 +33,21 @@ rare_event rare.End = event.End
 abbrev pub up_event : ℕ → HandUp → Event
 up_event node h = event.Up node h.instance h.up
 
+-- the beginning of a turn
+abbrev pub turn_event : Turn → Event
+turn_event turn = event.Turn turn.t turn.now
+
+-- some turn
+abbrev pub no_turn : Turn
+no_turn = record { t = 0; now = 0 }
+
 -- some hand-up
 abbrev pub no_hand_up : HandUp
 no_hand_up = record { instance = 0; up = up.Lost 0 }
 
 -- the event of an entry; what stands at a place that is not there is never asked for
 abbrev pub event_of : Stores → Entry → Event
-event_of s (entry.Turn t now) = event.Turn t now
+event_of s (entry.Turn at) = turn_event (slice_index_or s.turns at no_turn)
 event_of s (entry.Tick node sent) = event.Tick node sent
 event_of s (entry.Offer from at) = event.Offer from (slice_index_or s.offers at [])
 event_of s (entry.Took to at) = event.Took to (slice_index_or s.offers at [])
@@ -51,7 +62,7 @@ events_of s entries = map (event_of s) entries
 
 -- an entry's place is there
 abbrev pub IsThere : Stores → Entry → Type 0
-IsThere s (entry.Turn t now) = ⊤
+IsThere s (entry.Turn at) = at < length s.turns
 IsThere s (entry.Tick node sent) = ⊤
 IsThere s (entry.Offer from at) = at < length s.offers
 IsThere s (entry.Took to at) = at < length s.offers
@@ -60,8 +71,10 @@ IsThere s entry.Empty = ⊤
 IsThere s (entry.Up node at) = at < length s.ups
 IsThere s (entry.Rare at) = at < length s.rares
 
--- each entry's place is there, the offers are those of the events, and nothing is kept apart where each take is of an offer
+-- each entry's place is there, the offers are those of the events, nothing is kept apart where each take is of an offer, and the
+-- hand-ups are those of the events
 pub record IsKept (s : Stores) (entries : List Entry) : Type 0 where
   pub there : All (IsThere s) entries
   pub offers : s.offers ≡ offered (events_of s entries)
   pub apart : TakesOffered (events_of s entries) → s.apart ≡ []
+  pub ups : UpsKept s.ups (events_of s entries)

@@ -22,10 +22,16 @@ index_of (up.StreamEnd index) = index
 index_of (up.Lost index) = index
 
 -- its instance, part, index and offset, as one number
-unfoldable pub up_name : HandUp → ℕ
-up_name h = ((h.instance * 256 + (part_of h.up).0) * 4294967296 + index_of h.up) * 4294967296 + (part_of h.up).1
+unfoldable pub up_name : ℕ → Up → ℕ
+up_name instance up = ((instance * 256 + (part_of up).0) * 4294967296 + index_of up) * 4294967296 + (part_of up).1
+
+abbrev pub kept_name : HandUp → ℕ
+kept_name h = up_name h.instance h.up
+
+abbrev pub kept_names : List HandUp → List ℕ
+kept_names ups = map kept_name ups
 
 -- this is the hand-up at this place, and no later one has its name
 pub record IsLatestUp (ups : List HandUp) (hand_up : HandUp) (at : ℕ) : Type 0 where
   pub is : slice_get ups at ≡ Some hand_up
-  pub last : IsLast (map up_name ups) (up_name hand_up) at
+  pub last : IsLast (kept_names ups) (kept_name hand_up) at

@@ -11,7 +11,8 @@ use norm_send_rules::{Job, News, Receipt, SendFault};
 /// An event without its octets: these stand at its place among what is kept.
 #[derive(Clone, Copy, Debug, PartialEq, Eq)]
 pub(crate) enum Entry {
-    Turn { t: u32, now: Moment },
+    /// The turn at this place.
+    Turn { at: u32 },
     Tick { node: NodeId, sent: Sent },
     /// The offer at this place.
     Offer { from: NodeId, at: u32 },
@@ -24,6 +25,13 @@ pub(crate) enum Entry {
     Up { node: NodeId, at: u32 },
     /// The rare event at this place.
     Rare { at: u32 },
+}
+
+/// A turn and its moment.
+#[derive(Clone, Copy, Debug, PartialEq, Eq)]
+pub(crate) struct Turn {
+    pub(crate) t: u32,
+    pub(crate) now: Moment,
 }
 
 /// An event that is kept whole.

@@ -1,12 +1,14 @@
 //! A journal that is kept.
 
-ghost use Rattle.std.specs.Prelude.{◌≡◌, ◌<◌, [], length, slice_get, Some, sum_by};
+ghost use Rattle.std.specs.Prelude.{◌≡◌, ◌<◌, [], length, slice_get, Some, sum_by, nat_eq};
+ghost use Rattle.std.specs.Set.{distinct_count};
 ghost use Rattle.norm_journal.specs.declared.event.Event.TheVariants as event;
 ghost use Rattle.norm_record.specs.Events.{rare_event};
 ghost use Rattle.norm_record.specs.Offered.{Adds, TakesOffered, offered};
+ghost use Rattle.norm_record.specs.Once.{UpsAgree, names_in};
 ghost use Rattle.norm_record.specs.Told.{told_of};
 
-use crate::entry::{Entry, Rare};
+use crate::entry::{Entry, Rare, Turn};
 use crate::offers::Offers;
 use crate::row::Row;
 use crate::seen::Seen;
@@ -27,6 +29,7 @@ pub struct Journal {
     apart: Row,
     ups: Ups,
     rares: Vec<Rare>,
+    turns: Vec<Turn>,
 }
 
 impl Model for Journal {
@@ -38,11 +41,11 @@ impl Model for Journal {
     ghost use Rattle.norm_record.specs.Events.{events_of, IsKept};
 
     ghost view = { λ j. events_of
-        (record { offers = j.offers; apart = j.apart; ups = j.ups; rares = j.rares.items })
+        (record { offers = j.offers; apart = j.apart; ups = j.ups; rares = j.rares.items; turns = j.turns.items })
         j.entries.items };
 
     ghost invariant = { λ j. IsKept
-        (record { offers = j.offers; apart = j.apart; ups = j.ups; rares = j.rares.items })
+        (record { offers = j.offers; apart = j.apart; ups = j.ups; rares = j.rares.items; turns = j.turns.items })
         j.entries.items };
 }
 
@@ -57,6 +60,7 @@ impl Journal {
             apart: Row::new(alloc),
             ups: Ups::new(alloc),
             rares: Vec::new(alloc),
+            turns: Vec::new(alloc),
         }
     }
 
@@ -75,13 +79,24 @@ impl Journal {
         self.offers.octets().saturating_add(self.apart.octets())
     }
 
+    /// How many hand-ups are kept. Where those of one instance, part, index and offset are the same, each of them is kept once, however
+    /// many receivers handed it up.
+    pub fn hand_ups(&self) -> usize
+        ensures { UpsAgree self.now → result ≡ distinct_count nat_eq (names_in self.now) }
+    {
+        self.ups.len()
+    }
+
     /// The event at a place, lent.
     pub fn event(&self, i: usize) -> Seen<'_>
         requires { i < length self.now }
         ensures { slice_get self.now i ≡ Some (told_of result) }
     {
         match self.entries[i] {
-            Entry::Turn { t, now } => Seen::Turn { t, now },
+            Entry::Turn { at } => {
+                let Turn { t, now } = self.turns[at as usize];
+                Seen::Turn { t, now }
+            }
             Entry::Tick { node, sent } => Seen::Tick { node, sent },
             Entry::Offer { from, at } => Seen::Offer {
                 from,
@@ -119,7 +134,12 @@ impl Journal {
     pub fn push_turn(&mut self, t: u32, now: Moment) -> Result<(), Memory>
         ensures { Adds self.old self.new result (event.Turn t now) }
     {
-        self.entries.push(Entry::Turn { t, now })?;
+        let Ok(at) = u32::try_from(self.turns.len()) else {
+            return Err(Memory);
+        };
+        self.entries.reserve(1)?;
+        self.turns.push(Turn { t, now })?;
+        self.entries.push_reserved(Entry::Turn { at });
         Ok(())
     }
 

@@ -2,7 +2,7 @@
 
 ghost use Rattle.std.specs.Prelude.{◌≡◌, ◌<◌, ◌++◌, ◌∷◌, [], ℕ, length, slice_get, Some, OnOk, OnErr, IfOk, IfSome, IfNone};
 ghost use Rattle.std.specs.Bool.{Decides};
-ghost use Rattle.norm_record.specs.HandUps.{up_name, part_of, index_of, IsLatestUp};
+ghost use Rattle.norm_record.specs.HandUps.{kept_name, part_of, index_of, IsLatestUp};
 
 use norm_base::{InstanceId, Memory, Octets};
 use norm_order::Up;
@@ -25,16 +25,16 @@ pub(crate) struct Ups {
 }
 
 impl Model for Ups {
-    ghost use Rattle.std.specs.Prelude.{List, map};
+    ghost use Rattle.std.specs.Prelude.{List};
     ghost use Rattle.norm_record.specs.declared.ups.HandUp.{HandUp};
-    ghost use Rattle.norm_record.specs.HandUps.{up_name};
+    ghost use Rattle.norm_record.specs.HandUps.{kept_names};
     ghost use Rattle.norm_record.specs.Latest.{FindsLast};
 
     ghost Value = { List HandUp };
 
     ghost view = { λ ups. ups.kept.items };
 
-    ghost invariant = { λ ups. FindsLast (map up_name ups.kept.items) ups.latest };
+    ghost invariant = { λ ups. FindsLast (kept_names ups.kept.items) ups.latest };
 }
 
 /// Which part of its object a hand-up is, counted from 1 on, and the offset there.
@@ -66,7 +66,7 @@ fn index_of(up: &Up) -> u32
 /// A hand-up's name: its instance, part, index and offset as one number.
 #[tactic(auto, unfolding(crate::specs::HandUps::up_name))]
 fn up_name(hand_up: &HandUp) -> u128
-    ensures { result ≡ up_name hand_up.now }
+    ensures { result ≡ kept_name hand_up.now }
 {
     let (part, offset) = part_of(&hand_up.up);
     let front = u128::from(hand_up.instance.0) * 256 + u128::from(part);
@@ -138,6 +138,13 @@ impl Ups {
             kept: Vec::new(alloc),
             latest: HashMap::new(alloc),
         }
+    }
+
+    /// How many there are.
+    pub(crate) fn len(&self) -> usize
+        ensures { result ≡ length self.now }
+    {
+        self.kept.len()
     }
 
     /// The hand-up at a place, lent.

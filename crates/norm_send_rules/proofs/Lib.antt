@@ -11,3 +11,5 @@ pub mod StepLemmas
 pub mod BookLemmas
 pub mod PlaceLemmas
 pub mod ReachedLemmas
+pub mod RoomLemmas
+pub mod MomentLemmas

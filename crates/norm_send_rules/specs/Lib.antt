@@ -23,3 +23,5 @@ pub mod Telling
 pub mod SenderStep
 pub mod Laws
 pub mod Reached
+pub mod RoomLaws
+pub mod TickLaws

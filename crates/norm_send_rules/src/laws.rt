@@ -2,6 +2,8 @@
 
 ghost use Rattle.norm_send_rules.specs.Laws.{RefusedLeaves, ClosingLaws, WantLaws, NewLaws, NextLaws};
 ghost use Rattle.norm_send_rules.specs.Reached.{ReachedLaws};
+ghost use Rattle.norm_send_rules.specs.RoomLaws.{RoomLaws};
+ghost use Rattle.norm_send_rules.specs.TickLaws.{TickLaws};
 
 /// A refused command leaves the state but for the cut of the open stream, which a refused mark makes too.
 #[tactic(auto, using(crate::proofs::RefusedLemmas::refused_leaves))]
@@ -39,4 +41,17 @@ pub fn what_is_new()
 #[tactic(auto, using(crate::proofs::NextLemmas::next_laws))]
 pub fn what_is_new_next()
     ensures { NextLaws }
+{}
+
+/// After making room there is room, one object fewer would not do, and an object is refused for want of room exactly where no
+/// front that may go makes room.
+#[tactic(auto, using(crate::proofs::RoomLemmas::room_laws))]
+pub fn room()
+    ensures { RoomLaws }
+{}
+
+/// Two datagrams of a sender are a gap apart, and in one tick at most one watermark ends, the oldest.
+#[tactic(auto, using(crate::proofs::MomentLemmas::tick_laws))]
+pub fn ticks()
+    ensures { TickLaws }
 {}

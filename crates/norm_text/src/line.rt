@@ -33,6 +33,15 @@ impl Model for Line {
 }
 
 impl Line {
+    /// A line without octets, which is begun by `restart`. It takes no memory.
+    pub fn new(alloc: Global) -> Line
+        ensures { result ≡ [] }
+    {
+        Line {
+            octets: Vec::new(alloc),
+        }
+    }
+
     /// A line with its first word, and room for so many octets of contents as digits.
     pub fn begin(alloc: Global, first: &[u8], contents: usize) -> Result<Line, AllocError>
         ensures { IfOk result (λ line. line ≡ first.now) }
@@ -41,6 +50,30 @@ impl Line {
         let mut octets = Vec::with_capacity(alloc, room)?;
         octets.extend_from_slice(first)?;
         Ok(Line { octets })
+    }
+
+    /// Begins another line in the same memory, with its first word, and room for so many octets of contents as digits.
+    pub fn restart(&mut self, first: &[u8], contents: usize) -> Result<(), AllocError>
+        ensures { OnOk result (self.new ≡ first.now) }
+    {
+        self.octets.clear();
+        self.octets
+            .reserve(contents.saturating_mul(2).saturating_add(WORDS))?;
+        self.octets.extend_from_slice(first)
+    }
+
+    /// The octets, lent.
+    pub fn bytes(&self) -> &[u8]
+        ensures { result.now ≡ self.now }
+    {
+        self.octets.as_slice()
+    }
+
+    /// Takes away all octets. The memory stays.
+    pub fn clear(&mut self)
+        ensures { self.new ≡ [] }
+    {
+        self.octets.clear();
     }
 
     /// Puts a piece behind a separator.
@@ -132,6 +165,13 @@ impl Line {
             Some(octets) => self.contents(octets.bytes()),
             None => self.word(b"-"),
         }
+    }
+
+    /// Puts the line feed at its end.
+    pub fn finish(&mut self) -> Result<(), AllocError>
+        ensures { OnOk result (self.new ≡ self.old ++ codes "\n") }
+    {
+        self.octets.extend_from_slice(b"\n")
     }
 
     /// The line with its line feed.

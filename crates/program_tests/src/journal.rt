@@ -6,6 +6,7 @@ use norm_journal::{Totals, end_line, gave_line, news_line, refusal_line, up_line
 use norm_order::Up;
 use norm_script::Verb;
 use norm_send_rules::{EnqueueFault, MarkFault, News, Outcome, Receipt, SendFault, StrikeFault};
+use norm_text::Line;
 use std::alloc::Global;
 use std::test::Fail;
 
@@ -16,8 +17,9 @@ const BY: Origin = Origin {
 
 /// Whether the line of what a command gave is this one.
 fn gives(alloc: Global, verb: &Verb, gave: Receipt, text: &[u8]) -> bool {
-    match gave_line(alloc, BY, InstanceId(7), verb, &Ok(gave)) {
-        Ok(Some(line)) => line.as_slice() == text,
+    let mut line = Line::new(alloc);
+    match gave_line(&mut line, BY, InstanceId(7), verb, &Ok(gave)) {
+        Ok(true) => line.bytes() == text,
         _ => false,
     }
 }
@@ -56,9 +58,10 @@ fn what_is_given_has_its_line(rt: HostRuntime) -> Result<(), Fail> {
 
 /// Whether the line of a refusal is this one, or none where the text is empty.
 fn refuses(alloc: Global, fault: SendFault, text: &[u8]) -> bool {
-    match refusal_line(alloc, BY, &fault) {
-        Ok(Some(line)) => line.as_slice() == text,
-        Ok(None) => text.is_empty(),
+    let mut line = Line::new(alloc);
+    match refusal_line(&mut line, BY, &fault) {
+        Ok(true) => line.bytes() == text,
+        Ok(false) => text.is_empty(),
         Err(_) => false,
     }
 }
@@ -98,8 +101,9 @@ fn refusals_have_their_lines(rt: HostRuntime) -> Result<(), Fail> {
 
 /// Whether the line of these news is this one.
 fn tells(alloc: Global, left: &[NodeId], news: &News, text: &[u8]) -> bool {
-    match news_line(alloc, InstanceId(7), left, news) {
-        Ok(Some(line)) => line.as_slice() == text,
+    let mut line = Line::new(alloc);
+    match news_line(&mut line, InstanceId(7), left, news) {
+        Ok(true) => line.bytes() == text,
         _ => false,
     }
 }
@@ -135,9 +139,10 @@ fn the_totals_have_their_line(rt: HostRuntime) -> Result<(), Fail> {
         expired: 0,
         cut: 0,
     };
-    let text = end_line(rt.alloc(), &totals)?;
+    let mut line = Line::new(rt.alloc());
+    end_line(&mut line, &totals)?;
     let want = b"end objects 3 octets 1000 handed 2 lost 1 satisfied 1 expired 0 cut 0\n";
-    assert!(rt; text.as_slice() == want.as_slice());
+    assert!(rt; line.bytes() == want.as_slice());
     Ok(())
 }
 
@@ -152,7 +157,8 @@ fn the_largest_object_has_a_line(rt: HostRuntime) -> Result<(), Fail> {
         info: None,
         bytes: Octets::of(vec![in rt.alloc(); 0xa5u8; 16_777_216]?),
     };
-    let line = up_line(rt.alloc(), node, InstanceId(7), &up)?;
-    assert!(rt; line.len() == 33_554_432 + 26);
+    let mut line = Line::new(rt.alloc());
+    up_line(&mut line, node, InstanceId(7), &up)?;
+    assert!(rt; line.bytes().len() == 33_554_432 + 26);
     Ok(())
 }

@@ -15,6 +15,8 @@ mod memory;
 #[cfg(test)]
 mod program;
 #[cfg(test)]
+mod record;
+#[cfg(test)]
 mod script;
 #[cfg(test)]
 mod show;

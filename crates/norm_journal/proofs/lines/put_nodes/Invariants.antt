@@ -5,4 +5,4 @@ use Rattle.norm_journal.proofs.lines.put_nodes.Given as goal
 
 -- the words of the nodes so far
 abbrev pub invariant-loop-node : goal.invariant-loop-node
-invariant-loop-node l = l.line ≡ with_words l.fn.line (node_words (take l.node-index l.nodes))
+invariant-loop-node l = l.text ≡ with_words l.fn.text (node_words (take l.node-index l.nodes))

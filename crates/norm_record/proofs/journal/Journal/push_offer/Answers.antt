@@ -7,14 +7,14 @@ use Rattle.norm_record.proofs.journal.Journal.push_offer.Goals as goal
 
 pub invariant_of-self-2 : goal.invariant_of-self-2
 invariant_of-self-2 c =
-    (offer_joins (record { offers = c.self.inside.offers; apart = c.self.inside.apart; ups = c.self.inside.ups; rares = c.self.inside.rares.items })
+    (offer_joins (record { offers = c.self.inside.offers; apart = c.self.inside.apart; ups = c.self.inside.ups; rares = c.self.inside.rares.items; turns = c.self.inside.turns.items })
     c.self.inside.entries.items c.push_reserved.new.self.items c.keep.new.self c.args.from c.args.octets.now c.in_ok-at.at c.self.invariant
     c.in_ok-at.ensures.kept c.in_ok-at.ensures.place
     (c.push_reserved.ensures.items ∙ ap (λ es. es ++ entry.Offer c.args.from c.in_ok-at.at ∷ []) c.reserve.ensures.items)).0
 
 pub returns : goal.returns
 returns c =
-    (offer_joins (record { offers = c.self.inside.offers; apart = c.self.inside.apart; ups = c.self.inside.ups; rares = c.self.inside.rares.items })
+    (offer_joins (record { offers = c.self.inside.offers; apart = c.self.inside.apart; ups = c.self.inside.ups; rares = c.self.inside.rares.items; turns = c.self.inside.turns.items })
     c.self.inside.entries.items c.push_reserved.new.self.items c.keep.new.self c.args.from c.args.octets.now c.in_ok-at.at c.self.invariant
     c.in_ok-at.ensures.kept c.in_ok-at.ensures.place
     (c.push_reserved.ensures.items ∙ ap (λ es. es ++ entry.Offer c.args.from c.in_ok-at.at ∷ []) c.reserve.ensures.items)).1

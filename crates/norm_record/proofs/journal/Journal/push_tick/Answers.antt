@@ -2,10 +2,10 @@
 use Rattle.std.proofs.Common.{refl}
 use Rattle.norm_journal.specs.declared.event.Event.TheVariants as event
 use Rattle.norm_record.specs.declared.entry.Entry.TheVariants as entry
-use Rattle.norm_record.proofs.PushLemmas.{plain}
+use Rattle.norm_record.proofs.PushLemmas.{quiet}
 use Rattle.norm_record.proofs.journal.Journal.push_tick.Goals as goal
 
 pub invariant_of-self-2 : goal.invariant_of-self-2
 invariant_of-self-2 c =
-    (plain (record { offers = c.self.inside.offers; apart = c.self.inside.apart; ups = c.self.inside.ups; rares = c.self.inside.rares.items })
-    c.self.inside.entries.items c.push.new.self.items (entry.Tick c.args.node c.args.sent) (event.Tick c.args.node c.args.sent) c.self.invariant c.in_ok-push.ensures.items tt refl refl).0
+    (quiet (record { offers = c.self.inside.offers; apart = c.self.inside.apart; ups = c.self.inside.ups; rares = c.self.inside.rares.items; turns = c.self.inside.turns.items })
+    c.self.inside.entries.items c.push.new.self.items (entry.Tick c.args.node c.args.sent) (event.Tick c.args.node c.args.sent) c.self.invariant c.in_ok-push.ensures.items tt refl refl refl).0

@@ -1,11 +1,20 @@
--- A turn has no octets.
-use Rattle.std.proofs.Common.{refl}
+-- A turn is kept.
+use Rattle.std.proofs.Common.{◌∙◌, ap, ◌++◌, ◌∷◌, [], arith}
+use Rattle.std.proofs.lemmas.Grind.{common_steps}
 use Rattle.norm_journal.specs.declared.event.Event.TheVariants as event
 use Rattle.norm_record.specs.declared.entry.Entry.TheVariants as entry
-use Rattle.norm_record.proofs.PushLemmas.{plain}
+use Rattle.norm_record.proofs.PushLemmas.{turn_joins}
 use Rattle.norm_record.proofs.journal.Journal.push_turn.Goals as goal
 
 pub invariant_of-self-2 : goal.invariant_of-self-2
 invariant_of-self-2 c =
-    (plain (record { offers = c.self.inside.offers; apart = c.self.inside.apart; ups = c.self.inside.ups; rares = c.self.inside.rares.items })
-    c.self.inside.entries.items c.push.new.self.items (entry.Turn c.args.t c.args.now) (event.Turn c.args.t c.args.now) c.self.invariant c.in_ok-push.ensures.items tt refl refl).0
+    (turn_joins (record { offers = c.self.inside.offers; apart = c.self.inside.apart; ups = c.self.inside.ups; rares = c.self.inside.rares.items; turns = c.self.inside.turns.items })
+    c.self.inside.entries.items c.push_reserved.new.self.items c.push.new.self.items (record { t = c.args.t; now = c.args.now }) c.in-Ok.at c.self.invariant c.in_ok-push.ensures.items
+    (grind (arith, common_steps)) (c.push_reserved.ensures.items ∙ ap (λ es. es ++ entry.Turn c.in-Ok.at ∷ []) c.reserve.ensures.items)).0
+
+pub returns : goal.returns
+returns c =
+    (turn_joins (record { offers = c.self.inside.offers; apart = c.self.inside.apart; ups = c.self.inside.ups; rares = c.self.inside.rares.items; turns = c.self.inside.turns.items })
+    c.self.inside.entries.items c.push_reserved.new.self.items c.push.new.self.items (record { t = c.args.t; now = c.args.now }) c.in-Ok.at c.self.invariant c.in_ok-push.ensures.items
+    (grind (arith, common_steps)) (c.push_reserved.ensures.items ∙ ap (λ es. es ++ entry.Turn c.in-Ok.at ∷ []) c.reserve.ensures.items)).1
+    ∙ ap (λ old. old ++ event.Turn c.args.t c.args.now ∷ []) c.self.view_is

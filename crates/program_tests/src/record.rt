@@ -1,0 +1,219 @@
+//! A journal that keeps each octet once: each call once with ample memory, and with the largest object.
+
+use norm_base::{InstanceId, Kind, Memory, Moment, NodeId, Octets, Origin, Sent};
+use norm_journal::Totals;
+use norm_order::Up;
+use norm_record::{Before, Journal, Seen, write_line};
+use norm_script::Verb;
+use norm_send_rules::{EnqueueFault, Job, News, Outcome, Receipt, SendFault};
+use norm_text::Line;
+use std::alloc::Global;
+use std::test::Fail;
+
+const BY: Origin = Origin {
+    producer: 3,
+    number: 12,
+};
+
+/// The header of datagram 5 of node 1, and an octet.
+const FIRST: [u8; 9] = [0x12, 0x02, 0, 5, 0, 0, 0, 1, 7];
+
+/// Another datagram with the same number and source.
+const SECOND: [u8; 9] = [0x12, 0x02, 0, 5, 0, 0, 0, 1, 8];
+
+/// A node of the tests.
+fn node_of(n: u32) -> Result<NodeId, Memory> {
+    NodeId::of(n).ok_or(Memory)
+}
+
+/// An object of five octets that is handed up.
+fn hello(alloc: Global) -> Result<Up, Memory> {
+    let bytes = Octets::of(Vec::from_slice(alloc, b"hello")?);
+    let (index, kind, info) = (2, Kind::Data, None);
+    Ok(Up::Object {
+        index,
+        kind,
+        info,
+        bytes,
+    })
+}
+
+/// What is pushed at a turn's beginning.
+fn push_beginning(alloc: Global, journal: &mut Journal) -> Result<(), Memory> {
+    journal.push_start()?;
+    journal.push_turn(1, Moment(1000))?;
+    journal.push_pull(BY)?;
+    journal.push_job(BY, Some(Job::Open), Ok(Receipt::Opened { index: 4 }))?;
+    let name = Octets::of(Vec::from_slice(alloc, b"a.txt")?);
+    let fault = SendFault::Enqueue(EnqueueFault::TooBig { len: 600 });
+    journal.push_length(BY, name, 600, fault)?;
+    journal.push_tick(node_of(1)?, Sent::Datagram)?;
+    journal.push_offer(node_of(1)?, FIRST.as_slice())
+}
+
+/// What is pushed at its end.
+fn push_ending(alloc: Global, journal: &mut Journal) -> Result<(), Memory> {
+    journal.push_took(node_of(2)?, FIRST.as_slice())?;
+    journal.push_took(node_of(3)?, SECOND.as_slice())?;
+    journal.push_empty()?;
+    journal.push_up(node_of(2)?, InstanceId(7), hello(alloc)?)?;
+    journal.push_up(node_of(3)?, InstanceId(7), hello(alloc)?)?;
+    let outcome = Outcome::Satisfied;
+    journal.push_news(News::Done { mark: 6, outcome })?;
+    journal.push_end()
+}
+
+/// A journal with each kind of event.
+fn all_kinds(alloc: Global) -> Result<Journal, Memory> {
+    let mut journal = Journal::new(alloc);
+    push_beginning(alloc, &mut journal)?;
+    push_ending(alloc, &mut journal)?;
+    Ok(journal)
+}
+
+/// Whether the event at a place is the one that was pushed there.
+fn is_pushed(journal: &Journal, i: usize) -> bool {
+    if i >= journal.len() {
+        return false;
+    }
+    match journal.event(i) {
+        Seen::Start => i == 0,
+        Seen::Turn { t, now } => i == 1 && t == 1 && now == Moment(1000),
+        Seen::Pull { by } => i == 2 && by == BY,
+        Seen::Job { by, gave, .. } => i == 3 && by == BY && gave.is_ok(),
+        Seen::Length { name, len, .. } => i == 4 && name == b"a.txt".as_slice() && len == 600,
+        Seen::Tick { node, sent } => i == 5 && node.number() == 1 && sent == Sent::Datagram,
+        Seen::Offer { from, bytes } => i == 6 && from.number() == 1 && bytes == FIRST.as_slice(),
+        Seen::Took { to, bytes } => is_taken(i, to, bytes),
+        Seen::Empty => i == 9,
+        Seen::Up { node, up, .. } => is_hello(i, node, up),
+        Seen::News(News::Done { mark, .. }) => i == 12 && *mark == 6,
+        Seen::News(News::Past { .. }) => false,
+        Seen::End => i == 13,
+    }
+}
+
+/// Whether a take is the one that was pushed at a place.
+fn is_taken(i: usize, to: NodeId, octets: &[u8]) -> bool {
+    if i == 7 {
+        return to.number() == 2 && octets == FIRST.as_slice();
+    }
+    i == 8 && to.number() == 3 && octets == SECOND.as_slice()
+}
+
+/// Whether a hand-up is the one that was pushed at a place.
+fn is_hello(i: usize, node: NodeId, up: &Up) -> bool {
+    let Up::Object { bytes, .. } = up else {
+        return false;
+    };
+    let nodes = (i == 10 && node.number() == 2) || (i == 11 && node.number() == 3);
+    nodes && bytes.bytes() == b"hello".as_slice()
+}
+
+#[test]
+fn each_push_is_seen(rt: HostRuntime) -> Result<(), Fail> {
+    let Ok(journal) = all_kinds(rt.alloc()) else {
+        return Err("no memory")?;
+    };
+    assert!(rt; journal.len() == 14);
+    assert!(rt; journal.hand_ups() == 1);
+    for i in 0..14usize {
+        assert!(rt; is_pushed(&journal, i), "event {i}");
+    }
+    Ok(())
+}
+
+/// How many octets of datagrams are kept after this offer and these takes.
+fn kept_after(alloc: Global, takes: &[&[u8]]) -> Result<usize, Memory> {
+    let mut journal = Journal::new(alloc);
+    journal.push_offer(node_of(1)?, FIRST.as_slice())?;
+    for octets in takes {
+        journal.push_took(node_of(2)?, octets)?;
+    }
+    Ok(journal.octets())
+}
+
+#[test]
+fn octets_are_kept_once(rt: HostRuntime) -> Result<(), Fail> {
+    let rows: [(&[&[u8]], usize); 4] = [
+        (&[], 9),
+        (&[&FIRST, &FIRST, &FIRST], 9),
+        (&[&SECOND], 18),
+        (&[&FIRST, &[1, 2, 3]], 12),
+    ];
+    for (takes, octets) in rows {
+        assert!(rt; kept_after(rt.alloc(), takes) == Ok(octets), "{octets}");
+    }
+    Ok(())
+}
+
+/// Whether the event at a place has this line; an empty one stands for none.
+fn has_line(line: &mut Line, journal: &Journal, i: usize, text: &[u8]) -> bool {
+    if i >= journal.len() {
+        return false;
+    }
+    let before = Before {
+        instance: InstanceId(7),
+        verb: Some(&Verb::Open),
+        left: &[],
+        totals: &Totals::new(),
+    };
+    match write_line(line, journal, i, &before) {
+        Ok(true) => line.bytes() == text,
+        Ok(false) => text.is_empty(),
+        Err(_) => false,
+    }
+}
+
+#[test]
+fn events_have_their_lines(rt: HostRuntime) -> Result<(), Fail> {
+    let Ok(journal) = all_kinds(rt.alloc()) else {
+        return Err("no memory")?;
+    };
+    let rows: [(usize, &[u8]); 9] = [
+        (0, b""),
+        (3, b"enq 3 12 7 4 open\n"),
+        (4, b"no 3 12 too-big 600\n"),
+        (6, b""),
+        (7, b""),
+        (10, b"up 2 7 2 data 5 - 68656c6c6f\n"),
+        (11, b"up 3 7 2 data 5 - 68656c6c6f\n"),
+        (12, b"done 6 satisfied\n"),
+        (
+            13,
+            b"end objects 0 octets 0 handed 0 lost 0 satisfied 0 expired 0 cut 0\n",
+        ),
+    ];
+    let mut line = Line::new(rt.alloc());
+    for (i, text) in rows {
+        assert!(rt; has_line(&mut line, &journal, i, text), "event {i}");
+    }
+    Ok(())
+}
+
+/// How long the line of the largest object is, which two receivers hand up.
+fn largest(alloc: Global) -> Result<usize, Memory> {
+    let mut journal = Journal::new(alloc);
+    for n in [2u32, 3] {
+        let bytes = Octets::of(vec![in alloc; 0xa5u8; 16_777_216]?);
+        let (index, kind, info) = (0, Kind::Data, None);
+        let up = Up::Object {
+            index,
+            kind,
+            info,
+            bytes,
+        };
+        journal.push_up(node_of(n)?, InstanceId(7), up)?;
+    }
+    let mut line = Line::new(alloc);
+    if has_line(&mut line, &journal, 1, b"") {
+        return Ok(0);
+    }
+    Ok(line.bytes().len())
+}
+
+#[test]
+fn the_largest_object_is_kept(rt: HostRuntime) -> Result<(), Fail> {
+    assert!(rt; largest(rt.alloc()) == Ok(33_554_432 + 26));
+    Ok(())
+}
