@@ -1,13 +1,14 @@
 #!/usr/bin/env python3
 """Evaluates the definitions of the protocol (crates/*/specs) on recorded runs.
 
-    checks/definitions.py [--runs DIR] [--count N] [--safe] [--cases] [--damaged] [--journals] [--errors] [--rules [--write]] [--gate] [NAME ..]
+    checks/definitions.py [--runs DIR] [--count N] [--safe] [--laws] [--cases] [--damaged] [--journals] [--errors] [--rules [--write]] [--gate] [NAME ..]
 
 A recorded run is a list of events with what each gave, and where the nodes stood at its end (checks/runs). For each run
 antt computes the defined steps, event by event, and compares each answer and the end state with the record: the proof of
 the statement "they never part" is `refl`. Nothing is proved or built of the crates, and no code of theirs is run.
 
-Without a flag the runs are compared. `--safe` evaluates the tests of lawfulness and safety along each lawful run, `--cases` the
+Without a flag the runs are compared. `--safe` evaluates the tests of lawfulness and safety along each lawful run, `--laws` those of
+laws of the receiver's rules along each run, and that each damage of a state is noticed, `--cases` the
 small runs and values of checks/cases, `--damaged` the tests of safety on damaged runs, and `--errors` looks whether
 each deliberate error of checks/errors in a definition is noticed by the case that it names. `--rules` compares the rows of
 docs/protocol.md with what stands here, and with `--write` prints them again. `--journals` judges each recorded journal, which has to be
@@ -75,7 +76,7 @@ def main():
     a.add_argument('--runs', default=os.path.join(HERE, 'runs'))
     a.add_argument('--count', type=int, default=0)
     a.add_argument('--work')
-    for flag in ('safe', 'cases', 'damaged', 'journals', 'errors', 'rules', 'write', 'gate'):
+    for flag in ('safe', 'laws', 'cases', 'damaged', 'journals', 'errors', 'rules', 'write', 'gate'):
         a.add_argument('--' + flag, action='store_true')
     a = a.parse_args()
     runs = list(runs_of(a.runs, [] if a.errors else a.names, 0 if a.gate else a.count))
@@ -92,6 +93,9 @@ def main():
             elif a.rules:
                 from evaluate import rules
                 said, differ = rules.look(a.write)
+            elif a.laws:
+                from evaluate import laws
+                said, differ = laws.look(space, runs)
             elif a.safe:
                 said, differ = compare(space, [], [(n, *terms.safe_case(n, r)) for n, r in lawful])
             elif a.gate or a.damaged or a.cases:

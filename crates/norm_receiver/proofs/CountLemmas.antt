@@ -1,9 +1,11 @@
 -- One count more, place by place.
-use Rattle.std.proofs.Common.{◌≡◌, ℕ, suc, ◌+◌, ◌<◌, ◌≤◌, List, [], ◌∷◌, ◌++◌, length, take, drop, set, get_or, max, Bool, true, false, refl, sym, ap, ◌∙◌, arith}
+use Rattle.std.proofs.Common.{◌≡◌, ℕ, zero, suc, ◌+◌, ◌<◌, ◌≤◌, List, [], ◌∷◌, ◌++◌, length, take, drop, set, get_or, max, Bool, true, false, refl, sym, ap, ◌∙◌, arith}
 use Rattle.std.proofs.lemmas.List.{drop_more, take_more, append_assoc, take_all, drop_all, set_split}
+use Rattle.std.specs.List.{AllWithin}
 use Rattle.fec_plan.specs.Points.{point_before, same_point}
 use Rattle.norm_ext.specs.Asking.{Count}
 use Rattle.norm_receive_rules.specs.Heard.{with_count}
+use Rattle.norm_receiver.proofs.OrderLemmas.{point_past}
 
 -- a count more before these, by what the two comparisons say
 abbrev put_by : Count → Count → List Count → Bool → Bool → List Count
@@ -68,3 +70,13 @@ count_last c xs i le =
     ap (λ (t : List Count). t ++ with_count c (drop i xs)) (take_all i xs le)
     ∙ ap (λ (r : List Count). xs ++ with_count c r) (drop_all i xs le)
     ∙ ap (λ (r : List Count). xs ++ r) (with_none c)
+
+-- counts of blocks before it stay before it
+pub count_past : (c : Count) (xs : List Count) (i : ℕ) → AllWithin (λ (x : Count). point_before x.of c.of ≡ true) xs 0 i
+    → take i xs ++ with_count c (drop i xs) ≡ with_count c xs
+count_past c xs zero all = refl
+count_past c [] (suc i) all = refl
+count_past c (x ∷ xs) (suc i) all =
+    let past = point_past x.of c.of (all 0 x (omega arith) (omega arith)) in
+    ap (λ (t : List Count). x ∷ t) (count_past c xs i (λ k d le lt. all (suc k) d (omega arith) (omega arith)))
+    ∙ sym (with_more c x xs ∙ ap (λ b. put_by c x xs b (point_before c.of x.of)) past.0 ∙ ap (λ b. put_by c x xs false b) past.1)

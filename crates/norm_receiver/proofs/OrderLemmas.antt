@@ -1,15 +1,15 @@
 -- What was heard stays in order as it grows.
-use Rattle.std.proofs.Common.{◌≡◌, ℕ, ◌<◌, ◌≤◌, ◌⊎◌, inl, inr, List, [], ◌∷◌, fold, Bool, true, false, not, refl, sym, ap, ◌∙◌, arith}
-use Rattle.std.specs.Prelude.{max, if◌then◌else◌}
+use Rattle.std.proofs.Common.{◌≡◌, ℕ, ◌<◌, ◌≤◌, ◌⊎◌, inl, inr, List, [], ◌∷◌, Bool, true, false, not, refl, sym, ap, subst, ◌∙◌, arith}
+use Rattle.std.specs.Prelude.{max, if◌then◌else◌, Result, Ok, Err, IfOk, OnErr}
 use Rattle.std.specs.Bool.{Decides}
 use Rattle.std.proofs.lemmas.Bool.{cases_lt}
 use Rattle.std.proofs.lemmas.Bool.Decides.{Decides-ltb, Decides-eqb, Decides-and, Decides-or}
 use Rattle.fec_plan.specs.Points.{Point, position_before, point_before, same_point, nearer}
 use Rattle.fec_plan.specs.declared.position.Position.{Position}
 use Rattle.fec_plan.proofs.PositionLemmas.{before_decides, behind, reached, behind_both, before_both, positions_are_ordered}
-use Rattle.norm_ext.specs.Asking.{Span, Count, Named, is_proper, asked_spans, asked_counts}
-use Rattle.norm_receive_rules.specs.Heard.{Heard, later, joined, with_span, with_proper, with_count, asked_infos, heard_also}
-use Rattle.norm_receiver.specs.Orderly.{BeginBehind, AreApart, AreBehind, Rise, IsOrderly}
+use Rattle.norm_ext.specs.Asking.{Span, Count}
+use Rattle.norm_receive_rules.specs.Heard.{later, joined, with_span, with_count}
+use Rattle.norm_receiver.specs.Orderly.{BeginBehind, AreApart, AreBehind, Rise}
 
 pub clash : {X : Type 0} → false ≡ true → X
 clash e = absurd (go e)
@@ -100,17 +100,6 @@ apart_with x (y ∷ spans) h all =
     go false true e f own any = (h, (f, begin_before x.last y.last spans (lt_le x.last y.first y.last f all.0) all.1), all)
     go false false e f own any = any (joined x y) (joined_proper x y h)
 
-apart_proper : (spans : List Span) (x : Span) → AreApart spans → AreApart (with_proper spans x)
-apart_proper spans x h = go (is_proper x) refl
-  where
-    go : (b : Bool) → is_proper x ≡ b → AreApart (elim b as (λ _. List Span) [ true ↦ with_span x spans | false ↦ spans ])
-    go true e = apart_with x spans (not_so (position_before x.last x.first) e) h
-    go false e = h
-
-apart_all : (spans more : List Span) → AreApart spans → AreApart (fold with_proper spans more)
-apart_all spans [] h = h
-apart_all spans (x ∷ more) h = apart_all (with_proper spans x) more (apart_proper spans x h)
-
 -- ---- points
 
 abbrev IsBefore : Point → Point → Type 0
@@ -161,6 +150,18 @@ never_itself a = go (point_before a a) refl
     go true e = absurd (never ((point_decides a a).0 e))
     go false e = refl
 
+-- a block that is before another is not that one, nor behind it
+pub point_past : (a b : Point) → point_before a b ≡ true → (same_point b a ≡ false) × (point_before b a ≡ false)
+point_past a b h = (same (same_point b a) refl, behind (point_before b a) refl)
+  where
+    same : (t : Bool) → same_point b a ≡ t → t ≡ false
+    same true e = clash (sym (never_itself b) ∙ ap (λ (x : Point). point_before x b) (points_same b a e) ∙ h)
+    same false e = refl
+
+    behind : (t : Bool) → point_before b a ≡ t → t ≡ false
+    behind true e = clash (sym (never_itself a) ∙ point_trans a b a h e)
+    behind false e = refl
+
 -- ---- a count more
 
 behind_with : (at : Point) (c : Count) (counts : List Count) → point_before at c.of ≡ true → AreBehind at counts → AreBehind at (with_count c counts)
@@ -193,16 +194,13 @@ rise_with c (x ∷ counts) all = go (same_point c.of x.of) (point_before c.of x.
     go false true e f more = ((f, behind_before c.of x.of counts f all.0), all)
     go false false e f more = (behind_with x.of c counts (point_other c.of x.of e f) all.0, more)
 
-rise_all : (counts more : List Count) → Rise counts → Rise (fold (λ (held : List Count) (c : Count). with_count c held) counts more)
-rise_all counts [] h = h
-rise_all counts (c ∷ more) h = rise_all (with_count c counts) more (rise_with c counts h)
+-- ---- what a call leaves
 
--- ---- requests more
+pub apart_after : {A E : Type 0} (r : Result A E) (x : Span) (old new : List Span) → position_before x.last x.first ≡ false → AreApart old
+    → IfOk r (λ _. new ≡ with_span x old) → OnErr r (new ≡ old) → AreApart new
+apart_after (Ok a) x old new proper h put refused = subst AreApart (sym put) (apart_with x old proper h)
+apart_after (Err e) x old new proper h put refused = subst AreApart (sym refused) h
 
-pub orderly_all : (heard : Heard) (requests : List Named) → IsOrderly heard → IsOrderly (fold heard_also heard requests)
-orderly_all heard [] h = h
-orderly_all heard (r ∷ requests) h = orderly_all (heard_also heard r) requests (record {
-  symbols = apart_all heard.symbols (asked_spans r) h.symbols;
-  infos = apart_all heard.infos (asked_infos r) h.infos;
-  counts = rise_all heard.counts (asked_counts r) h.counts;
-})
+pub rise_after : {A E : Type 0} (r : Result A E) (c : Count) (old new : List Count) → Rise old → IfOk r (λ _. new ≡ with_count c old) → OnErr r (new ≡ old) → Rise new
+rise_after (Ok a) c old new h put refused = subst Rise (sym put) (rise_with c old h)
+rise_after (Err e) c old new h put refused = subst Rise (sym refused) h

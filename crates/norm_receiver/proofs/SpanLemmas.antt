@@ -1,6 +1,7 @@
 -- One span more, place by place.
 use Rattle.std.proofs.Common.{◌≡◌, ℕ, zero, suc, ◌+◌, ◌<◌, ◌≤◌, List, [], ◌∷◌, ◌++◌, length, take, drop, get_or, Bool, true, false, refl, sym, ap, ◌∙◌, arith}
 use Rattle.std.specs.Prelude.{Result, Ok, is_ok, if◌then◌else◌}
+use Rattle.std.specs.List.{AllWithin}
 use Rattle.std.proofs.lemmas.List.{drop_more, take_more, append_assoc, take_all, drop_all}
 use Rattle.fec_plan.specs.Points.{position_before}
 use Rattle.norm_ext.specs.Asking.{Span}
@@ -84,3 +85,12 @@ span_taken_in z xs left i lt is =
 -- what an edit that went well left
 pub edited : {X T E : Type 0} (r : Result T E) (t : T) (new changed old : List X) → new ≡ (if is_ok r then changed else old) → r ≡ Ok t → new ≡ changed
 edited r t new changed old e is = e ∙ ap (λ r. if is_ok r then changed else old) is
+
+-- spans that end before it stay before it
+pub span_past : (x : Span) (xs : List Span) (i : ℕ) → AllWithin (λ (y : Span). position_before y.last x.first ≡ true) xs 0 i
+    → take i xs ++ with_span x (drop i xs) ≡ with_span x xs
+span_past x xs zero all = refl
+span_past x [] (suc i) all = refl
+span_past x (y ∷ xs) (suc i) all =
+    ap (λ (t : List Span). y ∷ t) (span_past x xs i (λ k d le lt. all (suc k) d (omega arith) (omega arith)))
+    ∙ sym (with_more x y xs ∙ ap (λ b. put_by x y xs b (position_before x.last y.first)) (all 0 y (omega arith) (omega arith)))

@@ -3,7 +3,6 @@ use Rattle.std.specs.Prelude.{◌≡◌, List, [], ◌∷◌, true, false, ⊤}
 use Rattle.fec_plan.specs.Points.{Point, position_before, point_before}
 use Rattle.fec_plan.specs.declared.position.Position.{Position}
 use Rattle.norm_ext.specs.Asking.{Span, Count}
-use Rattle.norm_receive_rules.specs.Heard.{Heard}
 
 -- all of these spans begin behind a position
 abbrev pub BeginBehind : Position → List Span → Type 0
@@ -24,9 +23,3 @@ AreBehind at (c ∷ counts) = (point_before at c.of ≡ true) × AreBehind at co
 abbrev pub Rise : List Count → Type 0
 Rise [] = ⊤
 Rise (c ∷ counts) = AreBehind c.of counts × Rise counts
-
--- the spans and the counts are in order
-pub record IsOrderly (heard : Heard) : Type 0 where
-  pub symbols : AreApart heard.symbols
-  pub infos : AreApart heard.infos
-  pub counts : Rise heard.counts

@@ -1,9 +1,12 @@
 //! What a receiver heard others ask for while it backs off (RFC 5401 section 3.2.2).
 
-ghost use Rattle.std.specs.Prelude.{◌≡◌, ◌&&◌, nat_le, IfOk, max};
+ghost use Rattle.std.specs.Prelude.{◌≡◌, ◌≤◌, ◌-◌, ◌&&◌, [], nat_le, length, IfOk, OnErr, false, max};
 ghost use Rattle.fec_plan.specs.Points.{position_before, point_before, same_point};
 ghost use Rattle.norm_receive_rules.specs.Heard.{heard_nothing, joined, with_span, with_count};
+ghost use Rattle.norm_receive_rules.specs.HeardNeeds.{is_asked, asks_as_many, covers};
+ghost use Rattle.norm_receiver.specs.Orderly.{AreApart, Rise};
 
+use crate::searching::{asks_as_many, covers, first_count, first_span, is_asked};
 use fec_plan::{Point, Position};
 use norm_base::Memory;
 use std::alloc::Global;
@@ -54,13 +57,15 @@ impl Span {
 ///
 /// # Errors
 ///
-/// `Memory` where memory runs out.
-pub(crate) fn put_span(spans: &mut Vec<Span>, span: Span) -> Result<(), Memory>
-    ensures { IfOk result (λ _. spans.new.items ≡ with_span span spans.old.items) }
+/// `Memory` where memory runs out; then nothing changes.
+fn put_span(spans: &mut Vec<Span>, span: Span) -> Result<(), Memory>
+    requires { AreApart spans.old.items }
+    ensures put { IfOk result (λ _. spans.new.items ≡ with_span span spans.old.items) }
+    ensures refused { OnErr result (spans.new.items ≡ spans.old.items) }
 {
+    let mut place = first_span(spans.as_slice(), span.first);
     spans.reserve(1)?;
     let mut more = span;
-    let mut place = 0;
     while place < spans.len() {
         let other = spans[place];
         if other.ends_before(&more) {
@@ -131,12 +136,14 @@ impl Count {
 ///
 /// # Errors
 ///
-/// `Memory` where memory runs out.
-pub(crate) fn put_count(counts: &mut Vec<Count>, count: Count) -> Result<(), Memory>
-    ensures { IfOk result (λ _. counts.new.items ≡ with_count count counts.old.items) }
+/// `Memory` where memory runs out; then nothing changes.
+fn put_count(counts: &mut Vec<Count>, count: Count) -> Result<(), Memory>
+    requires { Rise counts.old.items }
+    ensures put { IfOk result (λ _. counts.new.items ≡ with_count count counts.old.items) }
+    ensures refused { OnErr result (counts.new.items ≡ counts.old.items) }
 {
+    let mut place = first_count(counts.as_slice(), count.of);
     counts.reserve(1)?;
-    let mut place = 0;
     while place < counts.len() {
         let other = counts[place];
         if count.is_of(&other) {
@@ -153,78 +160,178 @@ pub(crate) fn put_count(counts: &mut Vec<Count>, count: Count) -> Result<(), Mem
     Ok(())
 }
 
-/// What others asked for: source symbols and infos as spans of which no two share a position, and of each block the
-/// greatest count, as requests are added one by one.
+/// Spans of which no two share a position, in order, so that they can be searched.
 #[derive(Debug, Drop)]
-pub(crate) struct Lists {
-    pub alloc: Global,
-    pub symbols: Vec<Span>,
-    pub infos: Vec<Span>,
-    pub counts: Vec<Count>,
+pub(crate) struct Spans {
+    list: Vec<Span>,
 }
 
-impl Model for Lists {
-    ghost use Rattle.norm_receive_rules.specs.Heard.{Heard as Meaning};
+impl Model for Spans {
+    ghost use Rattle.std.specs.Prelude.{List};
+    ghost use Rattle.norm_ext.specs.Asking.{Span as Stretch};
+    ghost use Rattle.norm_receiver.specs.Orderly.{AreApart};
 
-    ghost Value = { Meaning };
+    ghost Value = { List Stretch };
 
-    ghost view = { λ h. record { symbols = h.symbols.items; infos = h.infos.items; counts = h.counts.items } };
+    ghost view = { λ x. x.list.items };
+
+    ghost invariant = { λ x. AreApart x.list.items };
 }
 
-impl Lists {
-    /// Nothing was heard. It takes no memory.
-    fn new(alloc: Global) -> Lists
-        ensures { result ≡ heard_nothing }
+impl Spans {
+    /// None. It takes no memory.
+    fn new(alloc: Global) -> Spans
+        ensures { result ≡ [] }
     {
-        Lists {
-            alloc,
-            symbols: Vec::new(alloc),
-            infos: Vec::new(alloc),
-            counts: Vec::new(alloc),
+        Spans {
+            list: Vec::new(alloc),
         }
     }
 
-    /// The same once more, beside it.
+    /// The same once more, beside them.
     ///
     /// # Errors
     ///
     /// `Memory` where memory runs out.
-    pub fn copy(&self) -> Result<Lists, Memory>
+    fn copy(&self, alloc: Global) -> Result<Spans, Memory>
         ensures { IfOk result (λ copy. copy ≡ self.now) }
     {
-        Ok(Lists {
-            alloc: self.alloc,
-            symbols: self.symbols.as_slice().to_vec(self.alloc)?,
-            infos: self.infos.as_slice().to_vec(self.alloc)?,
-            counts: self.counts.as_slice().to_vec(self.alloc)?,
-        })
+        let list = self.list.as_slice().to_vec(alloc)?;
+        Ok(Spans { list })
     }
 
-    /// All is forgotten.
+    /// All are forgotten.
     fn clear(&mut self)
-        ensures { self.new ≡ heard_nothing }
+        ensures { self.new ≡ [] }
     {
-        self.symbols.clear();
-        self.infos.clear();
-        self.counts.clear();
+        self.list.clear();
+    }
+
+    /// How many they are.
+    pub fn len(&self) -> usize
+        ensures { result ≡ length self.now }
+    {
+        self.list.len()
+    }
+
+    /// One span more, which does not end before it begins.
+    ///
+    /// # Errors
+    ///
+    /// `Memory` where memory runs out; then nothing changes.
+    pub fn put(&mut self, span: Span) -> Result<(), Memory>
+        requires { position_before span.last span.first ≡ false }
+        ensures { IfOk result (λ _. self.new ≡ with_span span self.old) }
+    {
+        put_span(&mut self.list, span)
+    }
+
+    /// Whether a position lies in one of them.
+    pub fn has(&self, at: Position) -> bool
+        ensures { result ≡ is_asked self.now at }
+    {
+        is_asked(self.list.as_slice(), at)
+    }
+
+    /// Whether all source symbols of an object from one to another lie in them, where its blocks have so many.
+    pub fn cover(&self, width: u16, first: Position, last: Position) -> bool
+        requires few { width ≤ 256 }
+        requires object { first.index ≡ last.index }
+        requires symbol { last.symbol ≡ width - 1 }
+        ensures { result ≡ covers width first last self.now }
+    {
+        covers(self.list.as_slice(), width, first, last)
     }
 }
 
-/// What others asked for, all in order, so that it can be searched.
+/// Counts of blocks, in the order of these, so that they can be searched.
+#[derive(Debug, Drop)]
+pub(crate) struct Counts {
+    list: Vec<Count>,
+}
+
+impl Model for Counts {
+    ghost use Rattle.std.specs.Prelude.{List};
+    ghost use Rattle.norm_ext.specs.Asking.{Count as Lacking};
+    ghost use Rattle.norm_receiver.specs.Orderly.{Rise};
+
+    ghost Value = { List Lacking };
+
+    ghost view = { λ x. x.list.items };
+
+    ghost invariant = { λ x. Rise x.list.items };
+}
+
+impl Counts {
+    /// None. It takes no memory.
+    fn new(alloc: Global) -> Counts
+        ensures { result ≡ [] }
+    {
+        Counts {
+            list: Vec::new(alloc),
+        }
+    }
+
+    /// The same once more, beside them.
+    ///
+    /// # Errors
+    ///
+    /// `Memory` where memory runs out.
+    fn copy(&self, alloc: Global) -> Result<Counts, Memory>
+        ensures { IfOk result (λ copy. copy ≡ self.now) }
+    {
+        let list = self.list.as_slice().to_vec(alloc)?;
+        Ok(Counts { list })
+    }
+
+    /// All are forgotten.
+    fn clear(&mut self)
+        ensures { self.new ≡ [] }
+    {
+        self.list.clear();
+    }
+
+    /// How many they are.
+    pub fn len(&self) -> usize
+        ensures { result ≡ length self.now }
+    {
+        self.list.len()
+    }
+
+    /// One count more: of each block the greatest is kept.
+    ///
+    /// # Errors
+    ///
+    /// `Memory` where memory runs out; then nothing changes.
+    pub fn put(&mut self, count: Count) -> Result<(), Memory>
+        ensures { IfOk result (λ _. self.new ≡ with_count count self.old) }
+    {
+        put_count(&mut self.list, count)
+    }
+
+    /// Whether one asks for as many symbols of a block.
+    pub fn ask_as_many(&self, at: Point, wanted: u8) -> bool
+        ensures { result ≡ asks_as_many self.now at wanted }
+    {
+        asks_as_many(self.list.as_slice(), at, wanted)
+    }
+}
+
+/// What others asked for: source symbols and infos as spans, and of each block the greatest count, all in order.
 #[derive(Debug, Drop)]
 pub(crate) struct Heard {
-    pub lists: Lists,
+    alloc: Global,
+    pub symbols: Spans,
+    pub infos: Spans,
+    pub counts: Counts,
 }
 
 impl Model for Heard {
     ghost use Rattle.norm_receive_rules.specs.Heard.{Heard as Meaning};
-    ghost use Rattle.norm_receiver.specs.Orderly.{IsOrderly};
 
     ghost Value = { Meaning };
 
-    ghost view = { λ h. h.lists };
-
-    ghost invariant = { λ h. IsOrderly h.lists };
+    ghost view = { λ h. record { symbols = h.symbols; infos = h.infos; counts = h.counts } };
 }
 
 impl Heard {
@@ -233,7 +340,10 @@ impl Heard {
         ensures { result ≡ heard_nothing }
     {
         Heard {
-            lists: Lists::new(alloc),
+            alloc,
+            symbols: Spans::new(alloc),
+            infos: Spans::new(alloc),
+            counts: Counts::new(alloc),
         }
     }
 
@@ -241,13 +351,31 @@ impl Heard {
     pub fn anew(&self) -> Heard
         ensures { result ≡ heard_nothing }
     {
-        Heard::new(self.lists.alloc)
+        Heard::new(self.alloc)
+    }
+
+    /// The same once more, beside it.
+    ///
+    /// # Errors
+    ///
+    /// `Memory` where memory runs out.
+    pub fn copy(&self) -> Result<Heard, Memory>
+        ensures { IfOk result (λ copy. copy ≡ self.now) }
+    {
+        Ok(Heard {
+            alloc: self.alloc,
+            symbols: self.symbols.copy(self.alloc)?,
+            infos: self.infos.copy(self.alloc)?,
+            counts: self.counts.copy(self.alloc)?,
+        })
     }
 
     /// All is forgotten.
     pub fn clear(&mut self)
         ensures { self.new ≡ heard_nothing }
     {
-        self.lists.clear();
+        self.symbols.clear();
+        self.infos.clear();
+        self.counts.clear();
     }
 }

@@ -8,7 +8,7 @@ ghost use Rattle.norm_ext.specs.Requests.{items_named};
 ghost use Rattle.norm_receive_rules.specs.Heard.{with_proper, with_count, asked_infos, heard_also};
 ghost use Rattle.norm_receiver.specs.Overhearing.{widened, with_spans, with_counts, items_spans, pairs_spans, IsBounded};
 
-use crate::heard::{Count, Heard, Lists, Span, put_count, put_span};
+use crate::heard::{Count, Counts, Heard, Span, Spans};
 use fec_plan::{Point, Position};
 use norm_base::{Memory, Profile};
 use norm_ext::flags::{WANT_BLOCK, WANT_INFO, WANT_OBJECT, WANT_SEGMENT};
@@ -60,24 +60,24 @@ fn widened(width: Width, first: Position, last: Position) -> Span
 }
 
 /// One span more, where its first end is not after its last.
-fn put_proper(spans: &mut Vec<Span>, span: Span) -> Result<(), Memory>
-    ensures { IfOk result (λ _. spans.new.items ≡ with_proper spans.old.items span) }
+fn put_proper(spans: &mut Spans, span: Span) -> Result<(), Memory>
+    ensures { IfOk result (λ _. spans.new ≡ with_proper spans.old span) }
 {
     if span.last.is_before(&span.first) {
         return Ok(());
     }
-    put_span(spans, span)
+    spans.put(span)
 }
 
 /// What items name, each by itself.
 fn hear_items(
-    spans: &mut Vec<Span>,
+    spans: &mut Spans,
     profile: &Profile,
     known: u32,
     width: Width,
     items: &[u8],
 ) -> Result<(), Memory>
-    ensures { IfOk result (λ _. spans.new.items ≡ with_spans width spans.old.items (items_spans profile.now known (items_named items.now))) }
+    ensures { IfOk result (λ _. spans.new ≡ with_spans width spans.old (items_spans profile.now known (items_named items.now))) }
 {
     let mut rest = items;
     // Proof: the label names the loop for its invariant.
@@ -91,13 +91,8 @@ fn hear_items(
 }
 
 /// What two positions name as the ends of a range, where it is not empty.
-fn put_pair(
-    spans: &mut Vec<Span>,
-    width: Width,
-    first: Position,
-    last: Position,
-) -> Result<(), Memory>
-    ensures { IfOk result (λ _. spans.new.items ≡ with_spans width spans.old.items (filter is_proper (span first last ∷ []))) }
+fn put_pair(spans: &mut Spans, width: Width, first: Position, last: Position) -> Result<(), Memory>
+    ensures { IfOk result (λ _. spans.new ≡ with_spans width spans.old (filter is_proper (span first last ∷ []))) }
 {
     if last.is_before(&first) {
         return Ok(());
@@ -107,13 +102,13 @@ fn put_pair(
 
 /// What pairs of items name, where a range is not empty.
 fn hear_ranges(
-    spans: &mut Vec<Span>,
+    spans: &mut Spans,
     profile: &Profile,
     known: u32,
     width: Width,
     items: &[u8],
 ) -> Result<(), Memory>
-    ensures { IfOk result (λ _. spans.new.items ≡ with_spans width spans.old.items (filter is_proper (pairs_spans profile.now known (items_named items.now)))) }
+    ensures { IfOk result (λ _. spans.new ≡ with_spans width spans.old (filter is_proper (pairs_spans profile.now known (items_named items.now)))) }
 {
     let mut rest = items;
     // Proof: the label names the loop for its invariant.
@@ -128,13 +123,13 @@ fn hear_ranges(
 
 /// What a request names, so wide.
 fn hear_named(
-    spans: &mut Vec<Span>,
+    spans: &mut Spans,
     profile: &Profile,
     known: u32,
     width: Width,
     request: &Request<'_>,
 ) -> Result<(), Memory>
-    ensures { IfOk result (λ _. spans.new.items ≡ with_spans width spans.old.items (named_spans (named profile.now known (request_of request.now)))) }
+    ensures { IfOk result (λ _. spans.new ≡ with_spans width spans.old (named_spans (named profile.now known (request_of request.now)))) }
 {
     match request.form {
         Form::Items => hear_items(spans, profile, known, width, request.items),
@@ -155,18 +150,18 @@ fn count_at(at: Position) -> Count
 
 /// The counts that items say.
 fn hear_counts(
-    counts: &mut Vec<Count>,
+    counts: &mut Counts,
     profile: &Profile,
     known: u32,
     items: &[u8],
 ) -> Result<(), Memory>
-    ensures { IfOk result (λ _. counts.new.items ≡ with_counts counts.old.items (items_spans profile.now known (items_named items.now))) }
+    ensures { IfOk result (λ _. counts.new ≡ with_counts counts.old (items_spans profile.now known (items_named items.now))) }
 {
     let mut rest = items;
     // Proof: the label names the loop for its invariant.
     'items: while let Some((item, behind)) = split_item(rest) {
         if let Some(at) = position_of(profile, known, item) {
-            put_count(counts, count_at(at))?;
+            counts.put(count_at(at))?;
         }
         rest = behind;
     }
@@ -175,14 +170,14 @@ fn hear_counts(
 
 /// What a request names, so wide, where its flags have this one.
 fn hear_where(
-    spans: &mut Vec<Span>,
+    spans: &mut Spans,
     profile: &Profile,
     known: u32,
     kind: (u8, Width),
     request: &Request<'_>,
 ) -> Result<(), Memory>
     requires { 0 < kind.0 }
-    ensures { IfOk result (λ _. spans.new.items ≡ fold with_proper spans.old.items (where_flag request.now.flags kind.0 (map (widened kind.1) (named_spans (named profile.now known (request_of request.now)))))) }
+    ensures { IfOk result (λ _. spans.new ≡ fold with_proper spans.old (where_flag request.now.flags kind.0 (map (widened kind.1) (named_spans (named profile.now known (request_of request.now)))))) }
 {
     if !has_flag(request.flags, kind.0) {
         return Ok(());
@@ -192,12 +187,12 @@ fn hear_where(
 
 /// The spans of source symbols that a request asks for.
 fn hear_symbols(
-    spans: &mut Vec<Span>,
+    spans: &mut Spans,
     profile: &Profile,
     known: u32,
     request: &Request<'_>,
 ) -> Result<(), Memory>
-    ensures { IfOk result (λ _. spans.new.items ≡ fold with_proper spans.old.items (asked_spans (named profile.now known (request_of request.now)))) }
+    ensures { IfOk result (λ _. spans.new ≡ fold with_proper spans.old (asked_spans (named profile.now known (request_of request.now)))) }
 {
     hear_where(
         spans,
@@ -219,12 +214,12 @@ fn hear_symbols(
 
 /// The infos that a request asks for.
 fn hear_infos(
-    spans: &mut Vec<Span>,
+    spans: &mut Spans,
     profile: &Profile,
     known: u32,
     request: &Request<'_>,
 ) -> Result<(), Memory>
-    ensures { IfOk result (λ _. spans.new.items ≡ fold with_proper spans.old.items (asked_infos (named profile.now known (request_of request.now)))) }
+    ensures { IfOk result (λ _. spans.new ≡ fold with_proper spans.old (asked_infos (named profile.now known (request_of request.now)))) }
 {
     hear_where(spans, profile, known, (WANT_INFO, Width::Objects), request)
 }
@@ -238,12 +233,12 @@ fn wants_symbols(flags: u8) -> bool
 
 /// The counts that a request asks for.
 fn hear_lacking(
-    counts: &mut Vec<Count>,
+    counts: &mut Counts,
     profile: &Profile,
     known: u32,
     request: &Request<'_>,
 ) -> Result<(), Memory>
-    ensures { IfOk result (λ _. counts.new.items ≡ fold (λ counts c. with_count c counts) counts.old.items (asked_counts (named profile.now known (request_of request.now)))) }
+    ensures { IfOk result (λ _. counts.new ≡ fold (λ counts c. with_count c counts) counts.old (asked_counts (named profile.now known (request_of request.now)))) }
 {
     match request.form {
         Form::Items | Form::Ranges => Ok(()),
@@ -256,7 +251,7 @@ fn hear_lacking(
     }
 }
 
-impl Lists {
+impl Heard {
     /// A request more. Where memory runs out, some of it may have been heard.
     fn hear_request(
         &mut self,
@@ -295,9 +290,7 @@ impl Lists {
             && self.infos.len() <= MOST_HEARD
             && self.counts.len() <= MOST_HEARD
     }
-}
 
-impl Heard {
     /// It and these requests more, beside it.
     ///
     /// # Errors
@@ -312,11 +305,11 @@ impl Heard {
         ensures heard { IfOk result (λ more. more ≡ fold heard_also self.now (map (named profile.now known) requests.entry)) }
         ensures bounded { IfOk result IsBounded }
     {
-        let mut lists = self.lists.copy()?;
-        lists.hear_requests(profile, known, requests)?;
-        if !lists.is_bounded() {
+        let mut more = self.copy()?;
+        more.hear_requests(profile, known, requests)?;
+        if !more.is_bounded() {
             return Err(Memory);
         }
-        Ok(Heard { lists })
+        Ok(more)
     }
 }

@@ -18,7 +18,7 @@ const LAST_BLOCK: u32 = 16_777_215;
 const WIDEST: u16 = 256;
 
 /// The first of these spans that does not end before a position, or how many they are.
-fn first_span(spans: &[Span], at: Position) -> usize
+pub(crate) fn first_span(spans: &[Span], at: Position) -> usize
     requires { AreApart spans.now }
     ensures bound { result ≤ length spans.now }
     ensures before { AllWithin (λ span. position_before span.last at ≡ true) spans.now 0 result }
@@ -32,7 +32,7 @@ fn first_span(spans: &[Span], at: Position) -> usize
 }
 
 /// The first of these counts that is of no block before this one, or how many they are.
-fn first_count(counts: &[Count], at: Point) -> usize
+pub(crate) fn first_count(counts: &[Count], at: Point) -> usize
     requires { Rise counts.now }
     ensures bound { result ≤ length counts.now }
     ensures before { AllWithin (λ count. point_before count.of at ≡ true) counts.now 0 result }
@@ -46,7 +46,7 @@ fn first_count(counts: &[Count], at: Point) -> usize
 }
 
 /// Whether a position lies in one of these spans.
-fn is_asked(spans: &[Span], at: Position) -> bool
+pub(crate) fn is_asked(spans: &[Span], at: Position) -> bool
     requires { AreApart spans.now }
     ensures { result ≡ is_asked spans.now at }
 {
@@ -59,7 +59,7 @@ fn is_asked(spans: &[Span], at: Position) -> bool
 }
 
 /// Whether one of these counts asks for as many symbols of a block.
-fn asks_as_many(counts: &[Count], at: Point, wanted: u8) -> bool
+pub(crate) fn asks_as_many(counts: &[Count], at: Point, wanted: u8) -> bool
     requires { Rise counts.now }
     ensures { result ≡ asks_as_many counts.now at wanted }
 {
@@ -90,7 +90,7 @@ fn symbol_behind(width: u16, at: Position) -> Position
 }
 
 /// Whether all source symbols of an object from one to another were asked for, where its blocks have so many.
-fn covers(spans: &[Span], width: u16, first: Position, last: Position) -> bool
+pub(crate) fn covers(spans: &[Span], width: u16, first: Position, last: Position) -> bool
     requires ordered { AreApart spans.now }
     requires few { width ≤ 256 }
     requires object { first.index ≡ last.index }
@@ -125,14 +125,7 @@ impl Heard {
             block: 0,
             symbol: 0,
         };
-        is_asked(self.lists.infos.as_slice(), at)
-    }
-
-    /// Whether as many symbols of a block were asked for.
-    fn has_count(&self, at: Point, wanted: u8) -> bool
-        ensures { result ≡ asks_as_many self.now.counts at wanted }
-    {
-        asks_as_many(self.lists.counts.as_slice(), at, wanted)
+        self.infos.has(at)
     }
 
     /// Whether all source symbols from a block of an object to another were asked for, where the blocks have so many.
@@ -152,7 +145,7 @@ impl Heard {
             block: last,
             symbol: width.saturating_sub(1) as u8,
         };
-        covers(self.lists.symbols.as_slice(), width, begin, end)
+        self.symbols.cover(width, begin, end)
     }
 
     /// Whether all of an object of which nothing is known was asked for, and its info. Its blocks may be of any width.
@@ -167,7 +160,7 @@ impl Heard {
         requires { IsBlock at.block }
         ensures { result ≡ (asks_as_many self.now.counts at wanted || blocks_heard self.now width at.index at.block at.block) }
     {
-        self.has_count(at, wanted)
+        self.counts.ask_as_many(at, wanted)
             || self.has_blocks(u16::from(width), at.index, at.block, at.block)
     }
 }

@@ -13,3 +13,4 @@ pub mod PlaceLemmas
 pub mod ReachedLemmas
 pub mod RoomLemmas
 pub mod MomentLemmas
+pub mod RepairLemmas

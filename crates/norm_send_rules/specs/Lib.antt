@@ -25,3 +25,4 @@ pub mod Laws
 pub mod Reached
 pub mod RoomLaws
 pub mod TickLaws
+pub mod RepairLaws

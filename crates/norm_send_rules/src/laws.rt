@@ -2,6 +2,7 @@
 
 ghost use Rattle.norm_send_rules.specs.Laws.{RefusedLeaves, ClosingLaws, WantLaws, NewLaws, NextLaws};
 ghost use Rattle.norm_send_rules.specs.Reached.{ReachedLaws};
+ghost use Rattle.norm_send_rules.specs.RepairLaws.{RepairLaws};
 ghost use Rattle.norm_send_rules.specs.RoomLaws.{RoomLaws};
 ghost use Rattle.norm_send_rules.specs.TickLaws.{TickLaws};
 
@@ -54,4 +55,10 @@ pub fn room()
 #[tactic(auto, using(crate::proofs::MomentLemmas::tick_laws))]
 pub fn ticks()
     ensures { TickLaws }
+{}
+
+/// Fresh parity was never sent, and what a count makes wanted makes a block whole for whoever lacks no more than that.
+#[tactic(auto, using(crate::proofs::RepairLemmas::repair_laws))]
+pub fn repairs()
+    ensures { RepairLaws }
 {}

@@ -99,6 +99,16 @@ impl World {
         self.profile.is_receiver(node)
     }
 
+    /// Whether a node is the sender or one of the receivers.
+    pub fn is_member(&self, node: NodeId) -> bool
+        ensures { result ≡ is_node self.now.p node }
+    {
+        if self.profile.is_receiver(node) {
+            return true;
+        }
+        node.number() == self.profile.sender
+    }
+
     /// The sender.
     pub fn sender(&self) -> &Sender
         ensures { result.now ≡ self.now.sender }

@@ -8,5 +8,5 @@ use Rattle.norm_receiver.proofs.overhearing.hear_lacking.Goals as goal
 
 pub returns-else-not-wants_symbols : goal.returns-else-not-wants_symbols
 returns-else-not-wants_symbols c =
-    subst (λ (more : List Count). IfOk c.hear_counts.result (λ _. c.hear_counts.new.counts.items ≡ fold (λ counts x. with_count x counts) c.args.counts.now.items more))
+    subst (λ (more : List Count). IfOk c.hear_counts.result (λ _. c.hear_counts.new.counts ≡ fold (λ counts x. with_count x counts) c.args.counts.now more))
     (of_erasures c.args.profile.now c.args.known (request_of c.args.request.now) (sym c.in-Erasures.is) (sym c.wants_symbols.ensures ∙ c.if-not-wants_symbols.false)) c.hear_counts.ensures

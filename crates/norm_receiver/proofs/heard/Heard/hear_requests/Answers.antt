@@ -3,7 +3,7 @@ use Rattle.norm_ext.specs.Asking.{named}
 use Rattle.norm_ext.specs.Requests.{Request}
 use Rattle.norm_receive_rules.specs.Heard.{heard_also}
 use Rattle.norm_receiver.proofs.OverhearingLemmas.{no_request}
-use Rattle.norm_receiver.proofs.heard.Lists.hear_requests.Goals as goal
+use Rattle.norm_receiver.proofs.heard.Heard.hear_requests.Goals as goal
 
 pub returns : goal.returns
 returns c =

@@ -2,7 +2,7 @@
 use Rattle.std.proofs.Common.{◌≡◌, map, fold}
 use Rattle.norm_ext.specs.Asking.{named}
 use Rattle.norm_receive_rules.specs.Heard.{heard_also}
-use Rattle.norm_receiver.proofs.heard.Lists.hear_requests.Given as goal
+use Rattle.norm_receiver.proofs.heard.Heard.hear_requests.Given as goal
 
 abbrev pub invariant-requests : goal.invariant-requests
 invariant-requests l =

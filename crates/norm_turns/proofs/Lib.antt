@@ -1,0 +1,3 @@
+pub mod SoFarLemmas
+pub mod SendingLemmas
+pub mod TakingLemmas

@@ -1,0 +1,84 @@
+//! Takes of datagrams from the network, and what comes of them.
+
+ghost use Rattle.std.specs.Prelude.{◌≡◌, ℕ, Some, None, IfOk, IfErr, OnOk};
+ghost use Rattle.norm_base.specs.Network.{Network};
+ghost use Rattle.norm_base.specs.Told.{Pieces};
+ghost use Rattle.norm_journal.specs.Draws.{next_draw, draws_after};
+ghost use Rattle.norm_journal.specs.Places.{Taking};
+ghost use Rattle.norm_turns.specs.Context.{Context};
+ghost use Rattle.norm_turns.specs.SoFar.{At, HasTaken};
+ghost use Rattle.norm_turns.specs.Stopping.{Stopped};
+ghost use Rattle.norm_turns.specs.Taking.{Delivers, GoesOn, StopsAfter};
+
+use crate::fault::RunFault;
+use crate::run::{Run, copy_of, note};
+use norm_base::{Datagram, Fabric, NodeId};
+use norm_journal::Event;
+use rand_core::utils::NextWord;
+use rand_pcg::Lcg64Xsh32;
+
+/// The next draw.
+#[tactic(auto, unfolding(norm_journal::specs::Draws::next_draw, norm_journal::specs::Draws::draws_after))]
+fn next_draw(draws: &mut Lcg64Xsh32) -> u32
+    ensures word { result ≡ next_draw draws.old }
+    ensures rest { draws.new ≡ draws_after draws.old }
+{
+    draws.next_word()
+}
+
+impl Run {
+    /// A datagram comes to a node: to the sender, or to a receiver with the next draw. Any other node gets nothing.
+    fn deliver(&mut self, to: NodeId, bytes: &[u8]) -> Result<(), RunFault>
+        ensures goes { OnOk result (Delivers self.old self.new to bytes.now) }
+        ensures memory { IfErr result (λ fault. fault ≡ RunFault.Memory) }
+    {
+        if !self.world.is_member(to) {
+            return Ok(());
+        }
+        if !self.world.is_receiver(to) {
+            self.world.deliver(to, bytes, self.now, 0)?;
+            return Ok(());
+        }
+        let draw = next_draw(&mut self.draws);
+        self.world.deliver(to, bytes, self.now, draw)?;
+        Ok(())
+    }
+
+    /// A datagram was taken, and is delivered.
+    fn take_in(&mut self, to: NodeId, bytes: &[u8]) -> Result<bool, RunFault>
+        ensures goes { IfOk result (λ took. GoesOn self.old self.new (Some (to, bytes.now)) took) }
+        ensures stops { IfErr result (λ fault. StopsAfter self.old (Some (to, bytes.now)) fault) }
+    {
+        let copy = copy_of(self.alloc, bytes)?;
+        self.deliver(to, bytes)?;
+        note(&mut self.events, Event::Took { to, bytes: copy })?;
+        Ok(true)
+    }
+
+    /// The network had no datagram ready.
+    fn find_none(&mut self) -> Result<bool, RunFault>
+        ensures goes { IfOk result (λ took. GoesOn self.old self.new None took) }
+        ensures stops { IfErr result (λ fault. StopsAfter self.old None fault) }
+    {
+        note(&mut self.events, Event::Empty)?;
+        Ok(false)
+    }
+
+    /// Takes a datagram from the network, and delivers it. False where the network has none ready.
+    ///
+    /// # Errors
+    ///
+    /// `Fabric` where the network failed, or `Memory`: so also where a receiver gets a datagram of a stream, which none takes in
+    /// yet.
+    pub fn take<F: Fabric>(&mut self, fabric: &mut F, into: &mut Datagram) -> Result<bool, RunFault>
+        ensures goes { IfOk result (λ took. (x : Context) (written : Pieces) (count : ℕ) → At x self.old (Taking count) (F.told fabric.old) written
+            → HasTaken took x self.new count (F.told fabric.new) written) }
+        ensures stops { IfErr result (λ fault. (x : Context) (written : Pieces) (count : ℕ) → At x self.old (Taking count) (F.told fabric.old) written
+            → Stopped x fault (F.told fabric.new) written) }
+    {
+        match fabric.take(into)? {
+            Some(to) => self.take_in(to, into.bytes()),
+            None => self.find_none(),
+        }
+    }
+}
