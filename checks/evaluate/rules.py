@@ -31,7 +31,7 @@ EDITS = {
     'tx_window/a_dropped_symbol_is_zeros': 'tx_window/Asked',
 }
 # crates whose edits break no rule of that page: docs/architecture.md has them
-OTHER = ('norm_program', 'norm_session', 'producer_gate')
+OTHER = ('norm_host', 'norm_program', 'norm_session', 'producer_gate')
 
 
 def read(path):

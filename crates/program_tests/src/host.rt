@@ -106,6 +106,7 @@ fn a_failed_write_is_told(rt: HostRuntime) -> Result<(), Fail> {
     };
     let mut sink = StdSink::of(&mut writer);
     let all = writes(rt.alloc(), &mut sink, b"ace")?;
+    drop(sink);
     assert!(rt; all.as_slice() == b".!.1".as_slice());
     assert!(rt; writer.octets.as_slice() == b"ae".as_slice());
     Ok(())
