@@ -14,3 +14,4 @@ pub mod ReachedLemmas
 pub mod RoomLemmas
 pub mod MomentLemmas
 pub mod RepairLemmas
+pub mod ListingLemmas

@@ -26,3 +26,4 @@ pub mod Reached
 pub mod RoomLaws
 pub mod TickLaws
 pub mod RepairLaws
+pub mod ListingLaws
