@@ -15,3 +15,4 @@ pub mod RoomLemmas
 pub mod MomentLemmas
 pub mod RepairLemmas
 pub mod ListingLemmas
+pub mod DropLemmas

@@ -216,7 +216,7 @@ watermark_same s by quorum (Some at) =
 mark_same : (p : Settings) (s : SenderState) (by : Origin) (quorum : Option ℕ) → (cut_and_marked p s by quorum).0.listings ≡ s.listings
 mark_same p s by quorum = watermark_same (cut p s) by quorum (last_source (current_shapes p (cut p s))) ∙ cut_same p s
 
-longer : (xs : List Instance) (x : Instance) → xs ++ x ∷ [] ≡ xs → ⊥
+pub longer : (xs : List Instance) (x : Instance) → xs ++ x ∷ [] ≡ xs → ⊥
 longer xs x e = let n = ap (λ (l : List Instance). length l) e in let m = length-append xs (x ∷ []) in absurd (omega (arith, n, m))
 
 restart_goes_on : (s : SenderState) (id : ℕ) (b : Bool) {A : Type 0} (refusal gives : A) → (either b (s, refusal) (begun_anew id s, gives)).0.earlier ≡ s.earlier

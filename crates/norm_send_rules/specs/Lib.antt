@@ -27,3 +27,4 @@ pub mod RoomLaws
 pub mod TickLaws
 pub mod RepairLaws
 pub mod ListingLaws
+pub mod DropLaws

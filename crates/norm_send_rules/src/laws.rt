@@ -1,5 +1,6 @@
 //! What is promised of the sender's rules. Each law is the contract of a function that does nothing.
 
+ghost use Rattle.norm_send_rules.specs.DropLaws.{DropLaws};
 ghost use Rattle.norm_send_rules.specs.Laws.{RefusedLeaves, ClosingLaws, WantLaws, NewLaws, NextLaws};
 ghost use Rattle.norm_send_rules.specs.ListingLaws.{ListingLaws};
 ghost use Rattle.norm_send_rules.specs.Reached.{ReachedLaws};
@@ -68,4 +69,10 @@ pub fn repairs()
 #[tactic(auto, using(crate::proofs::ListingLemmas::listing_laws))]
 pub fn listings()
     ensures { ListingLaws }
+{}
+
+/// The drop point never falls in an instance.
+#[tactic(auto, using(crate::proofs::DropLemmas::drop_laws))]
+pub fn drops()
+    ensures { DropLaws }
 {}
