@@ -8,7 +8,7 @@ antt computes the defined steps, event by event, and compares each answer and th
 the statement "they never part" is `refl`. Nothing is proved or built of the crates, and no code of theirs is run.
 
 Without a flag the runs are compared. `--safe` evaluates the tests of lawfulness and safety along each lawful run, `--laws` those of
-laws of the receiver's rules along each run, and that each damage of a state is noticed, `--cases` the
+laws of the rules along each run, and that each damage of a state is noticed, `--cases` the
 small runs and values of checks/cases, `--damaged` the tests of safety on damaged runs, and `--errors` looks whether
 each deliberate error of checks/errors in a definition is noticed by the case that it names. `--rules` compares the rows of
 docs/protocol.md with what stands here, and with `--write` prints them again. `--journals` judges each recorded journal, which has to be

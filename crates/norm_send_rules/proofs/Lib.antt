@@ -14,3 +14,5 @@ pub mod ReachedLemmas
 pub mod RoomLemmas
 pub mod MomentLemmas
 pub mod RepairLemmas
+pub mod ListingLemmas
+pub mod DropLemmas

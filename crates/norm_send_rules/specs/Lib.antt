@@ -26,3 +26,5 @@ pub mod Reached
 pub mod RoomLaws
 pub mod TickLaws
 pub mod RepairLaws
+pub mod ListingLaws
+pub mod DropLaws

@@ -1,6 +1,8 @@
 //! What is promised of the sender's rules. Each law is the contract of a function that does nothing.
 
+ghost use Rattle.norm_send_rules.specs.DropLaws.{DropLaws};
 ghost use Rattle.norm_send_rules.specs.Laws.{RefusedLeaves, ClosingLaws, WantLaws, NewLaws, NextLaws};
+ghost use Rattle.norm_send_rules.specs.ListingLaws.{ListingLaws};
 ghost use Rattle.norm_send_rules.specs.Reached.{ReachedLaws};
 ghost use Rattle.norm_send_rules.specs.RepairLaws.{RepairLaws};
 ghost use Rattle.norm_send_rules.specs.RoomLaws.{RoomLaws};
@@ -61,4 +63,16 @@ pub fn ticks()
 #[tactic(auto, using(crate::proofs::RepairLemmas::repair_laws))]
 pub fn repairs()
     ensures { RepairLaws }
+{}
+
+/// What a member is listed past never falls in an instance.
+#[tactic(auto, using(crate::proofs::ListingLemmas::listing_laws))]
+pub fn listings()
+    ensures { ListingLaws }
+{}
+
+/// The drop point never falls in an instance.
+#[tactic(auto, using(crate::proofs::DropLemmas::drop_laws))]
+pub fn drops()
+    ensures { DropLaws }
 {}
