@@ -281,6 +281,13 @@ impl Sender {
         self.parts.open_requests()
     }
 
+    /// How many flushes were counted since another watermark became the oldest, or a round made a want.
+    pub fn flushes(&self) -> u32
+        ensures { (s : SenderState) → Stands self.now s → result ≡ s.flushes }
+    {
+        self.parts.flushes()
+    }
+
     /// The current instance.
     pub fn instance(&self) -> InstanceId
         ensures { (s : SenderState) → Stands self.now s → result ≡ s.current.id }

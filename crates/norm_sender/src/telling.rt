@@ -39,6 +39,13 @@ impl Parts {
         count
     }
 
+    /// How many flushes were counted.
+    pub(crate) fn flushes(&self) -> u32
+        ensures { (s : SenderState) → Agrees (kept_of self.now) s → result ≡ s.flushes }
+    {
+        self.pace.flushes
+    }
+
     /// The current instance.
     pub(crate) fn instance(&self) -> InstanceId
         ensures { (s : SenderState) → Agrees (kept_of self.now) s → result ≡ s.current.id }
