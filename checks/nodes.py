@@ -119,7 +119,12 @@ def chunks(nodes):
         yield chunk
 
 
-def compare(tally, name, node, events, came, shown):
+def is_wanted(line, want, gave):
+    """Whether an answer is the wanted one. Of what a node tells at the end only the front is known of a sender."""
+    return gave.split(' ')[:len(want.split(' '))] == want.split(' ') if line == 'tell' else gave == want
+
+
+def compare(tally, name, node, events, came):
     """Compares one node's answers with the record, up to its first event of a stream, and prints where they differ."""
     for i, ((line, want, place), gave) in enumerate(zip(events, came)):
         if gave == 'stream':
@@ -127,12 +132,10 @@ def compare(tally, name, node, events, came, shown):
             tally['unmet'] += sum(p is not None for _, _, p in events[i:])
             return
         tally['events'] += place is not None
-        if gave.split(' ')[:len(want.split(' '))] != want.split(' ') if line == 'tell' else gave != want:
+        if not is_wanted(line, want, gave):
             tally['differ'] += 1
-            if shown:
-                print('%s: node %d: %s: %s\n    recorded %s\n    came     %s' % (name, node, 'event %d' % place if place is not None else 'at its end', line[:160], want[:400], gave[:400]))
-            tally['nodes'] += 1
-            return
+            print('%s: node %d: %s: %s\n    recorded %s\n    came     %s'
+                  % (name, node, 'event %d' % place if place is not None else 'at its end', line[:160], want[:400], gave[:400]))
     tally['nodes'] += 1
 
 
@@ -160,7 +163,7 @@ def main():
         for chunk in chunks(nodes):
             came = answers(a, [line for _, _, events in chunk for line, _, _ in events])
             for name, node, events in chunk:
-                compare(tally, name, node, events, came[:len(events)], True)
+                compare(tally, name, node, events, came[:len(events)])
                 came = came[len(events):]
     except (Failed, OSError) as e:
         print('nodes: ' + str(e))
