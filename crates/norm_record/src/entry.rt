@@ -9,7 +9,7 @@ use norm_base::{Moment, NodeId, Octets, Origin, Sent};
 use norm_send_rules::{Job, News, Receipt, SendFault};
 
 /// An event without its octets: these stand at its place among what is kept.
-#[derive(Clone, Copy, Debug, PartialEq, Eq)]
+#[derive(Clone, Copy)]
 pub(crate) enum Entry {
     /// The turn at this place.
     Turn { at: u32 },
@@ -28,14 +28,14 @@ pub(crate) enum Entry {
 }
 
 /// A turn and its moment.
-#[derive(Clone, Copy, Debug, PartialEq, Eq)]
+#[derive(Clone, Copy)]
 pub(crate) struct Turn {
     pub(crate) t: u32,
     pub(crate) now: Moment,
 }
 
 /// An event that is kept whole.
-#[derive(Debug, Drop)]
+#[derive(Drop)]
 pub(crate) enum Rare {
     Start,
     Pull {

@@ -21,7 +21,7 @@ use std::marker::Model;
 
 /// The events of a session in their order, seen as the list of `norm_journal::Event`, each octet kept once. Each push adds its
 /// event at the end. Where there is no memory, or more than 2^32 - 1 of a kind, it answers `Memory`, and all is as it was.
-#[derive(Debug, Drop)]
+#[derive(Drop)]
 pub struct Journal {
     entries: Vec<Entry>,
     offers: Offers,

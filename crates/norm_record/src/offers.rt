@@ -11,7 +11,7 @@ use std::collections::HashMap;
 use std::marker::Model;
 
 /// Offered datagrams, seen as the list of them. Of each name the last place is known.
-#[derive(Debug, Drop)]
+#[derive(Drop)]
 pub(crate) struct Offers {
     row: Row,
     latest: HashMap<u64, u32>,

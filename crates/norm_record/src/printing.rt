@@ -15,7 +15,7 @@ use norm_text::Line;
 use std::alloc::AllocError;
 
 /// What the line of an event says of the state before it, besides the event.
-#[derive(Clone, Copy, Debug)]
+#[derive(Clone, Copy)]
 pub struct Before<'a> {
     /// The sender's instance.
     pub instance: InstanceId,

@@ -7,14 +7,14 @@ use std::alloc::Global;
 use std::marker::Model;
 
 /// A piece of the row: its first octet's place, and how many it has.
-#[derive(Clone, Copy, Debug, PartialEq, Eq)]
+#[derive(Clone, Copy)]
 pub(crate) struct Piece {
     from: usize,
     len: usize,
 }
 
 /// Pieces of octets, seen as the list of them.
-#[derive(Debug, Drop)]
+#[derive(Drop)]
 pub(crate) struct Row {
     octets: Vec<u8>,
     pieces: Vec<Piece>,

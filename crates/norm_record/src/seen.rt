@@ -5,7 +5,7 @@ use norm_order::Up;
 use norm_send_rules::{Job, News, Receipt, SendFault};
 
 /// An event of a journal, lent from what is kept. Each variant is the one of `norm_journal::Event` with its name.
-#[derive(Clone, Copy, Debug)]
+#[derive(Clone, Copy)]
 pub enum Seen<'a> {
     Start,
     Turn {

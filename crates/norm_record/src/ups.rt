@@ -11,14 +11,14 @@ use std::collections::HashMap;
 use std::marker::Model;
 
 /// What is handed up in an instance.
-#[derive(Debug, Drop)]
+#[derive(Drop)]
 pub(crate) struct HandUp {
     pub(crate) instance: InstanceId,
     pub(crate) up: Up,
 }
 
 /// Hand-ups, seen as the list of them. Of each name the last place is known.
-#[derive(Debug, Drop)]
+#[derive(Drop)]
 pub(crate) struct Ups {
     kept: Vec<HandUp>,
     latest: HashMap<u128, u32>,

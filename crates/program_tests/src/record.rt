@@ -38,36 +38,73 @@ fn hello(alloc: Global) -> Result<Up, Memory> {
     })
 }
 
-/// What is pushed at a turn's beginning.
-fn push_beginning(alloc: Global, journal: &mut Journal) -> Result<(), Memory> {
-    journal.push_start()?;
-    journal.push_turn(1, Moment(1000))?;
-    journal.push_pull(BY)?;
-    journal.push_job(BY, Some(Job::Open), Ok(Receipt::Opened { index: 4 }))?;
+/// How many events the journal of the tests has.
+const EVENTS: usize = 14;
+
+/// Pushes that the file was refused.
+fn push_refusal(alloc: Global, journal: &mut Journal) -> Result<(), Memory> {
     let name = Octets::of(Vec::from_slice(alloc, b"a.txt")?);
     let fault = SendFault::Enqueue(EnqueueFault::TooBig { len: 600 });
-    journal.push_length(BY, name, 600, fault)?;
-    journal.push_tick(node_of(1)?, Sent::Datagram)?;
-    journal.push_offer(node_of(1)?, FIRST.as_slice())
+    journal.push_length(BY, name, 600, fault)
 }
 
-/// What is pushed at its end.
-fn push_ending(alloc: Global, journal: &mut Journal) -> Result<(), Memory> {
-    journal.push_took(node_of(2)?, FIRST.as_slice())?;
-    journal.push_took(node_of(3)?, SECOND.as_slice())?;
-    journal.push_empty()?;
-    journal.push_up(node_of(2)?, InstanceId(7), hello(alloc)?)?;
-    journal.push_up(node_of(3)?, InstanceId(7), hello(alloc)?)?;
+/// Pushes that a node handed up the object.
+fn push_hello(alloc: Global, journal: &mut Journal, n: u32) -> Result<(), Memory> {
+    let node = node_of(n)?;
+    let up = hello(alloc)?;
+    journal.push_up(node, InstanceId(7), up)
+}
+
+/// Pushes that a node took the octets.
+fn push_take(journal: &mut Journal, n: u32, octets: &[u8]) -> Result<(), Memory> {
+    let to = node_of(n)?;
+    journal.push_took(to, octets)
+}
+
+/// Pushes that the first node offered the octets.
+fn push_first(journal: &mut Journal, octets: &[u8]) -> Result<(), Memory> {
+    let from = node_of(1)?;
+    journal.push_offer(from, octets)
+}
+
+/// Pushes that the first node ticked.
+fn push_tick(journal: &mut Journal) -> Result<(), Memory> {
+    let node = node_of(1)?;
+    journal.push_tick(node, Sent::Datagram)
+}
+
+/// Pushes that the watermark was satisfied.
+fn push_news(journal: &mut Journal) -> Result<(), Memory> {
     let outcome = Outcome::Satisfied;
-    journal.push_news(News::Done { mark: 6, outcome })?;
-    journal.push_end()
+    journal.push_news(News::Done { mark: 6, outcome })
+}
+
+/// Pushes the event of a place.
+fn push_at(alloc: Global, journal: &mut Journal, i: usize) -> Result<(), Memory> {
+    match i {
+        0 => journal.push_start(),
+        1 => journal.push_turn(1, Moment(1000)),
+        2 => journal.push_pull(BY),
+        3 => journal.push_job(BY, Some(Job::Open), Ok(Receipt::Opened { index: 4 })),
+        4 => push_refusal(alloc, journal),
+        5 => push_tick(journal),
+        6 => push_first(journal, FIRST.as_slice()),
+        7 => push_take(journal, 2, FIRST.as_slice()),
+        8 => push_take(journal, 3, SECOND.as_slice()),
+        9 => journal.push_empty(),
+        10 => push_hello(alloc, journal, 2),
+        11 => push_hello(alloc, journal, 3),
+        12 => push_news(journal),
+        _ => journal.push_end(),
+    }
 }
 
 /// A journal with each kind of event.
 fn all_kinds(alloc: Global) -> Result<Journal, Memory> {
     let mut journal = Journal::new(alloc);
-    push_beginning(alloc, &mut journal)?;
-    push_ending(alloc, &mut journal)?;
+    for i in 0..EVENTS {
+        push_at(alloc, &mut journal, i)?;
+    }
     Ok(journal)
 }
 
@@ -87,10 +124,14 @@ fn is_pushed(journal: &Journal, i: usize) -> bool {
         Seen::Took { to, bytes } => is_taken(i, to, bytes),
         Seen::Empty => i == 9,
         Seen::Up { node, up, .. } => is_hello(i, node, up),
-        Seen::News(News::Done { mark, .. }) => i == 12 && *mark == 6,
-        Seen::News(News::Past { .. }) => false,
+        Seen::News(news) => i == 12 && is_done(news),
         Seen::End => i == 13,
     }
+}
+
+/// Whether these news are the ones that were pushed.
+fn is_done(news: &News) -> bool {
+    matches!(news, News::Done { mark: 6, .. })
 }
 
 /// Whether a take is the one that was pushed at a place.
@@ -115,20 +156,20 @@ fn each_push_is_seen(rt: HostRuntime) -> Result<(), Fail> {
     let Ok(journal) = all_kinds(rt.alloc()) else {
         return Err("no memory")?;
     };
-    assert!(rt; journal.len() == 14);
+    assert!(rt; journal.len() == EVENTS);
     assert!(rt; journal.hand_ups() == 1);
-    for i in 0..14usize {
+    for i in 0..EVENTS {
         assert!(rt; is_pushed(&journal, i), "event {i}");
     }
     Ok(())
 }
 
-/// How many octets of datagrams are kept after this offer and these takes.
+/// How many octets of datagrams are kept after an offer and these takes.
 fn kept_after(alloc: Global, takes: &[&[u8]]) -> Result<usize, Memory> {
     let mut journal = Journal::new(alloc);
-    journal.push_offer(node_of(1)?, FIRST.as_slice())?;
+    push_first(&mut journal, FIRST.as_slice())?;
     for octets in takes {
-        journal.push_took(node_of(2)?, octets)?;
+        push_take(&mut journal, 2, octets)?;
     }
     Ok(journal.octets())
 }
@@ -191,19 +232,25 @@ fn events_have_their_lines(rt: HostRuntime) -> Result<(), Fail> {
     Ok(())
 }
 
+/// Pushes that a node handed up the largest object.
+fn push_largest(alloc: Global, journal: &mut Journal, n: u32) -> Result<(), Memory> {
+    let node = node_of(n)?;
+    let bytes = Octets::of(vec![in alloc; 0xa5u8; 16_777_216]?);
+    let (index, kind, info) = (0, Kind::Data, None);
+    let up = Up::Object {
+        index,
+        kind,
+        info,
+        bytes,
+    };
+    journal.push_up(node, InstanceId(7), up)
+}
+
 /// How long the line of the largest object is, which two receivers hand up.
 fn largest(alloc: Global) -> Result<usize, Memory> {
     let mut journal = Journal::new(alloc);
     for n in [2u32, 3] {
-        let bytes = Octets::of(vec![in alloc; 0xa5u8; 16_777_216]?);
-        let (index, kind, info) = (0, Kind::Data, None);
-        let up = Up::Object {
-            index,
-            kind,
-            info,
-            bytes,
-        };
-        journal.push_up(node_of(n)?, InstanceId(7), up)?;
+        push_largest(alloc, &mut journal, n)?;
     }
     let mut line = Line::new(alloc);
     if has_line(&mut line, &journal, 1, b"") {
