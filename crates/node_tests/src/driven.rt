@@ -1,0 +1,64 @@
+//! A sender that a test drives.
+
+use norm_base::{Datagram, InstanceId, Memory, Moment, Origin, Profile, Sent};
+use norm_send_rules::{Job, News, Receipt, SendFault};
+use norm_sender::{Sender, opens_none};
+use std::alloc::Global;
+use std::marker::Model;
+
+/// A sender of which no file is begun, so that each of its calls may come next.
+#[derive(Drop)]
+pub(crate) struct Driven {
+    sender: Sender,
+}
+
+impl Model for Driven {
+    ghost use Rattle.std.specs.Prelude.{◌≡◌, None};
+    ghost use Rattle.norm_sender.specs.SenderKept.{SenderKept};
+
+    ghost Value = { SenderKept };
+
+    ghost view = { λ driven. driven.sender };
+
+    ghost invariant = { λ driven. driven.sender.window.filling ≡ None };
+}
+
+impl Driven {
+    /// A sender as it begins.
+    pub(crate) fn new(
+        alloc: Global,
+        profile: &Profile,
+        instance: InstanceId,
+    ) -> Result<Driven, Memory> {
+        let sender = Sender::new(alloc, profile, instance)?;
+        Ok(Driven { sender })
+    }
+
+    pub(crate) fn deliver(&mut self, bytes: &[u8], now: Moment) {
+        self.sender.deliver(bytes, now);
+    }
+
+    pub(crate) fn tick(&mut self, now: Moment, out: &mut Datagram) -> Sent {
+        self.sender.tick(now, out)
+    }
+
+    /// What a command is answered, where it opens no stream.
+    pub(crate) fn command(
+        &mut self,
+        by: Origin,
+        job: Job,
+        now: Moment,
+    ) -> Option<Result<Receipt, SendFault>> {
+        if !opens_none(&job) {
+            return None;
+        }
+        match self.sender.command(by, job, now) {
+            Ok(receipt) => Some(Ok(receipt)),
+            Err((_given_back, fault)) => Some(Err(fault)),
+        }
+    }
+
+    pub(crate) fn news(&mut self) -> Option<News> {
+        self.sender.news()
+    }
+}
