@@ -1,9 +1,9 @@
 -- The summary of a run.
-use Rattle.std.proofs.Common.{◌≡◌, ℕ, List, [], ◌∷◌, ◌++◌, true, refl, sym, subst}
+use Rattle.std.proofs.Common.{◌≡◌, ℕ, List, [], ◌∷◌, ◌++◌, true, refl, subst}
 use Rattle.norm_base.specs.Network.{Network}
 use Rattle.norm_base.specs.Told.{Pieces, gained, GainsFront}
 use Rattle.norm_journal.specs.Follows.{SummaryMade}
-use Rattle.norm_journal.specs.Judged.{Judged, is_done}
+use Rattle.norm_journal.specs.Judged.{is_done}
 use Rattle.norm_journal.specs.Lines.{end_line}
 use Rattle.norm_journal.specs.Places.{Between, Over}
 use Rattle.norm_journal.specs.declared.event.Event.{Event}
