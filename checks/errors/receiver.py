@@ -17,7 +17,7 @@ ERRORS = [
     ('erasures with BLOCK ask for nothing', X, 'Asking', 'has_flag r.flags segment_flag || has_flag r.flags block_flag) [\n    | true', 'has_flag r.flags segment_flag) [\n    | true', 'Erasures 2 0-1-1'),
     ('erasures with INFO ask for all', X, 'Asking', '  | form.Erasures ↦ []\n]\n\n-- the greatest numbers', '  | form.Erasures ↦ elim (has_flag r.flags info_flag) [ true ↦ r.spans | false ↦ [] ]\n]\n\n-- the greatest numbers', 'Erasures 12 0-1-1'),
     ('erasures with OBJECT ask for something', X, 'Asking', 'has_flag r.flags segment_flag || has_flag r.flags block_flag) [\n    | true', 'has_flag r.flags segment_flag || has_flag r.flags block_flag || has_flag r.flags object_flag) [\n    | true', 'Erasures 12 0-1-1'),
-    ('an empty range makes a squelch due', 'norm_send_rules', 'Closing', 'form.Ranges ↦ filter is_proper r.spans', 'form.Ranges ↦ r.spans', 'Ranges 8 1-0-1 1-0-0'),
+    ('an empty range makes a squelch due', 'norm_send_rules', 'Closing', 'form.Ranges ↦ filter is_proper r.spans', 'form.Ranges ↦ r.spans', 'early requests'),
     ('an empty range asks for what lies between', X, 'Asking', 'form.Ranges ↦ filter is_proper r.spans', 'form.Ranges ↦ map (λ (s : Span). elim (is_proper s) [ true ↦ s | false ↦ span s.last s.first ]) r.spans', 'Ranges 8 1-0-1 1-0-0'),
     # instances, and what a receiver saw
     ('a message of anybody counts', R, 'Receiving', 'in_instance p now draw source instance object received s = elim (source == p.sender) [', 'in_instance p now draw source instance object received s = elim (true || source == p.sender) [', 'which messages a receiver hears'),
