@@ -78,7 +78,7 @@ ERRORS = [
     ('two spans end where the first does', R, 'Heard', '(later a.last b.last)', 'b.last', 'what was heard is kept merged'),
     ('two spans begin where the first does', R, 'Heard', '(nearer a.first b.first)', 'b.first', 'what was heard is kept merged'),
     ('a span in front joins behind', R, 'Heard', 'true ↦ x ∷ y ∷ spans |', 'true ↦ y ∷ x ∷ spans |', 'what was heard is kept merged'),
-    ('what lies between two spans is covered', R, 'HeardNeeds', 'elim (position_before first x.first) [', 'elim (false && position_before first x.first) [', 'heard the rest but the last block'),
+    ('what lies between two spans is covered', R, 'HeardNeeds', 'elim (position_before first x.first) [', 'elim (false && position_before first x.first) [', 'heard less than the rest'),
     ('the hold-off is not kept', R, 'BackingOff', 'is_none k.backoff && not (nat_lt now k.holdoff)', 'is_none k.backoff', 'the hold off'),
     ('a back-off begins again', R, 'BackingOff', 'is_none k.backoff && not', 'not', 'a back off goes on'),
     ('a draw is below K round trips', R, 'BackingOff', 'draw % (p.k * p.grtt + 1)', 'draw % max 1 (p.k * p.grtt)', 'a back off goes on'),
@@ -128,7 +128,7 @@ ERRORS = [
     ('needs do not share a request', X, 'Asked', 'if is_like a r then record r', 'if is_like a r && false then record r', 'the longest prefix'),
     ('a lesser count is enough', R, 'HeardNeeds', 'nat_le wanted c.lacking', 'nat_le c.lacking wanted', 'heard a count of 0'),
     ('the sources of a block are not enough', R, 'HeardNeeds', '\n    || blocks_heard heard (width_of s (point index block)) index block block', '', 'heard the sources of the block'),
-    ('one symbol is enough', R, 'HeardNeeds', 'true ↦ covers width (symbol_behind width x.last) last spans | false ↦ true ]', 'true ↦ true | false ↦ true ]', 'heard a count of 0'),
+    ('one symbol is enough', R, 'HeardNeeds', 'true ↦ covers width (symbol_behind width x.last) last spans | false ↦ true ]', 'true ↦ true | false ↦ true ]', 'heard the rest but the last block'),
     ('the info is not looked at', R, 'HeardNeeds', ' index 0 last_block && info_heard heard index', ' index 0 last_block', 'heard without the info'),
     ('the rest of a stream is heard by its first block', R, 'HeardNeeds', '(Rest index block) = blocks_heard heard (width_of s (point index block)) index block last_block', '(Rest index block) = is_asked heard.symbols (position index block 0)', 'heard the rest but the last block'),
     # plans, symbols and infos that are kept
