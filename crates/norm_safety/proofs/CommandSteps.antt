@@ -57,7 +57,7 @@ total_is : (s : SenderState) → origins s ≡ total s.earlier (origins_in s.cur
 total_is s = ap (λ (xs : List Origin). xs ++ bys s.watermarks) (origins_last s.earlier s.current)
 
 pub kept_all : (all : List Instance) → AllKept all all
-kept_all all id index by h = h
+kept_all all id index by job h = h
 
 pub same_instances : (s new : SenderState) → Keeps s new → instances new ≡ instances s
 same_instances s new h =
@@ -148,7 +148,7 @@ parts_goes by part accepted parts s new ends earlier id same order adds = go add
     places =
         let P : List Entry → Type 0 = λ before. PlacesKept before (with_last (Stream (parts ++ part ∷ [])) before) in
         let Q : List Entry → Type 0 = λ after. PlacesKept s.current.order after in
-        subst Q (sym order) (subst P (sym ends.is) (with_last_places (Stream (parts ++ part ∷ [])) ends.front _))
+        subst Q (sym order) (subst P (sym ends.is) (with_last_places parts (parts ++ part ∷ []) ends.front ends.by))
 
     goes_on : OrderGoes s new
     goes_on = record { earlier = earlier; id = id; by = same; places = places }
@@ -243,7 +243,7 @@ goes_after : (by : Origin) (s between new : SenderState) (accepted : Bool) → G
 goes_after by s between new accepted h g f = record {
   origins = both h.origins g.origins;
   ids = more h.ids;
-  places = λ id index by' was. g.places id index by' (h.places id index by' was);
+  places = λ id index by' job was. g.places id index by' job (h.places id index by' job was);
 }
   where
     both : Adds by false (origins s) (origins between) → Adds by accepted (origins between) (origins new) → Adds by accepted (origins s) (origins new)

@@ -84,7 +84,7 @@ abbrev as_type : MessageType → Result MessageType Refusal
 as_type kind = Ok kind
 
 -- the type that octets name decides which reading is taken
-by_type : (octets : List ℕ) (kind : MessageType) (m : Message) → known_type octets ≡ Ok kind → decoded octets ≡ Ok m → read_as kind octets ≡ Ok m
+pub by_type : (octets : List ℕ) (kind : MessageType) (m : Message) → known_type octets ≡ Ok kind → decoded octets ≡ Ok m → read_as kind octets ≡ Ok m
 unfolding decoded
 by_type octets kind m is e =
     let a = pass_ok (version_checked octets) _ m e in
@@ -102,7 +102,7 @@ pub ack_said : (m : AckMessage) → SaysNothing (decoded (octets_of (Ack m)))
 ack_said m = nothing_of (decoded (octets_of (Ack m))) (λ n e. ack_other (octets_of (Ack m)) n (by_type (octets_of (Ack m)) types.Ack n refl e))
 
 -- what a receiver's NACK and its acknowledgement say
-abbrev nack_of : Settings → ReceiverState → List Need → NackMessage
+abbrev pub nack_of : Settings → ReceiverState → List Need → NackMessage
 nack_of p s wanted = record {
   source = s.node;
   sequence = s.sequence;
@@ -112,7 +112,7 @@ nack_of p s wanted = record {
   requests = requests_asked (map (asked_of p) wanted);
 }
 
-abbrev ack_of : Settings → ReceiverState → Position → AckMessage
+abbrev pub ack_of : Settings → ReceiverState → Position → AckMessage
 ack_of p s at = record {
   source = s.node;
   sequence = s.sequence;

@@ -10,13 +10,14 @@ use Rattle.norm_base.specs.Settings.{Settings, InRange}
 use Rattle.norm_base.specs.declared.kinds.Kind.{Kind}
 use Rattle.norm_base.specs.declared.kinds.Kind.TheVariants as kind
 use Rattle.fec_plan.specs.Partition.{blocks}
+use Rattle.fec_plan.specs.declared.position.Position.{Position}
 use Rattle.norm_ext.specs.Asking.{has_flag}
 use Rattle.norm_order.specs.Entries.{Object, Whole, Stream, Entry}
 use Rattle.norm_order.specs.Sets.{with_member}
 use Rattle.fec_plan.proofs.PositionLemmas.{before_decides, before_both}
 use Rattle.norm_order.specs.Shapes.{shape_of, encoded_in}
 use Rattle.norm_order.specs.Symbols.{symbol_octets}
-use Rattle.norm_order.specs.Upto.{parts_of}
+use Rattle.norm_order.specs.Upto.{parts_of, all_parts}
 use Rattle.norm_order.specs.declared.up.Up.{Up}
 use Rattle.norm_order.specs.declared.up.Up.TheVariants as up
 use Rattle.norm_send_rules.specs.Messages.{fti_of_object, object_flags}
@@ -32,6 +33,7 @@ use Rattle.norm_safety.proofs.Spoken.{sized_at}
 use Rattle.norm_send_rules.proofs.CutNames.{cut_range}
 use Rattle.norm_safety.proofs.ObjectLemmas.{Rising, IsOfObject, object_again}
 use Rattle.norm_safety.proofs.Exact.{Exactly, exactly_hands, take_next}
+use Rattle.norm_safety.proofs.Stood.{Due, due_more, all_parts_end}
 
 -- ---- what is held
 
@@ -49,8 +51,10 @@ IsSymbolOf p order h = IsSomeAnd (slice_get order h.at.index) (λ (x : Entry).
 abbrev pub IsInfoOf : List Entry → HeldInfo → Type 0
 IsInfoOf order h = IsSomeAnd (slice_get order h.index) (λ (x : Entry). info_of_object x.object ≡ Some h.info)
 
--- what a receiver holds of an order that is dropped below an index, with what it handed up before
-pub record HoldsOf (p : Settings) (order : List Entry) (d : ℕ) (taken : List Up) (r : Holding) : Type 0 where
+-- What a receiver holds of an order that is dropped below an index, with what it handed up before and the acknowledgement that is
+-- due: it is of the order, and hand-ups went exactly through that; where nothing was lost they are all parts before the
+-- hand-up point; and everything before what is due was handed up.
+pub record HoldsOf (p : Settings) (order : List Entry) (d : ℕ) (taken : List Up) (due : Option Position) (r : Holding) : Type 0 where
   pub plans : AllByRecursion (IsPlanOf p order) r.plans
   pub symbols : AllByRecursion (IsSymbolOf p order) r.held
   pub rising : Rising r.held
@@ -59,10 +63,28 @@ pub record HoldsOf (p : Settings) (order : List Entry) (d : ℕ) (taken : List U
   pub symbol : r.point.symbol ≡ 0
   pub within : r.point.index ≤ length order
   pub gone : Exactly p d 0 (take r.point.index order) (taken ++ r.ups)
+  pub clean : r.lost ≡ [] → taken ++ r.ups ≡ all_parts p 0 (take r.point.index order)
+  pub confirms : Due p order (taken ++ r.ups) due
 
 -- the same of a receiver
 abbrev pub ReceiverHolds : Settings → List Entry → ℕ → List Up → ReceiverState → Type 0
-ReceiverHolds p order d taken r = HoldsOf p order d taken r.holding
+ReceiverHolds p order d taken r = HoldsOf p order d taken r.knows.due r.holding
+
+-- another acknowledgement may be due
+pub asks_due : (p : Settings) (order : List Entry) (d : ℕ) (taken : List Up) (due after : Option Position) (r : Holding)
+    → Due p order (taken ++ r.ups) after → HoldsOf p order d taken due r → HoldsOf p order d taken after r
+asks_due p order d taken due after r confirms h = record {
+  plans = h.plans;
+  symbols = h.symbols;
+  rising = h.rising;
+  infos = h.infos;
+  block = h.block;
+  symbol = h.symbol;
+  within = h.within;
+  gone = h.gone;
+  clean = h.clean;
+  confirms = confirms;
+}
 
 -- ---- members of sorted lists
 
@@ -255,9 +277,9 @@ whole_up p range order r plan x (Whole kind info octets) is sized found fti flag
         ∙ found_some (info_of r plan.index) i refl (sym (ap has_info says) ∙ has) (ap info_of_object is ∙ e)
 
 -- what is handed up next, with the order
-pub hands_holding : (p : Settings) → InRange p → (order : List Entry) (d : ℕ) (taken : List Up) (r after : Holding) → AreSized p order
-    → HoldsOf p order d taken r → hands_one p r ≡ Some after → HoldsOf p order d taken after
-hands_holding p range order d taken r after sized h e = go (plan_of r r.point.index) refl e
+pub hands_holding : (p : Settings) → InRange p → (order : List Entry) (d : ℕ) (taken : List Up) (due : Option Position) (r after : Holding) → AreSized p order
+    → HoldsOf p order d taken due r → hands_one p r ≡ Some after → HoldsOf p order d taken due after
+hands_holding p range order d taken due r after sized h e = go (plan_of r r.point.index) refl e
   where
     same_state : (a b : Holding) → Some a ≡ Some b → a ≡ b
     same_state a b e = cc
@@ -268,7 +290,7 @@ hands_holding p range order d taken r after sized h e = go (plan_of r r.point.in
     next : Plan → Holding
     next plan = handed (up.Object plan.index (kind_of plan.flags) (told_info r plan) (object_octets r plan) ∷ []) (after_object plan.index) r
 
-    whole : (plan : Plan) → plan_of r r.point.index ≡ Some plan → is_whole r plan ≡ true → HoldsOf p order d taken (next plan)
+    whole : (plan : Plan) → plan_of r r.point.index ≡ Some plan → is_whole r plan ≡ true → HoldsOf p order d taken due (next plan)
     whole plan is done =
         let found = found_plan (IsPlanOf p order) r.plans r.point.index plan h.plans is in
         let entry = some_and _ (slice_get order plan.index) found.0 in
@@ -295,11 +317,22 @@ hands_holding p range order d taken r after sized h e = go (plan_of r r.point.in
               (subst F (sym (take_next order r.point.index x at))
               (subst U joined (exactly_hands p d 0 (take r.point.index order) (taken ++ r.ups) x plan.index
               (let w = found.1 in let v = h.within in omega arith) h.gone)));
+          clean = λ none. (
+              sym joined ∙ ap (λ (us : List Up). us ++ parts_of p plan.index x.object) (h.clean none)
+              ∙ sym (all_parts_end p 0 plan.index (take r.point.index order) x (let w = found.1 in let v = h.within in omega arith))
+              ∙ ap (all_parts p 0) (sym (take_next order r.point.index x at))
+              ∙ ap (λ (n : ℕ). all_parts p 0 (take n order)) (let z : suc r.point.index ≡ plan.index + 1 = (let w = found.1 in omega arith) in z)
+              );
+          confirms = (
+              let D : List Up → Type 0 = λ us. Due p order us due in
+              let one : List Up = up.Object plan.index (kind_of plan.flags) (told_info r plan) (object_octets r plan) ∷ [] in
+              subst D (append_assoc taken r.ups one) (due_more p order (taken ++ r.ups) one due h.confirms)
+              );
         }
 
     object : (plan : Plan) → plan_of r r.point.index ≡ Some plan → (b : Bool) → is_whole r plan ≡ b
-        → (elim b [ true ↦ Some (next plan) | false ↦ None ]) ≡ Some after → HoldsOf p order d taken after
-    object plan is true done e = let K : Holding → Type 0 = λ s. HoldsOf p order d taken s in subst K (same_state (next plan) after e) (whole plan is done)
+        → (elim b [ true ↦ Some (next plan) | false ↦ None ]) ≡ Some after → HoldsOf p order d taken due after
+    object plan is true done e = let K : Holding → Type 0 = λ s. HoldsOf p order d taken due s in subst K (same_state (next plan) after e) (whole plan is done)
     object plan is false done e = absurd (none_state after e)
 
     not_stream : (plan : Plan) → plan_of r r.point.index ≡ Some plan → says_stream plan.flags ≡ false
@@ -313,13 +346,13 @@ hands_holding p range order d taken r after sized h e = go (plan_of r r.point.in
         of_kind (Stream parts) s f = absurd s
 
     plain : (plan : Plan) → plan_of r r.point.index ≡ Some plan → (b : Bool) → b ≡ false
-        → (elim b [ true ↦ hands_next p r plan | false ↦ hands_object r plan ]) ≡ Some after → HoldsOf p order d taken after
+        → (elim b [ true ↦ hands_next p r plan | false ↦ hands_object r plan ]) ≡ Some after → HoldsOf p order d taken due after
     plain plan is true never e = absurd (clash (sym never))
     plain plan is false never e = object plan is (is_whole r plan) refl e
 
     go : (found : Option Plan) → plan_of r r.point.index ≡ found → (elim found [
       | Some plan ↦ elim (says_stream plan.flags) [ true ↦ hands_next p r plan | false ↦ hands_object r plan ]
       | None ↦ None
-    ]) ≡ Some after → HoldsOf p order d taken after
+    ]) ≡ Some after → HoldsOf p order d taken due after
     go None is e = absurd (none_state after e)
     go (Some plan) is e = plain plan is (says_stream plan.flags) (not_stream plan is) e

@@ -5,6 +5,7 @@ pub mod RunLemmas
 pub mod LawfulLemmas
 pub mod WantRunLemmas
 pub mod TestLemmas
+pub mod Members
 pub mod SenderKeeps
 pub mod EntryLemmas
 pub mod CommandSteps
@@ -19,6 +20,7 @@ pub mod Spoken
 pub mod Feedback
 pub mod TickTrue
 pub mod Exact
+pub mod Stood
 pub mod SolvedLemmas
 pub mod PieceLemmas
 pub mod BlockLemmas
@@ -32,8 +34,20 @@ pub mod WorldMoves
 pub mod WorldTakes
 pub mod WorldLemmas
 pub mod OrderRun
+pub mod Acknowledged
+pub mod Listed
+pub mod ListRun
+pub mod Released
+pub mod NoLoss
+pub mod HoldRun
+pub mod HeldPasses
+pub mod TickNoted
+pub mod FreshRun
+pub mod ClosingLemmas
+pub mod AckHanded
+pub mod Owing
 pub mod SaidRun
-pub mod SafeRun
 pub mod CreditLemmas
 pub mod MetLemmas
 pub mod SatisfiedRun
+pub mod SafeRun

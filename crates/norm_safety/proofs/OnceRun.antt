@@ -40,11 +40,11 @@ pub record Leaves (w : World) (accepted : List Origin) (e : Event) (step : World
 
 -- the answer to a command has its place in later states as it does in the first
 placed_later : (w : World) (later : SenderState) (h : Happening) (by : Origin) (job : Job) (now : ℕ) (r : Result Receipt SendFault)
-    → h.before ≡ w → has_place w.sender.current.id later by r ≡ true → IsTrue (has_its_place later h (Commanded by job now) (Gave r))
+    → h.before ≡ w → has_place w.sender.current.id later by job r ≡ true → IsTrue (has_its_place later h (Commanded by job now) (Gave r))
 placed_later w later h by job now (Ok (receipt.Object index len)) e placed =
-    ap (λ (v : World). has_place v.sender.current.id later by (Ok (receipt.Object index len))) e ∙ placed
+    ap (λ (v : World). has_place v.sender.current.id later by job (Ok (receipt.Object index len))) e ∙ placed
 placed_later w later h by job now (Ok (receipt.Opened index)) e placed =
-    ap (λ (v : World). has_place v.sender.current.id later by (Ok (receipt.Opened index))) e ∙ placed
+    ap (λ (v : World). has_place v.sender.current.id later by job (Ok (receipt.Opened index))) e ∙ placed
 placed_later w later h by job now (Ok (receipt.Wrote index offset len)) e placed = refl
 placed_later w later h by job now (Ok (receipt.Closed index)) e placed = refl
 placed_later w later h by job now (Ok (receipt.Mark mark at)) e placed = refl
@@ -71,7 +71,7 @@ command_leaves p w accepted by job now free h =
           (once_after w.sender step.0 accepted by (is_ok step.1) free goes.origins goes.ids h);
       kept = goes.places;
       own = λ later kept. placed_later w later x by job now step.1 refl
-          (stays_placed w.sender.current.id step.0 later by step.1 kept (command_placed p w.sender by job h.ids));
+          (stays_placed w.sender.current.id step.0 later by job step.1 kept (command_placed p w.sender by job h.ids));
     }
 
 -- An event that leaves the orders, and is no command, leaves what holds so far.
@@ -171,7 +171,7 @@ run_ends p w accepted (e ∷ events) lawful h =
     record {
       accepted = rest.accepted;
       once = rest.once;
-      kept = λ id index by was. rest.kept id index by (first.kept id index by was);
+      kept = λ id index by job was. rest.kept id index by job (first.kept id index by job was);
       places = (first.own (last_world step.0 (happens p step.0 events)).sender rest.kept, rest.places);
     }
 

@@ -1,10 +1,11 @@
 -- A receiver hands up the transport order: kept by each event of a lawful run of data and files, and so at its end.
-use Rattle.std.proofs.Common.{◌≡◌, ℕ, cond, List, [], ◌∷◌, ◌++◌, Bool, true, false, Option, None, Some, refl, sym, subst, append_assoc, arith, inr}
-use Rattle.std.specs.Prelude.{map, find, ◌==◌, nat_eq, option_and_then, IsTrue, Contains}
+use Rattle.std.proofs.Common.{◌≡◌, ℕ, zero, suc, ◌+◌, ◌≤◌, cond, List, [], ◌∷◌, ◌++◌, Bool, true, false, Option, None, Some, refl, sym, subst, append_assoc, arith, inr}
+use Rattle.std.specs.Prelude.{map, find, ◌==◌, nat_eq, option_and_then, IsTrue, Contains, ⊤}
 use Rattle.std.specs.List.{AllByRecursion, IsDistinct}
 use Rattle.std.proofs.lemmas.Bool.Decides.{Decides-eqb}
 use Rattle.std.proofs.lemmas.List.{append-nil}
 use Rattle.norm_base.specs.Settings.{Settings, InRange}
+use Rattle.norm_base.specs.Member.{IsMember}
 use Rattle.norm_base.specs.Members.{receivers_of}
 use Rattle.norm_base.specs.declared.node.Origin.{Origin}
 use Rattle.norm_ext.specs.Written.{Written}
@@ -50,7 +51,7 @@ use Rattle.norm_safety.proofs.WorldMoves.{moved_world}
 use Rattle.norm_safety.proofs.WorldTakes.{behind_up, taken_world}
 
 -- what happened, an event and what it left
-abbrev happening : World → Event → World × Answer → Happening
+abbrev pub happening : World → Event → World × Answer → Happening
 happening w e step = record { before = w; event = e; answer = step.1; after = step.0 }
 
 -- ---- one event
@@ -70,9 +71,9 @@ command_holds p range past accepted w by job now may is none h =
     (said_later p w.sender after w.offered steps.onward h.offered) (said_later p w.sender after w.given steps.onward h.given) (λ node. refl) h
 
 -- where a node moved is where it was
-moved_node_is : (p : Settings) (s : SenderState) (r t : ReceiverState) → Moved p s r t → t.node ≡ r.node
+pub moved_node_is : (p : Settings) (s : SenderState) (r t : ReceiverState) → Moved p s r t → t.node ≡ r.node
 moved_node_is p s r t (Remains ids stands) = ids.node
-moved_node_is p s r t (Enters id out goes begun node instance holds) = node
+moved_node_is p s r t (Enters id out goes begun ids holds) = ids.node
 
 -- what holds of commands where the orders stay
 once_kept : (s t : SenderState) (accepted : List Origin) → Keeps s t → OnceSoFar s accepted → OnceSoFar t accepted
@@ -128,17 +129,13 @@ delivery_holds p range past accepted w node octets now draw o says same near h =
         receiver_holds p past accepted w node r (received p r octets now draw) (Delivered node octets now draw) Silent e
         (received_moves p range w.sender r o octets now draw (orders_hold p w.sender h.sender) says same close) (λ other. refl) h
 
--- what a node's tick gave is its to offer
-given_holds : (p : Settings) (past : List Happening) (accepted : List Origin) (w : World) (x : Happening) (node : ℕ) (sent : Option Written)
-    → SentTrue p w.sender sent → WorldHolds p past accepted w
-    → AllByRecursion (λ (o : ℕ × Written). SaysTrue p w.sender o.1) (with_given node sent w).given
-given_holds p past accepted w x node None says h = all_filter (λ (o : ℕ × Written). SaysTrue p w.sender o.1) _ w.given h.given
-given_holds p past accepted w x node (Some datagram) says h =
-    all_end (λ (o : ℕ × Written). SaysTrue p w.sender o.1) (given_others node w) (node, datagram)
-    (all_filter (λ (o : ℕ × Written). SaysTrue p w.sender o.1) _ w.given h.given) says
+-- what a step sends is true of a state's orders
+abbrev SaidTrue : Settings → SenderState → Option Written → Type 0
+SaidTrue p s (Some datagram) = SaysTrue p s datagram
+SaidTrue p s None = ⊤
 
 -- a receiver says nothing false
-says_nothing_false : (p : Settings) (s : SenderState) (sent : Option Written) → SendsNothingOf sent → SentTrue p s sent
+says_nothing_false : (p : Settings) (s : SenderState) (sent : Option Written) → SendsNothingOf sent → SaidTrue p s sent
 says_nothing_false p s None h = tt
 says_nothing_false p s (Some datagram) h = (inr h.0, nothing_true p s datagram.indices datagram.message h.1)
 
@@ -158,7 +155,7 @@ sender_tick_holds p range past accepted w node now h =
     said t (Some datagram) onward says =
         all_end (λ (o : ℕ × Written). SaysTrue p t o.1) (given_others p.sender w) (p.sender, datagram)
         (all_filter (λ (o : ℕ × Written). SaysTrue p t o.1) _ w.given (said_later p w.sender t w.given onward h.given))
-        (true_later p w.sender t datagram onward says)
+        (true_later p w.sender t datagram onward says.says)
 
     go : (t : SenderState) (sent : Option Written) → Steps p w.sender t → Keeps w.sender t → SentTrue p w.sender sent
         → HoldsAfter p past accepted w (Ticked node now) (with_given p.sender sent (record w { sender = t }), Sent sent)
@@ -178,7 +175,7 @@ receiver_tick_holds p past accepted w node now r found h =
     let moved : Moved p w.sender r t = same_moves p w.sender r t (tick_same p r now) in
     go t (receiver_ticked p r now).1 moved (says_nothing_false p w.sender (receiver_ticked p r now).1 (receiver_says_nothing p r now))
   where
-    go : (t : ReceiverState) (sent : Option Written) → Moved p w.sender r t → SentTrue p w.sender sent
+    go : (t : ReceiverState) (sent : Option Written) → Moved p w.sender r t → SaidTrue p w.sender sent
         → HoldsAfter p past accepted w (Ticked node now) (with_given r.node sent (with_receiver t w), Sent sent)
     go t None moved says =
         moved_world p past accepted w (with_given r.node None (with_receiver t w)) (Ticked node now) (Sent None) node r t found
@@ -201,7 +198,7 @@ tick_holds p range past accepted w node now h = go (node == p.sender) (receiver_
     go false (Some r) e = receiver_tick_holds p past accepted w node now r e h
 
 -- an element that is found is one of them
-found_holds : {X : Type 0} (P : X → Type 0) (test : X → Bool) (xs : List X) (x : X) → AllByRecursion P xs → find test xs ≡ Some x → P x
+pub found_holds : {X : Type 0} (P : X → Type 0) (test : X → Bool) (xs : List X) (x : X) → AllByRecursion P xs → find test xs ≡ Some x → P x
 found_holds {X} P test [] x all e = absurd (none x e)
   where
     none : (x : X) → None ≡ Some x → ⊥
@@ -229,7 +226,7 @@ offer_holds p past accepted w node octets h = go (find (is_of node octets) w.giv
         (all_filter (λ (o : ℕ × Written). SaysTrue p w.sender o.1) _ w.given h.given) (λ other. refl) h
 
 -- a world and the answer after a receiver's next hand-up was asked for
-abbrev taken_by : World → ReceiverState → Holding × Option Up → World × Answer
+abbrev pub taken_by : World → ReceiverState → Holding × Option Up → World × Answer
 taken_by w r step = (with_receiver (record r { holding = step.0 }) w, Took step.1)
 
 taking_holds : (p : Settings) (past : List Happening) (accepted : List Origin) (w : World) (node : ℕ) → WorldHolds p past accepted w
@@ -245,7 +242,7 @@ taking_holds p past accepted w node h = go (receiver_at w node) refl
     go None e = nothing_holds p past accepted w (UpTaken node) Silent (λ other. refl) h
     go (Some r) e = ups r e r.holding.ups refl
 
-event_holds : (p : Settings) → InRange p → (past : List Happening) (accepted : List Origin) (w : World) (e : Event) → MayCome p w accepted e → IsEvent e → IsOfObjects e
+pub event_holds : (p : Settings) → InRange p → (past : List Happening) (accepted : List Origin) (w : World) (e : Event) → MayCome p w accepted e → IsEvent e → IsOfObjects e
     → WorldHolds p past accepted w → HoldsAfter p past accepted w e (world_step p w e)
 event_holds p range past accepted w (Commanded by job now) may is of h = command_holds p range past accepted w by job now may is of h
 event_holds p range past accepted w (Delivered node datagram now draw) may is of h =
@@ -262,15 +259,22 @@ event_holds p range past accepted w NewsAsked may is of h =
 
 -- ---- a run
 
+-- the receivers are members
+receivers_are_members : (p : Settings) → InRange p → (n : ℕ) → n ≤ p.receivers → AllByRecursion IsMember (receivers_of p n)
+receivers_are_members p range zero le = tt
+receivers_are_members p range (suc n) le =
+    all_end IsMember (receivers_of p n) (p.sender + 1 + n) (receivers_are_members p range n (omega arith))
+    (omega arith, omega (arith, range.sender.1, range.receivers.1))
+
 -- no node came to an instance, as a world begins
-none_yet : (p : Settings) (nodes : List ℕ) (node : ℕ) → AtNode p (sender_opening p p.instance) [] node (find (λ (r : ReceiverState). r.node == node) (map receiver_opening nodes))
+none_yet : (p : Settings) (nodes : List ℕ) (node : ℕ) → AllByRecursion IsMember nodes → AtNode p (sender_opening p p.instance) [] node (find (λ (r : ReceiverState). r.node == node) (map receiver_opening nodes))
 unfolding IsDistinct came_to
-none_yet p [] node = record { came = refl }
-none_yet p (n ∷ nodes) node = go (n == node) refl (none_yet p nodes node)
+none_yet p [] node all = record { came = refl }
+none_yet p (n ∷ nodes) node all = go (n == node) refl (none_yet p nodes node all.1)
   where
     go : (b : Bool) → (n == node) ≡ b → AtNode p (sender_opening p p.instance) [] node (find (λ (r : ReceiverState). r.node == node) (map receiver_opening nodes))
         → AtNode p (sender_opening p p.instance) [] node (cond b (Some (receiver_opening n)) (find (λ (r : ReceiverState). r.node == node) (map receiver_opening nodes)))
-    go true e more = record { here = (Decides-eqb n node).0 e; came = refl; once = tt; stands = refl; never = λ id above. refl }
+    go true e more = record { here = (Decides-eqb n node).0 e; member = all.0; sequence = omega arith; came = refl; once = tt; stands = (refl, tt); never = λ id above. refl }
     go false e more = more
 
 none_in : (nodes : List ℕ) (node : ℕ) → instance_of (find (λ (r : ReceiverState). r.node == node) (map receiver_opening nodes)) ≡ None
@@ -282,14 +286,14 @@ none_in (n ∷ nodes) node = go (n == node) (none_in nodes node)
     go true more = refl
     go false more = more
 
-opening_world : (p : Settings) → InRange p → WorldHolds p [] [] (world_opening p)
+pub opening_world : (p : Settings) → InRange p → WorldHolds p [] [] (world_opening p)
 unfolding IsDistinct
 opening_world p range = record {
   sender = opening_holds p range;
   once = record { differ = tt; ids = (tt, tt); low = (omega arith, tt); known = tt };
   offered = tt;
   given = tt;
-  nodes = λ node. none_yet p (receivers_of p p.receivers) node;
+  nodes = λ node. none_yet p (receivers_of p p.receivers) node (receivers_are_members p range p.receivers (omega arith));
   through = λ node id. record { count = 0; within = omega arith; exactly = refl };
   latest = λ node. sym (none_in (receivers_of p p.receivers) node);
 }

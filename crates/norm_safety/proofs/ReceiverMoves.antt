@@ -1,10 +1,11 @@
 -- What an event does to a receiver: it keeps what is held, or leaves its instance for one that it never was in.
-use Rattle.std.proofs.Common.{◌≡◌, ℕ, ◌+◌, ◌<◌, ◌≤◌, List, [], ◌∷◌, Bool, true, false, Option, None, Some, Result, Ok, Err, refl, sym, ap, ◌∙◌, subst, arith, ◌⊎◌, inl, inr}
-use Rattle.std.specs.Prelude.{◌==◌, ◌&&◌, not, nat_le, flat_map, unwrap_or, option_and_then}
+use Rattle.std.proofs.Common.{◌≡◌, ℕ, ◌+◌, ◌%◌, ◌<◌, ◌≤◌, List, [], ◌∷◌, Bool, true, false, Option, None, Some, Result, Ok, Err, refl, sym, ap, ◌∙◌, subst, arith, ◌⊎◌, inl, inr}
+use Rattle.std.specs.Prelude.{◌==◌, ◌&&◌, not, nat_le, flat_map, unwrap_or, option_and_then, ◌++◌, IfSome, if◌then◌else◌, IsTrue}
 use Rattle.std.specs.Option.{option_map}
 use Rattle.std.proofs.lemmas.Bool.Decides.{Decides-eqb, leb_tells}
+use Rattle.std.proofs.Math.Nat.{mod-lt}
 use Rattle.norm_base.specs.Settings.{Settings, InRange}
-use Rattle.fec_plan.specs.Points.{Point, point}
+use Rattle.fec_plan.specs.Points.{Point, point, position, position_before, further}
 use Rattle.fec_plan.specs.declared.position.Position.{Position}
 use Rattle.norm_ext.specs.ObjectIds.{object_id, index_named}
 use Rattle.norm_ext.specs.Written.{Written, writes}
@@ -14,9 +15,12 @@ use Rattle.norm_ext.specs.Reading.{decoded}
 use Rattle.norm_ext.specs.Requests.{Request}
 use Rattle.norm_ext.specs.declared.refusal.Refusal.{Refusal}
 use Rattle.norm_order.specs.Entries.{Entry}
+use Rattle.norm_order.specs.Shapes.{shapes_of, is_source}
+use Rattle.norm_order.specs.Upto.{all_parts}
 use Rattle.norm_order.specs.declared.up.Up.{Up}
 use Rattle.norm_receive_rules.specs.Holding.{Holding}
-use Rattle.norm_receive_rules.specs.ReceiverState.{ReceiverState}
+use Rattle.norm_receive_rules.specs.Acknowledging.{lost_nothing, has_handed_up, names_this, flushed, acknowledges}
+use Rattle.norm_receive_rules.specs.ReceiverState.{ReceiverState, Knowledge}
 use Rattle.norm_receive_rules.specs.Needs.{Need}
 use Rattle.norm_receive_rules.specs.AllNeeds.{needs, needs_nothing}
 use Rattle.norm_receive_rules.specs.Leaving.{is_in, goes_to, enters, entered}
@@ -36,34 +40,52 @@ use Rattle.norm_safety.proofs.Feedback.{SaysNothing}
 use Rattle.norm_safety.specs.Lawful.{receiver_knows, most_apart, is_near, are_near}
 use Rattle.norm_safety.specs.Said.{about}
 use Rattle.norm_safety.specs.SaysSymbols.{SaysSymbol, SaysInfo}
-use Rattle.norm_safety.proofs.Holding.{HoldsOf, ReceiverHolds}
+use Rattle.norm_safety.specs.SaysPositions.{flushes_source}
+use Rattle.norm_safety.proofs.Stood.{Stood, Due, stood_before, earlier_index}
+use Rattle.norm_safety.proofs.Holding.{HoldsOf, ReceiverHolds, asks_due}
 use Rattle.norm_safety.proofs.ReceiverHolds.{data_holding, info_is_holding, squelch_holding}
 
 -- ---- what leaves what is held
 
--- the same node in the same instance holds and handed up the same
-pub record SameHeld (r s : ReceiverState) : Type 0 where
+-- the same node in the same instance holds and handed up the same; the acknowledgement that is due is the same, or none; and the
+-- sequence number has 16 bits where it had
+pub record SameHeld (r s : ReceiverState) : Type 1 where
   pub node : s.node ≡ r.node
   pub instance : s.instance ≡ r.instance
   pub holding : s.holding ≡ r.holding
+  pub due : (Claim : Position → Type 0) → IfSome r.knows.due Claim → IfSome s.knows.due Claim
+  pub sequence : r.sequence < 65536 → s.sequence < 65536
 
 pub held_same : (r : ReceiverState) → SameHeld r r
-held_same r = record { node = refl; instance = refl; holding = refl }
+held_same r = record { node = refl; instance = refl; holding = refl; due = λ Claim h. h; sequence = λ n. n }
 
 pub same_holding : (p : Settings) (order : List Entry) (d : ℕ) (taken : List Up) (r s : ReceiverState) → SameHeld r s
     → ReceiverHolds p order d taken r → ReceiverHolds p order d taken s
-same_holding p order d taken r s same h = let H : Holding → Type 0 = λ holding. HoldsOf p order d taken holding in subst H (sym same.holding) h
+same_holding p order d taken r s same h =
+    let H : Holding → Type 0 = λ holding. HoldsOf p order d taken s.knows.due holding in
+    subst H (sym same.holding)
+    (asks_due p order d taken r.knows.due s.knows.due r.holding (same.due (Stood p order (taken ++ r.holding.ups)) h.confirms) h)
 
-need_same : (p : Settings) (now draw : ℕ) (r : ReceiverState) → SameHeld r (may_need p now draw r)
+pub need_same : (p : Settings) (now draw : ℕ) (r : ReceiverState) → SameHeld r (may_need p now draw r)
 need_same p now draw r = go (may_back_off now r.knows) (needs_nothing p r)
   where
     go : (b c : Bool) → SameHeld r (elim b [ true ↦ elim c [ true ↦ r | false ↦ record r { knows = backs_off p now draw r.knows } ] | false ↦ r ])
     go true true = held_same r
-    go true false = record { node = refl; instance = refl; holding = refl }
+    go true false = record { node = refl; instance = refl; holding = refl; due = λ Claim h. h; sequence = λ n. n }
     go false c = held_same r
 
 overhears_same : (p : Settings) (requests : List Request) (r : ReceiverState) → SameHeld r (overheard p requests r)
-overhears_same p requests r = record { node = refl; instance = refl; holding = refl }
+overhears_same p requests r = go r.knows.backoff _ refl
+  where
+    go : (backoff : Option ℕ) (k : Knowledge) → k.due ≡ r.knows.due → SameHeld r (record r { knows = elim backoff [ Some ends ↦ k | None ↦ r.knows ] })
+    go (Some ends) k e = record {
+      node = refl;
+      instance = refl;
+      holding = refl;
+      due = λ Claim h. (let C : Option Position → Type 0 = λ due. IfSome due Claim in subst C (sym e) h);
+      sequence = λ n. n;
+    }
+    go None k e = held_same r
 
 where_same : (b : Bool) (r s : ReceiverState) → SameHeld r s → SameHeld r (elim b [ true ↦ s | false ↦ r ])
 where_same true r s h = h
@@ -80,8 +102,8 @@ tick_same p r now = due r.knows.due
       | true ↦ (record s { knows = holds_off p now s.knows }, None)
       | false ↦ sends (writes (nack_message p s wanted) (flat_map indices_of wanted)) (record s { knows = holds_off p now s.knows })
     ]))
-    asked wanted s h true = record { node = h.node; instance = h.instance; holding = h.holding }
-    asked wanted s h false = record { node = h.node; instance = h.instance; holding = h.holding }
+    asked wanted s h true = record { node = h.node; instance = h.instance; holding = h.holding; due = h.due; sequence = h.sequence }
+    asked wanted s h false = record { node = h.node; instance = h.instance; holding = h.holding; due = h.due; sequence = λ n. mod-lt (s.sequence + 1) (omega arith) }
 
     needed : (s : ReceiverState) → SameHeld r s → (none : Bool) → SameHeld r (state_of (elim none [
       | true ↦ (s, None)
@@ -100,37 +122,38 @@ tick_same p r now = due r.knows.due
     ]))
     backed None = held_same r
     backed (Some ends) = ended (record r { knows = record (r.knows) { backoff = None } })
-        (record { node = refl; instance = refl; holding = refl }) (nat_le ends now)
+        (record { node = refl; instance = refl; holding = refl; due = λ Claim h. h; sequence = λ n. n }) (nat_le ends now)
 
     due : (at : Option Position) → SameHeld r (state_of (elim at [
       | Some at ↦ sends (writes (ack_message p r at) (at.index ∷ [])) (record r { knows = record (r.knows) { due = None } })
       | None ↦ ends_back_off p now r
     ]))
     due None = backed r.knows.backoff
-    due (Some at) = record { node = refl; instance = refl; holding = refl }
+    due (Some at) = record { node = refl; instance = refl; holding = refl; due = λ Claim h. tt; sequence = λ n. mod-lt (r.sequence + 1) (omega arith) }
 
 -- ---- what keeps node and instance
 
 pub record SameIds (r s : ReceiverState) : Type 0 where
   pub node : s.node ≡ r.node
   pub instance : s.instance ≡ r.instance
+  pub sequence : r.sequence < 65536 → s.sequence < 65536
 
 ids_same : (r : ReceiverState) → SameIds r r
-ids_same r = record { node = refl; instance = refl }
+ids_same r = record { node = refl; instance = refl; sequence = λ n. n }
 
 ids_both : (a b c : ReceiverState) → SameIds a b → SameIds b c → SameIds a c
-ids_both a b c h g = record { node = g.node ∙ h.node; instance = g.instance ∙ h.instance }
+ids_both a b c h g = record { node = g.node ∙ h.node; instance = g.instance ∙ h.instance; sequence = λ n. g.sequence (h.sequence n) }
 
 held_ids : (r s : ReceiverState) → SameHeld r s → SameIds r s
-held_ids r s h = record { node = h.node; instance = h.instance }
+held_ids r s h = record { node = h.node; instance = h.instance; sequence = h.sequence }
 
 -- ---- what a datagram does
 
 -- What holds of a receiver, with what it handed up before in each instance: where it is in one, what it holds is of that
--- instance's order; where it is in none, nothing waits to be handed up.
+-- instance's order; where it is in none, nothing waits to be handed up or is to be acknowledged.
 abbrev pub StandingIn : Settings → SenderState → (ℕ → List Up) → ReceiverState → Option ℕ → Type 0
 StandingIn p s taken r (Some id) = ReceiverHolds p (order_of s id) (drop_of s id).index (taken id) r
-StandingIn p s taken r None = r.holding.ups ≡ []
+StandingIn p s taken r None = (r.holding.ups ≡ []) × IfSome r.knows.due (λ at. ⊥)
 
 -- by the instance that it is in
 abbrev pub Standing : Settings → SenderState → (ℕ → List Up) → ReceiverState → Type 0
@@ -139,7 +162,7 @@ Standing p s taken r = StandingIn p s taken r r.instance
 -- A receiver stays in its instance, and holds what it should; or it goes on to another, which the sender began.
 pub data Moved (p : Settings) (s : SenderState) (r : ReceiverState) : ReceiverState → Type 0 where
   Remains : {t : ReceiverState} → SameIds r t → ((taken : ℕ → List Up) → Standing p s taken r → Standing p s taken t) → Moved p s r t
-  Enters : {t : ReceiverState} (id : ℕ) → is_in r id ≡ false → goes_to r id ≡ true → IsBegun p id → t.node ≡ r.node → t.instance ≡ Some id
+  Enters : {t : ReceiverState} (id : ℕ) → is_in r id ≡ false → goes_to r id ≡ true → IsBegun p id → SameIds (enters id r) t
       → ReceiverHolds p (order_of s id) (drop_of s id).index [] t → Moved p s r t
 
 same_stands : (p : Settings) (s : SenderState) (taken : ℕ → List Up) (r t : ReceiverState) → SameHeld r t → Standing p s taken r → Standing p s taken t
@@ -147,7 +170,7 @@ same_stands p s taken r t same h =
     let S : Option ℕ → Type 0 = λ instance. StandingIn p s taken t instance in subst S (sym same.instance) (go r.instance h)
   where
     go : (instance : Option ℕ) → StandingIn p s taken r instance → StandingIn p s taken t instance
-    go None h = ap (λ (holding : Holding). holding.ups) same.holding ∙ h
+    go None h = (ap (λ (holding : Holding). holding.ups) same.holding ∙ h.0, same.due (λ at. ⊥) h.1)
     go (Some id) h = same_holding p (order_of s id) (drop_of s id).index (taken id) r t same h
 
 pub same_moves : (p : Settings) (s : SenderState) (r t : ReceiverState) → SameHeld r t → Moved p s r t
@@ -163,6 +186,7 @@ in_instance_is r id e = go r.instance e
 
 -- a receiver that enters an instance holds nothing of it
 entering_holds : (p : Settings) (order : List Entry) (d : ℕ) (id : ℕ) (r : ReceiverState) → ReceiverHolds p order d [] (enters id r)
+unfolding all_parts
 entering_holds p order d id r = record {
   plans = tt;
   symbols = tt;
@@ -172,10 +196,47 @@ entering_holds p order d id r = record {
   symbol = refl;
   within = omega arith;
   gone = refl;
+  clean = λ none. refl;
+  confirms = tt;
 }
 
+-- What a flush of a source symbol makes due was handed up with everything before it: all objects before the hand-up point were.
+flush_holding : (p : Settings) (order : List Entry) (d : ℕ) (taken : List Up) (at : Position) (nodes : List ℕ) (r : ReceiverState)
+    → is_source (shapes_of p order) at ≡ true → ReceiverHolds p order d taken r
+    → ReceiverHolds p order d taken (record r { knows = flushed at (acknowledges r at nodes) r.knows })
+flush_holding p order d taken at nodes r source h =
+    asks_due p order d taken r.knows.due _ r.holding (go (acknowledges r at nodes) refl) h
+  where
+    both : (a b : Bool) → (a && b) ≡ true → (a ≡ true) × (b ≡ true)
+    both true b e = (refl, e)
+    both false b e = absurd (clash e)
+
+    nothing : (lost : List ℕ) → (elim lost [ [] ↦ true | index ∷ more ↦ false ]) ≡ true → lost ≡ []
+    nothing [] e = refl
+    nothing (index ∷ more) e = absurd (clash e)
+
+    stood : acknowledges r at nodes ≡ true → Stood p order (taken ++ r.holding.ups) at
+    stood e =
+        let handed = both (position_before at r.holding.point) (lost_nothing r.holding) (both (names_this r nodes) (has_handed_up r.holding at) e).1 in
+        stood_before p order r.holding.point.index (taken ++ r.holding.ups) at source
+        (earlier_index at r.holding.point h.block h.symbol handed.0) (h.clean (nothing r.holding.lost handed.1))
+
+    further_due : (due : Option Position) → Stood p order (taken ++ r.holding.ups) at → Due p order (taken ++ r.holding.ups) due
+        → Due p order (taken ++ r.holding.ups) (further at due)
+    further_due None now was = now
+    further_due (Some other) now was = by_order (position_before other at)
+      where
+        by_order : (b : Bool) → Due p order (taken ++ r.holding.ups) (if b then Some at else Some other)
+        by_order true = now
+        by_order false = was
+
+    go : (b : Bool) → acknowledges r at nodes ≡ b
+        → Due p order (taken ++ r.holding.ups) (elim b [ true ↦ further at r.knows.due | false ↦ r.knows.due ])
+    go true e = further_due r.knows.due (stood e) h.confirms
+    go false e = h.confirms
+
 -- the state in which an index is known
-abbrev knowing : ℕ → ReceiverState → ReceiverState
+abbrev pub knowing : ℕ → ReceiverState → ReceiverState
 knowing index r = record r { knows = learns index r.knows }
 
 pub le_true : (a b : ℕ) → nat_le a b ≡ true → a ≤ b
@@ -186,7 +247,7 @@ le_true a b e = go (leb_tells a b)
     go (inr tells) = absurd (clash (sym tells.0 ∙ e))
 
 -- the id of an index near what is known names that index
-near_named : (p : Settings) (known object index : ℕ) → object ≡ object_id p index → index ≤ 4294967294 → are_near (Some known) (index ∷ []) ≡ true
+pub near_named : (p : Settings) (known object index : ℕ) → object ≡ object_id p index → index ≤ 4294967294 → are_near (Some known) (index ∷ []) ≡ true
     → index_named p known object ≡ Some index
 near_named p known object index id most near =
     let one = both (is_near known index) true near in
@@ -199,7 +260,7 @@ near_named p known object index id most near =
     both false b e = absurd (clash e)
 
 -- what is known of an instance that is entered
-abbrev known_in : Option ReceiverState → Option ℕ
+abbrev pub known_in : Option ReceiverState → Option ℕ
 known_in found = option_map (λ (s : ReceiverState). s.knows.known) found
 
 -- a message of the sender in an instance whose order it is true of, where its id names the index that it was written for
@@ -216,7 +277,7 @@ instance_moves p s now draw source id object index brings r begun named most nea
 
     after_ids : (t : ReceiverState) → SameIds t (may_need p now draw (brings index (knowing index t)))
     after_ids t =
-        let k : SameIds t (knowing index t) = record { node = refl; instance = refl } in
+        let k : SameIds t (knowing index t) = record { node = refl; instance = refl; sequence = λ n. n } in
         ids_both t (knowing index t) _ k (ids_both (knowing index t) (brings index (knowing index t)) _ (same (knowing index t))
         (held_ids (brings index (knowing index t)) _ (need_same p now draw (brings index (knowing index t)))))
 
@@ -258,7 +319,7 @@ instance_moves p s now draw source id object index brings r begun named most nea
     go true false true e f close =
         let ids = after_ids (enters id r) in
         in_state (enters id r) close
-        (Enters id e f begun ids.node ids.instance (after_holds [] (enters id r) (entering_holds p (order_of s id) (drop_of s id).index id r)))
+        (Enters id e f begun ids (after_holds [] (enters id r) (entering_holds p (order_of s id) (drop_of s id).index id r)))
 
 -- what is said of nothing that is held
 quiet_moves : (p : Settings) (s : SenderState) (r : ReceiverState) (now draw : ℕ) (said : Result Message Refusal) → SaysNothing said
@@ -289,9 +350,6 @@ message_moves : (p : Settings) → InRange p → (s : SenderState) (r : Receiver
     → (m : Message) → IsTrueOf p s indices m → are_near (receiver_knows r m) indices ≡ true → Moved p s r (message_received {E = Refusal} p now draw (Ok m) r)
 message_moves p range s r indices now draw orders = go
   where
-    flushed_same : (m : FlushCommand) (index : ℕ) (t : ReceiverState) → SameHeld t (flush_received m index t)
-    flushed_same m index t = record { node = refl; instance = refl; holding = refl }
-
     not_above : (a b : Point) → (b.index < a.index) ⊎ ((b.index ≡ a.index) × (b.block ≤ a.block)) → b.index ≤ a.index
     not_above a b (inl lt) = omega arith
     not_above a b (inr same) = (let e = same.0 in omega arith)
@@ -313,8 +371,8 @@ message_moves p range s r indices now draw orders = go
         let is = subst S speaks.alone says in
         instance_moves p s now draw m.head.source id m.head.object index (info_received p m) r speaks.begun speaks.named speaks.most
         (near_of (known_in (entered r id)) index speaks.alone near)
-        (λ t. record { node = refl; instance = refl })
-        (λ taken t h. info_is_holding p range (order_of s id) (drop_of s id).index taken m index t.holding (orders.sized id) is h)
+        (λ t. record { node = refl; instance = refl; sequence = λ n. n })
+        (λ taken t h. info_is_holding p range (order_of s id) (drop_of s id).index taken t.knows.due m index t.holding (orders.sized id) is h)
     go (Data m) (speaks, says) near =
         let id : ℕ = m.head.instance in
         let index : ℕ = speaks.index in
@@ -322,23 +380,24 @@ message_moves p range s r indices now draw orders = go
         let is = subst S speaks.alone says in
         instance_moves p s now draw m.head.source id m.head.object index (data_received p m) r speaks.begun speaks.named speaks.most
         (near_of (known_in (entered r id)) index speaks.alone near)
-        (λ t. record { node = refl; instance = refl })
-        (λ taken t h. data_holding p range (order_of s id) (drop_of s id).index taken m index t.holding (orders.sized id) is h)
+        (λ t. record { node = refl; instance = refl; sequence = λ n. n })
+        (λ taken t h. data_holding p range (order_of s id) (drop_of s id).index taken t.knows.due m index t.holding (orders.sized id) is h)
     go (Flush m) (speaks, says) near =
         let id : ℕ = m.head.instance in
         let index : ℕ = speaks.index in
-        let same = λ (t : ReceiverState). flushed_same m index t in
+        let S : List ℕ → Type 0 = λ xs. IsTrue (flushes_source p s (about xs m)) in
+        let source = subst S speaks.alone says in
         instance_moves p s now draw m.head.source id m.object index (flush_received m) r speaks.begun speaks.named speaks.most
-        (near_of (known_in (entered r id)) index speaks.alone near) (λ t. record { node = refl; instance = refl })
-        (λ taken t h. same_holding p (order_of s id) (drop_of s id).index taken t (flush_received m index t) (same t) h)
+        (near_of (known_in (entered r id)) index speaks.alone near) (λ t. record { node = refl; instance = refl; sequence = λ n. n })
+        (λ taken t h. flush_holding p (order_of s id) (drop_of s id).index taken (position index m.id.block m.id.symbol) m.nodes t source h)
     go (Squelch m) (speaks, says) near =
         let id : ℕ = m.head.instance in
         let index : ℕ = speaks.index in
         let S : List ℕ → Type 0 = λ xs. SquelchesDropped s (about xs m) in
         let is = subst S speaks.alone says in
         instance_moves p s now draw m.head.source id m.object index (squelch_received p m) r speaks.begun speaks.named speaks.most
-        (near_of (known_in (entered r id)) index speaks.alone near) (λ t. record { node = refl; instance = refl })
-        (λ taken t h. squelch_holding p range (order_of s id) (drop_of s id).index taken m index t.holding (orders.sized id) (orders.within id)
+        (near_of (known_in (entered r id)) index speaks.alone near) (λ t. record { node = refl; instance = refl; sequence = λ n. n })
+        (λ taken t h. squelch_holding p range (order_of s id) (drop_of s id).index taken t.knows.due m index t.holding (orders.sized id) (orders.within id)
         (dropped_to m index is) is.3 h)
     go (RepairAdv m) says near = quiet_moves p s r now draw (Ok (RepairAdv m)) tt
     go (Nack m) says near = quiet_moves p s r now draw (Ok (Nack m)) tt

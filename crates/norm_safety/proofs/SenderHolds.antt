@@ -107,7 +107,7 @@ abbrev pub entries_in : Option Instance → List Entry
 entries_in found = elim found [ Some i ↦ i.order | None ↦ [] ]
 
 -- no more objects go than there are
-goes_within : (p : Settings) (size : ℕ) (entries : List Entry) → has_to_go p size entries ≤ length entries
+pub goes_within : (p : Settings) (size : ℕ) (entries : List Entry) → has_to_go p size entries ≤ length entries
 unfolding has_to_go
 goes_within p size [] = omega arith
 goes_within p size (entry ∷ entries) = go (has_room p size (entry ∷ entries)) (goes_within p size entries)
@@ -270,7 +270,7 @@ command_steps p range s by job now is none h =
           holds = steady_holds p s t same (same.asked (is_source (shapes_of p s.current.order)) last h.asked) wants h;
           onward = steady_onward p s t same;
         }
-    go t (Joins kind info octets sized few) wants = record {
+    go t (Joins kind info octets sized few room) wants = record {
       holds = joins_holds p by (Whole kind info octets) s sized few wants h;
       onward = joins_onward p by (Whole kind info octets) s h.block;
     }

@@ -11,6 +11,10 @@ use Rattle.norm_ext.specs.Message.{Message, Info, Data, Flush, Eot, Squelch, Rep
 use Rattle.norm_ext.specs.Asking.{item_named}
 use Rattle.norm_ext.specs.Reading.{decoded}
 use Rattle.norm_ext.specs.Requests.{Request}
+use Rattle.fec_plan.specs.Points.{position_before, same_position}
+use Rattle.fec_plan.proofs.PositionLemmas.{positions_same, position_itself}
+use Rattle.norm_order.specs.Sets.{is_member, with_member}
+use Rattle.norm_order.proofs.SetLemmas.{self_in, others_in, positions}
 use Rattle.norm_order.specs.Shapes.{is_source}
 use Rattle.norm_send_rules.specs.SenderState.{Listing, SenderState, Watermark}
 use Rattle.norm_send_rules.specs.InWindow.{last_index, current_shapes}
@@ -22,11 +26,15 @@ use Rattle.norm_send_rules.specs.Sending.{behind, noted}
 use Rattle.norm_send_rules.specs.Flushing.{expired}
 use Rattle.norm_send_rules.specs.Ticking.{closed_where_due, ticked}
 use Rattle.norm_send_rules.specs.Telling.{told, past_news, done_news, listing_of}
+use Rattle.norm_safety.proofs.Members.{Strikes, all_stay, strikes_on, same_members, one_struck}
 use Rattle.norm_send_rules.proofs.TickLemmas.{TickKeeps, closed_keep, tick_keeps}
 use Rattle.norm_send_rules.specs.declared.news.Outcome.{Outcome}
 use Rattle.norm_send_rules.specs.declared.news.News.{News}
 use Rattle.norm_send_rules.specs.declared.want.Want.{Want}
 use Rattle.norm_send_rules.specs.declared.want.Want.TheVariants.{Info as WantedInfo, Symbol}
+
+clash : false ≡ true → ⊥
+clash e = cc
 
 -- the commands of watermarks
 abbrev pub bys : List Watermark → List Origin
@@ -45,7 +53,8 @@ abbrev pub FewNodes : List Listing → Type 0
 FewNodes listings = AllByRecursion (λ id. id < 4294967296) (nodes_in listings)
 
 -- A later state has the instances, orders and drop points of an earlier one; its members' ids have 32 bits where those had;
--- its watermarks are of the same commands, and open only where they were; and its sequence number has 16 bits where that had.
+-- its watermarks are of the same commands, and open only where they were; its sequence number has 16 bits where that had; and its
+-- members are those of the earlier one that were not struck since, and what was sent counts as sent.
 pub record Keeps (old new : SenderState) : Type 0 where
   pub earlier : new.earlier ≡ old.earlier
   pub current : new.current ≡ old.current
@@ -53,12 +62,25 @@ pub record Keeps (old new : SenderState) : Type 0 where
   pub nodes : FewNodes old.listings → FewNodes new.listings
   pub sequence : old.sequence < 65536 → new.sequence < 65536
   pub asked : (test : Position → Bool) → AllOpen test old.watermarks → AllOpen test new.watermarks
+  pub strikes : Strikes old.listings new.listings old.struck new.struck
+  pub sent : (at : Position) → is_member position_before at old.sent ≡ true → is_member position_before at new.sent ≡ true
+
+-- what is a member stays one
+member_stays : (other at : Position) (sent : List Position) → is_member position_before other sent ≡ true → is_member position_before other (with_member position_before at sent) ≡ true
+member_stays other at sent h = go (same_position other at) refl
+  where
+    differs : same_position other at ≡ false → other ≡ at → ⊥
+    differs e same = clash (sym e ∙ ap (λ (x : Position). same_position x at) same ∙ position_itself at)
+
+    go : (b : Bool) → same_position other at ≡ b → is_member position_before other (with_member position_before at sent) ≡ true
+    go true e = ap (λ (x : Position). is_member position_before x (with_member position_before at sent)) (positions_same other at e) ∙ self_in position_before at sent positions
+    go false e = others_in position_before other at sent positions (differs e) ∙ h
 
 pub keeps_all : (s : SenderState) → Keeps s s
-keeps_all s = record { earlier = refl; current = refl; by = refl; nodes = λ few. few; sequence = λ h. h; asked = λ test all. all }
+keeps_all s = record { earlier = refl; current = refl; by = refl; nodes = λ few. few; sequence = λ h. h; asked = λ test all. all; strikes = all_stay _ _; sent = λ at h. h }
 
 pub keeps_on : (a b c : SenderState) → Keeps a b → Keeps b c → Keeps a c
-keeps_on a b c h g = record { earlier = g.earlier ∙ h.earlier; current = g.current ∙ h.current; by = g.by ∙ h.by; nodes = λ few. g.nodes (h.nodes few); sequence = λ n. g.sequence (h.sequence n); asked = λ test all. g.asked test (h.asked test all) }
+keeps_on a b c h g = record { earlier = g.earlier ∙ h.earlier; current = g.current ∙ h.current; by = g.by ∙ h.by; nodes = λ few. g.nodes (h.nodes few); sequence = λ n. g.sequence (h.sequence n); asked = λ test all. g.asked test (h.asked test all); strikes = strikes_on a.listings b.listings c.listings a.struck b.struck c.struck h.strikes g.strikes; sent = λ at n. g.sent at (h.sent at n) }
 
 -- the position of a watermark
 abbrev pub mark_position : Watermark → Position
@@ -104,11 +126,13 @@ ends_keeps test outcome s = record {
   nodes = λ few. few;
   sequence = λ h. h;
   asked = λ asks all. ended_open asks test outcome s.watermarks all;
+  strikes = all_stay _ _;
+  sent = λ at h. h;
 }
 
 anew : (b : Bool) (old new : SenderState) → Keeps old new → Keeps old (elim b [ true ↦ new | false ↦ record new { flushes = 0 } ])
 anew true old new h = h
-anew false old new h = record { earlier = h.earlier; current = h.current; by = h.by; nodes = h.nodes; sequence = h.sequence; asked = h.asked }
+anew false old new h = record { earlier = h.earlier; current = h.current; by = h.by; nodes = h.nodes; sequence = h.sequence; asked = h.asked; strikes = h.strikes; sent = h.sent }
 
 pub counted_keeps : (before old new : SenderState) → Keeps old new → Keeps old (counted_anew before new)
 counted_keeps before old new h = anew (keeps_oldest before new) old new h
@@ -118,7 +142,7 @@ settled_keeps old new h = keeps_on old new (settled new) h (ends_keeps _ _ new)
 
 joined_keeps : (p : Settings) (s : SenderState) (now : ℕ) (requests : List Request) → Keeps s (joined_round p s now requests)
 joined_keeps p s now [] = keeps_all s
-joined_keeps p s now (r ∷ requests) = record { earlier = refl; current = refl; by = refl; nodes = λ few. few; sequence = λ h. h; asked = λ test all. all }
+joined_keeps p s now (r ∷ requests) = record { earlier = refl; current = refl; by = refl; nodes = λ few. few; sequence = λ h. h; asked = λ test all. all; strikes = all_stay _ _; sent = λ at h. h }
 
 where_true : (b : Bool) (s new : SenderState) → Keeps s new → Keeps s (elim b [ true ↦ new | false ↦ s ])
 where_true true s new h = h
@@ -145,6 +169,8 @@ credited_keeps node at s = where_true (rises node at s) s _
       nodes = (let N : List ℕ → Type 0 = λ ids. AllByRecursion (λ id. id < 4294967296) ids in subst N (sym (listed_nodes node at s.listings)));
       sequence = λ h. h;
       asked = λ test all. all;
+      strikes = same_members s.listings (map (listed_past node at) s.listings) s.struck (listed_nodes node at s.listings);
+      sent = λ other h. h;
     })))
 
 credited_at_keeps : (p : Settings) (node : ℕ) (at : Position) (s : SenderState) → Keeps s (credited_at p node at s)
@@ -186,8 +212,8 @@ heard_keeps p s bytes now = message_keeps p s now (decoded bytes)
 -- ---- a tick
 
 noted_keeps : (w : Want) (s : SenderState) → Keeps s (noted w s)
-noted_keeps (WantedInfo index) s = record { earlier = refl; current = refl; by = refl; nodes = λ few. few; sequence = λ h. h; asked = λ test all. all }
-noted_keeps (Symbol at) s = record { earlier = refl; current = refl; by = refl; nodes = λ few. few; sequence = λ h. h; asked = λ test all. all }
+noted_keeps (WantedInfo index) s = record { earlier = refl; current = refl; by = refl; nodes = λ few. few; sequence = λ h. h; asked = λ test all. all; strikes = all_stay _ _; sent = λ at h. h }
+noted_keeps (Symbol at) s = record { earlier = refl; current = refl; by = refl; nodes = λ few. few; sequence = λ h. h; asked = λ test all. all; strikes = all_stay _ _; sent = λ other h. member_stays other at s.sent h }
 
 pub expired_keeps : (mark : ℕ) (s : SenderState) → Keeps s (expired mark s)
 expired_keeps mark s = counted_keeps s s _ (ends_keeps _ _ s)
@@ -195,15 +221,15 @@ expired_keeps mark s = counted_keeps s s _ (ends_keeps _ _ s)
 -- What each small step of a tick keeps.
 small_steps : (p : Settings) (old : SenderState) → TickKeeps p (Keeps old)
 small_steps p old = record {
-  closes = λ s r h. keeps_on old s (round_closed p r s) h (record { earlier = refl; current = refl; by = refl; nodes = λ few. few; sequence = λ n. n; asked = λ test all. all });
-  squelched = λ s h. keeps_on old s (record s { squelch_due = false }) h (record { earlier = refl; current = refl; by = refl; nodes = λ few. few; sequence = λ n. n; asked = λ test all. all });
-  repaired = λ s w wants e h. keeps_on old s (record s { wants = wants }) h (record { earlier = refl; current = refl; by = refl; nodes = λ few. few; sequence = λ n. n; asked = λ test all. all });
-  goes_on = λ s w e h. keeps_on old s (record s { next = behind w }) h (record { earlier = refl; current = refl; by = refl; nodes = λ few. few; sequence = λ n. n; asked = λ test all. all });
+  closes = λ s r h. keeps_on old s (round_closed p r s) h (record { earlier = refl; current = refl; by = refl; nodes = λ few. few; sequence = λ n. n; asked = λ test all. all; strikes = all_stay _ _; sent = λ at h. h });
+  squelched = λ s h. keeps_on old s (record s { squelch_due = false }) h (record { earlier = refl; current = refl; by = refl; nodes = λ few. few; sequence = λ n. n; asked = λ test all. all; strikes = all_stay _ _; sent = λ at h. h });
+  repaired = λ s w wants e h. keeps_on old s (record s { wants = wants }) h (record { earlier = refl; current = refl; by = refl; nodes = λ few. few; sequence = λ n. n; asked = λ test all. all; strikes = all_stay _ _; sent = λ at h. h });
+  goes_on = λ s w e h. keeps_on old s (record s { next = behind w }) h (record { earlier = refl; current = refl; by = refl; nodes = λ few. few; sequence = λ n. n; asked = λ test all. all; strikes = all_stay _ _; sent = λ at h. h });
   notes = λ s w h. keeps_on old s (noted w s) h (noted_keeps w s);
-  flushes = λ s now h. keeps_on old s (record s { flushes = s.flushes + 1; last_flush = Some now }) h (record { earlier = refl; current = refl; by = refl; nodes = λ few. few; sequence = λ n. n; asked = λ test all. all });
+  flushes = λ s now h. keeps_on old s (record s { flushes = s.flushes + 1; last_flush = Some now }) h (record { earlier = refl; current = refl; by = refl; nodes = λ few. few; sequence = λ n. n; asked = λ test all. all; strikes = all_stay _ _; sent = λ at h. h });
   expires = λ s w e h. keeps_on old s (expired w.mark s) h (expired_keeps w.mark s);
   spends = λ s moment h. keeps_on old s (record s { next_send = moment; sequence = (s.sequence + 1) % 65536 }) h
-      (record { earlier = refl; current = refl; by = refl; nodes = λ few. few; sequence = λ n. mod-lt (s.sequence + 1) (omega arith); asked = λ test all. all });
+      (record { earlier = refl; current = refl; by = refl; nodes = λ few. few; sequence = λ n. mod-lt (s.sequence + 1) (omega arith); asked = λ test all. all; strikes = all_stay _ _; sent = λ at h. h });
 }
 
 pub closed_keeps : (p : Settings) (now : ℕ) (s : SenderState) → Keeps s (closed_where_due p now s)
@@ -220,7 +246,7 @@ told_keeps s = nodes s.untold_nodes
       | [] ↦ (s, None)
     ]))
     marks [] news = keeps_all s
-    marks (mark ∷ more) news = record { earlier = refl; current = refl; by = refl; nodes = λ few. few; sequence = λ h. h; asked = λ test all. all }
+    marks (mark ∷ more) news = record { earlier = refl; current = refl; by = refl; nodes = λ few. few; sequence = λ h. h; asked = λ test all. all; strikes = all_stay _ _; sent = λ at h. h }
 
     nodes : (ns : List ℕ) → Keeps s (news_of (elim ns [
       | node ∷ more ↦ (record s { untold_nodes = more }, past_news node (listing_of s node))
@@ -229,7 +255,7 @@ told_keeps s = nodes s.untold_nodes
         | [] ↦ (s, None)
       ]
     ]))
-    nodes (node ∷ more) = record { earlier = refl; current = refl; by = refl; nodes = λ few. few; sequence = λ h. h; asked = λ test all. all }
+    nodes (node ∷ more) = record { earlier = refl; current = refl; by = refl; nodes = λ few. few; sequence = λ h. h; asked = λ test all. all; strikes = all_stay _ _; sent = λ at h. h }
     nodes [] = marks s.untold_marks (λ mark. done_news s mark (watermark_of s mark))
 
 -- A strike leaves all but the listing of a node.
@@ -252,4 +278,6 @@ struck_keeps node s = counted_keeps s s _ (settled_keeps s (without_node node s)
   nodes = others_few node s.listings;
   sequence = λ h. h;
   asked = λ test all. all;
+  strikes = one_struck node s.listings s.struck;
+  sent = λ at h. h;
 }))

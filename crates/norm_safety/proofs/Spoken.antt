@@ -9,7 +9,7 @@ use Rattle.norm_base.specs.declared.kinds.Kind.TheVariants as kind
 use Rattle.fec_plan.specs.Points.{Point, point, point_before}
 use Rattle.fec_plan.specs.declared.position.Position.{Position}
 use Rattle.norm_ext.specs.Extensions.{IsExtension, fti_extension, fti_of}
-use Rattle.norm_ext.specs.Message.{Message, Info, Data, Flush, Squelch, InfoMessage, DataMessage, FlushCommand, SquelchCommand}
+use Rattle.norm_ext.specs.Message.{Message, Info, Data, Flush, Squelch, Ack, InfoMessage, DataMessage, FlushCommand, SquelchCommand}
 use Rattle.norm_ext.specs.Numbers.{number}
 use Rattle.norm_ext.specs.ObjectIds.{object_id}
 use Rattle.norm_ext.specs.InstanceIds.{rise}
@@ -171,8 +171,20 @@ Reads o = (decoded o.octets ≡ Ok o.message) ⊎ SaysNothing (decoded o.octets)
 abbrev pub SaysTrue : Settings → SenderState → Written → Type 0
 SaysTrue p s o = Reads o × IsTrueOf p s o.indices o.message
 
-true_again : (p : Settings) (s : SenderState) (m : Message) (indices : List ℕ) → IsMessage m → IsTrueOf p s indices m → SaysTrue p s (writes m indices)
-true_again p s m indices fits h = (inl (read_again_law m fits), h)
+-- a message that is no acknowledgement
+abbrev pub IsNoAck : Message → Type 0
+IsNoAck (Ack m) = ⊥
+IsNoAck _ = ⊤
+
+-- The same of a datagram of the sender: it is read as its message, which is no acknowledgement.
+pub record SpeaksTrue (p : Settings) (s : SenderState) (o : Written) : Type 0 where
+  pub says : SaysTrue p s o
+  pub read : decoded o.octets ≡ Ok o.message
+  pub no_ack : IsNoAck o.message
+
+true_again : (p : Settings) (s : SenderState) (m : Message) (indices : List ℕ) → IsMessage m → IsNoAck m → IsTrueOf p s indices m
+    → SpeaksTrue p s (writes m indices)
+true_again p s m indices fits no_ack h = record { says = (inl (read_again_law m fits), h); read = read_again_law m fits; no_ack = no_ack }
 
 -- an entry of an order of objects of their sizes
 pub sized_at : (p : Settings) (order : List Entry) (index : ℕ) (entry : Entry) → AreSized p order → slice_get order index ≡ Some entry → IsSized p entry.object
@@ -184,7 +196,7 @@ sized_at p (x ∷ order) (suc index) entry all e = sized_at p order index entry 
 symbol_true : (p : Settings) → InRange p → (s : SenderState) (at : Position) (entry : Entry) (object : Object) (repair : ℕ) → entry.object ≡ object
     → SenderHolds p s → IsDistinct nat_eq (instance_ids s) → slice_get s.current.order at.index ≡ Some entry → IsSized p object
     → nat_lt at.symbol (encoded_in (shape_of p object) at.block) ≡ true → repair < 4
-    → SaysTrue p s (writes (data_message p s at object repair) (at.index ∷ []))
+    → SpeaksTrue p s (writes (data_message p s at object repair) (at.index ∷ []))
 symbol_true p range s at entry (Stream parts) repair is h differ found sized encoded few = absurd sized
 symbol_true p range s at entry (Whole kind info octets) repair is h differ found sized encoded few =
     let object : Object = Whole kind info octets in
@@ -209,7 +221,7 @@ symbol_true p range s at entry (Whole kind info octets) repair is h differ found
       head = object_head_fits p range s at.index object repair h (flags_fit kind info octets repair few).0;
       id = names;
       extensions = extensions_fit 5 (fti_of_object p object) (omega arith);
-    }) (
+    }) tt (
       speaks_of p range s at.index h index,
       says_some P (entry_at s s.current.id at.index) entry (entry_told s at.index entry differ found)
           (subst O (sym is) (encoded, refl, says_object p range kind info octets repair sized few)),
@@ -218,7 +230,7 @@ symbol_true p range s at entry (Whole kind info octets) repair is h differ found
 info_true : (p : Settings) → InRange p → (s : SenderState) (index : ℕ) (entry : Entry) (object : Object) (repair : ℕ) → entry.object ≡ object
     → SenderHolds p s → IsDistinct nat_eq (instance_ids s) → slice_get s.current.order index ≡ Some entry → IsSized p object
     → (shape_of p object).info ≡ true → repair < 4
-    → SaysTrue p s (writes (message_of p s (WantedInfo index) object repair) (index ∷ []))
+    → SpeaksTrue p s (writes (message_of p s (WantedInfo index) object repair) (index ∷ []))
 info_true p range s index entry (Stream parts) repair is h differ found sized has few = absurd sized
 info_true p range s index entry (Whole kind None octets) repair is h differ found sized has few = absurd (clash has)
 info_true p range s index entry (Whole kind (Some info) octets) repair is h differ found sized has few =
@@ -235,7 +247,7 @@ info_true p range s index entry (Whole kind (Some info) octets) repair is h diff
     (record {
       head = object_head_fits p range s index object repair h (flags_fit kind (Some info) octets repair few).0;
       extensions = extensions_fit 4 (fti_of_object p object) (omega arith);
-    }) (
+    }) tt (
       speaks_of p range s index h place,
       says_some P (entry_at s s.current.id index) entry (entry_told s index entry differ found)
           (subst O (sym is) (refl, says_object p range kind (Some info) octets repair sized few)),
@@ -251,7 +263,7 @@ tested_at p (x ∷ order) (suc i) test entry found e = tested_at p order i test 
 -- A symbol or info of the current order is said truly.
 pub want_true : (p : Settings) → InRange p → (s : SenderState) (w : Want) (entry : Entry) (repair : ℕ) → SenderHolds p s
     → IsDistinct nat_eq (instance_ids s) → is_of_order (current_shapes p s) w ≡ true → slice_get s.current.order (want_index w) ≡ Some entry
-    → repair < 4 → SaysTrue p s (writes (message_of p s w entry.object repair) (want_index w ∷ []))
+    → repair < 4 → SpeaksTrue p s (writes (message_of p s w entry.object repair) (want_index w ∷ []))
 want_true p range s (Symbol at) entry repair h differ of found few =
     let sized = sized_at p s.current.order at.index entry (current_sized p s h) found in
     symbol_true p range s at entry entry.object repair refl h differ found sized
@@ -263,7 +275,7 @@ want_true p range s (WantedInfo index) entry repair h differ of found few =
 
 -- the drop point is said truly
 pub squelch_true : (p : Settings) → InRange p → (s : SenderState) → SenderHolds p s → IsDistinct nat_eq (instance_ids s)
-    → SaysTrue p s (writes (squelch_message p s s.current.drop) (s.current.drop.index ∷ []))
+    → SpeaksTrue p s (writes (squelch_message p s s.current.drop) (s.current.drop.index ∷ []))
 squelch_true p range s h differ =
     let drop : Point = s.current.drop in
     let m : SquelchCommand = record {
@@ -281,20 +293,20 @@ squelch_true p range s h differ =
       id = (block, omega arith);
       extensions = record { each = tt; most = omega arith };
       invalid = tt;
-    }) (
+    }) tt (
       speaks_of p range s drop.index h h.index,
       (s.current, current_found s.earlier s.current s.current refl differ, not_before_itself drop, h.block),
     )
 
 -- the entry of which a test of a shape is true
-entry_with : (p : Settings) (order : List Entry) (i : ℕ) (test : Shape → Bool) → at_index (shapes_of p order) i false test ≡ true
+pub entry_with : (p : Settings) (order : List Entry) (i : ℕ) (test : Shape → Bool) → at_index (shapes_of p order) i false test ≡ true
     → (entry : Entry) × (slice_get order i ≡ Some entry) × (test (shape_of p entry.object) ≡ true)
 entry_with p [] i test e = absurd (clash e)
 entry_with p (x ∷ order) zero test e = (x, refl, e)
 entry_with p (x ∷ order) (suc i) test e = entry_with p order i test e
 
 -- a closed source symbol of an object of its size has a name
-source_named : (p : Settings) → InRange p → (object : Object) (block symbol : ℕ) → IsSized p object
+pub source_named : (p : Settings) → InRange p → (object : Object) (block symbol : ℕ) → IsSized p object
     → nat_lt symbol (closed_in (shape_of p object) block) ≡ true → AreNames block symbol
 source_named p range (Whole kind info octets) block symbol sized e =
     source_names_fit p (cut_range p range) (length octets) (is_some info) block symbol sized.0 sized.1 e
@@ -304,7 +316,7 @@ source_named p range (Stream parts) block symbol sized e = absurd sized
 pub flush_true : (p : Settings) → InRange p → (s : SenderState) (head : CmdHead) (at : Position) (nodes : List ℕ) → SenderHolds p s
     → IsDistinct nat_eq (instance_ids s) → IsCommandHead head → head.instance ≡ s.current.id → is_source (current_shapes p s) at ≡ true
     → AllByRecursion (λ n. n < 4294967296) nodes
-    → SaysTrue p s (writes (Flush (record {
+    → SpeaksTrue p s (writes (Flush (record {
       head = head;
       object = object_id p at.index;
       id = record { block = at.block; symbol = at.symbol };
@@ -330,7 +342,7 @@ flush_true p range s head at nodes h differ fits current source few =
       id = source_named p range found.0.object at.block at.symbol sized found.2;
       extensions = record { each = tt; most = omega arith };
       nodes = few;
-    }) (
+    }) tt (
       subst S (sym current) (speaks_of p range s at.index h index),
       ap (λ (id : ℕ). is_source (shapes_of p (order_of s id)) at) current
           ∙ ap (λ (order : List Entry). is_source (shapes_of p order) at) (current_order s differ) ∙ source,

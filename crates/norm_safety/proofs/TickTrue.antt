@@ -32,10 +32,11 @@ use Rattle.norm_safety.proofs.CommandSteps.{same_instances, keeps_ids}
 use Rattle.fec_plan.proofs.PointLemmas.{not_before_both}
 use Rattle.norm_safety.proofs.EntryLemmas.{clash}
 use Rattle.norm_safety.proofs.Onward.{GoOn, Onward, LaterThan, instance_in, goes_on_itself}
+use Rattle.norm_safety.proofs.Members.{all_stay}
 use Rattle.norm_safety.proofs.SenderKeeps.{Keeps, keeps_all, expired_keeps, closed_keeps, nodes_in, AllOpen}
 use Rattle.norm_safety.proofs.SenderHolds.{SenderHolds, keeps_steps, order_later}
 use Rattle.norm_safety.proofs.LastLemmas.{source_still}
-use Rattle.norm_safety.proofs.Spoken.{IsTrueOf, SaysTrue, command_head_fits, want_true, squelch_true, flush_true}
+use Rattle.norm_safety.proofs.Spoken.{IsTrueOf, SaysTrue, SpeaksTrue, command_head_fits, want_true, squelch_true, flush_true}
 use Rattle.norm_safety.proofs.Feedback.{IsOther}
 
 -- what says nothing of objects is true
@@ -98,9 +99,9 @@ true_later p s t o onward h = (h.0, message_later p s t o.indices o.message onwa
 
 -- ---- a tick
 
--- what a step sends is true of a state's orders
+-- what a step sends is true of a state's orders, and no acknowledgement
 abbrev pub SentTrue : Settings → SenderState → Option Written → Type 0
-SentTrue p s (Some datagram) = SaysTrue p s datagram
+SentTrue p s (Some datagram) = SpeaksTrue p s datagram
 SentTrue p s None = ⊤
 
 -- what a step gives
@@ -229,7 +230,7 @@ without p s t keeps wants h = (keeps_steps p s t keeps wants h).holds
 
 same_true : (p : Settings) (s t : SenderState) (sent : Option Written) → Onward s t → SentTrue p s sent → SentTrue p t sent
 same_true p s t None onward h = tt
-same_true p s t (Some datagram) onward h = true_later p s t datagram onward h
+same_true p s t (Some datagram) onward h = record { says = true_later p s t datagram onward h.says; read = h.read; no_ack = h.no_ack }
 
 further_true : (p : Settings) → InRange p → (now : ℕ) (s : SenderState) → SenderHolds p s → IsDistinct nat_eq (instance_ids s) → SentTrue p s (sends_further p now s).1
 further_true p range now s h differ = go (next_new p s) refl
@@ -240,7 +241,7 @@ further_true p range now s h differ = go (next_new p s) refl
     go : (found : Option Want) → next_new p s ≡ found → SentTrue p s (given (elim found [ Some w ↦ sends_new p now w s | None ↦ flushes p now s ]))
     go None e = flushes_true p range now s h differ
     go (Some w) e =
-        let keeps : Keeps s (next w) = record { earlier = refl; current = refl; by = refl; nodes = λ few. few; sequence = λ n. n; asked = λ test all. all } in
+        let keeps : Keeps s (next w) = record { earlier = refl; current = refl; by = refl; nodes = λ few. few; sequence = λ n. n; asked = λ test all. all; strikes = all_stay _ _; sent = λ at n. n } in
         let wants : WantsHold p (next w) = record { rise = h.wants.rise; of_order = h.wants.of_order; in_window = h.wants.in_window } in
         same_true p (next w) s (sends_want p now (λ object. 0) w (next w)).1 (goes_on_itself (instances s))
         (wanted_true p range (next w) now (λ object. 0) w (without p s (next w) keeps wants h) differ
@@ -261,7 +262,7 @@ wants_true p range now s h differ = go s.wants refl
         let rise = subst R e h.wants.rise in
         let of = subst O e h.wants.of_order in
         let within = subst W e h.wants.in_window in
-        let keeps : Keeps s (rest wants) = record { earlier = refl; current = refl; by = refl; nodes = λ few. few; sequence = λ n. n; asked = λ test all. all } in
+        let keeps : Keeps s (rest wants) = record { earlier = refl; current = refl; by = refl; nodes = λ few. few; sequence = λ n. n; asked = λ test all. all; strikes = all_stay _ _; sent = λ at n. n } in
         let hold : WantsHold p (rest wants) = record { rise = rise.1; of_order = of.1; in_window = within.1 } in
         same_true p (rest wants) s (sends_want p now (λ object. repair_flags p object w) w (rest wants)).1 (goes_on_itself (instances s))
         (wanted_true p range (rest wants) now (λ object. repair_flags p object w) w (without p s (rest wants) keeps hold h) differ of.0

@@ -1,6 +1,6 @@
 -- Orders of data and files alone: what a command does to them is one of three things.
 use Rattle.std.proofs.Common.{◌≡◌, ℕ, zero, suc, ◌+◌, ◌<◌, ◌≤◌, List, [], ◌∷◌, ◌++◌, length, Bool, true, false, Option, None, Some, Result, Ok, Err, refl, sym, ap, ◌∙◌, subst, arith, ◌⊎◌, inl, inr}
-use Rattle.std.specs.Prelude.{◌==◌, nat_le, nat_lt, is_none, unwrap_or}
+use Rattle.std.specs.Prelude.{◌==◌, not, nat_le, nat_lt, is_none, unwrap_or}
 use Rattle.std.specs.List.{AllByRecursion}
 use Rattle.std.proofs.lemmas.Bool.Decides.{Decides-ltb, leb_tells}
 use Rattle.std.proofs.lemmas.List.{reverse-append}
@@ -13,10 +13,13 @@ use Rattle.norm_base.specs.declared.node.Origin.{Origin}
 use Rattle.fec_plan.specs.declared.position.Position.{Position}
 use Rattle.norm_order.specs.Entries.{Part, Write, Cut, End, Object, Whole, Stream, Entry}
 use Rattle.norm_order.specs.Segments.{unclosed}
+use Rattle.fec_plan.specs.Points.{position_before}
+use Rattle.norm_order.specs.Sets.{is_member}
 use Rattle.norm_order.specs.Shapes.{last_source}
 use Rattle.norm_send_rules.specs.SenderState.{SenderState, Watermark}
 use Rattle.norm_send_rules.specs.InWindow.{next_index, current_shapes}
 use Rattle.norm_send_rules.specs.Restarting.{is_used, begun_anew}
+use Rattle.norm_send_rules.specs.Room.{can_make_room}
 use Rattle.norm_send_rules.specs.Enqueuing.{info_length, open_parts, open_stream, object_fault, joined, ids_spent}
 use Rattle.norm_send_rules.specs.Streaming.{parts_now, write_fault, close_fault, grown, with_parts, cut}
 use Rattle.norm_send_rules.specs.Marking.{is_no_quorum, most_open, with_watermark, watermark_at, cut_and_marked}
@@ -33,6 +36,7 @@ use Rattle.norm_send_rules.specs.declared.job.Job.TheVariants as job
 use Rattle.norm_send_rules.specs.declared.job.Receipt.{Receipt}
 use Rattle.norm_send_rules.specs.declared.job.Receipt.TheVariants as receipt
 use Rattle.norm_safety.specs.Jobs.{IsJob, OpensNone}
+use Rattle.norm_safety.proofs.Members.{Strikes}
 use Rattle.norm_safety.proofs.SenderKeeps.{Keeps, keeps_all, struck_keeps, FewNodes, AllOpen}
 use Rattle.norm_safety.proofs.EntryLemmas.{open_in, ends, clash}
 use Rattle.norm_safety.proofs.CommandSteps.{where_free, first_none, no_parts, marked_keeps}
@@ -68,7 +72,7 @@ none_open p order all = go (ends order)
         ap open_in is ∙ ap last_open (reverse-append front (last ∷ [])) ∙ not_open p last.object (last_sized p front last (subst A is all))
 
 -- What stays but for watermarks: orders, instances, drop points, that members' ids have 32 bits; and the sequence number has
--- 16 bits. -- A watermark is open where it was, or is of the last source symbol of the order.
+-- 16 bits. A watermark is open where it was, or is of the last source symbol of the order. Members stay, or are struck.
 pub record Steady (p : Settings) (old new : SenderState) : Type 0 where
   pub earlier : new.earlier ≡ old.earlier
   pub current : new.current ≡ old.current
@@ -76,6 +80,8 @@ pub record Steady (p : Settings) (old new : SenderState) : Type 0 where
   pub sequence : old.sequence < 65536 → new.sequence < 65536
   pub asked : (test : Position → Bool) → ((at : Position) → last_source (current_shapes p old) ≡ Some at → test at ≡ true)
       → AllOpen test old.watermarks → AllOpen test new.watermarks
+  pub strikes : Strikes old.listings new.listings old.struck new.struck
+  pub sent : (at : Position) → is_member position_before at old.sent ≡ true → is_member position_before at new.sent ≡ true
 
 pub keeps_steady : (p : Settings) (old new : SenderState) → Keeps old new → Steady p old new
 keeps_steady p old new h = record {
@@ -84,12 +90,16 @@ keeps_steady p old new h = record {
   nodes = h.nodes;
   sequence = h.sequence;
   asked = λ test last all. h.asked test all;
+  strikes = h.strikes;
+  sent = h.sent;
 }
 
--- What a command does to orders of data and files: nothing, or an object joins, or a new instance begins.
+-- What a command does to orders of data and files: nothing, or an object joins for which room could be made, or a new instance
+-- begins.
 pub data CommandCase (p : Settings) (s : SenderState) (by : Origin) : SenderState → Type 0 where
   Stays : {new : SenderState} → Steady p s new → CommandCase p s by new
   Joins : (kind : Kind) (info : Option (List ℕ)) (octets : List ℕ) → IsSized p (Whole kind info octets) → next_index s < 4294967295
+      → can_make_room p s (length octets) ≡ true
       → CommandCase p s by (joined p by (Whole kind info octets) s)
   Restarts : (id : ℕ) → is_used s id ≡ false → id < 65536 → CommandCase p s by (begun_anew id s)
 
@@ -128,7 +138,7 @@ object_case p by kind info octets s are none =
     let fifth = first_none _ _ _ fourth.1 in
     Joins kind info octets
     (some_length first.0, not_less p.octets (length octets) second.0, not_less p.e (info_length info) third.0, are)
-    (below fifth.0)
+    (below fifth.0) (roomy (first_none _ _ _ fifth.1).0)
   where
     some_length : (length octets == 0) ≡ false → 0 < length octets
     some_length e = go (length octets) e
@@ -136,6 +146,13 @@ object_case p by kind info octets s are none =
         go : (n : ℕ) → (n == 0) ≡ false → 0 < n
         go zero e = absurd (clash (sym e))
         go (suc n) e = omega arith
+
+    roomy : not (can_make_room p s (length octets)) ≡ false → can_make_room p s (length octets) ≡ true
+    roomy e = go (can_make_room p s (length octets)) e
+      where
+        go : (b : Bool) → not b ≡ false → b ≡ true
+        go true e = refl
+        go false e = absurd (clash (sym e))
 
     below : ids_spent s ≡ false → next_index s < 4294967295
     below e = (let le = not_less 4294967294 (next_index s) e in omega arith)
@@ -181,6 +198,8 @@ mark_case p by quorum s between found last same =
           nodes = kept.nodes;
           sequence = kept.sequence;
           asked = λ test last all. kept.asked test (open_more test s.watermarks _ (last at (sym is)) all);
+          strikes = kept.strikes;
+          sent = kept.sent;
         })
 
     at : (found : Option Position) → found ≡ last_source (current_shapes p s) → CommandCase p s by (answered Mark (watermark_at s by quorum found)).0

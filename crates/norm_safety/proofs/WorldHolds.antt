@@ -7,10 +7,12 @@ use Rattle.std.proofs.lemmas.Bool.Decides.{Decides-eqb}
 use Rattle.std.proofs.lemmas.List.{append-nil, length-append, take-append-le}
 use Rattle.std.proofs.lemmas.Grind.{flat_map-append}
 use Rattle.norm_base.specs.Settings.{Settings}
+use Rattle.norm_base.specs.Member.{IsMember}
 use Rattle.norm_base.specs.declared.node.Origin.{Origin}
 use Rattle.norm_ext.specs.InstanceIds.{rise}
 use Rattle.norm_ext.specs.Written.{Written}
 use Rattle.norm_order.specs.Entries.{Entry}
+use Rattle.norm_order.specs.Upto.{all_parts}
 use Rattle.norm_order.specs.declared.up.Up.{Up}
 use Rattle.norm_receive_rules.specs.ReceiverState.{ReceiverState}
 use Rattle.norm_send_rules.specs.SenderState.{SenderState}
@@ -27,6 +29,7 @@ use Rattle.norm_safety.proofs.OnceLemmas.{OnceSoFar}
 use Rattle.norm_safety.proofs.Spoken.{IsBegun, SaysTrue}
 use Rattle.norm_safety.proofs.TickTrue.{true_later}
 use Rattle.norm_safety.proofs.Exact.{Exactly, exactly_later}
+use Rattle.norm_safety.proofs.Stood.{due_grown}
 use Rattle.norm_safety.proofs.Holding.{ReceiverHolds, IsPlanOf, IsSymbolOf, IsInfoOf, some_and}
 use Rattle.norm_safety.proofs.ReceiverMoves.{Standing, StandingIn}
 
@@ -52,10 +55,12 @@ abbrev pub CameTo : Settings → List ℕ → Option ℕ → Type 0
 CameTo p ids None = ids ≡ []
 CameTo p ids (Some current) = CameLast p ids current
 
--- What holds at a node, by its receiver: it came from instance to higher instance, and is in the last of them; it holds what
+-- What holds at a node, by its receiver: it is a member, with a sequence number of 16 bits; it came from instance to higher instance, and is in the last of them; it holds what
 -- it should; and nothing was handed up in an instance that lies above those.
 pub record AtReceiver (p : Settings) (s : SenderState) (past : List Happening) (node : ℕ) (r : ReceiverState) : Type 0 where
   pub here : r.node ≡ node
+  pub member : IsMember r.node
+  pub sequence : r.sequence < 65536
   pub came : CameTo p (came_to node None past) r.instance
   pub once : IsDistinct nat_eq (came_to node None past)
   pub stands : Standing p s (hands past node) r
@@ -145,7 +150,7 @@ some_later P order more index h =
     let S : Option Entry → Type 0 = λ o. IsSomeAnd o P in
     subst S (sym (found_front order more index found.0 found.1)) found.2
 
-all_later : {X : Type 0} (P Q : X → Type 0) (xs : List X) → ((x : X) → P x → Q x) → AllByRecursion P xs → AllByRecursion Q xs
+pub all_later : {X : Type 0} (P Q : X → Type 0) (xs : List X) → ((x : X) → P x → Q x) → AllByRecursion P xs → AllByRecursion Q xs
 all_later P Q [] f all = tt
 all_later P Q (x ∷ xs) f all = (f x all.0, all_later P Q xs f all.1)
 
@@ -164,6 +169,8 @@ holding_more p order more d e taken r le h =
       symbol = h.symbol;
       within = omega arith;
       gone = subst E (sym (take_longer r.holding.point.index order more within)) (exactly_later p d e 0 _ (taken ++ r.holding.ups) le h.gone);
+      clean = λ none. h.clean none ∙ ap (all_parts p 0) (sym (take_longer r.holding.point.index order more within));
+      confirms = due_grown p order more (taken ++ r.holding.ups) r.knows.due h.confirms;
     }
 
 pub holding_later : (p : Settings) (s t : SenderState) (id : ℕ) (taken : List Up) (r : ReceiverState) → Onward s t
@@ -223,6 +230,8 @@ node_later p s t past x node (Some r) onward none same h =
     let D : List ℕ → Type 0 = λ ids. IsDistinct nat_eq ids in
     record {
       here = h.here;
+      member = h.member;
+      sequence = h.sequence;
       came = subst C (sym still) h.came;
       once = subst D (sym still) h.once;
       stands = same_taken p t (hands past node) (hands (past ++ x ∷ []) node) r (λ id. hands_same past x node id none)

@@ -5,6 +5,7 @@ use Rattle.std.specs.List.{AllByRecursion, IsDistinct}
 use Rattle.std.proofs.lemmas.Bool.Decides.{Decides-eqb}
 use Rattle.std.proofs.lemmas.List.{append-nil}
 use Rattle.norm_base.specs.Settings.{Settings}
+use Rattle.norm_base.specs.Member.{IsMember}
 use Rattle.norm_base.specs.declared.node.Origin.{Origin}
 use Rattle.norm_ext.specs.InstanceIds.{rise, most_rise, is_above}
 use Rattle.norm_ext.specs.Written.{Written}
@@ -152,14 +153,16 @@ moved_node p s past x node r t moved none latest now h = go moved
         let D : List ℕ → Type 0 = λ xs. IsDistinct nat_eq xs in
         record {
           here = ids.node ∙ h.here;
+          member = subst IsMember (sym ids.node) h.member;
+          sequence = ids.sequence h.sequence;
           came = subst C (sym still) (subst I (sym ids.instance) h.came);
           once = subst D (sym still) h.once;
           stands = same_taken p s (hands past node) (hands (past ++ x ∷ []) node) t same (stands (hands past node) h.stands);
           never = λ id above. (let A : List ℕ → Type 0 = λ xs. IsAbove p xs id in same id ∙ h.never id (subst A still above));
         }
-    go (Enters id out goes begun at instance holds) =
+    go (Enters id out goes begun ids holds) =
         let new : newly r.instance t.instance ≡ id ∷ [] =
-        ap (λ (is : Option ℕ). newly r.instance is) instance ∙ ap (λ (b : Bool). new_id b id) out in
+        ap (λ (is : Option ℕ). newly r.instance is) ids.instance ∙ ap (λ (b : Bool). new_id b id) out in
         let joined : came_to node None (past ++ x ∷ []) ≡ came_to node None past ++ id ∷ [] =
         came ∙ ap (λ (more : List ℕ). came_to node None past ++ more) new in
         let above : IsAbove p (came_to node None past) id = lies_above p (came_to node None past) r.instance id h.came begun goes in
@@ -170,10 +173,12 @@ moved_node p s past x node r t moved none latest now h = go moved
         let last : CameLast p (came_to node None (past ++ x ∷ [])) id =
         record { before = came_to node None past; is = joined; lower = above; begun = begun } in
         record {
-          here = at ∙ h.here;
-          came = subst C (sym instance) last;
+          here = ids.node ∙ h.here;
+          member = subst IsMember (sym ids.node) h.member;
+          sequence = ids.sequence h.sequence;
+          came = subst C (sym ids.instance) last;
           once = subst D (sym joined) (higher_differs p.instance id (came_to node None past) above h.once);
-          stands = subst S (sym instance) (subst H (sym (same id ∙ h.never id above)) holds);
+          stands = subst S (sym ids.instance) (subst H (sym (same id ∙ h.never id above)) holds);
           never = λ other over. (
               let A : List ℕ → Type 0 = λ xs. IsAbove p xs other in
               same other ∙ h.never other (all_front (λ y. rise p.instance y < rise p.instance other) (came_to node None past) (id ∷ []) (subst A joined over))

@@ -25,6 +25,7 @@ use Rattle.norm_safety.proofs.Onward.{goes_on_itself}
 use Rattle.norm_safety.proofs.OnceLemmas.{OnceSoFar}
 use Rattle.norm_safety.proofs.Spoken.{SaysTrue}
 use Rattle.norm_safety.proofs.Exact.{Exactly, front_exactly}
+use Rattle.norm_safety.proofs.Stood.{Due}
 use Rattle.norm_safety.proofs.SenderHolds.{SenderHolds, orders_hold}
 use Rattle.norm_safety.proofs.Holding.{ReceiverHolds}
 use Rattle.norm_safety.proofs.ReceiverMoves.{StandingIn, in_instance_is}
@@ -66,6 +67,8 @@ pub take_holding : (p : Settings) (order : List Entry) (d : ℕ) (taken : List U
     → ReceiverHolds p order d taken r → ReceiverHolds p order d (taken ++ up ∷ []) (behind_up ups r)
 take_holding p order d taken up ups r is h =
     let E : List Up → Type 0 = λ us. Exactly p d 0 (take r.holding.point.index order) us in
+    let D : List Up → Type 0 = λ us. Due p order us r.knows.due in
+    let same : taken ++ r.holding.ups ≡ (taken ++ up ∷ []) ++ ups = ap (λ (us : List Up). taken ++ us) is ∙ sym (append_assoc taken (up ∷ []) ups) in
     record {
       plans = h.plans;
       symbols = h.symbols;
@@ -74,7 +77,9 @@ take_holding p order d taken up ups r is h =
       block = h.block;
       symbol = h.symbol;
       within = h.within;
-      gone = subst E (ap (λ (us : List Up). taken ++ us) is ∙ sym (append_assoc taken (up ∷ []) ups)) h.gone;
+      gone = subst E same h.gone;
+      clean = λ none. sym same ∙ h.clean none;
+      confirms = subst D same h.confirms;
     }
 
 -- a hand-up, where it is this node's
@@ -164,7 +169,7 @@ taken_world p past accepted w v node r up ups found is sender receivers offered 
     stands : (instance : Option ℕ) → r.instance ≡ instance → StandingIn p w.sender (hands (past ++ record { before = w; event = UpTaken node; answer = Took (Some up); after = v } ∷ []) node) (behind_up ups r) instance
     stands None e =
         let S : Option ℕ → Type 0 = λ instance. StandingIn p w.sender (hands past node) r instance in
-        absurd (some_up (sym is ∙ subst S e here.stands))
+        absurd (some_up (sym is ∙ (subst S e here.stands).0))
     stands (Some id) e =
         let inside_it : is_in r id ≡ true =
         ap (λ (instance : Option ℕ). elim instance [ Some current ↦ current == id | None ↦ false ]) e ∙ same_self id in
@@ -185,6 +190,8 @@ taken_world p past accepted w v node r up ups found is sender receivers offered 
         let D : List ℕ → Type 0 = λ xs. IsDistinct nat_eq xs in
         record {
           here = here.here;
+          member = here.member;
+          sequence = here.sequence;
           came = subst C (sym still) here.came;
           once = subst D (sym still) here.once;
           stands = stands r.instance refl;

@@ -4,6 +4,8 @@ use Rattle.std.specs.List.{AllByRecursion}
 use Rattle.std.specs.Bool.{Decides}
 use Rattle.norm_base.specs.Settings.{Settings, InRange}
 use Rattle.norm_send_rules.specs.Laws.{WantsHold}
+use Rattle.norm_safety.specs.Acknowledges.{OwesWhatItHanded, OwingLaws}
+use Rattle.norm_safety.specs.AcknowledgesHanded.{AcknowledgesHanded}
 use Rattle.norm_safety.specs.CreditsMembers.{CreditsMembers}
 use Rattle.norm_safety.specs.Events.{Event}
 use Rattle.norm_safety.specs.History.{History, history}
@@ -13,7 +15,7 @@ use Rattle.norm_safety.specs.ListedAfter.{ListedAfter, is_listed_after}
 use Rattle.norm_safety.specs.SatisfiedExactly.{SatisfiedExactly, is_satisfied_exactly}
 use Rattle.norm_safety.specs.Lawful.{Lawful, is_lawful}
 use Rattle.norm_safety.specs.Jobs.{AreEvents, AreOfObjects}
-use Rattle.norm_safety.specs.Safe.{Safe, is_safe}
+use Rattle.norm_safety.specs.Safe.{IsSafe, Safe, is_safe}
 use Rattle.norm_safety.specs.Said.{said_data, said_infos, said_flushes, said_squelches}
 use Rattle.norm_safety.specs.SaysPositions.{flushes_source, squelches_dropped}
 use Rattle.norm_safety.specs.SaysSymbols.{SaysSymbol, SaysInfo}
@@ -50,12 +52,6 @@ abbrev pub OfRunsOfObjects : (Settings → History → Type 0) → Type 0
 OfRunsOfObjects Promise = (p : Settings) → InRange p → (events : List Event) → Lawful p events → AreEvents events → AreOfObjects events
     → Promise p (history p events)
 
--- The first two parts of safety. Accepted objects enter the transport order once each, in every lawful run; and in those of
--- data and files each receiver hands up that order, with a loss only below the drop point.
-pub record SafeRun : Type 0 where
-  pub once : (p : Settings) (events : List Event) → Lawful p events → OnceEach (history p events)
-  pub order : OfRunsOfObjects InOrder
-
 -- in each run what a member acknowledges is credited
 abbrev pub CreditRun : Type 0
 CreditRun = (p : Settings) (events : List Event) → CreditsMembers p (history p events)
@@ -64,3 +60,19 @@ CreditRun = (p : Settings) (events : List Event) → CreditsMembers p (history p
 -- and its outcome stays
 abbrev pub SatisfiedRun : Type 0
 SatisfiedRun = (p : Settings) → InRange p → (events : List Event) → SatisfiedExactly (history p events)
+
+-- Safety. Every lawful run of data and files is safe: accepted objects enter the transport order once each; each receiver hands up
+-- that order, with a loss only below the drop point; a receiver is listed past a watermark only after it handed up everything
+-- before; and a watermark is satisfied exactly where its quorum is listed. The first part holds of every lawful run.
+pub record SafeRun : Type 0 where
+  pub safe : OfRunsOfObjects IsSafe
+  pub once : (p : Settings) (events : List Event) → Lawful p events → OnceEach (history p events)
+  pub order : OfRunsOfObjects InOrder
+  pub listed : OfRunsOfObjects ListedAfter
+
+-- In lawful runs of data and files a receiver acknowledges only what it handed up, everything before included. A flush makes it owe what
+-- it handed up; that stays so in its instance until its next tick, which says it.
+pub record AcknowledgeRun : Type 0 where
+  pub handed : OfRunsOfObjects AcknowledgesHanded
+  pub owed : OfRunsOfObjects OwesWhatItHanded
+  pub stays : OwingLaws

@@ -23,5 +23,8 @@ pub mod DropsConfirmed
 pub mod Tied
 pub mod CreditsMembers
 pub mod LosesNothing
+pub mod Acknowledges
 pub mod RepairSuffices
+pub mod FreshWants
+pub mod ClosingCompletes
 pub mod Laws

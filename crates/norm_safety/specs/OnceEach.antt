@@ -1,12 +1,18 @@
 -- The first part of safety: accepted objects enter the transport order once each.
 use Rattle.std.specs.Prelude.{ℕ, ◌==◌, ◌&&◌, List, [], ◌∷◌, ◌++◌, map, flat_map, find, slice_get, nat_eq, Bool, true, false, not, None, Some, Ok, IsTrue}
 use Rattle.std.specs.List.{list_all, list_any, IsDistinct, AllByRecursion}
+use Rattle.std.specs.Cmp.Lexicographic.{pointwise}
+use Rattle.std.specs.Option.{option_eq}
+use Rattle.norm_base.specs.declared.kinds.Kind.TheVariants as kind
 use Rattle.norm_base.specs.declared.node.Origin.{Origin}
-use Rattle.norm_order.specs.Entries.{Part, Write, Whole, Stream, Entry}
+use Rattle.norm_order.specs.Entries.{Part, Write, Object, Whole, Stream, Entry}
 use Rattle.norm_send_rules.specs.SenderState.{SenderState, Instance, Watermark}
 use Rattle.norm_send_rules.specs.Restarting.{instances}
+use Rattle.norm_send_rules.specs.declared.job.Job.{Job}
+use Rattle.norm_send_rules.specs.declared.job.Job.TheVariants as job
 use Rattle.norm_send_rules.specs.declared.job.Receipt.TheVariants as receipt
 use Rattle.norm_safety.specs.Events.{Event, Commanded, Answer, Gave}
+use Rattle.norm_safety.specs.Fronts.{same_kind}
 use Rattle.norm_safety.specs.History.{Happening, History}
 use Rattle.norm_safety.specs.Lawful.{same_origin}
 
@@ -33,18 +39,26 @@ instance_ids s = map (λ (i : Instance). i.id) (instances s)
 abbrev pub order_of : SenderState → ℕ → List Entry
 order_of s id = elim (find (λ (i : Instance). i.id == id) (instances s)) [ Some i ↦ i.order | None ↦ [] ]
 
--- the entry of an instance at an index came by this origin
-abbrev pub is_entry_by : SenderState → ℕ → ℕ → Origin → Bool
-is_entry_by s id index by = elim (slice_get (order_of s id) index) [ Some entry ↦ same_origin entry.by by | None ↦ false ]
+-- a command brings this object: its octets, as data with its info or as a file with its name; or a stream, which may have parts by now
+abbrev pub brings : Job → Object → Bool
+brings (job.Data info bytes) (Whole own_kind own octets) = same_kind kind.Data own_kind && option_eq (pointwise nat_eq) info own && pointwise nat_eq bytes octets
+brings (job.File name bytes) (Whole own_kind own octets) =
+    same_kind kind.File own_kind && option_eq (pointwise nat_eq) (Some name) own && pointwise nat_eq bytes octets
+brings job.Open (Stream parts) = true
+brings _ _ = false
+
+-- the entry of an instance at an index came by this command, and is the object that it brings
+abbrev pub is_entry_by : SenderState → ℕ → ℕ → Origin → Job → Bool
+is_entry_by s id index by job = elim (slice_get (order_of s id) index) [ Some entry ↦ same_origin entry.by by && brings job entry.object | None ↦ false ]
 
 -- an accepted object has its answered index in the order
 abbrev pub has_its_place : SenderState → Happening → Event → Answer → Bool
-has_its_place s h (Commanded by job now) (Gave (Ok (receipt.Object index len))) = is_entry_by s h.before.sender.current.id index by
-has_its_place s h (Commanded by job now) (Gave (Ok (receipt.Opened index))) = is_entry_by s h.before.sender.current.id index by
+has_its_place s h (Commanded by job now) (Gave (Ok (receipt.Object index len))) = is_entry_by s h.before.sender.current.id index by job
+has_its_place s h (Commanded by job now) (Gave (Ok (receipt.Opened index))) = is_entry_by s h.before.sender.current.id index by job
 has_its_place s h _ _ = true
 
--- Each command stands at most once among all orders and watermarks, instances have different ids, and the index that an
--- accepted object was answered is its place.
+-- Each command stands at most once among all orders and watermarks, instances have different ids, and at the index that an accepted
+-- object was answered stands that object, octet for octet.
 pub record OnceEach (h : History) : Type 0 where
   pub origins : IsDistinct same_origin (origins h.now.sender)
   pub ids : IsDistinct nat_eq (instance_ids h.now.sender)

@@ -1,6 +1,6 @@
 -- When a run is safe: accepted objects enter the transport order once each; a receiver hands up that order, with a loss
 -- only where the sender dropped data; and the sender lists a receiver past a watermark only after it handed up
--- everything before, a request being satisfied exactly when all are listed.
+-- everything before, a watermark being satisfied exactly when its quorum of members is listed.
 use Rattle.std.specs.Prelude.{List, Bool, ◌&&◌}
 use Rattle.norm_base.specs.Settings.{Settings}
 use Rattle.norm_safety.specs.Events.{Event}

@@ -1,13 +1,17 @@
 //! What is promised of runs of a sender and its receivers, and of the tests of safety. Each law is the contract of a
 //! function that does nothing.
 
-ghost use Rattle.norm_safety.specs.Laws.{TestLaws, WantsHoldInRuns, SafeRun, OfRunsOfObjects, SaidOfOrders, CreditRun, SatisfiedRun};
+ghost use Rattle.norm_safety.specs.Laws.{TestLaws, WantsHoldInRuns, SafeRun, OfRunsOfObjects, SaidOfOrders, CreditRun, SatisfiedRun, AcknowledgeRun};
+ghost use Rattle.norm_safety.specs.ClosingCompletes.{ClosingCompletes};
+ghost use Rattle.norm_safety.specs.FreshWants.{FreshWants};
+ghost use Rattle.norm_safety.specs.LosesNothing.{LosesNothing};
 ghost use Rattle.norm_safety.specs.WorldLaws.{WorldLaws};
 
-/// The first two parts of safety. In every lawful run, whatever the network loses, repeats, reorders or delays and however
-/// often the sender restarts, accepted objects enter the transport order once each. And in those of data and files each
-/// receiver hands up an instance's order from its beginning, without a gap and octet for octet, with a loss only below the
-/// drop point, and is in each instance once.
+/// Every lawful run of data and files is safe, whatever the network loses, repeats, reorders or delays and however often the
+/// sender restarts. Accepted objects enter the transport order once each, which holds of every lawful run. Each receiver
+/// hands up an instance's order from its beginning, without a gap and octet for octet, with a loss only below the drop point,
+/// and is in each instance once. A receiver is listed past a watermark only after it handed up everything before. And a
+/// watermark is satisfied exactly where its quorum is listed past it.
 #[tactic(auto, using(crate::proofs::SafeRun::safe_run))]
 pub fn safe_run()
     ensures { SafeRun }
@@ -45,6 +49,37 @@ pub fn credit_run()
 /// many members as its quorum says, and all where there were no more, were listed past it or further; and its outcome stays.
 pub fn satisfied_run()
     ensures { SatisfiedRun }
+{}
+
+/// In `hold` mode no member reports a loss. In each lawful run of data and files a hand-up says that an object is lost only where
+/// its node was struck.
+#[tactic(auto, using(crate::proofs::HoldRun::hold_run))]
+pub fn hold_run()
+    ensures { OfRunsOfObjects LosesNothing }
+{}
+
+/// What is wanted as a round closes and was never sent is held by nobody, in each lawful run of data and files: so a fresh symbol is of
+/// use to each receiver that lacks one.
+#[tactic(auto, using(crate::proofs::FreshRun::fresh_run))]
+pub fn fresh_run()
+    ensures { OfRunsOfObjects FreshWants }
+{}
+
+/// What is wanted after a round closed completes a block for each receiver of the instance that lacks no more of it than one of the
+/// round's requests counts, whatever others asked: with what it holds it has as many different symbols as the block has source
+/// symbols. So it is at each closing of a lawful run of data and files.
+#[tactic(auto, using(crate::proofs::FreshRun::closing_run))]
+pub fn closing_run()
+    ensures { OfRunsOfObjects ClosingCompletes }
+{}
+
+/// In lawful runs of data and files a receiver acknowledges only what it handed up, everything before included. And what was
+/// handed up is acknowledged: a receiver that handed up everything before the end of an object, lost nothing in that instance
+/// and hears a flush of that position which names it, owes an acknowledgement of it or of a further position. It owes that
+/// whatever it hears in its instance, and its next tick sends it.
+#[tactic(auto, using(crate::proofs::Owing::acknowledge_run))]
+pub fn acknowledge_run()
+    ensures { AcknowledgeRun }
 {}
 
 /// What an event changes of a world. Only an offer joins what was offered; only the sender's events change the sender, and
