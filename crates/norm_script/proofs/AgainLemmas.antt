@@ -78,7 +78,7 @@ not_last : (n : ℕ) → n ≤ 8192 → nat_lt 8192 n ≡ false
 not_last n h = grind arith
 
 settings-read : (before : List Setting) (n : ℕ) (settings : List (Key × ℕ)) (rest : List (List ℕ)) → AreFresh before n settings → n + length settings ≤ 8193
-    → head_from Whole (head_with before) n (setting_lines settings ++ rest) ≡ head_from Whole (head_with (before ++ numbered n settings)) (n + length settings) rest
+    → head_from (head_with before) n (setting_lines settings ++ rest) ≡ head_from (head_with (before ++ numbered n settings)) (n + length settings) rest
 settings-read before n [] rest h few =
     let same : n + 0 ≡ n = omega arith in rw (append-nil before, same) refl
 settings-read before n (s ∷ settings) rest h few =
@@ -87,12 +87,12 @@ settings-read before n (s ∷ settings) rest h few =
     let all : (before ++ new ∷ []) ++ numbered (n + 1) settings ≡ before ++ new ∷ numbered (n + 1) settings = append_assoc before (new ∷ []) (numbered (n + 1) settings) in
     rw (not_last n (omega arith), setting-means s.0 s.1 h.0, h.1)
     (settings-read (before ++ new ∷ []) (n + 1) settings rest h.2 (omega arith)
-    ∙ ap (λ m. head_from Whole (head_with ((before ++ new ∷ []) ++ numbered (n + 1) settings)) m rest) count
-    ∙ ap (λ xs. head_from Whole (head_with xs) (n + length (s ∷ settings)) rest) all)
+    ∙ ap (λ m. head_from (head_with ((before ++ new ∷ []) ++ numbered (n + 1) settings)) m rest) count
+    ∙ ap (λ xs. head_from (head_with xs) (n + length (s ∷ settings)) rest) all)
 
 -- the first command ends it
 head-over : (h : Head) (n producers : ℕ) (lines : List Line) → producers ≤ 4 → n ≤ 8192 → AllByRecursion (IsLine producers) lines
-    → head_from Whole h n (command_lines lines) ≡ record { head = h; next = n; rest = command_lines lines }
+    → head_from h n (command_lines lines) ≡ record { head = h; next = n; rest = command_lines lines }
 head-over h n producers [] few room each = refl
 head-over h n producers (l ∷ lines) few room each =
     rw (not_last n room, command-means l.producer l.verb each.0.first (omega (arith, each.0.last)) each.0.verb) refl

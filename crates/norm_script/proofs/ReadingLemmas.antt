@@ -2,7 +2,6 @@
 use Rattle.std.proofs.Common.{◌≡◌, ◌+◌, ◌≤◌, ℕ, List, ◌∷◌, Option, Some, None, refl, true, false, ltb, ltb-false}
 use Rattle.std.specs.Prelude.{is_some, unwrap_or}
 use Rattle.norm_script.specs.Head.{Head, head_line, head_from}
-use Rattle.norm_script.specs.declared.refusal.Extent.{Extent}
 
 none_told : {X : Type 0} → (o : Option X) → is_some o ≡ false → o ≡ None
 none_told None h = refl
@@ -13,22 +12,22 @@ some_told None d h = absurd (cc)
 some_told (Some x) d h = refl
 
 -- a head ends before this line
-pub head-ends : (extent : Extent) (h after : Head) (n : ℕ) (line : List ℕ) (lines rest : List (List ℕ)) → rest ≡ line ∷ lines
-    → is_some (head_line extent h n line) ≡ false → after ≡ unwrap_or (head_line extent h n line) h
-    → head_from extent h n rest ≡ record { head = after; next = n; rest = rest }
-head-ends extent h after n line lines rest whole over is =
-    let none = none_told (head_line extent h n line) over in
+pub head-ends : (h after : Head) (n : ℕ) (line : List ℕ) (lines rest : List (List ℕ)) → rest ≡ line ∷ lines
+    → is_some (head_line h n line) ≡ false → after ≡ unwrap_or (head_line h n line) h
+    → head_from h n rest ≡ record { head = after; next = n; rest = rest }
+head-ends h after n line lines rest whole over is =
+    let none = none_told (head_line h n line) over in
     let same : after ≡ h = rw none at is in
     rw (whole, none, same) refl
 
 -- any other line belongs to the head
-pub head-goes_on : (extent : Extent) (h after : Head) (n : ℕ) (line : List ℕ) (lines rest : List (List ℕ)) → rest ≡ line ∷ lines
-    → is_some (head_line extent h n line) ≡ true → after ≡ unwrap_or (head_line extent h n line) h
-    → head_from extent h n rest ≡ head_from extent after (n + 1) lines
-head-goes_on extent h after n line lines rest whole on is = rw (whole, some_told (head_line extent h n line) h on, is) refl
+pub head-goes_on : (h after : Head) (n : ℕ) (line : List ℕ) (lines rest : List (List ℕ)) → rest ≡ line ∷ lines
+    → is_some (head_line h n line) ≡ true → after ≡ unwrap_or (head_line h n line) h
+    → head_from h n rest ≡ head_from after (n + 1) lines
+head-goes_on h after n line lines rest whole on is = rw (whole, some_told (head_line h n line) h on, is) refl
 
-pub number_in_head : (extent : Extent) (h : Head) (n : ℕ) (line : List ℕ) → is_some (head_line extent h n line) ≡ true → n ≤ 8192
-number_in_head extent h n line on =
+pub number_in_head : (h : Head) (n : ℕ) (line : List ℕ) → is_some (head_line h n line) ≡ true → n ≤ 8192
+number_in_head h n line on =
     elim (ltb 8192 n) as (λ b. ltb 8192 n ≡ b → n ≤ 8192) [
       | true ↦ λ e. let over = rw e at on in absurd (cc)
       | false ↦ λ e. ltb-false 8192 n e

@@ -1,16 +1,16 @@
 use Rattle.std.proofs.Common.{◌≡◌, sym, ◌+◌, ◌≤◌, ◌<◌, ◌==◌, ℕ, List, [], ◌∷◌, ◌++◌, length, Option, Some, None, Result, Ok, Err, Bool, true, false, refl, arith, cond, nat_le, nat_lt, append_assoc, length-append}
 use Rattle.std.proofs.lemmas.List.{append-nil}
-use Rattle.std.specs.Prelude.{◌&&◌, IfOk, IfSome, count_by, not}
+use Rattle.std.specs.Prelude.{◌&&◌, IfOk, IfSome, count_by}
 use Rattle.std.specs.List.{AllByRecursion}
 use Rattle.norm_base.proofs.RangeLemmas.{range_of}
 use Rattle.norm_base.specs.Given.{value_in, are_in_range, are_values, meets_rules, profile_given}
 use Rattle.norm_base.specs.Keys.{keys}
 use Rattle.norm_base.specs.Settings.{Settings, InRange, settings_with}
-use Rattle.norm_script.specs.Built.{unbuilt_object, unbuilt_command, counts}
+use Rattle.norm_script.specs.Built.{is_built_verb, unbuilt_command, counts}
 use Rattle.norm_script.specs.Head.{head_from, nothing_set, profile_of, settled, given_by, rule_refusal}
 use Rattle.norm_script.specs.Meaning.{meaning_of}
 use Rattle.norm_script.specs.Reading.{next_line, command_refused, take_in, take_line, take_lines, or_refuses, commands_with, commands_from, script_of}
-use Rattle.norm_script.specs.Scripts.{IsVerb, IsMeaning, IsLine, AreNumbered, IsBuiltLine, IsOf}
+use Rattle.norm_script.specs.Scripts.{IsMeaning, IsLine, AreNumbered, IsBuiltLine, IsOf}
 use Rattle.norm_script.specs.Steps.{◌>>=◌, unless}
 use Rattle.norm_script.specs.Text.{text_lines}
 use Rattle.norm_script.specs.declared.meaning.Meaning.{Meaning}
@@ -40,7 +40,7 @@ numbered-on before (x ∷ xs) y h e = (h.0, numbered-on (before ++ x ∷ []) xs 
 -- of what a session can run today
 abbrev AreOf : Extent → Settings → List Line → Type 0
 AreOf Whole profile lines = Unit {0}
-AreOf Built profile lines = (length lines ≤ 256) × AllByRecursion (IsBuiltLine profile.e) lines
+AreOf Built profile lines = AllByRecursion IsBuiltLine lines
 
 record Taken (extent : Extent) (profile : Settings) (lines : List Line) : Type 0 where
   few : length lines ≤ 4096
@@ -52,61 +52,34 @@ record Taken (extent : Extent) (profile : Settings) (lines : List Line) : Type 0
 record Allowed (extent : Extent) (profile : Settings) (n producer : ℕ) (verb : Verb) : Type 0 where
   room : n < 4096
   known : producer ≤ profile.producers
-  built : counts extent (unbuilt_command profile n producer verb) ≡ None
+  built : counts extent (unbuilt_command verb) ≡ None
 
 allowed : (extent : Extent) (profile : Settings) (n producer : ℕ) (verb : Verb) → command_refused extent profile n producer verb ≡ None
     → Allowed extent profile n producer verb
 allowed extent profile n producer verb is =
-    elim (nat_le 4096 n) as (λ a. nat_le 4096 n ≡ a → cond a (Some why.ManyCommands) (cond (nat_lt profile.producers producer) (Some (why.Producer producer profile.producers)) (counts extent (unbuilt_command profile n producer verb))) ≡ None → Allowed extent profile n producer verb) [
+    elim (nat_le 4096 n) as (λ a. nat_le 4096 n ≡ a → cond a (Some why.ManyCommands) (cond (nat_lt profile.producers producer) (Some (why.Producer producer profile.producers)) (counts extent (unbuilt_command verb))) ≡ None → Allowed extent profile n producer verb) [
       | true ↦ λ e f. absurd (cc)
       | false ↦ λ e f.
-          elim (nat_lt profile.producers producer) as (λ b. nat_lt profile.producers producer ≡ b → cond b (Some (why.Producer producer profile.producers)) (counts extent (unbuilt_command profile n producer verb)) ≡ None → Allowed extent profile n producer verb) [
+          elim (nat_lt profile.producers producer) as (λ b. nat_lt profile.producers producer ≡ b → cond b (Some (why.Producer producer profile.producers)) (counts extent (unbuilt_command verb)) ≡ None → Allowed extent profile n producer verb) [
             | true ↦ λ g h. absurd (cc)
             | false ↦ λ g h. record { room = grind arith; known = grind arith; built = h }
           ] refl f
     ] refl is
 
-record Symbol (profile : Settings) (n producer octets : ℕ) : Type 0 where
-  producer_is : producer ≡ 1
-  room : n < 256
-  fits : octets ≤ profile.e
+built : (v : Verb) → unbuilt_command v ≡ None → is_built_verb v ≡ true
+built (verb.Data info bytes) e = refl
+built (verb.File name) e = refl
+built verb.Open e = absurd (cc)
+built (verb.Write bytes) e = absurd (cc)
+built verb.Close e = absurd (cc)
+built (verb.Mark quorum) e = refl
+built (verb.Restart instance) e = refl
+built (verb.Strike node) e = refl
 
-symbol : (profile : Settings) (n producer octets : ℕ) → unbuilt_object profile n producer octets ≡ None → Symbol profile n producer octets
-symbol profile n producer octets is =
-    elim (not (producer == 1)) as (λ a. not (producer == 1) ≡ a → cond a (Some why.VerbUnbuilt) (cond (nat_le 256 n) (Some why.ManyUnbuilt) (cond (nat_lt profile.e octets) (Some (why.Object octets profile.e)) None)) ≡ None → Symbol profile n producer octets) [
-      | true ↦ λ e f. absurd (cc)
-      | false ↦ λ e f.
-          elim (nat_le 256 n) as (λ b. nat_le 256 n ≡ b → cond b (Some why.ManyUnbuilt) (cond (nat_lt profile.e octets) (Some (why.Object octets profile.e)) None) ≡ None → Symbol profile n producer octets) [
-            | true ↦ λ g h. absurd (cc)
-            | false ↦ λ g h.
-                elim (nat_lt profile.e octets) as (λ d. nat_lt profile.e octets ≡ d → cond d (Some (why.Object octets profile.e)) None ≡ None → Symbol profile n producer octets) [
-                  | true ↦ λ i j. absurd (cc)
-                  | false ↦ λ i j. record { producer_is = grind arith; room = grind arith; fits = grind arith }
-                ] refl h
-          ] refl f
-    ] refl is
-
-built : (profile : Settings) (n producer : ℕ) (v : Verb) (number : ℕ) → IsVerb v → unbuilt_command profile n producer v ≡ None
-    → (n < 256) × IsBuiltLine profile.e (record { producer = producer; number = number; verb = v })
-built profile n producer (verb.Data None bytes) number is e =
-    let s = symbol profile n producer (length bytes) e in (s.room, record { producer = s.producer_is; verb = (is.some, s.fits) })
-built profile n producer (verb.Data (Some info) bytes) number is e = absurd (cc)
-built profile n producer (verb.File name) number is e = absurd (cc)
-built profile n producer verb.Open number is e = absurd (cc)
-built profile n producer (verb.Write bytes) number is e = absurd (cc)
-built profile n producer verb.Close number is e = absurd (cc)
-built profile n producer (verb.Mark quorum) number is e = absurd (cc)
-built profile n producer (verb.Restart instance) number is e = absurd (cc)
-built profile n producer (verb.Strike node) number is e = absurd (cc)
-
-of-on : (extent : Extent) (profile : Settings) (before : List Line) (producer : ℕ) (v : Verb) → IsVerb v → AreOf extent profile before
-    → counts extent (unbuilt_command profile (length before) producer v) ≡ None → AreOf extent profile (before ++ next_line before producer v ∷ [])
-of-on Whole profile before producer v is h e = tt
-of-on Built profile before producer v is h e =
-    let b = built profile (length before) producer v (next_line before producer v).number is e in (
-      omega (arith, length-append before (next_line before producer v ∷ []), b.0),
-      each-on (IsBuiltLine profile.e) before (next_line before producer v) h.1 b.1,
-    )
+of-on : (extent : Extent) (profile : Settings) (before : List Line) (producer : ℕ) (v : Verb) → AreOf extent profile before
+    → counts extent (unbuilt_command v) ≡ None → AreOf extent profile (before ++ next_line before producer v ∷ [])
+of-on Whole profile before producer v h e = tt
+of-on Built profile before producer v h e = each-on IsBuiltLine before (next_line before producer v) h (built v e)
 
 IfOk-unless : {X E : Type 0} (P : X → Type 0) (o : Option E) (x : X) → (o ≡ None → P x) → IfOk (unless o x) P
 IfOk-unless P None x h = h refl
@@ -125,7 +98,7 @@ taken-in extent profile before (Command producer v) is t =
       few = omega (arith, length-append before (line ∷ []), a.room);
       each = each-on (IsLine profile.producers) before line t.each (record { first = is.0; last = a.known; verb = is.1 });
       numbered = numbered-on [] before line t.numbered refl;
-      of = of-on extent profile before producer v is.1 t.of a.built;
+      of = of-on extent profile before producer v t.of a.built;
     })
 
 line-taken : (extent : Extent) (profile : Settings) (before : List Line) (n : ℕ) (line : List ℕ) → Taken extent profile before
@@ -152,13 +125,13 @@ lines-taken extent profile before n (line ∷ lines) t =
 
 nothing-taken : (extent : Extent) (profile : Settings) → Taken extent profile []
 nothing-taken Whole profile = record { few = omega arith; each = tt; numbered = tt; of = tt }
-nothing-taken Built profile = record { few = omega arith; each = tt; numbered = tt; of = (omega arith, tt) }
+nothing-taken Built profile = record { few = omega arith; each = tt; numbered = tt; of = tt }
 
 script-of-taken : (extent : Extent) (profile : Settings) (lines : List Line) → InRange profile → Taken extent profile lines
     → IsOf extent (record { profile = profile; lines = lines })
 script-of-taken Whole profile lines range t = record { range = range; few = t.few; each = t.each; numbered = t.numbered }
 script-of-taken Built profile lines range t =
-    (record { range = range; few = t.few; each = t.each; numbered = t.numbered }, record { few = t.of.0; each = t.of.1 })
+    (record { range = range; few = t.few; each = t.each; numbered = t.numbered }, t.of)
 
 commands-are : (extent : Extent) (profile : Settings) → InRange profile → (r : Result (List Line) Refusal) → IfOk r (Taken extent profile)
     → IfOk (commands_with profile r) (IsOf extent)
@@ -192,7 +165,7 @@ settled-range (Some refused) None rule h = tt
 -- what is read is a script
 pub script-sound : (extent : Extent) (text : List ℕ) → IfOk (script_of extent text) (IsOf extent)
 script-sound extent text =
-    let begun = head_from extent nothing_set 1 (text_lines text) in
+    let begun = head_from nothing_set 1 (text_lines text) in
     IfOk-bind InRange (IsOf extent) (profile_of begun.head) (λ profile. commands_from extent profile begun.next begun.rest)
     (settled-range begun.head.refused (profile_given (given_by begun.head.settings)) (rule_refusal begun.head.settings) (given-range (given_by begun.head.settings)))
     (λ profile range. commands-sound extent profile begun.next begun.rest range)

@@ -113,10 +113,10 @@ adds_set h after n line k v says e none = go (setting_of_key k h.settings) refl 
         }
     go (Some old) fresh f = absurd (refuses h after new.line (why.Twice k old.line) f none)
 
-adds : (h after : Head) (n : ℕ) (line : List ℕ) → head_line Whole h n line ≡ Some after → after.refused ≡ None → Adds h after line
+adds : (h after : Head) (n : ℕ) (line : List ℕ) → head_line h n line ≡ Some after → after.refused ≡ None → Adds h after line
 adds h after n line e none = within (nat_lt 8192 n) e
   where
-    by : (r : Result Meaning Why) → IfOk r (Says line) → head_after Whole h n r ≡ Some after → Adds h after line
+    by : (r : Result Meaning Why) → IfOk r (Says line) → head_after h n r ≡ Some after → Adds h after line
     by (Ok Nothing) says f =
         let same = same_head h after f in
         let settings = ap (λ (x : Head). x.settings) (sym same) in
@@ -131,7 +131,7 @@ adds h after n line e none = within (nat_lt 8192 n) e
     by (Ok (Command p v)) says f = absurd (no_head after f)
     by (Err reason) says f = absurd (refuses h after n reason f none)
 
-    within : (b : Bool) → cond b None (head_after Whole h n (meaning_of line)) ≡ Some after → Adds h after line
+    within : (b : Bool) → cond b None (head_after h n (meaning_of line)) ≡ Some after → Adds h after line
     within true f = absurd (no_head after f)
     within false f = by (meaning_of line) (line_says line) f
 
@@ -158,19 +158,19 @@ goes_on h after line lines begun first rest = record {
   once = λ once. rest.once (first.once once);
 }
 
-head_says : (h : Head) (n : ℕ) (lines : List (List ℕ)) → (head_from Whole h n lines).head.refused ≡ None → HeadSays h lines (head_from Whole h n lines)
+head_says : (h : Head) (n : ℕ) (lines : List (List ℕ)) → (head_from h n lines).head.refused ≡ None → HeadSays h lines (head_from h n lines)
 head_says h n [] none = ends_here h n [] none
-head_says h n (line ∷ lines) none = go (head_line Whole h n line) refl none (λ after f. head_says after (n + 1) lines f)
+head_says h n (line ∷ lines) none = go (head_line h n line) refl none (λ after f. head_says after (n + 1) lines f)
   where
     begun : Option Head → Begun
-    begun o = or_ends o (record { head = h; next = n; rest = line ∷ lines }) (λ after. head_from Whole after (n + 1) lines)
+    begun o = or_ends o (record { head = h; next = n; rest = line ∷ lines }) (λ after. head_from after (n + 1) lines)
 
-    go : (o : Option Head) → head_line Whole h n line ≡ o → (begun o).head.refused ≡ None
-        → ((after : Head) → (head_from Whole after (n + 1) lines).head.refused ≡ None → HeadSays after lines (head_from Whole after (n + 1) lines))
+    go : (o : Option Head) → head_line h n line ≡ o → (begun o).head.refused ≡ None
+        → ((after : Head) → (head_from after (n + 1) lines).head.refused ≡ None → HeadSays after lines (head_from after (n + 1) lines))
         → HeadSays h (line ∷ lines) (begun o)
     go None e f later = ends_here h n (line ∷ lines) f
     go (Some after) e f later =
-        let rest = later after f in goes_on h after line lines (head_from Whole after (n + 1) lines) (adds h after n line e rest.fine) rest
+        let rest = later after f in goes_on h after line lines (head_from after (n + 1) lines) (adds h after n line e rest.fine) rest
 
 -- The commands.
 
@@ -263,7 +263,7 @@ nothing_once = tt
 
 pub text_of : (text : List ℕ) (script : Commands) → script_of Whole text ≡ Ok script → Text text script
 text_of text script e =
-    let begun = head_from Whole nothing_set 1 (text_lines text) in
+    let begun = head_from nothing_set 1 (text_lines text) in
     let first = bound (profile_of begun.head) (λ profile. commands_with profile (take_lines Whole profile [] begun.next begun.rest)) script e in
     let settled_is = was_settled begun.head.refused (profile_given (given_by begun.head.settings)) (rule_refusal begun.head.settings) first.0 first.1 in
     let second = with_commands first.0 (take_lines Whole first.0 [] begun.next begun.rest) script first.2 in

@@ -4,11 +4,9 @@ use Rattle.norm_base.specs.Keys.{row_of}
 use Rattle.norm_base.specs.Settings.{Settings}
 use Rattle.norm_base.specs.declared.key.Key.{Key}
 use Rattle.norm_base.specs.declared.key.Key.TheVariants as key
-use Rattle.norm_script.specs.Built.{unbuilt_key, counts}
 use Rattle.norm_script.specs.Meaning.{meaning_of}
 use Rattle.norm_script.specs.declared.meaning.Meaning.{Meaning}
 use Rattle.norm_script.specs.declared.meaning.Meaning.TheVariants.{Nothing, Set, Command}
-use Rattle.norm_script.specs.declared.refusal.Extent.{Extent}
 use Rattle.norm_script.specs.declared.refusal.Refusal.{Refusal}
 use Rattle.norm_script.specs.declared.refusal.Why.{Why}
 use Rattle.norm_script.specs.declared.refusal.Why.TheVariants as why
@@ -37,21 +35,17 @@ abbrev pub set_once : Head → Setting → Option Setting → Head
 set_once h new None = record h { settings = h.settings ++ new ∷ [] }
 set_once h new (Some old) = refuse h new.line (why.Twice new.key old.line)
 
-abbrev pub set_allowed : Head → Setting → Option Why → Head
-set_allowed h new None = set_once h new (setting_of_key new.key h.settings)
-set_allowed h new (Some reason) = refuse h new.line reason
-
 -- the head after line n; none where that line is a command, which ends the head
-abbrev pub head_after : Extent → Head → ℕ → Result Meaning Why → Option Head
-head_after extent h n (Ok Nothing) = Some h
-head_after extent h n (Ok (Set key value)) =
-    Some (set_allowed h (record { key = key; value = value; line = n }) (counts extent (unbuilt_key key)))
-head_after extent h n (Ok (Command producer verb)) = None
-head_after extent h n (Err reason) = Some (refuse h n reason)
+abbrev pub head_after : Head → ℕ → Result Meaning Why → Option Head
+head_after h n (Ok Nothing) = Some h
+head_after h n (Ok (Set key value)) =
+    Some (set_once h (record { key = key; value = value; line = n }) (setting_of_key key h.settings))
+head_after h n (Ok (Command producer verb)) = None
+head_after h n (Err reason) = Some (refuse h n reason)
 
 -- a script has 8,192 lines: the head ends there too
-abbrev pub head_line : Extent → Head → ℕ → List ℕ → Option Head
-head_line extent h n line = if nat_lt 8192 n then None else head_after extent h n (meaning_of line)
+abbrev pub head_line : Head → ℕ → List ℕ → Option Head
+head_line h n line = if nat_lt 8192 n then None else head_after h n (meaning_of line)
 
 -- a head, and the lines behind it, of which the first has this number
 pub record Begun : Type 0 where
@@ -63,11 +57,11 @@ abbrev pub or_ends : Option Head → Begun → (Head → Begun) → Begun
 or_ends None begun go_on = begun
 or_ends (Some h) begun go_on = go_on h
 
-abbrev pub head_from : Extent → Head → ℕ → List (List ℕ) → Begun
-head_from extent h n [] = record { head = h; next = n; rest = [] }
-head_from extent h n (line ∷ lines) =
-    or_ends (head_line extent h n line) (record { head = h; next = n; rest = line ∷ lines })
-    (λ after. head_from extent after (n + 1) lines)
+abbrev pub head_from : Head → ℕ → List (List ℕ) → Begun
+head_from h n [] = record { head = h; next = n; rest = [] }
+head_from h n (line ∷ lines) =
+    or_ends (head_line h n line) (record { head = h; next = n; rest = line ∷ lines })
+    (λ after. head_from after (n + 1) lines)
 
 -- the values that are set, and the line that sets the last of them
 abbrev pub given_by : List Setting → List (Option ℕ)

@@ -28,7 +28,7 @@ abbrev pub command_refused : Extent → Settings → ℕ → ℕ → Verb → Op
 command_refused extent profile before producer verb =
     if nat_le 4096 before then Some why.ManyCommands else
     (if nat_lt profile.producers producer then Some (why.Producer producer profile.producers) else
-    counts extent (unbuilt_command profile before producer verb))
+    counts extent (unbuilt_command verb))
 
 -- a line is taken in behind these commands
 abbrev pub take_in : Extent → Settings → List Line → Meaning → Result (List Line) Why
@@ -65,7 +65,7 @@ script_from extent begun = profile_of begun.head >>= λ profile. commands_from e
 
 -- a script
 abbrev pub script_of : Extent → List ℕ → Result Commands Refusal
-script_of extent text = script_from extent (head_from extent nothing_set 1 (text_lines text))
+script_of extent text = script_from extent (head_from nothing_set 1 (text_lines text))
 
 -- a script for a profile that is given: no line of it sets a key
 abbrev pub commands_of : Settings → List ℕ → Result Commands Refusal

@@ -2,6 +2,7 @@ use Rattle.std.specs.Prelude.{◌≡◌, ℕ, ◌+◌, ◌≤◌, ◌==◌, true
 use Rattle.std.specs.List.{AllByRecursion}
 use Rattle.norm_base.specs.Octets.{AreOctets}
 use Rattle.norm_base.specs.Settings.{InRange}
+use Rattle.norm_script.specs.Built.{is_built_verb}
 use Rattle.norm_script.specs.Commands.{Commands}
 use Rattle.norm_script.specs.Words.{is_name}
 use Rattle.norm_script.specs.declared.meaning.Meaning.{Meaning}
@@ -60,20 +61,11 @@ pub record IsScript (script : Commands) : Type 0 where
   pub each : AllByRecursion (IsLine script.profile.producers) script.lines
   pub numbered : AreNumbered [] script.lines
 
--- what a session can run today: at most 256 data objects of producer 1, without infos, each of one symbol of e octets
-abbrev pub IsOneSymbol : ℕ → Verb → Type 0
-IsOneSymbol e (verb.Data None bytes) = (1 ≤ length bytes) × (length bytes ≤ e)
-IsOneSymbol e verb = ⊥
-
-pub record IsBuiltLine (e : ℕ) (line : Line) : Type 0 where
-  pub producer : line.producer ≡ 1
-  pub verb : IsOneSymbol e line.verb
-
-pub record IsBuilt (script : Commands) : Type 0 where
-  pub few : length script.lines ≤ 256
-  pub each : AllByRecursion (IsBuiltLine script.profile.e) script.lines
+-- a command that a session can run today: it opens, writes and closes no stream
+abbrev pub IsBuiltLine : Line → Type 0
+IsBuiltLine line = is_built_verb line.verb ≡ true
 
 -- what is read of this extent of the grammar
 abbrev pub IsOf : Extent → Commands → Type 0
 IsOf Whole script = IsScript script
-IsOf Built script = IsScript script × IsBuilt script
+IsOf Built script = IsScript script × AllByRecursion IsBuiltLine script.lines

@@ -13,7 +13,6 @@ sentence_by_key (why.NoWord key) = Some (codes "the value is none of the words o
 sentence_by_key (why.Below key value) = Some (decimal value ++ (codes " is below " ++ (decimal (row_of key).least ++ (codes ", the least " ++ (row_of key).name))))
 sentence_by_key (why.Above key) = Some (codes "the value is above " ++ (decimal (row_of key).greatest ++ (codes ", the greatest " ++ (row_of key).name)))
 sentence_by_key (why.Twice key line) = Some (codes "the key " ++ ((row_of key).name ++ (codes " was set on line " ++ decimal line)))
-sentence_by_key (why.KeyUnbuilt key) = Some (codes "the key " ++ ((row_of key).name ++ codes " cannot be set yet"))
 sentence_by_key _ = None
 
 -- of a reason that speaks of numbers alone
@@ -22,7 +21,6 @@ sentence_by_numbers (why.LongLine octets) = Some (codes "the line has " ++ (deci
 sentence_by_numbers (why.MaxBelowB max_n b) = Some (codes "max_n is " ++ (decimal max_n ++ (codes ", and has to be at least b, which is " ++ decimal b)))
 sentence_by_numbers (why.Buffer blocks b e) = Some (codes "blocks * b * e is " ++ (decimal blocks ++ (codes " * " ++ (decimal b ++ (codes " * " ++ (decimal e ++ codes ", which is above 16777216"))))))
 sentence_by_numbers (why.Producer producer producers) = Some (codes "the producer is " ++ (decimal producer ++ (codes ", and there are " ++ decimal producers)))
-sentence_by_numbers (why.Object octets e) = Some (codes "the object has " ++ (decimal octets ++ (codes " octets, and a symbol " ++ decimal e)))
 sentence_by_numbers _ = None
 
 -- of any other
@@ -43,8 +41,7 @@ plain_sentence why.NoInstance = codes "an instance is a number from 0 to 65535"
 plain_sentence why.NoQuorum = codes "a quorum is a number from 1 to 16"
 plain_sentence why.NoNode = codes "a node is a number from 1 to 4294967294"
 plain_sentence why.ManyCommands = codes "a script has at most 4096 commands"
-plain_sentence why.VerbUnbuilt = codes "a session runs only `1 data HEX` yet"
-plain_sentence why.ManyUnbuilt = codes "a session runs at most 256 commands yet"
+plain_sentence why.VerbUnbuilt = codes "a session does not run open, write and close yet"
 plain_sentence _ = []
 
 abbrev pub sentence_of : Why → List ℕ

@@ -2,14 +2,12 @@
 
 ghost use Rattle.std.specs.Prelude.{◌≡◌, ◌≤◌, IfOk, OnOk, is_some, unwrap_or};
 ghost use Rattle.norm_base.specs.Given.{value_in};
-ghost use Rattle.norm_script.specs.Built.{unbuilt_key, counts};
-ghost use Rattle.norm_script.specs.Head.{nothing_set, refuse, setting_of_key, set_once, set_allowed, head_after, head_line, head_from, given_by, last_set, broken_rule, rule_refusal, earlier, profile_of};
+ghost use Rattle.norm_script.specs.Head.{nothing_set, refuse, setting_of_key, set_once, head_after, head_line, head_from, given_by, last_set, broken_rule, rule_refusal, earlier, profile_of};
 ghost use Rattle.norm_script.specs.Text.{text_lines};
 
-use crate::built::unbuilt_key;
 use crate::lines::first_line;
 use crate::meaning::{Meaning, meaning_of};
-use crate::refusal::{Extent, Refusal, Why};
+use crate::refusal::{Refusal, Why};
 use crate::setting::Setting;
 use norm_base::{Given, Key, Memory, Profile};
 use std::alloc::Global;
@@ -85,40 +83,19 @@ impl Head {
         }
     }
 
-    /// A line sets a key, where that can be read.
-    fn set(&mut self, extent: Extent, new: Setting) -> Result<(), Memory>
-        ensures { OnOk result (self.new ≡ set_allowed self.old new (counts extent (unbuilt_key new.key))) }
-    {
-        match unbuilt_key(extent, new.key) {
-            Some(why) => {
-                self.refuse(new.line, why);
-                Ok(())
-            }
-            None => self.set_once(new),
-        }
-    }
-
     /// Takes in what line `n` means. `false` where it is a command, which ends the head.
-    fn take(
-        &mut self,
-        extent: Extent,
-        n: u32,
-        meaning: Result<Meaning, Why>,
-    ) -> Result<bool, Memory>
-        ensures { IfOk result (λ taken. let next = head_after extent self.old n meaning in
+    fn take(&mut self, n: u32, meaning: Result<Meaning, Why>) -> Result<bool, Memory>
+        ensures { IfOk result (λ taken. let next = head_after self.old n meaning in
             (taken ≡ is_some next) × (self.new ≡ unwrap_or next self.old)) }
     {
         match meaning {
             Ok(Meaning::Nothing) => Ok(true),
             Ok(Meaning::Set { key, value }) => {
-                self.set(
-                    extent,
-                    Setting {
-                        key,
-                        value,
-                        line: n,
-                    },
-                )?;
+                self.set_once(Setting {
+                    key,
+                    value,
+                    line: n,
+                })?;
                 Ok(true)
             }
             Ok(Meaning::Command { .. }) => Ok(false),
@@ -130,21 +107,15 @@ impl Head {
     }
 
     /// Takes in line `n`. `false` where the head ends before it.
-    fn take_line(
-        &mut self,
-        alloc: Global,
-        extent: Extent,
-        n: u32,
-        line: &[u8],
-    ) -> Result<bool, Memory>
-        ensures { IfOk result (λ taken. let next = head_line extent self.old n line.now in
+    fn take_line(&mut self, alloc: Global, n: u32, line: &[u8]) -> Result<bool, Memory>
+        ensures { IfOk result (λ taken. let next = head_line self.old n line.now in
             (taken ≡ is_some next) × (self.new ≡ unwrap_or next self.old)) }
     {
         if n > MOST_LINES {
             return Ok(false);
         }
         let meaning = meaning_of(alloc, line)?;
-        self.take(extent, n, meaning)
+        self.take(n, meaning)
     }
 
     /// The profile that the settings make, or the first line without meaning.
@@ -225,8 +196,8 @@ pub(crate) struct Begun<'a> {
 }
 
 /// Reads a script's head.
-pub(crate) fn read_head(alloc: Global, extent: Extent, text: &[u8]) -> Result<Begun<'_>, Memory>
-    ensures head { IfOk result (λ begun. head_from extent nothing_set 1 (text_lines text.now) ≡
+pub(crate) fn read_head(alloc: Global, text: &[u8]) -> Result<Begun<'_>, Memory>
+    ensures head { IfOk result (λ begun. head_from nothing_set 1 (text_lines text.now) ≡
         record { head = begun.head; next = begun.next; rest = text_lines begun.rest.now }) }
     ensures few { IfOk result (λ begun. begun.next ≤ 8193) }
 {
@@ -236,7 +207,7 @@ pub(crate) fn read_head(alloc: Global, extent: Extent, text: &[u8]) -> Result<Be
     // Proof: the label names the loop for its invariant.
     'lines: while !rest.is_empty() {
         let (line, more) = first_line(rest);
-        if !head.take_line(alloc, extent, n, line)? {
+        if !head.take_line(alloc, n, line)? {
             return Ok(Begun {
                 head,
                 next: n,

@@ -61,7 +61,7 @@ fn command_refused(
     }
     match extent {
         Extent::Whole => None,
-        Extent::Built => unbuilt_command(profile, before, producer, verb),
+        Extent::Built => unbuilt_command(verb),
     }
 }
 
@@ -152,7 +152,7 @@ fn read_from(
 pub fn read(alloc: Global, text: &[u8], extent: Extent) -> Result<Result<Script, Refusal>, Memory>
     ensures { IfOk result (λ read. read ≡ script_of extent text.now) }
 {
-    let begun = read_head(alloc, extent, text)?;
+    let begun = read_head(alloc, text)?;
     match begun.head.profile() {
         Ok(profile) => read_from(alloc, extent, profile, begun.next, begun.rest),
         Err(refusal) => Ok(Err(refusal)),

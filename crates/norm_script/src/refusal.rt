@@ -65,14 +65,8 @@ pub enum Why {
     ManyCommands,
     /// There is no such producer.
     Producer { producer: u32, producers: u32 },
-    /// The key cannot be set yet.
-    KeyUnbuilt { key: Key },
-    /// The command is not built yet.
+    /// The command is one of a stream, which a session does not run yet.
     VerbUnbuilt,
-    /// It is a command more than a session runs yet.
-    ManyUnbuilt,
-    /// The object is longer than a symbol, which a session does not send yet.
-    Object { octets: u64, e: u32 },
 }
 
 /// A line without meaning, by its number from 1, and why it has none.

@@ -37,10 +37,6 @@ fn say_key<W: fmt::Write>(why: Why, f: &mut fmt::Formatter<W>) -> fmt::Result
             let name = key.row().name;
             write!(f, "the key {name} was set on line {line}")
         }
-        Why::KeyUnbuilt { key } => {
-            let name = key.row().name;
-            write!(f, "the key {name} cannot be set yet")
-        }
         _ => Ok(()),
     }
 }
@@ -70,7 +66,6 @@ fn say_numbers<W: fmt::Write>(why: Why, f: &mut fmt::Formatter<W>) -> fmt::Resul
             producer,
             producers,
         } => write!(f, "the producer is {producer}, and there are {producers}"),
-        Why::Object { octets, e } => write!(f, "the object has {octets} octets, and a symbol {e}"),
         _ => Ok(()),
     }
 }
@@ -84,13 +79,11 @@ impl fmt::Display for Why {
             | Why::NoWord { .. }
             | Why::Below { .. }
             | Why::Above { .. }
-            | Why::Twice { .. }
-            | Why::KeyUnbuilt { .. } => say_key(*self, f),
+            | Why::Twice { .. } => say_key(*self, f),
             Why::LongLine { .. }
             | Why::MaxBelowB { .. }
             | Why::Buffer { .. }
-            | Why::Producer { .. }
-            | Why::Object { .. } => say_numbers(*self, f),
+            | Why::Producer { .. } => say_numbers(*self, f),
             Why::ByteOrderMark => {
                 f.write_str("it begins with a byte order mark: write UTF-8 without one")
             }
@@ -125,8 +118,7 @@ impl fmt::Display for Why {
             Why::NoQuorum => f.write_str("a quorum is a number from 1 to 16"),
             Why::NoNode => f.write_str("a node is a number from 1 to 4294967294"),
             Why::ManyCommands => f.write_str("a script has at most 4096 commands"),
-            Why::VerbUnbuilt => f.write_str("a session runs only `1 data HEX` yet"),
-            Why::ManyUnbuilt => f.write_str("a session runs at most 256 commands yet"),
+            Why::VerbUnbuilt => f.write_str("a session does not run open, write and close yet"),
         }
     }
 }

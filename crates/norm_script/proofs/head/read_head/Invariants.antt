@@ -6,7 +6,7 @@ use Rattle.norm_script.proofs.head.read_head.Given as goal
 -- the head goes on from here
 abbrev pub invariant-lines : goal.invariant-lines
 invariant-lines l =
-    (head_from l.extent nothing_set 1 (text_lines l.text) ≡ head_from l.extent l.head l.n (text_lines l.rest)) × (l.n ≤ 8193)
+    (head_from nothing_set 1 (text_lines l.text) ≡ head_from l.head l.n (text_lines l.rest)) × (l.n ≤ 8193)
 
 abbrev pub decreases-lines : goal.decreases-lines
 decreases-lines l = length l.rest
