@@ -10,7 +10,7 @@ use Rattle.norm_journal.specs.Accepting.{accepts, judged_from}
 use Rattle.norm_journal.specs.Honest.{IsHonest}
 use Rattle.norm_journal.specs.WorldEvents.{TakesHonestly}
 use Rattle.norm_journal.specs.Judged.{Judged, is_whole}
-use Rattle.norm_journal.specs.Places.{Place, Giving, Over}
+use Rattle.norm_journal.specs.Places.{Place, Giving, Again, Over}
 use Rattle.norm_journal.specs.Printed.{line_of, lines_from}
 use Rattle.norm_script.specs.declared.script.Verb.{Verb}
 use Rattle.norm_script.specs.declared.script.Verb.TheVariants as verb
@@ -124,6 +124,7 @@ no_file_whole files _ e = none-some Whole e
 whole_at : (place : Place) (j : Judged) → ends_in place j ≡ Some Whole → is_whole j ≡ true
 whole_at Over j e = spent_or_whole (is_whole j) e
 whole_at (Giving line) j e = absurd (no_file_whole j.files line.verb e)
+whole_at (Again line) j e = absurd (no_file_whole j.files line.verb e)
 whole_at _ j e = absurd (none-some Whole e)
 
 pub whole_done : WholeIsDone

@@ -13,6 +13,8 @@ pub mod NameLemmas
 pub mod LawfulLemmas
 pub mod OfferedLemmas
 pub mod CallLemmas
+pub mod LineLemmas
 pub mod OctetLemmas
+pub mod ObjectLemmas
 pub mod ScriptLemmas
 pub mod EndLemmas

@@ -1,7 +1,8 @@
 -- The job of a command. A file's octets do not stand in its command: they are those of the file with its name.
-use Rattle.std.specs.Prelude.{ℕ, ◌==◌, ◌&&◌, List, length, replicate, nat_eq, Bool, true, false, Option, None, Some, Result, Ok, Err, is_none}
+use Rattle.std.specs.Prelude.{ℕ, ◌≡◌, ◌==◌, ◌&&◌, List, length, replicate, nat_eq, Bool, true, false, Option, None, Some, Result, Ok, Err, is_none}
 use Rattle.std.specs.Option.{option_eq, option_map}
 use Rattle.norm_base.specs.Contents.{content_of}
+use Rattle.norm_script.specs.declared.script.Line.{Line}
 use Rattle.norm_script.specs.declared.script.Verb.{Verb}
 use Rattle.norm_script.specs.declared.script.Verb.TheVariants as verb
 use Rattle.norm_send_rules.specs.declared.fault.SendFault.{SendFault}
@@ -39,6 +40,17 @@ job_of verb.Close = Some job.Close
 job_of (verb.Mark quorum) = Some (job.Mark quorum)
 job_of (verb.Restart instance) = Some (job.Restart instance)
 job_of (verb.Strike node) = Some (job.Strike node)
+
+-- a command that has nothing to do with a stream
+abbrev pub opens_no_stream : Verb → Bool
+opens_no_stream verb.Open = false
+opens_no_stream (verb.Write octets) = false
+opens_no_stream verb.Close = false
+opens_no_stream _ = true
+
+-- the same of a line
+abbrev pub IsOfObjects : Line → Type 0
+IsOfObjects line = opens_no_stream line.verb ≡ true
 
 -- the job is that of the command
 abbrev pub is_job_of : Told → Verb → Job → Bool

@@ -13,14 +13,14 @@ use Rattle.norm_send_rules.specs.Commanding.{commanded}
 use Rattle.norm_send_rules.specs.SenderState.{SenderState}
 use Rattle.norm_send_rules.specs.Ticking.{is_idle}
 use Rattle.norm_send_rules.specs.declared.job.Job.TheVariants as job
-use Rattle.norm_safety.specs.Jobs.{AreEvents}
+use Rattle.norm_safety.specs.Jobs.{AreEvents, AreOfObjects}
 use Rattle.norm_safety.specs.Lawful.{Lawful}
 use Rattle.norm_safety.specs.WorldStep.{run_from}
 use Rattle.norm_journal.specs.declared.event.Event.{Event}
 use Rattle.norm_journal.specs.declared.event.Event.TheVariants as event
 use Rattle.norm_journal.specs.Accepting.{accepts, judged_from}
 use Rattle.norm_journal.specs.Honest.{IsHonest}
-use Rattle.norm_journal.specs.Jobs.{Told, file_of_length}
+use Rattle.norm_journal.specs.Jobs.{Told, file_of_length, IsOfObjects}
 use Rattle.norm_journal.specs.Judged.{Judged, judged_opening, is_done}
 use Rattle.norm_journal.specs.Printed.{lines_from}
 use Rattle.norm_journal.specs.Pulling.{origin_of}
@@ -103,6 +103,11 @@ abbrev pub CommandsAreEvents : Type 0
 CommandsAreEvents = (script : Commands) (files : Told) (nodes : List ℕ) (events : List Event) → IsScript script
     → Begun script files nodes events → AllByRecursion HasOctets events
     → AreEvents (world_events (judged_opening script files nodes) events)
+
+-- Where no line of a script is of a stream, the nodes have a run of data and files alone.
+abbrev pub CommandsAreOfObjects : Type 0
+CommandsAreOfObjects = (script : Commands) (files : Told) (nodes : List ℕ) (events : List Event) → AllByRecursion IsOfObjects script.lines
+    → Begun script files nodes events → AreOfObjects (world_events (judged_opening script files nodes) events)
 
 -- In a script each command has a name of its own.
 abbrev pub ScriptsNameOnce : Type 0

@@ -8,7 +8,7 @@ use Rattle.norm_journal.specs.declared.event.Event.{Event}
 use Rattle.norm_journal.specs.Accepting.{judged_from}
 use Rattle.norm_journal.specs.Jobs.{Told, may_be_absent}
 use Rattle.norm_journal.specs.Judged.{Judged, judged_opening, is_whole}
-use Rattle.norm_journal.specs.Places.{Place, Giving, Over}
+use Rattle.norm_journal.specs.Places.{Place, Giving, Again, Over}
 
 -- the judge's state after a journal
 abbrev pub judged : Commands → Told → List ℕ → List Event → Option Judged
@@ -33,6 +33,7 @@ absent_of files _ = None
 abbrev pub ends_in : Place → Judged → Option Ending
 ends_in Over j = elim (is_whole j) [ true ↦ Some Whole | false ↦ Some Spent ]
 ends_in (Giving line) j = absent_of j.files line.verb
+ends_in (Again line) j = absent_of j.files line.verb
 ends_in _ j = None
 
 -- the ending of a run that has this state last

@@ -5,7 +5,7 @@ ghost use Rattle.norm_journal.specs.Said.{LinesReadBack};
 ghost use Rattle.norm_journal.specs.Free.{OnlyTheseAreFree};
 ghost use Rattle.norm_journal.specs.Calls.{CallsAreDue};
 ghost use Rattle.norm_journal.specs.Counts.{JournalIsCounted};
-ghost use Rattle.norm_journal.specs.Laws.{FrontsAreAccepted, FrontsArePrinted, PullsInOrder, WholeIsDone, EndsLast, MovesTheWorld, BeginsLawfully, FilesGoByLength, OffersAreTheWorlds, TakesStayHonest, CommandsAreEvents, ScriptsNameOnce};
+ghost use Rattle.norm_journal.specs.Laws.{FrontsAreAccepted, FrontsArePrinted, PullsInOrder, WholeIsDone, EndsLast, MovesTheWorld, BeginsLawfully, FilesGoByLength, OffersAreTheWorlds, TakesStayHonest, CommandsAreEvents, CommandsAreOfObjects, ScriptsNameOnce};
 
 /// Each front of a journal that is accepted is accepted.
 #[tactic(auto, using(crate::proofs::FrontLemmas::fronts_accepted))]
@@ -70,6 +70,12 @@ pub fn calls_are_due()
 #[tactic(auto, using(crate::proofs::OctetLemmas::commands_are_events))]
 pub fn commands_are_events()
     ensures { CommandsAreEvents }
+{}
+
+/// A script without the verbs of streams gives the nodes a run of data and files alone.
+#[tactic(auto, using(crate::proofs::ObjectLemmas::commands_are_of_objects))]
+pub fn commands_are_of_objects()
+    ensures { CommandsAreOfObjects }
 {}
 
 /// In a script each command has a name of its own.
