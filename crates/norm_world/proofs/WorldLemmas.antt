@@ -17,7 +17,7 @@ abbrev pub kept : Settings → SenderKept → List ReceiverKept → WorldKept
 kept p sender receivers = record { p = p; sender = sender; receivers = receivers }
 
 -- the world after one event more
-run_more : (p : Settings) (events : List Event) (event : Event) → run p (events ++ event ∷ []) ≡ (world_step p (run p events) event).0
+pub run_more : (p : Settings) (events : List Event) (event : Event) → run p (events ++ event ∷ []) ≡ (world_step p (run p events) event).0
 run_more p events event = fold-append (λ w e. (world_step p w e).0) (world_opening p) events (event ∷ [])
 
 -- an event by its steps, under one profile

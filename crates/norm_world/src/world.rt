@@ -1,6 +1,6 @@
 //! The nodes of a session as one world.
 
-ghost use Rattle.std.specs.Prelude.{◌≡◌, ◌≢◌, ℕ, ◌+◌, ◌<◌, true, Option, Some, IfOk, IfErr, OnErr, IfNone, IfSome, IsSome, Err, length, slice_get, ◌↔◌};
+ghost use Rattle.std.specs.Prelude.{◌≡◌, ◌≢◌, ℕ, ◌+◌, ◌<◌, ◌++◌, true, List, [], Option, Some, IfOk, IfErr, OnErr, IfNone, IfSome, IsErr, IsSome, Err, length, slice_get, ◌↔◌};
 ghost use Rattle.norm_base.specs.Members.{is_receiver, is_node};
 ghost use Rattle.norm_base.specs.Settings.{Settings};
 ghost use Rattle.norm_ext.specs.Reading.{decoded};
@@ -12,12 +12,12 @@ ghost use Rattle.norm_safety.specs.Hands.{instance_at as instance_in};
 ghost use Rattle.norm_safety.specs.World.{World as Rules, world_opening};
 ghost use Rattle.norm_send_rules.specs.declared.fault.SendFault.TheVariants as send;
 ghost use Rattle.norm_sender.specs.Commands.{opens_none, answer_of, GivesBack};
-ghost use Rattle.norm_world.specs.WorldKept.{StandsFor, IsReady, place_of};
-ghost use Rattle.norm_world.specs.WorldMoves.{IsEvent, IsNoEvent, IsSent, AreTaken, receiver_of, AreBegun};
+ghost use Rattle.norm_world.specs.WorldKept.{StandsFor, IsReady, IsBegun, IsFilling, IsMissing, IsFilled, HasBegun, place_of};
+ghost use Rattle.norm_world.specs.WorldMoves.{IsEvent, IsNoEvent, IsRefused, IsEnded, IsLeft, IsSent, AreTaken, receiver_of, AreBegun};
 ghost use Rattle.norm_world.specs.declared.fault.DeliverFault.TheVariants as fault;
 
 use crate::fault::DeliverFault;
-use norm_base::{Datagram, InstanceId, Memory, Moment, NodeId, Origin, Profile, Sent};
+use norm_base::{Datagram, InstanceId, Memory, Moment, NodeId, Octets, Origin, Profile, Sent};
 use norm_order::Up;
 use norm_receiver::{Receiver, is_of_no_stream};
 use norm_send_rules::{Job, News, Receipt, SendFault};
@@ -31,6 +31,10 @@ use std::marker::Model;
 /// taken, or news that are asked for. So a world stands for the list of the events so far, and what holds of each such list
 /// ([`laws`](crate::laws)) holds of what it did. It keeps no datagrams: that what is delivered was offered before is for
 /// whoever drives it.
+///
+/// The command of a file may also come in pieces: [`begin_file`](World::begin_file), then [`file_piece`](World::file_piece) until all its
+/// octets are there, then [`end_file`](World::end_file), or at any time [`leave_file`](World::leave_file). From the first of them
+/// to the last no other call may come that moves the sender.
 #[derive(Debug, Drop)]
 pub struct World {
     profile: Profile,
@@ -151,6 +155,55 @@ impl World {
         ensures memory { answer_of result ≡ Err send.Memory → self.new ≡ self.old }
     {
         self.sender.command(by, job, now)
+    }
+
+    /// Begins a file of so many octets under a name. Only this call of a file takes memory.
+    ///
+    /// # Errors
+    ///
+    /// The fault by which the rules refuse each file of this name and length, and with it the name, or `Memory` without it. Then
+    /// nothing changes.
+    pub fn begin_file(&mut self, name: Octets, len: u64) -> Result<(), (Option<Octets>, SendFault)>
+        requires { IsReady self.old }
+        ensures profile { self.new.p ≡ self.old.p }
+        ensures filling { IfOk result (λ _. IsFilling self.new name len []) }
+        ensures begun { IfOk result (λ _. (w : Rules) → StandsFor self.old w → HasBegun self.new w name len []) }
+        ensures refused { IfErr result (λ refusal. IsRefused self.old self.new name len refusal.1) }
+        ensures back { IfErr result (λ refusal. GivesBack name refusal) }
+        ensures same { IsErr result → self.new ≡ self.old }
+    {
+        self.sender.begin_file(name, len)
+    }
+
+    /// Takes the next octets of the file that was begun, which has no more of them than its length.
+    pub fn file_piece(&mut self, piece: &[u8])
+        requires { IsMissing self.old (length piece.now) }
+        ensures profile { self.new.p ≡ self.old.p }
+        ensures filling { (name octets : List ℕ) (len : ℕ) → IsFilling self.old name len octets → IsFilling self.new name len (octets ++ piece.now) }
+        ensures begun { (w : Rules) (name octets : List ℕ) (len : ℕ) → HasBegun self.old w name len octets
+            → HasBegun self.new w name len (octets ++ piece.now) }
+    {
+        self.sender.file_piece(piece);
+    }
+
+    /// The file that was begun, all of whose octets are there, joins the order by the command of a producer.
+    pub fn end_file(&mut self, by: Origin, now: Moment) -> Receipt
+        requires { IsFilled self.old }
+        ensures profile { self.new.p ≡ self.old.p }
+        ensures ready { IsReady self.new }
+        ensures event { IsEnded self.old self.new by now result }
+    {
+        self.sender.end_file(by, now)
+    }
+
+    /// Gives up the file that was begun. What was dropped for it stays dropped.
+    pub fn leave_file(&mut self)
+        requires { IsBegun self.old }
+        ensures profile { self.new.p ≡ self.old.p }
+        ensures ready { IsReady self.new }
+        ensures left { IsLeft self.old self.new }
+    {
+        self.sender.leave_file();
     }
 
     /// A datagram comes to a node. A receiver gets it with a draw, for the back-off that may begin; to the sender it makes no
