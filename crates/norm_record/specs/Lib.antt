@@ -6,4 +6,3 @@ pub mod Offered
 pub mod Once
 pub mod Events
 pub mod Told
-pub mod Printing

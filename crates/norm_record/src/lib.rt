@@ -5,11 +5,9 @@ mod entry;
 mod journal;
 mod latest;
 mod offers;
-mod printing;
 mod row;
 mod seen;
 mod ups;
 
 pub use crate::journal::Journal;
-pub use crate::printing::{Before, write_line};
 pub use crate::seen::Seen;
