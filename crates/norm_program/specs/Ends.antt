@@ -1,22 +1,22 @@
-use Rattle.std.specs.Prelude.{◌≡◌, ℕ, List, [], ◌∷◌, ◌++◌, ◌⊎◌, Bool, true, false, codes, nat_eq, Option, IfSome, IsTrue, Ok, Err}
-use Rattle.norm_session.specs.Safe.{Safe}
+-- How a session ends, and what each ending says.
+use Rattle.std.specs.Prelude.{◌≡◌, ℕ, List, [], ◌∷◌, ◌++◌, ◌⊎◌, Bool, true, false, codes, nat_eq, Option, IfSome, Ok, Err}
 use Rattle.std.specs.Fmt.{decimal}
 use Rattle.std.specs.Cmp.Lexicographic.{pointwise}
 use Rattle.norm_base.specs.Faults.{one_more}
 use Rattle.norm_base.specs.Network.{Network}
 use Rattle.norm_base.specs.Told.{Pieces, gained, GainsFront}
 use Rattle.norm_script.specs.Commands.{Commands}
-use Rattle.norm_session.specs.Session.{HasSession, printed}
-use Rattle.norm_session.specs.SessionRun.{SessionRun}
-use Rattle.norm_session.specs.BreakingOff.{BreaksOff}
-use Rattle.norm_session.specs.declared.event.Event.{Event}
-use Rattle.norm_session.specs.declared.fault.SessionFault.{SessionFault}
-use Rattle.norm_session.specs.declared.fault.SessionFault.TheVariants.{Write as Writing, Fabric as Calling, Memory as Wanting}
 use Rattle.norm_script.specs.Reading.{script_of}
 use Rattle.norm_script.specs.declared.refusal.Extent.TheVariants.{Built}
 use Rattle.norm_script.specs.declared.refusal.Refusal.{Refusal}
+use Rattle.norm_journal.specs.declared.event.Event.{Event}
+use Rattle.norm_journal.specs.Jobs.{Told}
+use Rattle.norm_session.specs.Session.{RunsSession, StopsSession}
+use Rattle.norm_session.specs.Turning.{Span, span}
+use Rattle.norm_session.specs.declared.fault.SessionFault.{SessionFault}
+use Rattle.norm_session.specs.declared.fault.SessionFault.TheVariants as fault
 use Rattle.norm_program.specs.declared.status.Ending.{Ending}
-use Rattle.norm_program.specs.declared.status.Ending.TheVariants.{Done, Datagram, Memory, Words, Refused, Line, Read, Write, Fabric, Spent}
+use Rattle.norm_program.specs.declared.status.Ending.TheVariants.{Done, Datagram, Memory, Words, Refused, Line, Read, Write, Fabric, Files, Absent, Spent}
 
 -- the words of a session
 abbrev pub is_session : List (List ℕ) → Bool
@@ -30,53 +30,66 @@ usage_line = codes "usage: normd session | show | generate N | send PROFILE | re
 unfoldable pub refused_line : ℕ → List ℕ
 refused_line n = codes "refused line " ++ (decimal n ++ codes "\n")
 
+unfoldable pub absent_line : List ℕ → List ℕ
+absent_line name = codes "absent " ++ (name ++ codes "\n")
+
 -- The whole line was written, as one piece; or that one write failed, as the count of the output's faults shows, and left
 -- a front of it.
 abbrev pub Says : (unwritten written : Pieces) (before now : ℕ) → List ℕ → Type 0
 Says unwritten written before now line =
     ((written ≡ gained unwritten (line ∷ [])) × (now ≡ before)) ⊎ (GainsFront unwritten written line × (now ≡ one_more before))
 
--- what a call found or left: the input's octets, the network and the output's pieces; and how often each had failed
+-- what only a session calls: the network, the files with their contents, and the clock with the moments that it gave; and how often
+-- the first two had failed
+pub record Called : Type 0 where
+  pub network : Network
+  pub files : Told
+  pub moments : Option (List ℕ)
+  pub network_faults : ℕ
+  pub file_faults : ℕ
+
+-- what a call of the program found or left: the input's octets and the output's pieces, how often each had failed, and the others
 pub record Outside : Type 0 where
   pub input : Option (List ℕ)
-  pub network : Network
   pub written : Pieces
   pub read_faults : ℕ
-  pub network_faults : ℕ
   pub write_faults : ℕ
+  pub called : Called
 
--- the counts of failed reads and of failed calls of the network are as they were
+-- the counts of failed reads, and of failed calls of the network and of the files, are as they were
 pub record Undisturbed (before after : Outside) : Type 0 where
   pub reads : after.read_faults ≡ before.read_faults
-  pub calls : after.network_faults ≡ before.network_faults
+  pub calls : after.called.network_faults ≡ before.called.network_faults
+  pub files : after.called.file_faults ≡ before.called.file_faults
 
 -- where the input tells its octets, they were this text, and none are left
 pub record IsInput (text : List ℕ) (before after : Option (List ℕ)) : Type 0 where
   pub octets : IfSome before (λ octets. octets ≡ text)
   pub end : IfSome after (λ rest. rest ≡ [])
 
--- A session was run to its end: the input is a script, what was done is a run of it, and the lines of that journal and its
--- summary had then been written, one piece each.
+-- what a session had, up to when this was written
+abbrev pub session_span : Outside → Outside → Pieces → Span
+session_span before after written =
+    span before.called.network after.called.network before.written written before.called.moments after.called.moments
+
+-- A session was run to its end: the input is a script, what was done is a run of it, and the lines of that journal, of which the
+-- summary is the last, had then been written, one piece each.
 pub record RanSession (before after : Outside) (whole : Bool) (written : Pieces) : Type 0 where
   pub text : List ℕ
   pub script : Commands
   pub journal : List Event
   pub input : IsInput text before.input after.input
   pub read : script_of Built text ≡ Ok script
-  pub run : SessionRun script journal whole
-  pub network : HasSession script journal before.network after.network
-  -- over an honest network the run is safe
-  pub safe : IsTrue after.network.honest → IfSome after.network.offered (λ _. Safe script journal)
-  pub output : written ≡ gained before.written (printed script.profile.instance journal)
+  pub session : RunsSession script before.called.files journal whole (session_span before after written)
 
--- A fault broke a session off: the input is a script, what was done is the beginning of a run of it, and that had then
--- been written.
-pub record BrokeSession (fault : SessionFault) (before after : Outside) (written : Pieces) : Type 0 where
+-- A fault stopped a session: the input is a script, what was done is nothing or the beginning of a run of it, and that had then been
+-- written.
+pub record StoppedSession (failed : SessionFault) (before after : Outside) (written : Pieces) : Type 0 where
   pub text : List ℕ
   pub script : Commands
   pub input : IsInput text before.input after.input
   pub read : script_of Built text ≡ Ok script
-  pub session : BreaksOff fault script before.network after.network before.written written
+  pub session : StopsSession failed script before.called.files (session_span before after written)
 
 -- All was done.
 pub record DidAll (before after : Outside) : Type 0 where
@@ -103,46 +116,67 @@ pub record RefusedLine (before after : Outside) (refusal : Refusal) : Type 0 whe
   pub text : List ℕ
   pub input : IsInput text before.input after.input
   pub read : script_of Built text ≡ Err refusal
-  pub network : after.network ≡ before.network
+  pub called : after.called ≡ before.called
   pub output : Says before.written after.written before.write_faults after.write_faults (refused_line refusal.line)
   pub undisturbed : Undisturbed before after
 
 -- One read failed.
 pub record FailedRead (before after : Outside) : Type 0 where
   pub cause : after.read_faults ≡ one_more before.read_faults
-  pub network : after.network ≡ before.network
-  pub calls : after.network_faults ≡ before.network_faults
+  pub called : after.called ≡ before.called
   pub output : Says before.written after.written before.write_faults after.write_faults (codes "fault read\n")
 
--- One write failed. It broke the session off, or the last line of its spent turns.
+-- One write failed. It stopped the session, or it was that of the last line of spent turns.
 pub record FailedWrite (before after : Outside) : Type 0 where
   pub cause : after.write_faults ≡ one_more before.write_faults
-  pub session : BrokeSession Writing before after after.written ⊎ SpentUnsaid before after
+  pub session : StoppedSession fault.Write before after after.written ⊎ SpentUnsaid before after
   pub undisturbed : Undisturbed before after
 
--- One call of the network failed. It broke the session off, and a last line says so.
-pub record FailedCall (before after : Outside) : Type 0 where
-  pub cause : after.network_faults ≡ one_more before.network_faults
+-- One call of the network failed. It stopped the session, and a last line says so.
+pub record FailedNetwork (before after : Outside) : Type 0 where
+  pub cause : after.called.network_faults ≡ one_more before.called.network_faults
   pub unsaid : Pieces
-  pub session : BrokeSession Calling before after unsaid
+  pub session : StoppedSession fault.Fabric before after unsaid
   pub output : Says unsaid after.written before.write_faults after.write_faults (codes "fault fabric\n")
   pub reads : after.read_faults ≡ before.read_faults
+  pub files : after.called.file_faults ≡ before.called.file_faults
 
--- nothing was offered or written
+-- One call of the files failed. It stopped the session, and a last line says so.
+pub record FailedFiles (before after : Outside) : Type 0 where
+  pub cause : after.called.file_faults ≡ one_more before.called.file_faults
+  pub unsaid : Pieces
+  pub session : StoppedSession fault.Files before after unsaid
+  pub output : Says unsaid after.written before.write_faults after.write_faults (codes "fault files\n")
+  pub reads : after.read_faults ≡ before.read_faults
+  pub calls : after.called.network_faults ≡ before.called.network_faults
+
+-- A command's file is not there. That stopped the session, and a last line has its name. No call failed but that of the line.
+pub record AbsentFile (name : List ℕ) (before after : Outside) : Type 0 where
+  pub unsaid : Pieces
+  pub session : StoppedSession (fault.Absent name) before after unsaid
+  pub output : Says unsaid after.written before.write_faults after.write_faults (absent_line name)
+  pub undisturbed : Undisturbed before after
+
+-- nothing was called or written
 pub record Untouched (before after : Outside) : Type 0 where
-  pub network : after.network ≡ before.network
+  pub called : after.called ≡ before.called
   pub output : after.written ≡ before.written
 
--- There was no memory: for reading a script, or in a session, which that broke off. No call failed.
+-- a command's file is not there, and no line says so
+abbrev pub AbsentUnsaid : Outside → Outside → Type 0
+AbsentUnsaid before after = (name : List ℕ) × StoppedSession (fault.Absent name) before after after.written
+
+-- There was no memory: for reading a script; in a session, which that stopped; or for the line that names an absent file. No call
+-- failed.
 pub record WantedMemory (before after : Outside) : Type 0 where
-  pub session : Untouched before after ⊎ BrokeSession Wanting before after after.written
+  pub session : Untouched before after ⊎ (StoppedSession fault.Memory before after after.written ⊎ AbsentUnsaid before after)
   pub undisturbed : Undisturbed before after
   pub writes : after.write_faults ≡ before.write_faults
 
 -- The words are no command.
 pub record RefusedWords (before after : Outside) : Type 0 where
   pub input : after.input ≡ before.input
-  pub network : after.network ≡ before.network
+  pub called : after.called ≡ before.called
   pub output : Says before.written after.written before.write_faults after.write_faults usage_line
   pub undisturbed : Undisturbed before after
 
@@ -154,7 +188,9 @@ EndsSession (Refused refusal) before after = RefusedLine before after refusal
 EndsSession Read before after = FailedRead before after
 EndsSession Memory before after = WantedMemory before after
 EndsSession Write before after = FailedWrite before after
-EndsSession Fabric before after = FailedCall before after
+EndsSession Fabric before after = FailedNetwork before after
+EndsSession Files before after = FailedFiles before after
+EndsSession (Absent name) before after = AbsentFile name before after
 EndsSession Words before after = ⊥
 EndsSession Datagram before after = ⊥
 EndsSession (Line n why) before after = ⊥
@@ -164,15 +200,18 @@ abbrev pub Ends : Ending → List (List ℕ) → Outside → Outside → Type 0
 Ends Words words before after = (is_session words ≡ false) × RefusedWords before after
 Ends ending words before after = (is_session words ≡ true) × EndsSession ending before after
 
-abbrev pub outside : (input : Option (List ℕ)) (network : Network) (written : Pieces) (read_faults network_faults write_faults : ℕ) → Outside
-outside input network written read_faults network_faults write_faults = record {
-  input = input;
+abbrev pub called_as : (network : Network) (files : Told) (moments : Option (List ℕ)) (network_faults file_faults : ℕ) → Called
+called_as network files moments network_faults file_faults = record {
   network = network;
-  written = written;
-  read_faults = read_faults;
+  files = files;
+  moments = moments;
   network_faults = network_faults;
-  write_faults = write_faults;
+  file_faults = file_faults;
 }
+
+abbrev pub outside : (input : Option (List ℕ)) (written : Pieces) (read_faults write_faults : ℕ) → Called → Outside
+outside input written read_faults write_faults called =
+    record { input = input; written = written; read_faults = read_faults; write_faults = write_faults; called = called }
 
 -- What there is to run: the words are a session's, and the input is this script.
 pub record Prepared (script : Commands) (words : List (List ℕ)) (before after : Option (List ℕ)) : Type 0 where
@@ -182,10 +221,10 @@ pub record Prepared (script : Commands) (words : List (List ℕ)) (before after 
   pub read : script_of Built text ≡ Ok script
 
 -- What ends the program before a session: the words are no command, a read failed, a line has no meaning, or there was no
--- memory. The network was not called.
+-- memory. Nothing of the session was called.
 abbrev pub EndsEarly : Ending → List (List ℕ) → (input left : Option (List ℕ)) → (unwritten written : Pieces) → (reads read_faults writes write_faults : ℕ) → Type 0
 EndsEarly ending words input left unwritten written reads read_faults writes write_faults =
-    (n : Network) (calls : ℕ) → Ends ending words (outside input n unwritten reads calls writes) (outside left n written read_faults calls write_faults)
+    (called : Called) → Ends ending words (outside input unwritten reads writes called) (outside left written read_faults write_faults called)
 
 -- how a read of the whole input failed
 abbrev pub IsReadEnding : Ending → (before after : ℕ) → (unwritten written : Pieces) → (old new : ℕ) → Type 0
@@ -210,9 +249,18 @@ IsLastEnding Write whole unwritten written before after =
     (whole ≡ false) × GainsFront unwritten written (codes "turns spent\n") × (after ≡ one_more before)
 IsLastEnding _ whole unwritten written before after = ⊥
 
--- how a session that a fault broke off ends the program
-abbrev pub IsBrokenEnding : SessionFault → Ending → (unwritten written : Pieces) → (before after : ℕ) → Type 0
-IsBrokenEnding Wanting ending unwritten written before after = (ending ≡ Memory) × (written ≡ unwritten) × (after ≡ before)
-IsBrokenEnding Writing ending unwritten written before after = (ending ≡ Write) × (written ≡ unwritten) × (after ≡ before)
-IsBrokenEnding Calling ending unwritten written before after =
+-- how an absent file ends the program: its name is said, or there was no memory for that
+abbrev pub IsAbsentEnding : Ending → List ℕ → (unwritten written : Pieces) → (before after : ℕ) → Type 0
+IsAbsentEnding (Absent said) name unwritten written before after = (said ≡ name) × Says unwritten written before after (absent_line name)
+IsAbsentEnding Memory name unwritten written before after = (written ≡ unwritten) × (after ≡ before)
+IsAbsentEnding _ name unwritten written before after = ⊥
+
+-- how a session that a fault stopped ends the program
+abbrev pub IsStoppedEnding : SessionFault → Ending → (unwritten written : Pieces) → (before after : ℕ) → Type 0
+IsStoppedEnding fault.Memory ending unwritten written before after = (ending ≡ Memory) × (written ≡ unwritten) × (after ≡ before)
+IsStoppedEnding fault.Write ending unwritten written before after = (ending ≡ Write) × (written ≡ unwritten) × (after ≡ before)
+IsStoppedEnding fault.Fabric ending unwritten written before after =
     (ending ≡ Fabric) × Says unwritten written before after (codes "fault fabric\n")
+IsStoppedEnding fault.Files ending unwritten written before after =
+    (ending ≡ Files) × Says unwritten written before after (codes "fault files\n")
+IsStoppedEnding (fault.Absent name) ending unwritten written before after = IsAbsentEnding ending name unwritten written before after

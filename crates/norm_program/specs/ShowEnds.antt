@@ -7,12 +7,11 @@ use Rattle.norm_show.specs.declared.fault.NoDatagram.{NoDatagram}
 use Rattle.norm_show.specs.declared.fault.ShowFault.TheVariants as fault
 use Rattle.norm_program.specs.Ends.{Outside, Says, refused_line}
 use Rattle.norm_program.specs.declared.status.Ending.{Ending}
-use Rattle.norm_program.specs.declared.status.Ending.TheVariants.{Done, Datagram, Memory, Words, Refused, Line, Read, Write, Fabric, Spent}
+use Rattle.norm_program.specs.declared.status.Ending.TheVariants.{Done, Datagram, Memory, Words, Refused, Line, Read, Write, Fabric, Files, Absent, Spent}
 
--- the network was not called
-pub record Alone (before after : Outside) : Type 0 where
-  pub network : after.network ≡ before.network
-  pub calls : after.network_faults ≡ before.network_faults
+-- nothing was called that only a session calls: no network, no files and no clock
+abbrev pub Alone : Outside → Outside → Type 0
+Alone before after = after.called ≡ before.called
 
 -- All of the input was shown, each line of output one piece, and whether a datagram was refused is this.
 pub record ShownAll (refused : Bool) (before after : Outside) : Type 0 where
@@ -61,6 +60,8 @@ ShowEnds Memory before after = ShownSome before after
 ShowEnds Words before after = ⊥
 ShowEnds (Refused refusal) before after = ⊥
 ShowEnds Fabric before after = ⊥
+ShowEnds Files before after = ⊥
+ShowEnds (Absent name) before after = ⊥
 ShowEnds Spent before after = ⊥
 
 -- how a line that spells no datagram ends the program: it is said, or there was no memory for that

@@ -1,6 +1,6 @@
 use Rattle.std.specs.Prelude.{ℕ}
 use Rattle.norm_program.specs.declared.status.Ending.{Ending}
-use Rattle.norm_program.specs.declared.status.Ending.TheVariants.{Done, Datagram, Memory, Words, Refused, Line, Read, Write, Fabric, Spent}
+use Rattle.norm_program.specs.declared.status.Ending.TheVariants.{Done, Datagram, Memory, Words, Refused, Line, Read, Write, Fabric, Files, Absent, Spent}
 
 -- the exit status of an ending; a line without meaning has the same whoever refuses it
 abbrev pub status_of : Ending → ℕ
@@ -12,5 +12,7 @@ status_of (Line n why) = 3
 status_of Read = 4
 status_of Write = 5
 status_of Fabric = 6
+status_of Files = 7
+status_of (Absent name) = 7
 status_of Spent = 8
 status_of Datagram = 9

@@ -2,19 +2,19 @@
 
 ghost use Rattle.std.specs.Prelude.{◌≡◌, codes, map, string_bytes, Ok, MatchResult, IfOk, IfErr, OnOk};
 ghost use Rattle.std.specs.Process.{exit_status};
-ghost use Rattle.norm_program.specs.Ends.{is_session, usage_line, refused_line, outside, Says, IsInput, Prepared, IsReadEnding, IsTextEnding, IsLastEnding, IsBrokenEnding, EndsEarly, Ends};
+ghost use Rattle.norm_program.specs.Ends.{is_session, usage_line, refused_line, absent_line, outside, called_as, Says, IsInput, Prepared, IsReadEnding, IsTextEnding, IsLastEnding, IsAbsentEnding, IsStoppedEnding, EndsEarly, Ends};
 ghost use Rattle.norm_program.specs.Commands.{is_show, EndsBy, EndsWith, EndsUnread};
 ghost use Rattle.norm_script.specs.Reading.{script_of};
-ghost use Rattle.norm_session.specs.SessionRun.{IsScript};
+ghost use Rattle.norm_session.specs.Session.{IsRunnable};
 
 use crate::input::{InputFault, read_all};
 use crate::reason::{explain, explain_no_text};
 use crate::show::show;
 use crate::status::{Ending, Status};
 use crate::words::WordsFault;
-use norm_base::{Clock, Fabric, Failed, Files, Memory, Sink, Source};
-use norm_script::{Extent, read};
-use norm_session::{Ended, Script, SessionFault, run_session};
+use norm_base::{Clock, Fabric, Failed, Files, Memory, Sink, Source, Text};
+use norm_script::{Extent, Script, read};
+use norm_session::{Ended, SessionFault, run_session};
 use std::alloc::{AllocError, Global};
 use std::process::ExitCode;
 use std::sync::Wait;
@@ -59,6 +59,14 @@ pub(crate) fn refused_line(alloc: Global, n: u64) -> Result<String, AllocError>
     format!(in alloc; "refused line {n}\n")
 }
 
+/// The line that says which file is absent.
+#[tactic(auto, unfolding(crate::specs::Ends::absent_line))]
+fn absent_line(alloc: Global, name: &str) -> Result<String, AllocError>
+    ensures { IfOk result (λ text. string_bytes text ≡ absent_line name.now) }
+{
+    format!(in alloc; "absent {name}\n")
+}
+
 /// Reads the input whole.
 fn read_input<S: Source, K: Sink>(
     alloc: Global,
@@ -83,7 +91,7 @@ fn read_input<S: Source, K: Sink>(
 
 /// Reads the script that the text is.
 fn read_text<K: Sink>(alloc: Global, text: &[u8], output: &mut K) -> Result<Script, Ending>
-    ensures script { IfOk result (λ script. (script_of Extent.Built text.now ≡ Ok script) × IsScript script) }
+    ensures script { IfOk result (λ script. (script_of Extent.Built text.now ≡ Ok script) × IsRunnable script) }
     ensures unwritten { OnOk result (K.pieces output.new ≡ K.pieces output.old) }
     ensures quiet { OnOk result (K.fault_count output.new ≡ K.fault_count output.old) }
     ensures ending { IfErr result (λ ending. IsTextEnding ending text.now (K.pieces output.old) (K.pieces output.new)
@@ -114,9 +122,26 @@ fn end_session<K: Sink>(ended: &Ended, output: &mut K) -> Ending
     }
 }
 
-/// How a session that a fault broke off ends the program.
-fn break_off<K: Sink>(fault: SessionFault, output: &mut K) -> Ending
-    ensures { IsBrokenEnding fault result (K.pieces output.old) (K.pieces output.new)
+/// Says which file is absent, and how that ends the program.
+fn say_absent<K: Sink>(alloc: Global, name: Text, output: &mut K) -> Ending
+    ensures { IsAbsentEnding result name (K.pieces output.old) (K.pieces output.new)
+        (K.fault_count output.old) (K.fault_count output.new) }
+{
+    let text = name.into_inner();
+    match absent_line(alloc, &text) {
+        Ok(line) => {
+            say(output, line.as_bytes());
+            Ending::Absent {
+                name: Text::of(text),
+            }
+        }
+        Err(_) => Ending::Memory,
+    }
+}
+
+/// How a session that a fault stopped ends the program.
+fn stop_session<K: Sink>(alloc: Global, fault: SessionFault, output: &mut K) -> Ending
+    ensures { IsStoppedEnding fault result (K.pieces output.old) (K.pieces output.new)
         (K.fault_count output.old) (K.fault_count output.new) }
 {
     match fault {
@@ -126,6 +151,11 @@ fn break_off<K: Sink>(fault: SessionFault, output: &mut K) -> Ending
             say(output, b"fault fabric\n");
             Ending::Fabric
         }
+        SessionFault::Files => {
+            say(output, b"fault files\n");
+            Ending::Files
+        }
+        SessionFault::Absent { name } => say_absent(alloc, name, output),
     }
 }
 
@@ -137,7 +167,7 @@ fn prepare<S: Source, K: Sink>(
     output: &mut K,
 ) -> Result<Script, Ending>
     ensures ready { IfOk result (λ script. Prepared script (map string_bytes words.now) (S.left input.old) (S.left input.new)) }
-    ensures runnable { IfOk result IsScript }
+    ensures runnable { IfOk result IsRunnable }
     ensures unwritten { OnOk result (K.pieces output.new ≡ K.pieces output.old) }
     ensures quiet { OnOk result ((S.fault_count input.new ≡ S.fault_count input.old) × (K.fault_count output.new ≡ K.fault_count output.old)) }
     ensures ending { IfErr result (λ ending. EndsEarly ending (map string_bytes words.now) (S.left input.old) (S.left input.new)
@@ -152,8 +182,8 @@ fn prepare<S: Source, K: Sink>(
     read_text(alloc, &text, output)
 }
 
-/// How the program ends with these words, which are not a show's; what each ending says is in `Ends`. It leaves the
-/// files and the clock as they were. Only the session itself is handed the runtime.
+/// How the program ends with these words, which are not a show's; what each ending says is in `Ends`. It leaves
+/// the contents of the files as they were. Only the session itself is handed the runtime.
 fn run_words<R: Threads + Wait + Sync, S: Source, K: Sink, F: Fabric, D: Files, C: Clock>(
     rt: &R,
     alloc: Global,
@@ -165,13 +195,11 @@ fn run_words<R: Threads + Wait + Sync, S: Source, K: Sink, F: Fabric, D: Files, 
     clock: &mut C,
 ) -> Ending
     ensures ends { Ends result (map string_bytes words.now.items)
-        (outside (S.left input.old) (F.told fabric.old) (K.pieces output.old)
-        (S.fault_count input.old) (F.fault_count fabric.old) (K.fault_count output.old))
-        (outside (S.left input.new) (F.told fabric.new) (K.pieces output.new)
-        (S.fault_count input.new) (F.fault_count fabric.new) (K.fault_count output.new)) }
+        (outside (S.left input.old) (K.pieces output.old) (S.fault_count input.old) (K.fault_count output.old)
+        (called_as (F.told fabric.old) (D.contents files.old) (C.moments clock.old) (F.fault_count fabric.old) (D.fault_count files.old)))
+        (outside (S.left input.new) (K.pieces output.new) (S.fault_count input.new) (K.fault_count output.new)
+        (called_as (F.told fabric.new) (D.contents files.new) (C.moments clock.new) (F.fault_count fabric.new) (D.fault_count files.new))) }
     ensures files { D.contents files.new ≡ D.contents files.old }
-    ensures file_faults { D.fault_count files.new ≡ D.fault_count files.old }
-    ensures clock { C.moments clock.new ≡ C.moments clock.old }
 {
     let script = match prepare(alloc, words, input, output) {
         Ok(script) => script,
@@ -179,12 +207,12 @@ fn run_words<R: Threads + Wait + Sync, S: Source, K: Sink, F: Fabric, D: Files, 
     };
     match run_session(rt, alloc, &script, output, fabric, files, clock) {
         Ok(ended) => end_session(&ended, output),
-        Err(fault) => break_off(fault, output),
+        Err(fault) => stop_session(alloc, fault, output),
     }
 }
 
-/// How the program ends with these words, after its name; what each ending says is in `EndsBy`. It leaves the
-/// files and the clock as they were. Only the session itself is handed the runtime.
+/// How the program ends with these words, after its name; what each ending says is in `EndsBy`. It leaves
+/// the contents of the files as they were. Only the session itself is handed the runtime.
 fn end_of<R: Threads + Wait + Sync, S: Source, K: Sink, F: Fabric, D: Files, C: Clock>(
     rt: &R,
     alloc: Global,
@@ -196,13 +224,11 @@ fn end_of<R: Threads + Wait + Sync, S: Source, K: Sink, F: Fabric, D: Files, C: 
     clock: &mut C,
 ) -> Ending
     ensures ends { EndsBy result (map string_bytes words.now.items)
-        (outside (S.left input.old) (F.told fabric.old) (K.pieces output.old)
-        (S.fault_count input.old) (F.fault_count fabric.old) (K.fault_count output.old))
-        (outside (S.left input.new) (F.told fabric.new) (K.pieces output.new)
-        (S.fault_count input.new) (F.fault_count fabric.new) (K.fault_count output.new)) }
+        (outside (S.left input.old) (K.pieces output.old) (S.fault_count input.old) (K.fault_count output.old)
+        (called_as (F.told fabric.old) (D.contents files.old) (C.moments clock.old) (F.fault_count fabric.old) (D.fault_count files.old)))
+        (outside (S.left input.new) (K.pieces output.new) (S.fault_count input.new) (K.fault_count output.new)
+        (called_as (F.told fabric.new) (D.contents files.new) (C.moments clock.new) (F.fault_count fabric.new) (D.fault_count files.new))) }
     ensures files { D.contents files.new ≡ D.contents files.old }
-    ensures file_faults { D.fault_count files.new ≡ D.fault_count files.old }
-    ensures clock { C.moments clock.new ≡ C.moments clock.old }
 {
     if is_show(words) {
         return show(alloc, input, output);
@@ -211,7 +237,7 @@ fn end_of<R: Threads + Wait + Sync, S: Source, K: Sink, F: Fabric, D: Files, C: 
 }
 
 /// The program: `words` are those after its name. Answers the exit status; what each one says is in
-/// `Ends`. It leaves the files and the clock as they were.
+/// `Ends`. It leaves the contents of the files as they were.
 pub fn norm_main<R: Threads + Wait + Sync, S: Source, K: Sink, F: Fabric, D: Files, C: Clock>(
     rt: &R,
     alloc: Global,
@@ -223,13 +249,11 @@ pub fn norm_main<R: Threads + Wait + Sync, S: Source, K: Sink, F: Fabric, D: Fil
     clock: &mut C,
 ) -> Status
     ensures ends { EndsWith result (map string_bytes words.now.items)
-        (outside (S.left input.old) (F.told fabric.old) (K.pieces output.old)
-        (S.fault_count input.old) (F.fault_count fabric.old) (K.fault_count output.old))
-        (outside (S.left input.new) (F.told fabric.new) (K.pieces output.new)
-        (S.fault_count input.new) (F.fault_count fabric.new) (K.fault_count output.new)) }
+        (outside (S.left input.old) (K.pieces output.old) (S.fault_count input.old) (K.fault_count output.old)
+        (called_as (F.told fabric.old) (D.contents files.old) (C.moments clock.old) (F.fault_count fabric.old) (D.fault_count files.old)))
+        (outside (S.left input.new) (K.pieces output.new) (S.fault_count input.new) (K.fault_count output.new)
+        (called_as (F.told fabric.new) (D.contents files.new) (C.moments clock.new) (F.fault_count fabric.new) (D.fault_count files.new))) }
     ensures files { D.contents files.new ≡ D.contents files.old }
-    ensures file_faults { D.fault_count files.new ≡ D.fault_count files.old }
-    ensures clock { C.moments clock.new ≡ C.moments clock.old }
 {
     end_of(rt, alloc, words, input, output, fabric, files, clock).status()
 }
@@ -247,15 +271,13 @@ pub fn run<R: Threads + Wait + Sync + Eprint, S: Source, K: Sink, F: Fabric, D: 
     files: &mut D,
     clock: &mut C,
 ) -> ExitCode
-    ensures ends { let before = outside (S.left input.old) (F.told fabric.old) (K.pieces output.old)
-        (S.fault_count input.old) (F.fault_count fabric.old) (K.fault_count output.old) in
-        let after = outside (S.left input.new) (F.told fabric.new) (K.pieces output.new)
-        (S.fault_count input.new) (F.fault_count fabric.new) (K.fault_count output.new) in
+    ensures ends { let before = outside (S.left input.old) (K.pieces output.old) (S.fault_count input.old) (K.fault_count output.old)
+        (called_as (F.told fabric.old) (D.contents files.old) (C.moments clock.old) (F.fault_count fabric.old) (D.fault_count files.old)) in
+        let after = outside (S.left input.new) (K.pieces output.new) (S.fault_count input.new) (K.fault_count output.new)
+        (called_as (F.told fabric.new) (D.contents files.new) (C.moments clock.new) (F.fault_count fabric.new) (D.fault_count files.new)) in
         MatchResult words (λ words. EndsWith (exit_status result) (map string_bytes words.items) before after)
         (λ fault. EndsUnread fault (exit_status result) before after) }
     ensures files { D.contents files.new ≡ D.contents files.old }
-    ensures file_faults { D.fault_count files.new ≡ D.fault_count files.old }
-    ensures clock { C.moments clock.new ≡ C.moments clock.old }
 {
     let words = match words {
         Ok(words) => words,
@@ -265,11 +287,11 @@ pub fn run<R: Threads + Wait + Sync + Eprint, S: Source, K: Sink, F: Fabric, D: 
             return ExitCode::from(Ending::Words.status());
         }
         Err(WordsFault::Memory) => {
-            explain(rt, Ending::Memory, &[]);
+            explain(rt, &Ending::Memory, &[]);
             return ExitCode::from(Ending::Memory.status());
         }
     };
     let ending = end_of(rt, alloc, &words, input, output, fabric, files, clock);
-    explain(rt, ending, &words);
+    explain(rt, &ending, &words);
     ExitCode::from(ending.status())
 }

@@ -73,12 +73,12 @@ fn say_words<W: fmt::Write>(words: &[String], f: &mut fmt::Formatter<W>) -> fmt:
 /// The reason of an ending, under the words of the call.
 #[derive(Drop)]
 pub(crate) struct Reason<'a> {
-    pub ending: Ending,
+    pub ending: &'a Ending,
     pub words: &'a [String],
 }
 
 impl fmt::Display for Reason<'_> {
-    ghost output = { λ r. Some (reason_of r.ending (map string_bytes r.words.now)) };
+    ghost output = { λ r. Some (reason_of r.ending.now (map string_bytes r.words.now)) };
 
     fn fmt<W: fmt::Write>(&self, f: &mut fmt::Formatter<W>) -> fmt::Result {
         match self.ending {
@@ -91,6 +91,8 @@ impl fmt::Display for Reason<'_> {
             | Ending::Read
             | Ending::Write
             | Ending::Fabric
+            | Ending::Files
+            | Ending::Absent { .. }
             | Ending::Spent => Ok(()),
         }
     }
@@ -109,12 +111,12 @@ impl Ending {
 }
 
 /// Says on standard error why the program ended so, and beside the usage line which program it is.
-pub(crate) fn explain(rt: &impl Eprint, ending: Ending, words: &[String]) {
+pub(crate) fn explain(rt: &impl Eprint, ending: &Ending, words: &[String]) {
     if ending.has_reason() {
         let reason = Reason { ending, words };
         let _ = eprintln!(rt; "{reason}");
     }
-    if ending == Ending::Words {
+    if matches!(ending, Ending::Words) {
         let _ = eprintln!(rt; "{VERSION}");
     }
 }
@@ -139,7 +141,7 @@ pub fn needed<T>(rt: &impl Eprint, made: Result<T, Memory>) -> Result<T, ExitCod
     match made {
         Ok(made) => Ok(made),
         Err(Memory) => {
-            explain(rt, Ending::Memory, &[]);
+            explain(rt, &Ending::Memory, &[]);
             Err(ExitCode::from(Ending::Memory.status()))
         }
     }

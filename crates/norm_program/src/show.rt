@@ -1,8 +1,6 @@
 //! `show`: the datagrams of the input, a line each.
 
-ghost use Rattle.norm_base.specs.Network.{Network};
-ghost use Rattle.std.specs.Prelude.{ℕ};
-ghost use Rattle.norm_program.specs.Ends.{outside};
+ghost use Rattle.norm_program.specs.Ends.{Called, outside};
 ghost use Rattle.norm_program.specs.ShowEnds.{ShowEnds, IsLineEnding};
 
 use crate::program::{refused_line, say};
@@ -24,11 +22,11 @@ fn refuse_line<K: Sink>(alloc: Global, number: u64, why: NoDatagram, output: &mu
     }
 }
 
-/// Shows the datagrams that the input's lines spell, and answers how that ends. It calls no network.
+/// Shows the datagrams that the input's lines spell, and answers how that ends. It calls no network, no files and no clock.
 pub(crate) fn show<S: Source, K: Sink>(alloc: Global, input: &mut S, output: &mut K) -> Ending
-    ensures { (n : Network) (calls : ℕ) → ShowEnds result
-        (outside (S.left input.old) n (K.pieces output.old) (S.fault_count input.old) calls (K.fault_count output.old))
-        (outside (S.left input.new) n (K.pieces output.new) (S.fault_count input.new) calls (K.fault_count output.new)) }
+    ensures { (called : Called) → ShowEnds result
+        (outside (S.left input.old) (K.pieces output.old) (S.fault_count input.old) (K.fault_count output.old) called)
+        (outside (S.left input.new) (K.pieces output.new) (S.fault_count input.new) (K.fault_count output.new) called) }
 {
     match norm_show::show(alloc, input, output) {
         Ok(false) => Ending::Done,

@@ -5,6 +5,7 @@ ghost use Rattle.std.specs.Process.{exit_status};
 ghost use Rattle.norm_program.specs.StatusOf.{status_of};
 ghost use Rattle.norm_program.specs.declared.status.Ending.TheVariants as ending;
 
+use norm_base::Text;
 use norm_script::Refusal;
 use norm_show::NoDatagram;
 use std::alloc::AllocError;
@@ -45,7 +46,7 @@ impl From<Status> for ExitCode {
 }
 
 /// How the program ended.
-#[derive(Clone, Copy, Debug, PartialEq, Eq)]
+#[derive(Debug, Drop)]
 pub enum Ending {
     /// All was done.
     Done,
@@ -65,6 +66,10 @@ pub enum Ending {
     Write,
     /// A call of the network failed.
     Fabric,
+    /// A call of the files failed.
+    Files,
+    /// The file of this name is not there.
+    Absent { name: Text },
     /// The turns were spent.
     Spent,
 }
@@ -90,6 +95,7 @@ impl Ending {
             Ending::Read => Status(4),
             Ending::Write => Status(5),
             Ending::Fabric => Status(6),
+            Ending::Files | Ending::Absent { .. } => Status(7),
             Ending::Spent => Status(8),
             Ending::Datagram => Status(9),
         }

@@ -1,144 +1,166 @@
-use Rattle.std.proofs.Common.{◌≡◌, ◌<◌, ◌∙◌, sym, ℕ, suc, zero, List, [], ◌∷◌, ◌++◌, length, Option, Some, None, refl, true, false, cond, map, subst, nat_eq, ◌==◌, eqb-true}
-use Rattle.std.specs.Prelude.{slice_get, Contains}
+-- What was done over an honest network is a lawful run of the nodes, and safe.
+use Rattle.std.proofs.Common.{◌≡◌, ℕ, zero, suc, List, [], ◌∷◌, ◌++◌, Option, None, Some, refl, sym, ap, ◌∙◌, subst, arith}
+use Rattle.std.specs.Prelude.{map, Contains, IsTrue, IsSome, IfSome, option_and_then}
 use Rattle.std.specs.List.{AllByRecursion}
-use Rattle.std.proofs.lemmas.List.Elements.{All-from_recursion}
-use Rattle.norm_base.specs.Network.{WasOffered}
-use Rattle.norm_base.specs.Settings.{Settings, InRange}
-use Rattle.norm_session.specs.ReceiverState.{Got, ReceiverState, object_in, receiver_got, had, next_up, without}
-use Rattle.norm_session.specs.Safe.{IsHonest}
-use Rattle.norm_session.specs.SenderState.{Entry, symbol_octets}
-use Rattle.norm_session.specs.Turn.{Answer, take_event, delivered, delivered_all, receiver_node}
-use Rattle.norm_session.specs.declared.event.Event.{Event}
-use Rattle.norm_session.proofs.ObjectLemmas.{object_made}
+use Rattle.std.proofs.lemmas.Option.{option_and_then_some}
+use Rattle.norm_base.specs.Network.{Network, WasOffered}
+use Rattle.norm_base.specs.Told.{Pieces}
+use Rattle.norm_script.specs.Commands.{Commands}
+use Rattle.norm_safety.specs.Lawful.{LawfulDelivery}
+use Rattle.norm_safety.proofs.CreditLemmas.{credit_run}
+use Rattle.norm_safety.proofs.FreshRun.{fresh_run}
+use Rattle.norm_safety.proofs.HoldRun.{hold_run}
+use Rattle.norm_safety.proofs.Owing.{acknowledge_run}
+use Rattle.norm_safety.proofs.SafeRun.{safe_run}
+use Rattle.norm_safety.proofs.SaidRun.{said_run}
+use Rattle.norm_journal.specs.declared.event.Event.{Event}
+use Rattle.norm_journal.specs.declared.event.Event.TheVariants as event
+use Rattle.norm_journal.specs.Accepting.{accepts, judged_from}
+use Rattle.norm_journal.specs.Honest.{IsHonest}
+use Rattle.norm_journal.specs.Jobs.{Told}
+use Rattle.norm_journal.specs.Judged.{Judged}
+use Rattle.norm_journal.specs.Laws.{HasOctets, octets_given}
+use Rattle.norm_journal.specs.Projections.{offers_in}
+use Rattle.norm_journal.specs.SessionRun.{Begun}
+use Rattle.norm_journal.specs.WorldEvents.{TakesHonestly}
+use Rattle.norm_journal.proofs.FrontLemmas.{judged_from-append}
+use Rattle.norm_journal.proofs.LawfulLemmas.{begins_lawfully}
+use Rattle.norm_journal.proofs.ObjectLemmas.{commands_are_of_objects}
+use Rattle.norm_journal.proofs.OctetLemmas.{commands_are_events}
+use Rattle.norm_journal.proofs.OfferedLemmas.{offers_are_the_worlds}
+use Rattle.norm_journal.proofs.ScriptLemmas.{scripts_named}
+use Rattle.norm_session.specs.Context.{Context, opening}
+use Rattle.norm_session.specs.Session.{IsRunnable, IsSafeInTime, OverHonest, ComesInTime, ComeInTime, nodes_of, session_opening, session_events}
+use Rattle.norm_session.specs.SoFar.{Leads, IsOffered, AreOffered}
+use Rattle.norm_session.specs.Stopping.{Stopped}
+use Rattle.norm_session.specs.declared.fault.SessionFault.{SessionFault}
+use Rattle.norm_session.proofs.SoFarLemmas.{judged_one}
 
--- the octets of an object of the order
-abbrev pub HasOctets : List Entry → ℕ → List ℕ → Type 0
-HasOctets order index octets = (entry : Entry) × ((slice_get order index ≡ Some entry) × (entry.octets ≡ octets))
+-- ---- what was offered is the world's
 
--- an offer is the sender's, of an object of the order
-pub record IsOffer (p : Settings) (order : List Entry) (offer : ℕ × List ℕ) : Type 0 where
-  pub from : offer.0 ≡ p.sender
-  pub index : ℕ
-  pub sequence : ℕ
-  pub octets : List ℕ
-  pub small : index < 65536
-  pub wide : sequence < 65536
-  pub object : HasOctets order index octets
-  pub datagram : offer.1 ≡ symbol_octets p sequence index octets
+-- an element of a mapped list is of one of the list
+found_in : {X Y : Type 0} (f : X → Y) (xs : List X) (y : Y) → Contains (map f xs) y → (x : X) × Contains xs x × (f x ≡ y)
+found_in f [] y has = absurd (omega (arith, has.1))
+found_in f (x ∷ xs) y (zero, less, is) = (x, (0, omega arith, refl), is)
+found_in f (x ∷ xs) y (suc k, less, is) =
+    let rest = found_in f xs y (k, omega (arith, less), is) in (rest.0, (suc rest.1.0, omega (arith, rest.1.1), rest.1.2), rest.2)
 
-abbrev pub IsHeldOf : List Entry → Got → Type 0
-IsHeldOf order got = HasOctets order got.index got.octets
+-- a take of what another member had offered is one of a lawful network, where it comes in time
+take_is_lawful : (j : Judged) (past : List Event) (to : ℕ) (octets : List ℕ) → map octets_given j.world.offered ≡ offers_in past
+    → WasOffered (offers_in past) to octets → ComesInTime j (event.Took to octets) → LawfulDelivery j.profile j.world to octets
+take_is_lawful j past to octets told was time =
+    let its = found_in octets_given j.world.offered (was.0, octets) (subst (λ xs. Contains xs (was.0, octets)) (sym told) was.2) in
+    let from : its.0.0 ≡ was.0 = ap (λ (g : ℕ × List ℕ). g.0) its.2 in
+    let same : its.0.1.octets ≡ octets = ap (λ (g : ℕ × List ℕ). g.1) its.2 in
+    let other : its.0.0 ≡ to → ⊥ = λ is. was.1 (sym from ∙ is) in
+    record {
+      from = its.0.0;
+      datagram = its.0.1;
+      other = other;
+      offered = its.1;
+      same = same;
+      near = time its.0.0 its.0.1 other its.1 same;
+    }
 
--- an order that grows keeps its objects
-slice_get-append : (xs : List Entry) (y : Entry) (i : ℕ) (x : Entry) → slice_get xs i ≡ Some x → slice_get (xs ++ y ∷ []) i ≡ Some x
-slice_get-append [] y i x h = absurd (cc)
-slice_get-append (z ∷ xs) y zero x h = h
-slice_get-append (z ∷ xs) y (suc i) x h = slice_get-append xs y i x h
+take_is_honest : (j : Judged) (past : List Event) (e : Event) → map octets_given j.world.offered ≡ offers_in past → IsOffered past e → ComesInTime j e
+    → IsHonest j e
+take_is_honest j past (event.Took to octets) told was time = take_is_lawful j past to octets told was time
+take_is_honest j past event.Start told was time = tt
+take_is_honest j past (event.Turn turn now) told was time = tt
+take_is_honest j past (event.Pull by) told was time = tt
+take_is_honest j past (event.Job by job gave) told was time = tt
+take_is_honest j past (event.Length by name len fault) told was time = tt
+take_is_honest j past (event.Tick node sent) told was time = tt
+take_is_honest j past (event.Offer from octets) told was time = tt
+take_is_honest j past event.Empty told was time = tt
+take_is_honest j past (event.Up node instance up) told was time = tt
+take_is_honest j past (event.News news) told was time = tt
+take_is_honest j past event.End told was time = tt
 
-slice_get-last : (xs : List Entry) (y : Entry) → slice_get (xs ++ y ∷ []) (length xs) ≡ Some y
-slice_get-last [] y = refl
-slice_get-last (x ∷ xs) y = slice_get-last xs y
+-- ---- the takes of a session
 
-grows : (order : List Entry) (y : Entry) (index : ℕ) (octets : List ℕ) → HasOctets order index octets → HasOctets (order ++ y ∷ []) index octets
-grows order y index octets h = (h.0, (slice_get-append order y index h.0 h.1.0, h.1.1))
+judged_more : (start j next : Judged) (past : List Event) (e : Event) → judged_from start past ≡ Some j → accepts j e ≡ Some next
+    → judged_from start (past ++ e ∷ []) ≡ Some next
+judged_more start j next past e so is =
+    judged_from-append start past (e ∷ []) ∙ ap (λ o. option_and_then (λ n. judged_from n (e ∷ [])) o) so ∙ judged_one j next e is
 
-pub held-grows : (order : List Entry) (y : Entry) (held : List Got) → AllByRecursion (IsHeldOf order) held → AllByRecursion (IsHeldOf (order ++ y ∷ [])) held
-held-grows order y [] all = all
-held-grows order y (got ∷ held) all = (grows order y got.index got.octets all.0, held-grows order y held all.1)
+some_holds : {X : Type 0} (o : Option X) (P : X → Type 0) (x : X) → o ≡ Some x → P x → IfSome o P
+some_holds o P x is holds = subst (λ y. IfSome y P) (sym is) holds
 
-pub offers-grow : (p : Settings) (order : List Entry) (y : Entry) (offers : List (ℕ × List ℕ)) → AllByRecursion (IsOffer p order) offers
-    → AllByRecursion (IsOffer p (order ++ y ∷ [])) offers
-offers-grow p order y [] all = all
-offers-grow p order y (offer ∷ offers) all = (
-  record {
-    from = all.0.from;
-    index = all.0.index;
-    sequence = all.0.sequence;
-    octets = all.0.octets;
-    small = all.0.small;
-    wide = all.0.wide;
-    object = grows order y all.0.index all.0.octets all.0.object;
-    datagram = all.0.datagram;
-  },
-  offers-grow p order y offers all.1,
-)
+some_held : {X : Type 0} (o : Option X) (P : X → Type 0) (x : X) → o ≡ Some x → IfSome o P → P x
+some_held o P x is holds = subst (λ y. IfSome y P) is holds
 
--- one more at the end
-pub all-append : {X : Type 0} (P : X → Type 0) (xs : List X) (y : X) → AllByRecursion P xs → P y → AllByRecursion P (xs ++ y ∷ [])
-all-append P [] y all h = (h, tt)
-all-append P (x ∷ xs) y all h = (all.0, all-append P xs y all.1 h)
+take_honestly : (script : Commands) (files : Told) (past events : List Event) (j last : Judged)
+    → judged_from (session_opening script files) past ≡ Some j → judged_from j events ≡ Some last → AreOffered past events → ComeInTime j events
+    → TakesHonestly j events
+unfolding judged_from AreOffered ComeInTime TakesHonestly
+take_honestly script files past [] j last so is offered time = tt
+take_honestly script files past (e ∷ events) j last so is offered time =
+    option_and_then_some (λ next. judged_from next events) (accepts j e) last is (λ next comes more. (
+      take_is_honest j past e (offers_are_the_worlds script files (nodes_of script) past j so) offered.0 time.0,
+      some_holds (accepts j e) (λ next. TakesHonestly next events) next comes
+          (take_honestly script files (past ++ e ∷ []) events next last (judged_more (session_opening script files) j next past e so comes) more offered.1
+          (some_held (accepts j e) (λ next. ComeInTime next events) next comes time.1)),
+    ))
 
-pub all_at : {X : Type 0} (P : X → Type 0) (xs : List X) (x : X) → AllByRecursion P xs → Contains xs x → P x
-all_at P xs x all member = subst P member.2 (All-from_recursion P xs all member.0 x member.1)
+starts_there : (j : Judged) → judged_from j [] ≡ Some j
+unfolding judged_from
+starts_there j = refl
 
-got-keeps : (order : List Entry) (r : ReceiverState) (o : Option Got) → ((got : Got) → o ≡ Some got → IsHeldOf order got)
-    → AllByRecursion (IsHeldOf order) r.held → AllByRecursion (IsHeldOf order) (receiver_got r o).held
-got-keeps order r None sound held = held
-got-keeps order r (Some got) sound held =
-    elim (had r got.index) as (λ b. AllByRecursion (IsHeldOf order) (cond b r (record { held = r.held ++ got ∷ []; point = r.point })).held) [
-      | true ↦ held
-      | false ↦ all-append (IsHeldOf order) r.held got held (sound got refl)
-    ]
+-- ---- what was done is safe
 
-got-point : (r : ReceiverState) (o : Option Got) → (receiver_got r o).point ≡ r.point
-got-point r None = refl
-got-point r (Some got) =
-    elim (had r got.index) as (λ b. (cond b r (record { held = r.held ++ got ∷ []; point = r.point })).point ≡ r.point) [ true ↦ refl | false ↦ refl ]
+is_some : {X : Type 0} (o : Option X) (x : X) → o ≡ Some x → IsSome o
+is_some o x is = subst IsSome (sym is) refl
 
--- what is delivered was offered, so it is an object of the order
-delivered-keeps : (p : Settings) (order : List Entry) (offers : List (ℕ × List ℕ)) (r : ReceiverState) (taken : ℕ × List ℕ) → InRange p
-    → AllByRecursion (IsOffer p order) offers → AllByRecursion (IsHeldOf order) r.held → WasOffered offers taken.0 taken.1
-    → AllByRecursion (IsHeldOf order) (delivered p r (Some taken)).held
-delivered-keeps p order offers r taken range all held was =
-    let offer = all_at (IsOffer p order) offers (was.0, taken.1) all was.2 in
-    let sound : (got : Got) → object_in p taken.1 ≡ Some got → IsHeldOf order got = λ got e.
-    let made = rw offer.datagram at e in
-    let is = object_made p offer.sequence offer.index offer.octets got range offer.wide offer.small made in
-    let P : Got → Type 0 = IsHeldOf order in
-    subst P (sym is) offer.object in
-    elim (taken.0 == receiver_node p) as (λ b. AllByRecursion (IsHeldOf order) (cond b (receiver_got r (object_in p taken.1)) r).held) [
-      | true ↦ got-keeps order r (object_in p taken.1) sound held
-      | false ↦ held
-    ]
+pub safe_so_far : (script : Commands) (files : Told) (journal : List Event) (last : Judged) → IsRunnable script
+    → judged_from (session_opening script files) journal ≡ Some last → AreOffered [] journal → AllByRecursion HasOctets journal
+    → IsSafeInTime script files journal
+safe_so_far script files journal last is so offered octets time =
+    let start = session_opening script files in
+    let begun : Begun script files (nodes_of script) journal = is_some (judged_from start journal) last so in
+    let honest = take_honestly script files [] journal start last (starts_there start) so offered time in
+    let lawful = begins_lawfully script files (nodes_of script) journal (scripts_named script is.is_script) begun honest in
+    let events = session_events script files journal in
+    let are = commands_are_events script files (nodes_of script) journal is.is_script begun octets in
+    let of = commands_are_of_objects script files (nodes_of script) journal is.objects begun in
+    let range = is.is_script.range in
+    record {
+      lawful = lawful;
+      safe = safe_run.safe script.profile range events lawful are of;
+      kept = hold_run script.profile range events lawful are of;
+      said = said_run script.profile range events lawful are of;
+      fresh = fresh_run script.profile range events lawful are of;
+      acknowledged = acknowledge_run.handed script.profile range events lawful are of;
+      owed = acknowledge_run.owed script.profile range events lawful are of;
+      credited = credit_run script.profile events;
+    }
 
-delivered-point : (p : Settings) (r : ReceiverState) (answer : Answer) → (delivered p r answer).point ≡ r.point
-delivered-point p r None = refl
-delivered-point p r (Some taken) =
-    elim (taken.0 == receiver_node p) as (λ b. (cond b (receiver_got r (object_in p taken.1)) r).point ≡ r.point) [
-      | true ↦ got-point r (object_in p taken.1)
-      | false ↦ refl
-    ]
+-- ---- over an honest network
 
-pub delivered_all-point : (p : Settings) (r : ReceiverState) (answers : List Answer) → (delivered_all p r answers).point ≡ r.point
-delivered_all-point p r [] = refl
-delivered_all-point p r (answer ∷ answers) = delivered_all-point p (delivered p r answer) answers ∙ delivered-point p r answer
+-- a network that tells nothing yet of offers, or nothing of them at all
+over_honest : (x : Context) (Promise : Type 0) → IfSome x.network.offered (λ now. now ≡ []) → ((IsTrue x.network.honest) → x.network.offered ≡ Some [] → Promise)
+    → OverHonest x.network Promise
+over_honest x Promise none f honest = by_told x.network.offered refl none where
+  by_told : (o : Option (List (ℕ × List ℕ))) → x.network.offered ≡ o → IfSome o (λ now. now ≡ []) → IfSome o (λ offered. Promise)
+  by_told None is none = tt
+  by_told (Some now) is none = f honest (is ∙ ap Some none)
 
--- a turn's takes
-pub takes-keep : (p : Settings) (order : List Entry) (offers : List (ℕ × List ℕ)) (r : ReceiverState) (answers : List Answer) (rest : List Event) → InRange p
-    → AllByRecursion (IsOffer p order) offers → AllByRecursion (IsHeldOf order) r.held → IsHonest offers (map take_event answers ++ rest)
-    → AllByRecursion (IsHeldOf order) (delivered_all p r answers).held × IsHonest offers rest
-takes-keep p order offers r [] rest range all held honest = (held, honest)
-takes-keep p order offers r (None ∷ answers) rest range all held honest = takes-keep p order offers r answers rest range all held honest
-takes-keep p order offers r (Some taken ∷ answers) rest range all held honest =
-    takes-keep p order offers (delivered p r (Some taken)) answers rest range all (delivered-keeps p order offers r taken range all held honest.0) honest.1
+-- the state that a session of all receivers begins with
+session_judged : (x : Context) (journal : List Event) (last : Judged) → x.nodes ≡ nodes_of x.script → judged_from (opening x) journal ≡ Some last
+    → judged_from (session_opening x.script x.files) journal ≡ Some last
+session_judged x journal last nodes so = subst (λ n. judged_from (opening (record x { nodes = n })) journal ≡ Some last) nodes so
 
--- the object at the hand-up point
-pub next_up-held : (P : Got → Type 0) (held : List Got) (point : ℕ) (octets : List ℕ) → AllByRecursion P held → next_up held point ≡ Some octets
-    → (got : Got) × ((got.index ≡ point) × (got.octets ≡ octets) × P got)
-next_up-held P [] point octets all h = absurd (cc)
-next_up-held P (got ∷ held) point octets all h =
-    elim (nat_eq got.index point) as (λ b. nat_eq got.index point ≡ b → (g : Got) × ((g.index ≡ point) × (g.octets ≡ octets) × P g)) [
-      | true ↦ λ e.
-          let it : Some got.octets ≡ Some octets = rw e at h in
-          let same : got.octets ≡ octets = cc in
-          (got, (eqb-true got.index point e, same, all.0))
-      | false ↦ λ e. next_up-held P held point octets all.1 (rw e at h)
-    ] refl
+pub safe_over : (x : Context) (journal : List Event) (j : Judged) (network : Network) (written : Pieces) → Leads x journal j network written
+    → x.nodes ≡ nodes_of x.script → IsRunnable x.script → IfSome x.network.offered (λ now. now ≡ [])
+    → OverHonest x.network (IsSafeInTime x.script x.files journal)
+safe_over x journal j network written s nodes is none =
+    over_honest x (IsSafeInTime x.script x.files journal) none (λ honest told.
+    safe_so_far x.script x.files journal j is (session_judged x journal j nodes s.judged) (s.offered honest told) s.octets)
 
-pub without-keeps : (P : Got → Type 0) (held : List Got) (point : ℕ) → AllByRecursion P held → AllByRecursion P (without held point)
-without-keeps P [] point all = all
-without-keeps P (got ∷ held) point all =
-    elim (nat_eq got.index point) as (λ b. AllByRecursion P (cond b held (got ∷ without held point))) [
-      | true ↦ all.1
-      | false ↦ (all.0, without-keeps P held point all.1)
-    ]
+-- the same where a fault stopped it
+pub safe_stopped : (x : Context) (fault : SessionFault) (network : Network) (written : Pieces) (s : Stopped x fault network written)
+    → x.nodes ≡ nodes_of x.script → IsRunnable x.script → IfSome x.network.offered (λ now. now ≡ [])
+    → OverHonest x.network (IsSafeInTime x.script x.files s.journal)
+safe_stopped x fault network written s nodes is none =
+    over_honest x (IsSafeInTime x.script x.files s.journal) none (λ honest told.
+    safe_so_far x.script x.files s.journal s.last is (session_judged x s.journal s.last nodes s.begun) (s.offered honest told) s.octets)

@@ -1,93 +1,103 @@
-use Rattle.std.proofs.Common.{◌≡◌, ◌∙◌, sym, ap, ℕ, List, [], ◌∷◌, ◌++◌, Option, Some, None, Bool, subst, ◌≤◌, arith}
-use Rattle.std.specs.Prelude.{IfSome, IsTrue}
-use Rattle.norm_session.specs.Honesty.{HonestFor}
-use Rattle.norm_session.specs.Safe.{IsHonest, Safe}
-use Rattle.norm_session.proofs.SafeFronts.{safe_beginning, begun_whole}
-use Rattle.std.specs.List.{flat_map}
+-- A whole session.
+use Rattle.std.proofs.Common.{◌≡◌, ℕ, List, [], ◌∷◌, ◌++◌, Bool, true, false, Some, refl, sym, ap, ◌∙◌, subst, inl, inr}
+use Rattle.std.specs.Prelude.{◌⊎◌, Option, IfSome}
 use Rattle.norm_base.specs.Network.{Network, Starts}
-use Rattle.norm_base.specs.Told.{Pieces, gained}
+use Rattle.norm_base.specs.Told.{Pieces}
 use Rattle.norm_base.specs.declared.kinds.Local.TheVariants.{All}
-use Rattle.norm_session.specs.declared.event.Event.{Event}
-use Rattle.norm_session.specs.declared.event.Event.TheVariants.{Start}
-use Rattle.norm_session.specs.Begun.{Begun}
 use Rattle.norm_script.specs.Commands.{Commands}
-use Rattle.norm_session.specs.Commands.{IsCommand, longest_symbol}
-use Rattle.norm_session.specs.Printed.{lines_of}
-use Rattle.norm_session.specs.Totals.{end_line}
-use Rattle.norm_session.specs.Running.{TakesTurns}
-use Rattle.norm_session.specs.RunState.{RunState, opening}
-use Rattle.norm_session.specs.Session.{HasSession, RunsSession}
-use Rattle.norm_session.specs.SessionRun.{IsScript, SessionRun}
-use Rattle.norm_session.specs.Turn.{offer_of, answer_in, network_after}
-use Rattle.norm_session.proofs.ToldLemmas.{gained-gained}
-use Rattle.norm_script.specs.declared.script.Line.{Line}
-use Rattle.std.specs.List.{AllByRecursion}
+use Rattle.norm_journal.specs.declared.event.Event.{Event}
+use Rattle.norm_journal.specs.Jobs.{Told}
+use Rattle.norm_journal.specs.Judged.{Judged, is_whole}
+use Rattle.norm_journal.specs.Places.{Between, Over}
+use Rattle.norm_journal.specs.Projections.{moments_in}
+use Rattle.norm_journal.specs.SessionRun.{Ending, Whole, Spent, ending_of}
+use Rattle.norm_session.specs.Context.{Context, with_moments, judged_of}
+use Rattle.norm_session.specs.Finishing.{HasEnded, Finishes}
+use Rattle.norm_session.specs.Moments.{HaveMoments}
+use Rattle.norm_session.specs.RunKept.{RunKept}
+use Rattle.norm_session.specs.SoFar.{Leads, At}
+use Rattle.norm_session.specs.Starting.{IsBegun}
+use Rattle.norm_session.specs.Session.{IsRunnable, OverHonest, IsSafeInTime, RunsSession, NotBegun, BreaksOff, StopsSession, context_of, end_of}
+use Rattle.norm_session.specs.Turning.{Span, span, StopsTurns}
+use Rattle.norm_session.specs.declared.fault.SessionFault.{SessionFault}
+use Rattle.norm_session.specs.declared.fault.SessionFault.TheVariants as fault
+use Rattle.norm_session.proofs.SafeLemmas.{safe_over, safe_stopped}
+use Rattle.norm_session.specs.Stopping.{Stopped}
 
--- what a list that began anew has gained is all that it has
-all_gained : {X : Type 0} → (begun : Option (List X)) (more : List X) → IfSome begun (λ xs. xs ≡ []) → IfSome (gained begun more) (λ xs. xs ≡ more)
-all_gained None more h = tt
-all_gained (Some xs) more h = ap (λ front. front ++ more) h
+-- a run begins where the network was started
+abbrev Begins : Commands → RunKept → Network → Type 0
+Begins script k started = (x : Context) → IsBegun x script started → At x k Between started x.written
 
--- a network that was started, and then had the turns' events, has the session
-pub has_session : (script : Commands) (events : List Event) (before begun after : Network)
-    → Starts before begun script.profile All → after ≡ network_after begun events → HasSession script (Start ∷ events) before after
-has_session script events before begun after starts told = rw told (record {
-  starts = starts.started;
-  offered = all_gained begun.offered (flat_map offer_of events) starts.offered;
-  answers = all_gained begun.answers (flat_map answer_in events) starts.answers;
-})
+-- what leads somewhere is safe
+abbrev pub LeadsSafely : Context → Type 0
+LeadsSafely x = (journal : List Event) (j : Judged) (network : Network) (written : Pieces) → Leads x journal j network written
+    → OverHonest x.network (IsSafeInTime x.script x.files journal)
 
-honest_told : (offered : Option (List (ℕ × List ℕ))) (events more : List Event) → IfSome offered (λ o. o ≡ []) → IfSome offered (λ o. IsHonest o events)
-    → IfSome (gained offered (flat_map offer_of more)) (λ _. IsHonest [] (Start ∷ events))
-honest_told None events more begun honest = tt
-honest_told (Some offers) events more begun honest = let P : List (ℕ × List ℕ) → Type 0 = λ o. IsHonest o events in subst P begun honest
+-- what a fault stopped is safe
+abbrev pub StopsSafely : Context → Type 0
+StopsSafely x = (failed : SessionFault) (network : Network) (written : Pieces) (s : Stopped x failed network written)
+    → OverHonest x.network (IsSafeInTime x.script x.files s.journal)
 
--- over an honest network the journal is honest
-pub honest_session : (script : Commands) (events : List Event) (before begun after : Network) → Starts before begun script.profile All → after ≡ network_after begun events
-    → HonestFor begun events → IsTrue after.honest → IfSome after.offered (λ _. IsHonest [] (Start ∷ events))
-honest_session script events before begun after starts told honest =
-    let P : Network → Type 0 = λ (n : Network). IsTrue n.honest → IfSome n.offered (λ _. IsHonest [] (Start ∷ events)) in
-    subst P (sym told) (λ is. honest_told begun.offered events events starts.offered (honest is))
+how_it_ended : (x : Context) (k : RunKept) (whole : Bool) (network : Network) (written : Pieces) (e : HasEnded x k whole network written)
+    → ending_of (judged_of x k e.here.world Over) ≡ Some (end_of whole)
+how_it_ended x k whole network written e = go whole (is_whole (judged_of x k e.here.world Over)) e.whole_is
+  where
+    go : (whole test : Bool) → test ≡ whole → elim test [ true ↦ Some Whole | false ↦ Some Spent ] ≡ Some (end_of whole)
+    go true true is = refl
+    go false false is = refl
+    go true false is = absurd (cc)
+    go false true is = absurd (cc)
 
--- and so the run is safe, also where it only begins
-pub safe_told : (script : Commands) (journal : List Event) (offered : Option (List (ℕ × List ℕ))) → IsScript script → Begun script journal
-    → IfSome offered (λ _. IsHonest [] journal) → IfSome offered (λ _. Safe script journal)
-safe_told script journal None runs begun honest = tt
-safe_told script journal (Some offered) runs begun honest = safe_beginning script journal runs begun honest
-
--- the parts of a session make it
-pub session_of : (script : Commands) (r0 r1 : RunState) (journal : List Event) (whole : Bool) (n0 n1 n2 : Network) (w0 w1 w2 : Pieces)
-    → IsScript script → Starts n0 n1 script.profile All
-    → r0 ≡ opening script.profile
-    → TakesTurns script.lines r0 r1 n1 n2 w0 w1 whole
-    → w2 ≡ gained w1 (end_line r1.events ∷ [])
-    → journal ≡ r1.events
-    → RunsSession script journal whole n0 n2 w0 w2
-session_of script r0 r1 journal whole n0 n1 n2 w0 w1 w2 runs starts begun turns last is =
-    let events = turns.events in
-    let journal_is : journal ≡ Start ∷ events = is ∙ turns.journal ∙ ap (λ (r : RunState). r.events ++ events) begun in
-    let run : SessionRun script journal whole = record {
-      takes = turns.takes;
-      events = events;
-      begins = journal_is;
-      turns = rw begun at turns.turns;
-    } in
-    let honest : IsTrue n2.honest → IfSome n2.offered (λ _. IsHonest [] journal) = rw journal_is (honest_session script events n0 n1 n2 starts turns.told turns.honest) in
+-- a session that ran to its end
+pub session_runs : (script : Commands) (files : Told) (started : Network) (begun k : RunKept) (whole : Bool) (o : Span)
+    → Starts o.before started script.profile All → Begins script begun started
+    → Finishes script files begun k whole (span started o.after o.unwritten o.written o.unasked o.asked)
+    → ((ms : List ℕ) → LeadsSafely (with_moments (context_of script files started o.unwritten) ms)) → RunsSession script files k.journal whole o
+session_runs script files started begun k whole o starts begins finishes safe =
+    let x = context_of script files started o.unwritten in
+    let f = finishes.1 x (record { script = refl; files = refl }) refl (begins x (record { script = refl; nodes = refl; network = refl; moments = refl })) in
+    let y = with_moments x finishes.0 in
+    let e = f.1 in
+    let l = e.here.so_far.leads in
     record {
-      run = run;
-      network = rw journal_is (has_session script events n0 n1 n2 starts turns.told);
-      honest = honest;
-      safe = λ is. safe_told script journal n2.offered runs (begun_whole script journal whole run) (honest is);
-      output = last
-          ∙ ap (λ e. gained w1 (end_line e ∷ [])) (sym is)
-          ∙ ap (λ t. gained t (end_line journal ∷ [])) (turns.lines ∙ ap (λ (r : RunState). gained w0 (lines_of r.profile.instance events)) begun)
-          ∙ gained-gained w0 (lines_of script.profile.instance events) (end_line journal ∷ [])
-          ∙ ap (λ j. gained w0 (lines_of script.profile.instance j ++ end_line journal ∷ [])) (sym journal_is);
+      started = started;
+      starts = starts;
+      run = record { last = judged_of y k e.here.world Over; begun = l.judged; ended = how_it_ended y k whole o.after o.written e };
+      told = l.told;
+      lines = l.lines;
+      moments = subst (λ ms. HaveMoments script.profile.step 0 o.unasked o.asked ms) (sym l.moments) f.0;
+      safe = safe finishes.0 k.journal (judged_of y k e.here.world Over) o.after o.written l;
     }
 
--- commands that fit a profile's symbol fit the longest
-pub fits_longest : (e : ℕ) (lines : List Line) → e ≤ longest_symbol → AllByRecursion (IsCommand e) lines
-    → AllByRecursion (IsCommand longest_symbol) lines
-fits_longest e [] most each = tt
-fits_longest e (line ∷ lines) most each =
-    (record { some = each.0.some; most = omega (arith, each.0.most) }, fits_longest e lines most each.1)
+-- a session that a fault broke off
+pub session_stops : (script : Commands) (files : Told) (started : Network) (begun : RunKept) (failed : SessionFault) (o : Span)
+    → Starts o.before started script.profile All → Begins script begun started
+    → StopsTurns script files begun failed (span started o.after o.unwritten o.written o.unasked o.asked)
+    → ((ms : List ℕ) → StopsSafely (with_moments (context_of script files started o.unwritten) ms)) → StopsSession failed script files o
+session_stops script files started begun failed o starts begins stops safe =
+    let x = context_of script files started o.unwritten in
+    let f = stops.1 x (record { script = refl; files = refl }) refl (begins x (record { script = refl; nodes = refl; network = refl; moments = refl })) in
+    inr (record {
+      started = started;
+      starts = starts;
+      moments = stops.0;
+      by_clock = f.0;
+      stopped = f.1;
+      safe = safe stops.0 failed o.after o.written f.1;
+    })
+
+-- a session that did not begin
+pub not_begun : (script : Commands) (files : Told) (failed : SessionFault) (o : Span) → (failed ≡ fault.Memory) ⊎ (failed ≡ fault.Fabric) → o.after ≡ o.before
+    → o.written ≡ o.unwritten → o.asked ≡ o.unasked → StopsSession failed script files o
+not_begun script files failed o why network output clock = inl (record { why = why; network = network; output = output; clock = clock })
+
+-- what a session leads to is safe, and what a fault stops, where it began over a network that was just started
+pub leads_safely : (script : Commands) (files : Told) (before started : Network) (unwritten : Pieces) → IsRunnable script
+    → Starts before started script.profile All → (ms : List ℕ) → LeadsSafely (with_moments (context_of script files started unwritten) ms)
+leads_safely script files before started unwritten is starts ms journal j network written l =
+    safe_over (with_moments (context_of script files started unwritten) ms) journal j network written l refl is starts.offered
+
+pub stops_safely : (script : Commands) (files : Told) (before started : Network) (unwritten : Pieces) → IsRunnable script
+    → Starts before started script.profile All → (ms : List ℕ) → StopsSafely (with_moments (context_of script files started unwritten) ms)
+stops_safely script files before started unwritten is starts ms failed network written s =
+    safe_stopped (with_moments (context_of script files started unwritten) ms) failed network written s refl is starts.offered

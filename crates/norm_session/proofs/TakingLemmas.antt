@@ -1,83 +1,260 @@
-use Rattle.std.proofs.Common.{◌≡◌, ◌∙◌, sym, ap, ℕ, suc, List, [], ◌∷◌, ◌++◌, Some, None, refl, map, append_assoc, subst}
-use Rattle.std.proofs.lemmas.List.{append-nil}
-use Rattle.std.specs.List.{flat_map}
-use Rattle.norm_base.specs.Network.{Network, with_answer}
-use Rattle.norm_session.specs.RunState.{RunState, with_events, with_receiver}
-use Rattle.norm_session.specs.Honesty.{HonestFor}
-use Rattle.norm_session.proofs.HonestLemmas.{honest-nil, honest-take}
-use Rattle.norm_session.specs.Taking.{Takes}
-use Rattle.norm_session.specs.Turn.{Answer, take_event, delivered, delivered_all, network_after, answer_in}
-use Rattle.norm_session.specs.declared.event.Event.{Event}
-use Rattle.norm_session.proofs.ToldLemmas.{gained-nil, gained-gained}
+-- Takes: what comes of a datagram that the network gave.
+use Rattle.std.proofs.Common.{◌≡◌, ℕ, List, [], ◌∷◌, ◌++◌, Option, None, Some, Bool, true, false, refl, sym, ap, ◌∙◌, subst}
+use Rattle.std.specs.Prelude.{◌==◌, ◌||◌, IfSome, IfOk, IfErr, IsTrue, Result, Ok, Err}
+use Rattle.std.specs.List.{list_any}
+use Rattle.std.proofs.lemmas.Bool.Decides.{Decides-eqb}
+use Rattle.norm_base.proofs.MemberLemmas.{member_laws}
+use Rattle.norm_base.specs.Members.{is_node, is_receiver as is_receiver_of}
+use Rattle.norm_base.specs.Network.{Network, WasOffered, IsHonestAnswer, with_answer, answer_of}
+use Rattle.norm_base.specs.Settings.{Settings}
+use Rattle.norm_base.specs.Told.{Pieces, gained}
+use Rattle.norm_base.specs.declared.fault.FabricFault.{FabricFault}
+use Rattle.norm_base.specs.declared.fault.FabricFault.TheVariants as network_fault
+use Rattle.rand_pcg.specs.Lcg.{Lcg}
+use Rattle.norm_journal.specs.Accepting.{accepts}
+use Rattle.norm_journal.specs.Calls.{TakesDatagram}
+use Rattle.norm_journal.specs.Draws.{next_draw, draws_after}
+use Rattle.norm_journal.specs.Follows.{DatagramTaken, NoneReady}
+use Rattle.norm_journal.specs.InWorld.{at, world_after}
+use Rattle.norm_journal.specs.Judged.{Judged, news_due}
+use Rattle.norm_journal.specs.Places.{Place, Taking}
+use Rattle.norm_journal.specs.Projections.{offers_in, network_after}
+use Rattle.norm_journal.specs.Takes.{delivered, after_take}
+use Rattle.norm_journal.specs.declared.event.Event.{Event}
+use Rattle.norm_journal.specs.declared.event.Event.TheVariants as event
+use Rattle.norm_journal.proofs.FollowLemmas.{judges_what_follows}
+use Rattle.norm_safety.specs.Events.{Delivered, Silent}
+use Rattle.norm_safety.specs.World.{World}
+use Rattle.norm_safety.specs.WorldStep.{world_step}
+use Rattle.norm_world.specs.WorldKept.{WorldKept, StandsFor}
+use Rattle.norm_world.specs.WorldMoves.{IsEvent}
+use Rattle.norm_world.proofs.ReceiverEvents.{no_sender, is_sender}
+use Rattle.norm_session.specs.Causes.{session_fault}
+use Rattle.norm_session.specs.Context.{Context, judged_of}
+use Rattle.norm_session.specs.RunKept.{RunKept}
+use Rattle.norm_session.specs.SoFar.{Leads, HasAll, IsTelling, At, HasTaken, hands_next, takes_next}
+use Rattle.norm_session.specs.Stopping.{Stopped}
+use Rattle.norm_session.specs.Taking.{IsDelivered, Delivers, GoesOn, StopsAfter}
+use Rattle.norm_session.specs.declared.fault.SessionFault.{SessionFault}
+use Rattle.norm_session.specs.declared.fault.SessionFault.TheVariants as fault
+use Rattle.norm_session.proofs.SoFarLemmas.{more, leads_on, answer_told, gained-nil, stops_for_memory}
 
--- no event: nothing joins
-pub with_events-nil : (r : RunState) → with_events r [] ≡ r
-with_events-nil r = ap (λ events. record { profile = r.profile; sender = r.sender; receiver = r.receiver; events = events }) (append-nil r.events)
+-- ---- a delivery
 
-pub with_events-append : (r : RunState) (xs ys : List Event) → with_events (with_events r xs) ys ≡ with_events r (xs ++ ys)
-with_events-append r xs ys = ap (λ events. record { profile = r.profile; sender = r.sender; receiver = r.receiver; events = events }) (append_assoc r.events xs ys)
+-- the receivers of a run are those of its profile
+are_receivers : (x : Context) (k : RunKept) (node : ℕ) → HasAll x k → list_any (λ other. other == node) x.nodes ≡ is_receiver_of k.p node
+are_receivers x k node all = ap (list_any (λ other. other == node)) all.receivers ∙ member_laws.receivers k.p node
 
-pub network_after-nil : (n : Network) → network_after n [] ≡ n
-network_after-nil n = rw (gained-nil n.offered, gained-nil n.answers) refl
+-- what is delivered, by the two tests
+abbrev by_node : Bool → Bool → Judged → Judged → Judged → Judged
+by_node own other to_own to_other j = elim own [ true ↦ to_own | false ↦ elim other [ true ↦ to_other | false ↦ j ] ]
 
--- one answer joins those that the network gave
-pub network_after-take : (n : Network) (a : Answer) → network_after n (take_event a ∷ []) ≡ with_answer n a
-network_after-take n None = rw (gained-nil n.offered) refl
-network_after-take n (Some taken) = rw (gained-nil n.offered) refl
+-- the judge's state after a delivery to the sender, and to a receiver
+abbrev at_sender : ℕ → List ℕ → Judged → Judged
+at_sender node octets j = world_after (Delivered node octets j.now 0) j
 
-pub network_after-cons : (n : Network) (a : Answer) (events : List Event)
-    → network_after (with_answer n a) events ≡ network_after n (take_event a ∷ events)
-network_after-cons n None events = rw (gained-gained n.answers (None ∷ []) (flat_map answer_in events)) refl
-network_after-cons n (Some taken) events = rw (gained-gained n.answers (Some taken ∷ []) (flat_map answer_in events)) refl
+abbrev at_receiver : ℕ → List ℕ → Judged → Judged
+at_receiver node octets j = record (world_after (Delivered node octets j.now (next_draw j.draws)) j) { draws = draws_after j.draws }
 
--- nothing was taken, since nothing more was to be
-pub takes-zero : (r : RunState) (n : Network) → Takes 0 r r n n
-takes-zero r n = record {
-  answers = [];
-  is_taking = refl;
-  state = sym (with_events-nil r);
-  told = sym (network_after-nil n);
-  honest = honest-nil n;
+delivered_by : (x : Context) (k : RunKept) (w : World) (place : Place) (node : ℕ) (octets : List ℕ) (own other : Bool) → HasAll x k
+    → (node == k.p.sender) ≡ own → is_receiver_of k.p node ≡ other
+    → delivered node octets (judged_of x k w place)
+    ≡ by_node own other (at_sender node octets (judged_of x k w place)) (at_receiver node octets (judged_of x k w place)) (judged_of x k w place)
+delivered_by x k w place node octets own other all is_own is_other =
+    let j = judged_of x k w place in
+    ap (λ b. by_node b (list_any (λ n. n == node) x.nodes) (at_sender node octets j) (at_receiver node octets j) j) is_own
+    ∙ ap (λ b. by_node own b (at_sender node octets j) (at_receiver node octets j) j) (are_receivers x k node all ∙ is_other)
+
+-- a delivery, by the state that it leads to
+is_delivered : (x : Context) (k new : RunKept) (w : World) (place : Place) (node : ℕ) (octets : List ℕ) (next : Judged)
+    → delivered node octets (judged_of x k w place) ≡ next → new.p ≡ k.p → new.world.p ≡ k.world.p → new.journal ≡ k.journal
+    → StandsFor new.world next.world → judged_of x new next.world place ≡ next → IsDelivered x k new w place node octets
+is_delivered x k new w place node octets next is profile nodes journal stands state = record {
+  profile = profile;
+  nodes = nodes;
+  journal = journal;
+  stands = subst (λ (j : Judged). StandsFor new.world j.world) (sym is) stands;
+  state = subst (λ (j : Judged). judged_of x new j.world place ≡ j) (sym is) state;
 }
 
--- the network had none
-pub takes-none : (most : ℕ) (r new : RunState) (n after : Network)
-    → new ≡ with_events (with_receiver r (delivered r.profile r.receiver None)) (take_event None ∷ []) → after ≡ with_answer n None
-    → HonestFor n (take_event None ∷ []) → Takes (suc most) r new n after
-takes-none most r new n after state told honest = record {
-  answers = None ∷ [];
-  is_taking = refl;
-  state = state;
-  told = told ∙ sym (network_after-take n None);
-  honest = honest;
-}
+neither : (a b : Bool) → (a || b) ≡ false → (a ≡ false) × (b ≡ false)
+neither true b e = absurd (cc)
+neither false b e = (refl, e)
 
--- a datagram was taken, and then the rest
-pub takes-some : (most : ℕ) (taken : ℕ × List ℕ) (r mid new : RunState) (n middle after : Network)
-    → mid ≡ with_events (with_receiver r (delivered r.profile r.receiver (Some taken))) (take_event (Some taken) ∷ [])
-    → middle ≡ with_answer n (Some taken) → HonestFor n (take_event (Some taken) ∷ [])
-    → Takes most mid new middle after → Takes (suc most) r new n after
-takes-some most taken r mid new n middle after state told honest rest = record {
-  answers = Some taken ∷ rest.answers;
-  is_taking = rest.is_taking;
-  state = rest.state ∙ ap (λ (m : RunState). with_events (with_receiver m (delivered_all m.profile m.receiver rest.answers)) (map take_event rest.answers)) state
-      ∙ with_events-append (with_receiver r (delivered_all r.profile r.receiver (Some taken ∷ rest.answers))) (take_event (Some taken) ∷ []) (map take_event rest.answers);
-  told = rest.told ∙ ap (λ m. network_after m (map take_event rest.answers)) told ∙ network_after-cons n (Some taken) (map take_event rest.answers);
-  honest = honest-take n (Some taken) (map take_event rest.answers) honest
-      (subst (λ (m : Network). HonestFor m (map take_event rest.answers)) told rest.honest);
-}
+-- the run with another world and other draws
+abbrev pub drawn : RunKept → WorldKept → Lcg → RunKept
+drawn k world draws = record k { world = world; draws = draws }
 
--- the same where the number that may still be taken is given by an equation
-pub takes-none_of : (left most : ℕ) (r new : RunState) (n after : Network) → left ≡ suc most
-    → new ≡ with_events (with_receiver r (delivered r.profile r.receiver None)) (take_event None ∷ []) → after ≡ with_answer n None
-    → HonestFor n (take_event None ∷ []) → Takes left r new n after
-takes-none_of left most r new n after is state told honest = rw is (takes-none most r new n after state told honest)
+pub to_nobody : (k : RunKept) (node : ℕ) (octets : List ℕ) → is_node k.world.p node ≡ false → Delivers k k node octets
+to_nobody k node octets nobody x w place all stands =
+    let no = neither (node == k.p.sender) (is_receiver_of k.p node) (ap (λ (q : Settings). is_node q node) (sym all.world) ∙ nobody) in
+    is_delivered x k k w place node octets (judged_of x k w place) (delivered_by x k w place node octets false false all no.0 no.1) refl refl refl stands refl
 
-pub takes-some_of : (left most : ℕ) (taken : ℕ × List ℕ) (r mid new : RunState) (n middle after : Network) → left ≡ suc most
-    → mid ≡ with_events (with_receiver r (delivered r.profile r.receiver (Some taken))) (take_event (Some taken) ∷ [])
-    → middle ≡ with_answer n (Some taken) → HonestFor n (take_event (Some taken) ∷ [])
-    → Takes most mid new middle after → Takes left r new n after
-takes-some_of left most taken r mid new n middle after is state told honest rest = rw is (takes-some most taken r mid new n middle after state told honest rest)
+pub to_sender : (k : RunKept) (world : WorldKept) (node : ℕ) (octets : List ℕ) → is_node k.world.p node ≡ true → is_receiver_of k.world.p node ≡ false
+    → world.p ≡ k.world.p → IsEvent k.world world (Delivered node octets k.now 0) (λ answer. answer ≡ Silent) → Delivers k (drawn k world k.draws) node octets
+to_sender k world node octets member other same comes x w place all stands =
+    let own : (node == k.p.sender) ≡ true =
+    ap (λ (q : Settings). node == q.sender) (sym all.world) ∙ (Decides-eqb node k.world.p.sender).1 (is_sender k.world.p node member other) in
+    let no : is_receiver_of k.p node ≡ false = ap (λ (q : Settings). is_receiver_of q node) (sym all.world) ∙ other in
+    let j = judged_of x k w place in
+    is_delivered x k (drawn k world k.draws) w place node octets (at_sender node octets j) (delivered_by x k w place node octets true false all own no) refl same refl
+    (subst (λ (q : Settings). StandsFor world (world_step q w (Delivered node octets k.now 0)).0) all.world (comes.steps w stands).0) refl
 
-pub takes-zero_of : (left : ℕ) (r : RunState) (n : Network) → left ≡ 0 → Takes left r r n n
-takes-zero_of left r n is = rw is (takes-zero r n)
+pub to_receiver : (k : RunKept) (world : WorldKept) (draws : Lcg) (draw node : ℕ) (octets : List ℕ) → is_receiver_of k.world.p node ≡ true
+    → draw ≡ next_draw k.draws → draws ≡ draws_after k.draws → world.p ≡ k.world.p
+    → IsEvent k.world world (Delivered node octets k.now draw) (λ answer. answer ≡ Silent) → Delivers k (drawn k world draws) node octets
+to_receiver k world draws draw node octets receiver word rest same comes x w place all stands =
+    let yes : is_receiver_of k.p node ≡ true = ap (λ (q : Settings). is_receiver_of q node) (sym all.world) ∙ receiver in
+    let j = judged_of x k w place in
+    let stepped : StandsFor world (world_step k.p w (Delivered node octets k.now draw)).0 =
+    subst (λ (q : Settings). StandsFor world (world_step q w (Delivered node octets k.now draw)).0) all.world (comes.steps w stands).0 in
+    is_delivered x k (drawn k world draws) w place node octets (at_receiver node octets j)
+    (delivered_by x k w place node octets false true all (no_sender k.p node yes) yes) refl same refl
+    (subst (λ d. StandsFor world (world_step k.p w (Delivered node octets k.now d)).0) word stepped)
+    (ap (λ (d : Lcg). record (world_after (Delivered node octets k.now (next_draw k.draws)) j) { draws = d }) rest)
+
+-- ---- a take
+
+-- the run with another journal
+abbrev pub noted : RunKept → List Event → RunKept
+noted k journal = record k { journal = journal }
+
+-- what an honest network gave was offered before
+was_offered : (x : Context) (journal : List Event) (j : Judged) (network : Network) (written : Pieces) (node : ℕ) (octets : List ℕ)
+    → Leads x journal j network written → IsHonestAnswer network (Some (node, octets)) → IsTrue x.network.honest → x.network.offered ≡ Some []
+    → WasOffered (offers_in journal) node octets
+was_offered x journal j network written node octets s honest is told =
+    let after : IsHonestAnswer (network_after x.network journal) (Some (node, octets)) = subst (λ n. IsHonestAnswer n (Some (node, octets))) s.told honest in
+    subst (λ (o : Option (List (ℕ × List ℕ))). IfSome (gained o (offers_in journal)) (λ offered. WasOffered offered node octets)) told (after is)
+
+take_accepted : (x : Context) (k : RunKept) (w : World) (count : ℕ) (node : ℕ) (octets : List ℕ) → news_due (judged_of x k w (Taking count)) ≡ None
+    → accepts (judged_of x k w (Taking count)) (event.Took node octets)
+    ≡ Some (at (after_take count (judged_of x k w (Taking count))) (delivered node octets (judged_of x k w (Taking count))))
+take_accepted x k w count node octets quiet =
+    let j = judged_of x k w (Taking count) in
+    let next = at (after_take count j) (delivered node octets j) in
+    let follows : DatagramTaken j node octets next = record { count = count; place = refl; then = refl } in
+    (judges_what_follows j next (event.Took node octets)).1 (quiet, follows)
+
+pub takes : (x : Context) (k new : RunKept) (journal : List Event) (count node : ℕ) (octets : List ℕ) (before now : Network) (written : Pieces)
+    → Delivers k new node octets → journal ≡ new.journal ++ event.Took node octets ∷ []
+    → now ≡ with_answer before (Some (node, octets)) → IsHonestAnswer before (Some (node, octets)) → At x k (Taking count) before written
+    → IsTelling x (noted new journal) (takes_next x count) now written
+takes x k new journal count node octets before now written delivers joined told honest here =
+    let s = here.so_far in
+    let w = here.world in
+    let j = judged_of x k w (Taking count) in
+    let e : Event = event.Took node octets in
+    let did = delivers x w (Taking count) s.all s.stands in
+    let accepted : accepts j e ≡ Some (judged_of x (noted new journal) (delivered node octets j).world (takes_next x count)) =
+    take_accepted x k w count node octets here.quiet ∙ ap (λ (j : Judged). Some (at (takes_next x count) j)) (sym did.state) in
+    record {
+      world = (delivered node octets j).world;
+      so_far = more x k (noted new journal) e w (delivered node octets j).world (Taking count) (takes_next x count) before now written written s
+          (record {
+            profile = did.profile;
+            nodes = did.nodes;
+            journal = joined ∙ ap (λ js. js ++ e ∷ []) did.journal;
+            stands = did.stands;
+            accepted = accepted;
+          })
+          (told ∙ answer_told before e refl) (sym (gained-nil written))
+          (λ is told. was_offered x k.journal j before written node octets s.leads honest is told) refl tt;
+    }
+
+-- the datagram was taken, and there was no memory to deliver or to note it
+pub take_unnoted : (x : Context) (k : RunKept) (count node : ℕ) (octets : List ℕ) (before now : Network) (written : Pieces)
+    → now ≡ with_answer before (Some (node, octets)) → IsHonestAnswer before (Some (node, octets)) → At x k (Taking count) before written
+    → Stopped x fault.Memory now written
+take_unnoted x k count node octets before now written told honest here =
+    let s = here.so_far in
+    let j = judged_of x k here.world (Taking count) in
+    let e : Event = event.Took node octets in
+    let next = at (after_take count j) (delivered node octets j) in
+    stops_for_memory x (k.journal ++ e ∷ []) next now written
+    (leads_on x k.journal e j next before now written written s.leads (take_accepted x k here.world count node octets here.quiet)
+    (told ∙ answer_told before e refl) (sym (gained-nil written))
+    (λ is told. was_offered x k.journal j before written node octets s.leads honest is told) refl tt)
+
+-- the network had none ready
+pub finds_none : (x : Context) (k v : RunKept) (journal : List Event) (count : ℕ) (before now : Network) (written : Pieces) → k ≡ v
+    → journal ≡ k.journal ++ event.Empty ∷ [] → now ≡ with_answer before None → At x v (Taking count) before written
+    → At x (noted k journal) (hands_next x) now written
+finds_none x k v journal count before now written is joined told there =
+    let here = subst (λ (u : RunKept). At x u (Taking count) before written) (sym is) there in
+    let s = here.so_far in
+    let w = here.world in
+    let j = judged_of x k w (Taking count) in
+    let e : Event = event.Empty in
+    let follows : NoneReady j (judged_of x (noted k journal) w (hands_next x)) = record { count = count; place = refl; then = refl } in
+    record {
+      world = w;
+      so_far = more x k (noted k journal) e w w (Taking count) (hands_next x) before now written written s
+          (record {
+            profile = refl;
+            nodes = refl;
+            journal = joined;
+            stands = s.stands;
+            accepted = (judges_what_follows j (judged_of x (noted k journal) w (hands_next x)) e).1 (here.quiet, follows);
+          })
+          (told ∙ answer_told before e refl) (sym (gained-nil written)) (λ is told. tt) refl tt;
+      quiet = here.quiet;
+    }
+
+-- that was answered, and there was no memory to note it
+pub none_unnoted : (x : Context) (k : RunKept) (count : ℕ) (before now : Network) (written : Pieces) → now ≡ with_answer before None
+    → At x k (Taking count) before written → Stopped x fault.Memory now written
+none_unnoted x k count before now written told here =
+    let journal = k.journal ++ event.Empty ∷ [] in
+    let there = finds_none x k k journal count before now written refl refl told here in
+    stops_for_memory x journal (judged_of x (noted k journal) there.world (hands_next x)) now written there.so_far.leads
+
+-- the take failed, or found no memory
+pub take_stops : (x : Context) (k : RunKept) (failed : FabricFault) (count : ℕ) (network : Network) (written : Pieces)
+    → At x k (Taking count) network written → Stopped x (session_fault failed) network written
+take_stops x k network_fault.Failed count network written here =
+    let s = here.so_far.leads in
+    let j = judged_of x k here.world (Taking count) in
+    record {
+      journal = k.journal;
+      last = j;
+      begun = s.judged;
+      told = s.told;
+      offered = s.offered;
+      moments = s.moments;
+      octets = s.octets;
+      leaves = (
+        s.lines,
+        record {
+          call = TakesDatagram;
+          due = ap (λ found. elim found [ Some news ↦ None | None ↦ Some TakesDatagram ]) here.quiet;
+          of_kind = tt;
+        },
+      );
+    }
+take_stops x k network_fault.Memory count network written here =
+    stops_for_memory x k.journal (judged_of x k here.world (Taking count)) network written here.so_far.leads
+
+-- ---- what came of a take, by what the network answered
+
+pub answered : (k new : RunKept) (answer : Option (ℕ × List ℕ)) (before now : Network) (result : Result Bool SessionFault) → now ≡ with_answer before answer
+    → IsHonestAnswer before answer → IfOk result (λ took. GoesOn k new answer took)
+    → IfOk result (λ took. (x : Context) (written : Pieces) (count : ℕ) → At x k (Taking count) before written → HasTaken took x new count now written)
+answered k new answer before now (Err e) told honest h = h
+answered k new answer before now (Ok took) told honest h = λ x written count here. h x before now written count told honest here
+
+pub stopped_after : (k : RunKept) (answer : Option (ℕ × List ℕ)) (before now : Network) (result : Result Bool SessionFault) → now ≡ with_answer before answer
+    → IsHonestAnswer before answer → IfErr result (λ fault. StopsAfter k answer fault)
+    → IfErr result (λ fault. (x : Context) (written : Pieces) (count : ℕ) → At x k (Taking count) before written → Stopped x fault now written)
+stopped_after k answer before now (Ok took) told honest h = h
+stopped_after k answer before now (Err fault) told honest h = λ x written count here. h x before now written count told honest here
+
+-- the answer of a take, by what was found
+abbrev pub gave : ℕ → List ℕ → Option (ℕ × List ℕ)
+gave node octets = Some (node, octets)
+
+pub answer_is : (found : Option ℕ) (node : ℕ) (into octets : List ℕ) → found ≡ Some node → octets ≡ into → answer_of found into ≡ gave node octets
+answer_is found node into octets is same = ap (λ n. answer_of n into) is ∙ ap (gave node) (sym same)
+
+pub turned_delivery : (k v new : RunKept) (node : ℕ) (octets : List ℕ) → k ≡ v → Delivers k new node octets → Delivers v new node octets
+turned_delivery k v new node octets same h = subst (λ (u : RunKept). Delivers u new node octets) same h

@@ -1,42 +1,51 @@
+-- What a fault of the outside is to a run, and its cause: which call failed, as the counts of faults say.
 use Rattle.std.specs.Prelude.{◌≡◌, ℕ, Result, Ok, Err}
 use Rattle.norm_base.specs.Faults.{one_more}
 use Rattle.norm_base.specs.declared.fault.FabricFault.{FabricFault}
 use Rattle.norm_base.specs.declared.fault.FabricFault.TheVariants as network
 use Rattle.norm_session.specs.declared.fault.SessionFault.{SessionFault}
-use Rattle.norm_session.specs.declared.fault.SessionFault.TheVariants.{Write, Fabric, Memory}
+use Rattle.norm_session.specs.declared.fault.SessionFault.TheVariants.{Write, Fabric, Files, Absent, Memory}
 
--- A fault has its cause: one call of the output failed, or one of the network, as the count of its faults says. Where all
--- went well none did, nor where memory was wanted, and no other call failed than that which is the cause.
-
--- a part that neither writes nor calls the network
-abbrev pub NeedsMemory : {T : Type 0} → Result T SessionFault → Type 0
-NeedsMemory (Ok x) = Unit {0}
-NeedsMemory (Err Write) = ⊥
-NeedsMemory (Err Fabric) = ⊥
-NeedsMemory (Err Memory) = Unit {0}
-
--- a part that writes
-abbrev pub WriteCause : {T : Type 0} → Result T SessionFault → ℕ → ℕ → Type 0
-WriteCause (Ok x) before now = now ≡ before
-WriteCause (Err Write) before now = now ≡ one_more before
-WriteCause (Err Fabric) before now = ⊥
-WriteCause (Err Memory) before now = now ≡ before
-
--- a part that calls the network
-abbrev pub NetworkCause : {T : Type 0} → Result T SessionFault → ℕ → ℕ → Type 0
-NetworkCause (Ok x) before now = now ≡ before
-NetworkCause (Err Write) before now = ⊥
-NetworkCause (Err Fabric) before now = now ≡ one_more before
-NetworkCause (Err Memory) before now = now ≡ before
-
--- a part that does both: the counts of the output, and those of the network
-abbrev pub HasCause : {T : Type 0} → Result T SessionFault → (unwritten written : ℕ) → (before now : ℕ) → Type 0
-HasCause (Ok x) unwritten written before now = (written ≡ unwritten) × (now ≡ before)
-HasCause (Err Write) unwritten written before now = (written ≡ one_more unwritten) × (now ≡ before)
-HasCause (Err Fabric) unwritten written before now = (written ≡ unwritten) × (now ≡ one_more before)
-HasCause (Err Memory) unwritten written before now = (written ≡ unwritten) × (now ≡ before)
-
--- what a failed call of the network, or want of memory in it, is to a session
+-- a call of the network failed, or wanted memory
 abbrev pub session_fault : FabricFault → SessionFault
 session_fault network.Failed = Fabric
 session_fault network.Memory = Memory
+
+-- How often each of the outside failed: the output, the network, and the files.
+pub record Counted : Type 0 where
+  pub output : ℕ
+  pub network : ℕ
+  pub files : ℕ
+
+abbrev pub counted : (output network files : ℕ) → Counted
+counted output network files = record { output = output; network = network; files = files }
+
+-- the counts after this fault: that of the call that failed rose by one, and no other
+abbrev pub counts_after : SessionFault → Counted → Counted
+counts_after Write c = record c { output = one_more c.output }
+counts_after Fabric c = record c { network = one_more c.network }
+counts_after Files c = record c { files = one_more c.files }
+counts_after (Absent name) c = c
+counts_after Memory c = c
+
+-- A fault has its cause. Where all went well no call failed, nor where a file is absent or memory was wanted.
+abbrev pub HasCause : {T : Type 0} → Result T SessionFault → (before now : Counted) → Type 0
+HasCause (Ok x) before now = now ≡ before
+HasCause (Err fault) before now = now ≡ counts_after fault before
+
+-- a part that only writes
+abbrev pub WriteCause : {T : Type 0} → Result T SessionFault → (before now : ℕ) → Type 0
+WriteCause result before now = (network files : ℕ) → HasCause result (counted before network files) (counted now network files)
+
+-- a part that only calls the network
+abbrev pub NetworkCause : {T : Type 0} → Result T SessionFault → (before now : ℕ) → Type 0
+NetworkCause result before now = (output files : ℕ) → HasCause result (counted output before files) (counted output now files)
+
+-- a part that only calls the files
+abbrev pub FilesCause : {T : Type 0} → Result T SessionFault → (before now : ℕ) → Type 0
+FilesCause result before now = (output network : ℕ) → HasCause result (counted output network before) (counted output network now)
+
+-- a part that calls nothing of the outside
+abbrev pub NeedsMemory : {T : Type 0} → Result T SessionFault → Type 0
+NeedsMemory (Ok x) = Unit {0}
+NeedsMemory (Err fault) = fault ≡ Memory

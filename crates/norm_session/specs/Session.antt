@@ -1,33 +1,143 @@
-use Rattle.std.specs.Prelude.{◌≡◌, ℕ, List, [], ◌∷◌, ◌++◌, Bool, IfSome, IsTrue}
-use Rattle.norm_session.specs.Safe.{IsHonest, Safe}
-use Rattle.std.specs.List.{flat_map}
-use Rattle.norm_base.specs.Network.{Network}
+-- A whole session: what it did, and what a fault leaves of it.
+use Rattle.std.specs.Prelude.{◌≡◌, ◌≢◌, ◌⊎◌, ℕ, List, [], ◌∷◌, Bool, true, false, Contains, IfSome, IsTrue, ⊤}
+use Rattle.std.specs.List.{AllByRecursion}
+use Rattle.norm_base.specs.Members.{receivers_of}
+use Rattle.norm_base.specs.Network.{Network, Starts}
 use Rattle.norm_base.specs.Told.{Pieces, gained}
 use Rattle.norm_base.specs.declared.kinds.Local.TheVariants.{All}
-use Rattle.norm_session.specs.declared.event.Event.{Event}
+use Rattle.norm_ext.specs.Written.{Written}
 use Rattle.norm_script.specs.Commands.{Commands}
-use Rattle.norm_session.specs.Printed.{lines_of}
-use Rattle.norm_session.specs.Totals.{end_line}
-use Rattle.norm_session.specs.SessionRun.{SessionRun}
-use Rattle.norm_session.specs.Turn.{offer_of, answer_in}
+use Rattle.norm_script.specs.Scripts.{IsScript}
+use Rattle.norm_journal.specs.declared.event.Event.{Event}
+use Rattle.norm_journal.specs.declared.event.Event.TheVariants as event
+use Rattle.norm_journal.specs.Accepting.{accepts}
+use Rattle.norm_journal.specs.Jobs.{Told, IsOfObjects}
+use Rattle.norm_journal.specs.Judged.{Judged, judged_opening}
+use Rattle.norm_journal.specs.Printed.{lines_from}
+use Rattle.norm_journal.specs.Projections.{moments_in, network_after}
+use Rattle.norm_journal.specs.SessionRun.{SessionRun, Ending, Whole, Spent}
+use Rattle.norm_journal.specs.WorldEvents.{world_events}
+use Rattle.norm_safety.specs.Acknowledges.{OwesWhatItHanded}
+use Rattle.norm_safety.specs.AcknowledgesHanded.{AcknowledgesHanded}
+use Rattle.norm_safety.specs.CreditsMembers.{CreditsMembers}
+use Rattle.norm_safety.specs.Events.{Event as WorldEvent}
+use Rattle.norm_safety.specs.FreshWants.{FreshWants}
+use Rattle.norm_safety.specs.History.{History, history}
+use Rattle.norm_safety.specs.Lawful.{Lawful, comes_in_time}
+use Rattle.norm_safety.specs.Laws.{SaidOfOrders}
+use Rattle.norm_safety.specs.LosesNothing.{LosesNothing}
+use Rattle.norm_safety.specs.Safe.{Safe}
+use Rattle.norm_session.specs.Context.{Context, with_moments}
+use Rattle.norm_session.specs.Moments.{HaveMoments}
+use Rattle.norm_session.specs.Stopping.{Stopped}
+use Rattle.norm_session.specs.Turning.{Span}
+use Rattle.norm_session.specs.declared.fault.SessionFault.{SessionFault}
+use Rattle.norm_session.specs.declared.fault.SessionFault.TheVariants as fault
 
--- the lines that are printed of a run: one for each event that has one, and the summary
-abbrev pub printed : ℕ → List Event → List (List ℕ)
-printed instance journal = lines_of instance journal ++ end_line journal ∷ []
+-- What a session can run: a script that opens no stream.
+pub record IsRunnable (script : Commands) : Type 0 where
+  pub is_script : IsScript script
+  pub objects : AllByRecursion IsOfObjects script.lines
 
--- The network tells of a session what its journal says: one start, of this profile with all members; the journal's
--- offers; and the journal's takes.
-pub record HasSession (script : Commands) (journal : List Event) (before after : Network) : Type 0 where
-  pub starts : IfSome before.starts (λ old. IfSome after.starts (λ new. new ≡ old ++ (script.profile, All) ∷ []))
-  pub offered : IfSome after.offered (λ offered. offered ≡ flat_map offer_of journal)
-  pub answers : IfSome after.answers (λ answers. answers ≡ flat_map answer_in journal)
+-- the receivers of a script's profile, in order
+abbrev pub nodes_of : Commands → List ℕ
+nodes_of script = receivers_of script.profile script.profile.receivers
 
--- A session of this script: its journal is a run, the network has it, and it is what was written.
-pub record RunsSession (script : Commands) (journal : List Event) (whole : Bool) (before after : Network) (unwritten written : Pieces) : Type 0 where
-  pub run : SessionRun script journal whole
-  pub network : HasSession script journal before after
-  -- where the network is honest, what was taken had been offered by another member
-  pub honest : IsTrue after.honest → IfSome after.offered (λ _. IsHonest [] journal)
-  -- so the run is safe
-  pub safe : IsTrue after.honest → IfSome after.offered (λ _. Safe script journal)
-  pub output : written ≡ gained unwritten (printed script.profile.instance journal)
+-- the judge's state before anything happened
+abbrev pub session_opening : Commands → Told → Judged
+session_opening script files = judged_opening script files (nodes_of script)
+
+-- the events of a session in the nodes' world
+abbrev pub session_events : Commands → Told → List Event → List WorldEvent
+session_events script files journal = world_events (session_opening script files) journal
+
+-- What a take gives comes in time: wherever it was offered, it names only indices within 32,767 of the greatest that its node, or the
+-- sender, knows by then.
+abbrev pub ComesInTime : Judged → Event → Type 0
+ComesInTime j (event.Took to octets) = (from : ℕ) (datagram : Written) → from ≢ to → Contains j.world.offered (from, datagram)
+    → datagram.octets ≡ octets → IsTrue (comes_in_time j.profile j.world to datagram)
+ComesInTime j _ = ⊤
+
+-- the same of each take of a journal
+unfoldable pub ComeInTime : Judged → List Event → Type 0
+ComeInTime j [] = ⊤
+ComeInTime j (e ∷ events) = ComesInTime j e × IfSome (accepts j e) (λ next. ComeInTime next events)
+
+-- what happened in that world
+abbrev pub session_history : Commands → Told → List Event → History
+session_history script files journal = history script.profile (session_events script files journal)
+
+-- What was done is a lawful run of the nodes, and safe; and more than that is promised of it.
+pub record IsSafe (script : Commands) (files : Told) (journal : List Event) : Type 0 where
+  pub lawful : Lawful script.profile (session_events script files journal)
+  -- Each accepted object is once in the order; each receiver handed up that order, with a loss only below the drop point; whoever is
+  -- listed past a watermark had handed up everything before it; and a watermark is satisfied exactly where its quorum is listed.
+  pub safe : Safe script.profile (session_events script files journal)
+  -- in hold mode only a node that was struck reported a loss
+  pub kept : LosesNothing script.profile (session_history script files journal)
+  -- each symbol, info, flush and squelch that was said is true of the orders
+  pub said : SaidOfOrders script.profile (session_history script files journal)
+  -- what is wanted as a round closes and was never sent is held by nobody
+  pub fresh : FreshWants script.profile (session_history script files journal)
+  -- a receiver acknowledges only what it handed up, everything before included
+  pub acknowledged : AcknowledgesHanded script.profile (session_history script files journal)
+  -- and whoever handed up everything before the end of an object owes that to a flush which names it
+  pub owed : OwesWhatItHanded script.profile (session_history script files journal)
+  -- what a member acknowledges is credited
+  pub credited : CreditsMembers script.profile (session_history script files journal)
+
+abbrev pub IsSafeInTime : Commands → Told → List Event → Type 0
+IsSafeInTime script files journal = ComeInTime (session_opening script files) journal → IsSafe script files journal
+
+-- over an honest network that tells what is offered
+abbrev pub OverHonest : Network → Type 0 → Type 0
+OverHonest started Promise = IsTrue started.honest → IfSome started.offered (λ offered. Promise)
+
+-- how a session ended that ran to its end
+abbrev pub end_of : Bool → Ending
+end_of true = Whole
+end_of false = Spent
+
+-- A session was run to its end: its journal is a run of the script by the defined protocol, over the network that was started once,
+-- whose offers and answers are the journal's; the output has the journal's lines, each one piece; its turns began at their moments,
+-- by the clock where the step is 0. Over an honest network it is safe.
+pub record RunsSession (script : Commands) (files : Told) (journal : List Event) (whole : Bool) (o : Span) : Type 0 where
+  pub started : Network
+  pub starts : Starts o.before started script.profile All
+  pub run : SessionRun script files journal (end_of whole)
+  pub told : o.after ≡ network_after started journal
+  pub lines : o.written ≡ gained o.unwritten (lines_from (session_opening script files) journal)
+  pub moments : HaveMoments script.profile.step 0 o.unasked o.asked (moments_in journal)
+  pub safe : OverHonest started (IsSafeInTime script files journal)
+
+-- Nothing was done: there was no memory, or the network was not started.
+pub record NotBegun (failed : SessionFault) (o : Span) : Type 0 where
+  pub why : (failed ≡ fault.Memory) ⊎ (failed ≡ fault.Fabric)
+  pub network : o.after ≡ o.before
+  pub output : o.written ≡ o.unwritten
+  pub clock : o.asked ≡ o.unasked
+
+-- what a session of a script is over
+abbrev pub context_of : Commands → Told → Network → Pieces → Context
+context_of script files started unwritten = record {
+  script = script;
+  files = files;
+  nodes = nodes_of script;
+  network = started;
+  written = unwritten;
+  moments = [];
+}
+
+-- A fault broke a session off: what was done is the beginning of a run, and that is what the network, the output and the clock have of
+-- it.
+pub record BreaksOff (failed : SessionFault) (script : Commands) (files : Told) (o : Span) : Type 0 where
+  pub started : Network
+  pub starts : Starts o.before started script.profile All
+  pub moments : List ℕ
+  pub by_clock : HaveMoments script.profile.step 0 o.unasked o.asked moments
+  pub stopped : Stopped (with_moments (context_of script files started o.unwritten) moments) failed o.after o.written
+  pub safe : OverHonest started (IsSafeInTime script files stopped.journal)
+
+-- what a fault leaves of a session
+abbrev pub StopsSession : SessionFault → Commands → Told → Span → Type 0
+StopsSession failed script files o = NotBegun failed o ⊎ BreaksOff failed script files o

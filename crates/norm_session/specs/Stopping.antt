@@ -1,76 +1,75 @@
-use Rattle.std.specs.Prelude.{◌≡◌, ℕ, List, [], ◌∷◌, ◌++◌, map, Bool, Option, None, Some, ◌⊎◌}
-use Rattle.norm_base.specs.Settings.{Settings}
-use Rattle.norm_base.specs.Network.{Network, with_answer}
+-- What a fault leaves of a run.
+use Rattle.std.specs.Prelude.{◌≡◌, ℕ, List, [], ◌∷◌, ◌++◌, Option, Some, IsTrue, ⊤}
+use Rattle.std.specs.List.{AllByRecursion}
+use Rattle.norm_base.specs.Network.{Network}
 use Rattle.norm_base.specs.Told.{Pieces, gained, GainsFront}
-use Rattle.norm_session.specs.declared.event.Event.{Event}
+use Rattle.norm_journal.specs.declared.event.Event.{Event}
+use Rattle.norm_journal.specs.Accepting.{judged_from}
+use Rattle.norm_journal.specs.Calls.{Call, StartsNetwork, LooksIntoFile, OffersDatagram, TakesDatagram, call_due}
+use Rattle.norm_journal.specs.Judged.{Judged}
+use Rattle.norm_journal.specs.Laws.{HasOctets}
+use Rattle.norm_journal.specs.Printed.{line_of, lines_from}
+use Rattle.norm_journal.specs.Projections.{moments_in, network_after}
+use Rattle.norm_journal.specs.SessionRun.{Absent, ending_of}
+use Rattle.norm_session.specs.Context.{Context, opening}
+use Rattle.norm_session.specs.SoFar.{AreOffered}
 use Rattle.norm_session.specs.declared.fault.SessionFault.{SessionFault}
-use Rattle.norm_session.specs.declared.fault.SessionFault.TheVariants.{Write, Fabric, Memory}
-use Rattle.norm_script.specs.declared.script.Line.{Line}
-use Rattle.norm_session.specs.Honesty.{HonestFor}
-use Rattle.norm_session.specs.Printed.{line_of, lines_of}
-use Rattle.norm_session.specs.ReceiverState.{ReceiverState}
-use Rattle.norm_session.specs.SenderState.{SenderState}
-use Rattle.norm_session.specs.SessionRun.{Turns}
-use Rattle.norm_session.specs.Turn.{Answer, IsTaking, most_takes, take_event, network_after}
-use Rattle.norm_session.specs.WholeTurn.{turn_events}
+use Rattle.norm_session.specs.declared.fault.SessionFault.TheVariants as fault
 
--- A fault stops a run within a part of it: what was done is a beginning of what the part would do.
+-- a call of the network
+abbrev pub IsOfNetwork : Call → Type 0
+IsOfNetwork StartsNetwork = ⊤
+IsOfNetwork (OffersDatagram from octets) = ⊤
+IsOfNetwork TakesDatagram = ⊤
+IsOfNetwork _ = ⊥
 
--- these are the first of the events, or all of them
-abbrev pub IsBeginningOf : List Event → List Event → Type 0
-IsBeginningOf events done = (rest : List Event) × (events ≡ done ++ rest)
+-- a call of the files
+abbrev pub IsOfFiles : Call → Type 0
+IsOfFiles (LooksIntoFile name) = ⊤
+IsOfFiles _ = ⊥
 
--- a front of this line is the last piece, where there is a line
-abbrev pub GainsFrontOf : (unwritten written : Pieces) → Option (List ℕ) → Type 0
-GainsFrontOf unwritten written None = ⊥
-GainsFrontOf unwritten written (Some line) = GainsFront unwritten written line
+-- A call of this kind was due that failed.
+pub record FailedCall (Kind : Call → Type 0) (last : Judged) : Type 0 where
+  pub call : Call
+  pub due : call_due last ≡ Some call
+  pub of_kind : Kind call
 
--- what a fault leaves of a line that was to be written: a front of it where the write failed, and else nothing
-abbrev pub Leaves : SessionFault → (unwritten written : Pieces) → Option (List ℕ) → Type 0
-Leaves Write unwritten written line = GainsFrontOf unwritten written line
-Leaves Fabric unwritten written line = written ≡ unwritten
-Leaves Memory unwritten written line = written ≡ unwritten
+-- The last event's line was not written whole: of the output there is what the journal's lines before it are, and a front of it.
+pub record BrokenLine (x : Context) (journal : List Event) (written : Pieces) : Type 0 where
+  pub front : List Event
+  pub event : Event
+  pub before : Judged
+  pub line : List ℕ
+  pub journal_is : journal ≡ front ++ event ∷ []
+  pub begun : judged_from (opening x) front ≡ Some before
+  pub line_is : line_of before event ≡ Some line
+  pub output : GainsFront (gained x.written (lines_from (opening x) front)) written line
 
--- What was done, and fits, is printed; and where a write failed, a front of the line of an event that fits next.
-abbrev pub Prints : SessionFault → ℕ → (List Event → Type 0) → List Event → (unwritten written : Pieces) → Type 0
-Prints Write instance Fits done unwritten written =
-    (next : Event) × Fits (done ++ next ∷ []) × GainsFrontOf (gained unwritten (lines_of instance done)) written (line_of instance next)
-Prints Fabric instance Fits done unwritten written = written ≡ gained unwritten (lines_of instance done)
-Prints Memory instance Fits done unwritten written = written ≡ gained unwritten (lines_of instance done)
+-- What a fault leaves of the line of an event: a front of it where its write failed, and else nothing.
+abbrev pub IsUnwritten : SessionFault → (unwritten written : Pieces) → Option (List ℕ) → Type 0
+IsUnwritten fault.Write unwritten written line = (octets : List ℕ) × (line ≡ Some octets) × GainsFront unwritten written octets
+IsUnwritten fault.Memory unwritten written line = written ≡ unwritten
+IsUnwritten _ unwritten written line = ⊥
 
--- A fault stopped a part that has these events, and only writes.
-pub record StopsWriting (fault : SessionFault) (instance : ℕ) (part : List Event) (unwritten written : Pieces) : Type 0 where
-  pub done : List Event
-  pub begins : IsBeginningOf part done
-  pub prints : Prints fault instance (IsBeginningOf part) done unwritten written
+-- the output has the lines of a journal
+abbrev pub HasLines : Context → List Event → Pieces → Type 0
+HasLines x journal written = written ≡ gained x.written (lines_from (opening x) journal)
 
--- A fault stopped a take: it gave nothing, or its answer was the last thing that was done.
-abbrev pub StopsTake : (before after : Network) → Type 0
-StopsTake before after =
-    (after ≡ before) ⊎ ((answer : Answer) × (after ≡ with_answer before answer) × HonestFor before (take_event answer ∷ []))
+-- What was written, and which call failed, by the fault.
+abbrev pub Leaves : SessionFault → Context → List Event → Judged → Pieces → Type 0
+Leaves fault.Write x journal last written = BrokenLine x journal written
+Leaves fault.Fabric x journal last written = HasLines x journal written × FailedCall IsOfNetwork last
+Leaves fault.Files x journal last written = HasLines x journal written × FailedCall IsOfFiles last
+Leaves (fault.Absent name) x journal last written = HasLines x journal written × (ending_of last ≡ Some (Absent name))
+Leaves fault.Memory x journal last written = HasLines x journal written
 
--- A fault stopped a turn's taking of at most so many, after these answers.
-pub record StopsTaking (most : ℕ) (before after : Network) : Type 0 where
-  pub answers : List Answer
-  pub rest : List Answer
-  pub is_taking : IsTaking most (answers ++ rest)
-  pub told : after ≡ network_after before (map take_event answers)
-  pub honest : HonestFor before (map take_event answers)
-
--- A fault stopped a part of a run: what was done fits, and the network and the output have it.
-pub record Stops (fault : SessionFault) (instance : ℕ) (Fits : List Event → Type 0) (before after : Network) (unwritten written : Pieces) : Type 0 where
-  pub done : List Event
-  pub fits : Fits done
-  pub told : after ≡ network_after before done
-  pub honest : HonestFor before done
-  pub prints : Prints fault instance Fits done unwritten written
-
--- the beginning of turn t, whatever the network had answered
-abbrev pub BeginsTurn : Settings → SenderState → ReceiverState → ℕ → Option Line → List Event → Type 0
-BeginsTurn p s r t command done =
-    (answers : List Answer) × IsTaking most_takes answers × IsBeginningOf (turn_events p s r t command answers) done
-
--- the beginning of turns t, t + 1, ..
-abbrev pub BeginsTurns : Settings → SenderState → ReceiverState → ℕ → List Line → List Event → Type 0
-BeginsTurns p s r t commands done =
-    (takes : List (List Answer)) × (more : List Event) × (whole : Bool) × Turns p s r t commands takes (done ++ more) whole
+-- A run that a fault stopped: some journal that the judge accepts, which the network has, and what was written of it.
+pub record Stopped (x : Context) (fault : SessionFault) (network : Network) (written : Pieces) : Type 0 where
+  pub journal : List Event
+  pub last : Judged
+  pub begun : judged_from (opening x) journal ≡ Some last
+  pub told : network ≡ network_after x.network journal
+  pub offered : IsTrue x.network.honest → x.network.offered ≡ Some [] → AreOffered [] journal
+  pub moments : moments_in journal ≡ x.moments
+  pub octets : AllByRecursion HasOctets journal
+  pub leaves : Leaves fault x journal last written

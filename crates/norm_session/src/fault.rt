@@ -1,25 +1,30 @@
-//! Why a session ends before it is done.
+//! Why a run stops before it is done.
 
 ghost use Rattle.std.specs.Prelude.{◌≡◌};
-ghost use Rattle.norm_session.specs.declared.fault.SessionFault.TheVariants as session;
 ghost use Rattle.norm_session.specs.Causes.{session_fault};
+ghost use Rattle.norm_session.specs.declared.fault.SessionFault.TheVariants as fault;
 
-use norm_base::{FabricFault, Failed, Memory};
+use norm_base::{FabricFault, Failed, Memory, Text};
+use norm_world::DeliverFault;
 use std::alloc::{AllocError, AllocFailed};
 
-/// Why a session ended before it was done.
-#[derive(Clone, Copy, Debug, PartialEq, Eq)]
+/// Why a run stops before it is done.
+#[derive(Debug, Drop)]
 pub enum SessionFault {
     /// A write failed.
     Write,
     /// A call of the network failed.
     Fabric,
+    /// A call of the files failed.
+    Files,
+    /// The file of this name is not there.
+    Absent { name: Text },
     /// There was no memory.
     Memory,
 }
 
 impl From<AllocError> for SessionFault {
-    ghost from_gives = { λ e r. r ≡ session.Memory };
+    ghost from_gives = { λ e r. r ≡ fault.Memory };
 
     fn from(_error: AllocError) -> SessionFault {
         SessionFault::Memory
@@ -27,7 +32,7 @@ impl From<AllocError> for SessionFault {
 }
 
 impl<T: Drop> From<AllocFailed<T>> for SessionFault {
-    ghost from_gives = { λ e r. r ≡ session.Memory };
+    ghost from_gives = { λ e r. r ≡ fault.Memory };
 
     fn from(_refused: AllocFailed<T>) -> SessionFault {
         SessionFault::Memory
@@ -35,10 +40,19 @@ impl<T: Drop> From<AllocFailed<T>> for SessionFault {
 }
 
 impl From<Memory> for SessionFault {
-    ghost from_gives = { λ e r. r ≡ session.Memory };
+    ghost from_gives = { λ e r. r ≡ fault.Memory };
 
-    fn from(_fault: Memory) -> SessionFault {
+    fn from(_memory: Memory) -> SessionFault {
         SessionFault::Memory
+    }
+}
+
+/// The output's write is the only call of a run that answers `Failed`.
+impl From<Failed> for SessionFault {
+    ghost from_gives = { λ e r. r ≡ fault.Write };
+
+    fn from(_failed: Failed) -> SessionFault {
+        SessionFault::Write
     }
 }
 
@@ -53,11 +67,11 @@ impl From<FabricFault> for SessionFault {
     }
 }
 
-/// The output's write is the only call of a session that answers `Failed`.
-impl From<Failed> for SessionFault {
-    ghost from_gives = { λ e r. r ≡ session.Write };
+/// A datagram of a stream stops a run as want of memory does, as long as no receiver takes one in.
+impl From<DeliverFault> for SessionFault {
+    ghost from_gives = { λ e r. r ≡ fault.Memory };
 
-    fn from(_fault: Failed) -> SessionFault {
-        SessionFault::Write
+    fn from(_fault: DeliverFault) -> SessionFault {
+        SessionFault::Memory
     }
 }

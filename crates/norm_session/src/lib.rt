@@ -1,20 +1,21 @@
-//! A session of a sender and its receivers, turn by turn, with the journal of what happened (RFC 5740
-//! section 5).
+//! The turns of a session over the nodes' world (RFC 5740 section 5), each event of which the judge of journals accepts.
 #![tactic(auto)]
 
-mod event;
+mod commanding;
+mod ending;
 mod fault;
-mod job;
-pub mod laws;
-mod lines;
-mod receiver;
+mod handing;
+mod printing;
+mod reading;
 mod run;
-mod sender;
+mod sending;
+mod serving;
 mod session;
-mod totals;
+mod starting;
+mod taking;
+mod telling;
+mod turning;
 
-pub use crate::event::{Event, Journal};
 pub use crate::fault::SessionFault;
-pub use crate::job::{Job, Receipt, SendFault, Up};
+pub use crate::run::Run;
 pub use crate::session::{Ended, run_session};
-pub use norm_script::{Line, Script, Verb};

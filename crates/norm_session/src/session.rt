@@ -1,29 +1,34 @@
 //! A whole session (RFC 5740 section 5).
 
 ghost use Rattle.std.specs.Prelude.{◌≡◌, IfOk, IfErr};
-ghost use Rattle.norm_session.specs.BreakingOff.{BreaksOff};
-ghost use Rattle.norm_session.specs.Causes.{HasCause};
-ghost use Rattle.norm_session.specs.SessionRun.{IsScript};
-ghost use Rattle.norm_session.specs.Session.{RunsSession};
+ghost use Rattle.norm_session.specs.Causes.{HasCause, counted};
+ghost use Rattle.norm_session.specs.Finishing.{Finishes};
+ghost use Rattle.norm_session.specs.Session.{IsRunnable, RunsSession, StopsSession};
+ghost use Rattle.norm_session.specs.Turning.{StopsTurns, span};
 
-use crate::event::Journal;
 use crate::fault::SessionFault;
 use crate::run::Run;
 use norm_base::{Clock, Datagram, Fabric, Files, Sink};
+use norm_record::Journal;
 use norm_script::Script;
 use std::alloc::Global;
 use std::sync::Wait;
 use std::thread::Threads;
 
 /// How a session ended: its journal, and whether all was done. If not, the turns were spent.
-#[derive(Debug, Drop)]
+#[derive(Drop)]
 pub struct Ended {
     pub journal: Journal,
     pub whole: bool,
 }
 
-/// Runs a script's session: a turn for each moment, until all its commands were pulled and all was sent,
-/// or the profile's turns are spent. Each line is one write of the output, the summary is the last.
+/// Runs a script's session: turn by turn, until all its commands were pulled and none waits, no watermark is open and the sender is
+/// idle, or until the profile's turns are spent. Each line is one write of the output, the summary is the last.
+///
+/// # Errors
+///
+/// `Write`, `Fabric` or `Files` where a call of the output, the network or the files failed; `Absent` where a command's file is not
+/// there; or `Memory`.
 pub fn run_session<R: Threads + Wait + Sync, K: Sink, F: Fabric, D: Files, C: Clock>(
     _rt: &R,
     alloc: Global,
@@ -33,39 +38,73 @@ pub fn run_session<R: Threads + Wait + Sync, K: Sink, F: Fabric, D: Files, C: Cl
     files: &mut D,
     clock: &mut C,
 ) -> Result<Ended, SessionFault>
-    requires { IsScript script.now }
-    ensures run { IfOk result (λ ended. RunsSession script.now ended.journal ended.whole
-        (F.told fabric.old) (F.told fabric.new) (K.pieces output.old) (K.pieces output.new)) }
-    ensures stops { IfErr result (λ fault. BreaksOff fault script.now
-        (F.told fabric.old) (F.told fabric.new) (K.pieces output.old) (K.pieces output.new)) }
+    requires { IsRunnable script.now }
+    ensures run { IfOk result (λ ended. RunsSession script.now (D.contents files.old) ended.journal ended.whole
+        (span (F.told fabric.old) (F.told fabric.new) (K.pieces output.old) (K.pieces output.new) (C.moments clock.old) (C.moments clock.new))) }
+    ensures stops { IfErr result (λ fault. StopsSession fault script.now (D.contents files.old)
+        (span (F.told fabric.old) (F.told fabric.new) (K.pieces output.old) (K.pieces output.new) (C.moments clock.old) (C.moments clock.new))) }
     ensures files { D.contents files.new ≡ D.contents files.old }
-    ensures file_faults { D.fault_count files.new ≡ D.fault_count files.old }
-    ensures clock { C.moments clock.new ≡ C.moments clock.old }
-    ensures cause { HasCause result (K.fault_count output.old) (K.fault_count output.new) (F.fault_count fabric.old) (F.fault_count fabric.new) }
+    ensures cause { HasCause result (counted (K.fault_count output.old) (F.fault_count fabric.old) (D.fault_count files.old))
+        (counted (K.fault_count output.new) (F.fault_count fabric.new) (D.fault_count files.new)) }
 {
-    run_script(alloc, script, output, fabric)
+    run_script(alloc, script, output, fabric, files, clock)
 }
 
 /// The session, which waits for nobody.
-fn run_script<K: Sink, F: Fabric>(
+fn run_script<K: Sink, F: Fabric, D: Files, C: Clock>(
     alloc: Global,
     script: &Script,
     output: &mut K,
     fabric: &mut F,
+    files: &mut D,
+    clock: &mut C,
 ) -> Result<Ended, SessionFault>
-    requires { IsScript script.now }
-    ensures run { IfOk result (λ ended. RunsSession script.now ended.journal ended.whole
-        (F.told fabric.old) (F.told fabric.new) (K.pieces output.old) (K.pieces output.new)) }
-    ensures stops { IfErr result (λ fault. BreaksOff fault script.now
-        (F.told fabric.old) (F.told fabric.new) (K.pieces output.old) (K.pieces output.new)) }
-    ensures cause { HasCause result (K.fault_count output.old) (K.fault_count output.new) (F.fault_count fabric.old) (F.fault_count fabric.new) }
+    requires { IsRunnable script.now }
+    ensures run { IfOk result (λ ended. RunsSession script.now (D.contents files.old) ended.journal ended.whole
+        (span (F.told fabric.old) (F.told fabric.new) (K.pieces output.old) (K.pieces output.new) (C.moments clock.old) (C.moments clock.new))) }
+    ensures stops { IfErr result (λ fault. StopsSession fault script.now (D.contents files.old)
+        (span (F.told fabric.old) (F.told fabric.new) (K.pieces output.old) (K.pieces output.new) (C.moments clock.old) (C.moments clock.new))) }
+    ensures files { D.contents files.new ≡ D.contents files.old }
+    ensures cause { HasCause result (counted (K.fault_count output.old) (F.fault_count fabric.old) (D.fault_count files.old))
+        (counted (K.fault_count output.new) (F.fault_count fabric.new) (D.fault_count files.new)) }
 {
     let mut datagram = Datagram::new(alloc)?;
-    let mut run = Run::start(alloc, &script.profile, fabric)?;
-    let whole = run.turns(output, fabric, &mut datagram, &script.lines)?;
-    run.summarize(output)?;
+    let mut run = Run::start(alloc, script, fabric)?;
+    let whole = run.finish(script, output, fabric, files, clock, &mut datagram)?;
     Ok(Ended {
         journal: run.into_journal(),
         whole,
     })
+}
+
+impl Run {
+    /// The journal of the run.
+    fn into_journal(self) -> Journal
+        ensures { result ≡ self.journal }
+    {
+        self.journal
+    }
+
+    /// All turns, and the summary. Whether all was done.
+    fn finish<K: Sink, F: Fabric, D: Files, C: Clock>(
+        &mut self,
+        script: &Script,
+        output: &mut K,
+        fabric: &mut F,
+        files: &mut D,
+        clock: &mut C,
+        datagram: &mut Datagram,
+    ) -> Result<bool, SessionFault>
+        ensures goes { IfOk result (λ whole. Finishes script.now (D.contents files.old) self.old self.new whole
+            (span (F.told fabric.old) (F.told fabric.new) (K.pieces output.old) (K.pieces output.new) (C.moments clock.old) (C.moments clock.new))) }
+        ensures stops { IfErr result (λ fault. StopsTurns script.now (D.contents files.old) self.old fault
+            (span (F.told fabric.old) (F.told fabric.new) (K.pieces output.old) (K.pieces output.new) (C.moments clock.old) (C.moments clock.new))) }
+        ensures same { D.contents files.new ≡ D.contents files.old }
+        ensures cause { HasCause result (counted (K.fault_count output.old) (F.fault_count fabric.old) (D.fault_count files.old))
+            (counted (K.fault_count output.new) (F.fault_count fabric.new) (D.fault_count files.new)) }
+    {
+        self.turns(script, output, fabric, files, clock, datagram)?;
+        self.summarize(output)?;
+        Ok(self.is_whole(script))
+    }
 }

@@ -1,42 +1,53 @@
 use Rattle.std.proofs.Common.{ℕ, map}
 use Rattle.std.specs.Prelude.{string_bytes}
-use Rattle.norm_program.proofs.EndingLemmas.{last_ends, broken_ends}
+use Rattle.norm_program.specs.Ends.{called_as}
+use Rattle.norm_program.proofs.EndingLemmas.{last_ends, stopped_ends}
 use Rattle.norm_program.proofs.program.run_words.Goals as goal
 
--- where a fault broke the session off
+-- where a fault stopped the session
 pub returns-clause-ends : goal.returns-clause-ends
 returns-clause-ends g c =
     let left = g.S.Source.left in
     let pieces = g.K.Sink.pieces in
-    let told = g.F.Fabric.told in
     let reads = g.S.Source.fault_count in
-    let calls = g.F.Fabric.fault_count in
     let writes = g.K.Sink.fault_count in
+    let told = g.F.Fabric.told in
+    let calls = g.F.Fabric.fault_count in
+    let contents = g.D.Files.contents in
+    let failed = g.D.Files.fault_count in
+    let moments = g.C.Clock.moments in
     let ready = rw c.deref.ensures.value at c.in-Ok.ensures.ready in
     let stops = rw c.in-Ok.ensures.unwritten at c.in-Err-run_session.ensures.stops in
     let cause = rw c.in-Ok.ensures.quiet.1 at c.in-Err-run_session.ensures.cause in
-    broken_ends ℕ c.in-Err-run_session.fault c.break_off.result (map string_bytes c.args.words.now.items) c.in-Ok.script
-    (left c.args.input.now) (left c.prepare.new.input) (told c.args.fabric.now) (told c.run_session.new.fabric)
-    (pieces c.args.output.now) (pieces c.run_session.new.output) (pieces c.break_off.new.output)
-    (reads c.args.input.now) (reads c.prepare.new.input) (calls c.args.fabric.now) (calls c.run_session.new.fabric)
-    (writes c.args.output.now) (writes c.run_session.new.output) (writes c.break_off.new.output)
-    ready c.in-Ok.ensures.quiet.0 stops cause c.break_off.ensures
+    stopped_ends ℕ c.in-Err-run_session.fault c.stop_session.result (map string_bytes c.args.words.now.items) c.in-Ok.script
+    (left c.args.input.now) (left c.prepare.new.input)
+    (pieces c.args.output.now) (pieces c.run_session.new.output) (pieces c.stop_session.new.output)
+    (reads c.args.input.now) (reads c.prepare.new.input)
+    (writes c.args.output.now) (writes c.run_session.new.output) (writes c.stop_session.new.output)
+    (called_as (told c.args.fabric.now) (contents c.args.files.now) (moments c.args.clock.now) (calls c.args.fabric.now) (failed c.args.files.now))
+    (called_as (told c.run_session.new.fabric) (contents c.run_session.new.files) (moments c.run_session.new.clock) (calls c.run_session.new.fabric) (failed c.run_session.new.files))
+    ready c.in-Ok.ensures.quiet.0 stops cause c.stop_session.ensures
 
 -- where the session ran
 pub returns-in-Ok-run_session-clause-ends : goal.returns-in-Ok-run_session-clause-ends
 returns-in-Ok-run_session-clause-ends g c =
     let left = g.S.Source.left in
     let pieces = g.K.Sink.pieces in
-    let told = g.F.Fabric.told in
     let reads = g.S.Source.fault_count in
-    let calls = g.F.Fabric.fault_count in
     let writes = g.K.Sink.fault_count in
+    let told = g.F.Fabric.told in
+    let calls = g.F.Fabric.fault_count in
+    let contents = g.D.Files.contents in
+    let failed = g.D.Files.fault_count in
+    let moments = g.C.Clock.moments in
     let ready = rw c.deref.ensures.value at c.in-Ok.ensures.ready in
     let runs = rw c.in-Ok.ensures.unwritten at c.in-Ok-run_session.ensures.run in
     let cause = rw c.in-Ok.ensures.quiet.1 at c.in-Ok-run_session.ensures.cause in
     last_ends c.end_session.result (map string_bytes c.args.words.now.items) c.in-Ok.script _ _
-    (left c.args.input.now) (left c.prepare.new.input) (told c.args.fabric.now) (told c.run_session.new.fabric)
+    (left c.args.input.now) (left c.prepare.new.input)
     (pieces c.args.output.now) (pieces c.run_session.new.output) (pieces c.end_session.new.output)
-    (reads c.args.input.now) (reads c.prepare.new.input) (calls c.args.fabric.now) (calls c.run_session.new.fabric)
+    (reads c.args.input.now) (reads c.prepare.new.input)
     (writes c.args.output.now) (writes c.run_session.new.output) (writes c.end_session.new.output)
-    ready c.in-Ok.ensures.quiet.0 runs cause.0 cause.1 c.end_session.ensures
+    (called_as (told c.args.fabric.now) (contents c.args.files.now) (moments c.args.clock.now) (calls c.args.fabric.now) (failed c.args.files.now))
+    (called_as (told c.run_session.new.fabric) (contents c.run_session.new.files) (moments c.run_session.new.clock) (calls c.run_session.new.fabric) (failed c.run_session.new.files))
+    ready c.in-Ok.ensures.quiet.0 runs cause c.end_session.ensures

@@ -1,79 +1,43 @@
-use Rattle.std.proofs.Common.{sym, subst, refl, ℕ}
+use Rattle.std.proofs.Common.{◌≡◌, ◌∙◌, refl, sym, subst, inl}
 use Rattle.std.proofs.lemmas.Result.{err_from_is_err_and}
-use Rattle.norm_session.specs.SessionRun.{IsScript}
-use Rattle.norm_script.specs.Commands.{Commands}
-use Rattle.norm_session.proofs.SessionLemmas.{session_of, fits_longest}
-use Rattle.norm_session.specs.declared.fault.SessionFault.TheVariants.{Memory}
-use Rattle.norm_session.proofs.StopLemmas.{writes_not-network}
-use Rattle.norm_session.proofs.StopSessionLemmas.{breaks-unstarted, breaks-start, breaks-turns, breaks-summary}
+use Rattle.norm_session.specs.Causes.{counted}
+use Rattle.norm_session.specs.Session.{RunsSession}
+use Rattle.norm_session.specs.Turning.{span}
+use Rattle.norm_session.proofs.CauseLemmas.{cause_exit}
+use Rattle.norm_session.proofs.SessionLemmas.{session_runs, session_stops, leads_safely, stops_safely}
+use Rattle.norm_session.proofs.SoFarLemmas.{at_fault}
 use Rattle.norm_session.proofs.session.run_script.Goals as goal
-
-pub returns-clause-run : goal.returns-clause-run
-returns-clause-run g c =
-    let told = g.F.Fabric.told in
-    let written = g.K.Sink.pieces in
-    let script : Commands = record { profile = c.script.inside.profile; lines = c.script.inside.lines.items } in
-    let turns = rw c.deref.ensures.value at c.in_ok-whole.ensures.turns in
-    let P : Commands → Type 0 = IsScript in
-    let runs : IsScript script = subst P (sym c.script.view_is) c.requires in
-    rw (← c.script.view_is) (session_of script c.in_ok-run.run' c.turns.new.self c.into_journal.result c.in_ok-whole.whole
-    (told c.args.fabric.now) (told c.start.new.fabric) (told c.turns.new.fabric)
-    (written c.args.output.now) (written c.turns.new.output) (written c.summarize.new.output)
-    runs c.in_ok-run.ensures.told c.in_ok-run.ensures.state turns c.in_ok-summarize.ensures.written c.into_journal.ensures)
-
--- what was done where a fault broke the session off
-
-pub returns-in_err-datagram-clause-stops : goal.returns-in_err-datagram-clause-stops
-returns-in_err-datagram-clause-stops g c =
-    let exit = err_from_is_err_and c.from_residual.result c.from_residual.ensures.1 in
-    rw (exit.1, exit.2) (breaks-unstarted Memory c.args.script.now (g.F.Fabric.told c.args.fabric.now) (g.F.Fabric.told c.args.fabric.now)
-    (g.K.Sink.pieces c.args.output.now) c.requires tt refl)
-
-pub returns-in_err-run-clause-stops : goal.returns-in_err-run-clause-stops
-returns-in_err-run-clause-stops g c =
-    let told = g.F.Fabric.told in
-    let count = g.F.Fabric.fault_count in
-    let script : Commands = record { profile = c.script.inside.profile; lines = c.script.inside.lines.items } in
-    let P : Commands → Type 0 = IsScript in
-    let runs : IsScript script = subst P (sym c.script.view_is) c.requires in
-    let fault = c.in_err-run.field-0.0 in
-    let exit = err_from_is_err_and c.from_residual-in_err-run.result c.from_residual-in_err-run.ensures.1 in
-    rw (exit.1, exit.2, ← c.script.view_is) (breaks-start fault script (told c.args.fabric.now) (told c.start.new.fabric) (g.K.Sink.pieces c.args.output.now)
-    runs (writes_not-network ℕ fault (count c.args.fabric.now) (count c.start.new.fabric) c.in_err-run.ensures.cause) c.in_err-run.ensures.stops)
 
 pub returns-in_err-whole-clause-stops : goal.returns-in_err-whole-clause-stops
 returns-in_err-whole-clause-stops g c =
-    let told = g.F.Fabric.told in
-    let written = g.K.Sink.pieces in
-    let script : Commands = record { profile = c.script.inside.profile; lines = c.script.inside.lines.items } in
-    let P : Commands → Type 0 = IsScript in
-    let runs : IsScript script = subst P (sym c.script.view_is) c.requires in
-    let stops = rw c.deref.ensures.value at c.in_err-whole.ensures.stops in
-    let fault = c.in_err-whole.field-0.0 in
     let exit = err_from_is_err_and c.from_residual-in_err-whole.result c.from_residual-in_err-whole.ensures.1 in
-    rw (exit.1, exit.2, ← c.script.view_is) (breaks-turns fault script c.in_ok-run.run'
-    (told c.args.fabric.now) (told c.start.new.fabric) (told c.turns.new.fabric) (written c.args.output.now) (written c.turns.new.output)
-    runs c.in_ok-run.ensures.told c.in_ok-run.ensures.state stops)
+    let e = c.in_err-whole.field-0.0 in
+    let files = g.D.Files.contents c.args.files.now in
+    let started = g.F.Fabric.told c.start.new.fabric in
+    let unwritten = g.K.Sink.pieces c.args.output.now in
+    let starts = c.in_ok-run.ensures.starts in
+    at_fault _ c.from_residual-in_err-whole.result exit.0 e exit.1 exit.2
+    (session_stops c.args.script.now files started c.in_ok-run.run' e _ starts c.in_ok-run.ensures.goes c.in_err-whole.ensures.stops
+    (stops_safely c.args.script.now files (g.F.Fabric.told c.args.fabric.now) started unwritten c.requires starts))
 
-pub returns-in_err-summarize-clause-stops : goal.returns-in_err-summarize-clause-stops
-returns-in_err-summarize-clause-stops g c =
-    let told = g.F.Fabric.told in
-    let written = g.K.Sink.pieces in
-    let script : Commands = record { profile = c.script.inside.profile; lines = c.script.inside.lines.items } in
-    let P : Commands → Type 0 = IsScript in
-    let runs : IsScript script = subst P (sym c.script.view_is) c.requires in
-    let turns = rw c.deref.ensures.value at c.in_ok-whole.ensures.turns in
-    let fault = c.in_err-summarize.field-0.0 in
-    let exit = err_from_is_err_and c.from_residual-in_err-summarize.result c.from_residual-in_err-summarize.ensures.1 in
-    rw (exit.1, exit.2, ← c.script.view_is) (breaks-summary fault script c.in_ok-run.run' c.turns.new.self c.in_ok-whole.whole
-    (told c.args.fabric.now) (told c.start.new.fabric) (told c.turns.new.fabric)
-    (written c.args.output.now) (written c.turns.new.output) (written c.summarize.new.output)
-    runs c.in_ok-run.ensures.told c.in_ok-run.ensures.state turns c.in_err-summarize.ensures.stops)
+pub returns-in_err-whole-clause-cause : goal.returns-in_err-whole-clause-cause
+returns-in_err-whole-clause-cause g c =
+    let exit = err_from_is_err_and c.from_residual-in_err-whole.result c.from_residual-in_err-whole.ensures.1 in
+    cause_exit _ c.from_residual-in_err-whole.result exit.0 c.in_err-whole.field-0.0 _ _ _ exit.1 exit.2
+    (c.in_ok-run.ensures.cause (g.K.Sink.fault_count c.args.output.now) (g.D.Files.fault_count c.args.files.now)) c.in_err-whole.ensures.cause
 
--- each command that fits the profile's symbol fits the longest
-pub turns-requires-clause-each : goal.turns-requires-clause-each
-turns-requires-clause-each g c =
-    let script : Commands = record { profile = c.script.inside.profile; lines = c.script.inside.lines.items } in
-    let P : Commands → Type 0 = IsScript in
-    let runs : IsScript script = subst P (sym c.script.view_is) c.requires in
-    rw c.deref.ensures.value (fits_longest script.profile.e script.lines runs.range.e.1 runs.each)
+pub returns-clause-run : goal.returns-clause-run
+returns-clause-run g c =
+    let files = g.D.Files.contents c.args.files.now in
+    let started = g.F.Fabric.told c.start.new.fabric in
+    let unwritten = g.K.Sink.pieces c.args.output.now in
+    let starts = c.in_ok-run.ensures.starts in
+    subst (λ journal. RunsSession c.args.script.now files journal c.in_ok-whole.whole
+    (span (g.F.Fabric.told c.args.fabric.now) (g.F.Fabric.told c.finish.new.fabric) unwritten (g.K.Sink.pieces c.finish.new.output)
+    (g.C.Clock.moments c.args.clock.now) (g.C.Clock.moments c.finish.new.clock))) (sym c.into_journal.ensures)
+    (session_runs c.args.script.now files started c.in_ok-run.run' c.finish.new.self c.in_ok-whole.whole _ starts c.in_ok-run.ensures.goes
+    c.in_ok-whole.ensures.goes (leads_safely c.args.script.now files (g.F.Fabric.told c.args.fabric.now) started unwritten c.requires starts))
+
+pub returns-clause-cause : goal.returns-clause-cause
+returns-clause-cause g c =
+    c.in_ok-whole.ensures.cause ∙ c.in_ok-run.ensures.cause (g.K.Sink.fault_count c.args.output.now) (g.D.Files.fault_count c.args.files.now)

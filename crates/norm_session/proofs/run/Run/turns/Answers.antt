@@ -1,81 +1,53 @@
-use Rattle.std.proofs.Common.{◌∙◌, arith, sym, ap, refl}
-use Rattle.norm_session.specs.RunState.{RunState}
-use Rattle.norm_session.specs.Commands.{IsCommand, longest_symbol}
-use Rattle.norm_session.proofs.RunLemmas.{going-start, goes_on_after, ends_whole, ends_spent, rest_are, turn_room}
+use Rattle.std.proofs.Common.{◌≡◌, ◌≤◌, ◌+◌, ℕ, refl, sym, ap, ◌∙◌, subst, arith, rules}
 use Rattle.std.proofs.lemmas.Result.{err_from_is_err_and}
-use Rattle.norm_session.proofs.StopRunLemmas.{turns-stop}
+use Rattle.norm_script.specs.Commands.{Commands}
+use Rattle.norm_session.specs.Turning.{span, TakesTurn, StopsTurn}
+use Rattle.norm_session.proofs.SoFarLemmas.{at_fault}
+use Rattle.norm_session.proofs.TurnsLemmas.{has_not_turned, has_turned_on, turns_stop, turns_done, turns_spent}
 use Rattle.norm_session.proofs.run.Run.turns.Goals as goal
 
-pub loop-left-init : goal.loop-left-init
-loop-left-init g c = (
-  going-start c.args.commands.now c.args.self.now (g.F.Fabric.told c.args.fabric.now) (g.K.Sink.pieces c.args.output.now),
-  c.requires.each,
-  c.requires.few,
-  c.last_turn-last.ensures.least,
-  sym c.last_turn-last.ensures.value,
-  c.last_turn-last.ensures.most,
-  refl,
-  refl,
-)
+pub loop-init : goal.loop-init
+loop-init g c = record {
+  turned = has_not_turned c.args.script.now (g.D.Files.contents c.args.files.now) c.args.self.now
+      (span (g.F.Fabric.told c.args.fabric.now) (g.F.Fabric.told c.args.fabric.now) (g.K.Sink.pieces c.args.output.now) (g.K.Sink.pieces c.args.output.now)
+      (g.C.Clock.moments c.args.clock.now) (g.C.Clock.moments c.args.clock.now)) refl refl refl;
+  within = search rules;
+  same = refl;
+  counts = refl;
+}
 
-pub returns-then-is_whole-clause-turns : goal.returns-then-is_whole-clause-turns
-returns-then-is_whole-clause-turns g c =
-    let told = g.F.Fabric.told in
-    let written = g.K.Sink.pieces in
-    let i = c.loop-left.invariant in
-    let turn = rw c.next_command.ensures.first at c.in_ok-turn.ensures.turn in
-    let whole = rw c.next_command.ensures.rest at (sym c.is_whole.ensures ∙ c.if-is_whole.true) in
-    ends_whole c.args.commands.now c.loop-left.left.now c.loop-left.t c.args.self.now c.loop-left.self c.turn.new.self
-    (told c.args.fabric.now) (told c.loop-left.fabric) (told c.turn.new.fabric)
-    (written c.args.output.now) (written c.loop-left.output) (written c.turn.new.output)
-    i.0 turn whole
+pub returns-then-is_done-clause-goes : goal.returns-then-is_done-clause-goes
+returns-then-is_done-clause-goes g c =
+    turns_done c.args.script.now (g.D.Files.contents c.args.files.now) c.args.self.now c.loop.self _ c.loop.counter c.is_done.result
+    c.loop.invariant.turned c.is_done.ensures c.if-is_done.true
 
-pub returns-then-t-last-clause-turns : goal.returns-then-t-last-clause-turns
-returns-then-t-last-clause-turns g c =
-    let told = g.F.Fabric.told in
-    let written = g.K.Sink.pieces in
-    let i = c.loop-left.invariant in
-    let turn = rw c.next_command.ensures.first at c.in_ok-turn.ensures.turn in
-    let whole = rw c.next_command.ensures.rest at (sym c.is_whole.ensures ∙ c.if-is_whole.false) in
-    ends_spent c.args.commands.now c.loop-left.left.now c.loop-left.t c.last_turn-last.result c.args.self.now c.loop-left.self c.turn.new.self
-    (told c.args.fabric.now) (told c.loop-left.fabric) (told c.turn.new.fabric)
-    (written c.args.output.now) (written c.loop-left.output) (written c.turn.new.output)
-    i.0 turn whole i.3 c.if-t-last.true i.4
-
-pub loop-left-preserved : goal.loop-left-preserved
-loop-left-preserved g c =
-    let told = g.F.Fabric.told in
-    let written = g.K.Sink.pieces in
-    let i = c.loop-left.invariant in
-    let turn = rw c.next_command.ensures.first at c.in_ok-turn.ensures.turn in
-    let whole = rw c.next_command.ensures.rest at (sym c.is_whole.ensures ∙ c.if-is_whole.false) in
-    let room = turn_room c.loop-left.left.now c.loop-left.t c.loop-left.self c.turn.new.self (told c.loop-left.fabric) (told c.turn.new.fabric)
-    (written c.loop-left.output) (written c.turn.new.output) turn in
-    let going = goes_on_after c.args.commands.now c.loop-left.left.now c.loop-left.t c.last_turn-last.result c.args.self.now c.loop-left.self c.turn.new.self
-    (told c.args.fabric.now) (told c.loop-left.fabric) (told c.turn.new.fabric)
-    (written c.args.output.now) (written c.loop-left.output) (written c.turn.new.output)
-    i.0 turn whole c.if-t-last.false i.4 in
-    rw c.next_command.ensures.rest (
-      going,
-      rest_are (IsCommand longest_symbol) c.loop-left.left.now i.1,
-      omega (arith, room, i.2),
-      omega (arith, c.if-t-last.false),
-      ap (λ (r : RunState). r.profile.turns) turn.state ∙ i.4,
-      i.5,
-      c.in_ok-turn.ensures.cause.0 ∙ i.6,
-      c.in_ok-turn.ensures.cause.1 ∙ i.7,
-    )
-
--- what was done where a turn was stopped
 pub returns-in_err-turn-clause-stops : goal.returns-in_err-turn-clause-stops
 returns-in_err-turn-clause-stops g c =
-    let told = g.F.Fabric.told in
-    let written = g.K.Sink.pieces in
-    let i = c.loop-left.invariant in
-    let stops = rw c.next_command.ensures.first at c.in_err-turn.ensures.stops in
-    let fault = c.in_err-turn.field-0.0 in
     let exit = err_from_is_err_and c.from_residual.result c.from_residual.ensures.1 in
-    rw (exit.1, exit.2) (turns-stop fault c.args.commands.now c.loop-left.left.now c.loop-left.t c.last_turn-last.result c.args.self.now c.loop-left.self
-    (told c.args.fabric.now) (told c.loop-left.fabric) (told c.turn.new.fabric)
-    (written c.args.output.now) (written c.loop-left.output) (written c.turn.new.output)
-    i.0 i.3 i.4 stops)
+    let e = c.in_err-turn.field-0.0 in
+    at_fault _ c.from_residual.result exit.0 e exit.1 exit.2
+    (turns_stop c.args.script.now (g.D.Files.contents c.args.files.now) c.args.self.now c.loop.self _ _ c.loop.counter c.is_done.result e
+    c.loop.invariant.turned c.is_done.ensures c.if-is_done.false refl refl refl
+    (subst (λ f. StopsTurn c.args.script.now f c.loop.self e
+    (span (g.F.Fabric.told c.loop.fabric) (g.F.Fabric.told c.turn.new.fabric) (g.K.Sink.pieces c.loop.output) (g.K.Sink.pieces c.turn.new.output)
+    (g.C.Clock.moments c.loop.clock) (g.C.Clock.moments c.turn.new.clock))) c.loop.invariant.same c.in_err-turn.ensures.stops))
+
+pub loop-preserved : goal.loop-preserved
+loop-preserved g c = record {
+  turned = has_turned_on c.args.script.now (g.D.Files.contents c.args.files.now) c.args.self.now c.loop.self c.turn.new.self _ _ c.loop.counter
+      c.is_done.result c.loop.invariant.turned c.is_done.ensures c.if-is_done.false refl refl refl
+      (subst (λ f. TakesTurn c.args.script.now f c.loop.self c.turn.new.self
+      (span (g.F.Fabric.told c.loop.fabric) (g.F.Fabric.told c.turn.new.fabric) (g.K.Sink.pieces c.loop.output) (g.K.Sink.pieces c.turn.new.output)
+      (g.C.Clock.moments c.loop.clock) (g.C.Clock.moments c.turn.new.clock))) c.loop.invariant.same c.in_ok-turn.ensures.goes);
+  within = search rules;
+  same = c.in_ok-turn.ensures.same ∙ c.loop.invariant.same;
+  counts = c.in_ok-turn.ensures.cause ∙ c.loop.invariant.counts;
+}
+
+pub returns-clause-goes : goal.returns-clause-goes
+returns-clause-goes g c =
+    let past : c.last_turn-end.result ≤ c.loop.counter = search rules in
+    let all : c.loop.counter ≡ c.last_turn-end.result = omega (arith, past, c.loop.invariant.within) in
+    turns_spent c.args.script.now (g.D.Files.contents c.args.files.now) c.args.self.now c.loop.self _ c.loop.counter c.loop.invariant.turned
+    (all ∙ c.last_turn-end.ensures.value ∙ ap (λ (s : Commands). s.profile.turns) c.script.view_is)
+    (subst (λ n. 1 ≤ n) (c.last_turn-end.ensures.value ∙ ap (λ (s : Commands). s.profile.turns) c.script.view_is) c.last_turn-end.ensures.least)

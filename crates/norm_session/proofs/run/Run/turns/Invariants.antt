@@ -1,21 +1,16 @@
-use Rattle.std.proofs.Common.{◌≡◌, ◌+◌, ◌-◌, ◌≤◌, ◌<◌, length}
-use Rattle.std.specs.List.{AllByRecursion}
-use Rattle.norm_session.specs.Commands.{IsCommand, longest_symbol}
-use Rattle.norm_session.proofs.RunLemmas.{Going}
+use Rattle.std.proofs.Common.{◌≡◌, ◌≤◌}
+use Rattle.norm_session.specs.Causes.{counted}
+use Rattle.norm_session.specs.Turning.{span}
+use Rattle.norm_session.proofs.TurnsLemmas.{HasTurned}
 use Rattle.norm_session.proofs.run.Run.turns.Given as goal
 
-abbrev pub invariant-loop-left : goal.invariant-loop-left
-invariant-loop-left g l =
-    let told = g.F.Fabric.told in
-    let written = g.K.Sink.pieces in
-    Going l.commands l.fn.self l.self (told l.fn.fabric) (told l.fabric) (written l.fn.output) (written l.output) l.t l.left
-    × AllByRecursion (IsCommand longest_symbol) l.left
-    × (length l.self.sender.order + length l.left < 65536)
-    × (l.t ≤ l.last)
-    × (l.self.profile.turns ≡ l.last)
-    × (l.last ≤ 4000000)
-    × (g.K.Sink.fault_count l.output ≡ g.K.Sink.fault_count l.fn.output)
-    × (g.F.Fabric.fault_count l.fabric ≡ g.F.Fabric.fault_count l.fn.fabric)
-
-abbrev pub decreases-loop-left : goal.decreases-loop-left
-decreases-loop-left g l = l.last - l.t
+abbrev pub invariant-loop : goal.invariant-loop
+invariant-loop g l = record {
+  turned : HasTurned l.script (g.D.Files.contents l.initial.files) l.initial.self l.self
+      (span (g.F.Fabric.told l.initial.fabric) (g.F.Fabric.told l.fabric) (g.K.Sink.pieces l.initial.output) (g.K.Sink.pieces l.output)
+      (g.C.Clock.moments l.initial.clock) (g.C.Clock.moments l.clock)) l.counter;
+  within : l.counter ≤ l.end;
+  same : g.D.Files.contents l.files ≡ g.D.Files.contents l.initial.files;
+  counts : counted (g.K.Sink.fault_count l.output) (g.F.Fabric.fault_count l.fabric) (g.D.Files.fault_count l.files)
+      ≡ counted (g.K.Sink.fault_count l.initial.output) (g.F.Fabric.fault_count l.initial.fabric) (g.D.Files.fault_count l.initial.files);
+}

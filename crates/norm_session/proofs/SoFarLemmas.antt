@@ -1,0 +1,196 @@
+-- A run with one event more, and what stops one.
+use Rattle.std.proofs.Common.{◌≡◌, ℕ, List, [], ◌∷◌, ◌++◌, Option, None, Some, refl, sym, ap, ◌∙◌, subst, append_assoc}
+use Rattle.std.specs.Prelude.{IsTrue, option_and_then, Result, Ok, Err, OnOk, IfErr}
+use Rattle.std.specs.List.{AllByRecursion}
+use Rattle.std.specs.Option.{option_to_list}
+use Rattle.std.proofs.lemmas.List.{append-nil}
+use Rattle.std.proofs.lemmas.List.Concat.{flat_map-append}
+use Rattle.norm_base.specs.Members.{receivers_of}
+use Rattle.norm_base.specs.Network.{Network}
+use Rattle.norm_base.specs.Settings.{Settings}
+use Rattle.norm_base.specs.Told.{Pieces, gained, GainsFront}
+use Rattle.norm_journal.specs.declared.event.Event.{Event}
+use Rattle.norm_journal.specs.Accepting.{accepts, judged_from}
+use Rattle.norm_journal.specs.Judged.{Judged}
+use Rattle.norm_journal.specs.Laws.{HasOctets}
+use Rattle.norm_journal.specs.Places.{Place}
+use Rattle.norm_journal.specs.Printed.{line_of, lines_from}
+use Rattle.norm_journal.specs.Projections.{Answer, offer_of, answer_in, moment_in, offers_in, answers_in, moments_in, network_after}
+use Rattle.norm_journal.proofs.FrontLemmas.{judged_from-append, fronts_printed}
+use Rattle.norm_safety.specs.World.{World}
+use Rattle.norm_world.specs.WorldKept.{StandsFor}
+use Rattle.norm_session.specs.Context.{Context, with_moments, opening, judged_of}
+use Rattle.norm_session.specs.RunKept.{RunKept}
+use Rattle.norm_session.specs.SoFar.{Leads, SoFar, IsOffered, AreOffered}
+use Rattle.norm_session.specs.Stopping.{IsUnwritten, Stopped}
+use Rattle.norm_session.specs.declared.fault.SessionFault.{SessionFault}
+use Rattle.norm_session.specs.declared.fault.SessionFault.TheVariants as fault
+
+-- ---- what is told in two steps is told in one
+
+pub gained-nil : {X : Type 0} (told : Option (List X)) → gained told [] ≡ told
+gained-nil None = refl
+gained-nil (Some xs) = ap Some (append-nil xs)
+
+pub gained-gained : {X : Type 0} (told : Option (List X)) (xs ys : List X) → gained (gained told xs) ys ≡ gained told (xs ++ ys)
+gained-gained None xs ys = refl
+gained-gained (Some zs) xs ys = ap Some (append_assoc zs xs ys)
+
+-- a network that tells this of offers and answers
+abbrev pub tells : Network → Option (List (ℕ × List ℕ)) → Option (List Answer) → Network
+tells n offered answers = record { starts = n.starts; offered = offered; answers = answers; honest = n.honest }
+
+network_more : (n : Network) (xs ys : List Event) → network_after (network_after n xs) ys ≡ network_after n (xs ++ ys)
+network_more n xs ys =
+    ap (λ o. tells n o (gained (gained n.answers (answers_in xs)) (answers_in ys)))
+    (gained-gained n.offered (offers_in xs) (offers_in ys) ∙ ap (gained n.offered) (sym (flat_map-append offer_of xs ys)))
+    ∙ ap (λ a. tells n (gained n.offered (offers_in (xs ++ ys))) a)
+    (gained-gained n.answers (answers_in xs) (answers_in ys) ∙ ap (gained n.answers) (sym (flat_map-append answer_in xs ys)))
+
+-- of an event that the network has no part in nothing is told
+pub untold : (n : Network) (e : Event) → offers_in (e ∷ []) ≡ [] → answers_in (e ∷ []) ≡ [] → n ≡ network_after n (e ∷ [])
+untold n e no_offer no_answer =
+    ap (λ o. tells n o n.answers) (sym (gained-nil n.offered) ∙ ap (gained n.offered) (sym no_offer))
+    ∙ ap (λ a. tells n (gained n.offered (offers_in (e ∷ []))) a) (sym (gained-nil n.answers) ∙ ap (gained n.answers) (sym no_answer))
+
+-- an offer is told
+pub offer_told : (n : Network) (e : Event) → answers_in (e ∷ []) ≡ [] → tells n (gained n.offered (offers_in (e ∷ []))) n.answers ≡ network_after n (e ∷ [])
+offer_told n e no_answer =
+    ap (λ a. tells n (gained n.offered (offers_in (e ∷ []))) a) (sym (gained-nil n.answers) ∙ ap (gained n.answers) (sym no_answer))
+
+-- an answer is told
+pub answer_told : (n : Network) (e : Event) → offers_in (e ∷ []) ≡ [] → tells n n.offered (gained n.answers (answers_in (e ∷ []))) ≡ network_after n (e ∷ [])
+answer_told n e no_offer =
+    ap (λ o. tells n o (gained n.answers (answers_in (e ∷ [])))) (sym (gained-nil n.offered) ∙ ap (gained n.offered) (sym no_offer))
+
+-- ---- takes of what was offered
+
+offered_more : (past events : List Event) (e : Event) → AreOffered past events → IsOffered (past ++ events) e → AreOffered past (events ++ e ∷ [])
+unfolding AreOffered
+offered_more past [] e all one = (subst (λ front. IsOffered front e) (append-nil past) one, tt)
+offered_more past (x ∷ events) e all one =
+    (all.0, offered_more (past ++ x ∷ []) events e all.1 (subst (λ front. IsOffered front e) (sym (append_assoc past (x ∷ []) events)) one))
+
+-- ---- one event more
+
+pub judged_one : (j next : Judged) (e : Event) → accepts j e ≡ Some next → judged_from j (e ∷ []) ≡ Some next
+unfolding judged_from
+judged_one j next e is = ap (λ o. option_and_then (λ n. judged_from n []) o) is
+
+lines_one : (j next : Judged) (e : Event) → accepts j e ≡ Some next → lines_from j (e ∷ []) ≡ option_to_list (line_of j e)
+unfolding lines_from
+lines_one j next e is =
+    ap (λ o. option_to_list (line_of j e) ++ elim o [ Some n ↦ lines_from n [] | None ↦ [] ]) is ∙ append-nil (option_to_list (line_of j e))
+
+octets_more : (journal : List Event) (e : Event) → AllByRecursion HasOctets journal → HasOctets e → AllByRecursion HasOctets (journal ++ e ∷ [])
+octets_more [] e all one = (one, tt)
+octets_more (y ∷ journal) e all one = (all.0, octets_more journal e all.1 one)
+
+pub leads_by : (x : Context) (journal : List Event) (e : Event) (j next : Judged) (before now : Network) (unwritten written : Pieces)
+    → Leads x journal j before unwritten → accepts j e ≡ Some next → now ≡ network_after before (e ∷ [])
+    → written ≡ gained unwritten (option_to_list (line_of j e)) → (IsTrue x.network.honest → x.network.offered ≡ Some [] → IsOffered journal e)
+    → HasOctets e → Leads (with_moments x (moments_in (e ∷ []))) (journal ++ e ∷ []) next now written
+leads_by x journal e j next before now unwritten written s accepted net out offered octets =
+    let lines_all : lines_from (opening x) (journal ++ e ∷ []) ≡ lines_from (opening x) journal ++ option_to_list (line_of j e) =
+    fronts_printed (opening x) j journal (e ∷ []) s.judged
+    ∙ ap (λ ls. lines_from (opening x) journal ++ ls) (lines_one j next e accepted) in
+    record {
+      judged = judged_from-append (opening x) journal (e ∷ [])
+          ∙ ap (λ o. option_and_then (λ n. judged_from n (e ∷ [])) o) s.judged ∙ judged_one j next e accepted;
+      told = net ∙ ap (λ n. network_after n (e ∷ [])) s.told ∙ network_more x.network journal (e ∷ []);
+      lines = out ∙ ap (λ ps. gained ps (option_to_list (line_of j e))) s.lines
+          ∙ gained-gained x.written (lines_from (opening x) journal) (option_to_list (line_of j e)) ∙ ap (gained x.written) (sym lines_all);
+      offered = λ honest told. offered_more [] journal e (s.offered honest told) (offered honest told);
+      moments = flat_map-append moment_in journal (e ∷ []) ∙ ap (λ ms. ms ++ moments_in (e ∷ [])) s.moments;
+      octets = octets_more journal e s.octets octets;
+    }
+
+-- an event that begins no turn
+pub leads_on : (x : Context) (journal : List Event) (e : Event) (j next : Judged) (before now : Network) (unwritten written : Pieces)
+    → Leads x journal j before unwritten → accepts j e ≡ Some next → now ≡ network_after before (e ∷ [])
+    → written ≡ gained unwritten (option_to_list (line_of j e)) → (IsTrue x.network.honest → x.network.offered ≡ Some [] → IsOffered journal e)
+    → moments_in (e ∷ []) ≡ [] → HasOctets e → Leads x (journal ++ e ∷ []) next now written
+leads_on x journal e j next before now unwritten written s accepted net out offered no_turn octets =
+    subst (λ ms. Leads (record x { moments = ms }) (journal ++ e ∷ []) next now written) (ap (λ ms. x.moments ++ ms) no_turn ∙ append-nil x.moments)
+    (leads_by x journal e j next before now unwritten written s accepted net out offered octets)
+
+-- A run moves by an event: it joins the journal, the judge accepts it with the new state, and the world stands for the nodes.
+pub record Moves (x : Context) (k new : RunKept) (e : Event) (w v : World) (place next : Place) : Type 0 where
+  pub profile : new.p ≡ k.p
+  pub nodes : new.world.p ≡ k.world.p
+  pub journal : new.journal ≡ k.journal ++ e ∷ []
+  pub stands : StandsFor new.world v
+  pub accepted : accepts (judged_of x k w place) e ≡ Some (judged_of x new v next)
+
+pub more : (x : Context) (k new : RunKept) (e : Event) (w v : World) (place next : Place) (before now : Network) (unwritten written : Pieces)
+    → SoFar x k w place before unwritten → Moves x k new e w v place next → now ≡ network_after before (e ∷ [])
+    → written ≡ gained unwritten (option_to_list (line_of (judged_of x k w place) e))
+    → (IsTrue x.network.honest → x.network.offered ≡ Some [] → IsOffered k.journal e) → moments_in (e ∷ []) ≡ [] → HasOctets e
+    → SoFar x new v next now written
+more x k new e w v place next before now unwritten written s m net out offered no_turn octets = record {
+  all = record {
+    script = m.profile ∙ s.all.script;
+    world = m.nodes ∙ s.all.world ∙ sym m.profile;
+    receivers = s.all.receivers ∙ ap (λ (p : Settings). receivers_of p p.receivers) (sym m.profile);
+    objects = s.all.objects;
+  };
+  stands = m.stands;
+  leads = subst (λ js. Leads x js (judged_of x new v next) now written) (sym m.journal)
+      (leads_on x k.journal e (judged_of x k w place) (judged_of x new v next) before now unwritten written s.leads m.accepted net out offered no_turn octets);
+}
+
+-- ---- where a run stops
+
+pub stops_for_memory : (x : Context) (journal : List Event) (j : Judged) (network : Network) (written : Pieces)
+    → Leads x journal j network written → Stopped x fault.Memory network written
+stops_for_memory x journal j network written s =
+    record { journal = journal; last = j; begun = s.judged; told = s.told; offered = s.offered; moments = s.moments; octets = s.octets; leaves = s.lines }
+
+-- what a call leaves where it answered a fault
+pub at_fault : {T : Type 0} (P : SessionFault → Type 0) (r : Result T SessionFault) (y fault : SessionFault) → r ≡ Err y → y ≡ fault → P fault → IfErr r P
+at_fault P r y fault is same h = subst (λ s. IfErr s P) (sym is) (subst P (sym same) h)
+
+-- ---- the line of an event, in a state that the judge accepts it in
+
+-- an event that the network has no part in is accepted, and its line is not written whole
+pub line_stops : (x : Context) (fault : SessionFault) (journal : List Event) (e : Event) (j next : Judged) (network : Network) (unwritten written : Pieces)
+    → Leads x journal j network unwritten → accepts j e ≡ Some next → offers_in (e ∷ []) ≡ [] → answers_in (e ∷ []) ≡ [] → moments_in (e ∷ []) ≡ []
+    → (IsTrue x.network.honest → x.network.offered ≡ Some [] → IsOffered journal e) → HasOctets e → IsUnwritten fault unwritten written (line_of j e)
+    → Stopped x fault network written
+line_stops x fault.Memory journal e j next network unwritten written s accepted no_offer no_answer no_turn offered octets un =
+    stops_for_memory x journal j network written (subst (λ (ps : Pieces). Leads x journal j network ps) (sym un) s)
+line_stops x fault.Write journal e j next network unwritten written s accepted no_offer no_answer no_turn offered octets un =
+    let leads = leads_on x journal e j next network network unwritten (gained unwritten (option_to_list (line_of j e))) s accepted
+    (untold network e no_offer no_answer) refl offered no_turn octets in
+    record {
+      journal = journal ++ e ∷ [];
+      last = next;
+      begun = leads.judged;
+      told = leads.told;
+      offered = leads.offered;
+      moments = leads.moments;
+      octets = leads.octets;
+      leaves = record {
+        front = journal;
+        event = e;
+        before = j;
+        line = un.0;
+        journal_is = refl;
+        begun = s.judged;
+        line_is = un.1;
+        output = subst (λ (ps : Pieces). GainsFront ps written un.0) s.lines un.2;
+      };
+    }
+line_stops x fault.Fabric journal e j next network unwritten written s accepted no_offer no_answer no_turn offered octets un = absurd un
+line_stops x fault.Files journal e j next network unwritten written s accepted no_offer no_answer no_turn offered octets un = absurd un
+line_stops x (fault.Absent name) journal e j next network unwritten written s accepted no_offer no_answer no_turn offered octets un = absurd un
+
+-- ---- what a call's clause says of another one's result
+
+pub on_ok : {T : Type 0} {P Q : Type 0} (result : Result T SessionFault) → (P → Q) → OnOk result P → OnOk result Q
+on_ok (Ok x) f h = f h
+on_ok (Err e) f h = h
+
+pub on_err : {T : Type 0} (P Q : SessionFault → Type 0) (result : Result T SessionFault) → ((failed : SessionFault) → P failed → Q failed) → IfErr result P → IfErr result Q
+on_err P Q (Ok x) f h = h
+on_err P Q (Err e) f h = f e h

@@ -1,0 +1,104 @@
+-- The beginning of a run.
+use Rattle.std.proofs.Common.{◌≡◌, ℕ, List, [], ◌∷◌, ◌++◌, Some, None, refl, sym, ap, ◌∙◌, subst, inl, inr}
+use Rattle.std.specs.Prelude.{◌⊎◌}
+use Rattle.std.specs.List.{AllByRecursion}
+use Rattle.rand_pcg.specs.Lcg.{Lcg}
+use Rattle.norm_base.specs.Members.{receivers_of}
+use Rattle.norm_base.specs.Network.{Network}
+use Rattle.norm_base.specs.Settings.{Settings}
+use Rattle.norm_base.specs.Told.{gained}
+use Rattle.norm_base.specs.declared.fault.FabricFault.{FabricFault}
+use Rattle.norm_base.specs.declared.fault.FabricFault.TheVariants as network_fault
+use Rattle.norm_script.specs.Commands.{Commands}
+use Rattle.norm_safety.specs.World.{world_opening}
+use Rattle.norm_journal.specs.Accepting.{accepts, judged_from}
+use Rattle.norm_journal.specs.Draws.{first_draws}
+use Rattle.norm_journal.specs.Follows.{NetworkStarts}
+use Rattle.norm_journal.specs.Jobs.{IsOfObjects}
+use Rattle.norm_journal.specs.Places.{Between}
+use Rattle.norm_journal.specs.Printed.{lines_from}
+use Rattle.norm_journal.specs.Projections.{network_after}
+use Rattle.norm_journal.specs.Totals.{nothing_counted}
+use Rattle.norm_journal.specs.declared.event.Event.{Event}
+use Rattle.norm_journal.specs.declared.event.Event.TheVariants as event
+use Rattle.norm_journal.specs.declared.totals.Totals.{Totals}
+use Rattle.norm_journal.proofs.FollowLemmas.{judges_what_follows}
+use Rattle.norm_world.specs.WorldKept.{WorldKept, StandsFor}
+use Rattle.norm_session.specs.Causes.{session_fault}
+use Rattle.norm_session.specs.Context.{Context, opening, judged_of}
+use Rattle.norm_session.specs.RunKept.{RunKept}
+use Rattle.norm_session.specs.SoFar.{AreOffered, Leads, HasAll, At}
+use Rattle.norm_session.specs.Starting.{IsBegun}
+use Rattle.norm_session.specs.declared.fault.SessionFault.TheVariants as fault
+use Rattle.norm_session.proofs.SoFarLemmas.{gained-nil, tells, untold, leads_on}
+
+-- nothing happened yet
+nothing_told : (n : Network) → n ≡ network_after n []
+nothing_told n = ap (λ o. tells n o n.answers) (sym (gained-nil n.offered)) ∙ ap (λ a. tells n (gained n.offered []) a) (sym (gained-nil n.answers))
+
+pub unbegun : (x : Context) (script : Commands) (network : Network) → IsBegun x script network → Leads x [] (opening x) network x.written
+unfolding judged_from lines_from AreOffered
+unbegun x script network b = record {
+  judged = refl;
+  told = sym b.network ∙ nothing_told x.network;
+  lines = sym (gained-nil x.written);
+  offered = λ honest told. tt;
+  moments = sym b.moments;
+  octets = tt;
+}
+
+-- a run as it begins
+abbrev pub begun_with : Settings → WorldKept → List Event → Totals → Lcg → RunKept
+begun_with p world journal totals draws = record {
+  p = p;
+  world = world;
+  journal = journal;
+  totals = totals;
+  draws = draws;
+  turn = 0;
+  now = 0;
+  pulled = 0;
+  waiting = None;
+}
+
+begins : (x : Context) (script : Commands) (network : Network) (world : WorldKept) → IsBegun x script network → AllByRecursion IsOfObjects x.script.lines
+    → world.p ≡ x.script.profile → StandsFor world (world_opening x.script.profile)
+    → At x (begun_with x.script.profile world (event.Start ∷ []) nothing_counted (first_draws x.script.profile)) Between network x.written
+begins x script network world b objects same stands =
+    let k = begun_with x.script.profile world (event.Start ∷ []) nothing_counted (first_draws x.script.profile) in
+    let w = world_opening x.script.profile in
+    let follows : NetworkStarts (opening x) (judged_of x k w Between) = record { place = refl; then = refl } in
+    record {
+      world = w;
+      so_far = record {
+        all = record {
+          script = refl;
+          world = same;
+          receivers = subst (λ (s : Commands). x.nodes ≡ receivers_of s.profile s.profile.receivers) (sym b.script) b.nodes;
+          objects = objects;
+        };
+        stands = stands;
+        leads = leads_on x [] event.Start (opening x) (judged_of x k w Between) network network x.written x.written (unbegun x script network b)
+            ((judges_what_follows (opening x) (judged_of x k w Between) event.Start).1 (refl, follows)) (untold network event.Start refl refl)
+            (sym (gained-nil x.written)) (λ honest told. tt) refl tt;
+      };
+      quiet = refl;
+    }
+
+-- by what it keeps
+pub run_begins : (x : Context) (script : Commands) (network : Network) (p : Settings) (world : WorldKept) (journal : List Event) (totals : Totals) (draws : Lcg)
+    → AllByRecursion IsOfObjects script.lines → p ≡ script.profile → world.p ≡ p → StandsFor world (world_opening p) → journal ≡ event.Start ∷ []
+    → totals ≡ nothing_counted → draws ≡ first_draws p → IsBegun x script network → At x (begun_with p world journal totals draws) Between network x.written
+run_begins x script network p world journal totals draws objects p_is same stands journal_is totals_is draws_is b =
+    let own : p ≡ x.script.profile = p_is ∙ ap (λ (s : Commands). s.profile) (sym b.script) in
+    let here = begins x script network world b (subst (λ (s : Commands). AllByRecursion IsOfObjects s.lines) (sym b.script) objects) (same ∙ own)
+    (subst (λ (q : Settings). StandsFor world (world_opening q)) own stands) in
+    subst (λ js. At x (begun_with p world js totals draws) Between network x.written) (sym journal_is)
+    (subst (λ (t : Totals). At x (begun_with p world (event.Start ∷ []) t draws) Between network x.written) (sym totals_is)
+    (subst (λ (d : Lcg). At x (begun_with p world (event.Start ∷ []) nothing_counted d) Between network x.written) (sym draws_is)
+    (subst (λ (q : Settings). At x (begun_with q world (event.Start ∷ []) nothing_counted (first_draws q)) Between network x.written) (sym own) here)))
+
+-- why the network was not started
+pub start_fault : (failed : FabricFault) → (session_fault failed ≡ fault.Memory) ⊎ (session_fault failed ≡ fault.Fabric)
+start_fault network_fault.Failed = inr refl
+start_fault network_fault.Memory = inl refl

@@ -1,0 +1,249 @@
+-- A change that is told.
+use Rattle.std.proofs.Common.{◌≡◌, ℕ, zero, suc, ◌+◌, ◌-◌, ◌≤◌, List, [], ◌∷◌, ◌++◌, length, take, Option, None, Some, Bool, true, refl, sym, ap, ◌∙◌, subst, arith}
+use Rattle.std.specs.Prelude.{filter, not, slice_get, option_and_then}
+use Rattle.std.proofs.lemmas.List.{take_all, length-map}
+use Rattle.mark_book.proofs.Lookups.{filter_at_most}
+use Rattle.std.specs.Option.{option_to_list}
+use Rattle.norm_base.specs.Network.{Network}
+use Rattle.norm_base.specs.Settings.{Settings}
+use Rattle.norm_base.specs.Told.{Pieces, gained}
+use Rattle.norm_journal.specs.Accepting.{accepts}
+use Rattle.norm_journal.specs.Follows.{ChangeTold}
+use Rattle.norm_journal.specs.Places.{Place}
+use Rattle.norm_journal.specs.Lines.{news_line}
+use Rattle.norm_journal.specs.Printed.{line_of}
+use Rattle.norm_journal.specs.Totals.{with_news}
+use Rattle.norm_journal.specs.declared.event.Event.{Event}
+use Rattle.norm_journal.specs.declared.event.Event.TheVariants as event
+use Rattle.norm_journal.proofs.FollowLemmas.{judges_what_follows}
+use Rattle.norm_safety.specs.Events.{NewsAsked, Told}
+use Rattle.norm_safety.specs.World.{World}
+use Rattle.norm_safety.specs.WorldStep.{world_step}
+use Rattle.norm_send_rules.specs.SenderState.{SenderState, Listing, Watermark}
+use Rattle.norm_send_rules.specs.Telling.{told, past_news, done_news, listing_of}
+use Rattle.norm_send_rules.specs.Watermarks.{pending, watermark_of, is_past}
+use Rattle.norm_send_rules.specs.declared.news.News.{News}
+use Rattle.norm_send_rules.specs.declared.news.News.TheVariants as news
+use Rattle.norm_sender.specs.SenderKept.{SenderKept, Stands}
+use Rattle.norm_world.specs.WorldKept.{WorldKept, StandsFor}
+use Rattle.norm_world.specs.WorldMoves.{IsEvent}
+use Rattle.norm_session.specs.Context.{Context, judged_of}
+use Rattle.norm_session.specs.RunKept.{RunKept}
+use Rattle.norm_session.specs.SoFar.{SoFar, At}
+use Rattle.norm_session.specs.Stopping.{IsUnwritten, Stopped}
+use Rattle.norm_session.specs.Telling.{untold_count, left_past, left_by, IsTellingOf, HasTold}
+use Rattle.norm_session.specs.declared.fault.SessionFault.{SessionFault}
+use Rattle.norm_session.proofs.SoFarLemmas.{more, untold, line_stops}
+
+-- ---- the members that are left
+
+left_get : (s : SenderState) (mark i : ℕ) → option_and_then (λ (w : Watermark). slice_get (pending s w.at) i) (watermark_of s mark) ≡ slice_get (left_past s mark) i
+left_get s mark i = go (watermark_of s mark)
+  where
+    go : (found : Option Watermark) → option_and_then (λ (w : Watermark). slice_get (pending s w.at) i) found
+        ≡ slice_get (elim found [ Some w ↦ pending s w.at | None ↦ [] ]) i
+    go None = refl
+    go (Some w) = refl
+
+take_next : (xs : List ℕ) (i x : ℕ) → slice_get xs i ≡ Some x → take (suc i) xs ≡ take i xs ++ x ∷ []
+take_next [] i x e = absurd (cc)
+take_next (y ∷ xs) zero x e = ap (λ z. z ∷ []) (same y x e)
+  where
+    same : (a b : ℕ) → Some a ≡ Some b → a ≡ b
+    same a b e = cc
+take_next (y ∷ xs) (suc i) x e = ap (λ zs. y ∷ zs) (take_next xs i x e)
+
+none_past : (xs : List ℕ) (i : ℕ) → slice_get xs i ≡ None → length xs ≤ i
+none_past [] i e = omega arith
+none_past (y ∷ xs) zero e = absurd (cc)
+none_past (y ∷ xs) (suc i) e = let le = none_past xs i e in omega (arith, le)
+
+-- one more is put
+pub left_more : (s : SenderState) (mark i node : ℕ) (left more : List ℕ) → left ≡ take i (left_past s mark)
+    → Some node ≡ option_and_then (λ (w : Watermark). slice_get (pending s w.at) i) (watermark_of s mark) → more ≡ left ++ node ∷ []
+    → more ≡ take (i + 1) (left_past s mark)
+left_more s mark i node left more so_far next put =
+    let one_more : suc i ≡ i + 1 = omega arith in
+    put ∙ ap (λ xs. xs ++ node ∷ []) so_far ∙ sym (take_next (left_past s mark) i node (sym (next ∙ left_get s mark i)))
+    ∙ ap (λ n. take n (left_past s mark)) one_more
+
+-- none is left behind these
+pub left_ends : (s : SenderState) (mark i : ℕ) (left : List ℕ) → left ≡ take i (left_past s mark)
+    → None ≡ option_and_then (λ (w : Watermark). slice_get (pending s w.at) i) (watermark_of s mark) → left ≡ left_past s mark
+left_ends s mark i left so_far none =
+    so_far ∙ take_all i (left_past s mark) (none_past (left_past s mark) i (sym (none ∙ left_get s mark i)))
+
+left_few : (s : SenderState) (mark : ℕ) → length s.listings ≤ 16 → length (left_past s mark) ≤ 16
+left_few s mark few = go (watermark_of s mark)
+  where
+    go : (found : Option Watermark) → length {A = ℕ} (elim found [ Some w ↦ pending s w.at | None ↦ [] ]) ≤ 16
+    go None = omega arith
+    go (Some w) =
+        let same = length-map (filter (λ (l : Listing). not (is_past w.at l)) s.listings) (λ (l : Listing). l.node) in
+        let most = filter_at_most (λ (l : Listing). not (is_past w.at l)) s.listings in
+        omega (arith, same, most, few)
+
+-- there are at most so many
+pub left_all : (k : SenderKept) (s : SenderState) (mark i : ℕ) (left : List ℕ) → Stands k s → 16 ≤ i → left ≡ take i (left_past s mark)
+    → left ≡ left_past s mark
+left_all k s mark i left stands past so_far =
+    let few = left_few s mark stands.reached.book.members in
+    so_far ∙ take_all i (left_past s mark) (omega (arith, few, past))
+
+-- ---- what telling leaves of a sender
+
+-- what is told, by what is to be told
+abbrev told_by : SenderState → List ℕ → List ℕ → SenderState × Option News
+told_by s nodes marks = elim nodes [
+  | node ∷ rest ↦ (record s { untold_nodes = rest }, past_news node (listing_of s node))
+  | [] ↦ elim marks [
+    | mark ∷ rest ↦ (record s { untold_marks = rest }, done_news s mark (watermark_of s mark))
+    | [] ↦ (s, None)
+  ]
+]
+
+-- what a change's line tells of the sender is as it was
+record Tells (s t : SenderState) : Type 0 where
+  instance : t.current.id ≡ s.current.id
+  left : (n : News) → left_by t n ≡ left_by s n
+
+tells_same : (s : SenderState) → Tells s (told s).0
+tells_same s = go s.untold_nodes s.untold_marks
+  where
+    of_nodes : (rest : List ℕ) (n : News) → left_by (record s { untold_nodes = rest }) n ≡ left_by s n
+    of_nodes rest (news.Past node at) = refl
+    of_nodes rest (news.Done mark outcome) = refl
+
+    of_marks : (rest : List ℕ) (n : News) → left_by (record s { untold_marks = rest }) n ≡ left_by s n
+    of_marks rest (news.Past node at) = refl
+    of_marks rest (news.Done mark outcome) = refl
+
+    go : (nodes marks : List ℕ) → Tells s (told_by s nodes marks).0
+    go (node ∷ nodes) marks = record { instance = refl; left = of_nodes nodes }
+    go [] (mark ∷ marks) = record { instance = refl; left = of_marks marks }
+    go [] [] = record { instance = refl; left = λ n. refl }
+
+-- one fewer is to be told
+one_fewer : (s : SenderState) (n : News) → (told s).1 ≡ Some n → untold_count (told s).0 ≡ untold_count s - 1
+one_fewer s n = go s.untold_nodes s.untold_marks refl refl
+  where
+    go : (nodes marks : List ℕ) → s.untold_nodes ≡ nodes → s.untold_marks ≡ marks → (told_by s nodes marks).1 ≡ Some n
+        → untold_count (told_by s nodes marks).0 ≡ untold_count s - 1
+    go (node ∷ nodes) marks ns ms e = let many = ap length ns in omega (arith, many)
+    go [] (mark ∷ marks) ns ms e = let none = ap length ns in let many = ap length ms in omega (arith, none, many)
+    go [] [] ns ms e = absurd (cc)
+
+-- nothing is to be told where the count says so
+none_due : (s : SenderState) → untold_count s ≡ 0 → (told s).1 ≡ None
+none_due s = go s.untold_nodes s.untold_marks refl refl
+  where
+    go : (nodes marks : List ℕ) → s.untold_nodes ≡ nodes → s.untold_marks ≡ marks → untold_count s ≡ 0 → (told_by s nodes marks).1 ≡ None
+    go (node ∷ nodes) marks ns ms e = let many = ap length ns in absurd (omega (arith, many, e))
+    go [] (mark ∷ marks) ns ms e = let many = ap length ms in absurd (omega (arith, many, e))
+    go [] [] ns ms e = refl
+
+-- ---- a change is told
+
+-- the run after it
+abbrev pub having_told : RunKept → WorldKept → News → RunKept
+having_told k world n = record k { world = world; journal = k.journal ++ event.News n ∷ []; totals = with_news n k.totals }
+
+-- the world's answer is the change that was due
+record IsTold (k : RunKept) (world : WorldKept) (w : World) (n : News) : Type 0 where
+  stands : StandsFor world (world_step k.p w NewsAsked).0
+  due : (told w.sender).1 ≡ Some n
+
+is_told : (x : Context) (k : RunKept) (world : WorldKept) (w : World) (n : News) (place : Place) (network : Network) (written : Pieces)
+    → SoFar x k w place network written → IsEvent k.world world NewsAsked (λ answer. answer ≡ Told (Some n)) → IsTold k world w n
+is_told x k world w n place network written s asked =
+    let step = asked.steps w s.stands in
+    record {
+      stands = subst (λ (q : Settings). StandsFor world (world_step q w NewsAsked).0) s.all.world step.0;
+      due = same (told w.sender).1 (Some n) step.1;
+    }
+  where
+    same : (a b : Option News) → Told a ≡ Told b → a ≡ b
+    same a b e = cc
+
+news_accepted : (x : Context) (k : RunKept) (world : WorldKept) (w : World) (n : News) (place : Place) → IsTold k world w n
+    → accepts (judged_of x k w place) (event.News n) ≡ Some (judged_of x (having_told k world n) (world_step k.p w NewsAsked).0 place)
+news_accepted x k world w n place is =
+    let j = judged_of x k w place in
+    let next = judged_of x (having_told k world n) (world_step k.p w NewsAsked).0 place in
+    let follows : ChangeTold j n next = record { due = is.due; then = refl } in
+    (judges_what_follows j next (event.News n)).1 follows
+
+-- what its line tells of the state before it is what the sender after it says
+news_is : (x : Context) (k : RunKept) (w : World) (place : Place) (n : News) (instance : ℕ) (left : List ℕ) → w.sender.current.id ≡ instance
+    → left_by w.sender n ≡ left → line_of (judged_of x k w place) (event.News n) ≡ news_line instance left n
+news_is x k w place (news.Past node at) instance left same others = ap (λ i. news_line i [] (news.Past node at)) same
+news_is x k w place (news.Done mark outcome) instance left same others =
+    ap (λ ms. news_line w.sender.current.id ms (news.Done mark outcome)) others
+
+-- what is said of the sender's state: its instance, and the members that are left
+pub record SaysLeft (world : WorldKept) (n : News) (instance : ℕ) (left : List ℕ) : Type 0 where
+  pub instance_is : (s : SenderState) → Stands world.sender s → instance ≡ s.current.id
+  pub left_is : (s : SenderState) → Stands world.sender s → left ≡ left_by s n
+
+line_said : (x : Context) (k : RunKept) (world : WorldKept) (w : World) (n : News) (place : Place) (instance : ℕ) (left : List ℕ)
+    → SaysLeft world n instance left → IsTold k world w n → line_of (judged_of x k w place) (event.News n) ≡ news_line instance left n
+line_said x k world w n place instance left says is =
+    let after = is.stands.sender in
+    let same = tells_same w.sender in
+    news_is x k w place n instance left (sym (says.instance_is (told w.sender).0 after ∙ same.instance))
+    (sym (says.left_is (told w.sender).0 after ∙ same.left n))
+
+pub tells : (x : Context) (k v : RunKept) (world : WorldKept) (n : News) (place : Place) (network : Network) (unwritten written : Pieces)
+    (instance : ℕ) (left : List ℕ) (many : ℕ) → k ≡ v → world.p ≡ k.world.p → IsEvent k.world world NewsAsked (λ answer. answer ≡ Told (Some n))
+    → SaysLeft world n instance left → written ≡ gained unwritten (option_to_list (news_line instance left n))
+    → IsTellingOf x v place network unwritten many → IsTellingOf x (having_told k world n) place network written (many - 1)
+tells x k v world n place network unwritten written instance left many seen same asked says out there =
+    let here = subst (λ (u : RunKept). IsTellingOf x u place network unwritten many) (sym seen) there in
+    let s = here.so_far in
+    let w = here.world in
+    let e : Event = event.News n in
+    let is = is_told x k world w n place network unwritten s asked in
+    record {
+      world = (world_step k.p w NewsAsked).0;
+      so_far = more x k (having_told k world n) e w (world_step k.p w NewsAsked).0 place place network network unwritten written s
+          (record {
+            profile = refl;
+            nodes = same;
+            journal = refl;
+            stands = is.stands;
+            accepted = news_accepted x k world w n place is;
+          })
+          (untold network e refl refl)
+          (out ∙ ap (λ l. gained unwritten (option_to_list l)) (sym (line_said x k world w n place instance left says is))) (λ honest told. tt) refl tt;
+      count = one_fewer w.sender n is.due ∙ ap (λ m. m - 1) here.count;
+    }
+
+-- its line was not written
+pub tell_stops : (x : Context) (failed : SessionFault) (k v : RunKept) (world : WorldKept) (n : News) (place : Place) (network : Network)
+    (unwritten written : Pieces) (instance : ℕ) (left : List ℕ) (many : ℕ) → k ≡ v
+    → IsEvent k.world world NewsAsked (λ answer. answer ≡ Told (Some n)) → SaysLeft world n instance left
+    → IsUnwritten failed unwritten written (news_line instance left n) → IsTellingOf x v place network unwritten many → Stopped x failed network written
+tell_stops x failed k v world n place network unwritten written instance left many seen asked says un there =
+    let here = subst (λ (u : RunKept). IsTellingOf x u place network unwritten many) (sym seen) there in
+    let s = here.so_far in
+    let w = here.world in
+    let is = is_told x k world w n place network unwritten s asked in
+    line_stops x failed k.journal (event.News n) (judged_of x k w place) (judged_of x (having_told k world n) (world_step k.p w NewsAsked).0 place)
+    network unwritten written s.leads (news_accepted x k world w n place is) refl refl refl (λ honest told. tt) tt
+    (subst (λ l. IsUnwritten failed unwritten written l) (sym (line_said x k world w n place instance left says is)) un)
+
+-- ---- all changes are told
+
+-- one fewer
+pub tells_on : (x : Context) (k : RunKept) (place : Place) (network : Network) (written : Pieces) (told : Bool) (end counter : ℕ) → told ≡ true
+    → HasTold told x k place network written (end - counter) → IsTellingOf x k place network written (end - (counter + 1))
+tells_on x k place network written told end counter is h =
+    let here = subst (λ b. HasTold b x k place network written (end - counter)) is h in
+    record { world = here.world; so_far = here.so_far; count = let less = here.count in omega (arith, less) }
+
+-- none is left
+pub told_all : (x : Context) (k : RunKept) (place : Place) (network : Network) (written : Pieces) (end counter : ℕ) → end ≤ counter
+    → IsTellingOf x k place network written (end - counter) → At x k place network written
+told_all x k place network written end counter past here =
+    let many = here.count in
+    record { world = here.world; so_far = here.so_far; quiet = none_due here.world.sender (omega (arith, many, past)) }

@@ -1,0 +1,11 @@
+use Rattle.std.proofs.Common.{◌++◌, ◌∷◌, [], ap, ◌∙◌}
+use Rattle.norm_journal.specs.declared.event.Event.TheVariants as event
+use Rattle.norm_script.specs.Commands.{Commands}
+use Rattle.norm_session.proofs.StartingLemmas.{run_begins}
+use Rattle.norm_session.proofs.run.Run.begun.Goals as goal
+
+pub returns : goal.returns
+returns c x network =
+    run_begins x c.args.script.now network c.script.inside.profile c.in_ok-world.world c.push_start.new.self c.new-3.result c.first_draws-draws.result
+    c.requires (ap (λ (s : Commands). s.profile) c.script.view_is) c.in_ok-world.ensures.profile c.in_ok-world.ensures.stands
+    (c.in_ok-push_start.ensures ∙ ap (λ js. js ++ event.Start ∷ []) c.new-journal.ensures) c.new-3.ensures c.first_draws-draws.ensures

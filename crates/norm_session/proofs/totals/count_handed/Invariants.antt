@@ -1,7 +1,0 @@
-use Rattle.std.proofs.Common.{◌≡◌, ◌≤◌, take, sum_by}
-use Rattle.norm_session.specs.Totals.{handed}
-use Rattle.norm_session.proofs.totals.count_handed.Given as goal
-
--- the count so far, of at most one for each event
-abbrev pub invariant-loop-event : goal.invariant-loop-event
-invariant-loop-event l = (l.count ≡ sum_by handed (take l.event-index l.events)) × (l.count ≤ l.event-index)

@@ -1,0 +1,23 @@
+-- The end of a run.
+use Rattle.std.specs.Prelude.{◌≡◌, ℕ, List, [], Bool, Option}
+use Rattle.norm_base.specs.Network.{Network}
+use Rattle.norm_base.specs.Told.{Pieces}
+use Rattle.norm_script.specs.Commands.{Commands}
+use Rattle.norm_journal.specs.Jobs.{Told}
+use Rattle.norm_journal.specs.Judged.{is_whole}
+use Rattle.norm_journal.specs.Places.{Between, Over}
+use Rattle.norm_session.specs.Context.{Context, judged_of, with_moments}
+use Rattle.norm_session.specs.RunKept.{RunKept}
+use Rattle.norm_session.specs.SoFar.{At}
+use Rattle.norm_session.specs.Turning.{Span, IsOver, FollowMoments}
+
+-- A run ended, and was whole or had its turns spent.
+pub record HasEnded (x : Context) (k : RunKept) (whole : Bool) (network : Network) (written : Pieces) : Type 0 where
+  pub here : At x k Over network written
+  pub whole_is : is_whole (judged_of x k here.world Over) ≡ whole
+
+-- A run in which no turn was made goes to its end.
+abbrev pub Finishes : Commands → Told → (old new : RunKept) → Bool → Span → Type 0
+Finishes script files old new whole o = (moments : List ℕ) × ((x : Context) → IsOver x script files → x.moments ≡ []
+    → At x old Between o.before o.unwritten
+    → FollowMoments x o.unasked o.asked moments × HasEnded (with_moments x moments) new whole o.after o.written)

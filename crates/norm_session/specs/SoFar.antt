@@ -1,0 +1,85 @@
+-- A run so far: its journal is one that the judge accepts, and leads to where the run is; the network and the output have exactly
+-- what it says.
+use Rattle.std.specs.Prelude.{◌≡◌, ℕ, ◌+◌, ◌==◌, Bool, true, false, List, [], ◌∷◌, ◌++◌, None, Some, IsTrue, ⊤}
+use Rattle.std.specs.List.{AllByRecursion}
+use Rattle.norm_base.specs.Members.{receivers_of}
+use Rattle.norm_base.specs.Network.{Network, WasOffered}
+use Rattle.norm_base.specs.Told.{Pieces, gained}
+use Rattle.norm_base.specs.declared.kinds.Sent.{Sent}
+use Rattle.norm_base.specs.declared.kinds.Sent.TheVariants as sent
+use Rattle.norm_journal.specs.declared.event.Event.{Event}
+use Rattle.norm_journal.specs.declared.event.Event.TheVariants as event
+use Rattle.norm_journal.specs.Accepting.{judged_from}
+use Rattle.norm_journal.specs.Jobs.{IsOfObjects}
+use Rattle.norm_journal.specs.Judged.{Judged, news_due}
+use Rattle.norm_journal.specs.Laws.{HasOctets}
+use Rattle.norm_journal.specs.Places.{Place, Offering, Taking, handing}
+use Rattle.norm_journal.specs.Printed.{lines_from}
+use Rattle.norm_journal.specs.Takes.{most_takes}
+use Rattle.norm_journal.specs.Projections.{offers_in, moments_in, network_after}
+use Rattle.norm_safety.specs.World.{World}
+use Rattle.norm_world.specs.WorldKept.{StandsFor}
+use Rattle.norm_session.specs.Context.{Context, opening, judged_of}
+use Rattle.norm_session.specs.RunKept.{RunKept}
+
+-- an event's take, if it is one, gives what another member had offered before
+abbrev pub IsOffered : List Event → Event → Type 0
+IsOffered past (event.Took to octets) = WasOffered (offers_in past) to octets
+IsOffered past _ = ⊤
+
+-- each take of a journal gives what another member had offered before
+unfoldable pub AreOffered : List Event → List Event → Type 0
+AreOffered past [] = ⊤
+AreOffered past (e ∷ events) = IsOffered past e × AreOffered (past ++ e ∷ []) events
+
+-- A journal leads to a state of the judge: it is accepted event by event, the network told its offers and answers, and the output its
+-- lines; its turns began at the moments that are said, and the files that it read have octets; and where the network is honest and tells what is offered, what was taken had been offered by another member.
+pub record Leads (x : Context) (journal : List Event) (j : Judged) (network : Network) (written : Pieces) : Type 0 where
+  pub judged : judged_from (opening x) journal ≡ Some j
+  pub told : network ≡ network_after x.network journal
+  pub lines : written ≡ gained x.written (lines_from (opening x) journal)
+  pub offered : IsTrue x.network.honest → x.network.offered ≡ Some [] → AreOffered [] journal
+  pub moments : moments_in journal ≡ x.moments
+  pub octets : AllByRecursion HasOctets journal
+
+-- A run has all receivers of its profile, its nodes and its script are under that, and no line of the script is of a stream.
+pub record HasAll (x : Context) (k : RunKept) : Type 0 where
+  pub script : k.p ≡ x.script.profile
+  pub world : k.world.p ≡ k.p
+  pub receivers : x.nodes ≡ receivers_of k.p k.p.receivers
+  pub objects : AllByRecursion IsOfObjects x.script.lines
+
+-- A run with these nodes of the rules, at a place: its world stands for them, and its journal leads there.
+pub record SoFar (x : Context) (k : RunKept) (w : World) (place : Place) (network : Network) (written : Pieces) : Type 0 where
+  pub all : HasAll x k
+  pub stands : StandsFor k.world w
+  pub leads : Leads x k.journal (judged_of x k w place) network written
+
+-- A run is at a place, where changes may be due to be told.
+pub record IsTelling (x : Context) (k : RunKept) (place : Place) (network : Network) (written : Pieces) : Type 0 where
+  pub world : World
+  pub so_far : SoFar x k world place network written
+
+-- A run is at a place, where no change is to be told.
+pub record At (x : Context) (k : RunKept) (place : Place) (network : Network) (written : Pieces) : Type 0 where
+  pub world : World
+  pub so_far : SoFar x k world place network written
+  pub quiet : news_due (judged_of x k world place) ≡ None
+
+-- after a tick, what it wrote is offered
+abbrev pub after_sent : ℕ → Sent → List ℕ → Place → Place
+after_sent node sent.Nothing octets next = next
+after_sent node sent.Datagram octets next = Offering node octets next
+
+-- the receivers' parts of a turn
+abbrev pub hands_next : Context → Place
+hands_next x = handing x.nodes
+
+-- after so many takes of a turn, and one that gave a datagram
+abbrev pub takes_next : Context → ℕ → Place
+takes_next x count = elim (count + 1 == most_takes) [ true ↦ hands_next x | false ↦ Taking (count + 1) ]
+
+-- after a take: where it gave a datagram, changes may be due, and else the receivers' parts follow
+abbrev pub HasTaken : Bool → Context → RunKept → ℕ → Network → Pieces → Type 0
+HasTaken true x k count network written = IsTelling x k (takes_next x count) network written
+HasTaken false x k count network written = At x k (hands_next x) network written

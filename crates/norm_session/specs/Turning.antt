@@ -1,0 +1,108 @@
+-- A turn of a run, and all its turns.
+use Rattle.std.specs.Prelude.{◌≡◌, ℕ, ◌*◌, ◌==◌, max, List, [], ◌∷◌, Option, drop, slice_get, option_and_then, true, false}
+use Rattle.norm_base.specs.Network.{Network}
+use Rattle.norm_base.specs.Told.{Pieces}
+use Rattle.norm_script.specs.Commands.{Commands}
+use Rattle.norm_journal.specs.Jobs.{Told}
+use Rattle.norm_journal.specs.Judged.{is_done}
+use Rattle.norm_journal.specs.Places.{Place, Sending, Between, command_due}
+use Rattle.norm_session.specs.Context.{Context, judged_of, with_moments}
+use Rattle.norm_session.specs.Moments.{Either, Gave, HaveMoments, last_moment}
+use Rattle.norm_session.specs.RunKept.{RunKept}
+use Rattle.norm_session.specs.SoFar.{At}
+use Rattle.norm_session.specs.Stopping.{Stopped}
+use Rattle.norm_session.specs.declared.fault.SessionFault.{SessionFault}
+
+-- a turn begins with a command: one that waits, or one that is pulled, where there are some left
+abbrev pub command_next : Context → RunKept → Place
+command_next x k = command_due (option_and_then (slice_get x.script.lines) k.waiting) (drop k.pulled x.script.lines)
+
+-- The clock gave the moment, if it did not fall.
+pub record IsGiven (so_far now : ℕ) (before after : Option (List ℕ)) : Type 0 where
+  pub given : ℕ
+  pub gave : Gave before after (given ∷ [])
+  pub now_is : now ≡ max so_far given
+
+-- The moment is the turn's number times the step, and the clock was not asked.
+pub record IsStepped (turn step now : ℕ) (before after : Option (List ℕ)) : Type 0 where
+  pub now_is : now ≡ turn * step
+  pub unasked : after ≡ before
+
+-- The moment of a turn.
+abbrev pub IsNextMoment : (turn step so_far now : ℕ) → Option (List ℕ) → Option (List ℕ) → Type 0
+IsNextMoment turn step so_far now before after = Either (step == 0) (IsGiven so_far now before after) (IsStepped turn step now before after)
+
+-- the moments of turns that follow, by the clock's
+abbrev pub FollowMoments : Context → Option (List ℕ) → Option (List ℕ) → List ℕ → Type 0
+FollowMoments x before after moments = HaveMoments x.script.profile.step (last_moment 0 x.moments) before after moments
+
+-- the last turn was not done
+abbrev pub GoesOn : (x : Context) (k : RunKept) (network : Network) (written : Pieces) → At x k Between network written → Type 0
+GoesOn x k network written here = is_done (judged_of x k here.world Between) ≡ false
+
+-- A turn begins: from between two turns, where the last was not done, to the command that is due.
+abbrev pub BeginsTurn : (old new : RunKept) → Option (List ℕ) → Option (List ℕ) → Type 0
+BeginsTurn old new before after = (x : Context) (network : Network) (written : Pieces) (here : At x old Between network written)
+    → GoesOn x old network written here → FollowMoments x before after (new.now ∷ []) × At (with_moments x (new.now ∷ [])) new (command_next x new) network written
+
+-- A fault stops a turn that has begun at these moments, or at none.
+abbrev pub StopsBeginning : RunKept → SessionFault → Option (List ℕ) → Option (List ℕ) → Type 0
+StopsBeginning old fault before after = (moments : List ℕ) × ((x : Context) (network : Network) (written : Pieces) (here : At x old Between network written)
+    → GoesOn x old network written here → FollowMoments x before after moments × Stopped (with_moments x moments) fault network written)
+
+-- what a run is over: its script, and the files as they are told
+pub record IsOver (x : Context) (commands : Commands) (told : Told) : Type 0 where
+  pub script : x.script ≡ commands
+  pub files : x.files ≡ told
+
+-- A turn begins with its command, where the last was not done, and all is told.
+abbrev pub OpensTurn : Commands → Told → (old new : RunKept) → (unwritten written : Pieces) → (unasked asked : Option (List ℕ)) → Type 0
+OpensTurn script files old new unwritten written unasked asked = (moment : ℕ) × ((x : Context) (network : Network) → IsOver x script files
+    → (here : At x old Between network unwritten) → GoesOn x old network unwritten here
+    → FollowMoments x unasked asked (moment ∷ []) × At (with_moments x (moment ∷ [])) new Sending network written)
+
+-- A fault stops that.
+abbrev pub StopsOpening : Commands → Told → RunKept → SessionFault → (unwritten written : Pieces) → (unasked asked : Option (List ℕ)) → Type 0
+StopsOpening script files old fault unwritten written unasked asked = (moments : List ℕ) × ((x : Context) (network : Network) → IsOver x script files
+    → (here : At x old Between network unwritten) → GoesOn x old network unwritten here
+    → FollowMoments x unasked asked moments × Stopped (with_moments x moments) fault network written)
+
+-- What the outside told before and after a part of a run: the network, the output, and the clock.
+pub record Span : Type 0 where
+  pub before : Network
+  pub after : Network
+  pub unwritten : Pieces
+  pub written : Pieces
+  pub unasked : Option (List ℕ)
+  pub asked : Option (List ℕ)
+
+abbrev pub span : (before after : Network) (unwritten written : Pieces) (unasked asked : Option (List ℕ)) → Span
+span before after unwritten written unasked asked =
+    record { before = before; after = after; unwritten = unwritten; written = written; unasked = unasked; asked = asked }
+
+-- A turn is made, where the last was not done.
+abbrev pub TakesTurn : Commands → Told → (old new : RunKept) → Span → Type 0
+TakesTurn script files old new o = (moment : ℕ) × ((x : Context) → IsOver x script files → (here : At x old Between o.before o.unwritten)
+    → GoesOn x old o.before o.unwritten here
+    → FollowMoments x o.unasked o.asked (moment ∷ []) × At (with_moments x (moment ∷ [])) new Between o.after o.written)
+
+-- A fault stops a turn.
+abbrev pub StopsTurn : Commands → Told → RunKept → SessionFault → Span → Type 0
+StopsTurn script files old fault o = (moments : List ℕ) × ((x : Context) → IsOver x script files → (here : At x old Between o.before o.unwritten)
+    → GoesOn x old o.before o.unwritten here
+    → FollowMoments x o.unasked o.asked moments × Stopped (with_moments x moments) fault o.after o.written)
+
+-- a run that is at the end of its last turn
+pub record AtLast (x : Context) (k : RunKept) (network : Network) (written : Pieces) : Type 0 where
+  pub here : At x k Between network written
+  pub done : is_done (judged_of x k here.world Between) ≡ true
+
+-- All turns are made of a run in which none was.
+abbrev pub TakesTurns : Commands → Told → (old new : RunKept) → Span → Type 0
+TakesTurns script files old new o = (moments : List ℕ) × ((x : Context) → IsOver x script files → x.moments ≡ [] → At x old Between o.before o.unwritten
+    → FollowMoments x o.unasked o.asked moments × AtLast (with_moments x moments) new o.after o.written)
+
+-- A fault stops a run in one of its turns, or behind them.
+abbrev pub StopsTurns : Commands → Told → RunKept → SessionFault → Span → Type 0
+StopsTurns script files old fault o = (moments : List ℕ) × ((x : Context) → IsOver x script files → x.moments ≡ [] → At x old Between o.before o.unwritten
+    → FollowMoments x o.unasked o.asked moments × Stopped (with_moments x moments) fault o.after o.written)

@@ -1,0 +1,348 @@
+//! Commands of a turn: a pull gives the next one, and it is offered to the sender, again in each turn while it has to wait.
+
+ghost use Rattle.std.specs.Prelude.{◌≡◌, ◌≢◌, ◌<◌, true, false, None, Some, Err, drop, length, IfOk, IfErr, IfSome, OnOk};
+ghost use Rattle.norm_base.specs.Network.{Network};
+ghost use Rattle.norm_base.specs.Told.{Pieces};
+ghost use Rattle.norm_journal.specs.Jobs.{job_of};
+ghost use Rattle.norm_journal.specs.Lines.{gave_line};
+ghost use Rattle.norm_journal.specs.Places.{Pulling, Sending, command_due};
+ghost use Rattle.norm_journal.specs.Pulling.{origin_of};
+ghost use Rattle.norm_journal.specs.Totals.{with_gave};
+ghost use Rattle.norm_journal.specs.declared.event.Event.TheVariants as event;
+ghost use Rattle.norm_safety.specs.Events.{Commanded, Gave};
+ghost use Rattle.norm_sender.specs.Commands.{opens_none, answer_of};
+ghost use Rattle.norm_world.specs.WorldKept.{IsReady};
+ghost use Rattle.norm_world.specs.WorldMoves.{IsEvent};
+ghost use Rattle.norm_session.specs.Causes.{WriteCause, NeedsMemory};
+ghost use Rattle.norm_session.specs.Commanding.{IsDue, IsAtLine, CommandCause, Notes, StopsNoting, told_at, waits_at, within_lines};
+ghost use Rattle.norm_session.specs.Context.{Context};
+ghost use Rattle.norm_session.specs.SoFar.{At, IsTelling};
+ghost use Rattle.norm_session.specs.Stopping.{Stopped};
+ghost use Rattle.norm_session.specs.Turning.{IsOver, command_next};
+
+use crate::fault::SessionFault;
+use crate::printing::write_line;
+use crate::run::Run;
+use norm_base::{Files, InstanceId, Memory, Moment, NodeId, Octets, Origin, Sink};
+use norm_journal::{Totals, gave_line};
+use norm_order::copy_of_octets;
+use norm_script::{Line, Script, Verb};
+use norm_send_rules::{Job, Receipt, SendFault, copy_of_job};
+use norm_world::World;
+
+/// What the sender gives to a command.
+pub(crate) type Gives = Result<Receipt, SendFault>;
+
+/// The name of a line's command.
+pub(crate) fn origin_of(line: &Line) -> Origin
+    ensures { result ≡ origin_of line.now }
+{
+    Origin {
+        producer: line.producer,
+        number: line.number,
+    }
+}
+
+/// The job of a data object.
+fn data_of(info: &Option<Octets>, bytes: &Octets) -> Result<Job, Memory>
+    ensures { IfOk result (λ job. job ≡ Job.Data info.now bytes.now) }
+{
+    let bytes = copy_of_octets(bytes)?;
+    match info {
+        Some(info) => {
+            let info = copy_of_octets(info)?;
+            Ok(Job::Data {
+                info: Some(info),
+                bytes,
+            })
+        }
+        None => Ok(Job::Data { info: None, bytes }),
+    }
+}
+
+/// The job of a write.
+fn write_of(bytes: &Octets) -> Result<Job, Memory>
+    ensures { IfOk result (λ job. job ≡ Job.Write bytes.now) }
+{
+    let bytes = copy_of_octets(bytes)?;
+    Ok(Job::Write { bytes })
+}
+
+/// The job of a strike.
+fn strike_of(node: u32) -> Result<Job, Memory>
+    ensures { IfOk result (λ job. job ≡ Job.Strike node) }
+{
+    // A script strikes numbers of members alone.
+    match NodeId::of(node) {
+        Some(node) => Ok(Job::Strike { node }),
+        None => Err(Memory),
+    }
+}
+
+/// The job of a command that has its octets with it, in memory of its own. `None` exactly where it is of a file.
+///
+/// # Errors
+///
+/// `Memory` where memory runs out. So also for what opens a stream, and for the number of no member, which no script has that is run.
+fn job_of(verb: &Verb) -> Result<Option<Job>, Memory>
+    ensures job { IfOk result (λ job. job ≡ job_of verb.now) }
+    ensures carried { IfOk result (λ job. IfSome job (λ job. opens_none job ≡ true)) }
+{
+    match verb {
+        Verb::Data { info, bytes } => {
+            let job = data_of(info, bytes)?;
+            Ok(Some(job))
+        }
+        Verb::File { .. } => Ok(None),
+        Verb::Open => Err(Memory),
+        Verb::Write { bytes } => {
+            let job = write_of(bytes)?;
+            Ok(Some(job))
+        }
+        Verb::Close => Ok(Some(Job::Close)),
+        Verb::Mark { quorum } => Ok(Some(Job::Mark { quorum: *quorum })),
+        Verb::Restart { instance } => Ok(Some(Job::Restart {
+            instance: InstanceId(*instance),
+        })),
+        Verb::Strike { node } => {
+            let job = strike_of(*node)?;
+            Ok(Some(job))
+        }
+    }
+}
+
+/// The job as an offer tells it: the first does.
+fn told_of(first: bool, job: &Job) -> Result<Option<Job>, Memory>
+    ensures { IfOk result (λ told. told ≡ told_at first job.now) }
+{
+    if !first {
+        return Ok(None);
+    }
+    let copy = copy_of_job(job)?;
+    Ok(Some(copy))
+}
+
+/// An answer of the sender, without what a refusal gives back.
+fn without_job(answer: Result<Receipt, (Option<Job>, SendFault)>) -> Gives
+    ensures { result ≡ answer_of answer }
+{
+    match answer {
+        Ok(receipt) => Ok(receipt),
+        Err((_back, fault)) => Err(fault),
+    }
+}
+
+/// Whether memory was wanted for a command.
+fn lacks_memory(gave: &Gives) -> bool
+    ensures { result ≡ false → gave.now ≢ Err SendFault.Memory }
+{
+    match gave {
+        Ok(_) => false,
+        Err(fault) => match fault {
+            SendFault::Memory => true,
+            SendFault::Enqueue(_)
+            | SendFault::Mark(_)
+            | SendFault::Strike(_)
+            | SendFault::IdUsed { .. } => false,
+        },
+    }
+}
+
+/// What the sender gives to a command.
+fn offer_job(world: &mut World, by: Origin, job: Job, now: Moment) -> Result<Gives, Memory>
+    requires ready { IsReady world.old }
+    requires carried { opens_none job ≡ true }
+    ensures profile { world.new.p ≡ world.old.p }
+    ensures ready { IsReady world.new }
+    ensures gives { IfOk result (λ gave. IsEvent world.old world.new (Commanded by job now) (λ answer. answer ≡ Gave gave)) }
+{
+    let answer = world.job(by, job, now);
+    let gave = without_job(answer);
+    if lacks_memory(&gave) {
+        return Err(Memory);
+    }
+    Ok(gave)
+}
+
+/// What a command gave is counted.
+///
+/// # Errors
+///
+/// `Memory` where a count does not fit, and then nothing is counted.
+fn count(totals: &mut Totals, gave: &Gives) -> Result<(), Memory>
+    ensures { OnOk result (totals.new ≡ with_gave gave.now totals.old) }
+{
+    if !totals.has_room_for_gave(gave) {
+        return Err(Memory);
+    }
+    totals.count_gave(gave);
+    Ok(())
+}
+
+/// The place of the line whose command waits after this answer.
+pub(crate) fn waits_at(place: usize, gave: &Gives) -> Option<usize>
+    ensures { result ≡ waits_at place gave.now }
+{
+    match gave {
+        Ok(_) => None,
+        Err(fault) => { if fault.may_wait() { Some(place) } else { None } }
+    }
+}
+
+/// The place of the line that waits, where the script has that place.
+fn within_lines(waiting: Option<usize>, lines: usize) -> Option<usize>
+    ensures same { result ≡ within_lines waiting lines }
+    ensures within { IfSome result (λ place. place < lines) }
+{
+    match waiting {
+        Some(place) => { if place < lines { Some(place) } else { None } }
+        None => None,
+    }
+}
+
+impl Run {
+    /// The next line is pulled, in the script's order. Answers its place there.
+    ///
+    /// # Errors
+    ///
+    /// `Memory` where memory runs out.
+    pub fn pull(&mut self, script: &Script) -> Result<usize, SessionFault>
+        requires { self.old.pulled < length script.now.lines }
+        ensures place { IfOk result (λ place. place < length script.now.lines) }
+        ensures goes { IfOk result (λ place. (x : Context) (network : Network) (written : Pieces) → x.script ≡ script.now
+            → At x self.old Pulling network written → IsAtLine x self.new place true network written) }
+        ensures stops { IfErr result (λ fault. (x : Context) (network : Network) (written : Pieces) → At x self.old Pulling network written
+            → Stopped x fault network written) }
+        ensures cause { NeedsMemory result }
+    {
+        let place = self.pulled;
+        let by = origin_of(&script.lines[place]);
+        self.journal.push_pull(by)?;
+        self.pulled += 1;
+        Ok(place)
+    }
+
+    /// What the sender gave to a command is counted and noted with the job that is told, and its line is written. The command waits where
+    /// there was only no room for it.
+    pub(crate) fn note_job<K: Sink>(
+        &mut self,
+        line: &Line,
+        place: usize,
+        instance: InstanceId,
+        told: Option<Job>,
+        gave: Gives,
+        output: &mut K,
+    ) -> Result<(), SessionFault>
+        ensures goes { OnOk result (Notes self.old self.new place line.now (event.Job (origin_of line.now) told gave) gave
+            (gave_line (origin_of line.now) instance line.now.verb gave) (K.pieces output.old) (K.pieces output.new)) }
+        ensures stops { IfErr result (λ fault. StopsNoting self.old fault place line.now (event.Job (origin_of line.now) told gave) gave
+            (gave_line (origin_of line.now) instance line.now.verb gave) (K.pieces output.old) (K.pieces output.new)) }
+        ensures cause { WriteCause result (K.fault_count output.old) (K.fault_count output.new) }
+    {
+        let by = origin_of(line);
+        let has = gave_line(&mut self.line, by, instance, &line.verb, &gave)?;
+        count(&mut self.totals, &gave)?;
+        self.waiting = waits_at(place, &gave);
+        self.journal.push_job(by, told, gave)?;
+        write_line(has, &self.line, output)
+    }
+
+    /// The command of a line, which has its octets with it, is offered to the sender.
+    fn give_job<K: Sink>(
+        &mut self,
+        line: &Line,
+        place: usize,
+        first: bool,
+        job: Job,
+        output: &mut K,
+    ) -> Result<(), SessionFault>
+        requires job { job_of line.now.verb ≡ Some job }
+        requires carried { opens_none job ≡ true }
+        ensures goes { OnOk result ((x : Context) (network : Network) → IsDue x self.old place line.now first network (K.pieces output.old)
+            → IsTelling x self.new Sending network (K.pieces output.new)) }
+        ensures stops { IfErr result (λ fault. (x : Context) (network : Network) → IsDue x self.old place line.now first network (K.pieces output.old)
+            → Stopped x fault network (K.pieces output.new)) }
+        ensures cause { WriteCause result (K.fault_count output.old) (K.fault_count output.new) }
+    {
+        let told = told_of(first, &job)?;
+        let instance = self.world.sender().instance();
+        let gave = offer_job(&mut self.world, origin_of(line), job, self.now)?;
+        self.note_job(line, place, instance, told, gave, output)
+    }
+
+    /// The command of the line at a place is offered, for the first time or again.
+    fn offer_command<K: Sink, D: Files>(
+        &mut self,
+        script: &Script,
+        place: usize,
+        first: bool,
+        files: &mut D,
+        output: &mut K,
+    ) -> Result<(), SessionFault>
+        requires { place < length script.now.lines }
+        ensures goes { OnOk result ((x : Context) (network : Network) → IsOver x script.now (D.contents files.old)
+            → IsAtLine x self.old place first network (K.pieces output.old) → IsTelling x self.new Sending network (K.pieces output.new)) }
+        ensures stops { IfErr result (λ fault. (x : Context) (network : Network) → IsOver x script.now (D.contents files.old)
+            → IsAtLine x self.old place first network (K.pieces output.old) → Stopped x fault network (K.pieces output.new)) }
+        ensures same { D.contents files.new ≡ D.contents files.old }
+        ensures cause { CommandCause result (K.fault_count output.old) (K.fault_count output.new) (D.fault_count files.old) (D.fault_count files.new) }
+    {
+        let line = &script.lines[place];
+        if let Verb::File { name } = &line.verb {
+            return self.give_file(line, name, place, files, output);
+        }
+        match job_of(&line.verb)? {
+            Some(job) => self.give_job(line, place, first, job, output),
+            // Proof: only a file has its octets elsewhere.
+            None => Err(SessionFault::Memory),
+        }
+    }
+
+    /// The next command, where none waits: it is pulled and offered, if there is one.
+    fn next_command<K: Sink, D: Files>(
+        &mut self,
+        script: &Script,
+        files: &mut D,
+        output: &mut K,
+    ) -> Result<(), SessionFault>
+        ensures goes { OnOk result ((x : Context) (network : Network) → IsOver x script.now (D.contents files.old)
+            → At x self.old (command_due None (drop self.old.pulled script.now.lines)) network (K.pieces output.old)
+            → IsTelling x self.new Sending network (K.pieces output.new)) }
+        ensures stops { IfErr result (λ fault. (x : Context) (network : Network) → IsOver x script.now (D.contents files.old)
+            → At x self.old (command_due None (drop self.old.pulled script.now.lines)) network (K.pieces output.old)
+            → Stopped x fault network (K.pieces output.new)) }
+        ensures same { D.contents files.new ≡ D.contents files.old }
+        ensures cause { CommandCause result (K.fault_count output.old) (K.fault_count output.new) (D.fault_count files.old) (D.fault_count files.new) }
+    {
+        if self.pulled >= script.lines.len() {
+            return Ok(());
+        }
+        let place = self.pull(script)?;
+        self.offer_command(script, place, true, files, output)
+    }
+
+    /// The command of a turn: one that waits is offered again, or else the next one is pulled and offered, if there is one.
+    ///
+    /// # Errors
+    ///
+    /// `Write` where the write of its line failed, `Files` where a call of the files did, `Absent` where its file is not there, or
+    /// `Memory`.
+    pub fn command<K: Sink, D: Files>(
+        &mut self,
+        script: &Script,
+        files: &mut D,
+        output: &mut K,
+    ) -> Result<(), SessionFault>
+        ensures goes { OnOk result ((x : Context) (network : Network) → IsOver x script.now (D.contents files.old)
+            → At x self.old (command_next x self.old) network (K.pieces output.old) → IsTelling x self.new Sending network (K.pieces output.new)) }
+        ensures stops { IfErr result (λ fault. (x : Context) (network : Network) → IsOver x script.now (D.contents files.old)
+            → At x self.old (command_next x self.old) network (K.pieces output.old) → Stopped x fault network (K.pieces output.new)) }
+        ensures same { D.contents files.new ≡ D.contents files.old }
+        ensures cause { CommandCause result (K.fault_count output.old) (K.fault_count output.new) (D.fault_count files.old) (D.fault_count files.new) }
+    {
+        match within_lines(self.waiting, script.lines.len()) {
+            Some(place) => self.offer_command(script, place, false, files, output),
+            None => self.next_command(script, files, output),
+        }
+    }
+}

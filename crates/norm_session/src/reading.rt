@@ -1,0 +1,311 @@
+//! Files that commands name: their lengths, and their octets in pieces.
+
+ghost use Rattle.std.specs.Prelude.{◌≡◌, ◌<◌, [], ℕ, Bool, Err, length, string_bytes, IfOk, IfErr, OnOk};
+ghost use Rattle.std.specs.Option.{option_map};
+ghost use Rattle.norm_base.specs.Network.{Network};
+ghost use Rattle.norm_base.specs.Octets.{AreOctets};
+ghost use Rattle.norm_journal.specs.Follows.{IsLength};
+ghost use Rattle.norm_journal.specs.Lines.{no_line, reason_of};
+ghost use Rattle.norm_journal.specs.declared.event.Event.TheVariants as event;
+ghost use Rattle.norm_script.specs.declared.script.Line.{Line as Command};
+ghost use Rattle.norm_script.specs.declared.script.Verb.TheVariants as verb;
+ghost use Rattle.norm_journal.specs.Places.{Sending};
+ghost use Rattle.norm_journal.specs.Pulling.{origin_of};
+ghost use Rattle.norm_world.specs.WorldKept.{WorldKept, IsReady, IsBegun, IsFilling};
+ghost use Rattle.norm_session.specs.Causes.{FilesCause, WriteCause};
+ghost use Rattle.norm_session.specs.Commanding.{IsDue, CommandCause, Notes, StopsNoting};
+ghost use Rattle.norm_session.specs.Context.{Context};
+ghost use Rattle.norm_session.specs.Reading.{IsOfFile, IsFaultOf, HasRead, ReadsOn, ReadsJob, AcceptsFile, IsFileGave, refusal_of};
+ghost use Rattle.norm_session.specs.SoFar.{IsTelling};
+ghost use Rattle.norm_session.specs.Stopping.{Stopped};
+
+use crate::commanding::{Gives, origin_of, waits_at};
+use crate::fault::SessionFault;
+use crate::printing::write_line;
+use crate::run::Run;
+use norm_base::{FileFault, Files, Memory, Moment, Octets, Origin, Profile, Sink, Text};
+use norm_journal::refusal_line;
+use norm_script::Line;
+use norm_send_rules::{Job, Receipt, SendFault};
+use norm_world::World;
+use std::alloc::Global;
+
+/// What the sender gives to a file.
+#[derive(Drop)]
+pub(crate) enum FileGave {
+    /// It was accepted, with the octets that were read.
+    Accepted { job: Job, receipt: Receipt },
+    /// It was refused by its name and its length.
+    Refused { name: Octets, fault: SendFault },
+}
+
+/// A name as a string of its own.
+fn string_of(name: &Text) -> Result<String, Memory>
+    ensures { IfOk result (λ string. string_bytes string ≡ name.now) }
+{
+    let copy = name.clone()?;
+    Ok(copy.into_inner())
+}
+
+/// What a fault of the files is to a run.
+fn fault_of(alloc: Global, fault: FileFault, name: &str) -> SessionFault
+    ensures { IsFaultOf fault name.now result }
+{
+    match fault {
+        FileFault::Failed => SessionFault::Files,
+        FileFault::Absent => match String::from_str(alloc, name) {
+            Ok(name) => SessionFault::Absent {
+                name: Text::of(name),
+            },
+            Err(_) => SessionFault::Memory,
+        },
+    }
+}
+
+/// How many octets the file of a name has.
+fn length_of<D: Files>(alloc: Global, files: &mut D, name: &str) -> Result<u64, SessionFault>
+    ensures same { D.contents files.new ≡ D.contents files.old }
+    ensures value { IfOk result (λ len. IsLength (D.contents files.old) name.now len) }
+    ensures stops { IfErr result (λ fault. IsOfFile (D.contents files.old) name.now fault) }
+    ensures cause { FilesCause result (D.fault_count files.old) (D.fault_count files.new) }
+{
+    match files.length(name) {
+        Ok(len) => Ok(len),
+        Err(fault) => Err(fault_of(alloc, fault, name)),
+    }
+}
+
+// Proof: a slice of octets has octets alone.
+fn hold_octets(bytes: &[u8])
+    ensures { AreOctets bytes.now }
+{}
+
+/// Reads the next octets of the file that was begun, at most so many as the buffer has, and hands them to the world.
+fn read_piece<D: Files>(
+    alloc: Global,
+    world: &mut World,
+    files: &mut D,
+    name: &str,
+    len: u64,
+    buf: &mut [u8],
+    octets: &mut Vec<u8>,
+) -> Result<(), SessionFault>
+    requires room { 0 < length buf.old }
+    requires more { length octets.old.items < len }
+    requires told { IsLength (D.contents files.old) name.now len }
+    requires filling { IsFilling world.old name.now len octets.old.items }
+    ensures same { D.contents files.new ≡ D.contents files.old }
+    ensures begun { IsBegun world.new }
+    ensures goes { OnOk result (ReadsOn world.old world.new (D.contents files.old) name.now len octets.old.items octets.new.items) }
+    ensures stops { IfErr result (λ fault. IsOfFile (D.contents files.old) name.now fault) }
+    ensures cause { FilesCause result (D.fault_count files.old) (D.fault_count files.new) }
+{
+    let done = octets.len() as u64;
+    let room = buf.len().min((len - done) as usize);
+    let buf = &mut buf[..room];
+    match files.read_at(name, done, buf) {
+        Ok(n) => {
+            octets.extend_from_slice(&buf[..n])?;
+            world.file_piece(&buf[..n]);
+            Ok(())
+        }
+        Err(fault) => Err(fault_of(alloc, fault, name)),
+    }
+}
+
+/// Reads the octets of the file that was begun, in pieces as long as the buffer, and hands them to the world.
+fn read_all<D: Files>(
+    alloc: Global,
+    world: &mut World,
+    files: &mut D,
+    name: &str,
+    len: u64,
+    buf: &mut [u8],
+) -> Result<Octets, SessionFault>
+    requires room { 0 < length buf.old }
+    requires told { IsLength (D.contents files.old) name.now len }
+    requires filling { IsFilling world.old name.now len [] }
+    ensures same { D.contents files.new ≡ D.contents files.old }
+    ensures begun { IsBegun world.new }
+    ensures read { IfOk result (λ octets. HasRead world.old world.new (D.contents files.old) name.now len octets) }
+    ensures octets { IfOk result (λ octets. AreOctets octets) }
+    ensures stops { IfErr result (λ fault. IsOfFile (D.contents files.old) name.now fault) }
+    ensures cause { FilesCause result (D.fault_count files.old) (D.fault_count files.new) }
+{
+    let mut octets = Vec::new(alloc);
+    octets.reserve(len as usize)?;
+    while (octets.len() as u64) < len {
+        read_piece(alloc, world, files, name, len, buf, &mut octets)?;
+    }
+    hold_octets(&octets);
+    Ok(Octets::of(octets))
+}
+
+/// Reads a file that was begun, in pieces of a symbol, as the job that is told of it.
+fn read_job<D: Files>(
+    alloc: Global,
+    world: &mut World,
+    files: &mut D,
+    name: &str,
+    len: u64,
+    e: u16,
+) -> Result<Job, SessionFault>
+    requires symbol { 0 < e }
+    requires told { IsLength (D.contents files.old) name.now len }
+    requires filling { IsFilling world.old name.now len [] }
+    ensures same { D.contents files.new ≡ D.contents files.old }
+    ensures begun { IsBegun world.new }
+    ensures read { IfOk result (λ job. ReadsJob world.old world.new (D.contents files.old) name.now len job) }
+    ensures stops { IfErr result (λ fault. IsOfFile (D.contents files.old) name.now fault) }
+    ensures cause { FilesCause result (D.fault_count files.old) (D.fault_count files.new) }
+{
+    let told = Octets::of(Vec::from_slice(alloc, name.as_bytes())?);
+    let mut buf = vec![in alloc; 0u8; usize::from(e)]?;
+    let bytes = read_all(alloc, world, files, name, len, &mut buf)?;
+    Ok(Job::File { name: told, bytes })
+}
+
+/// Reads a file that was begun, and lets it join the order; where it is not read it is given up.
+fn accept_file<D: Files>(
+    alloc: Global,
+    world: &mut World,
+    files: &mut D,
+    by: Origin,
+    name: &str,
+    len: u64,
+    now: Moment,
+    e: u16,
+) -> Result<FileGave, SessionFault>
+    requires symbol { 0 < e }
+    requires told { IsLength (D.contents files.old) name.now len }
+    requires filling { IsFilling world.old name.now len [] }
+    ensures ready { IsReady world.new }
+    ensures profile { IfOk result (λ _. world.new.p ≡ world.old.p) }
+    ensures same { D.contents files.new ≡ D.contents files.old }
+    ensures gave { IfOk result (λ gave. AcceptsFile world.old world.new (D.contents files.old) by name.now len now gave) }
+    ensures stops { IfErr result (λ fault. IsOfFile (D.contents files.old) name.now fault) }
+    ensures cause { FilesCause result (D.fault_count files.old) (D.fault_count files.new) }
+{
+    match read_job(alloc, world, files, name, len, e) {
+        Ok(job) => {
+            let receipt = world.end_file(by, now);
+            Ok(FileGave::Accepted { job, receipt })
+        }
+        Err(fault) => {
+            world.leave_file();
+            Err(fault)
+        }
+    }
+}
+
+/// What is answered of a file that is not begun, by what is given back.
+fn refusal_of(back: Option<Octets>, fault: SendFault) -> Result<FileGave, SessionFault>
+    ensures { result ≡ refusal_of back fault }
+{
+    match back {
+        Some(name) => Ok(FileGave::Refused { name, fault }),
+        None => Err(SessionFault::Memory),
+    }
+}
+
+/// Offers a file to the sender, and reads it where it is not refused by its name and its length.
+fn offer_file<D: Files>(
+    alloc: Global,
+    world: &mut World,
+    files: &mut D,
+    by: Origin,
+    name: &str,
+    len: u64,
+    now: Moment,
+    e: u16,
+) -> Result<FileGave, SessionFault>
+    requires ready { IsReady world.old }
+    requires symbol { 0 < e }
+    requires told { IsLength (D.contents files.old) name.now len }
+    ensures ready { IsReady world.new }
+    ensures profile { IfOk result (λ _. world.new.p ≡ world.old.p) }
+    ensures same { D.contents files.new ≡ D.contents files.old }
+    ensures gave { IfOk result (λ gave. IsFileGave world.old world.new (D.contents files.old) by name.now len now gave) }
+    ensures stops { IfErr result (λ fault. IsOfFile (D.contents files.old) name.now fault) }
+    ensures cause { FilesCause result (D.fault_count files.old) (D.fault_count files.new) }
+{
+    let copy = Octets::of(Vec::from_slice(alloc, name.as_bytes())?);
+    match world.begin_file(copy, len) {
+        Ok(()) => accept_file(alloc, world, files, by, name, len, now, e),
+        Err((back, fault)) => refusal_of(back, fault),
+    }
+}
+
+/// How many octets a symbol has.
+fn symbol_len(profile: &Profile) -> u16
+    ensures { 0 < result }
+{
+    profile.e
+}
+
+impl Run {
+    /// A file that the sender refused by its name and its length is noted, and its line is written. The command waits where there was
+    /// only no room for it.
+    fn note_length<K: Sink>(
+        &mut self,
+        by: Origin,
+        place: usize,
+        name: Octets,
+        len: u64,
+        fault: SendFault,
+        output: &mut K,
+    ) -> Result<(), SessionFault>
+        ensures goes { OnOk result ((line : Command) → Notes self.old self.new place line (event.Length by name len fault) (Err fault)
+            (option_map (no_line by) (reason_of fault)) (K.pieces output.old) (K.pieces output.new)) }
+        ensures stops { IfErr result (λ stop. (line : Command) → StopsNoting self.old stop place line (event.Length by name len fault) (Err fault)
+            (option_map (no_line by) (reason_of fault)) (K.pieces output.old) (K.pieces output.new)) }
+        ensures cause { WriteCause result (K.fault_count output.old) (K.fault_count output.new) }
+    {
+        let has = refusal_line(&mut self.line, by, &fault)?;
+        let gave: Gives = Err(fault);
+        self.waiting = waits_at(place, &gave);
+        self.journal.push_length(by, name, len, fault)?;
+        write_line(has, &self.line, output)
+    }
+
+    /// The command of a file is offered: its length is asked, and its octets are read in pieces where it is accepted.
+    pub(crate) fn give_file<K: Sink, D: Files>(
+        &mut self,
+        line: &Line,
+        name: &Text,
+        place: usize,
+        files: &mut D,
+        output: &mut K,
+    ) -> Result<(), SessionFault>
+        requires { line.now.verb ≡ verb.File name.now }
+        ensures goes { OnOk result ((x : Context) (network : Network) (first : Bool) → x.files ≡ D.contents files.old
+            → IsDue x self.old place line.now first network (K.pieces output.old) → IsTelling x self.new Sending network (K.pieces output.new)) }
+        ensures stops { IfErr result (λ fault. (x : Context) (network : Network) (first : Bool) → x.files ≡ D.contents files.old
+            → IsDue x self.old place line.now first network (K.pieces output.old) → Stopped x fault network (K.pieces output.new)) }
+        ensures same { D.contents files.new ≡ D.contents files.old }
+        ensures cause { CommandCause result (K.fault_count output.old) (K.fault_count output.new) (D.fault_count files.old) (D.fault_count files.new) }
+    {
+        let name = string_of(name)?;
+        let by = origin_of(line);
+        let instance = self.world.sender().instance();
+        let e = symbol_len(&self.profile);
+        let len = length_of(self.alloc, files, name.as_str())?;
+        match offer_file(
+            self.alloc,
+            &mut self.world,
+            files,
+            by,
+            name.as_str(),
+            len,
+            self.now,
+            e,
+        )? {
+            FileGave::Accepted { job, receipt } => {
+                self.note_job(line, place, instance, Some(job), Ok(receipt), output)
+            }
+            FileGave::Refused { name, fault } => {
+                self.note_length(by, place, name, len, fault, output)
+            }
+        }
+    }
+}

@@ -1,0 +1,81 @@
+//! The beginning of a run.
+
+ghost use Rattle.std.specs.Prelude.{◌≡◌, ◌⊎◌, IfOk, IfErr, OnOk, OnErr};
+ghost use Rattle.std.specs.List.{AllByRecursion};
+ghost use Rattle.norm_base.specs.Network.{Network, Starts};
+ghost use Rattle.norm_journal.specs.Draws.{first_draws};
+ghost use Rattle.norm_journal.specs.Jobs.{IsOfObjects};
+ghost use Rattle.norm_journal.specs.Places.{Between};
+ghost use Rattle.norm_session.specs.Causes.{NetworkCause};
+ghost use Rattle.norm_session.specs.Context.{Context};
+ghost use Rattle.norm_session.specs.SoFar.{At};
+ghost use Rattle.norm_session.specs.Starting.{IsBegun};
+
+use crate::fault::SessionFault;
+use crate::run::Run;
+use norm_base::{Fabric, Local, Memory, Moment, Profile};
+use norm_journal::Totals;
+use norm_record::Journal;
+use norm_script::Script;
+use norm_text::Line;
+use norm_world::World;
+use rand_core::SeedableRng;
+use rand_pcg::Lcg64Xsh32;
+use std::alloc::Global;
+
+/// The draws of a session as it begins: their seed is the one after the network's.
+#[tactic(auto, unfolding(norm_journal::specs::Draws::first_draws))]
+fn first_draws(profile: &Profile) -> Lcg64Xsh32
+    ensures { result ≡ first_draws profile.now }
+{
+    Lcg64Xsh32::seed_from_u64(u64::from(profile.chance) + 1)
+}
+
+impl Run {
+    /// A run of the script as it begins, once the network is started.
+    fn begun(alloc: Global, script: &Script) -> Result<Run, Memory>
+        requires { AllByRecursion IsOfObjects script.now.lines }
+        ensures { IfOk result (λ run. (x : Context) (network : Network) → IsBegun x script.now network → At x run Between network x.written) }
+    {
+        let profile = script.profile;
+        let world = World::new(alloc, &profile)?;
+        let mut journal = Journal::new(alloc);
+        journal.push_start()?;
+        let draws = first_draws(&profile);
+        Ok(Run {
+            alloc,
+            profile,
+            world,
+            journal,
+            line: Line::new(alloc),
+            totals: Totals::new(),
+            draws,
+            turn: 0,
+            now: Moment(0),
+            pulled: 0,
+            waiting: None,
+        })
+    }
+
+    /// The network is started with all members, and a run of the script begins.
+    ///
+    /// # Errors
+    ///
+    /// `Fabric` where the network failed, or `Memory`. Then nothing was done.
+    pub fn start<F: Fabric>(
+        alloc: Global,
+        script: &Script,
+        fabric: &mut F,
+    ) -> Result<Run, SessionFault>
+        requires { AllByRecursion IsOfObjects script.now.lines }
+        ensures starts { OnOk result (Starts (F.told fabric.old) (F.told fabric.new) script.now.profile Local.All) }
+        ensures goes { IfOk result (λ run. (x : Context) → IsBegun x script.now (F.told fabric.new) → At x run Between (F.told fabric.new) x.written) }
+        ensures same { OnErr result (F.told fabric.new ≡ F.told fabric.old) }
+        ensures why { IfErr result (λ fault. (fault ≡ SessionFault.Memory) ⊎ (fault ≡ SessionFault.Fabric)) }
+        ensures cause { NetworkCause result (F.fault_count fabric.old) (F.fault_count fabric.new) }
+    {
+        let run = Run::begun(alloc, script)?;
+        fabric.start(&script.profile, Local::All)?;
+        Ok(run)
+    }
+}

@@ -1,0 +1,121 @@
+//! Takes of datagrams from the network, and what comes of them.
+
+ghost use Rattle.std.specs.Prelude.{◌≡◌, ℕ, Some, None, IfOk, IfErr, OnOk};
+ghost use Rattle.norm_base.specs.Network.{Network};
+ghost use Rattle.norm_base.specs.Told.{Pieces};
+ghost use Rattle.norm_journal.specs.Draws.{next_draw, draws_after};
+ghost use Rattle.norm_journal.specs.Places.{Taking};
+ghost use Rattle.norm_session.specs.Causes.{HasCause, NetworkCause, NeedsMemory, counted};
+ghost use Rattle.norm_session.specs.Context.{Context};
+ghost use Rattle.norm_session.specs.SoFar.{At, HasTaken, hands_next};
+ghost use Rattle.norm_session.specs.Stopping.{Stopped};
+ghost use Rattle.norm_session.specs.Taking.{Delivers, GoesOn, StopsAfter};
+
+use crate::fault::SessionFault;
+use crate::run::Run;
+use norm_base::{Datagram, Fabric, NodeId, Sink};
+use rand_core::utils::NextWord;
+use rand_pcg::Lcg64Xsh32;
+
+/// A turn takes at most so many datagrams.
+const MOST_TAKES: u32 = 512;
+
+/// The next draw.
+#[tactic(auto, unfolding(norm_journal::specs::Draws::next_draw, norm_journal::specs::Draws::draws_after))]
+fn next_draw(draws: &mut Lcg64Xsh32) -> u32
+    ensures word { result ≡ next_draw draws.old }
+    ensures rest { draws.new ≡ draws_after draws.old }
+{
+    draws.next_word()
+}
+
+impl Run {
+    /// A datagram comes to a node: to the sender, or to a receiver with the next draw. Any other node gets nothing.
+    fn deliver(&mut self, to: NodeId, bytes: &[u8]) -> Result<(), SessionFault>
+        ensures goes { OnOk result (Delivers self.old self.new to bytes.now) }
+        ensures memory { IfErr result (λ fault. fault ≡ SessionFault.Memory) }
+    {
+        if !self.world.is_member(to) {
+            return Ok(());
+        }
+        if !self.world.is_receiver(to) {
+            self.world.deliver(to, bytes, self.now, 0)?;
+            return Ok(());
+        }
+        let draw = next_draw(&mut self.draws);
+        self.world.deliver(to, bytes, self.now, draw)?;
+        Ok(())
+    }
+
+    /// A datagram was taken, and is delivered.
+    fn take_in(&mut self, to: NodeId, bytes: &[u8]) -> Result<bool, SessionFault>
+        ensures goes { IfOk result (λ took. GoesOn self.old self.new (Some (to, bytes.now)) took) }
+        ensures stops { IfErr result (λ fault. StopsAfter self.old (Some (to, bytes.now)) fault) }
+        ensures cause { NeedsMemory result }
+    {
+        self.deliver(to, bytes)?;
+        self.journal.push_took(to, bytes)?;
+        Ok(true)
+    }
+
+    /// The network had no datagram ready.
+    fn find_none(&mut self) -> Result<bool, SessionFault>
+        ensures goes { IfOk result (λ took. GoesOn self.old self.new None took) }
+        ensures stops { IfErr result (λ fault. StopsAfter self.old None fault) }
+        ensures cause { NeedsMemory result }
+    {
+        self.journal.push_empty()?;
+        Ok(false)
+    }
+
+    /// Takes a datagram from the network, and delivers it. False where the network has none ready.
+    ///
+    /// # Errors
+    ///
+    /// `Fabric` where the network failed, or `Memory`: so also where a receiver gets a datagram of a stream, which none takes in
+    /// yet.
+    pub fn take<F: Fabric>(
+        &mut self,
+        fabric: &mut F,
+        into: &mut Datagram,
+    ) -> Result<bool, SessionFault>
+        ensures goes { IfOk result (λ took. (x : Context) (written : Pieces) (count : ℕ) → At x self.old (Taking count) (F.told fabric.old) written
+            → HasTaken took x self.new count (F.told fabric.new) written) }
+        ensures stops { IfErr result (λ fault. (x : Context) (written : Pieces) (count : ℕ) → At x self.old (Taking count) (F.told fabric.old) written
+            → Stopped x fault (F.told fabric.new) written) }
+        ensures cause { NetworkCause result (F.fault_count fabric.old) (F.fault_count fabric.new) }
+    {
+        match fabric.take(into)? {
+            Some(to) => self.take_in(to, into.bytes()),
+            None => self.find_none(),
+        }
+    }
+
+    /// Datagrams are taken and delivered until the network has none ready or a turn's many were taken. What the sender has to tell is told
+    /// after each.
+    ///
+    /// # Errors
+    ///
+    /// `Write` or `Fabric` where a call failed, or `Memory`.
+    pub fn take_all<F: Fabric, K: Sink>(
+        &mut self,
+        fabric: &mut F,
+        output: &mut K,
+        datagram: &mut Datagram,
+    ) -> Result<(), SessionFault>
+        ensures goes { OnOk result ((x : Context) → At x self.old (Taking 0) (F.told fabric.old) (K.pieces output.old)
+            → At x self.new (hands_next x) (F.told fabric.new) (K.pieces output.new)) }
+        ensures stops { IfErr result (λ fault. (x : Context) → At x self.old (Taking 0) (F.told fabric.old) (K.pieces output.old)
+            → Stopped x fault (F.told fabric.new) (K.pieces output.new)) }
+        ensures cause { (files : ℕ) → HasCause result (counted (K.fault_count output.old) (F.fault_count fabric.old) files)
+            (counted (K.fault_count output.new) (F.fault_count fabric.new) files) }
+    {
+        for _ in 0..MOST_TAKES {
+            if !self.take(fabric, datagram)? {
+                return Ok(());
+            }
+            self.tell_all(output)?;
+        }
+        Ok(())
+    }
+}

@@ -1,0 +1,109 @@
+//! What the sender has to tell: each change joins the journal as it is told, and its line is written.
+
+ghost use Rattle.std.specs.Prelude.{◌≡◌, ◌∷◌, [], ◌++◌, ℕ, IfOk, IfErr, OnOk};
+ghost use Rattle.norm_base.specs.Network.{Network};
+ghost use Rattle.norm_journal.specs.Places.{Place};
+ghost use Rattle.norm_journal.specs.Totals.{with_news};
+ghost use Rattle.norm_journal.specs.declared.event.Event.TheVariants as event;
+ghost use Rattle.norm_send_rules.specs.SenderState.{SenderState};
+ghost use Rattle.norm_sender.specs.SenderKept.{Stands};
+ghost use Rattle.norm_session.specs.Causes.{WriteCause, NeedsMemory};
+ghost use Rattle.norm_session.specs.Context.{Context};
+ghost use Rattle.norm_session.specs.SoFar.{At, IsTelling};
+ghost use Rattle.norm_session.specs.Stopping.{Stopped};
+ghost use Rattle.norm_session.specs.Telling.{HasTold, IsTellingOf, left_by, left_past};
+
+use crate::fault::SessionFault;
+use crate::printing::write_line;
+use crate::run::Run;
+use norm_base::{Memory, NodeId, Sink};
+use norm_journal::news_line;
+use norm_send_rules::News;
+use norm_sender::Sender;
+use std::alloc::Global;
+
+/// A session has at most so many receivers.
+const MOST_RECEIVERS: u32 = 16;
+
+/// The members that are not listed past a watermark, in order.
+fn left_past(alloc: Global, sender: &Sender, mark: u32) -> Result<Vec<NodeId>, Memory>
+    ensures { IfOk result (λ left. (s : SenderState) → Stands sender.now s → left.items ≡ left_past s mark) }
+{
+    let mut left = Vec::new(alloc);
+    for i in 0..MOST_RECEIVERS {
+        let Some(node) = sender.book().pending(mark, i) else {
+            return Ok(left);
+        };
+        left.push(node)?;
+    }
+    Ok(left)
+}
+
+/// The members that a change speaks of as left, in order.
+fn left_by(alloc: Global, sender: &Sender, news: &News) -> Result<Vec<NodeId>, Memory>
+    ensures { IfOk result (λ left. (s : SenderState) → Stands sender.now s → left.items ≡ left_by s news.now) }
+{
+    match news {
+        News::Done { mark, .. } => left_past(alloc, sender, *mark),
+        News::Past { .. } => Ok(Vec::new(alloc)),
+    }
+}
+
+impl Run {
+    /// A change is counted, and joins the journal.
+    fn note_news(&mut self, news: News) -> Result<(), SessionFault>
+        ensures noted { OnOk result (self.new
+            ≡ record self.old { journal = self.old.journal ++ event.News news ∷ []; totals = with_news news self.old.totals }) }
+        ensures cause { NeedsMemory result }
+    {
+        if !self.totals.has_room_for_news(&news) {
+            return Err(SessionFault::Memory);
+        }
+        self.totals.count_news(&news);
+        self.journal.push_news(news)?;
+        Ok(())
+    }
+
+    /// The sender's next change is told, and its line is written. False where none is left, and then nothing was done.
+    ///
+    /// # Errors
+    ///
+    /// `Write` where the write failed, or `Memory`, also where a count has no room.
+    pub fn tell<K: Sink>(&mut self, output: &mut K) -> Result<bool, SessionFault>
+        ensures goes { IfOk result (λ told. (x : Context) (place : Place) (network : Network) (many : ℕ)
+            → IsTellingOf x self.old place network (K.pieces output.old) many → HasTold told x self.new place network (K.pieces output.new) many) }
+        ensures stops { IfErr result (λ fault. (x : Context) (place : Place) (network : Network) (many : ℕ)
+            → IsTellingOf x self.old place network (K.pieces output.old) many → Stopped x fault network (K.pieces output.new)) }
+        ensures cause { WriteCause result (K.fault_count output.old) (K.fault_count output.new) }
+    {
+        let Some(news) = self.world.news() else {
+            return Ok(false);
+        };
+        let left = left_by(self.alloc, self.world.sender(), &news)?;
+        self.note_news(news)?;
+        let instance = self.world.sender().instance();
+        let has = news_line(&mut self.line, instance, &left, &news)?;
+        write_line(has, &self.line, output)?;
+        Ok(true)
+    }
+
+    /// All changes are told that the sender has to tell, each with its line.
+    ///
+    /// # Errors
+    ///
+    /// As of [`tell`](Run::tell).
+    pub fn tell_all<K: Sink>(&mut self, output: &mut K) -> Result<(), SessionFault>
+        ensures goes { OnOk result ((x : Context) (place : Place) (network : Network) → IsTelling x self.old place network (K.pieces output.old)
+            → At x self.new place network (K.pieces output.new)) }
+        ensures stops { IfErr result (λ fault. (x : Context) (place : Place) (network : Network)
+            → IsTelling x self.old place network (K.pieces output.old) → Stopped x fault network (K.pieces output.new)) }
+        ensures cause { WriteCause result (K.fault_count output.old) (K.fault_count output.new) }
+    {
+        for _ in 0..self.world.sender().untold() {
+            if !self.tell(output)? {
+                return Ok(());
+            }
+        }
+        Ok(())
+    }
+}

@@ -1,0 +1,264 @@
+//! Turns of a run, from its beginning to its end.
+
+ghost use Rattle.std.specs.Prelude.{◌≡◌, ◌≤◌, ℕ, ◌==◌, ◌&&◌, ◌||◌, drop, length, nat_le, is_none, slice_get, option_and_then, OnOk, IfErr};
+ghost use Rattle.norm_journal.specs.Judged.{is_done, is_whole};
+ghost use Rattle.norm_journal.specs.Places.{Place, Sending, Taking, Between};
+ghost use Rattle.norm_safety.specs.World.{World as Rules};
+ghost use Rattle.norm_session.specs.Causes.{NeedsMemory, HasCause, counted};
+ghost use Rattle.norm_send_rules.specs.Ticking.{is_idle};
+ghost use Rattle.norm_send_rules.specs.Watermarks.{open_watermarks};
+ghost use Rattle.norm_session.specs.Context.{Context, judged_of};
+ghost use Rattle.norm_session.specs.SoFar.{HasAll, At};
+ghost use Rattle.norm_session.specs.Stopping.{Stopped};
+ghost use Rattle.norm_session.specs.Turning.{IsNextMoment, BeginsTurn, StopsBeginning, OpensTurn, StopsOpening, TakesTurn, StopsTurn, TakesTurns, StopsTurns, span};
+ghost use Rattle.norm_world.specs.WorldKept.{StandsFor};
+
+use crate::fault::SessionFault;
+use crate::run::{Run, sender_node};
+use norm_base::{Clock, Datagram, Fabric, Files, Moment, Profile, Sink};
+use norm_script::Script;
+
+/// The moment of a turn: its number times the profile's step; where the step is 0 the clock's, which does not fall.
+fn moment_of<C: Clock>(turn: u32, step: u32, so_far: Moment, clock: &mut C) -> Moment
+    ensures { IsNextMoment turn step so_far result (C.moments clock.old) (C.moments clock.new) }
+{
+    if step > 0 {
+        return Moment(u64::from(turn) * u64::from(step));
+    }
+    let now = clock.now();
+    if now.0 < so_far.0 { so_far } else { now }
+}
+
+/// The profile's last turn.
+fn last_turn(profile: &Profile) -> u32
+    ensures value { result ≡ profile.now.turns }
+    ensures least { 1 ≤ result }
+{
+    profile.turns
+}
+
+/// Whether all three hold.
+fn all_three(first: bool, second: bool, third: bool) -> bool
+    ensures { result ≡ (first && (second && third)) }
+{
+    first && second && third
+}
+
+/// Whether the first holds, and one of the others.
+fn with_either(first: bool, second: bool, third: bool) -> bool
+    ensures { result ≡ (first && (second || third)) }
+{
+    first && (second || third)
+}
+
+impl Run {
+    /// Whether all of a script's commands were pulled.
+    fn has_pulled_all(&self, script: &Script) -> bool
+        ensures { result ≡ (length (drop self.entry.now.pulled script.now.lines) == 0) }
+    {
+        if self.pulled < script.lines.len() {
+            return false;
+        }
+        true
+    }
+
+    /// Whether none of a script's commands waits.
+    fn has_none_waiting(&self, script: &Script) -> bool
+        ensures { result ≡ is_none (option_and_then (slice_get script.now.lines) self.entry.now.waiting) }
+    {
+        match self.waiting {
+            Some(place) => script.lines.get(place).is_none(),
+            None => true,
+        }
+    }
+
+    /// Whether no watermark is open and the sender is idle.
+    fn is_idle(&self) -> bool
+        ensures { (w : Rules) → StandsFor self.entry.now.world w
+            → result ≡ (length (open_watermarks w.sender) == 0 && is_idle self.entry.now.world.sender.p w.sender) }
+    {
+        let sender = self.world.sender();
+        sender.open_requests() == 0 && sender.idle()
+    }
+
+    /// Whether all commands were pulled, none waits, no watermark is open, and the sender is idle.
+    pub fn is_whole(&self, script: &Script) -> bool
+        ensures { (x : Context) (w : Rules) (place : Place) → HasAll x self.entry.now → x.script ≡ script.now → StandsFor self.entry.now.world w
+            → result ≡ is_whole (judged_of x self.entry.now w place) }
+    {
+        let pulled = self.has_pulled_all(script);
+        let none = self.has_none_waiting(script);
+        let idle = self.is_idle();
+        all_three(pulled, none, idle)
+    }
+
+    /// Whether the profile's last turn was done.
+    fn is_last(&self) -> bool
+        ensures { result ≡ (self.entry.now.turn == self.entry.now.p.turns) }
+    {
+        self.turn == self.profile.turns
+    }
+
+    /// Whether a turn was done.
+    fn has_turned(&self) -> bool
+        ensures { result ≡ nat_le 1 self.entry.now.turn }
+    {
+        1 <= self.turn
+    }
+
+    /// Whether the last turn was done: the first at which the run is whole, or the profile's last.
+    pub fn is_done(&self, script: &Script) -> bool
+        ensures { (x : Context) (w : Rules) (place : Place) → HasAll x self.entry.now → x.script ≡ script.now → StandsFor self.entry.now.world w
+            → result ≡ is_done (judged_of x self.entry.now w place) }
+    {
+        let turned = self.has_turned();
+        let whole = self.is_whole(script);
+        let last = self.is_last();
+        with_either(turned, whole, last)
+    }
+
+    // Proof: a number of the profile, read by itself.
+    fn step(&self) -> u32
+        ensures { result ≡ self.entry.now.p.step }
+    {
+        self.profile.step
+    }
+
+    /// The next turn begins, at its moment.
+    ///
+    /// # Errors
+    ///
+    /// `Memory` where memory runs out.
+    pub fn begin_turn<C: Clock>(&mut self, clock: &mut C) -> Result<(), SessionFault>
+        ensures goes { OnOk result (BeginsTurn self.old self.new (C.moments clock.old) (C.moments clock.new)) }
+        ensures stops { IfErr result (λ fault. StopsBeginning self.old fault (C.moments clock.old) (C.moments clock.new)) }
+        ensures cause { NeedsMemory result }
+    {
+        let Some(turn) = self.turn.checked_add(1) else {
+            return Err(SessionFault::Memory);
+        };
+        let step = self.step();
+        let moment = moment_of(turn, step, self.now, clock);
+        self.journal.push_turn(turn, moment)?;
+        self.turn = turn;
+        self.now = moment;
+        Ok(())
+    }
+
+    /// A turn begins with its command, and what that made to be told is told.
+    fn open_turn<K: Sink, D: Files, C: Clock>(
+        &mut self,
+        script: &Script,
+        output: &mut K,
+        files: &mut D,
+        clock: &mut C,
+    ) -> Result<(), SessionFault>
+        ensures goes { OnOk result (OpensTurn script.now (D.contents files.old) self.old self.new
+            (K.pieces output.old) (K.pieces output.new) (C.moments clock.old) (C.moments clock.new)) }
+        ensures stops { IfErr result (λ fault. StopsOpening script.now (D.contents files.old) self.old fault
+            (K.pieces output.old) (K.pieces output.new) (C.moments clock.old) (C.moments clock.new)) }
+        ensures same { D.contents files.new ≡ D.contents files.old }
+        ensures cause { (network : ℕ) → HasCause result (counted (K.fault_count output.old) network (D.fault_count files.old))
+            (counted (K.fault_count output.new) network (D.fault_count files.new)) }
+    {
+        self.begin_turn(clock)?;
+        self.command(script, files, output)?;
+        self.tell_all(output)?;
+        Ok(())
+    }
+
+    /// The sender ticks, what it has to tell is told, and what it sent is offered.
+    fn send<F: Fabric, K: Sink>(
+        &mut self,
+        fabric: &mut F,
+        output: &mut K,
+        datagram: &mut Datagram,
+    ) -> Result<(), SessionFault>
+        ensures goes { OnOk result ((x : Context) → At x self.old Sending (F.told fabric.old) (K.pieces output.old)
+            → At x self.new (Taking 0) (F.told fabric.new) (K.pieces output.new)) }
+        ensures stops { IfErr result (λ fault. (x : Context) → At x self.old Sending (F.told fabric.old) (K.pieces output.old)
+            → Stopped x fault (F.told fabric.new) (K.pieces output.new)) }
+        ensures cause { (files : ℕ) → HasCause result (counted (K.fault_count output.old) (F.fault_count fabric.old) files)
+            (counted (K.fault_count output.new) (F.fault_count fabric.new) files) }
+    {
+        let node = sender_node(&self.profile);
+        let sent = self.tick_sender(datagram)?;
+        self.tell_all(output)?;
+        self.offer_sent(fabric, node, sent, datagram)?;
+        Ok(())
+    }
+
+    /// What a turn does with the network: the sender's tick, the takes, and the receivers' parts.
+    fn exchange<F: Fabric, K: Sink>(
+        &mut self,
+        fabric: &mut F,
+        output: &mut K,
+        datagram: &mut Datagram,
+    ) -> Result<(), SessionFault>
+        ensures goes { OnOk result ((x : Context) → At x self.old Sending (F.told fabric.old) (K.pieces output.old)
+            → At x self.new Between (F.told fabric.new) (K.pieces output.new)) }
+        ensures stops { IfErr result (λ fault. (x : Context) → At x self.old Sending (F.told fabric.old) (K.pieces output.old)
+            → Stopped x fault (F.told fabric.new) (K.pieces output.new)) }
+        ensures cause { (files : ℕ) → HasCause result (counted (K.fault_count output.old) (F.fault_count fabric.old) files)
+            (counted (K.fault_count output.new) (F.fault_count fabric.new) files) }
+    {
+        self.send(fabric, output, datagram)?;
+        self.take_all(fabric, output, datagram)?;
+        self.serve_all(fabric, output, datagram)?;
+        Ok(())
+    }
+
+    /// One turn.
+    fn turn<K: Sink, F: Fabric, D: Files, C: Clock>(
+        &mut self,
+        script: &Script,
+        output: &mut K,
+        fabric: &mut F,
+        files: &mut D,
+        clock: &mut C,
+        datagram: &mut Datagram,
+    ) -> Result<(), SessionFault>
+        ensures goes { OnOk result (TakesTurn script.now (D.contents files.old) self.old self.new
+            (span (F.told fabric.old) (F.told fabric.new) (K.pieces output.old) (K.pieces output.new) (C.moments clock.old) (C.moments clock.new))) }
+        ensures stops { IfErr result (λ fault. StopsTurn script.now (D.contents files.old) self.old fault
+            (span (F.told fabric.old) (F.told fabric.new) (K.pieces output.old) (K.pieces output.new) (C.moments clock.old) (C.moments clock.new))) }
+        ensures same { D.contents files.new ≡ D.contents files.old }
+        ensures cause { HasCause result (counted (K.fault_count output.old) (F.fault_count fabric.old) (D.fault_count files.old))
+            (counted (K.fault_count output.new) (F.fault_count fabric.new) (D.fault_count files.new)) }
+    {
+        self.open_turn(script, output, files, clock)?;
+        self.exchange(fabric, output, datagram)?;
+        Ok(())
+    }
+
+    /// All turns: to the first at which the run is whole, or to the profile's last.
+    ///
+    /// # Errors
+    ///
+    /// `Write`, `Fabric` or `Files` where a call failed, `Absent` where a command's file is not there, or `Memory`.
+    pub fn turns<K: Sink, F: Fabric, D: Files, C: Clock>(
+        &mut self,
+        script: &Script,
+        output: &mut K,
+        fabric: &mut F,
+        files: &mut D,
+        clock: &mut C,
+        datagram: &mut Datagram,
+    ) -> Result<(), SessionFault>
+        ensures goes { OnOk result (TakesTurns script.now (D.contents files.old) self.old self.new
+            (span (F.told fabric.old) (F.told fabric.new) (K.pieces output.old) (K.pieces output.new) (C.moments clock.old) (C.moments clock.new))) }
+        ensures stops { IfErr result (λ fault. StopsTurns script.now (D.contents files.old) self.old fault
+            (span (F.told fabric.old) (F.told fabric.new) (K.pieces output.old) (K.pieces output.new) (C.moments clock.old) (C.moments clock.new))) }
+        ensures same { D.contents files.new ≡ D.contents files.old }
+        ensures cause { HasCause result (counted (K.fault_count output.old) (F.fault_count fabric.old) (D.fault_count files.old))
+            (counted (K.fault_count output.new) (F.fault_count fabric.new) (D.fault_count files.new)) }
+    {
+        for _ in 0..last_turn(&script.profile) {
+            if self.is_done(script) {
+                return Ok(());
+            }
+            self.turn(script, output, fabric, files, clock, datagram)?;
+        }
+        Ok(())
+    }
+}

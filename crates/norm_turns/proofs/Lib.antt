@@ -1,4 +1,0 @@
-pub mod SoFarLemmas
-pub mod SendingLemmas
-pub mod TakingLemmas
-pub mod EndingLemmas

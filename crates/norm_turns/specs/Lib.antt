@@ -1,6 +1,0 @@
-pub mod RunKept
-pub mod Context
-pub mod SoFar
-pub mod Stopping
-pub mod Causes
-pub mod Taking
