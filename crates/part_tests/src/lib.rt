@@ -11,4 +11,6 @@ mod obj_buffer_tests;
 #[cfg(test)]
 mod rx_hold_tests;
 #[cfg(test)]
+mod stream_buffer_tests;
+#[cfg(test)]
 mod tx_window_tests;

@@ -1,0 +1,4 @@
+pub mod RowsState
+pub mod StreamState
+pub mod StreamMoves
+pub mod StreamSound

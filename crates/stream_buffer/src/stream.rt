@@ -1,0 +1,325 @@
+//! The open stream of a sender.
+
+ghost use Rattle.std.specs.Prelude.{ℕ, true, false, None, List, [], ◌∷◌, ◌≡◌, ◌<◌, ◌≤◌, ◌+◌, ◌-◌, ◌*◌, ◌++◌, IfOk, OnErr, OnOk, MatchOption, Ok, Err, length, take, drop, min, max, slice_get};
+ghost use Rattle.std.specs.Int.{div_ceil};
+ghost use Rattle.std.specs.List.{concat};
+ghost use Rattle.norm_base.specs.Octets.{AreOctets};
+ghost use Rattle.obj_buffer.specs.Pieces.{AppendsSymbol};
+ghost use Rattle.norm_base.specs.Sizes.{datagram_room};
+ghost use Rattle.norm_base.specs.Settings.{Settings};
+ghost use Rattle.norm_base.specs.declared.node.Origin.{Origin};
+ghost use Rattle.fec_plan.specs.Partition.{place_octets};
+ghost use Rattle.norm_order.specs.Entries.{Part, Write, End};
+ghost use Rattle.stream_buffer.specs.StreamState.{StreamState, StandsFor, Answers, empty_stream, kept_from, closed_segments, with_cut, is_there, octets_of, sent_of, block_code, rows_of_block};
+ghost use Rattle.stream_buffer.specs.StreamMoves.{with_octets, cut_here, ended_here, kept_for, from_block, room_fault};
+
+use crate::rows::Rows;
+use fec_plan::Plan;
+use norm_base::{Datagram, Memory, Profile};
+use norm_send_rules::StreamFault;
+use rs_block::Code;
+use std::alloc::Global;
+use std::marker::Model;
+
+/// The octets of a segment's place, which stand before its own.
+const PLACE: usize = 8;
+
+/// The most octets of a segment as it is coded.
+const MOST_CODED: usize = 1408;
+
+/// The most blocks that 24 bits name.
+const MOST_BLOCKS: u64 = 16_777_216;
+
+/// An open stream: the segments of its last blocks, the octets of the segment that fills, and the code of its blocks.
+///
+/// [`write`](StreamBuf::write) and [`cut`](StreamBuf::cut) come in any order, and [`close`](StreamBuf::close) once behind
+/// them. A segment's symbol is there once it is closed: it is full, or was cut, or is the end. All memory is taken by
+/// [`new`](StreamBuf::new).
+#[derive(Debug, Drop)]
+pub struct StreamBuf {
+    code: Code,
+    rows: Rows,
+    /// Octets of a segment.
+    e: u16,
+    /// Segments of a block.
+    b: u8,
+    /// Encoding symbols of a block.
+    max_n: u8,
+    /// How many blocks there is room for.
+    blocks: u16,
+    /// The first block that was not given up.
+    first: u32,
+    /// How many octets were written.
+    octets: u32,
+    ended: bool,
+}
+
+impl Model for StreamBuf {
+    ghost use Rattle.stream_buffer.specs.StreamState.{StreamState};
+    ghost use Rattle.stream_buffer.specs.StreamSound.{stream_view, StreamSound};
+
+    ghost Value = { StreamState };
+
+    ghost view = { stream_view };
+
+    ghost invariant = { StreamSound };
+}
+
+impl StreamBuf {
+    /// A stream to which nothing was written. Its room is the profile's `blocks` blocks of `b` segments.
+    ///
+    /// # Errors
+    ///
+    /// `Memory` where memory runs out.
+    pub fn new(alloc: Global, profile: &Profile) -> Result<StreamBuf, Memory>
+        ensures empty { IfOk result (λ stream. stream ≡ empty_stream profile.now) }
+        ensures stands { IfOk result (λ stream. StandsFor profile.now [] stream) }
+    {
+        let size = usize::from(profile.e) + PLACE;
+        let room = usize::from(profile.blocks) * usize::from(profile.b);
+        let code = Code::new(alloc, profile.b, profile.max_n)?;
+        let rows = Rows::new(alloc, size, room)?;
+        Ok(StreamBuf {
+            code,
+            rows,
+            e: profile.e,
+            b: profile.b,
+            max_n: profile.max_n,
+            blocks: profile.blocks,
+            first: 0,
+            octets: 0,
+            ended: false,
+        })
+    }
+
+    /// How the stream is cut.
+    pub fn plan(&self) -> Plan
+        ensures exact { result ≡ self.now.cut }
+        ensures stream { self.now.cut.l ≡ None }
+    {
+        Plan::stream(self.e, self.b, self.max_n).unwrap()
+    }
+
+    /// The first block that was not given up.
+    pub fn first_block(&self) -> u32
+        ensures { result ≡ self.now.first }
+    {
+        self.first
+    }
+
+    /// How many segments were closed so far.
+    pub fn segments(&self) -> u32
+        ensures { result ≡ closed_segments self.now }
+    {
+        self.rows.closed() as u32
+    }
+
+    /// How many octets were written so far.
+    pub fn octets(&self) -> u32
+        ensures { result ≡ self.now.octets }
+    {
+        self.octets
+    }
+
+    /// Adds octets to the segment that fills, and closes it where it is full.
+    fn fill(&mut self, piece: &[u8])
+        requires free { length self.old.rows < self.old.blocks * self.old.cut.b }
+        requires named { closed_segments self.old < 16777216 * self.old.cut.b }
+        requires fits { length self.old.filling + length piece.now ≤ self.old.cut.e }
+        requires few { self.old.octets + length piece.now ≤ 4294967295 }
+        requires open { self.old.ended ≡ false }
+        ensures { self.new ≡ with_octets piece.now self.old }
+    {
+        self.rows.fill(piece);
+        self.octets += piece.len() as u32;
+        if self.rows.filled() == usize::from(self.e) {
+            self.rows.seal(self.octets - u32::from(self.e));
+        }
+    }
+
+    /// Writes octets for which there is room.
+    fn pour(&mut self, bytes: &[u8])
+        requires free { length self.old.rows + div_ceil (length self.old.filling + length bytes.now) self.old.cut.e ≤ self.old.blocks * self.old.cut.b }
+        requires named { closed_segments self.old + div_ceil (length self.old.filling + length bytes.now) self.old.cut.e ≤ 16777216 * self.old.cut.b }
+        requires few { self.old.octets + length bytes.now ≤ 4294967295 }
+        requires open { self.old.ended ≡ false }
+        ensures { self.new ≡ with_octets bytes.now self.old }
+    {
+        let mut rest = bytes;
+        'rest: while !rest.is_empty() {
+            let free = usize::from(self.e) - self.rows.filled();
+            let (piece, behind) = rest.split_at(free.min(rest.len()));
+            self.fill(piece);
+            rest = behind;
+        }
+        // Proof: what is kept is looked at, and with it that it is sound.
+        let _ = &self.rows;
+    }
+
+    /// Makes room for so many segments, of which those are that the stream has.
+    #[tactic(auto, unfolding(norm_order::specs::First::first_where))]
+    fn make_room(&mut self, used: u64, may_go: u32) -> Result<(), StreamFault>
+        requires closed { may_go * self.old.cut.b ≤ closed_segments self.old }
+        requires more { closed_segments self.old + min 1 (length self.old.filling) ≤ used }
+        ensures { MatchOption (room_fault self.old used may_go)
+            ((result ≡ Ok tt) × (self.new ≡ from_block (kept_for self.old used) self.old))
+            (λ fault. (result ≡ Err fault) × (self.new ≡ self.old)) }
+    {
+        let b = u64::from(self.b);
+        if used > MOST_BLOCKS * b {
+            return Err(StreamFault::Spent {
+                octets: self.octets,
+            });
+        }
+        let least = used.div_ceil(b).saturating_sub(u64::from(self.blocks)) as u32;
+        if least > self.first.max(may_go) {
+            return Err(StreamFault::Full { first: self.first });
+        }
+        self.first = self.first.max(least);
+        self.rows.give_up(self.first as usize * usize::from(self.b));
+        Ok(())
+    }
+
+    /// Writes octets, at least one, and answers the offset of the first. Blocks below `may_go`, whose segments are all
+    /// closed, may be given up for room, oldest first and no more than needed. It takes no memory.
+    ///
+    /// # Errors
+    ///
+    /// `Closed` after [`close`](StreamBuf::close); `Spent` where the stream would have more octets than 32 bits count, or
+    /// more segments than 2^24 blocks; `Full` where there is no room, also if every block below `may_go` went. Nothing
+    /// changes then.
+    pub fn write(&mut self, bytes: &[u8], may_go: u32) -> Result<u32, StreamFault>
+        requires some { 1 ≤ length bytes.now }
+        requires closed { may_go * self.old.cut.b ≤ closed_segments self.old }
+        ensures answer { (p : Settings) (parts : List Part) (by : Origin) → StandsFor p parts self.old
+            → Answers p parts (Write by bytes.now ∷ []) may_go self.old.octets self.old self.new result }
+        ensures refused { OnErr result (self.new ≡ self.old) }
+    {
+        if self.ended {
+            return Err(StreamFault::Closed);
+        }
+        let offset = self.octets;
+        if bytes.len() as u64 > u64::from(u32::MAX - offset) {
+            return Err(StreamFault::Spent { octets: offset });
+        }
+        let segments = (self.rows.filled() + bytes.len()).div_ceil(usize::from(self.e));
+        let used = (self.rows.closed() + segments) as u64;
+        match self.make_room(used, may_go) {
+            Err(fault) => Err(fault),
+            Ok(()) => {
+                self.pour(bytes);
+                Ok(offset)
+            }
+        }
+    }
+
+    /// Closes the segment that fills, where it holds octets.
+    pub fn cut(&mut self)
+        ensures cut { (p : Settings) (parts : List Part) → StandsFor p parts self.old → StandsFor p (with_cut p.e parts) self.new }
+        ensures first { self.new.first ≡ self.old.first }
+        ensures exact { self.new ≡ cut_here self.old }
+    {
+        let filled = self.rows.filled();
+        if filled > 0 {
+            self.rows.seal(self.octets - filled as u32);
+        }
+    }
+
+    /// Ends the stream, for which there is room: closes the segment that fills, and adds one of no octets.
+    fn end(&mut self)
+        requires short { length self.old.filling < self.old.cut.e }
+        requires counted { length self.old.filling ≤ self.old.octets }
+        requires free { length self.old.rows + min 1 (length self.old.filling) + 1 ≤ self.old.blocks * self.old.cut.b }
+        requires named { closed_segments self.old + min 1 (length self.old.filling) + 1 ≤ 16777216 * self.old.cut.b }
+        ensures { self.new ≡ ended_here self.old }
+    {
+        self.cut();
+        self.rows.seal(self.octets);
+        self.ended = true;
+    }
+
+    /// Ends the stream: closes the segment that fills, where it holds octets, and adds one of no octets. `may_go` is as
+    /// in [`write`](StreamBuf::write). It takes no memory.
+    ///
+    /// # Errors
+    ///
+    /// As in [`write`](StreamBuf::write).
+    pub fn close(&mut self, may_go: u32) -> Result<(), StreamFault>
+        requires closed { may_go * self.old.cut.b ≤ closed_segments self.old }
+        ensures answer { (p : Settings) (parts : List Part) → StandsFor p parts self.old
+            → Answers p parts (End ∷ []) may_go tt self.old self.new result }
+        ensures refused { OnErr result (self.new ≡ self.old) }
+    {
+        if self.ended {
+            return Err(StreamFault::Closed);
+        }
+        let filling = self.rows.filled().min(1);
+        let used = (self.rows.closed() + filling + 1) as u64;
+        match self.make_room(used, may_go) {
+            Err(fault) => Err(fault),
+            Ok(()) => {
+                self.end();
+                Ok(())
+            }
+        }
+    }
+
+    /// Adds a source symbol: a segment's place and its octets.
+    fn push_segment(&self, number: usize, out: &mut Datagram)
+        requires from { kept_from self.now ≤ number }
+        requires to { number < closed_segments self.now }
+        requires room { length out.old + self.now.cut.e + place_octets ≤ datagram_room }
+        ensures { MatchOption (slice_get self.now.rows (number - kept_from self.now)) ⊥ (λ row. out.new ≡ out.old ++ sent_of row) }
+    {
+        let row = self.rows.row(number);
+        let len = PLACE + usize::from(u16::from_be_bytes([row[0], row[1]]));
+        out.push(row.split_at(len.min(row.len())).0);
+    }
+
+    /// Adds a parity symbol of a block whose segments are all closed.
+    fn push_parity(&self, block: u32, symbol: u8, out: &mut Datagram)
+        requires from { self.now.first ≤ block }
+        requires to { block * self.now.cut.b + self.now.cut.b ≤ closed_segments self.now }
+        requires parity { self.now.cut.b ≤ symbol }
+        requires encoded { symbol < self.now.cut.max_n }
+        requires room { length out.old + self.now.cut.e + place_octets ≤ datagram_room }
+        ensures symbol { AppendsSymbol (block_code self.now) (self.now.cut.e + place_octets) (concat (rows_of_block self.now block)) symbol out.old out.new }
+        ensures octets { AreOctets (concat (rows_of_block self.now block)) }
+    {
+        let b = usize::from(self.b);
+        let size = usize::from(self.e) + PLACE;
+        let sources = self.rows.run(block as usize * b, b);
+        let mut room = [0; MOST_CODED];
+        let parity = &mut room[..size];
+        self.code.parity(sources, size, symbol, parity);
+        out.push(parity);
+    }
+
+    /// Adds a symbol of the stream, and answers whether it is there: its block was not given up, and its segment is
+    /// closed, or of a parity symbol all segments of its block are. It takes no memory.
+    pub fn symbol(&self, block: u32, symbol: u8, out: &mut Datagram) -> bool
+        requires symbol { symbol < self.now.cut.max_n }
+        requires room { length out.old + self.now.cut.e + place_octets ≤ datagram_room }
+        ensures { (p : Settings) (parts : List Part) → StandsFor p parts self.now
+            → (result ≡ is_there p parts self.now.first block symbol) × (out.new ≡ out.old ++ octets_of p parts self.now.first block symbol) }
+    {
+        let b = usize::from(self.b);
+        let number = block as usize * b;
+        if block < self.first {
+            return false;
+        }
+        if symbol < self.b {
+            let number = number + usize::from(symbol);
+            if number >= self.rows.closed() {
+                return false;
+            }
+            self.push_segment(number, out);
+            return true;
+        }
+        if number + b > self.rows.closed() {
+            return false;
+        }
+        self.push_parity(block, symbol, out);
+        true
+    }
+}
