@@ -1,5 +1,5 @@
-//! The program over objects in memory: what it leaves where one call fails, the datagram of a session, and its lines over a
-//! network that is not honest. What it prints for a script or a datagram where nothing fails is in checks/program.sh.
+//! The program over objects in memory: what it leaves where one call fails, the datagram of a session, its lines of files, and its
+//! lines over a network that is not honest. What it prints for a script or a datagram where nothing fails is in checks/program.sh.
 
 use crate::disturbed::DisturbedFabric;
 use norm_base::{Fabric, Sink, Source};
@@ -215,9 +215,83 @@ const GREETING: &[u8] = b"set instance 7\nset e 64\nset b 4\n1 data 68656c6c6f\n
 const GREETED: &[u8] =
     b"enq 1 1 7 0 data 5\nup 2 7 0 data 5 - 68656c6c6f\nend objects 1 octets 5 handed 1 lost 0 satisfied 0 expired 0 cut 0\n";
 
-/// Its lines where the receiver handed up nothing.
-const UNHEARD: &[u8] =
-    b"enq 1 1 7 0 data 5\nend objects 1 octets 5 handed 0 lost 0 satisfied 0 expired 0 cut 0\n";
+/// A script's files, by name, the call of them that fails, and the status with the lines.
+type Filed = (
+    &'static [u8],
+    &'static str,
+    &'static [u8],
+    Option<u64>,
+    &'static [u8],
+);
+
+/// Scripts of one file.
+const FILES: [Filed; 4] = [
+    (
+        b"set instance 7\nset e 64\nset b 4\n1 file a.txt\n",
+        "a.txt",
+        b"hi",
+        None,
+        b"0\nenq 1 1 7 0 file 2\nup 2 7 0 file 2 612e747874 6869\nend objects 1 octets 2 handed 1 lost 0 satisfied 0 expired 0 cut 0\n",
+    ),
+    (
+        b"1 data 61\n1 file none.txt\n1 data 62\n",
+        "a.txt",
+        b"hi",
+        None,
+        b"7\nenq 1 1 1 0 data 1\nup 2 1 0 data 1 - 61\nabsent none.txt\n",
+    ),
+    (
+        b"1 file empty\n",
+        "empty",
+        b"",
+        None,
+        b"0\nno 1 1 empty\nend objects 0 octets 0 handed 0 lost 0 satisfied 0 expired 0 cut 0\n",
+    ),
+    (
+        b"1 data 61\n1 file a.txt\n1 data 62\n",
+        "a.txt",
+        b"hi",
+        Some(1),
+        b"7\nenq 1 1 1 0 data 1\nup 2 1 0 data 1 - 61\nfault files\n",
+    ),
+];
+
+/// The status of a session with a file, and on the lines below what was written.
+fn filed<R: Threads + Wait + Sync>(rt: &R, alloc: Global, row: Filed) -> Result<Vec<u8>, Fail> {
+    let (script, name, octets, failing, _) = row;
+    let words = vec![in alloc; String::from_str(alloc, "session")?]?;
+    let mut input = source(alloc, script, Fails::Nothing)?;
+    let mut output = sink(alloc, Fails::Nothing)?;
+    let mut fabric = network(alloc, Fails::Nothing)?;
+    let file = (
+        String::from_str(alloc, name)?,
+        Vec::from_slice(alloc, octets)?,
+    );
+    let mut files = MemFiles::of(vec![in alloc; file]?, list(alloc, failing)?);
+    let mut clock = MemClock::of(Vec::new(alloc));
+    let status = status_of(
+        rt,
+        alloc,
+        &words,
+        &mut input,
+        &mut output,
+        &mut fabric,
+        &mut files,
+        &mut clock,
+    );
+    let mut left = format!(in alloc; "{}\n", status.code())?.into_bytes();
+    left.extend_from_slice(output.bytes())?;
+    Ok(left)
+}
+
+#[test]
+fn a_file_is_sent_or_ends_the_session(rt: HostRuntime) -> Result<(), Fail> {
+    for (number, row) in FILES.into_iter().enumerate() {
+        let left = filed(&rt, rt.alloc(), row)?;
+        assert!(rt; left.as_slice() == row.4, "row {number}");
+    }
+    Ok(())
+}
 
 /// The one datagram that a network has, behind the octet of who offered it, or nothing.
 fn only_datagram(alloc: Global, fabric: &ListFabric) -> Result<Vec<u8>, AllocError> {
@@ -258,8 +332,26 @@ fn disturbed<R: Threads + Wait + Sync + Abort>(
     let mut output = sink(alloc, Fails::Nothing)?;
     let mut fabric = DisturbedFabric::of(alloc, Vec::from_slice(alloc, order)?, turned);
     let status = ran(rt, alloc, "session", &mut input, &mut output, &mut fabric)?;
-    assert!(rt; status == 0);
+    // A datagram of a stream, which one turned octet makes, stops a session.
+    assert!(rt; status == 0 || turned == Some(FLAGS) && status == 1);
     Ok(output)
+}
+
+/// The greeting's script with a window of 1,024 octets, which takes less memory.
+const SMALL: &[u8] =
+    b"set instance 7\nset e 64\nset b 4\nset octets 1024\nset blocks 2\n1 data 68656c6c6f\n";
+
+/// The place of a datagram's flags.
+const FLAGS: usize = 12;
+
+/// Whether each object of these lines that was handed up is the five octets of the greeting.
+fn hands_up_greetings(lines: &[u8]) -> bool {
+    for line in lines.split(|octet| *octet == b'\n') {
+        if line.starts_with(b"up ") && !line.ends_with(b" 5 - 68656c6c6f") {
+            return false;
+        }
+    }
+    true
 }
 
 /// Orders in which two datagrams are given, and the lines of their script.
@@ -287,12 +379,11 @@ fn what_comes_twice_or_late_is_handed_up_once_in_order(rt: HostRuntime) -> Resul
 #[test]
 fn an_octet_changed_in_a_header_changes_no_octet_of_an_object(rt: HostRuntime) -> Result<(), Fail> {
     for place in 0..32usize {
-        let output = disturbed(&rt, rt.alloc(), GREETING, &[0], Some(place))?;
+        let output = disturbed(&rt, rt.alloc(), SMALL, &[0], Some(place))?;
+        // Nothing is decided by the sequence number.
         let is_known = match place {
-            // nothing is decided by the sequence number, and an object of another id is another object
             2 | 3 => output.bytes() == GREETED,
-            9 | 15 => output.bytes() == UNHEARD,
-            _ => output.bytes() == GREETED || output.bytes() == UNHEARD,
+            _ => hands_up_greetings(output.bytes()),
         };
         assert!(rt; is_known, "octet {place}");
     }

@@ -1,12 +1,9 @@
 //! A journal that keeps each octet once: each call once with ample memory, and with the largest object.
 
 use norm_base::{InstanceId, Kind, Memory, Moment, NodeId, Octets, Origin, Sent};
-use norm_journal::Totals;
 use norm_order::Up;
-use norm_record::{Before, Journal, Seen, write_line};
-use norm_script::Verb;
+use norm_record::{Journal, Seen};
 use norm_send_rules::{EnqueueFault, Job, News, Outcome, Receipt, SendFault};
-use norm_text::Line;
 use std::alloc::Global;
 use std::test::Fail;
 
@@ -188,50 +185,6 @@ fn octets_are_kept_once(rt: HostRuntime) -> Result<(), Fail> {
     Ok(())
 }
 
-/// Whether the event at a place has this line; an empty one stands for none.
-fn has_line(line: &mut Line, journal: &Journal, i: usize, text: &[u8]) -> bool {
-    if i >= journal.len() {
-        return false;
-    }
-    let before = Before {
-        instance: InstanceId(7),
-        verb: Some(&Verb::Open),
-        left: &[],
-        totals: &Totals::new(),
-    };
-    match write_line(line, journal, i, &before) {
-        Ok(true) => line.bytes() == text,
-        Ok(false) => text.is_empty(),
-        Err(_) => false,
-    }
-}
-
-#[test]
-fn events_have_their_lines(rt: HostRuntime) -> Result<(), Fail> {
-    let Ok(journal) = all_kinds(rt.alloc()) else {
-        return Err("no memory")?;
-    };
-    let rows: [(usize, &[u8]); 9] = [
-        (0, b""),
-        (3, b"enq 3 12 7 4 open\n"),
-        (4, b"no 3 12 too-big 600\n"),
-        (6, b""),
-        (7, b""),
-        (10, b"up 2 7 2 data 5 - 68656c6c6f\n"),
-        (11, b"up 3 7 2 data 5 - 68656c6c6f\n"),
-        (12, b"done 6 satisfied\n"),
-        (
-            13,
-            b"end objects 0 octets 0 handed 0 lost 0 satisfied 0 expired 0 cut 0\n",
-        ),
-    ];
-    let mut line = Line::new(rt.alloc());
-    for (i, text) in rows {
-        assert!(rt; has_line(&mut line, &journal, i, text), "event {i}");
-    }
-    Ok(())
-}
-
 /// Pushes that a node handed up the largest object.
 fn push_largest(alloc: Global, journal: &mut Journal, n: u32) -> Result<(), Memory> {
     let node = node_of(n)?;
@@ -246,21 +199,17 @@ fn push_largest(alloc: Global, journal: &mut Journal, n: u32) -> Result<(), Memo
     journal.push_up(node, InstanceId(7), up)
 }
 
-/// How long the line of the largest object is, which two receivers hand up.
+/// How often the largest object is kept, which two receivers hand up.
 fn largest(alloc: Global) -> Result<usize, Memory> {
     let mut journal = Journal::new(alloc);
     for n in [2u32, 3] {
         push_largest(alloc, &mut journal, n)?;
     }
-    let mut line = Line::new(alloc);
-    if has_line(&mut line, &journal, 1, b"") {
-        return Ok(0);
-    }
-    Ok(line.bytes().len())
+    Ok(journal.hand_ups())
 }
 
 #[test]
-fn the_largest_object_is_kept(rt: HostRuntime) -> Result<(), Fail> {
-    assert!(rt; largest(rt.alloc()) == Ok(33_554_432 + 26));
+fn the_largest_object_is_kept_once(rt: HostRuntime) -> Result<(), Fail> {
+    assert!(rt; largest(rt.alloc()) == Ok(1));
     Ok(())
 }

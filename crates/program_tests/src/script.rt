@@ -164,9 +164,9 @@ const REASONS: [(&[u8], Extent, &str); 6] = [
         "line 1: contents are an even number of hexadecimal digits, 2 to 16384",
     ),
     (
-        b"set e 64\n1 data 0001020304050607080900010203040506070809000102030405060708090001020304050607080900010203040506070809000102030405060708090001020304",
+        b"set producers 2\n2 file a.txt\n2 mark 1\n1 open",
         Extent::Built,
-        "line 2: the object has 65 octets, and a symbol 64",
+        "line 4: a session does not run open, write and close yet",
     ),
 ];
 
