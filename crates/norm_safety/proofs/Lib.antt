@@ -47,6 +47,9 @@ pub mod ClosingLemmas
 pub mod AckHanded
 pub mod Owing
 pub mod SaidRun
+pub mod LowNeeds
+pub mod LowKnown
+pub mod InTime
 pub mod CreditLemmas
 pub mod MetLemmas
 pub mod SatisfiedRun

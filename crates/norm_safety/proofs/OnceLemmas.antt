@@ -1,9 +1,9 @@
 -- Origins and ids that differ go on to differ; an accepted object stands at its place, and stays there.
-use Rattle.std.proofs.Common.{◌≡◌, ◌<◌, ◌≤◌, ℕ, List, [], ◌∷◌, ◌++◌, Bool, true, false, refl, sym, ap, ◌∙◌, subst, arith, inl, inr}
+use Rattle.std.proofs.Common.{◌≡◌, ◌+◌, ◌<◌, ◌≤◌, ℕ, List, [], ◌∷◌, ◌++◌, length, Bool, true, false, refl, sym, ap, ◌∙◌, subst, arith, inl, inr}
 use Rattle.std.specs.Prelude.{map, ◌==◌, ◌&&◌, ◌||◌, ◌⊎◌, nat_eq, nat_le, nat_lt, Contains}
 use Rattle.std.specs.List.{IsDistinct, AllByRecursion}
 use Rattle.std.proofs.lemmas.Bool.Decides.{Decides-eqb, Decides-ltb, leb_tells}
-use Rattle.std.proofs.lemmas.List.{map-append}
+use Rattle.std.proofs.lemmas.List.{map-append, length-append}
 use Rattle.std.proofs.lemmas.List.Elements.{Contains-append_left, Contains-append_right}
 use Rattle.norm_base.specs.declared.node.Origin.{Origin}
 use Rattle.norm_send_rules.specs.SenderState.{SenderState, Instance}
@@ -58,13 +58,14 @@ all_map (x ∷ xs) f all = (f x all.0, all_map xs f all.1)
 abbrev pub AreLow : ℕ → ℕ → List ℕ → Type 0
 AreLow first last ids = AllByRecursion (λ x. rise first x ≤ rise first last) ids
 
--- What holds of a sender by the commands that it accepted: origins and ids differ, each origin is an accepted command's, and
--- no id lies higher than the current one.
+-- What holds of a sender by the commands that it accepted: origins and ids differ, each origin is an accepted command's, no more of
+-- them than were accepted, and no id lies higher than the current one.
 pub record OnceSoFar (s : SenderState) (accepted : List Origin) : Type 0 where
   pub differ : IsDistinct same_origin (origins s)
   pub ids : IsDistinct nat_eq (instance_ids s)
   pub low : AreLow (first_id s) s.current.id (instance_ids s)
   pub known : AllByRecursion (λ by. Contains accepted by) (origins s)
+  pub few : length (origins s) ≤ length accepted
 
 -- no origin that is known is that of a command that was not accepted
 fresh : (accepted : List Origin) (by : Origin) (xs : List Origin) → (Contains accepted by → ⊥) → AllByRecursion (λ x. Contains accepted x) xs
@@ -179,8 +180,26 @@ once_after s new accepted by is free adds ids h = record {
   ids = ids_differ ids;
   low = ids_low ids;
   known = known adds;
+  few = few adds;
 }
   where
+    one_more : (is : Bool) → is ≡ true → length (with_accepted accepted by is) ≡ length accepted + 1
+    one_more true e = length-append accepted (by ∷ [])
+    one_more false e = absurd (clash e)
+
+    no_fewer : (is : Bool) → length accepted ≤ length (with_accepted accepted by is)
+    no_fewer true = let more = one_more true refl in omega (arith, more)
+    no_fewer false = omega arith
+
+    few : Adds by is (origins s) (origins new) → length (origins new) ≤ length (with_accepted accepted by is)
+    few (inl e) = let same = ap length e in let le = h.few in let most = no_fewer is in omega (arith, same, le, most)
+    few (inr (true_is, front, back, was, now)) =
+        let before = ap length was ∙ length-append front back in
+        let after = ap length now ∙ length-append front (by ∷ back) in
+        let le = h.few in
+        let most = one_more is true_is in
+        omega (arith, before, after, le, most)
+
     all_lower : (id : ℕ) → rise (first_id s) s.current.id < rise (first_id s) id → AllByRecursion (λ x. rise (first_id s) x < rise (first_id s) id) (instance_ids s)
     all_lower id lt = all_map (instance_ids s) (λ x le. (let h : rise (first_id s) x < rise (first_id s) id = omega (arith, le, lt) in h)) h.low
 

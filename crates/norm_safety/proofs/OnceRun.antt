@@ -1,5 +1,5 @@
 -- Accepted objects enter the transport order once each: kept by each event of a lawful run, and so at its end.
-use Rattle.std.proofs.Common.{◌≡◌, ℕ, List, [], ◌∷◌, Bool, true, false, Option, None, Some, Result, Ok, Err, refl, sym, ap, ◌∙◌, subst, arith}
+use Rattle.std.proofs.Common.{◌≡◌, ◌≤◌, ℕ, length, List, [], ◌∷◌, Bool, true, false, Option, None, Some, Result, Ok, Err, refl, sym, ap, ◌∙◌, subst, arith}
 use Rattle.std.specs.Prelude.{◌==◌, find, is_ok, nat_eq, IsTrue, Contains}
 use Rattle.std.specs.List.{IsDistinct, AllByRecursion}
 use Rattle.norm_base.specs.Settings.{Settings}
@@ -22,6 +22,7 @@ use Rattle.norm_receive_rules.specs.Ticking.{ticked as receiver_ticked}
 use Rattle.norm_safety.specs.Events.{Event, Commanded, Delivered, Ticked, Offered, UpTaken, NewsAsked, Answer, Gave, Sent, Took, Told, Silent}
 use Rattle.norm_safety.specs.World.{World, world_opening, receiver_at, with_receiver, with_given, is_of, offers}
 use Rattle.norm_safety.specs.WorldStep.{world_step, moved, node_move, receiver_move}
+use Rattle.norm_safety.specs.InTime.{MayComeLate, HonestFrom, Honest, accepted_from, accepted_in}
 use Rattle.norm_safety.specs.Lawful.{same_origin, accepted_with, MayCome, LawfulFrom, Lawful}
 use Rattle.norm_safety.specs.History.{Happening, happens, last_world, history}
 use Rattle.norm_safety.specs.OnceEach.{OnceEach, has_its_place}
@@ -91,6 +92,7 @@ quiet_leaves w after accepted e answer keeps same placed h =
         ids = subst I (sym (keeps_ids w.sender after.sender keeps)) h.ids;
         low = low_by w.sender after.sender (keeps_ids w.sender after.sender keeps) h.low;
         known = subst K (sym by) h.known;
+        few = (let same = ap length by in let le = h.few in omega (arith, same, le));
       });
       kept = subst A (sym (same_instances w.sender after.sender keeps)) (kept_all (instances w.sender));
       own = λ later kept. placed later (record { before = w; event = e; answer = answer; after = after });
@@ -142,7 +144,8 @@ offer_keeps : (found : Option (ℕ × Written)) (node : ℕ) (w : World) → Kee
 offer_keeps None node w = keeps_all w.sender
 offer_keeps (Some datagram) node w = keeps_all w.sender
 
-pub event_leaves : (p : Settings) (w : World) (accepted : List Origin) (e : Event) → MayCome p w accepted e
+-- each event that may come, a delivery however late
+pub event_leaves : (p : Settings) (w : World) (accepted : List Origin) (e : Event) → MayComeLate p w accepted e
     → OnceSoFar w.sender accepted → Leaves w accepted e (world_step p w e)
 event_leaves p w accepted (Commanded by job now) may h = command_leaves p w accepted by job now may h
 event_leaves p w accepted (Delivered node datagram now draw) may h = delivery_leaves p w accepted node datagram now draw h
@@ -153,31 +156,51 @@ event_leaves p w accepted (UpTaken node) may h = taking_leaves p w accepted node
 event_leaves p w accepted NewsAsked may h =
     quiet_leaves w _ accepted NewsAsked (Told (told w.sender).1) (told_keeps w.sender) refl (λ later x. refl) h
 
--- what lawful events leave, from a world on
-record Ends (p : Settings) (w : World) (events : List Event) : Type 0 where
-  accepted : List Origin
-  once : OnceSoFar (last_world w (happens p w events)).sender accepted
+-- what honest events leave, from a world on
+record Ends (p : Settings) (w : World) (accepted : List Origin) (events : List Event) : Type 0 where
+  once : OnceSoFar (last_world w (happens p w events)).sender (accepted_from p w accepted events)
   kept : AllKept (instances w.sender) (instances (last_world w (happens p w events)).sender)
   places : AllByRecursion (λ x. IsTrue (has_its_place (last_world w (happens p w events)).sender x x.event x.answer)) (happens p w events)
 
-run_ends : (p : Settings) (w : World) (accepted : List Origin) (events : List Event) → LawfulFrom p w accepted events
-    → OnceSoFar w.sender accepted → Ends p w events
+run_ends : (p : Settings) (w : World) (accepted : List Origin) (events : List Event) → HonestFrom p w accepted events
+    → OnceSoFar w.sender accepted → Ends p w accepted events
 unfolding happens last_world
-run_ends p w accepted [] lawful h = record { accepted = accepted; once = h; kept = kept_all (instances w.sender); places = tt }
-run_ends p w accepted (e ∷ events) lawful h =
+run_ends p w accepted [] honest h = record { once = h; kept = kept_all (instances w.sender); places = tt }
+run_ends p w accepted (e ∷ events) honest h =
     let step = world_step p w e in
-    let first = event_leaves p w accepted e lawful.0 h in
-    let rest = run_ends p step.0 (accepted_with accepted e step.1) events lawful.1 first.once in
+    let first = event_leaves p w accepted e honest.0 h in
+    let rest = run_ends p step.0 (accepted_with accepted e step.1) events honest.1 first.once in
     record {
-      accepted = rest.accepted;
       once = rest.once;
       kept = λ id index by job was. rest.kept id index by job (first.kept id index by job was);
       places = (first.own (last_world step.0 (happens p step.0 events)).sender rest.kept, rest.places);
     }
 
-pub once_each_run : (p : Settings) (events : List Event) → Lawful p events → OnceEach (history p events)
+-- an event that may come, and in time where it is a delivery
+late_too : (p : Settings) (w : World) (accepted : List Origin) (e : Event) → MayCome p w accepted e → MayComeLate p w accepted e
+late_too p w accepted (Commanded by job now) may = may
+late_too p w accepted (Delivered node datagram now draw) may =
+    record { from = may.from; datagram = may.datagram; other = may.other; offered = may.offered; same = may.same }
+late_too p w accepted (Ticked node now) may = may
+late_too p w accepted (Offered node datagram) may = may
+late_too p w accepted (UpTaken node) may = may
+late_too p w accepted NewsAsked may = may
+
+-- lawful runs are honest
+lawful_too : (p : Settings) (w : World) (accepted : List Origin) (events : List Event) → LawfulFrom p w accepted events → HonestFrom p w accepted events
+lawful_too p w accepted [] lawful = tt
+lawful_too p w accepted (e ∷ events) lawful =
+    let step = world_step p w e in (late_too p w accepted e lawful.0, lawful_too p step.0 (accepted_with accepted e step.1) events lawful.1)
+
+opening_once : (p : Settings) → OnceSoFar (sender_opening p p.instance) []
 unfolding IsDistinct
+opening_once p = record { differ = tt; ids = (tt, tt); low = (omega arith, tt); known = tt; few = omega arith }
+
+-- what holds of commands after an honest run
+pub once_in : (p : Settings) (events : List Event) → Honest p events → OnceSoFar (history p events).now.sender (accepted_in p events)
+once_in p events honest = (run_ends p (world_opening p) [] events honest (opening_once p)).once
+
+pub once_each_run : (p : Settings) (events : List Event) → Lawful p events → OnceEach (history p events)
 once_each_run p events lawful =
-    let opening : OnceSoFar (sender_opening p p.instance) [] = record { differ = tt; ids = (tt, tt); low = (omega arith, tt); known = tt } in
-    let end = run_ends p (world_opening p) [] events lawful opening in
+    let end = run_ends p (world_opening p) [] events (lawful_too p (world_opening p) [] events lawful) (opening_once p) in
     record { origins = end.once.differ; ids = end.once.ids; places = end.places }

@@ -1,5 +1,5 @@
 -- A receiver hands up the transport order: kept by each event of a lawful run of data and files, and so at its end.
-use Rattle.std.proofs.Common.{◌≡◌, ℕ, zero, suc, ◌+◌, ◌≤◌, cond, List, [], ◌∷◌, ◌++◌, Bool, true, false, Option, None, Some, refl, sym, subst, append_assoc, arith, inr}
+use Rattle.std.proofs.Common.{◌≡◌, ℕ, zero, suc, ◌+◌, ◌≤◌, cond, List, [], ◌∷◌, ◌++◌, length, Bool, true, false, Option, None, Some, refl, sym, ap, subst, append_assoc, arith, inr}
 use Rattle.std.specs.Prelude.{map, find, ◌==◌, nat_eq, option_and_then, IsTrue, Contains, ⊤}
 use Rattle.std.specs.List.{AllByRecursion, IsDistinct}
 use Rattle.std.proofs.lemmas.Bool.Decides.{Decides-eqb}
@@ -87,6 +87,7 @@ once_kept s t accepted keeps h =
       ids = subst I (sym (keeps_ids s t keeps)) h.ids;
       low = low_by s t (keeps_ids s t keeps) h.low;
       known = subst K (sym by) h.known;
+      few = (let same = ap length by in let le = h.few in omega (arith, same, le));
     }
 
 -- a sender that keeps its orders, and says nothing
@@ -290,7 +291,7 @@ pub opening_world : (p : Settings) → InRange p → WorldHolds p [] [] (world_o
 unfolding IsDistinct
 opening_world p range = record {
   sender = opening_holds p range;
-  once = record { differ = tt; ids = (tt, tt); low = (omega arith, tt); known = tt };
+  once = record { differ = tt; ids = (tt, tt); low = (omega arith, tt); known = tt; few = omega arith };
   offered = tt;
   given = tt;
   nodes = λ node. none_yet p (receivers_of p p.receivers) node (receivers_are_members p range p.receivers (omega arith));

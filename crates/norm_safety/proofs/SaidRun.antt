@@ -22,7 +22,7 @@ use Rattle.norm_safety.proofs.OrderRun.{run_of}
 use Rattle.norm_safety.proofs.SenderHolds.{point_in}
 use Rattle.norm_safety.proofs.Spoken.{IsTrueOf, SaysTrue, SquelchesDropped}
 
-all_append : {X : Type 0} (P : X → Type 0) (xs ys : List X) → AllByRecursion P xs → AllByRecursion P ys → AllByRecursion P (xs ++ ys)
+pub all_append : {X : Type 0} (P : X → Type 0) (xs ys : List X) → AllByRecursion P xs → AllByRecursion P ys → AllByRecursion P (xs ++ ys)
 all_append P [] ys h g = g
 all_append P (x ∷ xs) ys h g = (h.0, all_append P xs ys h.1 g)
 

@@ -176,15 +176,25 @@ abbrev pub IsNoAck : Message → Type 0
 IsNoAck (Ack m) = ⊥
 IsNoAck _ = ⊤
 
--- The same of a datagram of the sender: it is read as its message, which is no acknowledgement.
+-- a message that speaks of objects
+abbrev pub IsSpoken : Message → Type 0
+IsSpoken (Info m) = ⊤
+IsSpoken (Data m) = ⊤
+IsSpoken (Flush m) = ⊤
+IsSpoken (Squelch m) = ⊤
+IsSpoken _ = ⊥
+
+-- The same of a datagram of the sender: it is read as its message, which speaks of objects, and is no acknowledgement.
 pub record SpeaksTrue (p : Settings) (s : SenderState) (o : Written) : Type 0 where
   pub says : SaysTrue p s o
   pub read : decoded o.octets ≡ Ok o.message
   pub no_ack : IsNoAck o.message
+  pub spoken : IsSpoken o.message
 
-true_again : (p : Settings) (s : SenderState) (m : Message) (indices : List ℕ) → IsMessage m → IsNoAck m → IsTrueOf p s indices m
+true_again : (p : Settings) (s : SenderState) (m : Message) (indices : List ℕ) → IsMessage m → IsNoAck m → IsSpoken m → IsTrueOf p s indices m
     → SpeaksTrue p s (writes m indices)
-true_again p s m indices fits no_ack h = record { says = (inl (read_again_law m fits), h); read = read_again_law m fits; no_ack = no_ack }
+true_again p s m indices fits no_ack spoken h =
+    record { says = (inl (read_again_law m fits), h); read = read_again_law m fits; no_ack = no_ack; spoken = spoken }
 
 -- an entry of an order of objects of their sizes
 pub sized_at : (p : Settings) (order : List Entry) (index : ℕ) (entry : Entry) → AreSized p order → slice_get order index ≡ Some entry → IsSized p entry.object
@@ -221,7 +231,7 @@ symbol_true p range s at entry (Whole kind info octets) repair is h differ found
       head = object_head_fits p range s at.index object repair h (flags_fit kind info octets repair few).0;
       id = names;
       extensions = extensions_fit 5 (fti_of_object p object) (omega arith);
-    }) tt (
+    }) tt tt (
       speaks_of p range s at.index h index,
       says_some P (entry_at s s.current.id at.index) entry (entry_told s at.index entry differ found)
           (subst O (sym is) (encoded, refl, says_object p range kind info octets repair sized few)),
@@ -247,7 +257,7 @@ info_true p range s index entry (Whole kind (Some info) octets) repair is h diff
     (record {
       head = object_head_fits p range s index object repair h (flags_fit kind (Some info) octets repair few).0;
       extensions = extensions_fit 4 (fti_of_object p object) (omega arith);
-    }) tt (
+    }) tt tt (
       speaks_of p range s index h place,
       says_some P (entry_at s s.current.id index) entry (entry_told s index entry differ found)
           (subst O (sym is) (refl, says_object p range kind (Some info) octets repair sized few)),
@@ -293,7 +303,7 @@ squelch_true p range s h differ =
       id = (block, omega arith);
       extensions = record { each = tt; most = omega arith };
       invalid = tt;
-    }) tt (
+    }) tt tt (
       speaks_of p range s drop.index h h.index,
       (s.current, current_found s.earlier s.current s.current refl differ, not_before_itself drop, h.block),
     )
@@ -342,7 +352,7 @@ flush_true p range s head at nodes h differ fits current source few =
       id = source_named p range found.0.object at.block at.symbol sized found.2;
       extensions = record { each = tt; most = omega arith };
       nodes = few;
-    }) tt (
+    }) tt tt (
       subst S (sym current) (speaks_of p range s at.index h index),
       ap (λ (id : ℕ). is_source (shapes_of p (order_of s id)) at) current
           ∙ ap (λ (order : List Entry). is_source (shapes_of p order) at) (current_order s differ) ∙ source,

@@ -230,7 +230,7 @@ without p s t keeps wants h = (keeps_steps p s t keeps wants h).holds
 
 same_true : (p : Settings) (s t : SenderState) (sent : Option Written) → Onward s t → SentTrue p s sent → SentTrue p t sent
 same_true p s t None onward h = tt
-same_true p s t (Some datagram) onward h = record { says = true_later p s t datagram onward h.says; read = h.read; no_ack = h.no_ack }
+same_true p s t (Some datagram) onward h = record { says = true_later p s t datagram onward h.says; read = h.read; no_ack = h.no_ack; spoken = h.spoken }
 
 further_true : (p : Settings) → InRange p → (now : ℕ) (s : SenderState) → SenderHolds p s → IsDistinct nat_eq (instance_ids s) → SentTrue p s (sends_further p now s).1
 further_true p range now s h differ = go (next_new p s) refl

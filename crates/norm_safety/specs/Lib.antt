@@ -8,6 +8,7 @@ pub mod Jobs
 pub mod Hands
 pub mod Fronts
 pub mod OnceEach
+pub mod InTime
 pub mod InOrder
 pub mod ListedAfter
 pub mod SatisfiedExactly

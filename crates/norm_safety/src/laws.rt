@@ -4,6 +4,7 @@
 ghost use Rattle.norm_safety.specs.Laws.{TestLaws, WantsHoldInRuns, SafeRun, OfRunsOfObjects, SaidOfOrders, CreditRun, SatisfiedRun, AcknowledgeRun};
 ghost use Rattle.norm_safety.specs.ClosingCompletes.{ClosingCompletes};
 ghost use Rattle.norm_safety.specs.FreshWants.{FreshWants};
+ghost use Rattle.norm_safety.specs.InTime.{TimeLaws};
 ghost use Rattle.norm_safety.specs.LosesNothing.{LosesNothing};
 ghost use Rattle.norm_safety.specs.WorldLaws.{WorldLaws};
 
@@ -80,6 +81,13 @@ pub fn closing_run()
 #[tactic(auto, using(crate::proofs::Owing::acknowledge_run))]
 pub fn acknowledge_run()
     ensures { AcknowledgeRun }
+{}
+
+/// Nothing comes too late in a run of few objects: where the network gives only what was offered, however late, and no instance has more than
+/// 32,767 objects, a run of data and files is lawful. And an instance has no more objects than commands were accepted.
+#[tactic(auto, using(crate::proofs::InTime::time_laws))]
+pub fn in_time()
+    ensures { TimeLaws }
 {}
 
 /// What an event changes of a world. Only an offer joins what was offered; only the sender's events change the sender, and
