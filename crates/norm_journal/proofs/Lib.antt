@@ -18,3 +18,4 @@ pub mod OctetLemmas
 pub mod ObjectLemmas
 pub mod ScriptLemmas
 pub mod EndLemmas
+pub mod TimeLemmas

@@ -35,27 +35,32 @@ one_name a b e =
     let two = both (a.producer == b.producer) (a.number == b.number) e in
     same_name a.producer a.number b.producer b.number (eqb-true a.producer b.producer two.0) (eqb-true a.number b.number two.1)
 
--- how often a name stands in a list
-abbrev pub count : Origin → List Origin → ℕ
-count q names = count_by (same_origin q) names
+-- how many names of a list pass a test
+abbrev pub count : (Origin → Bool) → List Origin → ℕ
+count q names = count_by q names
 
--- 1 where this is the name
-abbrev here : Origin → Origin → ℕ
-here q x = cond (same_origin q x) 1 0
+-- 1 where this name does
+abbrev here : (Origin → Bool) → Origin → ℕ
+here q x = cond (q x) 1 0
 
-count_cons : (q x : Origin) (names : List Origin) → count q (x ∷ names) ≡ here q x + count q names
+count_cons : (q : Origin → Bool) (x : Origin) (names : List Origin) → count q (x ∷ names) ≡ here q x + count q names
 count_cons q x names = let parts = sum_by-append (λ y. here q y) (x ∷ []) names in omega (arith, parts)
 
 itself : (q : Origin) → same_origin q q ≡ true
 itself q = both_true (q.producer == q.producer) (q.number == q.number) (eq-eqb q.producer q.producer refl) (eq-eqb q.number q.number refl)
 
-here_itself : (q : Origin) → here q q ≡ 1
+here_itself : (q : Origin) → here (same_origin q) q ≡ 1
 here_itself q = ap (λ b. cond b 1 0) (itself q)
 
-pub count_itself : (q : Origin) → count q (q ∷ []) ≡ 1
-count_itself q = let one = here_itself q in let c = count_cons q q [] in omega (arith, one, c)
+pub count_itself : (q : Origin) → count (same_origin q) (q ∷ []) ≡ 1
+count_itself q = let one = here_itself q in let c = count_cons (same_origin q) q [] in omega (arith, one, c)
 
-pub count_push : (q x : Origin) (names : List Origin) → count q (names ++ x ∷ []) ≡ count q names + count q (x ∷ [])
+-- all names pass the test that each does
+pub count_all : (names : List Origin) → count (λ x. true) names ≡ length names
+count_all [] = refl
+count_all (x ∷ names) = let more = count_all names in let c = count_cons (λ y. true) x names in omega (arith, more, c)
+
+pub count_push : (q : Origin → Bool) (x : Origin) (names : List Origin) → count q (names ++ x ∷ []) ≡ count q names + count q (x ∷ [])
 count_push q x [] = omega arith
 count_push q x (y ∷ names) =
     let more = count_push q x names in
@@ -64,22 +69,22 @@ count_push q x (y ∷ names) =
     omega (arith, more, whole, part)
 
 -- a name that a list contains is counted there
-pub counted_at : (names : List Origin) (q : Origin) (k : ℕ) → k < length names → slice_index_or names k q ≡ q → 1 ≤ count q names
+pub counted_at : (names : List Origin) (q : Origin) (k : ℕ) → k < length names → slice_index_or names k q ≡ q → 1 ≤ count (same_origin q) names
 counted_at [] q k within is = absurd (omega (arith, within))
 counted_at (x ∷ names) q zero within is =
-    let one = ap (λ y. here q y) is ∙ here_itself q in
-    let c = count_cons q x names in
+    let one = ap (λ y. here (same_origin q) y) is ∙ here_itself q in
+    let c = count_cons (same_origin q) x names in
     omega (arith, one, c)
 counted_at (x ∷ names) q (suc k) within is =
     let more = counted_at names q k (omega (arith, within)) is in
-    let c = count_cons q x names in
+    let c = count_cons (same_origin q) x names in
     omega (arith, more, c)
 
 exchanged : (all rest whole more one a b : ℕ) → all ≡ one + rest → whole ≡ a + all → one ≡ b + 0 → more ≡ a + rest → whole ≡ one + more
 exchanged all rest whole more one a b inner is_whole is_one is_more = omega (arith, inner, is_whole, is_one, is_more)
 
 -- the names of lines in which one is found, and of those that are left
-pub count_found : (q : Origin) (producer : ℕ) (lines : List Line) (line : Line) (rest : List Line)
+pub count_found : (q : Origin → Bool) (producer : ℕ) (lines : List Line) (line : Line) (rest : List Line)
     → ◌≡◌ {A = Option (Line × List Line)} (first_line producer lines) (Some (line, rest))
     → count q (map origin_of lines) ≡ count q (origin_of line ∷ []) + count q (map origin_of rest)
 unfolding first_line
@@ -119,13 +124,13 @@ abbrev pub names_waiting : Option Line → List Origin
 names_waiting None = []
 names_waiting (Some line) = origin_of line ∷ []
 
-if_waits : (b : Bool) (q by : Origin) (line : Line) → origin_of line ≡ by
+if_waits : (b : Bool) (q : Origin → Bool) (by : Origin) (line : Line) → origin_of line ≡ by
     → count q (names_waiting (elim b [ true ↦ Some line | false ↦ None ])) ≤ count q (by ∷ [])
 if_waits true q by line named = let same = ap (λ o. count q (o ∷ [])) named in omega (arith, same)
 if_waits false q by line named = omega arith
 
 -- a command that was given is accepted, or waits, or is done with
-pub given_once : (q by : Origin) (line : Line) (job : Job) (now : ℕ) (accepted : List Origin) (r gave : Result Receipt SendFault)
+pub given_once : (q : Origin → Bool) (by : Origin) (line : Line) (job : Job) (now : ℕ) (accepted : List Origin) (r gave : Result Receipt SendFault)
     → origin_of line ≡ by → same_gave r gave ≡ true
     → count q (accepted_with accepted (Commanded by job now) (Gave r)) + count q (names_waiting (waiting_after line gave))
     ≤ count q accepted + count q (by ∷ [])

@@ -20,34 +20,34 @@ many_push : (producer : ℕ) (lines : List Line) (line : Line) → many producer
 many_push producer lines line = sum_by-append (λ (l : Line). cond (l.producer == producer) 1 0) lines (line ∷ [])
 
 names_push : (q : Origin) (lines : List Line) (line : Line)
-    → count q (map origin_of (lines ++ line ∷ [])) ≡ count q (map origin_of lines) + (0 + cond (same_origin q (origin_of line)) 1 0)
-names_push q lines line = ap (count q) (map-append origin_of lines (line ∷ [])) ∙ count_push q (origin_of line) (map origin_of lines)
+    → count (same_origin q) (map origin_of (lines ++ line ∷ [])) ≡ count (same_origin q) (map origin_of lines) + (0 + cond (same_origin q (origin_of line)) 1 0)
+names_push q lines line = ap (count (same_origin q)) (map-append origin_of lines (line ∷ [])) ∙ count_push (same_origin q) (origin_of line) (map origin_of lines)
 
 -- a producer's commands have numbers up to how many they are, and no name stands twice
 record Named (lines : List Line) : Type 0 where
-  low : (q : Origin) → many q.producer lines < q.number → count q (map origin_of lines) ≡ 0
-  once : (q : Origin) → count q (map origin_of lines) ≤ 1
+  low : (q : Origin) → many q.producer lines < q.number → count (same_origin q) (map origin_of lines) ≡ 0
+  once : (q : Origin) → count (same_origin q) (map origin_of lines) ≤ 1
 
 push_named : (lines : List Line) (line : Line) → line.number ≡ many line.producer lines + 1 → Named lines → Named (lines ++ line ∷ [])
 push_named lines line numbered named = record {
   low = λ q above. low_by q (same_origin q (origin_of line)) refl above;
   once = λ q. once_by q (same_origin q (origin_of line)) refl;
 } where
-  once_by : (q : Origin) (b : Bool) → same_origin q (origin_of line) ≡ b → count q (map origin_of (lines ++ line ∷ [])) ≤ 1
+  once_by : (q : Origin) (b : Bool) → same_origin q (origin_of line) ≡ b → count (same_origin q) (map origin_of (lines ++ line ∷ [])) ≤ 1
   once_by q true is =
       let same = one_name q (origin_of line) is in
       let number = ap (λ (o : Origin). o.number) same ∙ numbered in
       let producer = ap (λ (o : Origin). many o.producer lines) same in
       let none = named.low q (omega (arith, number, producer)) in
-      let sum = names_push q lines line ∙ ap (λ b. count q (map origin_of lines) + (0 + cond b 1 0)) is in
+      let sum = names_push q lines line ∙ ap (λ b. count (same_origin q) (map origin_of lines) + (0 + cond b 1 0)) is in
       omega (arith, none, sum)
   once_by q false is =
       let few = named.once q in
-      let sum = names_push q lines line ∙ ap (λ b. count q (map origin_of lines) + (0 + cond b 1 0)) is in
+      let sum = names_push q lines line ∙ ap (λ b. count (same_origin q) (map origin_of lines) + (0 + cond b 1 0)) is in
       omega (arith, few, sum)
 
   low_by : (q : Origin) (b : Bool) → same_origin q (origin_of line) ≡ b → many q.producer (lines ++ line ∷ []) < q.number
-      → count q (map origin_of (lines ++ line ∷ [])) ≡ 0
+      → count (same_origin q) (map origin_of (lines ++ line ∷ [])) ≡ 0
   low_by q true is above =
       let same = one_name q (origin_of line) is in
       let number = ap (λ (o : Origin). o.number) same ∙ numbered in
@@ -58,7 +58,7 @@ push_named lines line numbered named = record {
   low_by q false is above =
       let before = many_push q.producer lines line in
       let none = named.low q (omega (arith, before, above)) in
-      let sum = names_push q lines line ∙ ap (λ b. count q (map origin_of lines) + (0 + cond b 1 0)) is in
+      let sum = names_push q lines line ∙ ap (λ b. count (same_origin q) (map origin_of lines) + (0 + cond b 1 0)) is in
       omega (arith, none, sum)
 
 named_from : (before lines : List Line) → AreNumbered before lines → Named before → Named (before ++ lines)

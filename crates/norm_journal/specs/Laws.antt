@@ -1,5 +1,5 @@
 -- What is promised of the judge.
-use Rattle.std.specs.Prelude.{◌≡◌, ℕ, ◌==◌, List, [], ◌∷◌, ◌++◌, length, map, filter, true, false, None, Some, IsSome, ⊤}
+use Rattle.std.specs.Prelude.{◌≡◌, ◌≤◌, ℕ, ◌==◌, List, [], ◌∷◌, ◌++◌, length, map, filter, true, false, None, Some, IsSome, ⊤}
 use Rattle.std.specs.List.{flat_map, AllByRecursion}
 use Rattle.norm_base.specs.Octets.{AreOctets}
 use Rattle.norm_base.specs.Settings.{Settings}
@@ -13,6 +13,8 @@ use Rattle.norm_send_rules.specs.Commanding.{commanded}
 use Rattle.norm_send_rules.specs.SenderState.{SenderState}
 use Rattle.norm_send_rules.specs.Ticking.{is_idle}
 use Rattle.norm_send_rules.specs.declared.job.Job.TheVariants as job
+use Rattle.norm_safety.specs.Events.{Event as WorldEvent}
+use Rattle.norm_safety.specs.InTime.{Honest, accepted_in}
 use Rattle.norm_safety.specs.Jobs.{AreEvents, AreOfObjects}
 use Rattle.norm_safety.specs.Lawful.{Lawful}
 use Rattle.norm_safety.specs.WorldStep.{run_from}
@@ -67,11 +69,16 @@ abbrev pub MovesTheWorld : Type 0
 MovesTheWorld = (j last : Judged) (events : List Event) → judged_from j events ≡ Some last
     → run_from j.profile j.world (world_events j events) ≡ last.world
 
--- From the opening on, the world's events of a journal are a lawful run where its takes are honest.
-abbrev pub BeginsLawfully : Type 0
-BeginsLawfully = (script : Commands) (files : Told) (nodes : List ℕ) (events : List Event) → NamedOnce script.lines
+-- the nodes have an honest run, of no more accepted commands than the script has
+pub record RunsHonestly (script : Commands) (events : List WorldEvent) : Type 0 where
+  pub honest : Honest script.profile events
+  pub few : length (accepted_in script.profile events) ≤ length script.lines
+
+-- From the opening on, the world's events of a journal are an honest run where its takes are honest.
+abbrev pub BeginsHonestly : Type 0
+BeginsHonestly = (script : Commands) (files : Told) (nodes : List ℕ) (events : List Event) → NamedOnce script.lines
     → Begun script files nodes events → TakesHonestly (judged_opening script files nodes) events
-    → Lawful script.profile (world_events (judged_opening script files nodes) events)
+    → RunsHonestly script (world_events (judged_opening script files nodes) events)
 
 -- A sender goes by a file's name and its length alone: it refuses files of one length alike, and accepts them alike.
 abbrev pub FilesGoByLength : Type 0
@@ -108,6 +115,13 @@ CommandsAreEvents = (script : Commands) (files : Told) (nodes : List ℕ) (event
 abbrev pub CommandsAreOfObjects : Type 0
 CommandsAreOfObjects = (script : Commands) (files : Told) (nodes : List ℕ) (events : List Event) → AllByRecursion IsOfObjects script.lines
     → Begun script files nodes events → AreOfObjects (world_events (judged_opening script files nodes) events)
+
+-- Nothing comes too late in a session of data and files: a script has so few commands that its nodes' run is lawful wherever its takes are
+-- honest.
+abbrev pub BeginsLawfully : Type 0
+BeginsLawfully = (script : Commands) (files : Told) (nodes : List ℕ) (events : List Event) → IsScript script → AllByRecursion IsOfObjects script.lines
+    → Begun script files nodes events → AllByRecursion HasOctets events → TakesHonestly (judged_opening script files nodes) events
+    → Lawful script.profile (world_events (judged_opening script files nodes) events)
 
 -- In a script each command has a name of its own.
 abbrev pub ScriptsNameOnce : Type 0

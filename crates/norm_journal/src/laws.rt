@@ -5,7 +5,7 @@ ghost use Rattle.norm_journal.specs.Said.{LinesReadBack};
 ghost use Rattle.norm_journal.specs.Free.{OnlyTheseAreFree};
 ghost use Rattle.norm_journal.specs.Calls.{CallsAreDue};
 ghost use Rattle.norm_journal.specs.Counts.{JournalIsCounted};
-ghost use Rattle.norm_journal.specs.Laws.{FrontsAreAccepted, FrontsArePrinted, PullsInOrder, WholeIsDone, EndsLast, MovesTheWorld, BeginsLawfully, FilesGoByLength, OffersAreTheWorlds, TakesStayHonest, CommandsAreEvents, CommandsAreOfObjects, ScriptsNameOnce};
+ghost use Rattle.norm_journal.specs.Laws.{FrontsAreAccepted, FrontsArePrinted, PullsInOrder, WholeIsDone, EndsLast, MovesTheWorld, BeginsHonestly, BeginsLawfully, FilesGoByLength, OffersAreTheWorlds, TakesStayHonest, CommandsAreEvents, CommandsAreOfObjects, ScriptsNameOnce};
 
 /// Each front of a journal that is accepted is accepted.
 #[tactic(auto, using(crate::proofs::FrontLemmas::fronts_accepted))]
@@ -37,8 +37,15 @@ pub fn moves_the_world()
     ensures { MovesTheWorld }
 {}
 
-/// Where the takes of a journal are honest, its events are a lawful run of the nodes' world.
-#[tactic(auto, using(crate::proofs::LawfulLemmas::begins_lawfully))]
+/// Where the takes of a journal are honest, its events are an honest run of the nodes' world, of no more accepted commands than the
+/// script has.
+#[tactic(auto, using(crate::proofs::LawfulLemmas::begins_honestly))]
+pub fn begins_honestly()
+    ensures { BeginsHonestly }
+{}
+
+/// In a session of data and files nothing comes too late: where its takes are honest, the nodes have a lawful run.
+#[tactic(auto, using(crate::proofs::TimeLemmas::begins_lawfully))]
 pub fn begins_lawfully()
     ensures { BeginsLawfully }
 {}
