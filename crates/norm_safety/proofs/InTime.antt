@@ -151,7 +151,7 @@ not_above a b (inr same) = (let e = same.0 in omega arith)
 -- what is true of orders of few objects has small indices
 true_low : (p : Settings) (s : SenderState) (indices : List ℕ) (m : Message) → OrdersHold p s → FewObjects s → IsSpoken m → IsTrueOf p s indices m
     → AreUpTo most_apart indices
-true_low p s indices (Data m) orders few spoken (speaks, says) = 
+true_low p s indices (Data m) orders few spoken (speaks, says) =
     let S : List ℕ → Type 0 = λ xs. AreUpTo most_apart xs in
     let F : List ℕ → Type 0 = λ xs. SaysSymbol p s (about xs m) in
     let lt = within_order _ (order_of s m.head.instance) speaks.index (subst F speaks.alone says) in
@@ -385,9 +385,11 @@ lawful_from p range past accepted w (e ∷ events) honest are of few holds h =
     let step = world_step p w e in
     let now = few_before w.sender (run_from p w (e ∷ events)).sender (goes_on p range w (e ∷ events) are of holds.sender) few in
     let may = event_may p w e past accepted honest.0 now holds h in
-    let next = event_holds p range past accepted w e may are.0 of.0 holds in
-    (may, lawful_from p range (past ++ happening w e step ∷ []) (accepted_with accepted e step.1) step.0 events honest.1 are.1 of.1 few next
-    (event_low p range w e past accepted may now holds h))
+    let next = event_holds p range past accepted w e may are.0 of.0 holds in (
+      may,
+      lawful_from p range (past ++ happening w e step ∷ []) (accepted_with accepted e step.1) step.0 events honest.1 are.1 of.1 few next
+          (event_low p range w e past accepted may now holds h),
+    )
 
 low_opening : (p : Settings) → LowWorld (world_opening p)
 low_opening p = record { offered = tt; given = tt; receivers = each (receivers_of p p.receivers) }

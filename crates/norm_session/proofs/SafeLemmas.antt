@@ -3,10 +3,11 @@ use Rattle.std.proofs.Common.{◌≡◌, ℕ, zero, suc, List, [], ◌∷◌, �
 use Rattle.std.specs.Prelude.{map, Contains, IsTrue, IsSome, IfSome, option_and_then}
 use Rattle.std.specs.List.{AllByRecursion}
 use Rattle.std.proofs.lemmas.Option.{option_and_then_some}
-use Rattle.norm_base.specs.Network.{Network, WasOffered}
+use Rattle.norm_base.specs.Network as network
+use Rattle.norm_base.specs.Network.{Network}
 use Rattle.norm_base.specs.Told.{Pieces}
 use Rattle.norm_script.specs.Commands.{Commands}
-use Rattle.norm_safety.specs.Lawful.{LawfulDelivery}
+use Rattle.norm_safety.specs.InTime.{WasOffered}
 use Rattle.norm_safety.proofs.CreditLemmas.{credit_run}
 use Rattle.norm_safety.proofs.FreshRun.{fresh_run}
 use Rattle.norm_safety.proofs.HoldRun.{hold_run}
@@ -24,13 +25,12 @@ use Rattle.norm_journal.specs.Projections.{offers_in}
 use Rattle.norm_journal.specs.SessionRun.{Begun}
 use Rattle.norm_journal.specs.WorldEvents.{TakesHonestly}
 use Rattle.norm_journal.proofs.FrontLemmas.{judged_from-append}
-use Rattle.norm_journal.proofs.LawfulLemmas.{begins_lawfully}
 use Rattle.norm_journal.proofs.ObjectLemmas.{commands_are_of_objects}
 use Rattle.norm_journal.proofs.OctetLemmas.{commands_are_events}
 use Rattle.norm_journal.proofs.OfferedLemmas.{offers_are_the_worlds}
-use Rattle.norm_journal.proofs.ScriptLemmas.{scripts_named}
+use Rattle.norm_journal.proofs.TimeLemmas.{begins_lawfully}
 use Rattle.norm_session.specs.Context.{Context, opening}
-use Rattle.norm_session.specs.Session.{IsRunnable, IsSafeInTime, OverHonest, ComesInTime, ComeInTime, nodes_of, session_opening, session_events}
+use Rattle.norm_session.specs.Session.{IsRunnable, IsSafe, OverHonest, nodes_of, session_opening, session_events}
 use Rattle.norm_session.specs.SoFar.{Leads, IsOffered, AreOffered}
 use Rattle.norm_session.specs.Stopping.{Stopped}
 use Rattle.norm_session.specs.declared.fault.SessionFault.{SessionFault}
@@ -45,37 +45,28 @@ found_in f (x ∷ xs) y (zero, less, is) = (x, (0, omega arith, refl), is)
 found_in f (x ∷ xs) y (suc k, less, is) =
     let rest = found_in f xs y (k, omega (arith, less), is) in (rest.0, (suc rest.1.0, omega (arith, rest.1.1), rest.1.2), rest.2)
 
--- a take of what another member had offered is one of a lawful network, where it comes in time
-take_is_lawful : (j : Judged) (past : List Event) (to : ℕ) (octets : List ℕ) → map octets_given j.world.offered ≡ offers_in past
-    → WasOffered (offers_in past) to octets → ComesInTime j (event.Took to octets) → LawfulDelivery j.profile j.world to octets
-take_is_lawful j past to octets told was time =
+-- a take of what another member had offered is honest
+take_was_offered : (j : Judged) (past : List Event) (to : ℕ) (octets : List ℕ) → map octets_given j.world.offered ≡ offers_in past
+    → network.WasOffered (offers_in past) to octets → WasOffered j.world to octets
+take_was_offered j past to octets told was =
     let its = found_in octets_given j.world.offered (was.0, octets) (subst (λ xs. Contains xs (was.0, octets)) (sym told) was.2) in
     let from : its.0.0 ≡ was.0 = ap (λ (g : ℕ × List ℕ). g.0) its.2 in
     let same : its.0.1.octets ≡ octets = ap (λ (g : ℕ × List ℕ). g.1) its.2 in
-    let other : its.0.0 ≡ to → ⊥ = λ is. was.1 (sym from ∙ is) in
-    record {
-      from = its.0.0;
-      datagram = its.0.1;
-      other = other;
-      offered = its.1;
-      same = same;
-      near = time its.0.0 its.0.1 other its.1 same;
-    }
+    record { from = its.0.0; datagram = its.0.1; other = λ is. was.1 (sym from ∙ is); offered = its.1; same = same }
 
-take_is_honest : (j : Judged) (past : List Event) (e : Event) → map octets_given j.world.offered ≡ offers_in past → IsOffered past e → ComesInTime j e
-    → IsHonest j e
-take_is_honest j past (event.Took to octets) told was time = take_is_lawful j past to octets told was time
-take_is_honest j past event.Start told was time = tt
-take_is_honest j past (event.Turn turn now) told was time = tt
-take_is_honest j past (event.Pull by) told was time = tt
-take_is_honest j past (event.Job by job gave) told was time = tt
-take_is_honest j past (event.Length by name len fault) told was time = tt
-take_is_honest j past (event.Tick node sent) told was time = tt
-take_is_honest j past (event.Offer from octets) told was time = tt
-take_is_honest j past event.Empty told was time = tt
-take_is_honest j past (event.Up node instance up) told was time = tt
-take_is_honest j past (event.News news) told was time = tt
-take_is_honest j past event.End told was time = tt
+take_is_honest : (j : Judged) (past : List Event) (e : Event) → map octets_given j.world.offered ≡ offers_in past → IsOffered past e → IsHonest j e
+take_is_honest j past (event.Took to octets) told was = take_was_offered j past to octets told was
+take_is_honest j past event.Start told was = tt
+take_is_honest j past (event.Turn turn now) told was = tt
+take_is_honest j past (event.Pull by) told was = tt
+take_is_honest j past (event.Job by job gave) told was = tt
+take_is_honest j past (event.Length by name len fault) told was = tt
+take_is_honest j past (event.Tick node sent) told was = tt
+take_is_honest j past (event.Offer from octets) told was = tt
+take_is_honest j past event.Empty told was = tt
+take_is_honest j past (event.Up node instance up) told was = tt
+take_is_honest j past (event.News news) told was = tt
+take_is_honest j past event.End told was = tt
 
 -- ---- the takes of a session
 
@@ -87,20 +78,15 @@ judged_more start j next past e so is =
 some_holds : {X : Type 0} (o : Option X) (P : X → Type 0) (x : X) → o ≡ Some x → P x → IfSome o P
 some_holds o P x is holds = subst (λ y. IfSome y P) (sym is) holds
 
-some_held : {X : Type 0} (o : Option X) (P : X → Type 0) (x : X) → o ≡ Some x → IfSome o P → P x
-some_held o P x is holds = subst (λ y. IfSome y P) is holds
-
 take_honestly : (script : Commands) (files : Told) (past events : List Event) (j last : Judged)
-    → judged_from (session_opening script files) past ≡ Some j → judged_from j events ≡ Some last → AreOffered past events → ComeInTime j events
-    → TakesHonestly j events
-unfolding judged_from AreOffered ComeInTime TakesHonestly
-take_honestly script files past [] j last so is offered time = tt
-take_honestly script files past (e ∷ events) j last so is offered time =
+    → judged_from (session_opening script files) past ≡ Some j → judged_from j events ≡ Some last → AreOffered past events → TakesHonestly j events
+unfolding judged_from AreOffered TakesHonestly
+take_honestly script files past [] j last so is offered = tt
+take_honestly script files past (e ∷ events) j last so is offered =
     option_and_then_some (λ next. judged_from next events) (accepts j e) last is (λ next comes more. (
-      take_is_honest j past e (offers_are_the_worlds script files (nodes_of script) past j so) offered.0 time.0,
+      take_is_honest j past e (offers_are_the_worlds script files (nodes_of script) past j so) offered.0,
       some_holds (accepts j e) (λ next. TakesHonestly next events) next comes
-          (take_honestly script files (past ++ e ∷ []) events next last (judged_more (session_opening script files) j next past e so comes) more offered.1
-          (some_held (accepts j e) (λ next. ComeInTime next events) next comes time.1)),
+          (take_honestly script files (past ++ e ∷ []) events next last (judged_more (session_opening script files) j next past e so comes) more offered.1),
     ))
 
 starts_there : (j : Judged) → judged_from j [] ≡ Some j
@@ -114,12 +100,12 @@ is_some o x is = subst IsSome (sym is) refl
 
 pub safe_so_far : (script : Commands) (files : Told) (journal : List Event) (last : Judged) → IsRunnable script
     → judged_from (session_opening script files) journal ≡ Some last → AreOffered [] journal → AllByRecursion HasOctets journal
-    → IsSafeInTime script files journal
-safe_so_far script files journal last is so offered octets time =
+    → IsSafe script files journal
+safe_so_far script files journal last is so offered octets =
     let start = session_opening script files in
     let begun : Begun script files (nodes_of script) journal = is_some (judged_from start journal) last so in
-    let honest = take_honestly script files [] journal start last (starts_there start) so offered time in
-    let lawful = begins_lawfully script files (nodes_of script) journal (scripts_named script is.is_script) begun honest in
+    let honest = take_honestly script files [] journal start last (starts_there start) so offered in
+    let lawful = begins_lawfully script files (nodes_of script) journal is.is_script is.objects begun octets honest in
     let events = session_events script files journal in
     let are = commands_are_events script files (nodes_of script) journal is.is_script begun octets in
     let of = commands_are_of_objects script files (nodes_of script) journal is.objects begun in
@@ -152,15 +138,15 @@ session_judged x journal last nodes so = subst (λ n. judged_from (opening (reco
 
 pub safe_over : (x : Context) (journal : List Event) (j : Judged) (network : Network) (written : Pieces) → Leads x journal j network written
     → x.nodes ≡ nodes_of x.script → IsRunnable x.script → IfSome x.network.offered (λ now. now ≡ [])
-    → OverHonest x.network (IsSafeInTime x.script x.files journal)
+    → OverHonest x.network (IsSafe x.script x.files journal)
 safe_over x journal j network written s nodes is none =
-    over_honest x (IsSafeInTime x.script x.files journal) none (λ honest told.
+    over_honest x (IsSafe x.script x.files journal) none (λ honest told.
     safe_so_far x.script x.files journal j is (session_judged x journal j nodes s.judged) (s.offered honest told) s.octets)
 
 -- the same where a fault stopped it
 pub safe_stopped : (x : Context) (fault : SessionFault) (network : Network) (written : Pieces) (s : Stopped x fault network written)
     → x.nodes ≡ nodes_of x.script → IsRunnable x.script → IfSome x.network.offered (λ now. now ≡ [])
-    → OverHonest x.network (IsSafeInTime x.script x.files s.journal)
+    → OverHonest x.network (IsSafe x.script x.files s.journal)
 safe_stopped x fault network written s nodes is none =
-    over_honest x (IsSafeInTime x.script x.files s.journal) none (λ honest told.
+    over_honest x (IsSafe x.script x.files s.journal) none (λ honest told.
     safe_so_far x.script x.files s.journal s.last is (session_judged x s.journal s.last nodes s.begun) (s.offered honest told) s.octets)

@@ -17,7 +17,7 @@ use Rattle.norm_session.specs.Moments.{HaveMoments}
 use Rattle.norm_session.specs.RunKept.{RunKept}
 use Rattle.norm_session.specs.SoFar.{Leads, At}
 use Rattle.norm_session.specs.Starting.{IsBegun}
-use Rattle.norm_session.specs.Session.{IsRunnable, OverHonest, IsSafeInTime, RunsSession, NotBegun, BreaksOff, StopsSession, context_of, end_of}
+use Rattle.norm_session.specs.Session.{IsRunnable, OverHonest, IsSafe, RunsSession, NotBegun, BreaksOff, StopsSession, context_of, end_of}
 use Rattle.norm_session.specs.Turning.{Span, span, StopsTurns}
 use Rattle.norm_session.specs.declared.fault.SessionFault.{SessionFault}
 use Rattle.norm_session.specs.declared.fault.SessionFault.TheVariants as fault
@@ -31,12 +31,12 @@ Begins script k started = (x : Context) → IsBegun x script started → At x k 
 -- what leads somewhere is safe
 abbrev pub LeadsSafely : Context → Type 0
 LeadsSafely x = (journal : List Event) (j : Judged) (network : Network) (written : Pieces) → Leads x journal j network written
-    → OverHonest x.network (IsSafeInTime x.script x.files journal)
+    → OverHonest x.network (IsSafe x.script x.files journal)
 
 -- what a fault stopped is safe
 abbrev pub StopsSafely : Context → Type 0
 StopsSafely x = (failed : SessionFault) (network : Network) (written : Pieces) (s : Stopped x failed network written)
-    → OverHonest x.network (IsSafeInTime x.script x.files s.journal)
+    → OverHonest x.network (IsSafe x.script x.files s.journal)
 
 how_it_ended : (x : Context) (k : RunKept) (whole : Bool) (network : Network) (written : Pieces) (e : HasEnded x k whole network written)
     → ending_of (judged_of x k e.here.world Over) ≡ Some (end_of whole)

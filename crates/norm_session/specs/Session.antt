@@ -1,16 +1,13 @@
 -- A whole session: what it did, and what a fault leaves of it.
-use Rattle.std.specs.Prelude.{◌≡◌, ◌≢◌, ◌⊎◌, ℕ, List, [], ◌∷◌, Bool, true, false, Contains, IfSome, IsTrue, ⊤}
+use Rattle.std.specs.Prelude.{◌≡◌, ◌⊎◌, ℕ, List, [], Bool, true, false, IfSome, IsTrue}
 use Rattle.std.specs.List.{AllByRecursion}
 use Rattle.norm_base.specs.Members.{receivers_of}
 use Rattle.norm_base.specs.Network.{Network, Starts}
 use Rattle.norm_base.specs.Told.{Pieces, gained}
 use Rattle.norm_base.specs.declared.kinds.Local.TheVariants.{All}
-use Rattle.norm_ext.specs.Written.{Written}
 use Rattle.norm_script.specs.Commands.{Commands}
 use Rattle.norm_script.specs.Scripts.{IsScript}
 use Rattle.norm_journal.specs.declared.event.Event.{Event}
-use Rattle.norm_journal.specs.declared.event.Event.TheVariants as event
-use Rattle.norm_journal.specs.Accepting.{accepts}
 use Rattle.norm_journal.specs.Jobs.{Told, IsOfObjects}
 use Rattle.norm_journal.specs.Judged.{Judged, judged_opening}
 use Rattle.norm_journal.specs.Printed.{lines_from}
@@ -23,7 +20,7 @@ use Rattle.norm_safety.specs.CreditsMembers.{CreditsMembers}
 use Rattle.norm_safety.specs.Events.{Event as WorldEvent}
 use Rattle.norm_safety.specs.FreshWants.{FreshWants}
 use Rattle.norm_safety.specs.History.{History, history}
-use Rattle.norm_safety.specs.Lawful.{Lawful, comes_in_time}
+use Rattle.norm_safety.specs.Lawful.{Lawful}
 use Rattle.norm_safety.specs.Laws.{SaidOfOrders}
 use Rattle.norm_safety.specs.LosesNothing.{LosesNothing}
 use Rattle.norm_safety.specs.Safe.{Safe}
@@ -51,18 +48,6 @@ session_opening script files = judged_opening script files (nodes_of script)
 abbrev pub session_events : Commands → Told → List Event → List WorldEvent
 session_events script files journal = world_events (session_opening script files) journal
 
--- What a take gives comes in time: wherever it was offered, it names only indices within 32,767 of the greatest that its node, or the
--- sender, knows by then.
-abbrev pub ComesInTime : Judged → Event → Type 0
-ComesInTime j (event.Took to octets) = (from : ℕ) (datagram : Written) → from ≢ to → Contains j.world.offered (from, datagram)
-    → datagram.octets ≡ octets → IsTrue (comes_in_time j.profile j.world to datagram)
-ComesInTime j _ = ⊤
-
--- the same of each take of a journal
-unfoldable pub ComeInTime : Judged → List Event → Type 0
-ComeInTime j [] = ⊤
-ComeInTime j (e ∷ events) = ComesInTime j e × IfSome (accepts j e) (λ next. ComeInTime next events)
-
 -- what happened in that world
 abbrev pub session_history : Commands → Told → List Event → History
 session_history script files journal = history script.profile (session_events script files journal)
@@ -86,9 +71,6 @@ pub record IsSafe (script : Commands) (files : Told) (journal : List Event) : Ty
   -- what a member acknowledges is credited
   pub credited : CreditsMembers script.profile (session_history script files journal)
 
-abbrev pub IsSafeInTime : Commands → Told → List Event → Type 0
-IsSafeInTime script files journal = ComeInTime (session_opening script files) journal → IsSafe script files journal
-
 -- over an honest network that tells what is offered
 abbrev pub OverHonest : Network → Type 0 → Type 0
 OverHonest started Promise = IsTrue started.honest → IfSome started.offered (λ offered. Promise)
@@ -108,7 +90,7 @@ pub record RunsSession (script : Commands) (files : Told) (journal : List Event)
   pub told : o.after ≡ network_after started journal
   pub lines : o.written ≡ gained o.unwritten (lines_from (session_opening script files) journal)
   pub moments : HaveMoments script.profile.step 0 o.unasked o.asked (moments_in journal)
-  pub safe : OverHonest started (IsSafeInTime script files journal)
+  pub safe : OverHonest started (IsSafe script files journal)
 
 -- Nothing was done: there was no memory, or the network was not started.
 pub record NotBegun (failed : SessionFault) (o : Span) : Type 0 where
@@ -136,7 +118,7 @@ pub record BreaksOff (failed : SessionFault) (script : Commands) (files : Told) 
   pub moments : List ℕ
   pub by_clock : HaveMoments script.profile.step 0 o.unasked o.asked moments
   pub stopped : Stopped (with_moments (context_of script files started o.unwritten) moments) failed o.after o.written
-  pub safe : OverHonest started (IsSafeInTime script files stopped.journal)
+  pub safe : OverHonest started (IsSafe script files stopped.journal)
 
 -- what a fault leaves of a session
 abbrev pub StopsSession : SessionFault → Commands → Told → Span → Type 0
