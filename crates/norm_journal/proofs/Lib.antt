@@ -19,3 +19,4 @@ pub mod ObjectLemmas
 pub mod ScriptLemmas
 pub mod EndLemmas
 pub mod TimeLemmas
+pub mod HandedLemmas

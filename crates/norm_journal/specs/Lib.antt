@@ -24,3 +24,4 @@ pub mod Said
 pub mod Counts
 pub mod Laws
 pub mod WorldEvents
+pub mod Handed

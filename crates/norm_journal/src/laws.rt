@@ -5,6 +5,7 @@ ghost use Rattle.norm_journal.specs.Said.{LinesReadBack};
 ghost use Rattle.norm_journal.specs.Free.{OnlyTheseAreFree};
 ghost use Rattle.norm_journal.specs.Calls.{CallsAreDue};
 ghost use Rattle.norm_journal.specs.Counts.{JournalIsCounted};
+ghost use Rattle.norm_journal.specs.Handed.{SaysTheHands};
 ghost use Rattle.norm_journal.specs.Laws.{FrontsAreAccepted, FrontsArePrinted, PullsInOrder, WholeIsDone, EndsLast, MovesTheWorld, BeginsHonestly, BeginsLawfully, FilesGoByLength, OffersAreTheWorlds, TakesStayHonest, CommandsAreEvents, CommandsAreOfObjects, ScriptsNameOnce};
 
 /// Each front of a journal that is accepted is accepted.
@@ -60,6 +61,12 @@ pub fn files_go_by_length()
 #[tactic(auto, using(crate::proofs::OfferedLemmas::offers_are_the_worlds))]
 pub fn offers_are_the_worlds()
     ensures { OffersAreTheWorlds }
+{}
+
+/// What a journal says that was handed up is what was handed up in the nodes' world.
+#[tactic(auto, using(crate::proofs::HandedLemmas::says_the_hands))]
+pub fn says_the_hands()
+    ensures { SaysTheHands }
 {}
 
 /// Takes stay honest with one more event that is.
