@@ -20,3 +20,4 @@ pub mod ScriptLemmas
 pub mod EndLemmas
 pub mod TimeLemmas
 pub mod HandedLemmas
+pub mod GoingLemmas

@@ -25,3 +25,4 @@ pub mod Counts
 pub mod Laws
 pub mod WorldEvents
 pub mod Handed
+pub mod GoingOn

@@ -5,6 +5,7 @@ ghost use Rattle.norm_journal.specs.Said.{LinesReadBack};
 ghost use Rattle.norm_journal.specs.Free.{OnlyTheseAreFree};
 ghost use Rattle.norm_journal.specs.Calls.{CallsAreDue};
 ghost use Rattle.norm_journal.specs.Counts.{JournalIsCounted};
+ghost use Rattle.norm_journal.specs.GoingOn.{GoesOn};
 ghost use Rattle.norm_journal.specs.Handed.{SaysTheHands};
 ghost use Rattle.norm_journal.specs.Laws.{FrontsAreAccepted, FrontsArePrinted, PullsInOrder, WholeIsDone, EndsLast, MovesTheWorld, BeginsHonestly, BeginsLawfully, FilesGoByLength, OffersAreTheWorlds, TakesStayHonest, CommandsAreEvents, CommandsAreOfObjects, ScriptsNameOnce};
 
@@ -90,6 +91,12 @@ pub fn commands_are_events()
 #[tactic(auto, using(crate::proofs::ObjectLemmas::commands_are_of_objects))]
 pub fn commands_are_of_objects()
     ensures { CommandsAreOfObjects }
+{}
+
+/// Where a run has no ending yet, some event may come.
+#[tactic(auto, using(crate::proofs::GoingLemmas::goes_on))]
+pub fn goes_on()
+    ensures { GoesOn }
 {}
 
 /// In a script each command has a name of its own.
