@@ -131,6 +131,10 @@ least_fits s used may_go none =
     ltb-false (max s.first may_go) (div_ceil used s.cut.b - s.blocks)
     (free_room (nat_lt (16777216 * s.cut.b) used) (nat_lt (max s.first may_go) (div_ceil used s.cut.b - s.blocks)) s.octets s.first none).1
 
+-- no block is given up that may not be
+pub first_fits : (s : StreamState) (used may_go : ℕ) → room_fault s used may_go ≡ None → kept_for s used ≤ max s.first may_go
+first_fits s used may_go none = omega (arith, least_fits s used may_go none)
+
 -- the first block that is kept then is one that may be
 pub kept_fits : (s : StreamState) (used may_go : ℕ) → room_fault s used may_go ≡ None → may_go * s.cut.b ≤ closed_segments s → kept_for s used * s.cut.b ≤ closed_segments s
 kept_fits s used may_go none may = go (cases_lt s.first may_go)

@@ -11,7 +11,7 @@ ghost use Rattle.norm_base.specs.declared.node.Origin.{Origin};
 ghost use Rattle.fec_plan.specs.Partition.{place_octets};
 ghost use Rattle.norm_order.specs.Entries.{Part, Write, End};
 ghost use Rattle.stream_buffer.specs.StreamState.{StreamState, StandsFor, Answers, empty_stream, kept_from, closed_segments, with_cut, is_there, octets_of, sent_of, block_code, rows_of_block};
-ghost use Rattle.stream_buffer.specs.StreamMoves.{with_octets, cut_here, ended_here, kept_for, from_block, room_fault};
+ghost use Rattle.stream_buffer.specs.StreamMoves.{with_octets, wrote_here, cut_here, ended_here, closed_here, kept_for, from_block, room_fault};
 
 use crate::rows::Rows;
 use fec_plan::Plan;
@@ -114,6 +114,14 @@ impl StreamBuf {
         self.rows.closed() as u32
     }
 
+    /// How many closed segments are kept: those of the first block that was not given up, and all behind it.
+    pub fn kept(&self) -> usize
+        ensures exact { result ≡ length self.now.rows }
+        ensures few { result ≤ self.now.blocks * self.now.cut.b }
+    {
+        self.rows.closed() - self.first as usize * usize::from(self.b)
+    }
+
     /// How many octets were written so far.
     pub fn octets(&self) -> u32
         ensures { result ≡ self.now.octets }
@@ -193,6 +201,9 @@ impl StreamBuf {
         requires closed { may_go * self.old.cut.b ≤ closed_segments self.old }
         ensures answer { (p : Settings) (parts : List Part) (by : Origin) → StandsFor p parts self.old
             → Answers p parts (Write by bytes.now ∷ []) may_go self.old.octets self.old self.new result }
+        ensures exact { OnOk result (self.new ≡ wrote_here bytes.now self.old) }
+        ensures kept { OnOk result (kept_from self.new ≤ closed_segments self.old) }
+        ensures first { OnOk result (self.new.first ≤ max self.old.first may_go) }
         ensures refused { OnErr result (self.new ≡ self.old) }
     {
         if self.ended {
@@ -248,6 +259,9 @@ impl StreamBuf {
         requires closed { may_go * self.old.cut.b ≤ closed_segments self.old }
         ensures answer { (p : Settings) (parts : List Part) → StandsFor p parts self.old
             → Answers p parts (End ∷ []) may_go tt self.old self.new result }
+        ensures exact { OnOk result (self.new ≡ closed_here self.old) }
+        ensures kept { OnOk result (kept_from self.new ≤ closed_segments self.old) }
+        ensures first { OnOk result (self.new.first ≤ max self.old.first may_go) }
         ensures refused { OnErr result (self.new ≡ self.old) }
     {
         if self.ended {
