@@ -109,7 +109,8 @@ impl StreamBuf {
 
     /// How many segments were closed so far.
     pub fn segments(&self) -> u32
-        ensures { result ≡ closed_segments self.now }
+        ensures exact { result ≡ closed_segments self.now }
+        ensures few { result ≤ 16777216 * self.now.cut.b }
     {
         self.rows.closed() as u32
     }

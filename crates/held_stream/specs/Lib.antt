@@ -1,0 +1,2 @@
+pub mod HeldState
+pub mod HeldSound
