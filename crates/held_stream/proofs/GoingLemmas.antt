@@ -1,6 +1,6 @@
 -- Which blocks may go, whether all was sent, and which segment is the last.
-use Rattle.std.proofs.Common.{◌≡◌, ℕ, zero, suc, ◌+◌, ◌-◌, ◌*◌, ◌/◌, ◌%◌, ◌<◌, ◌≤◌, ◌⊎◌, inl, inr, Bool, true, false, refl, sym, ap, subst, ◌∙◌, arith, List, [], ◌∷◌, ◌++◌, length, take, drop, map, Option, Some, None}
-use Rattle.std.specs.Prelude.{nat_lt, min, ◌==◌, ◌&&◌, flat_map}
+use Rattle.std.proofs.Common.{◌≡◌, ℕ, zero, suc, ◌+◌, ◌-◌, ◌*◌, ◌/◌, ◌%◌, ◌<◌, ◌≤◌, ◌⊎◌, inl, inr, Bool, true, false, refl, sym, ap, ◌∙◌, arith, List, length, take, drop, Option, Some, None}
+use Rattle.std.specs.Prelude.{min, ◌==◌, ◌&&◌, flat_map}
 use Rattle.std.specs.List.{range_with_len, list_all}
 use Rattle.std.specs.Int.{div_ceil}
 use Rattle.std.proofs.lemmas.Bool.{cases_lt}
@@ -14,12 +14,12 @@ use Rattle.norm_base.specs.declared.kinds.Mode.TheVariants as mode
 use Rattle.fec_plan.specs.Points.{Position, position, position_before, reached_by}
 use Rattle.norm_order.specs.Entries.{Part, Stream}
 use Rattle.norm_order.specs.Sets.{is_member}
-use Rattle.norm_order.specs.Shapes.{Shape, shape_of, symbols_of, sources_in, closed_in, closed_blocks, last_in, is_full}
+use Rattle.norm_order.specs.Shapes.{shape_of, symbols_of, sources_in, last_in, is_full}
 use Rattle.norm_send_rules.specs.SenderState.{SenderState}
 use Rattle.norm_send_rules.specs.Watermarks.{all_past}
 use Rattle.norm_send_rules.specs.Room.{all_sent, is_released, block_may_go}
-use Rattle.stream_buffer.specs.StreamState.{StreamState, StandsFor, kept_from, closed_segments}
-use Rattle.held_stream.specs.HeldState.{HeldState, Knows, place_of, was_sent, marks_of}
+use Rattle.stream_buffer.specs.StreamState.{StreamState, closed_segments}
+use Rattle.held_stream.specs.HeldState.{HeldState, Knows, place_of, was_sent}
 use Rattle.held_stream.proofs.RangeLemmas.{place_is, range_split, marks_dropped, marks_taken, all_pass, all_same, times_less}
 use Rattle.held_stream.proofs.KnowsLemmas.{closed_of, counted, full_is, not_full, first_by}
 

@@ -1,27 +1,25 @@
 -- What a stream of the window knows, as the stream goes on and as its symbols are sent.
-use Rattle.std.proofs.Common.{◌≡◌, ℕ, zero, suc, ◌+◌, ◌-◌, ◌*◌, ◌/◌, ◌%◌, ◌<◌, ◌≤◌, ◌⊎◌, inl, inr, Bool, true, false, refl, sym, ap, subst, ◌∙◌, arith, List, [], ◌∷◌, ◌++◌, length, take, drop, map, Option, Some, None, length-append, length-drop}
+use Rattle.std.proofs.Common.{◌≡◌, ℕ, ◌+◌, ◌-◌, ◌*◌, ◌/◌, ◌%◌, ◌<◌, ◌≤◌, ◌⊎◌, inl, inr, Bool, true, false, refl, sym, ap, ◌∙◌, arith, List, [], ◌++◌, length, take, drop, Option, Some, None, length-append, length-drop}
 use Rattle.std.specs.Prelude.{replicate, nat_lt, min, max, ◌==◌, Result, Ok, Err, MatchOption}
-use Rattle.std.specs.List.{range_with_len}
-use Rattle.std.proofs.lemmas.Bool.{cases_lt, lt-ltb, le-ltb, ltb-true, ltb-false, eqb-true, eqb-false}
-use Rattle.std.proofs.lemmas.List.{take_all, length-map, append-nil}
-use Rattle.std.proofs.lemmas.Nat.{div-mul-add, mod-mul-add, div-add-mod'}
+use Rattle.std.proofs.lemmas.Bool.{cases_lt, lt-ltb, ltb-true}
+use Rattle.std.proofs.lemmas.List.{take_all}
+use Rattle.std.proofs.lemmas.Nat.{div-add-mod'}
 use Rattle.std.proofs.lemmas.List.FromFn.{length-map-range_with_len}
 use Rattle.std.proofs.Math.Nat.{mod-lt, mul-le-mul_right}
 use Rattle.norm_base.specs.Settings.{Settings}
-use Rattle.fec_plan.specs.Partition.{Cut, source_symbols, encoding_symbols, symbol_number, stream_cut}
-use Rattle.fec_plan.specs.Points.{Position, position, position_before}
+use Rattle.fec_plan.specs.Partition.{Cut, encoding_symbols}
+use Rattle.fec_plan.specs.Points.{Position, position_before}
 use Rattle.norm_order.specs.Entries.{Part, Stream}
-use Rattle.norm_order.specs.Sets.{is_member, with_member}
-use Rattle.norm_order.specs.Segments.{segments, closed_from}
-use Rattle.norm_order.specs.Shapes.{Shape, shape_of, closed_in, is_full, encoded_in}
+use Rattle.norm_order.specs.Sets.{is_member}
+use Rattle.norm_order.specs.Segments.{closed_from}
+use Rattle.norm_order.specs.Shapes.{shape_of, closed_in, is_full, encoded_in}
 use Rattle.norm_order.proofs.StreamLemmas.{length-placed}
-use Rattle.norm_order.proofs.SetLemmas.{self_in, others_in, positions}
 use Rattle.norm_send_rules.proofs.ShapeLemmas.{Blocks, shape_parity, encoded_in_more}
 use Rattle.norm_send_rules.specs.declared.fault.StreamFault.{StreamFault}
 use Rattle.stream_buffer.specs.StreamState.{StreamState, StandsFor, Goes, Answers, stream_fault, kept_from, closed_segments}
 use Rattle.stream_buffer.proofs.StandingLemmas.{closed_is}
 use Rattle.held_stream.specs.HeldState.{HeldState, Knows, AllSent, place_of, was_sent, marks_of}
-use Rattle.held_stream.proofs.RangeLemmas.{place_is, marks_dropped, marks_taken, marks_more, none_pass, times_less}
+use Rattle.held_stream.proofs.RangeLemmas.{marks_dropped, marks_more, none_pass, times_less}
 
 -- how many segments of a stream are closed
 abbrev pub closed_of : Settings → List Part → ℕ

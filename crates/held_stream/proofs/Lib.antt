@@ -3,3 +3,4 @@ pub mod RangeLemmas
 pub mod KnowsLemmas
 pub mod GoingLemmas
 pub mod NotedLemmas
+pub mod GrowingLemmas

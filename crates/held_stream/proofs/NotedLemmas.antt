@@ -1,11 +1,10 @@
 -- A stream of which one more symbol was sent.
-use Rattle.std.proofs.Common.{◌≡◌, ℕ, zero, suc, ◌+◌, ◌-◌, ◌*◌, ◌/◌, ◌%◌, ◌<◌, ◌≤◌, ◌⊎◌, inl, inr, Bool, true, false, refl, sym, ap, subst, ◌∙◌, arith, List, [], ◌∷◌, length, map}
+use Rattle.std.proofs.Common.{◌≡◌, ℕ, zero, suc, ◌+◌, ◌*◌, ◌/◌, ◌%◌, ◌<◌, ◌≤◌, ◌⊎◌, inl, inr, Bool, true, false, refl, sym, ap, subst, ◌∙◌, arith, List, ◌∷◌, length, map}
 use Rattle.std.specs.Prelude.{nat_lt}
 use Rattle.std.specs.List.{range_with_len}
 use Rattle.std.proofs.Math.ListN.{set}
 use Rattle.std.proofs.Math.Nat.{mod-lt}
 use Rattle.std.proofs.lemmas.Nat.{div-add-mod'}
-use Rattle.std.proofs.lemmas.Bool.{cases_lt}
 use Rattle.norm_base.specs.Settings.{Settings}
 use Rattle.fec_plan.specs.Points.{Position, position, position_before, same_position}
 use Rattle.fec_plan.proofs.PositionLemmas.{positions_same, position_itself}
@@ -15,7 +14,7 @@ use Rattle.norm_order.specs.Shapes.{shape_of, encoded_in}
 use Rattle.norm_order.proofs.SetLemmas.{self_in, others_in, positions}
 use Rattle.held_stream.specs.HeldState.{HeldState, Knows, place_of, was_sent, marks_of}
 use Rattle.held_stream.proofs.RangeLemmas.{place_is}
-use Rattle.held_stream.proofs.KnowsLemmas.{closed_of, counted, is_closed, first_by}
+use Rattle.held_stream.proofs.KnowsLemmas.{counted, is_closed, first_by}
 
 map_alike : (f g : ℕ → Bool) (a n : ℕ) → ((i : ℕ) → i < n → g (a + i) ≡ f (a + i)) → map f (range_with_len a n) ≡ map g (range_with_len a n)
 map_alike f g a zero same = refl

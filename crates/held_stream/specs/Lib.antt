@@ -1,2 +1,3 @@
 pub mod HeldState
 pub mod HeldSound
+pub mod Growing

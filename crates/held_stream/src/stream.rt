@@ -1,6 +1,6 @@
 //! A stream of the window, open or closed.
 
-ghost use Rattle.std.specs.Prelude.{ℕ, true, ◌≡◌, ◌<◌, ◌≤◌, ◌+◌, ◌-◌, ◌*◌, ◌++◌, List, [], ◌∷◌, IfOk, OnErr, OnOk, length, nat_lt, Some};
+ghost use Rattle.std.specs.Prelude.{ℕ, true, ◌≡◌, ◌<◌, ◌≤◌, ◌+◌, ◌-◌, ◌*◌, ◌++◌, List, [], ◌∷◌, IfOk, OnErr, OnOk, length, nat_lt, max, not, false};
 ghost use Rattle.std.specs.List.{list_all, range_with_len};
 ghost use Rattle.norm_base.specs.Sizes.{datagram_room};
 ghost use Rattle.norm_base.specs.declared.kinds.Mode.TheVariants.{Hold, Drop as Dropping};
@@ -9,6 +9,7 @@ ghost use Rattle.norm_base.specs.declared.node.Origin.{Origin};
 ghost use Rattle.fec_plan.specs.Partition.{place_octets};
 ghost use Rattle.fec_plan.specs.Points.{Position as Place, position, position_before, reached_by};
 ghost use Rattle.norm_order.specs.Entries.{Part, Write, End, Stream};
+ghost use Rattle.norm_order.specs.Segments.{has_end, written};
 ghost use Rattle.norm_order.specs.Sets.{is_member, with_member};
 ghost use Rattle.norm_order.specs.Shapes.{shape_of, encoded_in, sources_in, last_in};
 ghost use Rattle.norm_send_rules.specs.SenderState.{SenderState};
@@ -16,6 +17,7 @@ ghost use Rattle.norm_send_rules.specs.Watermarks.{all_past};
 ghost use Rattle.norm_send_rules.specs.Room.{all_sent, block_may_go};
 ghost use Rattle.stream_buffer.specs.StreamState.{StandsFor, Answers, closed_segments, with_cut, is_there, octets_of};
 ghost use Rattle.held_stream.specs.HeldState.{HeldState, Knows, AllSent};
+ghost use Rattle.held_stream.specs.Growing.{has_room, Grows};
 
 use crate::marks::{are_sent, follow};
 use fec_plan::{Plan, Position, reached_by};
@@ -118,13 +120,8 @@ impl HeldStream {
         self.buffer.symbol(block, symbol, out)
     }
 
-    /// Writes octets, at least one, and answers the offset of the first. Blocks below `may_go`, whose segments were all
-    /// sent, may be given up for room, oldest first and no more than needed. It takes no memory.
-    ///
-    /// # Errors
-    ///
-    /// As of [`StreamBuf::write`]. Nothing changes then.
-    pub fn write(&mut self, bytes: &[u8], may_go: u32) -> Result<u32, StreamFault>
+    /// Writes octets, where blocks below `may_go`, whose segments were all sent, may be given up for room.
+    fn put(&mut self, bytes: &[u8], may_go: u32) -> Result<u32, StreamFault>
         requires some { 1 ≤ length bytes.now }
         requires closed { may_go * self.old.buffer.cut.b ≤ closed_segments self.old.buffer }
         ensures answer { (p : Settings) (parts : List Part) (by : Origin) → StandsFor p parts self.old.buffer
@@ -155,12 +152,8 @@ impl HeldStream {
         follow(&mut self.sent, 0, kept);
     }
 
-    /// Ends the stream. `may_go` is as in [`write`](HeldStream::write). It takes no memory.
-    ///
-    /// # Errors
-    ///
-    /// As of [`StreamBuf::close`]. Nothing changes then.
-    pub fn close(&mut self, may_go: u32) -> Result<(), StreamFault>
+    /// Ends the stream, where blocks below `may_go`, whose segments were all sent, may be given up for room.
+    fn end(&mut self, may_go: u32) -> Result<(), StreamFault>
         requires closed { may_go * self.old.buffer.cut.b ≤ closed_segments self.old.buffer }
         ensures answer { (p : Settings) (parts : List Part) → StandsFor p parts self.old.buffer
             → Answers p parts (End ∷ []) may_go tt self.old.buffer self.new.buffer result }
@@ -251,6 +244,85 @@ impl HeldStream {
             }
         }
         true
+    }
+
+    /// The blocks below this one may be given up for room, where the first that is kept then is `least`. `before` says
+    /// whether all entries before the stream may go.
+    fn may_go(
+        &self,
+        profile: &Profile,
+        index: u32,
+        past: &Option<Position>,
+        before: bool,
+        least: u32,
+    ) -> u32
+        ensures exact { (s : SenderState) (parts : List Part) → Knows profile.now index parts s.sent self.now
+            → ((at : Place) → all_past s at ≡ reached_by past.now at)
+            → nat_lt (max self.now.buffer.first result) least ≡ not (has_room profile.now s index parts self.now.buffer.first before least) }
+        ensures closed { result * self.now.buffer.cut.b ≤ closed_segments self.now.buffer }
+        ensures sent { (s : SenderState) (parts : List Part) → Knows profile.now index parts s.sent self.now
+            → ((at : Place) → all_past s at ≡ reached_by past.now at) → AllSent profile.now index s.sent result }
+    {
+        if !before {
+            return 0;
+        }
+        if least <= self.buffer.first_block() {
+            return 0;
+        }
+        if !self.blocks_may_go(profile, index, past, least) {
+            return 0;
+        }
+        least
+    }
+
+    /// Writes octets, at least one, to the stream with this index, and answers the offset of the first. Where there is no
+    /// room, blocks go for it, oldest first and no more than needed, if they may and the entries before the stream may
+    /// (`before`). It takes no memory.
+    ///
+    /// # Errors
+    ///
+    /// `Spent` where the stream would have more octets than 32 bits count, or more segments than 2^24 blocks; `Full` where
+    /// blocks would have to go that may not. Nothing changes then.
+    pub fn write(
+        &mut self,
+        profile: &Profile,
+        index: u32,
+        past: &Option<Position>,
+        before: bool,
+        bytes: &[u8],
+    ) -> Result<u32, StreamFault>
+        requires { 1 ≤ length bytes.now }
+        ensures answer { (s : SenderState) (parts : List Part) (by : Origin) → Knows profile.now index parts s.sent self.old → has_end parts ≡ false
+            → ((at : Place) → all_past s at ≡ reached_by past.now at)
+            → Grows profile.now s index parts (Write by bytes.now ∷ []) before (length (written parts)) self.old self.new result }
+        ensures refused { OnErr result (self.new ≡ self.old) }
+    {
+        let least = self.buffer.least_for(bytes);
+        let may_go = self.may_go(profile, index, past, before, least);
+        self.put(bytes, may_go)
+    }
+
+    /// Ends the stream with this index: closes the segment that fills, where it holds octets, and adds one of no octets.
+    /// Blocks go for room as in [`write`](HeldStream::write). It takes no memory.
+    ///
+    /// # Errors
+    ///
+    /// As in [`write`](HeldStream::write).
+    pub fn close(
+        &mut self,
+        profile: &Profile,
+        index: u32,
+        past: &Option<Position>,
+        before: bool,
+    ) -> Result<(), StreamFault>
+        ensures answer { (s : SenderState) (parts : List Part) → Knows profile.now index parts s.sent self.old → has_end parts ≡ false
+            → ((at : Place) → all_past s at ≡ reached_by past.now at)
+            → Grows profile.now s index parts (End ∷ []) before tt self.old self.new result }
+        ensures refused { OnErr result (self.new ≡ self.old) }
+    {
+        let least = self.buffer.least_for_end();
+        let may_go = self.may_go(profile, index, past, before, least);
+        self.end(may_go)
     }
 
     /// Whether all closed segments were sent.

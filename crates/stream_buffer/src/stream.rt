@@ -10,6 +10,9 @@ ghost use Rattle.norm_base.specs.Settings.{Settings};
 ghost use Rattle.norm_base.specs.declared.node.Origin.{Origin};
 ghost use Rattle.fec_plan.specs.Partition.{place_octets};
 ghost use Rattle.norm_order.specs.Entries.{Part, Write, End};
+ghost use Rattle.norm_order.specs.Segments.{has_end};
+ghost use Rattle.norm_send_rules.specs.Room.{least_kept};
+ghost use Rattle.norm_send_rules.specs.Streaming.{used_segments, is_spent};
 ghost use Rattle.stream_buffer.specs.StreamState.{StreamState, StandsFor, Answers, empty_stream, kept_from, closed_segments, with_cut, is_there, octets_of, sent_of, block_code, rows_of_block};
 ghost use Rattle.stream_buffer.specs.StreamMoves.{with_octets, wrote_here, cut_here, ended_here, closed_here, kept_for, from_block, room_fault};
 
@@ -187,6 +190,37 @@ impl StreamBuf {
         self.first = self.first.max(least);
         self.rows.give_up(self.first as usize * usize::from(self.b));
         Ok(())
+    }
+
+    /// The first block that is kept where so many segments have room.
+    fn least(&self, used: u64) -> u32
+        ensures { used ≤ 16777216 * self.now.cut.b → result ≡ div_ceil used self.now.cut.b - self.now.blocks }
+    {
+        let b = u64::from(self.b);
+        if used > MOST_BLOCKS * b {
+            return 0;
+        }
+        used.div_ceil(b).saturating_sub(u64::from(self.blocks)) as u32
+    }
+
+    /// The first block that is kept where these octets have room, in a stream that can have so many.
+    pub fn least_for(&self, bytes: &[u8]) -> u32
+        ensures { (p : Settings) (parts : List Part) (by : Origin) → StandsFor p parts self.now → has_end parts ≡ false
+            → is_spent p (parts ++ Write by bytes.now ∷ []) ≡ false → result ≡ least_kept p (used_segments p (parts ++ Write by bytes.now ∷ [])) }
+    {
+        let segments = (self.rows.filled() + bytes.len()).div_ceil(usize::from(self.e));
+        let used = (self.rows.closed() + segments) as u64;
+        self.least(used)
+    }
+
+    /// The first block that is kept where the end has room, in a stream that can have it.
+    pub fn least_for_end(&self) -> u32
+        ensures { (p : Settings) (parts : List Part) → StandsFor p parts self.now → has_end parts ≡ false
+            → is_spent p (parts ++ End ∷ []) ≡ false → result ≡ least_kept p (used_segments p (parts ++ End ∷ [])) }
+    {
+        let filling = self.rows.filled().min(1);
+        let used = (self.rows.closed() + filling + 1) as u64;
+        self.least(used)
     }
 
     /// Writes octets, at least one, and answers the offset of the first. Blocks below `may_go`, whose segments are all

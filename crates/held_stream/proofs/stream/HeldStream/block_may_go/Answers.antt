@@ -1,13 +1,10 @@
-use Rattle.std.proofs.Common.{◌≡◌, ◌+◌, ◌-◌, ◌*◌, ◌<◌, ◌≤◌, ap, sym, subst, ◌∙◌, arith, ℕ, List, Bool, true, take, drop}
-use Rattle.std.specs.Prelude.{Some}
+use Rattle.std.proofs.Common.{◌≡◌, ◌+◌, ◌-◌, ◌*◌, ◌≤◌, ap, sym, subst, ◌∙◌, arith, Bool, true, take, drop}
 use Rattle.std.specs.List.{list_all}
 use Rattle.std.proofs.Math.Nat.{mul-le-mul_right}
 use Rattle.norm_base.specs.Settings.{Settings}
 use Rattle.norm_base.specs.declared.kinds.Mode.TheVariants as mode
 use Rattle.fec_plan.specs.Partition.{Cut}
 use Rattle.fec_plan.specs.Points.{position, reached_by}
-use Rattle.norm_send_rules.specs.Room.{is_released}
-use Rattle.stream_buffer.specs.StreamState.{StreamState, closed_segments}
 use Rattle.held_stream.specs.HeldState.{HeldState, Knows}
 use Rattle.held_stream.specs.HeldSound.{held_view}
 use Rattle.held_stream.proofs.RangeLemmas.{times_less}

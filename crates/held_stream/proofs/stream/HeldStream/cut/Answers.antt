@@ -1,4 +1,4 @@
-use Rattle.std.proofs.Common.{◌≡◌, ◌-◌, ◌*◌, ◌≤◌, ◌++◌, ap, sym, subst, ◌∙◌, arith, false, length, take, drop}
+use Rattle.std.proofs.Common.{◌≡◌, ◌-◌, ◌*◌, ◌≤◌, ◌++◌, ap, sym, subst, ◌∙◌, arith, false, length, take}
 use Rattle.std.specs.Prelude.{replicate}
 use Rattle.stream_buffer.specs.StreamState.{StreamState, kept_from, closed_segments, with_cut}
 use Rattle.held_stream.specs.HeldState.{Knows, AllSent}

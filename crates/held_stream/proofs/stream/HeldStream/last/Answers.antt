@@ -1,9 +1,9 @@
-use Rattle.std.proofs.Common.{◌≡◌, ◌+◌, ◌-◌, ◌/◌, ◌%◌, ◌<◌, ap, sym, subst, ◌∙◌, arith, Some}
+use Rattle.std.proofs.Common.{◌≡◌, ◌+◌, ◌-◌, ◌/◌, ◌%◌, ap, sym, subst, ◌∙◌, arith, Some}
 use Rattle.fec_plan.specs.Partition.{Cut}
 use Rattle.fec_plan.specs.Points.{position}
 use Rattle.stream_buffer.specs.StreamState.{StandsFor}
 use Rattle.held_stream.specs.HeldState.{HeldState}
-use Rattle.held_stream.proofs.KnowsLemmas.{closed_of, counted}
+use Rattle.held_stream.proofs.KnowsLemmas.{counted}
 use Rattle.held_stream.proofs.GoingLemmas.{none_last, last_is, last_below}
 use Rattle.held_stream.proofs.stream.HeldStream.last.Goals as goal
 
