@@ -131,6 +131,10 @@ least_fits s used may_go none =
     ltb-false (max s.first may_go) (div_ceil used s.cut.b - s.blocks)
     (free_room (nat_lt (16777216 * s.cut.b) used) (nat_lt (max s.first may_go) (div_ceil used s.cut.b - s.blocks)) s.octets s.first none).1
 
+-- no block is given up that may not be
+pub first_fits : (s : StreamState) (used may_go : ℕ) → room_fault s used may_go ≡ None → kept_for s used ≤ max s.first may_go
+first_fits s used may_go none = omega (arith, least_fits s used may_go none)
+
 -- the first block that is kept then is one that may be
 pub kept_fits : (s : StreamState) (used may_go : ℕ) → room_fault s used may_go ≡ None → may_go * s.cut.b ≤ closed_segments s → kept_for s used * s.cut.b ≤ closed_segments s
 kept_fits s used may_go none may = go (cases_lt s.first may_go)
@@ -253,3 +257,20 @@ pub used_end : (v s : StreamState) (closed filled one from : ℕ) → v ≡ s �
     → one ≡ min filled 1 → closed + one + 1 ≡ closed_segments s + min 1 (length s.filling) + 1
 used_end v s closed filled one from same closed_is from_is filled_is one_is =
     omega (arith, ap closed_segments same, ap (λ (w : StreamState). length w.filling) same, closed_is, from_is, filled_is, one_is)
+
+-- ---- the first block that has to be kept
+
+not_spent : (a b : Bool) → (a || b) ≡ false → b ≡ false
+not_spent true b e = absurd (cc)
+not_spent false b e = e
+
+-- as the call counts it, where the stream can have these parts
+pub least_is : (p : Settings) (parts more : List Part) (s : StreamState) (used result : ℕ) → StandsFor p parts s → used_segments p (parts ++ more) ≡ used
+    → is_spent p (parts ++ more) ≡ false → (used ≤ 16777216 * s.cut.b → result ≡ div_ceil used s.cut.b - s.blocks) → result ≡ least_kept p (used_segments p (parts ++ more))
+least_is p parts more s used result st is free answer =
+    let few : used_segments p (parts ++ more) ≤ 16777216 * p.b = ltb-false (16777216 * p.b) (used_segments p (parts ++ more))
+    (not_spent (nat_lt 4294967295 (length (written (parts ++ more)))) (nat_lt (16777216 * p.b) (used_segments p (parts ++ more))) free) in
+    answer (omega (arith, few, is, ap (λ (c : Cut). c.b) st.cut))
+    ∙ ap (λ (c : Cut). div_ceil used c.b - s.blocks) st.cut
+    ∙ ap (λ n. div_ceil used p.b - n) st.blocks
+    ∙ ap (least_kept p) (sym is)

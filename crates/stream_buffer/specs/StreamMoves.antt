@@ -1,11 +1,11 @@
 -- What the calls do to what a buffer keeps.
-use Rattle.std.specs.Prelude.{ℕ, ◌+◌, ◌-◌, ◌*◌, List, [], ◌∷◌, ◌++◌, length, map, drop, max, true, nat_lt, Option}
+use Rattle.std.specs.Prelude.{ℕ, ◌+◌, ◌-◌, ◌*◌, List, [], ◌∷◌, ◌++◌, length, map, drop, max, min, true, nat_lt, Option}
 use Rattle.std.specs.Int.{div_ceil}
 use Rattle.norm_order.specs.First.{first_where}
 use Rattle.norm_order.specs.Segments.{full_pieces, all_pieces, placed}
 use Rattle.norm_send_rules.specs.declared.fault.StreamFault.{StreamFault}
 use Rattle.norm_send_rules.specs.declared.fault.StreamFault.TheVariants.{Spent, Full}
-use Rattle.stream_buffer.specs.StreamState.{StreamState, coded, kept_from, behind_full}
+use Rattle.stream_buffer.specs.StreamState.{StreamState, coded, kept_from, closed_segments, behind_full}
 
 -- these segments close, in place of the one that fills
 abbrev pub with_closed : List (List ℕ) → List ℕ → StreamState → StreamState
@@ -35,6 +35,15 @@ kept_for s used = max s.first (div_ceil used s.cut.b - s.blocks)
 -- blocks before this one are given up
 abbrev pub from_block : ℕ → StreamState → StreamState
 from_block first s = record s { first = first; rows = drop (first * s.cut.b - kept_from s) s.rows }
+
+-- octets are written, behind the blocks that have to go for them
+abbrev pub wrote_here : List ℕ → StreamState → StreamState
+wrote_here octets s =
+    with_octets octets (from_block (kept_for s (closed_segments s + div_ceil (length s.filling + length octets) s.cut.e)) s)
+
+-- the stream ends, behind the blocks that have to go for its end
+abbrev pub closed_here : StreamState → StreamState
+closed_here s = ended_here (from_block (kept_for s (closed_segments s + min 1 (length s.filling) + 1)) s)
 
 -- why there is no room for so many segments, where blocks before this one may go
 abbrev pub room_fault : StreamState → ℕ → ℕ → Option StreamFault

@@ -10,8 +10,11 @@ ghost use Rattle.norm_base.specs.Settings.{Settings};
 ghost use Rattle.norm_base.specs.declared.node.Origin.{Origin};
 ghost use Rattle.fec_plan.specs.Partition.{place_octets};
 ghost use Rattle.norm_order.specs.Entries.{Part, Write, End};
+ghost use Rattle.norm_order.specs.Segments.{has_end};
+ghost use Rattle.norm_send_rules.specs.Room.{least_kept};
+ghost use Rattle.norm_send_rules.specs.Streaming.{used_segments, is_spent};
 ghost use Rattle.stream_buffer.specs.StreamState.{StreamState, StandsFor, Answers, empty_stream, kept_from, closed_segments, with_cut, is_there, octets_of, sent_of, block_code, rows_of_block};
-ghost use Rattle.stream_buffer.specs.StreamMoves.{with_octets, cut_here, ended_here, kept_for, from_block, room_fault};
+ghost use Rattle.stream_buffer.specs.StreamMoves.{with_octets, wrote_here, cut_here, ended_here, closed_here, kept_for, from_block, room_fault};
 
 use crate::rows::Rows;
 use fec_plan::Plan;
@@ -109,9 +112,18 @@ impl StreamBuf {
 
     /// How many segments were closed so far.
     pub fn segments(&self) -> u32
-        ensures { result ≡ closed_segments self.now }
+        ensures exact { result ≡ closed_segments self.now }
+        ensures few { result ≤ 16777216 * self.now.cut.b }
     {
         self.rows.closed() as u32
+    }
+
+    /// How many closed segments are kept: those of the first block that was not given up, and all behind it.
+    pub fn kept(&self) -> usize
+        ensures exact { result ≡ length self.now.rows }
+        ensures few { result ≤ self.now.blocks * self.now.cut.b }
+    {
+        self.rows.closed() - self.first as usize * usize::from(self.b)
     }
 
     /// How many octets were written so far.
@@ -180,6 +192,37 @@ impl StreamBuf {
         Ok(())
     }
 
+    /// The first block that is kept where so many segments have room.
+    fn least(&self, used: u64) -> u32
+        ensures { used ≤ 16777216 * self.now.cut.b → result ≡ div_ceil used self.now.cut.b - self.now.blocks }
+    {
+        let b = u64::from(self.b);
+        if used > MOST_BLOCKS * b {
+            return 0;
+        }
+        used.div_ceil(b).saturating_sub(u64::from(self.blocks)) as u32
+    }
+
+    /// The first block that is kept where these octets have room, in a stream that can have so many.
+    pub fn least_for(&self, bytes: &[u8]) -> u32
+        ensures { (p : Settings) (parts : List Part) (by : Origin) → StandsFor p parts self.now → has_end parts ≡ false
+            → is_spent p (parts ++ Write by bytes.now ∷ []) ≡ false → result ≡ least_kept p (used_segments p (parts ++ Write by bytes.now ∷ [])) }
+    {
+        let segments = (self.rows.filled() + bytes.len()).div_ceil(usize::from(self.e));
+        let used = (self.rows.closed() + segments) as u64;
+        self.least(used)
+    }
+
+    /// The first block that is kept where the end has room, in a stream that can have it.
+    pub fn least_for_end(&self) -> u32
+        ensures { (p : Settings) (parts : List Part) → StandsFor p parts self.now → has_end parts ≡ false
+            → is_spent p (parts ++ End ∷ []) ≡ false → result ≡ least_kept p (used_segments p (parts ++ End ∷ [])) }
+    {
+        let filling = self.rows.filled().min(1);
+        let used = (self.rows.closed() + filling + 1) as u64;
+        self.least(used)
+    }
+
     /// Writes octets, at least one, and answers the offset of the first. Blocks below `may_go`, whose segments are all
     /// closed, may be given up for room, oldest first and no more than needed. It takes no memory.
     ///
@@ -193,6 +236,9 @@ impl StreamBuf {
         requires closed { may_go * self.old.cut.b ≤ closed_segments self.old }
         ensures answer { (p : Settings) (parts : List Part) (by : Origin) → StandsFor p parts self.old
             → Answers p parts (Write by bytes.now ∷ []) may_go self.old.octets self.old self.new result }
+        ensures exact { OnOk result (self.new ≡ wrote_here bytes.now self.old) }
+        ensures kept { OnOk result (kept_from self.new ≤ closed_segments self.old) }
+        ensures first { OnOk result (self.new.first ≤ max self.old.first may_go) }
         ensures refused { OnErr result (self.new ≡ self.old) }
     {
         if self.ended {
@@ -248,6 +294,9 @@ impl StreamBuf {
         requires closed { may_go * self.old.cut.b ≤ closed_segments self.old }
         ensures answer { (p : Settings) (parts : List Part) → StandsFor p parts self.old
             → Answers p parts (End ∷ []) may_go tt self.old self.new result }
+        ensures exact { OnOk result (self.new ≡ closed_here self.old) }
+        ensures kept { OnOk result (kept_from self.new ≤ closed_segments self.old) }
+        ensures first { OnOk result (self.new.first ≤ max self.old.first may_go) }
         ensures refused { OnErr result (self.new ≡ self.old) }
     {
         if self.ended {

@@ -2,10 +2,10 @@ use Rattle.std.proofs.Common.{◌≡◌, ◌+◌, ◌*◌, ◌≤◌, ◌<◌, �
 use Rattle.std.specs.Prelude.{Ok, Err, min}
 use Rattle.norm_order.specs.Entries.{End}
 use Rattle.norm_send_rules.specs.declared.fault.StreamFault.TheVariants.{Closed}
-use Rattle.stream_buffer.specs.StreamState.{StreamState, closed_segments}
+use Rattle.stream_buffer.specs.StreamState.{StreamState, kept_from, closed_segments}
 use Rattle.stream_buffer.specs.StreamMoves.{ended_here, room_fault, from_block, kept_for}
 use Rattle.stream_buffer.specs.StreamSound.{stream_view}
-use Rattle.stream_buffer.proofs.FaultLemmas.{refused, closed_first, room_first, no_room, made_room, made_free, closes, length_ended, some_e, used_end}
+use Rattle.stream_buffer.proofs.FaultLemmas.{refused, closed_first, room_first, no_room, made_room, made_free, first_fits, kept_fits, closes, length_ended, some_e, used_end}
 use Rattle.stream_buffer.proofs.StandingLemmas.{used_ended}
 use Rattle.fec_plan.specs.Partition.{Cut}
 use Rattle.stream_buffer.proofs.stream.StreamBuf.close.Goals as goal
@@ -84,3 +84,26 @@ returns-in-Ok-clause-answer c = λ p parts st.
     closes p parts s c.end.new.self used c.args.may_go (Ok tt) st some unended
     (omega (arith, length_ended parts, st.octets, ap (λ (v : StreamState). v.octets) c.self.view_is, c.self.invariant.octets))
     short many c.requires.closed made.0 (c.end.ensures ∙ ap ended_here made.1) refl
+
+pub returns-in-Ok-clause-exact : goal.returns-in-Ok-clause-exact
+returns-in-Ok-clause-exact c =
+    let s = c.args.self.now in
+    let made = made_room s c.make_room.new.self (c.closed.result + c.min-filling.result + 1) c.args.may_go c.make_room.result c.make_room.ensures c.in-Ok.is in
+    let used = used_end (stream_view c.self.inside) s c.closed.result c.filled.result c.min-filling.result c.self.inside.rows.first c.self.view_is c.closed.ensures c.self.invariant.first c.filled.ensures c.min-filling.ensures in
+    c.end.ensures ∙ ap ended_here (made.1 ∙ ap (λ n. from_block (kept_for s n) s) used)
+
+pub returns-in-Ok-clause-kept : goal.returns-in-Ok-clause-kept
+returns-in-Ok-clause-kept c =
+    let s = c.args.self.now in
+    let used = c.closed.result + c.min-filling.result + 1 in
+    let made = made_room s c.make_room.new.self used c.args.may_go c.make_room.result c.make_room.ensures c.in-Ok.is in
+    let first : kept_from c.end.new.self ≡ kept_for s used * s.cut.b = ap kept_from (c.end.ensures ∙ ap ended_here made.1) in
+    omega (arith, first, kept_fits s used c.args.may_go made.0 c.requires.closed)
+
+pub returns-in-Ok-clause-first : goal.returns-in-Ok-clause-first
+returns-in-Ok-clause-first c =
+    let s = c.args.self.now in
+    let used = c.closed.result + c.min-filling.result + 1 in
+    let made = made_room s c.make_room.new.self used c.args.may_go c.make_room.result c.make_room.ensures c.in-Ok.is in
+    let first : c.end.new.self.first ≡ kept_for s used = ap (λ (v : StreamState). v.first) (c.end.ensures ∙ ap ended_here made.1) in
+    omega (arith, first, first_fits s used c.args.may_go made.0)

@@ -4,10 +4,10 @@ use Rattle.std.specs.Int.{div_ceil}
 use Rattle.norm_order.specs.Entries.{Write}
 use Rattle.norm_order.specs.Segments.{has_end}
 use Rattle.norm_send_rules.specs.declared.fault.StreamFault.TheVariants.{Closed, Spent}
-use Rattle.stream_buffer.specs.StreamState.{StreamState, closed_segments}
+use Rattle.stream_buffer.specs.StreamState.{StreamState, kept_from, closed_segments}
 use Rattle.stream_buffer.specs.StreamMoves.{with_octets, room_fault, from_block, kept_for}
 use Rattle.stream_buffer.specs.StreamSound.{stream_view}
-use Rattle.stream_buffer.proofs.FaultLemmas.{refused, closed_first, spent_first, room_first, no_room, made_room, made_free, wrote, length_wrote, some_e, used_of}
+use Rattle.stream_buffer.proofs.FaultLemmas.{refused, closed_first, spent_first, room_first, no_room, made_room, made_free, first_fits, kept_fits, wrote, length_wrote, some_e, used_of}
 use Rattle.stream_buffer.proofs.StandingLemmas.{used_written}
 use Rattle.stream_buffer.proofs.stream.StreamBuf.write.Goals as goal
 
@@ -73,3 +73,26 @@ returns-in-Ok-clause-answer c = λ p parts by st.
     (some_e p parts s st (omega (arith, c.self.invariant.least_e, ap (λ (v : StreamState). v.cut.e) c.self.view_is))) (sym st.ended ∙ sym (ap (λ (v : StreamState). v.ended) c.self.view_is) ∙ c.if-self.false)
     (omega (arith, length_wrote parts by c.args.bytes.now, st.octets, ap (λ (v : StreamState). v.octets) c.self.view_is, c.from.ensures, c.if-bytes-from.false))
     (used_of (stream_view c.self.inside) c.args.self.now (length c.args.bytes.now) c.closed.result c.filled.result c.div_ceil-segments.result c.from-2.result c.self.inside.rows.first c.self.view_is c.closed.ensures c.self.invariant.first c.filled.ensures c.from-2.ensures c.div_ceil-segments.ensures) c.requires.closed made.0 (c.pour.ensures ∙ ap (with_octets c.args.bytes.now) made.1) (ap Ok (ap (λ (v : StreamState). v.octets) c.self.view_is))
+
+pub returns-in-Ok-clause-exact : goal.returns-in-Ok-clause-exact
+returns-in-Ok-clause-exact c =
+    let s = c.args.self.now in
+    let made = made_room s c.make_room.new.self (c.closed.result + c.div_ceil-segments.result) c.args.may_go c.make_room.result c.make_room.ensures c.in-Ok.is in
+    let used = used_of (stream_view c.self.inside) s (length c.args.bytes.now) c.closed.result c.filled.result c.div_ceil-segments.result c.from-2.result c.self.inside.rows.first c.self.view_is c.closed.ensures c.self.invariant.first c.filled.ensures c.from-2.ensures c.div_ceil-segments.ensures in
+    c.pour.ensures ∙ ap (with_octets c.args.bytes.now) (made.1 ∙ ap (λ n. from_block (kept_for s n) s) used)
+
+pub returns-in-Ok-clause-kept : goal.returns-in-Ok-clause-kept
+returns-in-Ok-clause-kept c =
+    let s = c.args.self.now in
+    let used = c.closed.result + c.div_ceil-segments.result in
+    let made = made_room s c.make_room.new.self used c.args.may_go c.make_room.result c.make_room.ensures c.in-Ok.is in
+    let first : kept_from c.pour.new.self ≡ kept_for s used * s.cut.b = ap kept_from (c.pour.ensures ∙ ap (with_octets c.args.bytes.now) made.1) in
+    omega (arith, first, kept_fits s used c.args.may_go made.0 c.requires.closed)
+
+pub returns-in-Ok-clause-first : goal.returns-in-Ok-clause-first
+returns-in-Ok-clause-first c =
+    let s = c.args.self.now in
+    let used = c.closed.result + c.div_ceil-segments.result in
+    let made = made_room s c.make_room.new.self used c.args.may_go c.make_room.result c.make_room.ensures c.in-Ok.is in
+    let first : c.pour.new.self.first ≡ kept_for s used = ap (λ (v : StreamState). v.first) (c.pour.ensures ∙ ap (with_octets c.args.bytes.now) made.1) in
+    omega (arith, first, first_fits s used c.args.may_go made.0)

@@ -1,0 +1,6 @@
+pub mod MarkLemmas
+pub mod RangeLemmas
+pub mod KnowsLemmas
+pub mod GoingLemmas
+pub mod NotedLemmas
+pub mod GrowingLemmas

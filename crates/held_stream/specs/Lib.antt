@@ -1,0 +1,3 @@
+pub mod HeldState
+pub mod HeldSound
+pub mod Growing
