@@ -4,7 +4,7 @@ use Rattle.std.specs.Prelude.{◌==◌, ◌||◌, ◌≢◌, insert, nat_lt, fin
 use Rattle.std.specs.List.{AllByRecursion, list_any}
 use Rattle.std.specs.Int.Bits.{xor_zero_l}
 use Rattle.std.proofs.lemmas.Bool.{cases_order, lt-ltb, eq-eqb, eqb-true, ne_eqb}
-use Rattle.std.proofs.lemmas.List.{length-append, length-map, length-replicate, length-take, append-nil, take_at, get_or_default}
+use Rattle.std.proofs.lemmas.List.{length-append, length-map, length-replicate, length-take, append-nil, take_at, get_or_default, ext_get_or}
 use Rattle.gf_field.specs.Element.{AreElements}
 use Rattle.gf_field.specs.Product.{product, shifts, sum_at_bits}
 use Rattle.gf_field.specs.Power.{power}
@@ -19,7 +19,7 @@ use Rattle.rx_stream.specs.BlockState.{Came, came_before, has_id, lacks, came_un
 use Rattle.rx_stream.specs.BlockSound.{sent_of, part_of, came_as, coded, listed, AreWhole, BlockSound, block_of, settled}
 use Rattle.rx_stream.specs.BlockMoves.{IsPlace, IsSent, IsCoded, IsRow, MayCome, with_came}
 use Rattle.rx_stream.proofs.Solving.{AreLong, long_at, encoded_again}
-use Rattle.rx_stream.proofs.Inserting.{IsNew, listed_more, below_more, sizes_more, octets_more, whole_more, rises_more, one_more, pair_at, are_ids}
+use Rattle.rx_stream.proofs.Inserting.{IsNew, listed_more, below_more, sizes_more, octets_more, whole_more, rises_more, one_more, pair_at, risen, are_ids}
 
 -- ---- ids
 
@@ -493,18 +493,38 @@ view_empty k size ids rows none = ap (λ xs. block_of k size xs rows) none
 pub back_again : (len : ℕ) (new old : List (List ℕ)) → length new ≡ len → take len (new ++ drop (length new) old) ≡ new
 back_again len new old long = take_at new (drop (length new) old) len long
 
-pub sound_empty : (k size : ℕ) (ids : List ℕ) (rows : List (List ℕ)) → 1 ≤ k → k ≤ 255 → 8 ≤ size → size ≤ 1408 → ids ≡ [] → rows ≡ [] → BlockSound k size ids rows
-sound_empty k size ids rows some most least room none none_rows =
-    subst (λ xs. BlockSound k size xs rows) (sym none) (subst (λ ys. BlockSound k size [] ys) (sym none_rows) (record {
-      some = some;
-      most = most;
-      least = least;
-      room = room;
-      count = refl;
-      few = omega arith;
-      rising = tt;
-      below = tt;
-      sizes = tt;
-      octets = tt;
-      whole = tt;
-    }))
+-- ---- a block whose own source symbols came
+
+at_least : (ids : List ℕ) → Rises ids → (i : ℕ) → i < length ids → i ≤ get_or ids i 0
+at_least ids all zero lt = omega arith
+at_least ids all (suc i) lt = (let le = at_least ids all i (omega arith) in let more = risen ids all i (suc i) 0 (omega arith) lt in omega (arith, le, more))
+
+apart_by : (ids : List ℕ) → Rises ids → (d i : ℕ) → i + d < length ids → get_or ids i 0 + d ≤ get_or ids (i + d) 0
+apart_by ids all zero i lt = (let e = ap (λ n. get_or ids n 0) (let f : i + 0 ≡ i = omega arith in f) in omega (arith, e))
+apart_by ids all (suc d) i lt =
+    let le = apart_by ids all d i (omega arith) in
+    let more = risen ids all (i + d) (suc (i + d)) 0 (omega arith) (omega arith) in
+    let e = ap (λ n. get_or ids n 0) (let f : i + suc d ≡ suc (i + d) = omega arith in f) in
+    omega (arith, le, more, e)
+
+-- ids that rise are all their own where the last one is
+pub own_by_last : (ids : List ℕ) (last : ℕ) → Rises ids → last + 1 ≡ length ids → get_or ids last 0 ≡ last → (i : ℕ) → i < length ids → get_or ids i 0 ≡ i
+own_by_last ids last all at is i lt =
+    let low = at_least ids all i lt in
+    let high = apart_by ids all (last - i) i (omega (arith, at, lt)) in
+    let e = ap (λ n. get_or ids n 0) (let f : i + (last - i) ≡ last = omega (arith, at, lt) in f) in
+    omega (arith, low, high, e, is, at, lt)
+
+solved_where : (size : ℕ) (ids : List ℕ) (rows : List (List ℕ)) (j : ℕ) (x : List ℕ) → given ids rows j ≡ Some x → solved_symbol size ids rows j ≡ x
+unfolding solved_symbol
+solved_where size ids rows j x e = ap (λ (o : Option (List ℕ)). elim o as (λ _. List ℕ) [ Some s ↦ s | None ↦ symbol_at size (map power ids) rows (power j) ]) e
+
+pub own_settled : (k size : ℕ) (ids : List ℕ) (rows : List (List ℕ)) → k ≤ length ids → length rows ≡ length ids → Rises ids → ((i : ℕ) → i < length ids → get_or ids i 0 ≡ i)
+    → rows ≡ settled k size ids rows
+own_settled k size ids rows le count all own =
+    ext_get_or [] rows (solved_sources size ids rows) (count ∙ sym (length-solved_sources size ids rows))
+    (λ j lt.
+    let within : j < length ids = omega (arith, lt, count) in
+    sym (solved_sources-at size j ids rows within
+    ∙ solved_where size ids rows j (get_or rows j []) (ap (given ids rows) (sym (own j within)) ∙ rows_at ids rows j [] count all within)))
+    ∙ settled_done k size ids rows le

@@ -126,7 +126,7 @@ pair_at x [] all j d lt = absurd (omega arith)
 pair_at x (y ∷ ids) all zero d lt = all.0
 pair_at x (y ∷ ids) all (suc j) d lt = pair_at x ids all.1 j d (omega arith)
 
-risen : (ids : List ℕ) → Rises ids → (i j d : ℕ) → i < j → j < length ids → get_or ids i d < get_or ids j d
+pub risen : (ids : List ℕ) → Rises ids → (i j d : ℕ) → i < j → j < length ids → get_or ids i d < get_or ids j d
 risen [] all i j d lt within = absurd (omega arith)
 risen (y ∷ ids) all zero zero d lt within = absurd (omega arith)
 risen (y ∷ ids) all zero (suc j) d lt within = pair_at y ids all.0 j d (omega arith)

@@ -8,12 +8,11 @@ use Rattle.std.proofs.lemmas.List.Elements.{filter-append}
 use Rattle.norm_base.specs.Settings.{Settings}
 use Rattle.norm_ext.specs.declared.fti.Fti.{Fti}
 use Rattle.norm_order.specs.First.{first_where}
-use Rattle.fec_plan.specs.Partition.{Cut, IsSound, cut_of, stream_cut, blocks, source_symbols, encoding_symbols, coded_octets, sent_octets}
+use Rattle.fec_plan.specs.Partition.{Cut, cut_of, stream_cut, blocks, source_symbols, encoding_symbols, coded_octets, sent_octets}
 use Rattle.fec_plan.specs.Points.{position, position_before}
 use Rattle.fec_plan.proofs.PositionLemmas.{Before, before_decides, not_both}
 use Rattle.norm_order.specs.Sets.{with_member}
 use Rattle.gf_field.specs.Symbol.{solved_symbol}
-use Rattle.rs_block.specs.Solver.{SolverState}
 use Rattle.norm_receive_rules.specs.HandingUp.{next_segment}
 use Rattle.norm_receive_rules.specs.BlockValue.{ids_of, octets_of_held, held_symbol, block_value}
 use Rattle.norm_receive_rules.specs.Holding.{Holding, Plan, Held}
@@ -23,7 +22,7 @@ use Rattle.norm_receive_rules.specs.declared.words.Put.{Put}
 use Rattle.norm_receive_rules.specs.declared.words.Put.TheVariants as put
 use Rattle.rx_stream.specs.BlockState.{Came, BlockState, came_before, came_under, empty_block, has_id, lacks, source_of}
 use Rattle.rx_stream.specs.BlockMoves.{IsRow, IsSent, MayCome, with_came}
-use Rattle.rx_stream.specs.StreamMoves.{fits_cut, passed, shape_of, MayKeep}
+use Rattle.rx_stream.specs.StreamMoves.{fits_cut, passed, MayKeep}
 use Rattle.rx_stream.specs.StreamSound.{held_in, held_from, AreOf, stream_of, StreamSound}
 use Rattle.rx_stream.specs.StreamState.{StreamState, alone}
 
@@ -331,32 +330,6 @@ pub word_had : (p : Settings) (plan : Plan) (s : Holding) (block id : ℕ) (payl
     → (holds s (position plan.index block id) ≡ true) ⊎ (is_done s plan block ≡ true) → put.Had ≡ put_by p s plan (position plan.index block id) payload
 word_had p plan s block id payload which = had_word _ _ _ (either (holds s (position plan.index block id)) (is_done s plan block) which)
 
-pub word_away : (p : Settings) (plan : Plan) (info : Option (List ℕ)) (first symbol block id : ℕ) (ring : List BlockState) (payload : List ℕ) → says_stream plan.flags ≡ true
-    → 1 ≤ plan.fti.b → p.blocks ≡ length ring → first + length ring ≤ block → put.Away ≡ put_by p (alone (stream_of plan info first symbol ring)) plan (position plan.index block id) payload
-word_away p plan info first symbol block id ring payload stream some blocks le =
-    away_word _ _ _
-    (neither (holds (alone (stream_of plan info first symbol ring)) (position plan.index block id)) (is_done (alone (stream_of plan info first symbol ring)) plan block)
-    (holds_later plan info first symbol block id ring le)
-    (ne_eqb _ 0 (λ e. let n = lacking_later plan info first symbol block ring stream le in omega (arith, n, e, some))))
-    (far_is p plan info first symbol block ring stream ∙ le-leb (first + p.blocks) block (omega (arith, blocks, le)))
-
-pub word_near : (p : Settings) (plan : Plan) (info : Option (List ℕ)) (first symbol block id : ℕ) (ring : List BlockState) (payload : List ℕ) (cut : Cut) (fits : Bool) → says_stream plan.flags ≡ true
-    → cut ≡ stream_cut plan.fti.e plan.fti.b plan.fti.max_n → p.blocks ≡ length ring → block < first + length ring
-    → holds (alone (stream_of plan info first symbol ring)) (position plan.index block id) ≡ false → is_done (alone (stream_of plan info first symbol ring)) plan block ≡ false
-    → fits_cut p cut block id payload ≡ fits → (elim fits as (λ _. Put) [ true ↦ put.Kept | false ↦ put.Unfit ]) ≡ put_by p (alone (stream_of plan info first symbol ring)) plan (position plan.index block id) payload
-word_near p plan info first symbol block id ring payload cut fits stream is blocks lt new lacks_some fit = go fits (misfit_is p plan block id payload cut stream is ∙ ap not fit)
-  where
-    none : (holds (alone (stream_of plan info first symbol ring)) (position plan.index block id) || is_done (alone (stream_of plan info first symbol ring)) plan block) ≡ false
-    none = neither _ _ new lacks_some
-
-    near : is_far p (alone (stream_of plan info first symbol ring)) plan block ≡ false
-    near = far_is p plan info first symbol block ring stream ∙ not_below (first + p.blocks) block ∙ ap not (lt-ltb block (first + p.blocks) (omega (arith, blocks, lt)))
-
-    go : (b : Bool) → is_misfit p plan (position plan.index block id) payload ≡ not b
-        → (elim b as (λ _. Put) [ true ↦ put.Kept | false ↦ put.Unfit ]) ≡ put_by p (alone (stream_of plan info first symbol ring)) plan (position plan.index block id) payload
-    go true e = kept_word _ _ _ none near e
-    go false e = unfit_word _ _ _ none near e
-
 -- ---- the next segment
 
 ids_in : (index block : ℕ) (cs : List Came) → ids_of (map (held_as index block) cs) ≡ map (λ (c : Came). c.id) cs
@@ -528,12 +501,6 @@ may_come plan info first symbol i block id ring payload d stream of at lt m = re
     some zero e = absurd (cc e)
     some (suc n) e = omega arith
 
-pub scratch_is : (plan : Plan) (i : ℕ) (ring : List BlockState) (d : BlockState) (s : SolverState) → AreOf plan.fti.b (plan.fti.e + 8) ring → i < length ring
-    → s ≡ record { k = plan.fti.b; size = plan.fti.e + 8 } → s ≡ shape_of (get_or ring i d)
-scratch_is plan i ring d s of lt is =
-    is ∙ ap (λ n. record { k = n; size = plan.fti.e + 8 }) (sym (block_at plan.fti.b (plan.fti.e + 8) i ring d of lt).0)
-    ∙ ap (λ n. record { k = (get_or ring i d).k; size = n }) (sym (block_at plan.fti.b (plan.fti.e + 8) i ring d of lt).1)
-
 pub kept_stream : (plan : Plan) (info : Option (List ℕ)) (first symbol i block id : ℕ) (ring after : List BlockState) (payload : List ℕ) (d : BlockState) → block ≡ first + i → i < length ring
     → after ≡ set ring i (with_came id payload (get_or ring i d))
     → stream_of plan info first symbol after
@@ -575,10 +542,6 @@ passed_by plan info first symbol ring within = elim within [
   }
 ]
 
-pub passed_within : (plan : Plan) (info : Option (List ℕ)) (first symbol : ℕ) (ring : List BlockState) → symbol + 1 < plan.fti.b
-    → stream_of plan info first (symbol + 1) ring ≡ passed (stream_of plan info first symbol ring)
-passed_within plan info first symbol ring lt = sym (ap (passed_by plan info first symbol ring) (lt-ltb (symbol + 1) plan.fti.b lt))
-
 pub passed_block : (plan : Plan) (info : Option (List ℕ)) (first symbol k size : ℕ) (ring after : List BlockState) → plan.fti.b ≤ symbol + 1 → 0 < length ring
     → after ≡ drop 1 ring ++ empty_block k size ∷ [] → stream_of plan info (first + 1) 0 after ≡ passed (stream_of plan info first symbol ring)
 passed_block plan info first symbol k size ring after le some is =
@@ -591,20 +554,6 @@ passed_block plan info first symbol k size ring after le some is =
     shifted [] lt = absurd (omega arith)
     shifted (b ∷ bs) lt = omega (arith, length-append bs (empty_block k size ∷ []))
 
-pub sound_passed : (plan : Plan) (cut : Cut) (first symbol k size : ℕ) (ring after : List BlockState) → StreamSound plan cut first symbol ring → k ≡ plan.fti.b → size ≡ plan.fti.e + 8
-    → after ≡ drop 1 ring ++ empty_block k size ∷ [] → StreamSound plan cut (first + 1) 0 after
-sound_passed plan cut first symbol k size ring after s ke se is =
-    subst (λ (bs : List BlockState). StreamSound plan cut (first + 1) 0 bs) (sym is)
-    (subst (λ n. StreamSound plan cut (first + 1) 0 (drop 1 ring ++ empty_block n size ∷ [])) (sym ke)
-    (subst (λ n. StreamSound plan cut (first + 1) 0 (drop 1 ring ++ empty_block plan.fti.b n ∷ [])) (sym se) (record {
-      stream = s.stream;
-      cut_is = s.cut_is;
-      sound = s.sound;
-      next = (let n = s.next in omega (arith, n));
-      some = (let n = length-append (drop 1 ring) (empty_block plan.fti.b (plan.fti.e + 8) ∷ []) in omega (arith, n));
-      blocks = of_end plan.fti.b (plan.fti.e + 8) (drop 1 ring) (of_rest plan.fti.b (plan.fti.e + 8) ring s.blocks);
-    })))
-
 -- ---- a new stream
 
 pub new_stream : (plan : Plan) (k size room : ℕ) (ring : List BlockState) → ring ≡ replicate room (empty_block k size)
@@ -613,15 +562,3 @@ new_stream plan k size room ring is =
     ap (λ (bs : List BlockState). stream_of plan None 0 0 bs) is
     ∙ ap (λ n. record { plan = plan; room = n; info = None; point = position plan.index 0 0; held = held_from plan.index 0 (replicate room (empty_block k size)) }) (length-replicate room (empty_block k size))
     ∙ ap (λ (hs : List Held). record { plan = plan; room = room; info = None; point = position plan.index 0 0; held = hs }) (nothing_held plan.index 0 k size room)
-
-pub sound_new : (plan : Plan) (cut : Cut) (k size room : ℕ) (ring : List BlockState) → says_stream plan.flags ≡ true → cut ≡ stream_cut plan.fti.e plan.fti.b plan.fti.max_n → IsSound cut
-    → 1 ≤ plan.fti.b → 1 ≤ room → k ≡ plan.fti.b → size ≡ plan.fti.e + 8 → ring ≡ replicate room (empty_block k size) → StreamSound plan cut 0 0 ring
-sound_new plan cut k size room ring stream is sound some_b some ke se ring_is =
-    subst (λ (bs : List BlockState). StreamSound plan cut 0 0 bs) (sym ring_is) (record {
-      stream = stream;
-      cut_is = is;
-      sound = sound;
-      next = omega (arith, some_b);
-      some = (let n = length-replicate room (empty_block k size) in omega (arith, n, some));
-      blocks = subst (λ n. AreOf n (plan.fti.e + 8) (replicate room (empty_block k size))) ke (subst (λ n. AreOf k n (replicate room (empty_block k size))) se (of_empty k size room));
-    })

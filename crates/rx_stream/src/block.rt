@@ -1,10 +1,11 @@
 //! The symbols of one block, which are solved in place.
 
-ghost use Rattle.std.specs.Prelude.{ℕ, List, [], ◌≡◌, ◌≢◌, ◌==◌, ◌<◌, ◌≤◌, ◌-◌, MatchOption, EachIndex, OnErr, OnOk, IfOk, length, insert, option_copied, slice_index};
+ghost use Rattle.std.specs.Prelude.{ℕ, true, List, [], ◌≡◌, ◌≢◌, ◌==◌, ◌<◌, ◌≤◌, ◌-◌, MatchOption, EachIndex, OnErr, OnOk, IfOk, length, insert, option_copied, slice_index};
 ghost use Rattle.std.specs.List.{AllByRecursion, list_any};
 ghost use Rattle.norm_base.specs.Sizes.{symbol_room};
 ghost use Rattle.gf_field.specs.Element.{AreElements};
 ghost use Rattle.gf_field.specs.Symbol.{AreIds, AreSymbols};
+ghost use Rattle.norm_order.specs.Sets.{Rises};
 ghost use Rattle.rx_stream.specs.BlockState.{empty_block, has_id, lacks, source_of};
 ghost use Rattle.rx_stream.specs.BlockMoves.{IsPlace, IsRow, MayCome, with_came};
 ghost use Rattle.rx_stream.specs.BlockSound.{settled};
@@ -83,10 +84,24 @@ fn keep(ids: &mut Vec<u8>, rows: &mut Vec<Row>, id: u8, row: Row) -> Result<usiz
     Ok(place)
 }
 
-/// Solves a block of which none is lacking.
+/// Whether each source symbol came, where as many symbols came as there are source symbols.
+fn are_own(ids: &[u8]) -> bool
+    requires { Rises ids.now }
+    ensures { result ≡ true → EachIndex ids.now (λ i. slice_index ids.now i ≡ i) }
+{
+    if ids.is_empty() {
+        return false;
+    }
+    // The ids rise, so that the last one says it of all.
+    let last = ids.len() - 1;
+    usize::from(ids[last]) == last
+}
+
+/// Solves a block of which none is lacking. Where its own source symbols came nothing is done.
 fn settle(k: u8, ids: &[u8], rows: &mut [Row], scratch: &mut Scratch)
     requires scratch { scratch.old.k ≡ k }
     requires few { length ids.now ≤ k }
+    requires rising { Rises ids.now }
     requires ids { length ids.now ≡ k → AreIds k 255 ids.now }
     requires rows { length ids.now ≡ k → AreSymbols k scratch.old.size rows.old }
     requires elements { AllByRecursion AreElements rows.old }
@@ -94,9 +109,13 @@ fn settle(k: u8, ids: &[u8], rows: &mut [Row], scratch: &mut Scratch)
     ensures elements { AllByRecursion AreElements rows.new }
     ensures same { scratch.new ≡ scratch.old }
 {
-    if ids.len() == usize::from(k) {
-        scratch.solve(ids, rows);
+    if ids.len() < usize::from(k) {
+        return;
     }
+    if are_own(ids) {
+        return;
+    }
+    scratch.solve(ids, rows);
 }
 
 impl Block {

@@ -1,6 +1,6 @@
 //! The blocks of one stream, from its next segment on.
 
-ghost use Rattle.std.specs.Prelude.{ℕ, List, [], ◌≡◌, ◌==◌, ◌<◌, ◌≤◌, ◌+◌, IfOk, IsTrue, OnErr, MatchOption, length, max, not, true, false, Some, None, replicate, slice_index_or, slice_set, option_copied, drop, ◌∷◌, ◌++◌};
+ghost use Rattle.std.specs.Prelude.{ℕ, List, [], ◌≡◌, ◌==◌, ◌<◌, ◌≤◌, ◌+◌, IfOk, IsTrue, OnErr, MatchOption, length, max, not, is_some, true, false, Some, None, replicate, slice_index_or, slice_set, option_copied, drop, ◌∷◌, ◌++◌};
 ghost use Rattle.std.specs.VecDeque.{deque_capacity};
 ghost use Rattle.norm_base.specs.Settings.{Settings};
 ghost use Rattle.fec_plan.specs.Partition.{blocks, stream_cut};
@@ -8,7 +8,7 @@ ghost use Rattle.fec_plan.specs.Points.{position};
 ghost use Rattle.norm_ext.specs.Numbers.{number};
 ghost use Rattle.norm_receive_rules.specs.HandingUp.{next_segment};
 ghost use Rattle.norm_receive_rules.specs.Holding.{new_plan};
-ghost use Rattle.norm_receive_rules.specs.Plans.{holds, is_done, lacking, says_stream};
+ghost use Rattle.norm_receive_rules.specs.Plans.{cut_of_plan, has_its_info, holds, is_done, lacking, says_stream};
 ghost use Rattle.norm_receive_rules.specs.Putting.{is_far, is_misfit, is_segment, put_by, with_symbol};
 ghost use Rattle.norm_receive_rules.specs.declared.words.Put.TheVariants as put_word;
 ghost use Rattle.rx_stream.specs.BlockState.{BlockState, empty_block};
@@ -29,6 +29,9 @@ use std::marker::Model;
 
 /// The octets of a segment's place, which stand before its own.
 const PLACE: usize = 8;
+
+/// The flag of an object that has an info (RFC 5740 section 4.2.1).
+const HAS_INFO: u8 = 4;
 
 /// What is held of a stream. Symbols are offered in any order, of any block from the next segment's on, and segments are
 /// handed up in order.
@@ -199,6 +202,63 @@ impl Stream {
         ensures { self.new ≡ record self.old { plan = record (self.old.plan) { seen = max self.old.plan.seen block } } }
     {
         self.seen = self.seen.max(block);
+    }
+
+    /// How the stream is cut.
+    pub fn plan(&self) -> Plan
+        ensures { result ≡ cut_of_plan self.now.plan }
+    {
+        self.plan
+    }
+
+    /// The stream's flags.
+    pub fn flags(&self) -> u8
+        ensures { result ≡ self.now.plan.flags }
+    {
+        self.flags
+    }
+
+    /// The greatest block that was seen.
+    pub fn seen(&self) -> u32
+        ensures { result ≡ self.now.plan.seen }
+    {
+        self.seen
+    }
+
+    /// The block of the next segment.
+    pub fn first_block(&self) -> u32
+        ensures { result ≡ self.now.point.block }
+    {
+        self.first
+    }
+
+    /// The next segment in its block.
+    pub fn first_symbol(&self) -> u8
+        ensures { result ≡ self.now.point.symbol }
+    {
+        self.symbol
+    }
+
+    /// Whether the stream's info is held.
+    pub fn has_info(&self) -> bool
+        ensures { result ≡ is_some self.now.info }
+    {
+        self.info.is_some()
+    }
+
+    /// Whether the stream's info is held where it has one: its segments wait for it.
+    pub fn has_its_info(&self) -> bool
+        ensures { result ≡ has_its_info (alone self.now) self.now.plan }
+    {
+        self.flags / HAS_INFO % 2 == 0 || self.info.is_some()
+    }
+
+    /// Keeps the info. It takes no memory.
+    pub fn put_info(&mut self, info: Octets)
+        requires { self.old.info ≡ None }
+        ensures { self.new ≡ record self.old { info = Some info } }
+    {
+        self.info = Some(info);
     }
 
     /// Whether a symbol is held, of a block from the next segment's on.

@@ -3,6 +3,7 @@ use Rattle.std.specs.List.{AllByRecursion}
 use Rattle.gf_field.specs.Element.{AreElements}
 use Rattle.gf_field.specs.Symbol.{AreIds, AreSymbols}
 use Rattle.gf_field.proofs.Places.{elements_of_octets}
+use Rattle.norm_order.specs.Sets.{Rises}
 use Rattle.rs_block.specs.Solver.{SolverState}
 use Rattle.rx_stream.specs.BlockState.{BlockState}
 use Rattle.rx_stream.specs.BlockSound.{BlockSound, block_of, settled}
@@ -18,6 +19,15 @@ settle-requires-clause-few c =
     (elements_of_octets c.args.payload.now (λ i. let byte = c.type_inv.payload i in byte.fits))
     c.in_ok-keep.ensures.place c.in_ok-row.ensures c.in_ok-keep.ensures.ids c.in_ok-keep.ensures.rows in
     subst (λ xs. length xs ≤ c.self.inside.k) (sym c.deref.ensures.value) h.few
+
+pub settle-requires-clause-rising : goal.settle-requires-clause-rising
+settle-requires-clause-rising c =
+    let h =
+    kept_is c.self.inside.k c.self.inside.size c.args.id c.in_ok-keep.field-0 c.args.payload.now c.self.inside.ids.items c.keep.new.ids.items c.self.inside.rows.items c.keep.new.rows.items c.in_ok-row.row
+    c.self.invariant (subst (λ (b : BlockState). MayCome b c.args.id c.args.payload.now) (sym c.self.view_is) c.requires.comes)
+    (elements_of_octets c.args.payload.now (λ i. let byte = c.type_inv.payload i in byte.fits))
+    c.in_ok-keep.ensures.place c.in_ok-row.ensures c.in_ok-keep.ensures.ids c.in_ok-keep.ensures.rows in
+    subst Rises (sym c.deref.ensures.value) h.rising
 
 pub settle-requires-clause-ids : goal.settle-requires-clause-ids
 settle-requires-clause-ids c =
