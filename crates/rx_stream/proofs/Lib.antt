@@ -1,0 +1,5 @@
+pub mod Solving
+pub mod Inserting
+pub mod BlockLemmas
+pub mod StreamLemmas
+pub mod FitLemmas

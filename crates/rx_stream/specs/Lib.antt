@@ -1,0 +1,7 @@
+pub mod ScratchSound
+pub mod BlockState
+pub mod BlockSound
+pub mod BlockMoves
+pub mod StreamState
+pub mod StreamSound
+pub mod StreamMoves

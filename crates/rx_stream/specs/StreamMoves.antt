@@ -1,0 +1,39 @@
+-- When a symbol may be kept of a stream (RFC 5740 section 4.2.1).
+use Rattle.std.specs.Prelude.{ℕ, ◌≡◌, ◌==◌, ◌&&◌, ◌<◌, ◌+◌, Bool, List, length, filter, not, nat_lt, true, false}
+use Rattle.norm_base.specs.Settings.{Settings}
+use Rattle.fec_plan.specs.Partition.{Cut, blocks, source_symbols, encoding_symbols, coded_octets}
+use Rattle.fec_plan.specs.Points.{position}
+use Rattle.norm_receive_rules.specs.Holding.{Held}
+use Rattle.norm_receive_rules.specs.Plans.{holds, is_done}
+use Rattle.norm_receive_rules.specs.Putting.{is_segment}
+use Rattle.rs_block.specs.Solver.{SolverState}
+use Rattle.rx_stream.specs.BlockState.{BlockState}
+use Rattle.rx_stream.specs.BlockMoves.{IsSent}
+use Rattle.rx_stream.specs.StreamState.{StreamState, alone}
+
+-- the symbol is an encoded symbol of a stream that is cut so, and the payload is its
+abbrev pub fits_cut : Settings → Cut → ℕ → ℕ → List ℕ → Bool
+fits_cut p c block symbol payload = nat_lt block (blocks c) && nat_lt symbol (encoding_symbols c block)
+    && (elim (nat_lt symbol (source_symbols c block)) [ true ↦ is_segment p payload | false ↦ length payload == coded_octets c ])
+
+-- the room that solving a block takes
+abbrev pub shape_of : BlockState → SolverState
+shape_of b = record { k = b.k; size = b.size }
+
+-- A symbol may be kept that is not held, of a block that is not done and for which there is room, where the payload is its.
+pub record MayKeep (o : StreamState) (block symbol : ℕ) (payload : List ℕ) : Type 0 where
+  pub small : symbol < 255
+  pub near : block < o.point.block + o.room
+  pub new : holds (alone o) (position o.plan.index block symbol) ≡ false
+  pub lacks : is_done (alone o) o.plan block ≡ false
+  pub sent : IsSent o.plan.fti.b (o.plan.fti.e + 8) symbol payload
+
+-- the next segment was passed; of a block that ends by it nothing is kept
+abbrev pub passed : StreamState → StreamState
+passed o = elim (nat_lt (o.point.symbol + 1) o.plan.fti.b) [
+  | true ↦ record o { point = position o.plan.index o.point.block (o.point.symbol + 1) }
+  | false ↦ record o {
+    point = position o.plan.index (o.point.block + 1) 0;
+    held = filter (λ (x : Held). not (nat_lt x.at.block (o.point.block + 1))) o.held;
+  }
+]

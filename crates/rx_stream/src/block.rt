@@ -1,0 +1,191 @@
+//! The symbols of one block, which are solved in place.
+
+ghost use Rattle.std.specs.Prelude.{ℕ, true, List, [], ◌≡◌, ◌≢◌, ◌==◌, ◌<◌, ◌≤◌, ◌-◌, MatchOption, EachIndex, OnErr, OnOk, IfOk, length, insert, option_copied, slice_index};
+ghost use Rattle.std.specs.List.{AllByRecursion, list_any};
+ghost use Rattle.norm_base.specs.Sizes.{symbol_room};
+ghost use Rattle.gf_field.specs.Element.{AreElements};
+ghost use Rattle.gf_field.specs.Symbol.{AreIds, AreSymbols};
+ghost use Rattle.norm_order.specs.Sets.{Rises};
+ghost use Rattle.rx_stream.specs.BlockState.{empty_block, has_id, lacks, source_of};
+ghost use Rattle.rx_stream.specs.BlockMoves.{IsPlace, IsRow, MayCome, with_came};
+ghost use Rattle.rx_stream.specs.BlockSound.{settled};
+
+use crate::row::Row;
+use crate::scratch::Scratch;
+use norm_base::Memory;
+use std::alloc::Global;
+use std::marker::Model;
+use std::mem;
+
+/// What is held of a block: [`put`](Block::put) keeps a symbol that is new while some are lacking, and as the last one that
+/// is lacking comes, the block's source symbols come to lie in its rows.
+#[derive(Debug, Drop)]
+pub struct Block {
+    k: u8,
+    /// Octets of a symbol as it is coded.
+    size: usize,
+    /// The ids of the symbols that came, in order.
+    ids: Vec<u8>,
+    /// A row for each of them: its octets, or where none is lacking those of a source symbol.
+    rows: Vec<Row>,
+}
+
+impl Model for Block {
+    ghost use Rattle.rx_stream.specs.BlockState.{BlockState};
+    ghost use Rattle.rx_stream.specs.BlockSound.{block_of, BlockSound};
+
+    ghost Value = { BlockState };
+
+    ghost view = { λ b. block_of b.k b.size b.ids.items b.rows.items };
+
+    ghost invariant = { λ b. BlockSound b.k b.size b.ids.items b.rows.items };
+}
+
+/// Where an id belongs among ids that rise.
+fn place_for(ids: &[u8], id: u8) -> usize
+    ensures { IsPlace id ids.now result }
+{
+    for (place, other) in ids.iter().enumerate() {
+        if id <= *other {
+            return place;
+        }
+    }
+    ids.len()
+}
+
+/// Where an id stands.
+fn position_of(ids: &[u8], id: u8) -> Option<usize>
+    ensures { MatchOption result
+        (EachIndex ids.now (λ i. slice_index ids.now i ≢ id))
+        (λ i. (i < length ids.now) × (slice_index ids.now i ≡ id)) }
+{
+    ids.iter().position(|other| *other == id)
+}
+
+/// Whether an id is among these.
+fn lies_in(ids: &[u8], id: u8) -> bool
+    ensures { result ≡ list_any (λ (x : ℕ). x == id) ids.now }
+{
+    ids.contains(&id)
+}
+
+/// Puts an id, and its row, where they belong.
+fn keep(ids: &mut Vec<u8>, rows: &mut Vec<Row>, id: u8, row: Row) -> Result<usize, Memory>
+    requires { length rows.old.items ≡ length ids.old.items }
+    ensures place { IfOk result (λ place. IsPlace id ids.old.items place) }
+    ensures ids { IfOk result (λ place. ids.new.items ≡ insert ids.old.items place id) }
+    ensures rows { IfOk result (λ place. rows.new.items ≡ insert rows.old.items place row) }
+    ensures refused { OnErr result ((ids.new.items ≡ ids.old.items) × (rows.new.items ≡ rows.old.items)) }
+{
+    let place = place_for(ids, id);
+    ids.reserve(1)?;
+    rows.insert(place, row)?;
+    ids.insert(place, id).unwrap();
+    Ok(place)
+}
+
+/// Whether each source symbol came, where as many symbols came as there are source symbols.
+fn are_own(ids: &[u8]) -> bool
+    requires { Rises ids.now }
+    ensures { result ≡ true → EachIndex ids.now (λ i. slice_index ids.now i ≡ i) }
+{
+    if ids.is_empty() {
+        return false;
+    }
+    // The ids rise, so that the last one says it of all.
+    let last = ids.len() - 1;
+    usize::from(ids[last]) == last
+}
+
+/// Solves a block of which none is lacking. Where its own source symbols came nothing is done.
+fn settle(k: u8, ids: &[u8], rows: &mut [Row], scratch: &mut Scratch)
+    requires scratch { scratch.old.k ≡ k }
+    requires few { length ids.now ≤ k }
+    requires rising { Rises ids.now }
+    requires ids { length ids.now ≡ k → AreIds k 255 ids.now }
+    requires rows { length ids.now ≡ k → AreSymbols k scratch.old.size rows.old }
+    requires elements { AllByRecursion AreElements rows.old }
+    ensures rows { rows.new ≡ settled k scratch.old.size ids.now rows.old }
+    ensures elements { AllByRecursion AreElements rows.new }
+    ensures same { scratch.new ≡ scratch.old }
+{
+    if ids.len() < usize::from(k) {
+        return;
+    }
+    if are_own(ids) {
+        return;
+    }
+    scratch.solve(ids, rows);
+}
+
+impl Block {
+    ghost use Rattle.rx_stream.specs.BlockState.{BlockState};
+
+    /// A block of which nothing came, of `k` source symbols of `size` octets. It takes no memory.
+    pub fn new(alloc: Global, k: u8, size: usize) -> Block
+        requires some { 1 ≤ k }
+        requires least { 8 ≤ size }
+        requires most { size ≤ symbol_room }
+        ensures { result ≡ empty_block k size }
+    {
+        Block {
+            k,
+            size,
+            ids: Vec::new(alloc),
+            rows: Vec::new(alloc),
+        }
+    }
+
+    /// Whether the symbol with an id came.
+    pub fn has(&self, id: u8) -> bool
+        ensures { result ≡ has_id self.now id }
+    {
+        lies_in(&self.ids, id)
+    }
+
+    /// How many symbols are lacking to as many as there are source symbols.
+    pub fn lacks(&self) -> u8
+        ensures exact { result ≡ lacks self.now }
+        ensures most { result ≤ self.now.k }
+    {
+        self.k - self.ids.len() as u8
+    }
+
+    /// A symbol comes that is new, while some are lacking. It takes the memory of one symbol, and none for solving.
+    ///
+    /// # Errors
+    ///
+    /// `Memory` where memory runs out; then nothing changes.
+    pub fn put(
+        &mut self,
+        alloc: Global,
+        id: u8,
+        payload: &[u8],
+        scratch: &mut Scratch,
+    ) -> Result<(), Memory>
+        requires comes { MayCome self.old id payload.now }
+        requires scratch { scratch.old ≡ record { k = self.old.k; size = self.old.size } }
+        ensures kept { IfOk result (λ _. self.new ≡ with_came id payload.now self.old) }
+        ensures refused { OnErr result (self.new ≡ self.old) }
+        ensures same { scratch.new ≡ scratch.old }
+    {
+        let row = Row::of(alloc, payload, self.size)?;
+        keep(&mut self.ids, &mut self.rows, id, row)?;
+        settle(self.k, &self.ids, &mut self.rows, scratch);
+        Ok(())
+    }
+
+    /// A source symbol as it is coded, where it came or none is lacking.
+    pub fn row(&self, symbol: u8) -> Option<&Row>
+        requires { symbol < self.now.k }
+        ensures { IsRow self.now.size (source_of self.now symbol) (option_copied result) }
+    {
+        if self.ids.len() == usize::from(self.k) {
+            return Some(&self.rows[usize::from(symbol)]);
+        }
+        match position_of(&self.ids, symbol) {
+            Some(place) => Some(&self.rows[place]),
+            None => None,
+        }
+    }
+}

@@ -1,0 +1,411 @@
+//! The blocks of one stream, from its next segment on.
+
+ghost use Rattle.std.specs.Prelude.{ℕ, List, [], ◌≡◌, ◌==◌, ◌<◌, ◌≤◌, ◌+◌, IfOk, IsTrue, OnErr, MatchOption, length, max, not, is_some, true, false, Some, None, replicate, slice_index_or, slice_set, option_copied, drop, ◌∷◌, ◌++◌};
+ghost use Rattle.std.specs.VecDeque.{deque_capacity};
+ghost use Rattle.norm_base.specs.Settings.{Settings};
+ghost use Rattle.fec_plan.specs.Partition.{blocks, stream_cut};
+ghost use Rattle.fec_plan.specs.Points.{position};
+ghost use Rattle.norm_ext.specs.Numbers.{number};
+ghost use Rattle.norm_receive_rules.specs.HandingUp.{next_segment};
+ghost use Rattle.norm_receive_rules.specs.Holding.{new_plan};
+ghost use Rattle.norm_receive_rules.specs.Plans.{cut_of_plan, has_its_info, holds, is_done, lacking, says_stream};
+ghost use Rattle.norm_receive_rules.specs.Putting.{is_far, is_misfit, is_segment, put_by, with_symbol};
+ghost use Rattle.norm_receive_rules.specs.declared.words.Put.TheVariants as put_word;
+ghost use Rattle.rx_stream.specs.BlockState.{BlockState, empty_block};
+ghost use Rattle.rx_stream.specs.StreamState.{StreamState, alone, empty_stream, IsOf};
+ghost use Rattle.rx_stream.specs.BlockMoves.{IsRow, IsSent, MayCome, with_came};
+ghost use Rattle.rx_stream.specs.StreamMoves.{MayKeep, fits_cut, passed, shape_of};
+
+use crate::block::Block;
+use crate::row::Row;
+use crate::scratch::Scratch;
+use fec_plan::{MOST_BLOCKS, Plan};
+use norm_base::{Memory, Octets};
+use norm_ext::{Fti, read_16};
+use norm_receive_rules::Put;
+use std::alloc::Global;
+use std::collections::VecDeque;
+use std::marker::Model;
+
+/// The octets of a segment's place, which stand before its own.
+const PLACE: usize = 8;
+
+/// The flag of an object that has an info (RFC 5740 section 4.2.1).
+const HAS_INFO: u8 = 4;
+
+/// What is held of a stream. Symbols are offered in any order, of any block from the next segment's on, and segments are
+/// handed up in order.
+#[derive(Debug, Drop)]
+pub struct Stream {
+    alloc: Global,
+    index: u32,
+    fti: Fti,
+    flags: u8,
+    /// The greatest block that was seen.
+    seen: u32,
+    info: Option<Octets>,
+    plan: Plan,
+    /// The block of the next segment, and the segment in it.
+    first: u32,
+    symbol: u8,
+    /// The blocks from that one on.
+    ring: VecDeque<Block>,
+}
+
+impl Model for Stream {
+    ghost use Rattle.norm_receive_rules.specs.Holding.{Plan as PlanState};
+    ghost use Rattle.rx_stream.specs.StreamState.{StreamState};
+    ghost use Rattle.rx_stream.specs.StreamSound.{stream_of, StreamSound};
+
+    ghost Value = { StreamState };
+
+    ghost view = { λ s. stream_of (record { index = s.index; fti = s.fti; flags = s.flags; seen = s.seen }) s.info s.first s.symbol s.ring.items };
+
+    ghost invariant = { λ s. StreamSound (record { index = s.index; fti = s.fti; flags = s.flags; seen = s.seen }) s.plan s.first s.symbol s.ring.items };
+}
+
+/// Whether a payload is one segment of at most `e` octets, and nothing behind it.
+fn is_one_segment(e: u16, payload: &[u8]) -> bool
+    ensures exact { (p : Settings) → p.e ≡ e → result ≡ is_segment p payload.now }
+    ensures sent { IsTrue result → (8 ≤ length payload.now) × (8 + number 2 0 payload.now ≡ length payload.now) × (length payload.now ≤ e + 8) }
+{
+    if payload.len() < PLACE {
+        return false;
+    }
+    let len = read_16(payload, 0);
+    len <= e && payload.len() == PLACE + usize::from(len)
+}
+
+/// Whether a symbol is an encoded symbol of a stream that is cut so, and the payload is its.
+fn fits(plan: &Plan, block: u32, symbol: u8, payload: &[u8]) -> bool
+    requires { plan.now.l ≡ None }
+    ensures exact { (p : Settings) → p.e ≡ plan.now.e → result ≡ fits_cut p plan.now block symbol payload.now }
+    ensures small { result ≡ true → symbol < 255 }
+    ensures sent { result ≡ true → IsSent plan.now.b (plan.now.e + 8) symbol payload.now }
+{
+    if block >= MOST_BLOCKS {
+        return false;
+    }
+    if symbol >= plan.encoded_len(block) {
+        return false;
+    }
+    if symbol < plan.source_len(block) {
+        return is_one_segment(plan.e(), payload);
+    }
+    payload.len() == usize::from(plan.e()) + PLACE
+}
+
+/// Puts empty blocks into a ring that has room for them.
+fn fill(alloc: Global, k: u8, size: usize, ring: &mut VecDeque<Block>, room: usize)
+    requires empty { ring.old.items ≡ [] }
+    requires room { room ≤ deque_capacity ring.old }
+    requires some { 1 ≤ k }
+    requires least { 8 ≤ size }
+    requires most { size ≤ 1408 }
+    ensures { ring.new.items ≡ replicate room (empty_block k size) }
+{
+    for _ in 0..room {
+        ring.push_back(Block::new(alloc, k, size)).unwrap();
+    }
+}
+
+/// Keeps a symbol of the block at a place.
+fn put_at(
+    ring: &mut VecDeque<Block>,
+    place: usize,
+    alloc: Global,
+    symbol: u8,
+    payload: &[u8],
+    scratch: &mut Scratch,
+) -> Result<(), Memory>
+    requires place { place < length ring.old.items }
+    requires comes { (d : BlockState) → MayCome (slice_index_or ring.old.items place d) symbol payload.now }
+    requires scratch { (d : BlockState) → scratch.old ≡ shape_of (slice_index_or ring.old.items place d) }
+    ensures kept { IfOk result (λ _. (d : BlockState) → ring.new.items ≡ slice_set ring.old.items place (with_came symbol payload.now (slice_index_or ring.old.items place d))) }
+    ensures refused { OnErr result (ring.new.items ≡ ring.old.items) }
+    ensures same { scratch.new ≡ scratch.old }
+{
+    ring[place].put(alloc, symbol, payload, scratch)
+}
+
+/// The place of a block behind the first one.
+fn place_of(first: u32, block: u32) -> usize
+    requires { first ≤ block }
+    ensures { result + first ≡ block }
+{
+    (block - first) as usize
+}
+
+/// Whether a place lies behind the ring.
+fn is_beyond(ring: &VecDeque<Block>, place: usize) -> bool
+    ensures beyond { result ≡ true → length ring.now.items ≤ place }
+    ensures within { result ≡ false → place < length ring.now.items }
+{
+    place >= ring.len()
+}
+
+/// Takes the first block away, and puts another behind the last one.
+fn shift(ring: &mut VecDeque<Block>, block: Block)
+    requires { 0 < length ring.old.items }
+    ensures { ring.new.items ≡ drop 1 ring.old.items ++ block ∷ [] }
+{
+    ring[0] = block;
+    ring.rotate_left(1);
+}
+
+impl Stream {
+    ghost use Rattle.rx_stream.specs.StreamState.{StreamState};
+
+    /// A stream of which nothing is held, with room for so many blocks.
+    ///
+    /// # Errors
+    ///
+    /// `Memory` where memory runs out.
+    pub fn new(
+        alloc: Global,
+        index: u32,
+        fti: &Fti,
+        flags: u8,
+        plan: &Plan,
+        room: u16,
+    ) -> Result<Stream, Memory>
+        requires stream { says_stream flags ≡ true }
+        requires cut { plan.now ≡ stream_cut fti.now.e fti.now.b fti.now.max_n }
+        requires some { 1 ≤ room }
+        ensures { IfOk result (λ stream. stream ≡ empty_stream (new_plan index fti.now flags) room) }
+    {
+        let mut ring = VecDeque::with_capacity(alloc, usize::from(room))?;
+        let size = usize::from(plan.e()) + PLACE;
+        fill(
+            alloc,
+            plan.source_len(0),
+            size,
+            &mut ring,
+            usize::from(room),
+        );
+        Ok(Stream {
+            alloc,
+            index,
+            fti: *fti,
+            flags,
+            seen: 0,
+            info: None,
+            plan: *plan,
+            first: 0,
+            symbol: 0,
+            ring,
+        })
+    }
+
+    /// A block is seen, whether what came with it is kept or not.
+    pub fn see(&mut self, block: u32)
+        ensures { self.new ≡ record self.old { plan = record (self.old.plan) { seen = max self.old.plan.seen block } } }
+    {
+        self.seen = self.seen.max(block);
+    }
+
+    /// How the stream is cut.
+    pub fn plan(&self) -> Plan
+        ensures { result ≡ cut_of_plan self.now.plan }
+    {
+        self.plan
+    }
+
+    /// The stream's flags.
+    pub fn flags(&self) -> u8
+        ensures { result ≡ self.now.plan.flags }
+    {
+        self.flags
+    }
+
+    /// The greatest block that was seen.
+    pub fn seen(&self) -> u32
+        ensures { result ≡ self.now.plan.seen }
+    {
+        self.seen
+    }
+
+    /// The block of the next segment.
+    pub fn first_block(&self) -> u32
+        ensures { result ≡ self.now.point.block }
+    {
+        self.first
+    }
+
+    /// The next segment in its block.
+    pub fn first_symbol(&self) -> u8
+        ensures { result ≡ self.now.point.symbol }
+    {
+        self.symbol
+    }
+
+    /// Whether the stream's info is held.
+    pub fn has_info(&self) -> bool
+        ensures { result ≡ is_some self.now.info }
+    {
+        self.info.is_some()
+    }
+
+    /// Whether the stream's info is held where it has one: its segments wait for it.
+    pub fn has_its_info(&self) -> bool
+        ensures { result ≡ has_its_info (alone self.now) self.now.plan }
+    {
+        self.flags / HAS_INFO % 2 == 0 || self.info.is_some()
+    }
+
+    /// Keeps the info. It takes no memory.
+    pub fn put_info(&mut self, info: Octets)
+        requires { self.old.info ≡ None }
+        ensures { self.new ≡ record self.old { info = Some info } }
+    {
+        self.info = Some(info);
+    }
+
+    /// Whether a symbol is held, of a block from the next segment's on.
+    pub fn holds(&self, block: u32, symbol: u8) -> bool
+        requires { self.now.point.block ≤ block }
+        ensures { result ≡ holds (alone self.now) (position self.now.plan.index block symbol) }
+    {
+        let place = place_of(self.first, block);
+        if is_beyond(&self.ring, place) {
+            return false;
+        }
+        self.ring[place].has(symbol)
+    }
+
+    /// How many symbols a block from the next segment's on lacks to as many as it has source symbols.
+    pub fn lacking(&self, block: u32) -> u8
+        requires { self.now.point.block ≤ block }
+        ensures { result ≡ lacking (alone self.now) self.now.plan block }
+    {
+        let place = place_of(self.first, block);
+        if is_beyond(&self.ring, place) {
+            return self.plan.source_len(0);
+        }
+        self.ring[place].lacks()
+    }
+
+    /// Whether none of a block from the next segment's on is lacking.
+    fn is_done(&self, block: u32) -> bool
+        requires { self.now.point.block ≤ block }
+        ensures { result ≡ is_done (alone self.now) self.now.plan block }
+    {
+        self.lacking(block) == 0
+    }
+
+    /// Whether there is no room for a block.
+    fn is_far(&self, block: u32) -> bool
+        requires { self.now.point.block ≤ block }
+        ensures exact { (p : Settings) → IsOf p self.now → result ≡ is_far p (alone self.now) self.now.plan block }
+        ensures near { result ≡ false → block < self.now.point.block + self.now.room }
+    {
+        is_beyond(&self.ring, place_of(self.first, block))
+    }
+
+    /// Whether a symbol is an encoded one of the stream, and the payload is its.
+    fn suits(&self, block: u32, symbol: u8, payload: &[u8]) -> bool
+        ensures exact { (p : Settings) → IsOf p self.now → result ≡ not (is_misfit p self.now.plan (position self.now.plan.index block symbol) payload.now) }
+        ensures small { result ≡ true → symbol < 255 }
+        ensures sent { result ≡ true → IsSent self.now.plan.fti.b (self.now.plan.fti.e + 8) symbol payload.now }
+    {
+        fits(&self.plan, block, symbol, payload)
+    }
+
+    /// The word that a symbol gets, of a block from the next segment's on.
+    fn word(&self, block: u32, symbol: u8, payload: &[u8]) -> Put
+        requires { self.now.point.block ≤ block }
+        ensures word { (p : Settings) → IsOf p self.now → result ≡ put_by p (alone self.now) self.now.plan (position self.now.plan.index block symbol) payload.now }
+        ensures kept { result ≡ put_word.Kept → MayKeep self.now block symbol payload.now }
+    {
+        if self.holds(block, symbol) {
+            return Put::Had;
+        }
+        if self.is_done(block) {
+            return Put::Had;
+        }
+        if self.is_far(block) {
+            return Put::Away;
+        }
+        if !self.suits(block, symbol, payload) {
+            return Put::Unfit;
+        }
+        Put::Kept
+    }
+
+    /// Keeps a symbol.
+    fn keep(
+        &mut self,
+        block: u32,
+        symbol: u8,
+        payload: &[u8],
+        scratch: &mut Scratch,
+    ) -> Result<(), Memory>
+        requires reached { self.old.point.block ≤ block }
+        requires comes { MayKeep self.old block symbol payload.now }
+        requires scratch { scratch.old ≡ record { k = self.old.plan.fti.b; size = self.old.plan.fti.e + 8 } }
+        ensures kept { IfOk result (λ _. self.new ≡ record self.old { held = (with_symbol put_word.Kept (position self.old.plan.index block symbol) payload.now (alone self.old)).held }) }
+        ensures refused { OnErr result (self.new ≡ self.old) }
+        ensures same { scratch.new ≡ scratch.old }
+    {
+        let place = place_of(self.first, block);
+        put_at(&mut self.ring, place, self.alloc, symbol, payload, scratch)?;
+        Ok(())
+    }
+
+    /// A symbol comes, of a block from the next segment's on: it is kept where it is news, and a block of which none is
+    /// lacking then is solved.
+    ///
+    /// The first word that applies: `Had` where the symbol is held, or none of its block is lacking; `Away` where there is
+    /// no room for its block; `Unfit` where it is no encoded symbol of the stream, or the payload is not one segment of at
+    /// most `e` octets, or of another symbol not of `e` + 8; `Kept`.
+    ///
+    /// # Errors
+    ///
+    /// `Memory` where memory runs out; then nothing changes.
+    pub fn offer(
+        &mut self,
+        block: u32,
+        symbol: u8,
+        payload: &[u8],
+        scratch: &mut Scratch,
+    ) -> Result<Put, Memory>
+        requires reached { self.old.point.block ≤ block }
+        requires scratch { scratch.old ≡ record { k = self.old.plan.fti.b; size = self.old.plan.fti.e + 8 } }
+        ensures word { IfOk result (λ word. (p : Settings) → IsOf p self.old
+            → word ≡ put_by p (alone self.old) self.old.plan (position self.old.plan.index block symbol) payload.now) }
+        ensures state { IfOk result (λ word. self.new ≡ record self.old { held = (with_symbol word (position self.old.plan.index block symbol) payload.now (alone self.old)).held }) }
+        ensures refused { OnErr result (self.new ≡ self.old) }
+        ensures same { scratch.new ≡ scratch.old }
+    {
+        let word = self.word(block, symbol, payload);
+        if word == Put::Kept {
+            self.keep(block, symbol, payload, scratch)?;
+        }
+        Ok(word)
+    }
+
+    /// The next segment as it is coded, where it is there: the eight octets of its place and its own ones, with zeros
+    /// behind them.
+    pub fn next(&self) -> Option<&Row>
+        ensures { IsRow (self.now.plan.fti.e + 8) (next_segment (alone self.now) self.now.plan) (option_copied result) }
+    {
+        self.ring[0].row(self.symbol)
+    }
+
+    /// The next segment is handed up: the one behind it is the next then. Of a block that ends by it nothing is kept. It
+    /// takes no memory.
+    pub fn pass(&mut self)
+        requires { self.old.point.block < 16777216 }
+        ensures { self.new ≡ passed self.old }
+    {
+        let count = self.plan.source_len(0);
+        if self.symbol + 1 < count {
+            self.symbol += 1;
+            return;
+        }
+        let size = usize::from(self.plan.e()) + PLACE;
+        self.symbol = 0;
+        self.first += 1;
+        shift(&mut self.ring, Block::new(self.alloc, count, size));
+    }
+}
