@@ -16,7 +16,7 @@ use Rattle.norm_send_rules.specs.SenderState.{SenderState, Asked, Round}
 use Rattle.norm_send_rules.specs.Hearing.{asked_now, round_at, joined_round}
 use Rattle.nack_union.specs.Kept.{Kept, Marked, UnionReads, HoldsFor, Holds, IsEncodedIn, asked_so_far, shape_of_marked}
 use Rattle.nack_union.specs.Collected.{CollectsFor, Collects}
-use Rattle.nack_union.specs.UnionState.{UnionState, Stands}
+use Rattle.nack_union.specs.UnionState.{Stands}
 
 -- what was asked is no part of what is held
 holds_asked : (p : Settings) (u : Kept) (r : UnionReads) (asked : List Asked) → HoldsFor p u r → HoldsFor p u (record r { asked = asked })

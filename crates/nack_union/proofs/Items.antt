@@ -1,9 +1,7 @@
 -- Requests, one by one.
-use Rattle.std.proofs.Common.{refl, ◌≡◌, ℕ, ◌≤◌, ◌*◌, List, [], ◌∷◌, length, drop, ap, sym, ◌∙◌, arith}
+use Rattle.std.proofs.Common.{refl, ◌≡◌, List, [], ◌∷◌, drop, ap, sym, ◌∙◌}
 use Rattle.std.specs.Prelude.{None, Some, slice_get}
-use Rattle.std.proofs.lemmas.List.{length-drop, drop-drop}
-use Rattle.norm_ext.specs.Requests.{Request, items_named}
-use Rattle.norm_ext.specs.declared.head.Item.{Item}
+use Rattle.norm_ext.specs.Requests.{Request}
 
 -- the first of some requests, and those behind it
 pub request_front : (rs : List Request) (r : Request) (rest : List Request) → Some r ≡ slice_get rs 0 → rest ≡ drop 1 rs → rs ≡ r ∷ rest

@@ -10,7 +10,7 @@ use Rattle.norm_ext.specs.declared.head.Item.{Item}
 use Rattle.norm_ext.specs.declared.kinds.Form.{Form}
 use Rattle.norm_ext.specs.declared.kinds.Form.TheVariants as form
 use Rattle.norm_send_rules.specs.Closing.{begins_at}
-use Rattle.nack_union.specs.Earliest.{lesser, least_with, firsts, items_spans, pairs_spans, range_begin, lesser_at}
+use Rattle.nack_union.specs.Earliest.{least_with, firsts, items_spans, pairs_spans, range_begin, lesser_at}
 use Rattle.nack_union.proofs.PartsNamed.{names_are}
 
 -- an item more

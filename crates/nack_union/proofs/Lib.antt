@@ -26,7 +26,9 @@ pub mod AskedCounts
 pub mod Added
 pub mod Early
 pub mod Puts
+pub mod Filled
 pub mod Runs
+pub mod Coverages
 pub mod Mores
 pub mod Spans
 pub mod Named

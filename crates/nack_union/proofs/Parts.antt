@@ -1,5 +1,5 @@
 -- One part after another.
-use Rattle.std.proofs.Common.{◌≡◌, ℕ, ◌+◌, ◌<◌, length, get_or, false, refl, sym, ap, ◌∙◌, subst}
+use Rattle.std.proofs.Common.{ℕ, ◌+◌, ◌<◌, get_or, false, refl, sym, ap, ◌∙◌, subst}
 use Rattle.nack_union.specs.Kept.{Kept, Marked}
 use Rattle.nack_union.specs.More.{HasMore, HasPart, MoreOf, Part, no_part, and_part}
 use Rattle.nack_union.proofs.Mores.{none_more, more_twice}

@@ -1,5 +1,5 @@
 -- What items and pairs of items ask for, one after another, and what a request asks for by its form.
-use Rattle.std.proofs.Common.{◌≡◌, ℕ, ◌<◌, List, [], ◌∷◌, ◌++◌, map, length, Bool, true, false, Option, Some, None, refl, sym, ap, ◌∙◌, subst, arith}
+use Rattle.std.proofs.Common.{◌≡◌, ℕ, ◌<◌, List, [], ◌∷◌, ◌++◌, map, length, Bool, Option, Some, None, refl, sym, ap, ◌∙◌, subst, arith}
 use Rattle.std.specs.Prelude.{◌||◌, flat_map}
 use Rattle.norm_base.specs.Settings.{Settings}
 use Rattle.fec_plan.specs.declared.position.Position.{Position}
@@ -11,7 +11,7 @@ use Rattle.norm_ext.specs.declared.kinds.Form.{Form}
 use Rattle.norm_ext.specs.declared.kinds.Form.TheVariants as form
 use Rattle.nack_union.specs.Kept.{Kept}
 use Rattle.nack_union.specs.Earliest.{items_spans, pairs_spans}
-use Rattle.nack_union.specs.More.{HasPart, Part, no_part, part_where, named_part, item_part, items_part, ranges_part, count_part, counts_part, request_part}
+use Rattle.nack_union.specs.More.{HasPart, part_where, named_part, item_part, items_part, ranges_part, count_part, counts_part, request_part}
 use Rattle.nack_union.proofs.Parts.{part_then}
 
 -- an item more

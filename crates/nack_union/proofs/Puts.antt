@@ -30,7 +30,7 @@ is_here x y ys e = by_tests x y ys false false (le-ltb y x (omega arith)) (le-lt
 is_less : (x y : ℕ) (ys : List ℕ) → x < y → is_member nat_lt x (y ∷ ys) ≡ false
 is_less x y ys lt = by_tests x y ys false true (le-ltb y x (omega arith)) (lt-ltb x y lt)
 
-is_more : (x y : ℕ) (ys : List ℕ) → y < x → is_member nat_lt x (y ∷ ys) ≡ is_member nat_lt x ys
+pub is_more : (x y : ℕ) (ys : List ℕ) → y < x → is_member nat_lt x (y ∷ ys) ≡ is_member nat_lt x ys
 is_more x y ys lt = by_tests x y ys true false (lt-ltb y x lt) (le-ltb x y (omega arith))
 
 alone_is : (x y : ℕ) → is_member nat_lt x (y ∷ []) ≡ (x == y)

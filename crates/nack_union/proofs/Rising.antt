@@ -1,5 +1,5 @@
 -- The slots of a set rise, and so do the wants that are listed of sets.
-use Rattle.std.proofs.Common.{◌≡◌, ℕ, zero, suc, ◌+◌, ◌*◌, ◌<◌, ◌⊎◌, inl, inr, subst, List, [], ◌∷◌, ◌++◌, map, length, get_or, Bool, true, false, sym, ◌∙◌, arith, cond}
+use Rattle.std.proofs.Common.{◌≡◌, ℕ, zero, suc, ◌+◌, ◌<◌, ◌⊎◌, inl, inr, subst, List, [], ◌∷◌, ◌++◌, map, length, get_or, Bool, true, false, sym, ◌∙◌, arith, cond}
 use Rattle.std.specs.Prelude.{filter}
 use Rattle.std.specs.List.{range_with_len, AllByRecursion}
 use Rattle.std.proofs.lemmas.Bool.{lt-ltb, cases_eq}
@@ -22,7 +22,7 @@ above p x a (suc n) lt = go (p a) (above p x (a + 1) n (omega arith))
     go true rest = (lt, rest)
     go false rest = rest
 
-rises_filter : (p : ℕ → Bool) (a n : ℕ) → Rises (filter p (range_with_len a n))
+pub rises_filter : (p : ℕ → Bool) (a n : ℕ) → Rises (filter p (range_with_len a n))
 rises_filter p a zero = tt
 rises_filter p a (suc n) = go (p a) (rises_filter p (a + 1) n) (above p a (a + 1) n (omega arith))
   where

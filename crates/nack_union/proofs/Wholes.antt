@@ -103,7 +103,7 @@ encoded_past m block sound past = go (closed_in (shape_of_marked m) block == sou
     go false e = none
 
 -- no block has more source symbols than it may
-sources_most : (c : Cut) (block : ℕ) → IsSound c → source_symbols c block ≤ c.b
+pub sources_most : (c : Cut) (block : ℕ) → IsSound c → source_symbols c block ≤ c.b
 sources_most c block sound = go c.l sound.some
   where
     by : (t n : ℕ) (test : Bool) → large_block t n ≤ c.b → (if test then large_block t n else small_block t n) ≤ c.b

@@ -8,6 +8,7 @@ pub mod Earliest
 pub mod Collected
 pub mod More
 pub mod Adding
+pub mod Coverage
 pub mod Sound
 pub mod CollectionSound
 pub mod UnionState

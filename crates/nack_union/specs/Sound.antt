@@ -5,13 +5,13 @@ use Rattle.nack_union.specs.Slots.{slots}
 use Rattle.nack_union.specs.Kept.{Marked}
 use Rattle.nack_union.specs.declared.marks.Marks.TheInside.{Inside}
 
--- Each set is one of the object's slots, which are no more than positions name, the sets that are joined have one size, each block has a
+-- Each set is one of the object's slots, which are no more than positions name, what is asked for is of its cut, each block has a
 -- count, the wants are counted, and it is known where nothing is asked for.
 pub record IsSoundObject (m : Inside) : Type 0 where
   pub wants : m.wants.size ≡ slots (blocks m.plan)
   pub most : blocks m.plan ≤ most_blocks
   pub sent : m.sent.size ≡ slots (blocks m.plan)
-  pub asked : m.asked.size ≡ m.wants.size
+  pub asked : m.asked.cut ≡ m.plan
   pub counts : length m.counts.items ≡ blocks m.plan
   pub idle : m.is_asked ≡ false → (m.asked.members ≡ []) × (m.counts.items ≡ replicate (blocks m.plan) 0)
   pub wanted : m.wanted ≡ length m.wants.members

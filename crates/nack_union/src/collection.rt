@@ -32,7 +32,8 @@ ghost use Rattle.nack_union.specs.Collected.{Collects};
 
 use crate::asking::{ask_range, hold_all};
 use crate::earliest::{earliest_of, is_below, lesser};
-use crate::marks::{Marks, Named, slot_of, want_of};
+use crate::marks::{Marks, Named};
+use crate::slots::{slot_of, want_of};
 use fec_plan::{Plan, Position};
 use norm_base::{Memory, Profile};
 use norm_ext::flags::{WANT_BLOCK, WANT_SEGMENT};

@@ -5,11 +5,13 @@
 
 mod asking;
 mod collection;
+mod coverage;
 mod earliest;
 pub mod laws;
 mod marks;
 mod mask;
 mod repairs;
+mod slots;
 mod union;
 
 pub use crate::collection::Closed;

@@ -11,18 +11,16 @@ ghost use Rattle.nack_union.specs.Kept.{admitted, closed_marks, IsCounted};
 ghost use Rattle.norm_send_rules.specs.declared.want.Want.TheVariants.{Symbol};
 ghost use Rattle.fec_plan.specs.Points.{position};
 
+use crate::coverage::Coverage;
 use crate::mask::Mask;
-use crate::repairs::ask_counted;
+use crate::slots::{BLOCK, slot_of};
 use fec_plan::{Plan, Position};
 use norm_base::Memory;
 use norm_ext::flags::{WANT_BLOCK, WANT_INFO, WANT_OBJECT, WANT_SEGMENT};
 use norm_ext::items::has_flag;
-use norm_send_rules::Want;
 use std::alloc::Global;
 use std::marker::Model;
 
-/// The slots of a block: one for each id that a symbol can have.
-const BLOCK: usize = 256;
 /// The greatest number of a block.
 const LAST_BLOCK: u32 = 16_777_215;
 
@@ -35,7 +33,7 @@ pub struct Marks {
     wants: Mask,
     wanted: usize,
     sent: Mask,
-    asked: Mask,
+    asked: Coverage,
     counts: Vec<u8>,
     is_asked: bool,
 }
@@ -50,32 +48,6 @@ impl Model for Marks {
     ghost view = { marks_view };
 
     ghost invariant = { IsSoundObject };
-}
-
-/// The slot of a symbol.
-pub fn slot_of(block: u32, symbol: u8) -> usize
-    ensures slot { result ≡ symbol_slot block symbol }
-    ensures named { symbol < 256 }
-{
-    BLOCK * block as usize + usize::from(symbol) + 1
-}
-
-/// What stands at a slot of the object with this index.
-pub fn want_of(index: u32, slot: usize) -> Want
-    requires { slot < slots most_blocks }
-    ensures { result ≡ want_at index slot }
-{
-    if slot == 0 {
-        return Want::Info { index };
-    }
-    let place = slot - 1;
-    Want::Symbol {
-        at: Position {
-            index,
-            block: (place / BLOCK) as u32,
-            symbol: (place % BLOCK) as u8,
-        },
-    }
 }
 
 /// The slot of the object with this index at which what begins at a position begins.
@@ -94,26 +66,6 @@ fn slot_behind(index: u32, last: Position, most: usize) -> usize
 {
     let slot = slot_of(last.block, last.symbol);
     if index == last.index { slot + 1 } else { most }
-}
-
-/// Puts the slots of an object's source symbols, from one slot up to another, into a set.
-fn insert_sources(set: &mut Mask, plan: &Plan, from: usize, to: usize)
-    requires { slots (blocks plan.now) ≤ set.old.size }
-    ensures members { (slot : ℕ) → is_member nat_lt slot set.new.members
-        ≡ (is_member nat_lt slot set.old.members || (is_source_slot plan.now slot && in_run from to slot)) }
-    ensures size { set.new.size ≡ set.old.size }
-{
-    let first = from.saturating_sub(1) / BLOCK;
-    let behind = to
-        .saturating_sub(1)
-        .div_ceil(BLOCK)
-        .min(plan.blocks() as usize);
-    // Proof: the label names the loop for its invariant.
-    'runs: for block in first..behind {
-        let start = slot_of(block as u32, 0);
-        let end = start + usize::from(plan.source_len(block as u32));
-        set.insert_run(start.max(from), end.min(to));
-    }
 }
 
 /// The ends of a span widened to whole blocks.
@@ -165,7 +117,7 @@ impl Marks {
         let places = BLOCK * plan.blocks() as usize + 1;
         let wants = Mask::with_room(alloc, places)?;
         let sent = Mask::with_room(alloc, places)?;
-        let asked = Mask::with_room(alloc, places)?;
+        let asked = Coverage::new(alloc, plan)?;
         let counts = vec![in alloc; 0; plan.blocks() as usize]?;
         Ok(Marks {
             plan: *plan,
@@ -227,7 +179,7 @@ impl Marks {
     fn ask_sources(&mut self, from: usize, to: usize)
         ensures { HasMore (λ slot. is_source_slot self.old.cut slot && in_run from to slot) (λ block. 0) self.old self.new }
     {
-        insert_sources(&mut self.asked, &self.plan, from, to);
+        self.asked.insert_sources(from, to);
         self.is_asked = true;
     }
 
@@ -324,9 +276,10 @@ impl Marks {
             return 0;
         }
         self.is_asked = false;
-        ask_counted(&mut self.asked, &self.sent, &self.plan, &self.counts);
+        let new = self
+            .asked
+            .close_into(&mut self.wants, &self.sent, &self.counts);
         self.counts.fill(0);
-        let new = self.wants.take_all(&mut self.asked);
         self.wanted += new;
         new
     }

@@ -1,8 +1,9 @@
 //! A set of places as words of 64 bits.
 
-ghost use Rattle.std.specs.Prelude.{◌≡◌, ◌+◌, ◌*◌, ◌^◌, ◌<◌, ◌≤◌, ◌∷◌, [], not, nat_lt, length, IfOk, MatchOption, slice_index, ◌≢◌, ℕ, IfSome, ◌||◌};
+ghost use Rattle.std.specs.Prelude.{◌≡◌, ◌+◌, ◌-◌, ◌*◌, ◌/◌, ◌^◌, ◌<◌, ◌≤◌, ◌∷◌, [], not, nat_lt, false, length, IfOk, MatchOption, slice_index, ◌≢◌, ℕ, IfSome, ◌||◌};
 ghost use Rattle.norm_order.specs.Sets.{with_member, with_members, is_member, Rises};
 ghost use Rattle.nack_union.specs.More.{in_run};
+ghost use Rattle.nack_union.specs.Words.{has_bit};
 
 use norm_base::Memory;
 use std::alloc::Global;
@@ -44,6 +45,38 @@ fn first_filled(words: &[u64], from: usize) -> Option<usize>
     None
 }
 
+/// A word of which the bits from one place up to another are set.
+fn run_bits(from: usize, to: usize) -> u64
+    requires some { from < to }
+    requires word { to ≤ 64 }
+    ensures { result ≡ 2 ^ to - 2 ^ from }
+{
+    let below = (1u64 << from) - 1;
+    if to == WORD {
+        return u64::MAX - below;
+    }
+    ((1u64 << to) - 1) - below
+}
+
+/// Sets the bits of the places from one up to another, word by word.
+fn set_run(words: &mut [u64], from: usize, to: usize)
+    requires some { from < to }
+    requires room { to ≤ 64 * length words.old }
+    requires small { length words.old ≤ 2 ^ 58 }
+    ensures bits { (place : ℕ) → has_bit words.new place ≡ (has_bit words.old place || in_run from to place) }
+    ensures before { (k : ℕ) → k < from / 64 → slice_index words.new k ≡ slice_index words.old k }
+{
+    let first = from / WORD;
+    let behind = to.div_ceil(WORD);
+    // Proof: the label names the loop for its invariant.
+    'words: for word in first..behind {
+        let start = WORD * word;
+        let low = from.saturating_sub(start);
+        let high = (to - start).min(WORD);
+        words[word] |= run_bits(low, high);
+    }
+}
+
 impl Mask {
     /// The empty set of places below a size, with as many words as they need.
     pub fn with_room(alloc: Global, places: usize) -> Result<Mask, Memory>
@@ -66,9 +99,10 @@ impl Mask {
         self.words[place / WORD] >> (place % WORD) & 1 == 1
     }
 
-    /// The members rise. Nothing is done.
+    /// The members rise, and lie below the size. Nothing is done.
     pub fn rises(&self)
-        ensures { Rises self.now.members }
+        ensures rises { Rises self.now.members }
+        ensures within { (place : ℕ) → self.now.size ≤ place → is_member nat_lt place self.now.members ≡ false }
     {
         // Proof: what is kept is looked at, and with it that it is sound.
         let _ = &self.words;
@@ -97,11 +131,9 @@ impl Mask {
         ensures members { (place : ℕ) → is_member nat_lt place self.new.members ≡ (is_member nat_lt place self.old.members || in_run from to place) }
         ensures size { self.new.size ≡ self.old.size }
     {
-        // Proof: what is kept is looked at, and with it that it is sound.
-        let _ = &self.words;
-        // Proof: the label names the loop for its invariant.
-        'places: for place in from..to {
-            self.insert(place);
+        if from < to {
+            set_run(&mut self.words, from, to);
+            self.lowest = self.lowest.min(from / WORD);
         }
     }
 

@@ -8,8 +8,8 @@ ghost use Rattle.nack_union.specs.Slots.{symbol_slot, slots};
 ghost use Rattle.nack_union.specs.Kept.{IsRepairable};
 ghost use Rattle.nack_union.specs.Repairs.{fresh_symbols, repair_slots, counted_slots};
 
-use crate::marks::slot_of;
 use crate::mask::Mask;
+use crate::slots::slot_of;
 use fec_plan::Plan;
 
 /// How many of a block's symbols from one up to another were never sent.

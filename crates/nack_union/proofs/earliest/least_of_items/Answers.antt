@@ -1,5 +1,4 @@
 use Rattle.std.proofs.Common.{ap, sym, ◌∙◌, List, Option, ℕ}
-use Rattle.fec_plan.specs.declared.position.Position.{Position}
 use Rattle.norm_ext.specs.Asking.{item_named}
 use Rattle.norm_ext.specs.Requests.{items_named}
 use Rattle.norm_ext.specs.declared.head.Item.{Item}

@@ -1,11 +1,9 @@
-use Rattle.std.proofs.Common.{◌≡◌, ℕ, ◌∙◌, ◌-◌, map, ap, sym, subst, List, ◌++◌}
+use Rattle.std.proofs.Common.{ℕ, ◌∙◌, ◌-◌, map, ap, subst, List, ◌++◌}
 use Rattle.std.specs.List.{AllByRecursion}
 use Rattle.norm_ext.specs.Asking.{named}
-use Rattle.norm_ext.specs.Requests.{Request}
-use Rattle.norm_send_rules.specs.SenderState.{SenderState, Asked}
-use Rattle.norm_send_rules.specs.InWindow.{last_index}
+use Rattle.norm_send_rules.specs.SenderState.{Asked}
 use Rattle.norm_order.specs.Sets.{Rises}
-use Rattle.nack_union.specs.Kept.{Kept, Marked, Holds, known_of}
+use Rattle.nack_union.specs.Kept.{Kept, Marked, known_of}
 use Rattle.nack_union.specs.Collected.{Collects}
 use Rattle.nack_union.specs.Adding.{IsPlanned, HasAdded}
 use Rattle.nack_union.proofs.Added.{stands_added, collects_more, named_then_asked}

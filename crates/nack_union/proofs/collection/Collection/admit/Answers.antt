@@ -33,3 +33,10 @@ returns-clause-collects c = λ p s asked entry st col.
     subst (λ (ms : List Marked). Collects p (record { first = c.self.inside.first; objects = ms; earliest = c.self.inside.earliest }) (with_entry entry s) asked) (sym c.in_ok-push.ensures.items)
     (collects_admitted p s _ asked entry c.in_ok-marks.marks (blocks c.args.plan.now) (ap (λ (m : Marked). m.asked) marks) (ap (λ (m : Marked). m.counts) marks)
     (subst (λ (u : Kept). Holds p u s) (sym c.self.view_is) st) (subst (λ (u : Kept). Collects p u s asked) (sym c.self.view_is) col))
+
+-- the object did not find room
+pub invariant_of-self : goal.invariant_of-self
+invariant_of-self c = record {
+  few = let few = c.self.invariant.few in let same = ap length c.in_err-push.ensures.items in omega (arith, few, same);
+  idle = subst (AreIdle c.self.inside.low c.self.inside.high) (sym c.in_err-push.ensures.items) c.self.invariant.idle;
+}

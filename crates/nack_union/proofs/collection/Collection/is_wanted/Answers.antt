@@ -1,4 +1,4 @@
-use Rattle.std.proofs.Common.{◌≡◌, ◌∙◌, ap, sym, subst, List, length}
+use Rattle.std.proofs.Common.{◌∙◌, ap, sym, subst, List, length}
 use Rattle.std.specs.Prelude.{nat_lt}
 use Rattle.std.specs.List.{list_any}
 use Rattle.norm_send_rules.specs.declared.want.Want.{Want}

@@ -7,8 +7,8 @@ use Rattle.nack_union.proofs.marks.Marks.close.Goals as goal
 
 pub overflow_add-self : goal.overflow_add-self
 overflow_add-self c =
-    let few = c.take_all-new.ensures.few in
-    let new = c.take_all-new.ensures.new in
+    let few = c.close_into-new.ensures.few in
+    let new = c.close_into-new.ensures.new in
     let most = c.self.invariant.most in
     let wanted = c.self.invariant.wanted in
     omega (arith, few, new, most, wanted)

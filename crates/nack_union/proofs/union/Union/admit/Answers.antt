@@ -1,7 +1,5 @@
-use Rattle.std.proofs.Common.{◌≡◌, ◌∙◌, ap, sym, subst, List, Option, Some}
-use Rattle.norm_send_rules.specs.SenderState.{SenderState, Asked, Round}
-use Rattle.nack_union.specs.Kept.{Kept, asked_so_far}
-use Rattle.nack_union.specs.Collected.{Collects}
+use Rattle.std.proofs.Common.{◌≡◌, sym, subst}
+use Rattle.nack_union.specs.Kept.{asked_so_far}
 use Rattle.nack_union.specs.UnionState.{UnionState, Stands}
 use Rattle.norm_order.specs.Shapes.{shape_of}
 use Rattle.nack_union.specs.Kept.{admitted, shape_of_marked}

@@ -1,9 +1,6 @@
-use Rattle.std.proofs.Common.{◌≡◌, ◌∙◌, ap, sym, subst, List, Option, Some}
-use Rattle.norm_send_rules.specs.SenderState.{SenderState, Asked, Round}
-use Rattle.nack_union.specs.Kept.{Kept, asked_so_far}
-use Rattle.nack_union.specs.Collected.{Collects}
+use Rattle.std.proofs.Common.{◌∙◌, ap, sym, subst}
 use Rattle.nack_union.specs.UnionState.{UnionState, Stands}
-use Rattle.std.specs.Prelude.{min, length, ◌-◌, None, [], false}
+use Rattle.std.specs.Prelude.{min, length, ◌-◌, false}
 use Rattle.norm_send_rules.specs.Closing.{round_closed}
 use Rattle.nack_union.proofs.Heard.{asked_by_round}
 use Rattle.nack_union.proofs.union.Union.close_round.Goals as goal

@@ -7,7 +7,7 @@ use Rattle.fec_plan.specs.Partition.{blocks, source_symbols}
 use Rattle.nack_union.specs.More.{in_run}
 use Rattle.nack_union.proofs.Puts.{or_false}
 use Rattle.nack_union.proofs.Runs.{blocks_none, blocks_end, slot_more}
-use Rattle.nack_union.proofs.marks.insert_sources.Goals as goal
+use Rattle.nack_union.proofs.coverage.insert_sources.Goals as goal
 
 pub runs-init : goal.runs-init
 runs-init c = record {

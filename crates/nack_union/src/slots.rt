@@ -1,0 +1,37 @@
+//! The slots of an object: its info first, and then 256 of each block.
+
+ghost use Rattle.std.specs.Prelude.{◌≡◌, ◌<◌};
+ghost use Rattle.fec_plan.specs.Partition.{most_blocks};
+ghost use Rattle.nack_union.specs.Slots.{slots, symbol_slot, want_at};
+
+use fec_plan::Position;
+use norm_send_rules::Want;
+
+/// The slots of a block: one for each id that a symbol can have.
+pub const BLOCK: usize = 256;
+
+/// The slot of a symbol.
+pub fn slot_of(block: u32, symbol: u8) -> usize
+    ensures slot { result ≡ symbol_slot block symbol }
+    ensures named { symbol < 256 }
+{
+    BLOCK * block as usize + usize::from(symbol) + 1
+}
+
+/// What stands at a slot of the object with this index.
+pub fn want_of(index: u32, slot: usize) -> Want
+    requires { slot < slots most_blocks }
+    ensures { result ≡ want_at index slot }
+{
+    if slot == 0 {
+        return Want::Info { index };
+    }
+    let place = slot - 1;
+    Want::Symbol {
+        at: Position {
+            index,
+            block: (place / BLOCK) as u32,
+            symbol: (place % BLOCK) as u8,
+        },
+    }
+}
