@@ -91,7 +91,21 @@ words 'no word says what to do'
 words 'the word sessions is unknown' sessions
 words 'the word normd is unknown' normd session
 words 'the word hub is not built yet' hub profile
-words 'the word now is one too many behind session' session now
+session_takes='session takes --chance N, from 0 to 4294967295, and --turns N, from 1 to 4000000, each at most once, and no other word'
+words "$session_takes" session now
+words "$session_takes" session --help
+words "$session_takes" session --turns 0
+words "$session_takes" session --turns 4000001
+words "$session_takes" session --chance 4294967296
+words "$session_takes" session --chance 01
+words "$session_takes" session --chance
+words "$session_takes" session --turns 1 --turns=2
+words "$session_takes" session --loss 1
+generate_takes='generate takes one word, a number from 0 to 4294967295'
+words "$generate_takes" generate
+words "$generate_takes" generate x
+words "$generate_takes" generate 4294967296
+words "$generate_takes" generate 1 2
 words 'the word now is one too many behind show' show now
 words 'a word is not UTF-8' "$(printf '\377\376')"
 none='end objects 0 octets 0 handed 0 lost 0 satisfied 0 expired 0 cut 0\n'
@@ -126,9 +140,17 @@ recorded many-commands
 recorded file-over-loss
 recorded drop-over-loss
 
+# Options stand in place of the script's keys: the last turn, and the seed of what the network and the session draw.
+printf '1 data 61\n1 data 62\n' >"$scratch/in"
+row 'a session of one turn' 8 'enq 1 1 1 0 data 1\nup 2 1 0 data 1 - 61\nend objects 1 octets 1 handed 1 lost 0 satisfied 0 expired 0 cut 0\nturns spent\n' session --turns 1
+sed 's/^set chance 3684811790$/set chance 1/' checks/sessions/file-over-loss.in >"$scratch/in"
+grep -qx 'set chance 1' "$scratch/in" || { echo 'program: file-over-loss has another chance'; exit 1; }
+row 'a session with the chance of its words' 0 "$(cat checks/sessions/file-over-loss.out)\n" session --turns=1000000 --chance=3684811790
+
 # 300 commands of three producers to 16 receivers, where one copy in ten is lost, some come twice and some late: each of the 270 objects is
-# handed up by all, and each of the 30 watermarks is satisfied. The script is that of `norm_script/specs/Generated` for 42.
-python3 - >"$scratch/in" <<'END'
+# handed up by all, and each of the 30 watermarks is satisfied. The script is that of `norm_script/specs/Generated` for 42, which the program
+# writes octet for octet.
+python3 - >"$scratch/script" <<'END'
 print('set instance 7\nset receivers 16\nset producers 3\nset e 64\nset b 4\nset turns 4000000\nset fabric chance')
 print('set chance 42\nset loss 100\nset repeat 50\nset late 3')
 for p in 1, 2, 3:
@@ -136,6 +158,10 @@ for p in 1, 2, 3:
         octets = range(1 + (42 + 37 * p + 101 * i) % 500)
         print(p, 'mark' if i % 10 == 9 else 'data ' + bytes((42 + p + i + j) % 256 for j in octets).hex())
 END
+(cd "$files" && exec "$program" generate 42) </dev/null >"$scratch/in" 2>"$scratch/err"
+ended $? 'the script of 42' 0
+cmp -s "$scratch/script" "$scratch/in" || { echo 'program: generate 42 wrote another script'; exit 1; }
+said 'the script of 42'
 (cd "$files" && exec "$program" session) <"$scratch/in" >"$scratch/all" 2>"$scratch/err"
 ended $? 'the session of 300 commands' 0
 tail -n 1 "$scratch/all" | grep -qx 'end objects 270 octets 71820 handed 4320 lost 0 satisfied 30 expired 0 cut 0' ||
@@ -214,6 +240,10 @@ if [ -w /dev/full ]; then
     ended $? 'an output without room' 5
     reason='cannot write the output: No space left on device (os error 28)\n'
     said 'an output without room'
+    "$program" generate 42 >/dev/full 2>"$scratch/err"
+    ended $? 'a script without room' 5
+    reason='cannot write the output: No space left on device (os error 28)\n'
+    said 'a script without room'
 fi
 "$program" session <examples/hello.norm >&- 2>"$scratch/err"
 ended $? 'an output that is closed' 5

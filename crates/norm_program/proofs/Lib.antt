@@ -1,3 +1,4 @@
 pub mod SayLemmas
 pub mod EndingLemmas
 pub mod ScriptLemmas
+pub mod AskedLemmas

@@ -1,7 +1,10 @@
--- How the program ends: by its words, a show, a session, or words that are no command.
-use Rattle.std.specs.Prelude.{◌≡◌, ◌⊎◌, ℕ, List, [], ◌∷◌, Bool, true, false, codes, nat_eq}
-use Rattle.std.specs.Cmp.Lexicographic.{pointwise}
-use Rattle.norm_program.specs.Ends.{Outside, RefusedWords, Ends}
+-- How the program ends: by what its words ask for, or as words that are of no form.
+use Rattle.std.specs.Prelude.{◌≡◌, ◌⊎◌, ℕ, List, Option, None, Some}
+use Rattle.norm_words.specs.Tasks.{task_of}
+use Rattle.norm_words.specs.declared.tasks.Task.{Task}
+use Rattle.norm_words.specs.declared.tasks.Task.TheVariants.{Session, Show, Generate}
+use Rattle.norm_program.specs.Ends.{Outside, RefusedWords, EndsSession}
+use Rattle.norm_program.specs.GenerateEnds.{GenerateEnds}
 use Rattle.norm_program.specs.ShowEnds.{ShowEnds}
 use Rattle.norm_program.specs.StatusOf.{status_of}
 use Rattle.norm_program.specs.declared.words.WordsFault.{WordsFault}
@@ -9,16 +12,20 @@ use Rattle.norm_program.specs.declared.words.WordsFault.TheVariants.{NotText, Me
 use Rattle.norm_program.specs.declared.status.Ending.{Ending}
 use Rattle.norm_program.specs.declared.status.Ending.TheVariants.{Words, Memory}
 
--- the words are `show` alone
-abbrev pub is_show : List (List ℕ) → Bool
-is_show [] = false
-is_show (word ∷ []) = pointwise nat_eq word (codes "show")
-is_show (word ∷ next ∷ words) = false
+-- what was asked for ended so; words that ask for nothing are refused
+abbrev pub EndsTask : Option Task → Ending → Outside → Outside → Type 0
+EndsTask None ending before after = (ending ≡ Words) × RefusedWords before after
+EndsTask (Some (Session options)) ending before after = EndsSession options ending before after
+EndsTask (Some Show) ending before after = ShowEnds ending before after
+EndsTask (Some (Generate n)) ending before after = GenerateEnds n ending before after
 
--- the words are a show's and it ended so, or they are others and what these do ended so
+-- there was no memory to read the words in, and nothing was done
+abbrev pub ReadsNoWords : Ending → Outside → Outside → Type 0
+ReadsNoWords ending before after = (ending ≡ Memory) × (after ≡ before)
+
+-- how a call with these words ended
 abbrev pub EndsBy : Ending → List (List ℕ) → Outside → Outside → Type 0
-EndsBy ending words before after =
-    ((is_show words ≡ true) × ShowEnds ending before after) ⊎ ((is_show words ≡ false) × Ends ending words before after)
+EndsBy ending words before after = EndsTask (task_of words) ending before after ⊎ ReadsNoWords ending before after
 
 -- A call with these words ended so: it answers the ending's status, and what the ending says holds.
 pub record EndsWith (status : ℕ) (words : List (List ℕ)) (before after : Outside) : Type 0 where

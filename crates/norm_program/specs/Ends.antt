@@ -1,7 +1,6 @@
 -- How a session ends, and what each ending says.
-use Rattle.std.specs.Prelude.{◌≡◌, ℕ, List, [], ◌∷◌, ◌++◌, ◌⊎◌, Bool, true, false, codes, nat_eq, Option, IfSome, Ok, Err}
+use Rattle.std.specs.Prelude.{◌≡◌, ℕ, List, [], ◌∷◌, ◌++◌, ◌⊎◌, Bool, true, false, codes, Option, IfSome, Ok, Err}
 use Rattle.std.specs.Fmt.{decimal}
-use Rattle.std.specs.Cmp.Lexicographic.{pointwise}
 use Rattle.norm_base.specs.Faults.{one_more}
 use Rattle.norm_base.specs.Network.{Network}
 use Rattle.norm_base.specs.Told.{Pieces, gained, GainsFront}
@@ -15,14 +14,10 @@ use Rattle.norm_session.specs.Session.{RunsSession, StopsSession}
 use Rattle.norm_session.specs.Turning.{Span, span}
 use Rattle.norm_session.specs.declared.fault.SessionFault.{SessionFault}
 use Rattle.norm_session.specs.declared.fault.SessionFault.TheVariants as fault
+use Rattle.norm_words.specs.declared.tasks.Options.{Options}
+use Rattle.norm_program.specs.Asked.{script_asked}
 use Rattle.norm_program.specs.declared.status.Ending.{Ending}
 use Rattle.norm_program.specs.declared.status.Ending.TheVariants.{Done, Datagram, Memory, Words, Refused, Line, Read, Write, Fabric, Files, Absent, Spent}
-
--- the words of a session
-abbrev pub is_session : List (List ℕ) → Bool
-is_session [] = false
-is_session (word ∷ []) = pointwise nat_eq word (codes "session")
-is_session (word ∷ next ∷ words) = false
 
 abbrev pub usage_line : List ℕ
 usage_line = codes "usage: normd session | show | generate N | send PROFILE | recv PROFILE NODE | hub PROFILE\n"
@@ -72,43 +67,43 @@ abbrev pub session_span : Outside → Outside → Pieces → Span
 session_span before after written =
     span before.called.network after.called.network before.written written before.called.moments after.called.moments
 
--- A session was run to its end: the input is a script, what was done is a run of it, and the lines of that journal, of which the
--- summary is the last, had then been written, one piece each.
-pub record RanSession (before after : Outside) (whole : Bool) (written : Pieces) : Type 0 where
+-- A session was run to its end: the input is a script, with the options in place of its keys what was done is a run of it, and the
+-- lines of that journal, of which the summary is the last, had then been written, one piece each.
+pub record RanSession (options : Options) (before after : Outside) (whole : Bool) (written : Pieces) : Type 0 where
   pub text : List ℕ
   pub script : Commands
   pub journal : List Event
   pub input : IsInput text before.input after.input
-  pub read : script_of Built text ≡ Ok script
+  pub read : script_asked options text ≡ Ok script
   pub session : RunsSession script before.called.files journal whole (session_span before after written)
 
--- A fault stopped a session: the input is a script, what was done is nothing or the beginning of a run of it, and that had then been
--- written.
-pub record StoppedSession (failed : SessionFault) (before after : Outside) (written : Pieces) : Type 0 where
+-- A fault stopped a session: the input is a script, what was done is nothing or the beginning of a run of it with the options, and that
+-- had then been written.
+pub record StoppedSession (options : Options) (failed : SessionFault) (before after : Outside) (written : Pieces) : Type 0 where
   pub text : List ℕ
   pub script : Commands
   pub input : IsInput text before.input after.input
-  pub read : script_of Built text ≡ Ok script
+  pub read : script_asked options text ≡ Ok script
   pub session : StopsSession failed script before.called.files (session_span before after written)
 
 -- All was done.
-pub record DidAll (before after : Outside) : Type 0 where
-  pub session : RanSession before after true after.written
+pub record DidAll (options : Options) (before after : Outside) : Type 0 where
+  pub session : RanSession options before after true after.written
   pub undisturbed : Undisturbed before after
   pub writes : after.write_faults ≡ before.write_faults
 
 -- The turns were spent, and a last line says so.
-pub record SpentTurns (before after : Outside) : Type 0 where
+pub record SpentTurns (options : Options) (before after : Outside) : Type 0 where
   pub unsaid : Pieces
-  pub session : RanSession before after false unsaid
+  pub session : RanSession options before after false unsaid
   pub output : after.written ≡ gained unsaid (codes "turns spent\n" ∷ [])
   pub undisturbed : Undisturbed before after
   pub writes : after.write_faults ≡ before.write_faults
 
 -- The turns were spent, and a front of the last line says so.
-pub record SpentUnsaid (before after : Outside) : Type 0 where
+pub record SpentUnsaid (options : Options) (before after : Outside) : Type 0 where
   pub unsaid : Pieces
-  pub session : RanSession before after false unsaid
+  pub session : RanSession options before after false unsaid
   pub output : GainsFront unsaid after.written (codes "turns spent\n")
 
 -- A line is the input's first that has no meaning, or none that a session can run today.
@@ -127,33 +122,33 @@ pub record FailedRead (before after : Outside) : Type 0 where
   pub output : Says before.written after.written before.write_faults after.write_faults (codes "fault read\n")
 
 -- One write failed. It stopped the session, or it was that of the last line of spent turns.
-pub record FailedWrite (before after : Outside) : Type 0 where
+pub record FailedWrite (options : Options) (before after : Outside) : Type 0 where
   pub cause : after.write_faults ≡ one_more before.write_faults
-  pub session : StoppedSession fault.Write before after after.written ⊎ SpentUnsaid before after
+  pub session : StoppedSession options fault.Write before after after.written ⊎ SpentUnsaid options before after
   pub undisturbed : Undisturbed before after
 
 -- One call of the network failed. It stopped the session, and a last line says so.
-pub record FailedNetwork (before after : Outside) : Type 0 where
+pub record FailedNetwork (options : Options) (before after : Outside) : Type 0 where
   pub cause : after.called.network_faults ≡ one_more before.called.network_faults
   pub unsaid : Pieces
-  pub session : StoppedSession fault.Fabric before after unsaid
+  pub session : StoppedSession options fault.Fabric before after unsaid
   pub output : Says unsaid after.written before.write_faults after.write_faults (codes "fault fabric\n")
   pub reads : after.read_faults ≡ before.read_faults
   pub files : after.called.file_faults ≡ before.called.file_faults
 
 -- One call of the files failed. It stopped the session, and a last line says so.
-pub record FailedFiles (before after : Outside) : Type 0 where
+pub record FailedFiles (options : Options) (before after : Outside) : Type 0 where
   pub cause : after.called.file_faults ≡ one_more before.called.file_faults
   pub unsaid : Pieces
-  pub session : StoppedSession fault.Files before after unsaid
+  pub session : StoppedSession options fault.Files before after unsaid
   pub output : Says unsaid after.written before.write_faults after.write_faults (codes "fault files\n")
   pub reads : after.read_faults ≡ before.read_faults
   pub calls : after.called.network_faults ≡ before.called.network_faults
 
 -- A command's file is not there. That stopped the session, and a last line has its name. No call failed but that of the line.
-pub record AbsentFile (name : List ℕ) (before after : Outside) : Type 0 where
+pub record AbsentFile (options : Options) (name : List ℕ) (before after : Outside) : Type 0 where
   pub unsaid : Pieces
-  pub session : StoppedSession (fault.Absent name) before after unsaid
+  pub session : StoppedSession options (fault.Absent name) before after unsaid
   pub output : Says unsaid after.written before.write_faults after.write_faults (absent_line name)
   pub undisturbed : Undisturbed before after
 
@@ -163,13 +158,13 @@ pub record Untouched (before after : Outside) : Type 0 where
   pub output : after.written ≡ before.written
 
 -- a command's file is not there, and no line says so
-abbrev pub AbsentUnsaid : Outside → Outside → Type 0
-AbsentUnsaid before after = (name : List ℕ) × StoppedSession (fault.Absent name) before after after.written
+abbrev pub AbsentUnsaid : Options → Outside → Outside → Type 0
+AbsentUnsaid options before after = (name : List ℕ) × StoppedSession options (fault.Absent name) before after after.written
 
 -- There was no memory: for reading a script; in a session, which that stopped; or for the line that names an absent file. No call
 -- failed.
-pub record WantedMemory (before after : Outside) : Type 0 where
-  pub session : Untouched before after ⊎ (StoppedSession fault.Memory before after after.written ⊎ AbsentUnsaid before after)
+pub record WantedMemory (options : Options) (before after : Outside) : Type 0 where
+  pub session : Untouched before after ⊎ (StoppedSession options fault.Memory before after after.written ⊎ AbsentUnsaid options before after)
   pub undisturbed : Undisturbed before after
   pub writes : after.write_faults ≡ before.write_faults
 
@@ -180,25 +175,20 @@ pub record RefusedWords (before after : Outside) : Type 0 where
   pub output : Says before.written after.written before.write_faults after.write_faults usage_line
   pub undisturbed : Undisturbed before after
 
--- what each ending of a session says
-abbrev pub EndsSession : Ending → Outside → Outside → Type 0
-EndsSession Done before after = DidAll before after
-EndsSession Spent before after = SpentTurns before after
-EndsSession (Refused refusal) before after = RefusedLine before after refusal
-EndsSession Read before after = FailedRead before after
-EndsSession Memory before after = WantedMemory before after
-EndsSession Write before after = FailedWrite before after
-EndsSession Fabric before after = FailedNetwork before after
-EndsSession Files before after = FailedFiles before after
-EndsSession (Absent name) before after = AbsentFile name before after
-EndsSession Words before after = ⊥
-EndsSession Datagram before after = ⊥
-EndsSession (Line n why) before after = ⊥
-
--- of words that are not a show's: they are no command exactly where the ending says so, and else a session was run
-abbrev pub Ends : Ending → List (List ℕ) → Outside → Outside → Type 0
-Ends Words words before after = (is_session words ≡ false) × RefusedWords before after
-Ends ending words before after = (is_session words ≡ true) × EndsSession ending before after
+-- what each ending of a session with these options says
+abbrev pub EndsSession : Options → Ending → Outside → Outside → Type 0
+EndsSession options Done before after = DidAll options before after
+EndsSession options Spent before after = SpentTurns options before after
+EndsSession options (Refused refusal) before after = RefusedLine before after refusal
+EndsSession options Read before after = FailedRead before after
+EndsSession options Memory before after = WantedMemory options before after
+EndsSession options Write before after = FailedWrite options before after
+EndsSession options Fabric before after = FailedNetwork options before after
+EndsSession options Files before after = FailedFiles options before after
+EndsSession options (Absent name) before after = AbsentFile options name before after
+EndsSession options Words before after = ⊥
+EndsSession options Datagram before after = ⊥
+EndsSession options (Line n why) before after = ⊥
 
 abbrev pub called_as : (network : Network) (files : Told) (moments : Option (List ℕ)) (network_faults file_faults : ℕ) → Called
 called_as network files moments network_faults file_faults = record {
@@ -213,18 +203,17 @@ abbrev pub outside : (input : Option (List ℕ)) (written : Pieces) (read_faults
 outside input written read_faults write_faults called =
     record { input = input; written = written; read_faults = read_faults; write_faults = write_faults; called = called }
 
--- What there is to run: the words are a session's, and the input is this script.
-pub record Prepared (script : Commands) (words : List (List ℕ)) (before after : Option (List ℕ)) : Type 0 where
-  pub command : is_session words ≡ true
+-- What there is to run: the input is this script, with the options in place of its keys.
+pub record Prepared (options : Options) (script : Commands) (before after : Option (List ℕ)) : Type 0 where
   pub text : List ℕ
   pub input : IsInput text before after
-  pub read : script_of Built text ≡ Ok script
+  pub read : script_asked options text ≡ Ok script
 
--- What ends the program before a session: the words are no command, a read failed, a line has no meaning, or there was no
--- memory. Nothing of the session was called.
-abbrev pub EndsEarly : Ending → List (List ℕ) → (input left : Option (List ℕ)) → (unwritten written : Pieces) → (reads read_faults writes write_faults : ℕ) → Type 0
-EndsEarly ending words input left unwritten written reads read_faults writes write_faults =
-    (called : Called) → Ends ending words (outside input unwritten reads writes called) (outside left written read_faults write_faults called)
+-- What ends the program before a session: a read failed, a line has no meaning, or there was no memory. Nothing of the session was
+-- called.
+abbrev pub EndsEarly : Options → Ending → (input left : Option (List ℕ)) → (unwritten written : Pieces) → (reads read_faults writes write_faults : ℕ) → Type 0
+EndsEarly options ending input left unwritten written reads read_faults writes write_faults =
+    (called : Called) → EndsSession options ending (outside input unwritten reads writes called) (outside left written read_faults write_faults called)
 
 -- how a read of the whole input failed
 abbrev pub IsReadEnding : Ending → (before after : ℕ) → (unwritten written : Pieces) → (old new : ℕ) → Type 0

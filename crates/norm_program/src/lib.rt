@@ -1,9 +1,11 @@
-//! The program as a library: its words (`words`), its input (`input`), what each command does (`program`, `show`), and
-//! the statuses (`status`). `normd` makes the real objects, reads the words by `arguments`, and ends with what `run` answers;
+//! The program as a library: its words (`words`; what they ask for says `norm_words`), its input (`input`), what each command does
+//! (`program` with `asked`, `show`, `generate`), and the statuses (`status`). `normd` makes the real objects, reads the words by `arguments`, and ends with what `run` answers;
 //! `run` does for its words what `norm_main` does, which programs and tests call over objects of their own. What stands on
 //! standard error is in `reason`.
 #![tactic(auto)]
 
+mod asked;
+mod generate;
 mod input;
 mod program;
 mod reason;

@@ -1,12 +1,15 @@
 //! The program: its words, its input and its output.
 
-ghost use Rattle.std.specs.Prelude.{◌≡◌, codes, map, string_bytes, Ok, MatchResult, IfOk, IfErr, OnOk};
+ghost use Rattle.std.specs.Prelude.{◌≡◌, codes, map, string_bytes, Some, Ok, MatchResult, IfOk, IfErr, OnOk};
 ghost use Rattle.std.specs.Process.{exit_status};
-ghost use Rattle.norm_program.specs.Ends.{is_session, usage_line, refused_line, absent_line, outside, called_as, Says, IsInput, Prepared, IsReadEnding, IsTextEnding, IsLastEnding, IsAbsentEnding, IsStoppedEnding, EndsEarly, Ends};
-ghost use Rattle.norm_program.specs.Commands.{is_show, EndsBy, EndsWith, EndsUnread};
-ghost use Rattle.norm_script.specs.Reading.{script_of};
+ghost use Rattle.norm_program.specs.Asked.{script_asked};
+ghost use Rattle.norm_program.specs.Commands.{EndsTask, EndsBy, EndsWith, EndsUnread};
+ghost use Rattle.norm_program.specs.Ends.{usage_line, refused_line, absent_line, outside, called_as, Says, IsInput, Prepared, IsReadEnding, IsTextEnding, IsLastEnding, IsAbsentEnding, IsStoppedEnding, EndsEarly, EndsSession};
 ghost use Rattle.norm_session.specs.Session.{IsRunnable};
+ghost use Rattle.norm_words.specs.Fits.{FitsOptions, FitsTask};
 
+use crate::asked::script_with;
+use crate::generate::write_script;
 use crate::input::{InputFault, read_all};
 use crate::reason::{explain, explain_no_text};
 use crate::show::show;
@@ -15,6 +18,7 @@ use crate::words::WordsFault;
 use norm_base::{Clock, Fabric, Failed, Files, Memory, Sink, Source, Text};
 use norm_script::{Extent, Script, read};
 use norm_session::{Ended, SessionFault, run_session};
+use norm_words::{Options, Task, task_of};
 use std::alloc::{AllocError, Global};
 use std::process::ExitCode;
 use std::sync::Wait;
@@ -23,26 +27,6 @@ use std::thread::Threads;
 /// What is written where the words are no command.
 const USAGE: &[u8] =
     b"usage: normd session | show | generate N | send PROFILE | recv PROFILE NODE | hub PROFILE\n";
-
-/// Whether the words are `session` alone.
-fn is_session(words: &[String]) -> bool
-    ensures { result ≡ is_session (map string_bytes words.now) }
-{
-    match words {
-        [word] => word.as_bytes() == b"session".as_slice(),
-        _ => false,
-    }
-}
-
-/// Whether the words are `show` alone.
-fn is_show(words: &[String]) -> bool
-    ensures { result ≡ is_show (map string_bytes words.now) }
-{
-    match words {
-        [word] => word.as_bytes() == b"show".as_slice(),
-        _ => false,
-    }
-}
 
 /// Writes a last line. A failed write leaves a front of it and raises the count, and decides nothing.
 pub(crate) fn say<K: Sink>(output: &mut K, line: &[u8])
@@ -89,16 +73,22 @@ fn read_input<S: Source, K: Sink>(
     }
 }
 
-/// Reads the script that the text is.
-fn read_text<K: Sink>(alloc: Global, text: &[u8], output: &mut K) -> Result<Script, Ending>
-    ensures script { IfOk result (λ script. (script_of Extent.Built text.now ≡ Ok script) × IsRunnable script) }
+/// Reads the script that the text is, and puts the options in place of its keys.
+fn read_text<K: Sink>(
+    alloc: Global,
+    text: &[u8],
+    options: Options,
+    output: &mut K,
+) -> Result<Script, Ending>
+    requires { FitsOptions options }
+    ensures script { IfOk result (λ script. (script_asked options text.now ≡ Ok script) × IsRunnable script) }
     ensures unwritten { OnOk result (K.pieces output.new ≡ K.pieces output.old) }
     ensures quiet { OnOk result (K.fault_count output.new ≡ K.fault_count output.old) }
     ensures ending { IfErr result (λ ending. IsTextEnding ending text.now (K.pieces output.old) (K.pieces output.new)
         (K.fault_count output.old) (K.fault_count output.new)) }
 {
     match read(alloc, text, Extent::Built) {
-        Ok(Ok(script)) => Ok(script),
+        Ok(Ok(script)) => Ok(script_with(script, options)),
         Ok(Err(refusal)) => {
             let line = refused_line(alloc, u64::from(refusal.line))?;
             say(output, line.as_bytes());
@@ -159,49 +149,47 @@ fn stop_session<K: Sink>(alloc: Global, fault: SessionFault, output: &mut K) -> 
     }
 }
 
-/// What there is to run: the script, where the words are `session` and the input is one.
+/// What there is to run: the script that the input is, with the options in place of its keys.
 fn prepare<S: Source, K: Sink>(
     alloc: Global,
-    words: &[String],
+    options: Options,
     input: &mut S,
     output: &mut K,
 ) -> Result<Script, Ending>
-    ensures ready { IfOk result (λ script. Prepared script (map string_bytes words.now) (S.left input.old) (S.left input.new)) }
+    requires { FitsOptions options }
+    ensures ready { IfOk result (λ script. Prepared options script (S.left input.old) (S.left input.new)) }
     ensures runnable { IfOk result IsRunnable }
     ensures unwritten { OnOk result (K.pieces output.new ≡ K.pieces output.old) }
     ensures quiet { OnOk result ((S.fault_count input.new ≡ S.fault_count input.old) × (K.fault_count output.new ≡ K.fault_count output.old)) }
-    ensures ending { IfErr result (λ ending. EndsEarly ending (map string_bytes words.now) (S.left input.old) (S.left input.new)
+    ensures ending { IfErr result (λ ending. EndsEarly options ending (S.left input.old) (S.left input.new)
         (K.pieces output.old) (K.pieces output.new) (S.fault_count input.old) (S.fault_count input.new)
         (K.fault_count output.old) (K.fault_count output.new)) }
 {
-    if !is_session(words) {
-        say(output, USAGE);
-        return Err(Ending::Words);
-    }
     let text = read_input(alloc, input, output)?;
-    read_text(alloc, &text, output)
+    read_text(alloc, &text, options, output)
 }
 
-/// How the program ends with these words, which are not a show's; what each ending says is in `Ends`. It leaves
-/// the contents of the files as they were. Only the session itself is handed the runtime.
-fn run_words<R: Threads + Wait + Sync, S: Source, K: Sink, F: Fabric, D: Files, C: Clock>(
+/// How a session with these options ends the program; what each ending says is in `Ends`. It leaves the contents of the files as they
+/// were. Only the session itself is handed the runtime.
+fn run_input<R: Threads + Wait + Sync, S: Source, K: Sink, F: Fabric, D: Files, C: Clock>(
     rt: &R,
     alloc: Global,
-    words: &Vec<String>,
+    options: Options,
     input: &mut S,
     output: &mut K,
     fabric: &mut F,
     files: &mut D,
     clock: &mut C,
 ) -> Ending
-    ensures ends { Ends result (map string_bytes words.now.items)
+    requires { FitsOptions options }
+    ensures ends { EndsSession options result
         (outside (S.left input.old) (K.pieces output.old) (S.fault_count input.old) (K.fault_count output.old)
         (called_as (F.told fabric.old) (D.contents files.old) (C.moments clock.old) (F.fault_count fabric.old) (D.fault_count files.old)))
         (outside (S.left input.new) (K.pieces output.new) (S.fault_count input.new) (K.fault_count output.new)
         (called_as (F.told fabric.new) (D.contents files.new) (C.moments clock.new) (F.fault_count fabric.new) (D.fault_count files.new))) }
     ensures files { D.contents files.new ≡ D.contents files.old }
 {
-    let script = match prepare(alloc, words, input, output) {
+    let script = match prepare(alloc, options, input, output) {
         Ok(script) => script,
         Err(ending) => return ending,
     };
@@ -211,8 +199,36 @@ fn run_words<R: Threads + Wait + Sync, S: Source, K: Sink, F: Fabric, D: Files, 
     }
 }
 
-/// How the program ends with these words, after its name; what each ending says is in `EndsBy`. It leaves
-/// the contents of the files as they were. Only the session itself is handed the runtime.
+/// How what is asked for ends the program; what each ending says is in `EndsTask`. It leaves the contents of the files as they were.
+fn end_task<R: Threads + Wait + Sync, S: Source, K: Sink, F: Fabric, D: Files, C: Clock>(
+    rt: &R,
+    alloc: Global,
+    task: Task,
+    input: &mut S,
+    output: &mut K,
+    fabric: &mut F,
+    files: &mut D,
+    clock: &mut C,
+) -> Ending
+    requires { FitsTask task }
+    ensures ends { EndsTask (Some task) result
+        (outside (S.left input.old) (K.pieces output.old) (S.fault_count input.old) (K.fault_count output.old)
+        (called_as (F.told fabric.old) (D.contents files.old) (C.moments clock.old) (F.fault_count fabric.old) (D.fault_count files.old)))
+        (outside (S.left input.new) (K.pieces output.new) (S.fault_count input.new) (K.fault_count output.new)
+        (called_as (F.told fabric.new) (D.contents files.new) (C.moments clock.new) (F.fault_count fabric.new) (D.fault_count files.new))) }
+    ensures files { D.contents files.new ≡ D.contents files.old }
+{
+    match task {
+        Task::Session(options) => {
+            run_input(rt, alloc, options, input, output, fabric, files, clock)
+        }
+        Task::Show => show(alloc, input, output),
+        Task::Generate(number) => write_script(number, output),
+    }
+}
+
+/// How the program ends with these words, after its name; what each ending says is in `EndsBy`. It leaves the contents of the files as they
+/// were.
 fn end_of<R: Threads + Wait + Sync, S: Source, K: Sink, F: Fabric, D: Files, C: Clock>(
     rt: &R,
     alloc: Global,
@@ -230,10 +246,14 @@ fn end_of<R: Threads + Wait + Sync, S: Source, K: Sink, F: Fabric, D: Files, C: 
         (called_as (F.told fabric.new) (D.contents files.new) (C.moments clock.new) (F.fault_count fabric.new) (D.fault_count files.new))) }
     ensures files { D.contents files.new ≡ D.contents files.old }
 {
-    if is_show(words) {
-        return show(alloc, input, output);
+    match task_of(alloc, words) {
+        Ok(Some(task)) => end_task(rt, alloc, task, input, output, fabric, files, clock),
+        Ok(None) => {
+            say(output, USAGE);
+            Ending::Words
+        }
+        Err(Memory) => Ending::Memory,
     }
-    run_words(rt, alloc, words, input, output, fabric, files, clock)
 }
 
 /// The program: `words` are those after its name. Answers the exit status; what each one says is in

@@ -4,7 +4,7 @@
 ghost use Rattle.std.specs.Prelude.{◌≡◌, ◌∷◌, Some, map, string_bytes, Ok, Err, MatchResult};
 ghost use Rattle.std.specs.Fmt.{DisplaysOnOk};
 ghost use Rattle.std.specs.Process.{exit_status};
-ghost use Rattle.norm_program.specs.Reasons.{is_built, is_unbuilt, extra_reason, words_reason, has_reason, reason_of};
+ghost use Rattle.norm_program.specs.Reasons.{is_unbuilt, extra_reason, words_reason, has_reason, reason_of};
 ghost use Rattle.norm_program.specs.StatusOf.{status_of};
 ghost use Rattle.norm_program.specs.declared.status.Ending.TheVariants as ending;
 
@@ -16,22 +16,19 @@ use std::process::ExitCode;
 /// The program's name and version.
 const VERSION: &str = "normd 0.1.0";
 
-/// Whether a word is a command that stands alone.
-fn is_built(word: &str) -> bool
-    ensures { result ≡ is_built word.now }
-{
-    word.as_bytes() == b"session".as_slice() || word.as_bytes() == b"show".as_slice()
-}
+/// What `session` takes.
+const SESSION_TAKES: &str =
+    "session takes --chance N, from 0 to 4294967295, and --turns N, from 1 to 4000000, each at most once, and no other word";
+
+/// What `generate` takes.
+const GENERATE_TAKES: &str = "generate takes one word, a number from 0 to 4294967295";
 
 /// Whether a word is one of the usage line that the program does not do yet.
 fn is_unbuilt(word: &str) -> bool
     ensures { result ≡ is_unbuilt word.now }
 {
     let word = word.as_bytes();
-    word == b"generate".as_slice()
-        || word == b"send".as_slice()
-        || word == b"recv".as_slice()
-        || word == b"hub".as_slice()
+    word == b"send".as_slice() || word == b"recv".as_slice() || word == b"hub".as_slice()
 }
 
 /// Why a command that stands alone is refused with these words behind it.
@@ -51,7 +48,14 @@ fn say_extra<W: fmt::Write>(word: &str, others: &[String], f: &mut fmt::Formatte
 fn say_first<W: fmt::Write>(word: &str, others: &[String], f: &mut fmt::Formatter<W>) -> fmt::Result
     ensures { DisplaysOnOk W.write_str_gives f.old result (Some (words_reason (word.now ∷ map string_bytes others.now))) f.new }
 {
-    if is_built(word) {
+    let octets = word.as_bytes();
+    if octets == b"session".as_slice() {
+        return f.write_str(SESSION_TAKES);
+    }
+    if octets == b"generate".as_slice() {
+        return f.write_str(GENERATE_TAKES);
+    }
+    if octets == b"show".as_slice() {
         return say_extra(word, others, f);
     }
     if is_unbuilt(word) {

@@ -1,8 +1,7 @@
-use Rattle.std.proofs.Common.{ℕ, map}
-use Rattle.std.specs.Prelude.{string_bytes}
+use Rattle.std.proofs.Common.{ℕ}
 use Rattle.norm_program.specs.Ends.{called_as}
 use Rattle.norm_program.proofs.EndingLemmas.{last_ends, stopped_ends}
-use Rattle.norm_program.proofs.program.run_words.Goals as goal
+use Rattle.norm_program.proofs.program.run_input.Goals as goal
 
 -- where a fault stopped the session
 pub returns-clause-ends : goal.returns-clause-ends
@@ -16,10 +15,10 @@ returns-clause-ends g c =
     let contents = g.D.Files.contents in
     let failed = g.D.Files.fault_count in
     let moments = g.C.Clock.moments in
-    let ready = rw c.deref.ensures.value at c.in-Ok.ensures.ready in
+    let ready = c.in-Ok.ensures.ready in
     let stops = rw c.in-Ok.ensures.unwritten at c.in-Err-run_session.ensures.stops in
     let cause = rw c.in-Ok.ensures.quiet.1 at c.in-Err-run_session.ensures.cause in
-    stopped_ends ℕ c.in-Err-run_session.fault c.stop_session.result (map string_bytes c.args.words.now.items) c.in-Ok.script
+    stopped_ends ℕ c.in-Err-run_session.fault c.stop_session.result c.args.options c.in-Ok.script
     (left c.args.input.now) (left c.prepare.new.input)
     (pieces c.args.output.now) (pieces c.run_session.new.output) (pieces c.stop_session.new.output)
     (reads c.args.input.now) (reads c.prepare.new.input)
@@ -40,10 +39,10 @@ returns-in-Ok-run_session-clause-ends g c =
     let contents = g.D.Files.contents in
     let failed = g.D.Files.fault_count in
     let moments = g.C.Clock.moments in
-    let ready = rw c.deref.ensures.value at c.in-Ok.ensures.ready in
+    let ready = c.in-Ok.ensures.ready in
     let runs = rw c.in-Ok.ensures.unwritten at c.in-Ok-run_session.ensures.run in
     let cause = rw c.in-Ok.ensures.quiet.1 at c.in-Ok-run_session.ensures.cause in
-    last_ends c.end_session.result (map string_bytes c.args.words.now.items) c.in-Ok.script _ _
+    last_ends c.end_session.result c.args.options c.in-Ok.script _ _
     (left c.args.input.now) (left c.prepare.new.input)
     (pieces c.args.output.now) (pieces c.run_session.new.output) (pieces c.end_session.new.output)
     (reads c.args.input.now) (reads c.prepare.new.input)

@@ -1,0 +1,17 @@
+-- The numbers of a task are in their ranges.
+use Rattle.std.specs.Prelude.{ℕ, ◌≤◌, IfSome}
+use Rattle.norm_base.specs.Keys.{IsValue}
+use Rattle.norm_base.specs.declared.key.Key.TheVariants as key
+use Rattle.norm_words.specs.declared.tasks.Options.{Options}
+use Rattle.norm_words.specs.declared.tasks.Task.{Task}
+use Rattle.norm_words.specs.declared.tasks.Task.TheVariants.{Session, Show, Generate}
+
+-- what an option gives is one of its key's values
+pub record FitsOptions (o : Options) : Type 0 where
+  pub chance : IfSome o.chance (IsValue key.Chance)
+  pub turns : IfSome o.turns (IsValue key.Turns)
+
+abbrev pub FitsTask : Task → Type 0
+FitsTask (Session options) = FitsOptions options
+FitsTask Show = Unit {0}
+FitsTask (Generate n) = n ≤ 4294967295

@@ -1,0 +1,33 @@
+-- The forms of the words behind a first word, as simple commands of `clap`: which words are of a form, and what is found in them.
+use Rattle.std.specs.Prelude.{ℕ, List, [], ◌∷◌, Bool, true, false, Option, None, Some, codes}
+use Rattle.clap.specs.Words.{App, Kinds, Row, Rule, new_app, new_rule, with_rule, matches_of, fault_of}
+
+-- an option with one value: `--NAME VALUE`, or `--NAME=VALUE`
+abbrev pub option_named : List ℕ → Rule
+option_named name = record (new_rule name) { long = Some name }
+
+-- a word that has to be there
+abbrev pub word_named : List ℕ → Rule
+word_named name = record (new_rule name) { required = true }
+
+-- session [--chance N] [--turns N]
+abbrev pub session_form : App
+session_form = with_rule (with_rule (new_app (codes "session")) (option_named (codes "chance"))) (option_named (codes "turns"))
+
+-- show
+abbrev pub show_form : App
+show_form = new_app (codes "show")
+
+-- generate N
+abbrev pub generate_form : App
+generate_form = with_rule (new_app (codes "generate")) (word_named (codes "N"))
+
+-- no kind of error comes
+abbrev pub is_fine : Kinds → Bool
+is_fine [] = true
+is_fine (kind ∷ kinds) = false
+
+-- What is found in words of a form, of which the first names it. None where they are of another form: one is unknown, one is too many,
+-- one is wanted, an option stands twice, or help is asked for.
+unfoldable pub found_in : App → List (List ℕ) → Option (List Row)
+found_in form words = elim (is_fine (fault_of form words)) [ true ↦ Some (matches_of form words) | false ↦ None ]
