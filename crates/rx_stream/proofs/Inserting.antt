@@ -1,8 +1,8 @@
 -- A symbol that comes between those before it and those behind it.
-use Rattle.std.proofs.Common.{◌≡◌, ℕ, zero, suc, ◌+◌, ◌<◌, ◌≤◌, ◌⊎◌, inl, inr, List, [], ◌∷◌, length, take, drop, get_or, Bool, true, false, refl, sym, ap, ◌∙◌, arith}
-use Rattle.std.specs.Prelude.{◌==◌, insert}
-use Rattle.std.specs.List.{AllByRecursion}
-use Rattle.std.proofs.lemmas.Bool.{cases_order, lt-ltb, le-ltb, eq-eqb}
+use Rattle.std.proofs.Common.{◌≡◌, ◌-◌, ℕ, zero, suc, ◌+◌, ◌<◌, ◌≤◌, ◌⊎◌, inl, inr, List, [], ◌∷◌, length, take, drop, get_or, Bool, true, false, refl, sym, ap, ◌∙◌, arith}
+use Rattle.std.specs.Prelude.{◌==◌, ◌||◌, insert, nat_lt}
+use Rattle.std.specs.List.{list_any, AllByRecursion}
+use Rattle.std.proofs.lemmas.Bool.{cases_order, lt-ltb, le-ltb, eq-eqb, ne_eqb, ltb-true}
 use Rattle.std.proofs.lemmas.List.{length-append, length-take, length-drop}
 use Rattle.std.proofs.lemmas.List.Elements.{All-from_recursion}
 use Rattle.gf_field.specs.Element.{AreElements}
@@ -139,3 +139,44 @@ are_ids k ids count all below = record {
   different = λ i j d lt within same. (let r = risen ids all i j d lt within in absurd (omega (arith, r, same)));
   below = All-from_recursion (λ (x : ℕ). x < 255) ids below;
 }
+
+-- ---- an id above all
+
+last_above : (ids : List ℕ) (id last : ℕ) → Rises ids → last + 1 ≡ length ids → get_or ids last 0 < id → AllByRecursion (λ (x : ℕ). x < id) ids
+last_above [] id last all at lt = tt
+last_above (y ∷ []) id zero all at lt = (lt, tt)
+last_above (y ∷ []) id (suc last) all at lt = absurd (omega arith)
+last_above (y ∷ z ∷ ids) id zero all at lt = absurd (omega arith)
+last_above (y ∷ z ∷ ids) id (suc last) all at lt =
+    let rest = last_above (z ∷ ids) id last all.1 (omega (arith, at)) lt in
+    let first = all.0.0 in
+    let here = rest.0 in
+    ((omega (arith, first, here)), rest)
+
+pub above_all : (ids : List ℕ) (id : ℕ) → Rises ids → nat_lt (get_or ids (length ids - 1) 0) id ≡ true → AllByRecursion (λ (x : ℕ). x < id) ids
+above_all [] id all e = tt
+above_all (y ∷ ids) id all e = last_above (y ∷ ids) id (length ids) all (omega arith) (ltb-true (get_or (y ∷ ids) (length ids) 0) id (same ∙ e))
+  where
+    same : nat_lt (get_or (y ∷ ids) (length ids) 0) id ≡ nat_lt (get_or (y ∷ ids) (length (y ∷ ids) - 1) 0) id
+    same = ap (λ n. nat_lt (get_or (y ∷ ids) n 0) id) (let f : length ids ≡ length (y ∷ ids) - 1 = omega arith in f)
+
+pub none_above : (ids : List ℕ) (id : ℕ) → AllByRecursion (λ (x : ℕ). x < id) ids → false ≡ list_any (λ (x : ℕ). x == id) ids
+none_above [] id all = refl
+none_above (y ∷ ids) id all =
+    none_above ids id all.1 ∙ sym (ap (λ b. b || list_any (λ (x : ℕ). x == id) ids) (ne_eqb y id (λ e. let lt = all.0 in omega (arith, lt, e))))
+
+below_at : (ids : List ℕ) (id : ℕ) → AllByRecursion (λ (x : ℕ). x < id) ids → (i : ℕ) → i < length ids → get_or ids i 0 < id
+below_at [] id all i lt = absurd (omega arith)
+below_at (y ∷ ids) id all zero lt = all.0
+below_at (y ∷ ids) id all (suc i) lt = below_at ids id all.1 i (omega arith)
+
+pub last_place : (ids : List ℕ) (id : ℕ) → AllByRecursion (λ (x : ℕ). x < id) ids → IsPlace id ids (length ids)
+last_place ids id all = record {
+  within = omega arith;
+  before = below_at ids id all;
+  behind = λ lt. absurd (omega (arith, lt));
+}
+
+pub none_all : (ids : List ℕ) (id : ℕ) → length ids ≡ 0 → AllByRecursion (λ (x : ℕ). x < id) ids
+none_all [] id e = tt
+none_all (y ∷ ids) id e = absurd (omega arith)

@@ -41,10 +41,25 @@ impl Model for Block {
     ghost invariant = { λ b. BlockSound b.k b.size b.ids.items b.rows.items };
 }
 
-/// Where an id belongs among ids that rise.
+/// Whether an id is above all of these, as that of a symbol that comes in order is: the last of them tells.
+fn is_above_all(ids: &[u8], id: u8) -> bool
+    requires { Rises ids.now }
+    ensures { result ≡ true → AllByRecursion (λ (x : ℕ). x < id) ids.now }
+{
+    if ids.is_empty() {
+        return true;
+    }
+    ids[ids.len() - 1] < id
+}
+
+/// Where an id belongs among ids that rise. For one that comes in order it takes constant time.
 fn place_for(ids: &[u8], id: u8) -> usize
+    requires { Rises ids.now }
     ensures { IsPlace id ids.now result }
 {
+    if is_above_all(ids, id) {
+        return ids.len();
+    }
     for (place, other) in ids.iter().enumerate() {
         if id <= *other {
             return place;
@@ -62,16 +77,21 @@ fn position_of(ids: &[u8], id: u8) -> Option<usize>
     ids.iter().position(|other| *other == id)
 }
 
-/// Whether an id is among these.
+/// Whether an id is among ids that rise. For one that comes in order it takes constant time.
 fn lies_in(ids: &[u8], id: u8) -> bool
+    requires { Rises ids.now }
     ensures { result ≡ list_any (λ (x : ℕ). x == id) ids.now }
 {
+    if is_above_all(ids, id) {
+        return false;
+    }
     ids.contains(&id)
 }
 
 /// Puts an id, and its row, where they belong.
 fn keep(ids: &mut Vec<u8>, rows: &mut Vec<Row>, id: u8, row: Row) -> Result<usize, Memory>
-    requires { length rows.old.items ≡ length ids.old.items }
+    requires rows { length rows.old.items ≡ length ids.old.items }
+    requires rising { Rises ids.old.items }
     ensures place { IfOk result (λ place. IsPlace id ids.old.items place) }
     ensures ids { IfOk result (λ place. ids.new.items ≡ insert ids.old.items place id) }
     ensures rows { IfOk result (λ place. rows.new.items ≡ insert rows.old.items place row) }

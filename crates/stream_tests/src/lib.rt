@@ -1,0 +1,6 @@
+//! Tests of what a receiver holds of a stream: the word of each symbol, and what any k symbols of a block give, in whatever
+//! order they come.
+#![tactic(auto)]
+
+#[cfg(test)]
+mod rx_stream_tests;

@@ -1,0 +1,163 @@
+//! What is held of a stream: the word of each symbol in its order, and the segments that any three of five symbols give.
+
+ghost use Rattle.std.specs.Prelude.{◌≡◌, ◌+◌, IfOk};
+ghost use Rattle.rx_stream.specs.StreamState.{StreamState};
+
+use fec_plan::Plan;
+use norm_base::Memory;
+use norm_ext::Fti;
+use norm_receive_rules::Put;
+use rx_stream::{Scratch, Stream};
+use std::alloc::Global;
+use std::process::Abort;
+use std::test::Fail;
+
+/// The octets of a symbol as it is coded: those of a segment's place, and 64.
+const CODED: usize = 72;
+
+/// A block of three source symbols and two of parity is known from outside where its octets are 01, 04 and 10: the parity
+/// is 40 and 1d then. Where all three are the same, so is the parity.
+const KNOWN: [u8; 5] = [0x01, 0x04, 0x10, 0x40, 0x1d];
+
+/// A symbol of the block whose segments have 64 octets each, of which the first are the known ones, as their offsets are.
+fn known_symbol(symbol: u8) -> [u8; 72] {
+    let mut octets = [0; CODED];
+    octets[1] = 64;
+    octets[7] = KNOWN[usize::from(symbol % 5)];
+    octets[8] = KNOWN[usize::from(symbol % 5)];
+    octets
+}
+
+/// A symbol of the first block comes.
+fn come(
+    stream: &mut Stream,
+    scratch: &mut Scratch,
+    block: u32,
+    symbol: u8,
+    payload: &[u8],
+) -> Result<Put, Memory>
+    requires point { stream.old.point.block ≡ 0 }
+    requires scratch { scratch.old ≡ record { k = stream.old.plan.fti.b; size = stream.old.plan.fti.e + 8 } }
+    ensures point { IfOk result (λ _. stream.new.point ≡ stream.old.point) }
+    ensures plan { IfOk result (λ _. stream.new.plan ≡ stream.old.plan) }
+    ensures scratch { scratch.new ≡ scratch.old }
+{
+    stream.offer(block, symbol, payload, scratch)
+}
+
+/// Whether the next segment is the known one with this number; then it is passed.
+fn shows(stream: &mut Stream, symbol: u8) -> bool {
+    let Some(row) = stream.next() else {
+        return false;
+    };
+    let octets = known_symbol(symbol);
+    if row.octets() != octets.as_slice() {
+        return false;
+    }
+    if stream.first_block() > 1 {
+        return false;
+    }
+    stream.pass();
+    true
+}
+
+/// Whether these three symbols of a block, in this order, give its segments, and nothing behind them.
+fn give_back(alloc: Global, first: u8, second: u8, third: u8) -> Result<bool, Memory> {
+    let fti = Fti {
+        l: 384,
+        e: 64,
+        b: 3,
+        max_n: 5,
+    };
+    let Ok(plan) = Plan::stream(64, 3, 5) else {
+        return Ok(false);
+    };
+    let mut scratch = Scratch::new(alloc, 3, CODED)?;
+    let mut stream = Stream::new(alloc, 7, &fti, 32, &plan, 2)?;
+    come(&mut stream, &mut scratch, 0, first, &known_symbol(first))?;
+    come(&mut stream, &mut scratch, 0, second, &known_symbol(second))?;
+    come(&mut stream, &mut scratch, 0, third, &known_symbol(third))?;
+    Ok(
+        shows(&mut stream, 0)
+            && shows(&mut stream, 1)
+            && shows(&mut stream, 2)
+            && stream.next().is_none(),
+    )
+}
+
+#[test]
+fn any_three_of_five_symbols_give_the_segments_in_any_order(rt: HostRuntime) -> Result<(), Fail> {
+    for order in 0..125u8 {
+        let (first, second, third) = (order / 25, order / 5 % 5, order % 5);
+        if first != second && first != third && second != third {
+            let given = give_back(rt.alloc(), first, second, third)?;
+            assert!(rt; given, "{first} {second} {third}");
+        }
+    }
+    Ok(())
+}
+
+/// A symbol that comes behind three others of the first block: its block and id, the length that its payload says, and how
+/// many octets the payload has; and the word that it gets.
+type Row = ([u8; 3], u32, u8, u8, usize, Put);
+
+/// The words, in their order.
+const WORDS: [Row; 18] = [
+    ([0, 1, 1], 0, 2, 64, 72, Put::Kept),
+    // A segment has its own length, and one of no octets is the end.
+    ([0, 1, 1], 0, 2, 4, 12, Put::Kept),
+    ([0, 1, 1], 0, 2, 0, 8, Put::Kept),
+    ([0, 1, 1], 0, 4, 9, 72, Put::Kept),
+    ([0, 1, 1], 1, 0, 64, 72, Put::Kept),
+    // It is held, or its block is done; whatever else is wrong with it.
+    ([0, 1, 1], 0, 1, 64, 72, Put::Had),
+    ([0, 1, 1], 0, 1, 64, 9, Put::Had),
+    ([0, 1, 4], 0, 2, 64, 72, Put::Had),
+    ([0, 1, 4], 0, 9, 64, 9, Put::Had),
+    // There is room for two blocks.
+    ([0, 1, 1], 2, 0, 64, 72, Put::Away),
+    ([0, 1, 1], 16_777_215, 9, 64, 9, Put::Away),
+    // It is no encoded symbol; its length is above 64; octets are wanting, or follow.
+    ([0, 1, 1], 0, 5, 64, 72, Put::Unfit),
+    ([0, 1, 1], 1, 255, 64, 72, Put::Unfit),
+    ([0, 1, 1], 0, 2, 65, 73, Put::Unfit),
+    ([0, 1, 1], 0, 2, 5, 12, Put::Unfit),
+    ([0, 1, 1], 0, 2, 3, 12, Put::Unfit),
+    ([0, 1, 1], 0, 2, 0, 7, Put::Unfit),
+    // Parity has 72 octets.
+    ([0, 1, 1], 0, 3, 64, 71, Put::Unfit),
+];
+
+/// The word of a row.
+fn word_of(alloc: Global, row: &Row) -> Result<Option<Put>, Memory> {
+    let (before, block, symbol, len, octets, _) = *row;
+    let fti = Fti {
+        l: 384,
+        e: 64,
+        b: 3,
+        max_n: 5,
+    };
+    let Ok(plan) = Plan::stream(64, 3, 5) else {
+        return Ok(None);
+    };
+    let mut payload = [0; 80];
+    payload[1] = len;
+    let (payload, _) = payload.as_slice().split_at(octets.min(80));
+    let [first, second, third] = before;
+    let mut scratch = Scratch::new(alloc, 3, CODED)?;
+    let mut stream = Stream::new(alloc, 7, &fti, 32, &plan, 2)?;
+    come(&mut stream, &mut scratch, 0, first, &known_symbol(first))?;
+    come(&mut stream, &mut scratch, 0, second, &known_symbol(second))?;
+    come(&mut stream, &mut scratch, 0, third, &known_symbol(third))?;
+    let word = come(&mut stream, &mut scratch, block, symbol, payload)?;
+    Ok(Some(word))
+}
+
+#[test]
+fn each_symbol_gets_the_first_word_that_applies(rt: HostRuntime) -> Result<(), Fail> {
+    for (number, row) in WORDS.iter().enumerate() {
+        let word = word_of(rt.alloc(), row)?;
+        assert!(rt; word == Some(row.5), "row {number}");
+    }
+    Ok(())
+}
