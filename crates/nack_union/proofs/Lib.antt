@@ -29,6 +29,7 @@ pub mod Puts
 pub mod Filled
 pub mod Runs
 pub mod Coverages
+pub mod Quiet
 pub mod Mores
 pub mod Spans
 pub mod Named

@@ -11,10 +11,16 @@ IsIdle m = (m.asked ≡ []) × (m.counts ≡ replicate (length m.counts) 0)
 abbrev pub AreIdle : ℕ → ℕ → List Marked → Type 0
 AreIdle low high ms = (k : ℕ) (d : Marked) → k < length ms → (k < low) ⊎ (high ≤ k) → IsIdle (get_or ms k d)
 
--- The indexes of all objects are numbers of 32 bits, and the round asks for nothing outside of a range of places.
+-- nothing is wanted of the objects before a place
+abbrev pub AreQuiet : ℕ → List Marked → Type 0
+AreQuiet quiet ms = (k : ℕ) (d : Marked) → k < length ms → k < quiet → (get_or ms k d).wants ≡ []
+
+-- The indexes of all objects are numbers of 32 bits, the round asks for nothing outside of a range of places, and nothing is
+-- wanted before one.
 pub record CollectionSound (u : Inside) : Type 0 where
   pub few : u.first + length u.objects.items ≤ 2 ^ 32
   pub idle : AreIdle u.low u.high u.objects.items
+  pub quiet : AreQuiet u.quiet u.objects.items
 
 abbrev pub collection_view : Inside → Kept
 collection_view u = record { first = u.first; objects = u.objects.items; earliest = u.earliest }

@@ -29,6 +29,7 @@ ghost use Rattle.std.specs.Bool.{MatchBool};
 ghost use Rattle.nack_union.specs.Rounds.{new_wants, wants_closed};
 ghost use Rattle.nack_union.specs.Earliest.{is_below_first, earliest_with, items_spans, pairs_spans};
 ghost use Rattle.nack_union.specs.Collected.{Collects};
+ghost use Rattle.nack_union.specs.CollectionSound.{AreQuiet};
 
 use crate::asking::{ask_range, hold_all};
 use crate::earliest::{earliest_of, is_below, lesser};
@@ -45,7 +46,7 @@ use std::marker::Model;
 
 /// The wants and the sent symbols of the objects of a window, and what the open round asks for. Objects are admitted at its
 /// end and retired from its front. Outside of the places from `low` up to `high` the round asks for nothing. `earliest` is
-/// the least index from which its requests count.
+/// the least index from which its requests count. Of the objects before the place `quiet` nothing is wanted.
 #[derive(Debug, Drop)]
 pub struct Collection {
     alloc: Global,
@@ -54,6 +55,7 @@ pub struct Collection {
     low: usize,
     high: usize,
     earliest: Option<u32>,
+    quiet: usize,
 }
 
 /// What the closing of a round says.
@@ -77,11 +79,18 @@ impl Model for Collection {
     ghost invariant = { CollectionSound };
 }
 
-/// The place of the first object of which something is wanted.
-fn first_wanted(objects: &[Marks]) -> Option<usize>
+/// The place of the first object of which something is wanted, which is none before this one.
+fn first_wanted(objects: &[Marks], from: usize) -> Option<usize>
+    requires { AreQuiet from objects.now }
     ensures { result ≡ position (λ m. nat_lt 0 (length m.wants)) objects.now }
 {
-    objects.iter().position(|object| object.is_wanted())
+    // Proof: the label names the loop for its invariant.
+    'objects: for place in from..objects.len() {
+        if objects[place].is_wanted() {
+            return Some(place);
+        }
+    }
+    None
 }
 
 /// Whether something of some object is wanted.
@@ -141,6 +150,7 @@ impl Collection {
             low: 0,
             high: 0,
             earliest: None,
+            quiet: 0,
         }
     }
 
@@ -179,6 +189,7 @@ impl Collection {
         self.low = 0;
         self.high = 0;
         self.earliest = None;
+        self.quiet = 0;
     }
 
     /// Drops all objects before an index, and says whether that took away a want.
@@ -198,6 +209,7 @@ impl Collection {
         self.first = index;
         self.low = self.low.saturating_sub(count);
         self.high = self.high.saturating_sub(count);
+        self.quiet = self.quiet.saturating_sub(count);
         dropped
     }
 
@@ -406,7 +418,8 @@ impl Collection {
             → MatchOption result ((s.wants ≡ []) × Holds p self.new s)
             (λ want. (rest : List Wanted) × (s.wants ≡ want ∷ rest) × Holds p self.new (record s { wants = rest })) }
     {
-        let place = first_wanted(&self.objects)?;
+        let place = first_wanted(&self.objects, self.quiet)?;
+        self.quiet = place;
         let object = &mut self.objects[place];
         let slot = object.take_lowest()?;
         Some(want_of(self.first + place as u32, slot))
@@ -431,6 +444,7 @@ impl Collection {
         let queued = close_all(&mut self.objects[low..high]);
         self.low = high;
         self.high = high;
+        self.quiet = self.quiet.min(low);
         let early = is_below(self.earliest, self.first);
         self.earliest = None;
         Closed { queued, early }

@@ -3,8 +3,9 @@ use Rattle.std.proofs.lemmas.List.{length-append}
 use Rattle.nack_union.specs.Kept.{Kept, Marked, Holds, shape_of_marked}
 use Rattle.norm_send_rules.specs.Enqueuing.{with_entry}
 use Rattle.fec_plan.specs.Partition.{blocks}
-use Rattle.nack_union.specs.CollectionSound.{AreIdle}
+use Rattle.nack_union.specs.CollectionSound.{AreIdle, AreQuiet}
 use Rattle.nack_union.proofs.Idle.{idle_new, idle_pushed}
+use Rattle.nack_union.proofs.Quiet.{quiet_pushed}
 use Rattle.nack_union.specs.Collected.{Collects}
 use Rattle.nack_union.proofs.Windows.{collects_admitted}
 use Rattle.nack_union.proofs.Standing.{stands_admitted}
@@ -25,6 +26,8 @@ invariant_of-self-2 c =
     record {
       few = let few = c.ranges.index.fits in let index = c.requires in let first = ap (λ (u : Kept). u.first + length u.objects) c.self.view_is in let items = ap length c.in_ok-push.ensures.items in omega (arith, few, index, first, items, length-append c.self.inside.objects.items (c.in_ok-marks.marks ∷ []));
       idle = subst (AreIdle c.self.inside.low c.self.inside.high) (sym c.in_ok-push.ensures.items) pushed;
+      quiet = subst (AreQuiet c.self.inside.quiet) (sym c.in_ok-push.ensures.items)
+          (quiet_pushed c.self.inside.quiet c.self.inside.objects.items c.in_ok-marks.marks c.self.invariant.quiet (ap (λ (m : Marked). m.wants) marks));
     }
 
 pub returns-clause-collects : goal.returns-clause-collects
@@ -39,4 +42,5 @@ pub invariant_of-self : goal.invariant_of-self
 invariant_of-self c = record {
   few = let few = c.self.invariant.few in let same = ap length c.in_err-push.ensures.items in omega (arith, few, same);
   idle = subst (AreIdle c.self.inside.low c.self.inside.high) (sym c.in_err-push.ensures.items) c.self.invariant.idle;
+  quiet = subst (AreQuiet c.self.inside.quiet) (sym c.in_err-push.ensures.items) c.self.invariant.quiet;
 }

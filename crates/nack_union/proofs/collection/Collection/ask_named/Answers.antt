@@ -4,8 +4,9 @@ use Rattle.std.specs.Vec.{with_items}
 use Rattle.std.proofs.lemmas.List.{with_items_is}
 use Rattle.norm_ext.specs.Asking.{span}
 use Rattle.nack_union.specs.Kept.{Kept, Marked}
-use Rattle.nack_union.specs.CollectionSound.{AreIdle}
+use Rattle.nack_union.specs.CollectionSound.{AreIdle, AreQuiet}
 use Rattle.nack_union.specs.More.{HasPart, MoreOf, named_part}
+use Rattle.nack_union.proofs.Quiet.{quiet_kept}
 use Rattle.nack_union.proofs.Outside.{named_in_all, idle_kept}
 use Rattle.nack_union.proofs.collection.Collection.ask_named.Goals as goal
 
@@ -28,14 +29,6 @@ kept : (c : goal.After-self-3-1) → (k : ℕ) (d : Marked) → (k < c.place_fro
     → get_or c.ask_range.new.objects k d ≡ get_or c.self.inside.objects.items k d
 kept c k d out = c.ask_range.ensures.rest k d out ∙ ap (λ (ms : List Marked). get_or ms k d) c.deref_mut.ensures.value
 
-pub invariant_of-self : goal.invariant_of-self
-invariant_of-self c = record {
-  few = let few = c.self.invariant.few in let same = ap length (now c) ∙ same_length c in omega (arith, few, same);
-  idle = subst (AreIdle c.min-self-inside.result c.max-self-inside.result) (sym (now c))
-      (idle_kept c.self.inside.low c.self.inside.high c.place_from-from.result c.min-to.result c.min-self-inside.result c.max-self-inside.result
-      c.self.inside.objects.items c.ask_range.new.objects c.min-self-inside.ensures c.max-self-inside.ensures (same_length c) (kept c) c.self.invariant.idle);
-}
-
 each : (c : goal.After-self-3-1) → (k : ℕ) (d : Marked) → k < length c.self.inside.objects.items
     → MoreOf (named_part c.args.named.flags (span c.args.named.first c.args.named.last)) (c.self.inside.first + k) (get_or c.self.inside.objects.items k d) (get_or c.ask_range.new.objects k d)
 each c =
@@ -46,6 +39,17 @@ each c =
     → MoreOf (named_part c.args.named.flags (span c.args.named.first c.args.named.last)) (c.self.inside.first + k) (get_or ms k d) (get_or c.ask_range.new.objects k d))
     c.deref_mut.ensures.value c.ask_range.ensures.each)
     (kept c)
+
+pub invariant_of-self : goal.invariant_of-self
+invariant_of-self c = record {
+  few = let few = c.self.invariant.few in let same = ap length (now c) ∙ same_length c in omega (arith, few, same);
+  idle = subst (AreIdle c.min-self-inside.result c.max-self-inside.result) (sym (now c))
+      (idle_kept c.self.inside.low c.self.inside.high c.place_from-from.result c.min-to.result c.min-self-inside.result c.max-self-inside.result
+      c.self.inside.objects.items c.ask_range.new.objects c.min-self-inside.ensures c.max-self-inside.ensures (same_length c) (kept c) c.self.invariant.idle);
+  quiet = subst (AreQuiet c.self.inside.quiet) (sym (now c))
+      (quiet_kept c.self.inside.quiet c.self.inside.objects.items c.ask_range.new.objects (same_length c)
+      (λ k d lt. ap (λ (m : Marked). m.wants) (each c k d lt).rest) c.self.invariant.quiet);
+}
 
 pub returns : goal.returns
 returns c = subst (λ (u : Kept). HasPart (named_part c.args.named.flags (span c.args.named.first c.args.named.last)) u (record { first = c.self.inside.first; objects = items c; earliest = c.self.inside.earliest }))

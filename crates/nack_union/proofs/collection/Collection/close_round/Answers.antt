@@ -6,8 +6,9 @@ use Rattle.std.proofs.lemmas.List.{with_items_is, length-map}
 use borrow.Rule.Slice.PartMut.{mid_of, post_of}
 use Rattle.nack_union.specs.Kept.{Kept, Marked, Holds, IsCounted, closed_marks, closed_union}
 use Rattle.nack_union.specs.Rounds.{wants_closed, new_wants}
-use Rattle.nack_union.specs.CollectionSound.{AreIdle}
+use Rattle.nack_union.specs.CollectionSound.{AreIdle, AreQuiet}
 use Rattle.nack_union.proofs.Idle.{idle_outside, closed_range, counted_range, new_range, closed_are_idle}
+use Rattle.nack_union.proofs.Quiet.{quiet_closed}
 use Rattle.nack_union.proofs.Rounding.{stands_closed, all_queued}
 use Rattle.norm_send_rules.specs.declared.want.Want.{Want}
 use Rattle.norm_send_rules.specs.SenderState.{Asked}
@@ -18,22 +19,22 @@ use Rattle.std.proofs.lemmas.Bool.{cases_lt as in_or_out}
 use Rattle.nack_union.proofs.collection.Collection.close_round.Goals as goal
 
 -- the union as it was, by its fields
-abbrev before : (c : goal.After-self-4-1) → Kept
+abbrev before : (c : goal.After-self-5-1) → Kept
 before c = record { first = c.self.inside.first; objects = c.self.inside.objects.items; earliest = c.self.inside.earliest }
 
 -- the round asks for nothing outside of the range that is closed
-outside : (c : goal.After-self-4-1) → AreIdle c.min-low.result (c.min-low.result + (c.min-high.result - c.min-low.result)) c.self.inside.objects.items
+outside : (c : goal.After-self-5-1) → AreIdle c.min-low.result (c.min-low.result + (c.min-high.result - c.min-low.result)) c.self.inside.objects.items
 outside c =
     idle_outside c.self.inside.low c.self.inside.high c.min-low.result c.min-high.result c.self.inside.objects.items c.min-low.ensures
     (c.min-high.ensures ∙ ap (min c.self.inside.high) (c.len.ensures ∙ sym c.deref_mut.ensures.len ∙ ap length c.deref_mut.ensures.value)) c.self.invariant.idle
 
-counted : (c : goal.After-self-4-1) → AllByRecursion IsCounted c.self.inside.objects.items
+counted : (c : goal.After-self-5-1) → AllByRecursion IsCounted c.self.inside.objects.items
 counted c =
     counted_range c.min-low.result (c.min-high.result - c.min-low.result) c.self.inside.objects.items (outside c)
     (subst (λ (ms : List Marked). AllByRecursion IsCounted (mid_of c.min-low.result (c.min-high.result - c.min-low.result) ms)) c.deref_mut.ensures.value c.close_all-queued.ensures.counted)
 
 -- what is written back
-written : (c : goal.After-self-4-1)
+written : (c : goal.After-self-5-1)
     → take c.min-low.result c.deref_mut.result.now ++ (c.close_all-queued.new.objects ++ post_of c.min-low.result (c.min-high.result - c.min-low.result) c.deref_mut.result.now)
     ≡ map closed_marks c.self.inside.objects.items
 written c =
@@ -41,11 +42,11 @@ written c =
     ∙ ap (λ (ms : List Marked). take c.min-low.result ms ++ (map closed_marks (mid_of c.min-low.result (c.min-high.result - c.min-low.result) ms) ++ post_of c.min-low.result (c.min-high.result - c.min-low.result) ms)) c.deref_mut.ensures.value
     ∙ closed_range c.min-low.result (c.min-high.result - c.min-low.result) c.self.inside.objects.items (outside c)
 
-abbrev items : (c : goal.After-self-4-1) → List Marked
+abbrev items : (c : goal.After-self-5-1) → List Marked
 items c =
     (with_items c.self.inside.objects (take c.min-low.result c.deref_mut.result.now ++ (c.close_all-queued.new.objects ++ post_of c.min-low.result (c.min-high.result - c.min-low.result) c.deref_mut.result.now))).items
 
-now : (c : goal.After-self-4-1) → items c ≡ map closed_marks c.self.inside.objects.items
+now : (c : goal.After-self-5-1) → items c ≡ map closed_marks c.self.inside.objects.items
 now c =
     with_items_is c.self.inside.objects _ (ap length (written c) ∙ length-map c.self.inside.objects.items closed_marks ∙ ap length (sym c.deref_mut.ensures.value) ∙ c.deref_mut.ensures.len)
     ∙ written c
@@ -54,6 +55,8 @@ pub invariant_of-self : goal.invariant_of-self
 invariant_of-self c = record {
   few = let few = c.self.invariant.few in let same = ap length (now c) in omega (arith, few, same, length-map c.self.inside.objects.items closed_marks);
   idle = λ k d lt out. subst (λ (ms : List Marked). AreIdle c.min-high.result c.min-high.result ms) (sym (now c)) (λ k d lt out. closed_are_idle c.self.inside.objects.items k d lt) k d lt out;
+  quiet = subst (AreQuiet c.min-self-inside.result) (sym (now c))
+      (quiet_closed c.self.inside.quiet c.min-low.result _ c.min-self-inside.result c.self.inside.objects.items c.self.invariant.quiet (outside c) c.min-self-inside.ensures);
 }
 
 pub returns-clause-closed : goal.returns-clause-closed

@@ -6,6 +6,7 @@ use Rattle.norm_send_rules.specs.declared.want.Want.{Want}
 use Rattle.nack_union.specs.Kept.{Kept, Marked, Holds, admitted}
 use Rattle.nack_union.proofs.Counting.{not_wanted, position-None}
 use Rattle.nack_union.specs.Collected.{Collects}
+use Rattle.nack_union.proofs.Quiet.{quiet_before, quiet_set, idle_set, few_set}
 use Rattle.nack_union.proofs.Collections.{collects_kept}
 use Rattle.nack_union.proofs.Standing.{stands_next, stands_idle}
 use Rattle.nack_union.proofs.collection.Collection.next.Goals as goal
@@ -47,3 +48,27 @@ returns-clause-collects c = λ p s asked rest col.
     let kept = collects_kept p s (record { first = c.self.inside.first; objects = c.self.inside.objects.items; earliest = c.self.inside.earliest }) asked c.in_ok-place.place c.take_lowest.new.self c.index_mut-object.result.now
     there.0 (sym (ap (λ (m : Marked). m.asked) same)) (sym (ap (λ (m : Marked). m.counts) same)) (subst (λ (u : Kept). Collects p u s asked) (sym c.self.view_is) col) in
     record { known = kept.known; named = kept.named; counts = kept.counts; earliest = kept.earliest }
+
+pub invariant_of-self : goal.invariant_of-self
+invariant_of-self c =
+    let found = ap (position wanted) (sym c.deref.ensures.value) ∙ sym c.first_wanted.ensures ∙ c.in_ok-place.was in
+    let within = (position-Some wanted c.self.inside.objects.items c.in_ok-place.place c.index_mut-object.result.now found).0 in
+    let same = c.in_err-slot.ensures.1 ∙ c.index_mut-object.ensures.value in
+    record {
+      few = few_set c.self.inside.first c.self.inside.objects.items c.in_ok-place.place c.take_lowest.new.self c.self.invariant.few;
+      idle = idle_set c.self.inside.low c.self.inside.high c.in_ok-place.place c.self.inside.objects.items c.take_lowest.new.self c.index_mut-object.result.now
+          within (ap (λ (m : Marked). m.asked) same) (ap (λ (m : Marked). m.counts) same) c.self.invariant.idle;
+      quiet = quiet_set c.self.inside.objects.items c.in_ok-place.place c.take_lowest.new.self (quiet_before c.self.inside.objects.items c.in_ok-place.place found);
+    }
+
+pub invariant_of-self-2 : goal.invariant_of-self-2
+invariant_of-self-2 c =
+    let found = ap (position wanted) (sym c.deref.ensures.value) ∙ sym c.first_wanted.ensures ∙ c.in_ok-place.was in
+    let within = (position-Some wanted c.self.inside.objects.items c.in_ok-place.place c.index_mut-object.result.now found).0 in
+    let same = sym c.index_mut-object.ensures.value ∙ c.in_ok-slot.ensures.0 in
+    record {
+      few = few_set c.self.inside.first c.self.inside.objects.items c.in_ok-place.place c.take_lowest.new.self c.self.invariant.few;
+      idle = idle_set c.self.inside.low c.self.inside.high c.in_ok-place.place c.self.inside.objects.items c.take_lowest.new.self c.index_mut-object.result.now
+          within (sym (ap (λ (m : Marked). m.asked) same)) (sym (ap (λ (m : Marked). m.counts) same)) c.self.invariant.idle;
+      quiet = quiet_set c.self.inside.objects.items c.in_ok-place.place c.take_lowest.new.self (quiet_before c.self.inside.objects.items c.in_ok-place.place found);
+    }
