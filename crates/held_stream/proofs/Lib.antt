@@ -4,3 +4,4 @@ pub mod KnowsLemmas
 pub mod GoingLemmas
 pub mod NotedLemmas
 pub mod GrowingLemmas
+pub mod LawLemmas

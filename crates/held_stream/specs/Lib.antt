@@ -1,3 +1,4 @@
 pub mod HeldState
 pub mod HeldSound
 pub mod Growing
+pub mod Laws

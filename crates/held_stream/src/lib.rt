@@ -1,9 +1,11 @@
 //! A stream of a sender's window (RFC 5740 section 5.1 on NORM_OBJECT_STREAM): its segments, and which of them were sent.
 //!
-//! A window makes a [`HeldStream`] for each stream that it opens. It asks which blocks may go before it writes to the stream,
-//! and marks each symbol as it is sent. Within, `marks` are functions over the marks of sent segments, in a row.
+//! A window makes a [`HeldStream`] for each stream that it opens, writes to it, marks each symbol as it is sent, and asks whether
+//! all was. The stream gives up blocks for room by itself, where the rules let it. Within, `marks` are functions over the marks of
+//! sent segments, in a row.
 #![tactic(auto)]
 
+pub mod laws;
 mod marks;
 mod stream;
 

@@ -1,6 +1,6 @@
 //! A stream of the window, open or closed.
 
-ghost use Rattle.std.specs.Prelude.{ℕ, true, ◌≡◌, ◌<◌, ◌≤◌, ◌+◌, ◌-◌, ◌*◌, ◌++◌, List, [], ◌∷◌, IfOk, OnErr, OnOk, length, nat_lt, max, not, false};
+ghost use Rattle.std.specs.Prelude.{ℕ, true, ◌≡◌, ◌<◌, ◌≤◌, ◌+◌, ◌-◌, ◌*◌, ◌++◌, List, [], ◌∷◌, IfOk, OnErr, OnOk, length, nat_lt, max, not, false, None};
 ghost use Rattle.std.specs.List.{list_all, range_with_len};
 ghost use Rattle.norm_base.specs.Sizes.{datagram_room};
 ghost use Rattle.norm_base.specs.declared.kinds.Mode.TheVariants.{Hold, Drop as Dropping};
@@ -83,7 +83,8 @@ impl HeldStream {
 
     /// How the stream is cut.
     pub fn plan(&self) -> Plan
-        ensures { result ≡ self.now.buffer.cut }
+        ensures exact { result ≡ self.now.buffer.cut }
+        ensures stream { self.now.buffer.cut.l ≡ None }
     {
         self.buffer.plan()
     }

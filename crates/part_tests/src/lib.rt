@@ -3,6 +3,8 @@
 #![tactic(auto)]
 
 #[cfg(test)]
+mod held_stream_tests;
+#[cfg(test)]
 mod mark_book_tests;
 #[cfg(test)]
 mod nack_union_tests;

@@ -1,0 +1,231 @@
+//! A stream of the window: which of its segments were sent, and which blocks may go for room.
+
+use fec_plan::Position;
+use held_stream::HeldStream;
+use norm_base::{Datagram, Given, Key, Memory, Profile};
+use std::alloc::Global;
+use std::process::Abort;
+use std::test::Fail;
+use stream_buffer::StreamFault;
+
+/// The index of the stream.
+const INDEX: u32 = 3;
+
+/// A call of a stream, with what it has to answer.
+#[derive(Clone, Copy)]
+enum Step {
+    /// A write of so many octets, where the entries before the stream may go or not.
+    Write(usize, bool, Result<u32, StreamFault>),
+    Cut,
+    Close(bool, Result<(), StreamFault>),
+    /// A symbol of a block was sent.
+    Sent(u32, u8),
+    /// All members are listed past this symbol of a block.
+    Past(u32, u8),
+    /// Whether the blocks before this one may go.
+    MayGo(u32, bool),
+    /// How many octets a symbol of a block has. `None`: it is not there.
+    Symbol(u32, u8, Option<usize>),
+    /// The block and the symbol of the last closed segment.
+    Last(Option<(u32, u8)>),
+    /// The first block, how many segments are closed, how many octets were written, and whether all was sent.
+    Has(u32, u32, u32, bool),
+}
+
+/// What a write answers. `None`: it can't be asked, as there are no octets.
+fn written(
+    alloc: Global,
+    stream: &mut HeldStream,
+    profile: &Profile,
+    past: &Option<Position>,
+    len: usize,
+    before: bool,
+) -> Result<Option<Result<u32, StreamFault>>, Memory> {
+    let octets = vec![in alloc; 7; len]?;
+    if octets.is_empty() {
+        return Ok(None);
+    }
+    Ok(Some(stream.write(profile, INDEX, past, before, &octets)))
+}
+
+/// How many octets a symbol has. `None`: it is not there, or no block has so many.
+fn sent(
+    alloc: Global,
+    stream: &HeldStream,
+    block: u32,
+    symbol: u8,
+) -> Result<Option<usize>, Memory> {
+    let mut out = Datagram::new(alloc)?;
+    let plan = stream.plan();
+    if symbol >= plan.encoded_len(0) || plan.e() > 1400 {
+        return Ok(None);
+    }
+    if !stream.symbol(block, symbol, &mut out) {
+        return Ok(None);
+    }
+    Ok(Some(out.bytes().len()))
+}
+
+/// Marks a symbol as sent, where its block is kept.
+fn note(stream: &mut HeldStream, block: u32, symbol: u8) -> bool {
+    if block < stream.first_block() {
+        return false;
+    }
+    stream.note_sent(block, symbol);
+    true
+}
+
+/// A position of the stream.
+fn position(block: u32, symbol: u8) -> Option<Position> {
+    if block >= 16_777_216 {
+        return None;
+    }
+    Some(Position {
+        index: INDEX,
+        block,
+        symbol,
+    })
+}
+
+/// The block and the symbol of the last closed segment.
+fn last(stream: &HeldStream) -> Option<(u32, u8)> {
+    let at = stream.last(INDEX)?;
+    Some((at.block, at.symbol))
+}
+
+/// Makes a call, and says whether it was answered so.
+fn does(
+    alloc: Global,
+    stream: &mut HeldStream,
+    profile: &Profile,
+    past: &mut Option<Position>,
+    step: Step,
+) -> Result<bool, Memory> {
+    match step {
+        Step::Write(len, before, answer) => {
+            Ok(written(alloc, stream, profile, past, len, before)? == Some(answer))
+        }
+        Step::Cut => {
+            stream.cut();
+            Ok(true)
+        }
+        Step::Close(before, answer) => Ok(stream.close(profile, INDEX, past, before) == answer),
+        Step::Sent(block, symbol) => Ok(note(stream, block, symbol)),
+        Step::Past(block, symbol) => {
+            *past = position(block, symbol);
+            Ok(true)
+        }
+        Step::MayGo(to, answer) => Ok(stream.blocks_may_go(profile, INDEX, past, to) == answer),
+        Step::Symbol(block, symbol, answer) => Ok(sent(alloc, stream, block, symbol)? == answer),
+        Step::Last(answer) => Ok(last(stream) == answer),
+        Step::Has(first, segments, octets, is_sent) => {
+            let has = (stream.first_block(), stream.segments(), stream.octets());
+            Ok(has == (first, segments, octets) && stream.is_sent() == is_sent)
+        }
+    }
+}
+
+/// A profile with segments of 64 octets, blocks of two, three encoded symbols a block, and room for two blocks. The mode is
+/// `hold`, or else `drop`.
+fn profile_of(rt: &impl Abort, hold: u32) -> Profile {
+    let mut given = Given::new();
+    for (key, value) in [
+        (Key::E, 64),
+        (Key::B, 2),
+        (Key::MaxN, 3),
+        (Key::Blocks, 2),
+        (Key::Mode, hold),
+    ] {
+        given.set(key, value);
+    }
+    Profile::of(&given).expect(rt, "a profile")
+}
+
+/// Makes calls in their order, of a stream in this mode.
+fn play(rt: &impl Abort, alloc: Global, hold: u32, steps: &[Step]) -> Result<(), Memory> {
+    let profile = profile_of(rt, hold);
+    let mut past = None;
+    let mut stream = HeldStream::new(alloc, &profile)?;
+    for (place, step) in steps.iter().enumerate() {
+        let is_so = does(alloc, &mut stream, &profile, &mut past, *step)?;
+        assert!(rt; is_so, "call {place}");
+    }
+    Ok(())
+}
+
+/// A block goes for room once both its segments were sent, and the entries before the stream may go.
+const DROPS: [Step; 18] = [
+    Step::Last(None),
+    Step::Has(0, 0, 0, true),
+    Step::Write(256, true, Ok(0)),
+    Step::Has(0, 4, 256, false),
+    Step::Last(Some((1, 1))),
+    Step::Write(1, true, Err(StreamFault::Full { first: 0 })),
+    Step::Sent(0, 0),
+    Step::MayGo(1, false),
+    Step::Sent(0, 2),
+    Step::Write(1, true, Err(StreamFault::Full { first: 0 })),
+    Step::Sent(0, 1),
+    Step::MayGo(1, true),
+    Step::MayGo(2, false),
+    Step::Write(1, false, Err(StreamFault::Full { first: 0 })),
+    Step::Write(1, true, Ok(256)),
+    Step::Symbol(0, 0, None),
+    Step::Symbol(1, 2, Some(72)),
+    Step::Has(1, 4, 257, false),
+];
+
+#[test]
+fn sent_blocks_go_for_room(rt: HostRuntime) -> Result<(), Fail> {
+    let steps = DROPS;
+    play(&rt, rt.alloc(), 1, &steps)?;
+    Ok(())
+}
+
+/// In `hold` mode every member has to be listed past a block's last segment too.
+const HOLDS: [Step; 14] = [
+    Step::Write(256, true, Ok(0)),
+    Step::Close(true, Err(StreamFault::Full { first: 0 })),
+    Step::Sent(0, 0),
+    Step::Sent(0, 1),
+    Step::MayGo(1, false),
+    Step::Past(0, 0),
+    Step::MayGo(1, false),
+    Step::Write(1, true, Err(StreamFault::Full { first: 0 })),
+    Step::Past(0, 1),
+    Step::MayGo(1, true),
+    Step::Write(1, true, Ok(256)),
+    Step::Has(1, 4, 257, false),
+    Step::Close(true, Ok(())),
+    Step::Write(1, true, Err(StreamFault::Closed)),
+];
+
+#[test]
+fn held_blocks_go_once_all_are_past(rt: HostRuntime) -> Result<(), Fail> {
+    let steps = HOLDS;
+    play(&rt, rt.alloc(), 0, &steps)?;
+    Ok(())
+}
+
+/// A cut closes a segment that was not sent, and the end adds one.
+const ENDS: [Step; 12] = [
+    Step::Write(1, true, Ok(0)),
+    Step::Has(0, 0, 1, true),
+    Step::Cut,
+    Step::Has(0, 1, 1, false),
+    Step::Sent(0, 0),
+    Step::Has(0, 1, 1, true),
+    Step::Close(true, Ok(())),
+    Step::Has(0, 2, 1, false),
+    Step::Last(Some((0, 1))),
+    Step::Symbol(0, 1, Some(8)),
+    Step::Sent(0, 1),
+    Step::Has(0, 2, 1, true),
+];
+
+#[test]
+fn what_is_closed_is_to_be_sent(rt: HostRuntime) -> Result<(), Fail> {
+    let steps = ENDS;
+    play(&rt, rt.alloc(), 1, &steps)?;
+    Ok(())
+}
