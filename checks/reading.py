@@ -138,7 +138,10 @@ def faults(script: str, files: dict[str, bytes], output: str) -> Iterator[str]:
     """What is wrong with what a session printed, a sentence for each line that is."""
     session = Session(script, files)
     for number, line in enumerate(output.split('\n')[:-1], 1):
-        wrong = session.read(line)
+        try:
+            wrong = session.read(line)
+        except (KeyError, ValueError, IndexError):
+            wrong = 'that is no line of this session'
         if wrong:
             yield f'line {number}, {line[:100]}: {wrong}'
     if session.last not in LASTS:
