@@ -1,0 +1,38 @@
+/* Refuses one request for memory of a program that is started with this library before the C library (checks/memory).
+ *
+ * REFUSE=N: the Nth request is refused, from 1 on; 0 refuses none. COUNT=FILE: how many there were is written there at the end. */
+#include <errno.h>
+#include <fcntl.h>
+#include <stdio.h>
+#include <stdlib.h>
+#include <unistd.h>
+
+extern void *__libc_malloc(size_t);
+extern void *__libc_realloc(void *, size_t);
+
+static long requests, refused;
+
+__attribute__((constructor)) static void begin(void) {
+    const char *word = getenv("REFUSE");
+    refused = word ? atol(word) : 0;
+    requests = 0;
+}
+
+__attribute__((destructor)) static void end(void) {
+    const char *name = getenv("COUNT");
+    char text[32];
+    int file = name ? open(name, O_WRONLY | O_CREAT | O_TRUNC, 0600) : -1;
+    if (file >= 0) {
+        if (write(file, text, snprintf(text, sizeof text, "%ld", requests)) < 0) _exit(125);
+        close(file);
+    }
+}
+
+static int is_refused(void) {
+    if (++requests != refused) return 0;
+    errno = ENOMEM;
+    return 1;
+}
+
+void *malloc(size_t size) { return is_refused() ? NULL : __libc_malloc(size); }
+void *realloc(void *old, size_t size) { return is_refused() ? NULL : __libc_realloc(old, size); }
