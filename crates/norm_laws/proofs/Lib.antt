@@ -1,0 +1,3 @@
+pub mod NewOrder
+pub mod SentLemmas
+pub mod IdleRun
