@@ -1,0 +1,2 @@
+pub mod ShapesThen
+pub mod AsItCame

@@ -2,3 +2,11 @@
 //! each law is the contract of a function that does nothing. Nothing stands on it, so that a law of its own proves nothing anew.
 #![tactic(auto)]
 
+ghost use Rattle.norm_laws.specs.AsItCame.{AsksAsItCame};
+
+/// As a round closes, a request asks by the order as it stood when the request came: its infos, symbols and counts are those of then,
+/// whatever was enqueued, written, cut or ended since.
+#[tactic(auto, using(crate::proofs::AsItCame::as_it_came_law))]
+pub fn requests_ask_as_they_came()
+    ensures { AsksAsItCame }
+{}
