@@ -133,13 +133,13 @@ cut_stays p e_pos s = go (open_stream s) refl
     go (Some parts) e = some parts e (unclosed p.e parts)
 
 -- a step that is refused where a fault was found
-by_fault : (Kept : SenderState → Type 0) {F A : Type 0} (found : Option F) (s after : SenderState) (refused : F → A) (given : A) → Kept s
+pub by_fault : (Kept : SenderState → Type 0) {F A : Type 0} (found : Option F) (s after : SenderState) (refused : F → A) (given : A) → Kept s
     → (found ≡ None → Kept after) → Kept (where_free found s after refused given).0
 by_fault Kept None s after refused given h k = k refl
 by_fault Kept (Some fault) s after refused given h k = h
 
 -- and one by a test
-by_test : (Kept : SenderState → Type 0) {A : Type 0} (b : Bool) (t u : SenderState × A) → (b ≡ true → Kept t.0) → (b ≡ false → Kept u.0)
+pub by_test : (Kept : SenderState → Type 0) {A : Type 0} (b : Bool) (t u : SenderState × A) → (b ≡ true → Kept t.0) → (b ≡ false → Kept u.0)
     → Kept (either b t u).0
 by_test Kept true t u h k = h refl
 by_test Kept false t u h k = k refl

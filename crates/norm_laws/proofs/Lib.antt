@@ -1,2 +1,3 @@
 pub mod ShapesThen
 pub mod AsItCame
+pub mod RoundAsks

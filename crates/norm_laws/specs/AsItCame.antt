@@ -1,15 +1,18 @@
 -- As a round closes, a request asks by the order as it stood when the request came, whatever was enqueued since (RFC 5740
 -- section 5.4).
-use Rattle.std.specs.Prelude.{◌≡◌, List, [], ◌∷◌, filter}
+use Rattle.std.specs.Prelude.{ℕ, ◌≡◌, List, [], ◌∷◌, ◌++◌, filter, Contains, true, Ok, None, Some}
+use Rattle.std.specs.List.{AllByRecursion}
 use Rattle.norm_base.specs.Settings.{Settings, InRange}
 use Rattle.norm_ext.specs.Asking.{Count, asked_counts}
+use Rattle.norm_ext.specs.Message.{NackMessage, Nack}
+use Rattle.norm_ext.specs.Reading.{decoded}
 use Rattle.norm_ext.specs.Requests.{Request}
-use Rattle.norm_send_rules.specs.SenderState.{SenderState, Asked}
+use Rattle.norm_send_rules.specs.SenderState.{SenderState, Asked, sender_opening}
 use Rattle.norm_send_rules.specs.InWindow.{current_shapes}
 use Rattle.norm_send_rules.specs.Asking.{asks_for, as_it_came, wants_of, is_kept, counts_of}
-use Rattle.norm_send_rules.specs.Hearing.{asked_now}
+use Rattle.norm_send_rules.specs.Hearing.{asked_now, nack_counts}
 use Rattle.norm_send_rules.specs.Reached.{IsReached}
-use Rattle.norm_send_rules.specs.SenderStep.{SenderEvent, sender_step}
+use Rattle.norm_send_rules.specs.SenderStep.{SenderEvent, Delivered, sender_step}
 
 -- the sender after these events
 unfoldable pub after : Settings → SenderState → List SenderEvent → SenderState
@@ -32,3 +35,35 @@ pub record AsksAsItCame : Type 0 where
   pub counts : AtEachLaterMoment (λ p s a later.
       counts_of (current_shapes p later) a
       ≡ filter (λ (c : Count). is_kept (current_shapes p s) s.current.drop c.of) (asked_counts a.request))
+
+-- the requests of the open round
+abbrev pub asked_yet : SenderState → List Asked
+asked_yet s = elim s.round [ Some r ↦ r.asked | None ↦ [] ]
+
+-- the datagram is a NACK that counts, with this request
+pub record AsksBy (p : Settings) (s : SenderState) (datagram : List ℕ) (r : Request) : Type 0 where
+  pub nack : NackMessage
+  pub spells : decoded datagram ≡ Ok (Nack nack)
+  pub counts : nack_counts p s nack ≡ true
+  pub has : Contains nack.requests r
+
+-- A request of a round, after these events: a NACK of this instance brought it, it was kept as it asks at that moment, and the
+-- order by which it is read is that of then.
+pub record CameByNack (p : Settings) (opening : SenderState) (events : List SenderEvent) (a : Asked) : Type 0 where
+  pub before : List SenderEvent
+  pub datagram : List ℕ
+  pub moment : ℕ
+  pub since : List SenderEvent
+  pub run : events ≡ before ++ Delivered datagram moment ∷ since
+  pub request : Request
+  pub asks : AsksBy p (after p opening before) datagram request
+  pub kept : a ≡ asked_now p (after p opening before) request
+  pub instance : (after p opening events).current.id ≡ (after p opening before).current.id
+  pub order : as_it_came a (current_shapes p (after p opening events)) ≡ current_shapes p (after p opening before)
+
+-- So is each request of the open round at each moment of each run, and so each that is read as its round closes.
+abbrev pub RoundsAskAsItCame : Type 0
+RoundsAskAsItCame =
+    (p : Settings) (instance : ℕ) (events : List SenderEvent) → InRange p
+    → let opening = sender_opening p instance in
+    AllByRecursion (CameByNack p opening events) (asked_yet (after p opening events))
