@@ -11,7 +11,7 @@ use Rattle.norm_ext.specs.Asking.{Count, asked_counts}
 use Rattle.norm_ext.specs.InstanceIds.{rise}
 use Rattle.norm_ext.specs.Requests.{Request}
 use Rattle.norm_order.specs.Entries.{Part, Write, Cut, End, Object, Whole, Stream, Entry}
-use Rattle.norm_order.specs.Segments.{since_cut, unclosed}
+use Rattle.norm_order.specs.Segments.{since_cut, unclosed, has_end}
 use Rattle.norm_order.specs.Shapes.{Shape, shape_of, shapes_of, last_source}
 use Rattle.norm_order.proofs.StreamLemmas.{closed_grow}
 use Rattle.norm_send_rules.specs.SenderState.{SenderState, Instance}
@@ -36,7 +36,7 @@ use Rattle.norm_send_rules.proofs.CutNames.{cut_range}
 use Rattle.norm_send_rules.proofs.ShapeLemmas.{blocks_of}
 use Rattle.norm_send_rules.proofs.WantLemmas.{where_free, either, no_row, EndsOpen, ends_open, with_last_is}
 use Rattle.norm_safety.proofs.SenderKeeps.{Keeps, heard_keeps, ticked_keeps, told_keeps, struck_keeps}
-use Rattle.norm_safety.proofs.CommandSteps.{marked_keeps}
+use Rattle.norm_safety.proofs.CommandSteps.{with_mark, marked_keeps}
 use Rattle.norm_safety.proofs.OnceLemmas.{unused_above}
 use Rattle.norm_laws.specs.AsItCame.{after, AsksAsItCame}
 use Rattle.norm_laws.proofs.ShapesThen.{Longer, Grew, grew_joined, grew_itself, grew_last, grew_both, order_ends, shapes_then}
@@ -49,7 +49,7 @@ entry_grew p order entry =
     subst G (sym (map-append (λ (x : Entry). shape_of p x.object) order (entry ∷ []))) (grew_joined (shapes_of p order) (shapes_of p (entry ∷ [])))
 
 stream_longer : (p : Settings) → 0 < p.e → (last : Object) (parts more : List Part) → last ≡ Stream parts
-    → Rattle.norm_order.specs.Segments.has_end parts ≡ false → Longer (shape_of p last) (shape_of p (Stream (parts ++ more)))
+    → has_end parts ≡ false → Longer (shape_of p last) (shape_of p (Stream (parts ++ more)))
 stream_longer p e_pos last parts more is unended =
     let L : Object → Type 0 = λ o. Longer (shape_of p o) (shape_of p (Stream (parts ++ more))) in
     subst L (sym is) (record { cut = refl; closed = closed_grow p.e parts more e_pos unended; info = refl })
@@ -149,7 +149,7 @@ watermark_stays : (p : Settings) (s t : SenderState) (by : Origin) (quorum : Opt
 watermark_stays p s t by quorum None h = h
 watermark_stays p s t by quorum (Some at) h =
     by_test (Stays p s) (nat_le most_open (length (open_watermarks t))) (t, _) (with_watermark t by quorum at, _) (λ e. h)
-    (λ e. stays_kept p s (Rattle.norm_safety.proofs.CommandSteps.with_mark by quorum at t) (with_watermark t by quorum at)
+    (λ e. stays_kept p s (with_mark by quorum at t) (with_watermark t by quorum at)
     (record { earlier = h.earlier; id = h.id; grew = h.grew }) (marked_keeps by t quorum at))
 
 mark_moves : (p : Settings) → 0 < p.e → (s : SenderState) (by : Origin) (quorum : Option ℕ) → Moves p s (cut_and_marked p s by quorum).0
