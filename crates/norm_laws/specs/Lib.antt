@@ -1,1 +1,2 @@
 pub mod SentOnce
+pub mod AsItCame

@@ -1,5 +1,6 @@
 //! Laws of whole runs. Each is the contract of a function that does nothing.
 
+ghost use Rattle.norm_laws.specs.AsItCame.{AsksAsItCame, RoundsAskAsItCame};
 ghost use Rattle.norm_laws.specs.SentOnce.{IdleHasSent};
 
 /// Idle says that all was sent: wherever a sender of data and files is idle, each info and symbol that it sends once by itself was
@@ -7,4 +8,18 @@ ghost use Rattle.norm_laws.specs.SentOnce.{IdleHasSent};
 #[tactic(auto, using(crate::proofs::IdleRun::idle_has_sent))]
 pub fn idle_has_sent()
     ensures { IdleHasSent }
+{}
+
+/// As a round closes, a request asks by the order as it stood when the request came: its infos, symbols and counts are those of then,
+/// whatever was enqueued, written, cut or ended since.
+#[tactic(auto, using(crate::proofs::AsItCame::as_it_came_law))]
+pub fn requests_ask_as_they_came()
+    ensures { AsksAsItCame }
+{}
+
+/// At each moment of each run a NACK of this instance brought each request of the open round, and it is read by the order of the
+/// moment when it came.
+#[tactic(auto, using(crate::proofs::RoundAsks::rounds_ask))]
+pub fn rounds_ask_as_they_came()
+    ensures { RoundsAskAsItCame }
 {}
