@@ -1,0 +1,9 @@
+pub mod CountSteps
+pub mod CountSender
+pub mod CountOutcomes
+pub mod CountOutcomesRun
+pub mod CountOctets
+pub mod CountHandUps
+pub mod CountHandUpsRun
+pub mod CountEntries
+pub mod CountsFit
