@@ -4,3 +4,12 @@ pub mod IdleRun
 pub mod ShapesThen
 pub mod AsItCame
 pub mod RoundAsks
+pub mod CountSteps
+pub mod CountSender
+pub mod CountOutcomes
+pub mod CountOutcomesRun
+pub mod CountOctets
+pub mod CountHandUps
+pub mod CountHandUpsRun
+pub mod CountEntries
+pub mod CountsFit

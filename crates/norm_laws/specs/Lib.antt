@@ -1,2 +1,3 @@
 pub mod SentOnce
 pub mod AsItCame
+pub mod CountsFit

@@ -1,6 +1,7 @@
 //! Laws of whole runs. Each is the contract of a function that does nothing.
 
 ghost use Rattle.norm_laws.specs.AsItCame.{AsksAsItCame, RoundsAskAsItCame};
+ghost use Rattle.norm_laws.specs.CountsFit.{CountsOfASessionFit};
 ghost use Rattle.norm_laws.specs.SentOnce.{IdleHasSent};
 
 /// Idle says that all was sent: wherever a sender of data and files is idle, each info and symbol that it sends once by itself was
@@ -22,4 +23,10 @@ pub fn requests_ask_as_they_came()
 #[tactic(auto, using(crate::proofs::RoundAsks::rounds_ask))]
 pub fn rounds_ask_as_they_came()
     ensures { RoundsAskAsItCame }
+{}
+
+/// The counts of a session of data and files are bounded by its script's commands and its profile's receivers and octets, and so fit
+/// into 64 bits.
+pub fn counts_of_a_session_fit()
+    ensures { CountsOfASessionFit }
 {}
