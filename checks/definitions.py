@@ -94,8 +94,10 @@ def main():
                 from evaluate import rules
                 said, differ = rules.look(a.write)
             elif a.laws:
-                from evaluate import laws
+                from evaluate import journals, laws
                 said, differ = laws.look(space, runs)
+                own, astray = journals.look_at_laws(journals.Judge(tempfile.mkdtemp(dir=scratch)), journals.without_streams(journals.runs_of(a.runs, a.names)))
+                said, differ = '%s, %s' % (said, own), differ + astray
             elif a.safe:
                 said, differ = compare(space, [], [(n, *terms.safe_case(n, r)) for n, r in lawful])
             elif a.gate or a.damaged or a.cases:

@@ -17,11 +17,19 @@ use Rattle.norm_base.specs.declared.kinds.Sent.TheVariants as sent
 use Rattle.norm_journal.specs.declared.event.Event.{Event as JournalEvent}
 use Rattle.norm_journal.specs.declared.event.Event.TheVariants as journal
 use Rattle.norm_journal.specs.Accepting.{accepts, judged_from}
+use Rattle.norm_journal.specs.Handed.{ups_in}
 use Rattle.norm_journal.specs.Honest.{is_honest}
 use Rattle.norm_journal.specs.Jobs.{Told as ToldFiles}
 use Rattle.norm_journal.specs.Judged.{Judged, judged_opening}
 use Rattle.norm_journal.specs.Printed.{printed_from}
 use Rattle.norm_journal.specs.SessionRun.{Ending, Whole, Spent, Absent, ending_of}
+use Rattle.norm_journal.specs.declared.totals.Totals.{Totals}
+use Rattle.norm_journal.specs.WorldEvents.{world_events}
+use Rattle.norm_safety.specs.Fronts.{same_up}
+use Rattle.norm_safety.specs.Hands.{hands}
+use Rattle.norm_safety.specs.History.{happens}
+use Rattle.norm_safety.specs.OnceEach.{instance_ids}
+use Rattle.std.specs.Prelude.{◌*◌}
 '''
 # definitions of the kit that have to be opened
 KIT = [('Rattle.hex.specs.Hex', 'encode_with'), ('Rattle.hex.specs.Hex', 'decode_pairs'), ('Rattle.rand_core.specs.Pcg32Seed', 'pcg32_seed'),
@@ -148,6 +156,32 @@ def report(name, rows, found):
     pairs = re.findall(r'\((\d+), ((?:\d+ ∷ )*)\[\]\)', found)
     accepted = ['event %s: %s' % (n, rows[name][int(n)][int(d)]) for n, ds in pairs for d in re.findall(r'\d+', ds)]
     return '%s: accepted: %s' % (name, '; '.join(accepted) or found[:1500])
+
+
+def without_streams(runs):
+    return [(name, run) for name, run in runs if not re.search(r'^\d+ (open|write|close)\b', run['script'], re.M)]
+
+
+# the laws of journals as a test, and so damaged that it is false where something was accepted and handed up
+LAWS, DAMAGED_LAWS = 'laws_hold', ('without_ups', 'without_objects')
+
+
+def law_case(name, run, test):
+    return '%s, %s' % (name, test), '', by_script(run, 'false', '%s j %s' % (test, terms.lst([event(e) for e in journal_of(run)]))) + ' ≡ true'
+
+
+def look_at_laws(space, runs):
+    """Says which journal a law is false of, and which damage no journal notices; in the counts of data and files alone."""
+    whole = [law_case(name, run, LAWS) for name, run in runs]
+    damaged = [law_case(name, run, test) for name, run in runs for test in DAMAGED_LAWS]
+    said = space.evaluate(whole + damaged)
+    wrong = [name for name, _, _ in whole if said[name]]
+    missed = [d for d in DAMAGED_LAWS if not any(said[name] for name, _, _ in damaged if name.endswith(', ' + d))]
+    for name in wrong:
+        print('%s: a law is false: %s' % (name, said[name][:1500]))
+    for d in missed:
+        print('%s: no journal notices it' % d)
+    return '2 laws of %d journals' % len(runs), len(wrong + missed)
 
 
 def look(space, runs, damaged_runs=()):

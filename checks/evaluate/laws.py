@@ -9,7 +9,7 @@ TESTS = [('block_was_seen', 'blocks_unseen'), ('has_passed', 'blocks_further'), 
 
 # the same of the sender's steps
 STEPS = [('keeps_the_gap', 'sent_too_soon'), ('drop_never_falls', 'nothing_dropped'), ('listings_never_fall', 'none_listed'), ('ends_at_most_one', 'all_ended'),
-         ('idle_has_sent', 'nothing_sent')]
+         ('idle_has_sent', 'nothing_sent'), ('reads_as_it_came', 'asked_further')]
 
 
 def case(name, run, test):
