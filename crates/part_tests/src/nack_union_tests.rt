@@ -188,6 +188,37 @@ fn what_is_named_is_wanted_once_and_in_order(rt: HostRuntime) {
     play(&rt, three_blocks(&rt, rt.alloc()), &calls);
 }
 
+/// Ranges that overlap, that leave one symbol out, and that have a whole block between their ends. Each ends with its last
+/// symbol.
+const RANGED: [Call; 20] = [
+    Call::Range(WANT_SEGMENT, (0, 0, 3), (0, 1, 0)),
+    Call::Closes(4, false),
+    Call::Gives((0, 0, 3)),
+    Call::Gives((0, 0, 4)),
+    Call::Gives((0, 0, 5)),
+    Call::Gives((0, 1, 0)),
+    Call::GivesNothing,
+    Call::Range(WANT_SEGMENT, (0, 0, 0), (0, 1, 1)),
+    Call::Range(WANT_SEGMENT, (0, 1, 3), (0, 2, 4)),
+    Call::Closes(15, false),
+    Call::Item(WANT_SEGMENT, (0, 1, 2)),
+    Call::Closes(1, false),
+    Call::GivesAll(16),
+    Call::Range(WANT_SEGMENT, (0, 0, 5), (0, 2, 0)),
+    Call::Range(WANT_SEGMENT, (0, 1, 1), (0, 2, 1)),
+    Call::Closes(8, false),
+    Call::Gives((0, 0, 5)),
+    Call::GivesAll(7),
+    Call::Closes(0, false),
+    Call::GivesNothing,
+];
+
+#[test]
+fn ranges_ask_for_what_lies_between_their_ends(rt: HostRuntime) {
+    let calls = RANGED;
+    play(&rt, three_blocks(&rt, rt.alloc()), &calls);
+}
+
 /// A union with an object of one block, of 4 source and 2 parity symbols, without info.
 fn one_block(rt: &impl Abort, alloc: Global) -> Union
     ensures first { result.kept.first ≡ 0 }
@@ -199,6 +230,33 @@ fn one_block(rt: &impl Abort, alloc: Global) -> Union
         Ok(()) => union,
         Err(Memory) => panic!(rt; "no memory for an object"),
     }
+}
+
+/// A union with two such objects.
+fn two_objects(rt: &impl Abort, alloc: Global) -> Union {
+    let mut union = one_block(rt, alloc);
+    let plan = Plan::of(256, 64, 4, 6).expect(rt, "a plan");
+    match union.admit(1, &plan, false) {
+        Ok(()) => union,
+        Err(Memory) => panic!(rt; "no memory for an object"),
+    }
+}
+
+/// A range goes from object to object.
+const ACROSS: [Call; 7] = [
+    Call::Range(WANT_SEGMENT, (0, 0, 1), (1, 0, 1)),
+    Call::Closes(5, false),
+    Call::Gives((0, 0, 1)),
+    Call::GivesAll(4),
+    Call::Range(WANT_OBJECT, (0, 0, 1), (1, 0, 1)),
+    Call::Closes(8, false),
+    Call::GivesAll(8),
+];
+
+#[test]
+fn a_range_goes_from_object_to_object(rt: HostRuntime) {
+    let calls = ACROSS;
+    play(&rt, two_objects(&rt, rt.alloc()), &calls);
 }
 
 /// The greatest count stands, and is answered by the lowest parity. A count of 1 is served by it, as it was not sent yet; for
