@@ -28,7 +28,7 @@ EDITS = {
     'rx_hold/a_block_waits_for_all_sources': 'norm_receive_rules/BlockValue',
     'rx_hold/an_object_is_handed_up_again_when_its_fti_comes_anew': 'norm_receive_rules/HandingUp',
     'rx_hold/the_last_symbol_is_handed_up_with_its_padding': 'norm_receive_rules/HandingUp',
-    'rx_stream/a_block_waits_for_all_sources': 'norm_receive_rules/BlockValue', 'rx_stream/the_ring_is_off_by_one': 'norm_receive_rules/Putting',
+    'rx_stream/a_block_waits_for_all_sources': 'norm_receive_rules/BlockValue',
     'stream_buffer/a_cut_segment_begins_at_its_end': 'norm_order/Segments',
     'stream_buffer/parity_is_sent_of_a_block_that_is_not_closed': 'norm_order/Symbols',
     'tx_window/a_dropped_symbol_is_zeros': 'tx_window/Asked',
