@@ -10,8 +10,8 @@ use Rattle.norm_ext.specs.declared.fti.Fti.{Fti}
 use Rattle.norm_send_rules.specs.SenderState.{SenderState}
 use Rattle.norm_send_rules.specs.Messages.{object_flags, fti_of_object}
 use Rattle.tx_window.specs.declared.window.About.{About}
-use Rattle.tx_window.specs.Held.{HeldObject, octets_of}
-use Rattle.tx_window.specs.WindowSound.{IsPlaced, object_in}
+use Rattle.held_object.specs.Held.{HeldObject, octets_of}
+use Rattle.held_object.specs.Placed.{IsPlaced, object_in}
 use Rattle.tx_window.specs.Asked.{kept_at, about_of, IsWhole}
 
 fti_is : (ring : List ℕ) (p : Settings) (h : HeldObject) → IsPlaced ring p h

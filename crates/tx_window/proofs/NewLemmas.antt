@@ -16,12 +16,14 @@ use Rattle.norm_send_rules.specs.Sending.{sent_once, new_from, next_new}
 use Rattle.norm_send_rules.specs.Wants.{want_index}
 use Rattle.norm_send_rules.specs.declared.want.Want.{Want}
 use Rattle.norm_send_rules.specs.declared.want.Want.TheVariants.{Info, Symbol}
-use Rattle.tx_window.specs.Held.{HeldObject, octets_of, octets_in}
+use Rattle.held_object.specs.Held.{HeldObject, octets_of, octets_in}
 use Rattle.tx_window.specs.WindowState.{WindowState, WindowObject, Stands}
-use Rattle.tx_window.specs.WindowSound.{IsPlaced, window_object, object_in}
+use Rattle.tx_window.specs.WindowSound.{window_object}
+use Rattle.held_object.specs.Placed.{IsPlaced, object_in}
 use Rattle.tx_window.specs.Asked.{from_first, kept_at}
-use Rattle.tx_window.specs.Next.{AllOf, is_next, once, IsNextIn}
-use Rattle.tx_window.proofs.HeldLemmas.{taken, refused}
+use Rattle.tx_window.specs.Next.{AllOf, is_next}
+use Rattle.held_object.specs.NextIn.{once, IsNextIn}
+use Rattle.held_object.proofs.HeldLemmas.{taken, refused}
 use Rattle.tx_window.proofs.SourceLemmas.{closed_here}
 use Rattle.tx_window.proofs.RoomLemmas.{drop_one, map_drop, get_some}
 use Rattle.tx_window.proofs.WindowLemmas.{none_at}
