@@ -1,0 +1,3 @@
+pub mod EntryState
+pub mod Asked
+pub mod Laws
