@@ -1,3 +1,4 @@
 pub mod EntryState
 pub mod Asked
 pub mod Laws
+pub mod Growing

@@ -6,6 +6,7 @@
 #![tactic(auto)]
 
 mod entry;
+mod growing;
 pub mod laws;
 
 pub use crate::entry::HeldEntry;
