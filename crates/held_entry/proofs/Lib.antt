@@ -2,3 +2,4 @@ pub mod ObjectLemmas
 pub mod StreamLemmas
 pub mod OtherLemmas
 pub mod GrowingLemmas
+pub mod FrontLemmas

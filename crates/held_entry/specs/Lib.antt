@@ -2,3 +2,4 @@ pub mod EntryState
 pub mod Asked
 pub mod Laws
 pub mod Growing
+pub mod Front

@@ -2,11 +2,13 @@
 //! be gone.
 //!
 //! A window keeps a [`HeldEntry`] for each entry of the order that it did not drop, and asks it alike whatever it is: how it is cut
-//! and told of, for its symbols and its info, what is new next, and whether it may go.
+//! and told of, for its symbols and its info, what is new next, and whether it may go. [`may_all_go`] asks the first entries.
 #![tactic(auto)]
 
 mod entry;
+mod front;
 mod growing;
 pub mod laws;
 
 pub use crate::entry::HeldEntry;
+pub use crate::front::may_all_go;

@@ -1,0 +1,45 @@
+-- Whether the first entries of a window may all go.
+use Rattle.std.proofs.Common.{◌≡◌, ℕ, zero, suc, ◌+◌, ◌<◌, refl, ap, ◌∙◌, arith, true, false, Some, List, [], ◌∷◌, length, take, drop}
+use Rattle.std.specs.Prelude.{slice_get, ◌&&◌}
+use Rattle.norm_base.specs.Settings.{Settings}
+use Rattle.norm_order.specs.Entries.{Entry}
+use Rattle.norm_order.specs.Shapes.{shape_of}
+use Rattle.norm_send_rules.specs.SenderState.{SenderState}
+use Rattle.norm_send_rules.specs.Room.{may_go, may_all_go}
+
+drop_one : {X : Type 0} (n : ℕ) (xs : List X) (x : X) → slice_get xs n ≡ Some x → drop n xs ≡ x ∷ drop (suc n) xs
+drop_one n [] x e = absurd (cc)
+drop_one zero (y ∷ ys) x e = ap (λ z. z ∷ ys) (let z : y ≡ x = cc in z)
+drop_one (suc n) (y ∷ ys) x e = drop_one n ys x e
+
+pub get_some : {X : Type 0} (n : ℕ) (xs : List X) → n < length xs → (x : X) × (slice_get xs n ≡ Some x)
+get_some n [] lt = absurd (omega arith)
+get_some zero (x ∷ xs) lt = (x, refl)
+get_some (suc n) (x ∷ xs) lt = get_some n xs (omega arith)
+
+pub get_taken : {X : Type 0} (m n : ℕ) (xs : List X) (x : X) → n < m → slice_get xs n ≡ Some x → slice_get (take m xs) n ≡ Some x
+get_taken m n [] x lt e = absurd (cc)
+get_taken zero n (y ∷ ys) x lt e = absurd (omega arith)
+get_taken (suc m) zero (y ∷ ys) x lt e = e
+get_taken (suc m) (suc n) (y ∷ ys) x lt e = get_taken m n ys x (omega arith) e
+
+pub go_on : (p : Settings) (s : SenderState) (index : ℕ) (entries : List Entry) (n : ℕ) (entry : Entry) → slice_get entries n ≡ Some entry
+    → may_go p s (index + n) (shape_of p entry.object) ≡ true
+    → may_all_go p s (index + n) (drop n entries) ≡ may_all_go p s (index + (n + 1)) (drop (n + 1) entries)
+unfolding may_all_go
+go_on p s index entries n entry found may =
+    ap (may_all_go p s (index + n)) (drop_one n entries entry found)
+    ∙ ap (λ b. b && may_all_go p s (suc (index + n)) (drop (suc n) entries)) may
+    ∙ ap (λ i. may_all_go p s i (drop (suc n) entries)) (let e : suc (index + n) ≡ index + (n + 1) = omega arith in e)
+    ∙ ap (λ k. may_all_go p s (index + (n + 1)) (drop k entries)) (let e : suc n ≡ n + 1 = omega arith in e)
+
+pub stay : (p : Settings) (s : SenderState) (index : ℕ) (entries : List Entry) (n : ℕ) (entry : Entry) → slice_get entries n ≡ Some entry
+    → may_go p s (index + n) (shape_of p entry.object) ≡ false → may_all_go p s (index + n) (drop n entries) ≡ false
+unfolding may_all_go
+stay p s index entries n entry found may =
+    ap (may_all_go p s (index + n)) (drop_one n entries entry found)
+    ∙ ap (λ b. b && may_all_go p s (suc (index + n)) (drop (suc n) entries)) may
+
+pub may_none : (p : Settings) (s : SenderState) (index : ℕ) → may_all_go p s index [] ≡ true
+unfolding may_all_go
+may_none p s index = refl
