@@ -1,11 +1,16 @@
--- Whether the first entries of a window may all go.
-use Rattle.std.proofs.Common.{◌≡◌, ℕ, zero, suc, ◌+◌, ◌<◌, refl, ap, ◌∙◌, arith, true, false, Some, List, [], ◌∷◌, length, take, drop}
-use Rattle.std.specs.Prelude.{slice_get, ◌&&◌}
+-- Whether the first entries of a window may all go, and how the last goes on.
+use Rattle.std.proofs.Common.{◌≡◌, ℕ, zero, suc, ◌+◌, ◌-◌, ◌<◌, refl, sym, ap, subst, ◌∙◌, arith, Bool, true, false, Option, Some, List, [], ◌∷◌, length, take, drop}
+use Rattle.std.specs.Prelude.{slice_get, slice_set, ◌&&◌, MatchOption, Result, Err}
 use Rattle.norm_base.specs.Settings.{Settings}
-use Rattle.norm_order.specs.Entries.{Entry}
+use Rattle.norm_order.specs.Entries.{Part, Entry}
 use Rattle.norm_order.specs.Shapes.{shape_of}
 use Rattle.norm_send_rules.specs.SenderState.{SenderState}
 use Rattle.norm_send_rules.specs.Room.{may_go, may_all_go}
+use Rattle.norm_send_rules.specs.declared.fault.EnqueueFault.{EnqueueFault}
+use Rattle.norm_send_rules.specs.declared.fault.EnqueueFault.TheVariants.{NoStream}
+use Rattle.held_entry.specs.Front.{LastGoesOn}
+use Rattle.held_entry.specs.Growing.{EntryGoesOn}
+use Rattle.held_entry.specs.declared.entry.HeldEntry.{HeldEntry}
 
 drop_one : {X : Type 0} (n : ℕ) (xs : List X) (x : X) → slice_get xs n ≡ Some x → drop n xs ≡ x ∷ drop (suc n) xs
 drop_one n [] x e = absurd (cc)
@@ -43,3 +48,18 @@ stay p s index entries n entry found may =
 pub may_none : (p : Settings) (s : SenderState) (index : ℕ) → may_all_go p s index [] ≡ true
 unfolding may_all_go
 may_none p s index = refl
+
+-- the last entry goes on, where it is at this place
+pub last_goes : {X : Type 0} (ring : List ℕ) (p : Settings) (first : ℕ) (entries : List Entry) (s : SenderState) (more : List Part) (value : List Part → X) (old : List HeldEntry)
+    (place : ℕ) (e now : HeldEntry) (before : Bool) (answer : Result X EnqueueFault) → place ≡ length old - 1 → slice_get old place ≡ Some e
+    → before ≡ may_all_go p s first (take place entries)
+    → ((entry : Entry) → slice_get entries place ≡ Some entry → EntryGoesOn ring p (first + place) entry.object s more before value e now answer)
+    → LastGoesOn ring p first entries s more value old (slice_set old place now) answer
+last_goes ring p first entries s more value old place e now before answer same found before-is goes =
+    subst (λ (n : ℕ). MatchOption (slice_get old n) ((answer ≡ Err NoStream) × (slice_set old place now ≡ old))
+    (λ x. (entry : Entry) → slice_get entries n ≡ Some entry → (after : HeldEntry) × (slice_set old place now ≡ slice_set old n after)
+    × EntryGoesOn ring p (first + n) entry.object s more (may_all_go p s first (take n entries)) value x after answer)) same
+    (subst (λ (r : Option HeldEntry). MatchOption r ((answer ≡ Err NoStream) × (slice_set old place now ≡ old))
+    (λ x. (entry : Entry) → slice_get entries place ≡ Some entry → (after : HeldEntry) × (slice_set old place now ≡ slice_set old place after)
+    × EntryGoesOn ring p (first + place) entry.object s more (may_all_go p s first (take place entries)) value x after answer)) (sym found)
+    (λ entry there. (now, refl, subst (λ (b : Bool). EntryGoesOn ring p (first + place) entry.object s more b value e now answer) before-is (goes entry there))))

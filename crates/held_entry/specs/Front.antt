@@ -1,8 +1,12 @@
 -- The entries of a window in their order.
-use Rattle.std.specs.Prelude.{ℕ, ◌≡◌, ◌+◌, List, length, Some, slice_get}
+use Rattle.std.specs.Prelude.{ℕ, ◌≡◌, ◌+◌, ◌-◌, List, length, take, Some, slice_get, slice_set, MatchOption, Result, Err}
 use Rattle.norm_base.specs.Settings.{Settings}
-use Rattle.norm_order.specs.Entries.{Entry}
+use Rattle.norm_order.specs.Entries.{Part, Entry}
 use Rattle.norm_send_rules.specs.SenderState.{SenderState}
+use Rattle.norm_send_rules.specs.Room.{may_all_go}
+use Rattle.norm_send_rules.specs.declared.fault.EnqueueFault.{EnqueueFault}
+use Rattle.norm_send_rules.specs.declared.fault.EnqueueFault.TheVariants.{NoStream}
+use Rattle.held_entry.specs.Growing.{EntryGoesOn}
 use Rattle.held_entry.specs.EntryState.{StandsFor, reads_of}
 use Rattle.held_entry.specs.declared.entry.HeldEntry.{HeldEntry}
 
@@ -11,3 +15,12 @@ pub record AreEntries (ring : List ℕ) (p : Settings) (first : ℕ) (entries : 
   pub long : length entries ≡ length held
   pub each : (n : ℕ) (entry : Entry) (e : HeldEntry) → slice_get entries n ≡ Some entry → slice_get held n ≡ Some e
       → StandsFor (reads_of ring p (first + n) entry.object s) e
+
+-- The last of them goes on by these parts, where it is an open stream, and the others stay as they are. Without one nothing changes.
+abbrev pub LastGoesOn : {X : Type 0} → List ℕ → Settings → ℕ → List Entry → SenderState → List Part → (List Part → X) → List HeldEntry → List HeldEntry → Result X EnqueueFault → Type 0
+LastGoesOn ring p first entries s more value old new answer =
+    let last = length old - 1 in
+    MatchOption (slice_get old last)
+    ((answer ≡ Err NoStream) × (new ≡ old))
+    (λ e. (entry : Entry) → slice_get entries last ≡ Some entry → (now : HeldEntry) × (new ≡ slice_set old last now)
+    × EntryGoesOn ring p (first + last) entry.object s more (may_all_go p s first (take last entries)) value e now answer)
