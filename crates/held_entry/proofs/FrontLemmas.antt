@@ -2,14 +2,16 @@
 use Rattle.std.proofs.Common.{◌≡◌, ℕ, zero, suc, ◌+◌, ◌-◌, ◌<◌, refl, sym, ap, subst, ◌∙◌, arith, Bool, true, false, Option, Some, List, [], ◌∷◌, length, take, drop}
 use Rattle.std.specs.Prelude.{slice_get, slice_set, ◌&&◌, MatchOption, Result, Err}
 use Rattle.norm_base.specs.Settings.{Settings}
-use Rattle.norm_order.specs.Entries.{Part, Entry}
+use Rattle.norm_order.specs.Entries.{Part, Entry, Stream}
 use Rattle.norm_order.specs.Shapes.{shape_of}
 use Rattle.norm_send_rules.specs.SenderState.{SenderState}
 use Rattle.norm_send_rules.specs.Room.{may_go, may_all_go}
 use Rattle.norm_send_rules.specs.declared.fault.EnqueueFault.{EnqueueFault}
 use Rattle.norm_send_rules.specs.declared.fault.EnqueueFault.TheVariants.{NoStream}
-use Rattle.held_entry.specs.Front.{LastGoesOn}
-use Rattle.held_entry.specs.Growing.{EntryGoesOn}
+use Rattle.held_entry.specs.Front.{LastGoesOn, LastIsCut}
+use Rattle.held_entry.specs.Growing.{EntryGoesOn, KeepsObject}
+use Rattle.held_entry.specs.EntryState.{EntryReads, StandsFor}
+use Rattle.stream_buffer.specs.StreamState.{with_cut}
 use Rattle.held_entry.specs.declared.entry.HeldEntry.{HeldEntry}
 
 drop_one : {X : Type 0} (n : ℕ) (xs : List X) (x : X) → slice_get xs n ≡ Some x → drop n xs ≡ x ∷ drop (suc n) xs
@@ -63,3 +65,14 @@ last_goes ring p first entries s more value old place e now before answer same f
     (λ x. (entry : Entry) → slice_get entries place ≡ Some entry → (after : HeldEntry) × (slice_set old place now ≡ slice_set old place after)
     × EntryGoesOn ring p (first + place) entry.object s more (may_all_go p s first (take place entries)) value x after answer)) (sym found)
     (λ entry there. (now, refl, subst (λ (b : Bool). EntryGoesOn ring p (first + place) entry.object s more b value e now answer) before-is (goes entry there))))
+
+-- the last entry is cut, where it is at this place
+pub last_cut : (old : List HeldEntry) (place : ℕ) (e now : HeldEntry) → place ≡ length old - 1 → slice_get old place ≡ Some e → KeepsObject e now
+    → ((r : EntryReads) (parts : List Part) → StandsFor r e → r.object ≡ Stream parts → StandsFor (record r { object = Stream (with_cut r.p.e parts) }) now)
+    → LastIsCut old (slice_set old place now)
+last_cut old place e now same found keeps stands =
+    subst (λ (n : ℕ). MatchOption (slice_get old n) (slice_set old place now ≡ old) (λ x. (after : HeldEntry) × (slice_set old place now ≡ slice_set old n after) × KeepsObject x after
+    × ((r : EntryReads) (parts : List Part) → StandsFor r x → r.object ≡ Stream parts → StandsFor (record r { object = Stream (with_cut r.p.e parts) }) after))) same
+    (subst (λ (o : Option HeldEntry). MatchOption o (slice_set old place now ≡ old) (λ x. (after : HeldEntry) × (slice_set old place now ≡ slice_set old place after) × KeepsObject x after
+    × ((r : EntryReads) (parts : List Part) → StandsFor r x → r.object ≡ Stream parts → StandsFor (record r { object = Stream (with_cut r.p.e parts) }) after))) (sym found)
+    (now, refl, keeps, stands))

@@ -8,7 +8,7 @@ ghost use Rattle.norm_base.specs.declared.node.Origin.{Origin};
 ghost use Rattle.norm_send_rules.specs.SenderState.{SenderState};
 ghost use Rattle.norm_send_rules.specs.Watermarks.{all_past};
 ghost use Rattle.norm_send_rules.specs.Room.{may_all_go};
-ghost use Rattle.held_entry.specs.Front.{AreEntries, LastGoesOn};
+ghost use Rattle.held_entry.specs.Front.{AreEntries, LastGoesOn, LastIsCut};
 
 use crate::entry::HeldEntry;
 use fec_plan::Position;
@@ -89,4 +89,15 @@ pub fn close_last(
     let last = held.len() - 1;
     let before = may_all_go(held, profile, first, past, last);
     held[last].close(profile, first + last as u32, past, before)
+}
+
+/// Closes the segment that fills of the last entry, where that is a stream with one that holds octets.
+pub fn cut_last(held: &mut VecDeque<HeldEntry>)
+    ensures { LastIsCut held.old.items held.new.items }
+{
+    if held.is_empty() {
+        return;
+    }
+    let last = held.len() - 1;
+    held[last].cut();
 }
