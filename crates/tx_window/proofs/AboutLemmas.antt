@@ -1,5 +1,5 @@
 -- What a window says of an object that it keeps.
-use Rattle.std.proofs.Common.{◌≡◌, ℕ, ◌<◌, ◌≤◌, ◌^◌, refl, sym, ap, ◌∙◌, subst, arith, Option, Some, None, List, length}
+use Rattle.std.proofs.Common.{◌≡◌, ℕ, ◌≤◌, refl, sym, ap, ◌∙◌, subst, arith, Option, Some, None, List, length}
 use Rattle.std.specs.Prelude.{option_map, MatchOption, ⊤}
 use Rattle.norm_send_rules.specs.Enqueuing.{info_length}
 use Rattle.norm_base.specs.Settings.{Settings}

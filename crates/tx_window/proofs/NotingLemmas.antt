@@ -1,5 +1,5 @@
 -- A window one of whose objects is marked as sent.
-use Rattle.std.proofs.Common.{◌≡◌, ℕ, zero, suc, ◌+◌, ◌*◌, ◌<◌, ◌≤◌, ◌⊎◌, inl, inr, true, refl, sym, ap, ◌∙◌, subst, arith, Some, Option, List, [], ◌∷◌, ◌++◌, length, length-append, map, get_or}
+use Rattle.std.proofs.Common.{◌≡◌, ℕ, zero, suc, ◌+◌, ◌*◌, ◌<◌, ◌⊎◌, inl, inr, true, refl, sym, ap, ◌∙◌, subst, arith, Some, List, [], ◌∷◌, ◌++◌, length, length-append, map}
 use Rattle.std.specs.Prelude.{nat_lt, slice_get, sum}
 use Rattle.std.proofs.Math.ListN.{set}
 use Rattle.std.proofs.lemmas.List.{length-set}
@@ -10,8 +10,7 @@ use Rattle.norm_order.specs.Sets.{with_member, is_member}
 use Rattle.norm_send_rules.specs.InWindow.{next_index}
 use Rattle.norm_base.specs.Settings.{Settings}
 use Rattle.norm_send_rules.specs.SenderState.{SenderState}
-use Rattle.norm_send_rules.specs.Enqueuing.{info_length}
-use Rattle.held_object.specs.Held.{HeldObject, octets_of, begun_at}
+use Rattle.held_object.specs.Held.{HeldObject, octets_of}
 use Rattle.tx_window.specs.WindowState.{WindowObject, WindowState, Stands, KnowsSent, reads}
 use Rattle.tx_window.specs.WindowSound.{all_octets, IsRow, LieInRow}
 use Rattle.held_object.specs.Placed.{IsPlaced, taken_by}

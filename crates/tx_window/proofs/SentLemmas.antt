@@ -1,5 +1,5 @@
 -- A window one of whose symbols was sent.
-use Rattle.std.proofs.Common.{◌≡◌, ℕ, zero, suc, ◌+◌, ◌<◌, ◌≤◌, ◌⊎◌, inl, inr, Bool, true, false, refl, sym, ap, ◌∙◌, subst, arith, Some, List, [], ◌∷◌, length, map, take}
+use Rattle.std.proofs.Common.{◌≡◌, ℕ, ◌+◌, ◌<◌, ◌≤◌, ◌⊎◌, inl, inr, Bool, true, refl, sym, ap, ◌∙◌, subst, arith, Some, List, length, map, take}
 use Rattle.std.specs.Prelude.{slice_get, nat_lt, is_some, slice_set}
 use Rattle.std.proofs.Math.ListN.{set}
 use Rattle.std.proofs.lemmas.Bool.{cases_lt, lt-ltb, le-ltb}
@@ -8,7 +8,7 @@ use Rattle.fec_plan.specs.declared.position.Position.{Position}
 use Rattle.fec_plan.specs.Points.{position, position_before}
 use Rattle.fec_plan.specs.Partition.{Cut, IsSound, cut_of, blocks, source_symbols, symbol_number}
 use Rattle.norm_order.specs.Sets.{with_member, is_member}
-use Rattle.norm_order.specs.Shapes.{shape_of, sources_in, encoded_in}
+use Rattle.norm_order.specs.Shapes.{shape_of, sources_in}
 use Rattle.norm_send_rules.specs.SenderState.{SenderState}
 use Rattle.norm_send_rules.specs.InWindow.{next_index}
 use Rattle.norm_send_rules.specs.Sending.{noted}
@@ -17,7 +17,7 @@ use Rattle.held_object.specs.Held.{HeldObject, octets_of, octets_in, with_sent}
 use Rattle.tx_window.specs.WindowState.{WindowState, WindowObject, Stands, KnowsSent, reads}
 use Rattle.tx_window.specs.WindowSound.{window_object}
 use Rattle.held_object.specs.Placed.{IsPlaced, object_in}
-use Rattle.held_object.proofs.HeldLemmas.{taken, refused, encoded_none}
+use Rattle.held_object.proofs.HeldLemmas.{taken, refused}
 use Rattle.held_object.proofs.MarkedLemmas.{map_same, map_one}
 use Rattle.norm_order.proofs.SetLemmas.{self_in, others_in, positions}
 use Rattle.tx_window.proofs.NotingLemmas.{with_marks, stands_marked}

@@ -2,7 +2,7 @@
 use Rattle.std.specs.Prelude.{ℕ, ◌≡◌, ◌+◌, ◌*◌, ◌/◌, ◌%◌, ◌<◌, ◌≤◌, List, [], ◌∷◌, ◌++◌, length, map, sum, Some, slice_get, option_map, option_to_list}
 use Rattle.std.specs.VecDeque.{deque_capacity}
 use Rattle.norm_base.specs.Settings.{Settings}
-use Rattle.fec_plan.specs.Partition.{IsSound, cut_of, all_symbols}
+use Rattle.fec_plan.specs.Partition.{IsSound, cut_of}
 use Rattle.fec_plan.specs.Points.{point}
 use Rattle.norm_send_rules.specs.Enqueuing.{info_length}
 use Rattle.held_object.specs.Round.{round, IsAround}
