@@ -66,6 +66,17 @@ only_more p index parts sent h block symbol knows encoded q there at = go (same_
     go (inl same) = ap (λ (x : Position). nat_lt x.symbol (encoded_in (shape_of p (Stream parts)) x.block)) same ∙ encoded
     go (inr apart) = knows.only q (sym (others_in position_before q (position index block symbol) sent positions apart) ∙ there) at
 
+-- a symbol of another entry
+pub noted_other : (p : Settings) (index : ℕ) (parts : List Part) (sent : List Position) (h : HeldState) (at : Position) → (at.index ≡ index → ⊥) → Knows p index parts sent h
+    → Knows p index parts (with_member position_before at sent) h
+noted_other p index parts sent h at apart knows = record {
+  buffer = knows.buffer;
+  marks = knows.marks ∙ map_alike (was_sent index p.b sent) (was_sent index p.b (with_member position_before at sent)) (h.buffer.first * p.b) (length h.buffer.rows)
+      (λ i lt. others_in position_before (place_of index p.b (h.buffer.first * p.b + i)) at sent positions (λ same. apart (sym (ap (λ (x : Position). x.index) same))));
+  gone = λ number lt. stays_sent (place_of index p.b number) at sent (knows.gone number lt);
+  only = λ q there is. knows.only q (sym (others_in position_before q at sent positions (λ same. apart (sym (ap (λ (x : Position). x.index) same) ∙ is))) ∙ there) is;
+}
+
 -- a symbol that is no segment
 pub noted_parity : (p : Settings) (index : ℕ) (parts : List Part) (sent : List Position) (h : HeldState) (block symbol : ℕ) → 0 < p.b → p.b ≤ symbol → Knows p index parts sent h
     → nat_lt symbol (encoded_in (shape_of p (Stream parts)) block) ≡ true → Knows p index parts (with_member position_before (position index block symbol) sent) h

@@ -98,7 +98,8 @@ impl HeldStream {
 
     /// How many segments were closed so far.
     pub fn segments(&self) -> u32
-        ensures { result ≡ closed_segments self.now.buffer }
+        ensures exact { result ≡ closed_segments self.now.buffer }
+        ensures few { result ≤ 16777216 * self.now.buffer.cut.b }
     {
         self.buffer.segments()
     }
@@ -108,6 +109,13 @@ impl HeldStream {
         ensures { result ≡ self.now.buffer.octets }
     {
         self.buffer.octets()
+    }
+
+    /// Whether the stream was closed.
+    pub fn is_ended(&self) -> bool
+        ensures { result ≡ self.now.buffer.ended }
+    {
+        self.buffer.is_ended()
     }
 
     /// Adds a symbol, and answers whether it is there: its block was not given up, and its segment is closed, or of a

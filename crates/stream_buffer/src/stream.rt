@@ -133,6 +133,13 @@ impl StreamBuf {
         self.octets
     }
 
+    /// Whether it was closed.
+    pub fn is_ended(&self) -> bool
+        ensures { result ≡ self.now.ended }
+    {
+        self.ended
+    }
+
     /// Adds octets to the segment that fills, and closes it where it is full.
     fn fill(&mut self, piece: &[u8])
         requires free { length self.old.rows < self.old.blocks * self.old.cut.b }

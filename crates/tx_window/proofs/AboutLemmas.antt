@@ -1,5 +1,5 @@
 -- What a window says of an object that it keeps.
-use Rattle.std.proofs.Common.{◌≡◌, ℕ, ◌<◌, ◌≤◌, ◌^◌, refl, sym, ap, ◌∙◌, subst, arith, Option, Some, None, List, length}
+use Rattle.std.proofs.Common.{◌≡◌, ℕ, ◌≤◌, refl, sym, ap, ◌∙◌, subst, arith, Option, Some, None, List, length}
 use Rattle.std.specs.Prelude.{option_map, MatchOption, ⊤}
 use Rattle.norm_send_rules.specs.Enqueuing.{info_length}
 use Rattle.norm_base.specs.Settings.{Settings}
@@ -10,8 +10,8 @@ use Rattle.norm_ext.specs.declared.fti.Fti.{Fti}
 use Rattle.norm_send_rules.specs.SenderState.{SenderState}
 use Rattle.norm_send_rules.specs.Messages.{object_flags, fti_of_object}
 use Rattle.tx_window.specs.declared.window.About.{About}
-use Rattle.tx_window.specs.Held.{HeldObject, octets_of}
-use Rattle.tx_window.specs.WindowSound.{IsPlaced, object_in}
+use Rattle.held_object.specs.Held.{HeldObject, octets_of}
+use Rattle.held_object.specs.Placed.{IsPlaced, object_in}
 use Rattle.tx_window.specs.Asked.{kept_at, about_of, IsWhole}
 
 fti_is : (ring : List ℕ) (p : Settings) (h : HeldObject) → IsPlaced ring p h

@@ -16,10 +16,11 @@ use Rattle.norm_send_rules.specs.Repairable.{is_stream}
 use Rattle.norm_order.specs.Shapes.{shape_of, sources_in, last_in}
 use Rattle.norm_send_rules.specs.SenderState.{SenderState}
 use Rattle.norm_send_rules.specs.Room.{window, size_of, may_go, all_sent, is_released}
-use Rattle.tx_window.specs.Held.{HeldObject, octets_of}
+use Rattle.held_object.specs.Held.{HeldObject, octets_of}
 use Rattle.tx_window.proofs.RoomLemmas.{AreSizes}
 use Rattle.tx_window.specs.WindowState.{WindowState, WindowObject, Stands}
-use Rattle.tx_window.specs.WindowSound.{IsPlaced, window_object, object_in, filling_in, all_octets}
+use Rattle.tx_window.specs.WindowSound.{window_object, filling_in, all_octets}
+use Rattle.held_object.specs.Placed.{IsPlaced, object_in}
 
 -- the entry at a place of the window is the object there
 pub entry_is : (w : WindowState) (s : SenderState) (n : ℕ) (entry : Entry) (o : WindowObject) → Stands w s → slice_get (window s) n ≡ Some entry

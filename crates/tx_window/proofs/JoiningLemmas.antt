@@ -24,7 +24,7 @@ use Rattle.norm_send_rules.specs.declared.job.Receipt.TheVariants.{Object as Enq
 use Rattle.tx_window.specs.WindowState.{WindowState, WindowObject, Filling, Stands, KnowsSent, reads, without_info, shape_of_length, most_kept}
 use Rattle.tx_window.proofs.WindowLemmas.{slice_get-drop}
 use Rattle.tx_window.proofs.RoomLemmas.{map_drop}
-use Rattle.tx_window.proofs.SourcesLemmas.{get_front, get_back, source_at, sources_long}
+use Rattle.held_object.proofs.SourcesLemmas.{get_front, get_back, source_at, sources_long}
 
 -- ---- some were dropped
 

@@ -1,15 +1,11 @@
-pub mod RoundLemmas
 pub mod RowLemmas
 pub mod RoomLemmas
 pub mod GoingLemmas
 pub mod FaultLemmas
-pub mod SourcesLemmas
 pub mod SourceLemmas
 pub mod JoiningLemmas
 pub mod BeginningLemmas
 pub mod FillingLemmas
-pub mod UnsentLemmas
-pub mod HeldLemmas
 pub mod WindowLemmas
 pub mod NotingLemmas
 pub mod SentLemmas

@@ -1,11 +1,11 @@
 -- What is new next of the orders for which a window stands.
-use Rattle.std.proofs.Common.{◌≡◌, ℕ, zero, suc, ◌+◌, ◌-◌, ◌<◌, ◌≤◌, ◌⊎◌, inl, inr, Bool, true, false, refl, sym, ap, ◌∙◌, subst, arith, Option, Some, None, List, [], ◌∷◌, length, map, drop}
+use Rattle.std.proofs.Common.{◌≡◌, ℕ, suc, ◌+◌, ◌-◌, ◌<◌, ◌≤◌, ◌⊎◌, inl, inr, Bool, true, false, refl, sym, ap, ◌∙◌, subst, arith, Option, Some, None, List, ◌∷◌, length, map, drop}
 use Rattle.std.specs.Prelude.{find, slice_get, min, is_some, option_map, nat_lt, not, IsSome}
-use Rattle.std.proofs.lemmas.Bool.{cases_lt, lt-ltb, le-ltb, ltb-false}
+use Rattle.std.proofs.lemmas.Bool.{cases_lt}
 use Rattle.std.proofs.lemmas.List.{length-drop, length-map, drop_all}
 use Rattle.norm_base.specs.Settings.{Settings}
 use Rattle.fec_plan.specs.Points.{Point, position}
-use Rattle.fec_plan.specs.Partition.{Cut, IsSound, blocks, source_symbols, encoding_symbols, cut_of}
+use Rattle.fec_plan.specs.Partition.{Cut, IsSound, blocks, source_symbols}
 use Rattle.fec_plan.specs.declared.position.Position.{Position}
 use Rattle.fec_plan.proofs.PartitionLemmas.{some_sources, sources_fit, some_blocks_of}
 use Rattle.norm_order.specs.Entries.{Object, Entry}
@@ -15,17 +15,19 @@ use Rattle.norm_send_rules.specs.InWindow.{next_index}
 use Rattle.norm_send_rules.specs.Sending.{sent_once, new_from, next_new}
 use Rattle.norm_send_rules.specs.Wants.{want_index}
 use Rattle.norm_send_rules.specs.declared.want.Want.{Want}
-use Rattle.norm_send_rules.specs.declared.want.Want.TheVariants.{Info, Symbol}
-use Rattle.tx_window.specs.Held.{HeldObject, octets_of, octets_in}
-use Rattle.tx_window.specs.WindowState.{WindowState, WindowObject, Stands}
-use Rattle.tx_window.specs.WindowSound.{IsPlaced, window_object, object_in}
+use Rattle.norm_send_rules.specs.declared.want.Want.TheVariants.{Symbol}
+use Rattle.held_object.specs.Held.{HeldObject, octets_of}
+use Rattle.tx_window.specs.WindowState.{WindowState, Stands}
+use Rattle.tx_window.specs.WindowSound.{window_object}
+use Rattle.held_object.specs.Placed.{IsPlaced, object_in}
 use Rattle.tx_window.specs.Asked.{from_first, kept_at}
-use Rattle.tx_window.specs.Next.{AllOf, is_next, once, IsNextIn}
-use Rattle.tx_window.proofs.HeldLemmas.{taken, refused}
+use Rattle.tx_window.specs.Next.{AllOf, is_next}
+use Rattle.held_object.specs.NextIn.{once, IsNextIn}
+use Rattle.held_object.proofs.HeldLemmas.{taken}
 use Rattle.tx_window.proofs.SourceLemmas.{closed_here}
 use Rattle.tx_window.proofs.RoomLemmas.{drop_one, map_drop, get_some}
 use Rattle.tx_window.proofs.WindowLemmas.{none_at}
-use Rattle.tx_window.proofs.NextLemmas.{Splits, first_new, skip_objects, first_of_object, none_left, itself_next, block_next, object_over, fails_dropped, passes_later, passes_from_info, splits_at}
+use Rattle.tx_window.proofs.NextLemmas.{Splits, first_new, skip_objects, first_of_object, none_left, itself_next, block_next, object_over, fails_dropped}
 
 eqb_same : (n m : ℕ) → n ≡ m → Rattle.std.specs.Prelude.◌==◌ n m ≡ true
 eqb_same n m e = grind (arith, e)

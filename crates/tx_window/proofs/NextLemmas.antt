@@ -1,11 +1,11 @@
 -- What is new next: the first info or symbol of the order from a place on that was not dropped.
-use Rattle.std.proofs.Common.{◌≡◌, ℕ, zero, suc, ◌+◌, ◌-◌, ◌<◌, ◌≤◌, ◌⊎◌, inl, inr, Bool, true, false, refl, sym, ap, ◌∙◌, subst, arith, Option, Some, None, List, [], ◌∷◌, ◌++◌, length, length-append, map, drop}
-use Rattle.std.specs.Prelude.{find, cond, nat_lt, nat_le, not, ◌&&◌, ◌||◌, ◌==◌, flat_map, min, slice_get, if◌then◌else◌}
+use Rattle.std.proofs.Common.{◌≡◌, ℕ, zero, suc, ◌+◌, ◌-◌, ◌<◌, ◌≤◌, ◌⊎◌, inl, inr, Bool, true, false, refl, ap, ◌∙◌, arith, Some, None, List, [], ◌∷◌, ◌++◌, length, map, drop}
+use Rattle.std.specs.Prelude.{find, cond, nat_lt, not, ◌&&◌, ◌||◌, ◌==◌, flat_map, if◌then◌else◌}
 use Rattle.std.specs.List.{range_with_len}
 use Rattle.std.proofs.lemmas.Bool.{cases_lt, lt-ltb, le-ltb}
 use Rattle.std.proofs.lemmas.List.{map-append}
 use Rattle.norm_base.specs.Settings.{Settings}
-use Rattle.fec_plan.specs.Points.{Point, point, point_of, point_before, position, position_before}
+use Rattle.fec_plan.specs.Points.{Point, point_of, position, position_before}
 use Rattle.fec_plan.specs.declared.position.Position.{Position}
 use Rattle.norm_order.specs.Shapes.{Shape, symbols_of, closed_blocks}
 use Rattle.norm_send_rules.specs.Wants.{want_before, want_index}

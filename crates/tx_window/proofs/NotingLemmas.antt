@@ -1,5 +1,5 @@
 -- A window one of whose objects is marked as sent.
-use Rattle.std.proofs.Common.{◌≡◌, ℕ, zero, suc, ◌+◌, ◌*◌, ◌<◌, ◌≤◌, ◌⊎◌, inl, inr, true, refl, sym, ap, ◌∙◌, subst, arith, Some, Option, List, [], ◌∷◌, ◌++◌, length, length-append, map, get_or}
+use Rattle.std.proofs.Common.{◌≡◌, ℕ, zero, suc, ◌+◌, ◌*◌, ◌<◌, ◌⊎◌, inl, inr, true, refl, sym, ap, ◌∙◌, subst, arith, Some, List, [], ◌∷◌, ◌++◌, length, length-append, map}
 use Rattle.std.specs.Prelude.{nat_lt, slice_get, sum}
 use Rattle.std.proofs.Math.ListN.{set}
 use Rattle.std.proofs.lemmas.List.{length-set}
@@ -10,13 +10,14 @@ use Rattle.norm_order.specs.Sets.{with_member, is_member}
 use Rattle.norm_send_rules.specs.InWindow.{next_index}
 use Rattle.norm_base.specs.Settings.{Settings}
 use Rattle.norm_send_rules.specs.SenderState.{SenderState}
-use Rattle.norm_send_rules.specs.Enqueuing.{info_length}
-use Rattle.tx_window.specs.Held.{HeldObject, octets_of, begun_at}
+use Rattle.held_object.specs.Held.{HeldObject, octets_of}
 use Rattle.tx_window.specs.WindowState.{WindowObject, WindowState, Stands, KnowsSent, reads}
-use Rattle.tx_window.specs.WindowSound.{IsPlaced, all_octets, IsRow, LieInRow, taken_by}
+use Rattle.tx_window.specs.WindowSound.{all_octets, IsRow, LieInRow}
+use Rattle.held_object.specs.Placed.{IsPlaced, taken_by}
 use Rattle.tx_window.proofs.RowLemmas.{octets_append}
+use Rattle.held_object.proofs.MarkedLemmas.{placed_as}
 use Rattle.norm_order.proofs.SetLemmas.{self_in, others_in, numbers}
-use Rattle.tx_window.specs.Round.{IsAround}
+use Rattle.held_object.specs.Round.{IsAround}
 use Rattle.fec_plan.specs.Partition.{Cut, all_symbols}
 
 -- ---- one object in place of another
@@ -37,11 +38,6 @@ pub map_set_same : {X Z : Type 0} (g : X → Z) (xs : List X) (i : ℕ) (h v : X
 map_set_same g [] i h v e same = absurd (cc)
 map_set_same g (x ∷ xs) zero h v e same = ap (λ z. z ∷ map g xs) (same ∙ ap g (let z : h ≡ x = cc in z))
 map_set_same g (x ∷ xs) (suc i) h v e same = ap (λ zs. g x ∷ zs) (map_set_same g xs i h v e same)
-
-pub get_there : {X : Type 0} (xs : List X) (i : ℕ) (x : X) → i < length xs → x ≡ get_or xs i x → slice_get xs i ≡ Some x
-get_there [] i x lt e = absurd (omega arith)
-get_there (y ∷ ys) zero x lt e = ap Some (sym e)
-get_there (y ∷ ys) (suc i) x lt e = get_there ys i x (omega arith) e
 
 pub maps_set : {X Y : Type 0} (f : X → Y) (xs : List X) (i : ℕ) (v : X) → map f (set xs i v) ≡ set (map f xs) i (f v)
 maps_set f [] i v = refl
@@ -113,26 +109,6 @@ stands_noted w s o i index found index-is before stands =
     go q there (inr other) = stands.infos_before q (sym (others_in nat_lt q index s.sent_infos numbers other) ∙ there)
 
 -- ---- what the ring's objects keep
-
-pub placed_as : (ring : List ℕ) (p : Settings) (h k : HeldObject) → k.cut ≡ h.cut → k.start ≡ h.start → k.info ≡ h.info → IsPlaced ring p h → IsPlaced ring p k
-placed_as ring p h k cut start info placed =
-    again (subst (λ at. IsPlaced ring p (begun_at k.cut h.kind h.info at)) (sym start)
-    (subst (λ c. IsPlaced ring p (begun_at c h.kind h.info h.start)) (sym cut) (record {
-      lies = record { object = placed.lies.object; start = placed.lies.start; room = placed.lies.room; ring_whole = placed.lies.ring_whole; start_whole = placed.lies.start_whole };
-      sound = placed.sound;
-      holds = placed.holds;
-      most = placed.most;
-      short = placed.short;
-    })))
-  where
-    again : IsPlaced ring p (begun_at k.cut h.kind h.info k.start) → IsPlaced ring p k
-    again is = record {
-      lies = record { object = is.lies.object; start = is.lies.start; room = is.lies.room; ring_whole = is.lies.ring_whole; start_whole = is.lies.start_whole };
-      sound = is.sound;
-      holds = is.holds;
-      most = is.most;
-      short = subst (λ (i : Option (List ℕ)). info_length i ≤ p.e) (sym info) placed.short;
-    }
 
 pub placed_noted : (p : Settings) (ring : List ℕ) (items : List HeldObject) (h k : HeldObject) (i : ℕ) → slice_get items i ≡ Some h → k.cut ≡ h.cut → k.start ≡ h.start → k.info ≡ h.info
     → ((n : ℕ) (x : HeldObject) → slice_get items n ≡ Some x → IsPlaced ring p x)

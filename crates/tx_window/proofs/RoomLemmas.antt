@@ -8,7 +8,7 @@ use Rattle.norm_order.specs.Entries.{Entry}
 use Rattle.norm_order.specs.Shapes.{shape_of}
 use Rattle.norm_send_rules.specs.SenderState.{SenderState}
 use Rattle.norm_send_rules.specs.Room.{size_of, has_room, has_to_go, may_go, may_all_go}
-use Rattle.tx_window.specs.Held.{HeldObject, octets_of}
+use Rattle.held_object.specs.Held.{HeldObject, octets_of}
 use Rattle.fec_plan.specs.Points.{Point}
 use Rattle.norm_send_rules.specs.Room.{window}
 use Rattle.tx_window.specs.WindowState.{WindowState, WindowObject, Stands}

@@ -1,5 +1,5 @@
 -- A window one of whose symbols was sent.
-use Rattle.std.proofs.Common.{◌≡◌, ℕ, zero, suc, ◌+◌, ◌<◌, ◌≤◌, ◌⊎◌, inl, inr, Bool, true, false, refl, sym, ap, ◌∙◌, subst, arith, Some, List, [], ◌∷◌, length, map, take}
+use Rattle.std.proofs.Common.{◌≡◌, ℕ, ◌+◌, ◌<◌, ◌≤◌, ◌⊎◌, inl, inr, Bool, true, refl, sym, ap, ◌∙◌, subst, arith, Some, List, length, map, take}
 use Rattle.std.specs.Prelude.{slice_get, nat_lt, is_some, slice_set}
 use Rattle.std.proofs.Math.ListN.{set}
 use Rattle.std.proofs.lemmas.Bool.{cases_lt, lt-ltb, le-ltb}
@@ -8,30 +8,20 @@ use Rattle.fec_plan.specs.declared.position.Position.{Position}
 use Rattle.fec_plan.specs.Points.{position, position_before}
 use Rattle.fec_plan.specs.Partition.{Cut, IsSound, cut_of, blocks, source_symbols, symbol_number}
 use Rattle.norm_order.specs.Sets.{with_member, is_member}
-use Rattle.norm_order.specs.Shapes.{shape_of, sources_in, encoded_in}
+use Rattle.norm_order.specs.Shapes.{shape_of, sources_in}
 use Rattle.norm_send_rules.specs.SenderState.{SenderState}
 use Rattle.norm_send_rules.specs.InWindow.{next_index}
 use Rattle.norm_send_rules.specs.Sending.{noted}
 use Rattle.norm_send_rules.specs.declared.want.Want.TheVariants.{Symbol}
-use Rattle.tx_window.specs.Held.{HeldObject, octets_of, octets_in, with_sent}
+use Rattle.held_object.specs.Held.{HeldObject, octets_of, octets_in, with_sent}
 use Rattle.tx_window.specs.WindowState.{WindowState, WindowObject, Stands, KnowsSent, reads}
-use Rattle.tx_window.specs.WindowSound.{IsPlaced, window_object, object_in}
-use Rattle.tx_window.proofs.HeldLemmas.{taken, refused, encoded_none}
+use Rattle.tx_window.specs.WindowSound.{window_object}
+use Rattle.held_object.specs.Placed.{IsPlaced, object_in}
+use Rattle.held_object.proofs.HeldLemmas.{taken, refused}
+use Rattle.held_object.proofs.MarkedLemmas.{map_same, map_one}
 use Rattle.norm_order.proofs.SetLemmas.{self_in, others_in, positions}
 use Rattle.tx_window.proofs.NotingLemmas.{with_marks, stands_marked}
-use Rattle.tx_window.proofs.SourcesLemmas.{source_at, source_found, source_index}
-
-map_same : (f g : Position → Bool) (xs : List Position) → ((k : ℕ) (q : Position) → slice_get xs k ≡ Some q → g q ≡ f q) → map g xs ≡ map f xs
-map_same f g [] same = refl
-map_same f g (x ∷ xs) same = ap (λ b. b ∷ map g xs) (same 0 x refl) ∙ ap (λ bs. f x ∷ bs) (map_same f g xs (λ k q e. same (suc k) q e))
-
-map_one : (f g : Position → Bool) (xs : List Position) (m : ℕ) (x : Position) → slice_get xs m ≡ Some x → g x ≡ true
-    → ((k : ℕ) (q : Position) → slice_get xs k ≡ Some q → (k ≡ m → ⊥) → g q ≡ f q) → map g xs ≡ set (map f xs) m true
-map_one f g [] m x found is same = absurd (cc)
-map_one f g (y ∷ ys) zero x found is same =
-    ap (λ b. b ∷ map g ys) (ap g (let z : y ≡ x = cc in z) ∙ is) ∙ ap (λ bs. true ∷ bs) (map_same f g ys (λ k q e. same (suc k) q e (λ z. omega arith)))
-map_one f g (y ∷ ys) (suc m) x found is same =
-    ap (λ b. b ∷ map g ys) (same 0 y refl (λ z. omega arith)) ∙ ap (λ bs. f y ∷ bs) (map_one f g ys m x found is (λ k q e apart. same (suc k) q e (λ z. apart (omega arith))))
+use Rattle.held_object.proofs.SourcesLemmas.{source_at, source_found, source_index}
 
 -- whether a position was sent, before and after
 abbrev sent_in : SenderState → Position → Bool
@@ -121,36 +111,3 @@ stands_sent w s ring h i at found placed index-is before block stands = go (case
         subst (λ (k : HeldObject). Stands (record w { objects = set w.objects i (window_object ring k) }) (noted (Symbol at) s))
         (sym (refused (nat_lt at.symbol (source_symbols h.cut at.block)) (record h { sent = slice_set h.sent (symbol_number h.cut at.block at.symbol) true }) h (le-ltb at.symbol (source_symbols h.cut at.block) le)))
         (with_object (window_object ring h) refl (record { symbols = parity le; info = known.info }))
-
--- an encoded symbol is in a block of the object
-pub block_there : (p : Settings) (ring : List ℕ) (h : HeldObject) (block symbol : ℕ) → IsPlaced ring p h → symbol < encoded_in (shape_of p (object_in ring h)) block → block < blocks h.cut
-block_there p ring h block symbol placed lt = elim (cases_lt block (blocks h.cut)) [
-  | inl less ↦ less
-  | inr past ↦ absurd (never (encoded_none p h.kind h.info (take (octets_of h.cut) (octets_in ring h)) block (subst IsSound placed.holds.cut placed.sound)
-      (subst (λ (k : Cut). blocks k ≤ block) placed.holds.cut past)))
-]
-  where
-    never : encoded_in (shape_of p (object_in ring h)) block ≡ 0 → ⊥
-    never e = omega (arith, e, lt)
-
--- marks of sent symbols change neither how an object is cut nor where it lies
-pub same_cut : (h : HeldObject) (block symbol : ℕ) → (with_sent h block symbol).cut ≡ h.cut
-same_cut h block symbol = go (nat_lt symbol (source_symbols h.cut block))
-  where
-    go : (b : Bool) → (elim b as (λ v. HeldObject) [ true ↦ record h { sent = slice_set h.sent (symbol_number h.cut block symbol) true } | false ↦ h ]).cut ≡ h.cut
-    go true = refl
-    go false = refl
-
-pub same_start : (h : HeldObject) (block symbol : ℕ) → (with_sent h block symbol).start ≡ h.start
-same_start h block symbol = go (nat_lt symbol (source_symbols h.cut block))
-  where
-    go : (b : Bool) → (elim b as (λ v. HeldObject) [ true ↦ record h { sent = slice_set h.sent (symbol_number h.cut block symbol) true } | false ↦ h ]).start ≡ h.start
-    go true = refl
-    go false = refl
-
-pub same_info : (h : HeldObject) (block symbol : ℕ) → (with_sent h block symbol).info ≡ h.info
-same_info h block symbol = go (nat_lt symbol (source_symbols h.cut block))
-  where
-    go : (b : Bool) → (elim b as (λ v. HeldObject) [ true ↦ record h { sent = slice_set h.sent (symbol_number h.cut block symbol) true } | false ↦ h ]).info ≡ h.info
-    go true = refl
-    go false = refl

@@ -13,7 +13,7 @@ use Rattle.fec_plan.proofs.PartitionLemmas.{sources_within}
 use Rattle.norm_base.specs.Settings.{Settings}
 use Rattle.tx_window.specs.WindowState.{WindowState, Stands, without_info, shape_of_length}
 use Rattle.tx_window.specs.Asked.{from_first}
-use Rattle.tx_window.proofs.HeldLemmas.{all_before}
+use Rattle.held_object.proofs.HeldLemmas.{all_before}
 use Rattle.tx_window.proofs.WindowLemmas.{slice_get-drop, found_at, found_behind, none_at}
 
 pub closed_here : (p : Settings) (l block : ℕ) → IsSound (cut_of l p.e p.b p.max_n) → block < blocks (cut_of l p.e p.b p.max_n)

@@ -9,17 +9,15 @@ use Rattle.fec_plan.specs.declared.position.Position.{Position}
 use Rattle.fec_plan.specs.Points.{point_of, point_before}
 use Rattle.fec_plan.proofs.PointLemmas.{behind_point}
 use Rattle.norm_order.specs.Entries.{Object, Entry}
-use Rattle.norm_send_rules.specs.InWindow.{stands_behind, current_shapes}
-use Rattle.norm_send_rules.specs.declared.want.Want.TheVariants.{Symbol}
-use Rattle.norm_order.specs.Shapes.{Shape, shape_of, encoded_in, is_encoded}
+use Rattle.norm_order.specs.Shapes.{Shape, shape_of, encoded_in}
 use Rattle.norm_send_rules.specs.SenderState.{SenderState}
 use Rattle.norm_send_rules.specs.Watermarks.{all_past, is_past}
 use Rattle.tx_window.specs.WindowState.{WindowObject, WindowState, Stands, StandsFor, IsInWindow, reads}
 use Rattle.tx_window.specs.Asked.{from_first, kept_at, AnswersAt, IsEncodedIn}
-use Rattle.tx_window.specs.Held.{AnswersSymbol}
+use Rattle.held_object.specs.Held.{AnswersSymbol}
 use Rattle.tx_window.specs.Standing.{IsStanding}
 use Rattle.tx_window.specs.Laws.{MayBeNoted, IsThere}
-use Rattle.tx_window.proofs.HeldLemmas.{taken, refused}
+use Rattle.held_object.proofs.HeldLemmas.{taken, refused}
 use Rattle.tx_window.proofs.WindowLemmas.{kept_is}
 
 -- an object that the state keeps is in the window, where it is the same object

@@ -16,11 +16,13 @@ use Rattle.fec_plan.specs.Points.{position, reached_by}
 use Rattle.std.specs.List.{list_all}
 use Rattle.norm_base.specs.Members.{receivers_of}
 use Rattle.norm_send_rules.specs.Watermarks.{is_past, members}
-use Rattle.tx_window.specs.Held.{HeldObject, AnswersSymbol}
+use Rattle.held_object.specs.Held.{HeldObject, AnswersSymbol}
 use Rattle.tx_window.specs.WindowState.{WindowObject, WindowState, Stands, empty_window}
-use Rattle.tx_window.specs.WindowSound.{window_object, object_in}
-use Rattle.tx_window.specs.Asked.{from_first, kept_at, info_of, info_at, AnswersAt}
-use Rattle.tx_window.proofs.HeldLemmas.{taken, refused}
+use Rattle.tx_window.specs.WindowSound.{window_object}
+use Rattle.held_object.specs.Placed.{object_in}
+use Rattle.tx_window.specs.Asked.{from_first, kept_at, info_at, AnswersAt}
+use Rattle.held_object.specs.Held.{info_of}
+use Rattle.held_object.proofs.HeldLemmas.{taken, refused}
 
 pub slice_get-drop : {X : Type 0} (d : ℕ) (xs : List X) (n : ℕ) → slice_get (drop d xs) n ≡ slice_get xs (d + n)
 slice_get-drop zero xs n = ap (slice_get xs) (let e : n ≡ 0 + n = omega arith in e)

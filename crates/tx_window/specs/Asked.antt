@@ -3,7 +3,7 @@ use Rattle.std.specs.Prelude.{ℕ, ◌≡◌, ◌<◌, ◌^◌, List, true, fals
 use Rattle.norm_base.specs.Settings.{Settings}
 use Rattle.fec_plan.specs.declared.position.Position.{Position}
 use Rattle.fec_plan.specs.Partition.{IsSound, all_symbols}
-use Rattle.norm_order.specs.Entries.{Object, Whole, Stream}
+use Rattle.norm_order.specs.Entries.{Object}
 use Rattle.norm_order.specs.Shapes.{shape_of, encoded_in}
 use Rattle.norm_send_rules.specs.Messages.{fti_of_object, object_flags, told_length}
 use Rattle.norm_send_rules.specs.SenderState.{SenderState}
@@ -11,7 +11,7 @@ use Rattle.norm_send_rules.specs.InWindow.{stands_behind}
 use Rattle.norm_send_rules.specs.declared.want.Want.TheVariants.{Info}
 use Rattle.tx_window.specs.declared.window.About.{About}
 use Rattle.tx_window.specs.WindowState.{WindowState, WindowObject, IsInWindow}
-use Rattle.tx_window.specs.Held.{AnswersSymbol}
+use Rattle.held_object.specs.Held.{info_of, AnswersSymbol}
 
 -- of a list that begins behind the first n, the one with an index among all
 abbrev pub from_first : {X : Type 0} → ℕ → List X → ℕ → Option X
@@ -23,11 +23,6 @@ kept_at s index = elim (stands_behind s.current.drop (Info index)) [
   | true ↦ elim (slice_get s.current.order index) [ Some entry ↦ Some entry.object | None ↦ None ]
   | false ↦ None
 ]
-
--- an object's info
-abbrev pub info_of : Object → Option (List ℕ)
-info_of (Whole kind info octets) = info
-info_of (Stream parts) = None
 
 -- the info of the object with an index, where it was enqueued and not dropped
 abbrev pub info_at : SenderState → ℕ → Option (List ℕ)

@@ -1,6 +1,3 @@
-pub mod Round
-pub mod Held
-pub mod HeldSound
 pub mod WindowState
 pub mod WindowMoves
 pub mod WindowSound

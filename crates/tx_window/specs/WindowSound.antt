@@ -1,28 +1,19 @@
 -- How a window is seen, and what holds of each.
-use Rattle.std.specs.Prelude.{ℕ, ◌≡◌, ◌+◌, ◌*◌, ◌/◌, ◌%◌, ◌<◌, ◌≤◌, List, [], ◌∷◌, ◌++◌, length, take, map, sum, Some, slice_get, option_map, option_to_list}
+use Rattle.std.specs.Prelude.{ℕ, ◌≡◌, ◌+◌, ◌*◌, ◌/◌, ◌%◌, ◌<◌, ◌≤◌, List, [], ◌∷◌, ◌++◌, length, map, sum, Some, slice_get, option_map, option_to_list}
 use Rattle.std.specs.VecDeque.{deque_capacity}
 use Rattle.norm_base.specs.Settings.{Settings}
-use Rattle.fec_plan.specs.Partition.{IsSound, cut_of, all_symbols}
+use Rattle.fec_plan.specs.Partition.{IsSound, cut_of}
 use Rattle.fec_plan.specs.Points.{point}
-use Rattle.norm_order.specs.Entries.{Object, Whole}
 use Rattle.norm_send_rules.specs.Enqueuing.{info_length}
-use Rattle.obj_buffer.specs.Pieces.{HoldsObject}
-use Rattle.tx_window.specs.Round.{round, IsAround}
-use Rattle.tx_window.specs.Held.{HeldObject, octets_of, begun_at, octets_in, LiesIn}
+use Rattle.held_object.specs.Round.{round, IsAround}
+use Rattle.held_object.specs.Held.{HeldObject, octets_of, begun_at, LiesIn}
+use Rattle.held_object.specs.Placed.{taken_by, object_in, IsPlaced}
 use Rattle.tx_window.specs.WindowState.{WindowObject, Filling, WindowState}
 use Rattle.tx_window.specs.declared.window.Window.TheInside.{Inside}
-
--- how many octets of the ring an object takes: whole symbols
-abbrev pub taken_by : HeldObject → ℕ
-taken_by h = all_symbols h.cut * h.cut.e
 
 -- how many octets objects have
 abbrev pub all_octets : List HeldObject → ℕ
 all_octets hs = sum (map (λ (h : HeldObject). octets_of h.cut) hs)
-
--- the object that lies in a ring
-abbrev pub object_in : List ℕ → HeldObject → Object
-object_in ring h = Whole h.kind h.info (take (octets_of h.cut) (octets_in ring h))
 
 -- an object of the window as it is kept
 abbrev pub window_object : List ℕ → HeldObject → WindowObject
@@ -43,14 +34,6 @@ window_view w = record {
   last = w.last;
   past = w.past;
 }
-
--- an object's octets, at most 16,777,216, lie in the ring, padded; it is cut by the profile, and its info is no longer than a symbol
-pub record IsPlaced (ring : List ℕ) (p : Settings) (h : HeldObject) : Type 0 where
-  pub lies : LiesIn ring h
-  pub sound : IsSound h.cut
-  pub holds : HoldsObject h.cut (octets_in ring h) p (take (octets_of h.cut) (octets_in ring h))
-  pub most : octets_of h.cut ≤ 16777216
-  pub short : info_length h.info ≤ p.e
 
 -- an object of which so many octets were filled has its place in the ring, and nothing of it was sent
 pub record IsFilling (ring : List ℕ) (p : Settings) (count : ℕ) (h : HeldObject) : Type 0 where

@@ -4,7 +4,7 @@ use Rattle.std.proofs.lemmas.List.{length-drop, drop_all}
 use Rattle.norm_base.specs.Settings.{Settings}
 use Rattle.norm_send_rules.specs.Room.{has_to_go}
 use Rattle.tx_window.specs.WindowSound.{all_octets}
-use Rattle.tx_window.proofs.NotingLemmas.{get_there}
+use Rattle.held_object.proofs.ListLemmas.{get_there}
 use Rattle.tx_window.proofs.RoomLemmas.{stops, nothing, goes_on, sizes_behind, sizes_long, left_behind}
 use Rattle.tx_window.proofs.window.room_for.Goals.{else-few-via-then-few+else-left-len, else-few-via-else-few}
 use Rattle.tx_window.proofs.window.room_for.Goals as goal

@@ -1,12 +1,11 @@
-use Rattle.std.proofs.Common.{◌≡◌, ap, sym, subst, ◌∙◌, refl, Some, None, Option, List, ℕ, length, take}
-use Rattle.fec_plan.specs.Partition.{Cut}
+use Rattle.std.proofs.Common.{◌≡◌, ap, sym, subst, ◌∙◌, refl, Some, None, Option, take}
 use Rattle.norm_order.specs.Entries.{Object}
 use Rattle.norm_send_rules.specs.SenderState.{SenderState}
-use Rattle.tx_window.specs.Held.{octets_of, octets_in}
+use Rattle.held_object.specs.Held.{octets_of, octets_in}
 use Rattle.tx_window.specs.WindowState.{WindowState, Stands}
-use Rattle.tx_window.specs.WindowSound.{window_view, IsPlaced, object_in}
+use Rattle.tx_window.specs.WindowSound.{window_view}
+use Rattle.held_object.specs.Placed.{IsPlaced, object_in}
 use Rattle.tx_window.specs.Asked.{kept_at, about_of, IsWhole}
-use Rattle.tx_window.specs.declared.window.About.{About}
 use Rattle.tx_window.proofs.WindowLemmas.{found_at, kept_held, kept_none}
 use Rattle.std.specs.Prelude.{option_map}
 use Rattle.tx_window.proofs.AboutLemmas.{about_is, whole_is}

@@ -5,9 +5,10 @@ use Rattle.norm_base.specs.Settings.{Settings}
 use Rattle.fec_plan.specs.Points.{Point, point}
 use Rattle.norm_send_rules.specs.Dropping.{dropped_to}
 use Rattle.norm_send_rules.specs.Room.{window, has_to_go, drop_after}
-use Rattle.tx_window.specs.Held.{HeldObject, octets_of}
+use Rattle.held_object.specs.Held.{HeldObject, octets_of}
 use Rattle.tx_window.specs.WindowState.{WindowState, WindowObject, Filling, Stands}
-use Rattle.tx_window.specs.WindowSound.{window_view, window_object, filling_in, IsRow, IsPlaced, IsFilling, all_octets, all_kept}
+use Rattle.tx_window.specs.WindowSound.{window_view, window_object, filling_in, IsRow, IsFilling, all_octets, all_kept}
+use Rattle.held_object.specs.Placed.{IsPlaced}
 use Rattle.tx_window.proofs.RowLemmas.{octets_append, octets_cons}
 use Rattle.tx_window.proofs.RoomLemmas.{map_drop}
 use Rattle.tx_window.proofs.WindowLemmas.{slice_get-drop}
@@ -83,7 +84,7 @@ invariant_of-self-2 c =
           (row_begun w.ring p hs n h w.free c.behind-self-inside.result (omega (arith, e-is, c.taken.ensures.sound.least_e)) old.ring_long row
           (λ i k e. placed_cut w.ring p k (old.placed i k e)) filling.cut (ap (λ (k : HeldObject). k.start) c.in-Ok.ensures)
           (omega (arith, left, octets, c.room_for-count.ensures.fit)) few
-          (subst (λ m. Rattle.tx_window.specs.Round.IsAround (length w.ring) (w.free + m) c.behind-self-inside.result) c.taken.ensures.exact c.behind-self-inside.ensures));
+          (subst (λ m. Rattle.held_object.specs.Round.IsAround (length w.ring) (w.free + m) c.behind-self-inside.result) c.taken.ensures.exact c.behind-self-inside.ensures));
       placed = λ i k e. old.placed (n + i) k (sym (slice_get-drop n hs i) ∙ ap (λ ks. slice_get ks i) (sym same) ∙ e);
       sized = subst (λ (ls : List ℕ). (i l : ℕ) → slice_get ls i ≡ Some l → (1 ≤ l) × (l ≤ 16777216)) (sym c.reserve.ensures.extents) old.sized;
       filling = λ k e. subst (IsFilling w.ring p 0) (is k e) filling;

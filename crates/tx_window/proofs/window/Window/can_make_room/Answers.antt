@@ -1,9 +1,5 @@
-use Rattle.std.proofs.Common.{◌≡◌, ◌+◌, ◌<◌, ◌≤◌, ◌⊎◌, inl, inr, ◌++◌, ap, sym, subst, ◌∙◌, refl, take, arith, length, Option, Some, None}
-use Rattle.std.specs.Prelude.{option_map, option_to_list}
+use Rattle.std.proofs.Common.{◌≡◌, ◌+◌, ◌<◌, ◌≤◌, ◌⊎◌, ap, sym, subst, ◌∙◌, refl, take, arith, length}
 use Rattle.std.specs.Bool.{MatchBool}
-use Rattle.std.proofs.lemmas.List.{append-nil}
-use Rattle.norm_send_rules.specs.SenderState.{SenderState}
-use Rattle.tx_window.specs.Held.{HeldObject}
 use Rattle.fec_plan.specs.Points.{Point}
 use Rattle.norm_send_rules.specs.Room.{window, may_all_go, has_to_go}
 use Rattle.tx_window.specs.WindowState.{WindowState, Stands}

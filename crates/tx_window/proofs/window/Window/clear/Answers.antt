@@ -1,9 +1,9 @@
-use Rattle.std.proofs.Common.{◌≡◌, ◌++◌, ap, sym, subst, ◌∙◌, arith, ℕ, None, Some, Option, List, [], length, map}
+use Rattle.std.proofs.Common.{◌≡◌, ◌++◌, ap, sym, subst, ◌∙◌, arith, ℕ, None, Some, List, [], length, map}
 use Rattle.std.specs.Prelude.{slice_get}
 use Rattle.norm_base.specs.Settings.{Settings}
 use Rattle.fec_plan.specs.Points.{point}
 use Rattle.norm_send_rules.specs.Restarting.{begun_anew}
-use Rattle.tx_window.specs.Held.{HeldObject}
+use Rattle.held_object.specs.Held.{HeldObject}
 use Rattle.tx_window.specs.WindowState.{WindowState, WindowObject, Stands, empty_window}
 use Rattle.tx_window.specs.WindowSound.{window_object, all_octets}
 use Rattle.tx_window.proofs.RowLemmas.{row_empty}

@@ -2,11 +2,12 @@ use Rattle.std.proofs.Common.{◌≡◌, ◌+◌, ◌≤◌, ◌++◌, ap, sym, 
 use Rattle.std.specs.Prelude.{slice_get, option_to_list, option_map, MatchOption}
 use Rattle.norm_base.specs.Settings.{Settings}
 use Rattle.fec_plan.specs.Partition.{Cut}
-use Rattle.tx_window.specs.Held.{HeldObject, octets_of, octets_in}
-use Rattle.tx_window.specs.Round.{round, IsAround}
+use Rattle.held_object.specs.Held.{HeldObject, octets_of, octets_in}
+use Rattle.held_object.specs.Round.{round, IsAround}
 use Rattle.tx_window.specs.WindowState.{WindowState, WindowObject, Filling, Stands}
-use Rattle.tx_window.specs.WindowSound.{window_view, filling_in, IsRow, IsFilling, all_kept, taken_by}
-use Rattle.tx_window.proofs.RoundLemmas.{length-round}
+use Rattle.tx_window.specs.WindowSound.{window_view, filling_in, IsRow, IsFilling, all_kept}
+use Rattle.held_object.specs.Placed.{taken_by}
+use Rattle.held_object.proofs.RoundLemmas.{length-round}
 use Rattle.tx_window.proofs.RowLemmas.{symbols_taken}
 use Rattle.tx_window.specs.Taking.{with_piece}
 use Rattle.tx_window.proofs.BeginningLemmas.{placed_cut, cut_more}

@@ -7,12 +7,13 @@ use Rattle.norm_order.specs.Entries.{Whole}
 use Rattle.norm_order.specs.Shapes.{last_in}
 use Rattle.norm_send_rules.specs.Enqueuing.{with_entry}
 use Rattle.norm_send_rules.specs.InWindow.{next_index}
-use Rattle.tx_window.specs.Held.{HeldObject, octets_of, octets_in}
-use Rattle.tx_window.specs.Round.{round, IsAround}
+use Rattle.held_object.specs.Held.{HeldObject, octets_of, octets_in}
+use Rattle.held_object.specs.Round.{round, IsAround}
 use Rattle.tx_window.specs.WindowState.{WindowState, WindowObject, Filling, Stands, most_kept}
 use Rattle.tx_window.specs.Taking.{filled_entry}
-use Rattle.tx_window.specs.WindowSound.{window_view, window_object, filling_in, IsRow, IsPlaced, IsFilling, all_kept, taken_by, all_octets}
-use Rattle.tx_window.proofs.RoundLemmas.{length-round}
+use Rattle.tx_window.specs.WindowSound.{window_view, window_object, filling_in, IsRow, IsFilling, all_kept, all_octets}
+use Rattle.held_object.specs.Placed.{IsPlaced, taken_by}
+use Rattle.held_object.proofs.RoundLemmas.{length-round}
 use Rattle.tx_window.proofs.RowLemmas.{symbols_taken}
 use Rattle.tx_window.proofs.BeginningLemmas.{placed_cut, cut_more, placed_more, sized_more, sized_behind}
 use Rattle.tx_window.proofs.JoiningLemmas.{stands_joined}

@@ -1,5 +1,5 @@
-use Rattle.std.proofs.Common.{◌≡◌, ◌<◌, ◌≤◌, ap, sym, subst, ◌∙◌, arith}
-use Rattle.std.specs.Prelude.{slice_get, Some, None, nat_lt}
+use Rattle.std.proofs.Common.{◌<◌, ◌≤◌, ap, sym, subst, ◌∙◌, arith}
+use Rattle.std.specs.Prelude.{nat_lt}
 use Rattle.std.proofs.lemmas.Bool.{le-ltb}
 use Rattle.fec_plan.specs.Points.{position}
 use Rattle.fec_plan.specs.Partition.{Cut, IsSound, blocks, source_symbols}
@@ -8,8 +8,7 @@ use Rattle.norm_order.specs.Shapes.{is_source}
 use Rattle.norm_send_rules.specs.InWindow.{current_shapes}
 use Rattle.tx_window.specs.WindowState.{WindowState, Stands}
 use Rattle.tx_window.specs.WindowSound.{window_view}
-use Rattle.tx_window.proofs.WindowLemmas.{found_at}
-use Rattle.tx_window.proofs.SourceLemmas.{source_of, source_none, closed_here, closed_past}
+use Rattle.tx_window.proofs.SourceLemmas.{source_of, closed_here, closed_past}
 use Rattle.tx_window.proofs.window.Window.is_source.Goals as goal
 
 pub returns-then-at-blocks : goal.returns-then-at-blocks

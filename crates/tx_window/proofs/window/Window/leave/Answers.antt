@@ -2,7 +2,7 @@ use Rattle.std.proofs.Common.{◌≡◌, ◌++◌, ap, sym, subst, ◌∙◌, ar
 use Rattle.std.specs.Prelude.{option_to_list, option_map}
 use Rattle.std.proofs.lemmas.List.{append-nil}
 use Rattle.fec_plan.specs.Partition.{Cut}
-use Rattle.tx_window.specs.Held.{HeldObject}
+use Rattle.held_object.specs.Held.{HeldObject}
 use Rattle.tx_window.specs.WindowState.{WindowState, Stands}
 use Rattle.tx_window.specs.WindowSound.{IsRow, IsFilling, all_octets, all_kept, window_view, filling_in}
 use Rattle.tx_window.proofs.JoiningLemmas.{stands_filling}

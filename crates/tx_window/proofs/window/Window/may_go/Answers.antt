@@ -7,7 +7,7 @@ use Rattle.norm_send_rules.specs.Room.{may_go}
 use Rattle.norm_order.specs.Shapes.{shape_of}
 use Rattle.tx_window.specs.WindowState.{WindowState, Stands}
 use Rattle.tx_window.specs.WindowSound.{window_object, window_view}
-use Rattle.tx_window.proofs.NotingLemmas.{get_there}
+use Rattle.held_object.proofs.ListLemmas.{get_there}
 use Rattle.tx_window.proofs.GoingLemmas.{may_is, asked_of, not_released, was_released}
 use Rattle.tx_window.proofs.window.Window.may_go.Goals as goal
 

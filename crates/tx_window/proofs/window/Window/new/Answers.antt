@@ -3,7 +3,7 @@ use Rattle.std.specs.Prelude.{None, [], slice_get}
 use Rattle.norm_base.specs.Settings.{Settings}
 use Rattle.fec_plan.specs.Points.{point}
 use Rattle.norm_send_rules.specs.SenderState.{sender_opening}
-use Rattle.tx_window.specs.Held.{HeldObject}
+use Rattle.held_object.specs.Held.{HeldObject}
 use Rattle.tx_window.specs.WindowState.{WindowState, WindowObject, Stands}
 use Rattle.tx_window.specs.WindowSound.{window_object, all_octets}
 use Rattle.std.proofs.Math.Nat.{mul-le-mul_right}

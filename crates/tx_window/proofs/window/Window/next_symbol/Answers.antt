@@ -1,18 +1,17 @@
-use Rattle.std.proofs.Common.{◌≡◌, ℕ, ◌+◌, ◌-◌, ◌<◌, ◌≤◌, ◌⊎◌, inl, inr, ap, sym, subst, ◌∙◌, arith, refl, Some, None, Option, List, drop, length, length-append}
-use Rattle.std.specs.Prelude.{find, slice_get, option_to_list, if◌then◌else◌}
-use Rattle.std.proofs.lemmas.Bool.{cases_lt}
+use Rattle.std.proofs.Common.{◌+◌, ◌-◌, ◌≤◌, ap, sym, subst, ◌∙◌, arith, refl, Some, None, drop, length-append}
+use Rattle.std.specs.Prelude.{find, option_to_list}
 use Rattle.std.proofs.lemmas.Option.{slice_get_within}
 use Rattle.fec_plan.specs.Points.{Point, Position, position}
 use Rattle.norm_order.specs.Shapes.{shapes_of}
 use Rattle.norm_send_rules.specs.Sending.{new_from, next_new}
-use Rattle.norm_send_rules.specs.declared.want.Want.{Want}
-use Rattle.norm_send_rules.specs.declared.want.Want.TheVariants.{Info, Symbol}
+use Rattle.norm_send_rules.specs.declared.want.Want.TheVariants.{Symbol}
 use Rattle.tx_window.specs.WindowState.{WindowState, Stands}
 use Rattle.tx_window.specs.WindowSound.{window_view}
-use Rattle.tx_window.specs.Next.{is_next, once, IsNextIn}
+use Rattle.tx_window.specs.Next.{is_next}
+use Rattle.held_object.specs.NextIn.{IsNextIn}
 use Rattle.tx_window.proofs.WindowLemmas.{found_at, kept_held}
 use Rattle.tx_window.proofs.NextLemmas.{passes_later, splits_at}
-use Rattle.tx_window.proofs.NewLemmas.{none_kept, nothing_new, itself_here, block_here, over_here, from_drop, from_here, found}
+use Rattle.tx_window.proofs.NewLemmas.{none_kept, nothing_new, over_here, from_drop, from_here, found}
 use Rattle.tx_window.proofs.window.Window.next_symbol.Goals as goal
 
 pub returns-then-from-self-clause-exact : goal.returns-then-from-self-clause-exact

@@ -4,10 +4,11 @@ use Rattle.std.proofs.lemmas.List.{length-map, length-set}
 use Rattle.std.proofs.lemmas.Option.{slice_get-map}
 use Rattle.norm_order.specs.Sets.{with_member}
 use Rattle.norm_send_rules.specs.InWindow.{next_index}
-use Rattle.tx_window.specs.Held.{HeldObject}
+use Rattle.held_object.specs.Held.{HeldObject}
 use Rattle.tx_window.specs.WindowState.{WindowState, WindowObject, Stands, IsInWindow}
 use Rattle.tx_window.specs.WindowSound.{window_object, window_view}
-use Rattle.tx_window.proofs.NotingLemmas.{get_there, stands_noted, maps_set, octets_marked, row_marked, placed_noted}
+use Rattle.tx_window.proofs.NotingLemmas.{stands_noted, maps_set, octets_marked, row_marked, placed_noted}
+use Rattle.held_object.proofs.ListLemmas.{get_there}
 use Rattle.tx_window.proofs.window.Window.note_info.Goals as goal
 
 pub invariant_of-self : goal.invariant_of-self

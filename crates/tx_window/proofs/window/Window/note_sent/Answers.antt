@@ -7,18 +7,20 @@ use Rattle.norm_send_rules.specs.InWindow.{next_index}
 use Rattle.norm_send_rules.specs.Sending.{noted}
 use Rattle.norm_send_rules.specs.declared.want.Want.TheVariants.{Symbol}
 use Rattle.norm_order.specs.Shapes.{shape_of, encoded_in}
-use Rattle.tx_window.specs.Held.{HeldObject, with_sent}
+use Rattle.held_object.specs.Held.{HeldObject, with_sent}
 use Rattle.tx_window.specs.WindowState.{WindowState, WindowObject, Stands, IsInWindow}
 use Rattle.tx_window.specs.WindowSound.{window_object, window_view}
 use Rattle.tx_window.specs.Asked.{IsWhole, kept_at}
 use Rattle.tx_window.proofs.AboutLemmas.{whole_is}
 use Rattle.tx_window.proofs.WindowLemmas.{kept_held, stands_there}
-use Rattle.tx_window.proofs.NotingLemmas.{get_there, maps_set, octets_marked, row_marked, placed_noted}
-use Rattle.tx_window.proofs.SentLemmas.{stands_sent, block_there, same_cut, same_start, same_info}
+use Rattle.tx_window.proofs.NotingLemmas.{maps_set, octets_marked, row_marked, placed_noted}
+use Rattle.held_object.proofs.ListLemmas.{get_there}
+use Rattle.tx_window.proofs.SentLemmas.{stands_sent}
+use Rattle.held_object.proofs.MarkedLemmas.{block_there, same_cut, same_start, same_info}
 use Rattle.tx_window.proofs.window.Window.note_sent.Goals as goal
 
-pub note_sent-requires-clause-block : goal.note_sent-requires-clause-block
-note_sent-requires-clause-block c =
+pub note_sent-requires : goal.note_sent-requires
+note_sent-requires c =
     let w = c.self.inside in
     let i = c.at.inside.index - w.dropped in
     let old = c.index_mut.result.now in

@@ -1,11 +1,8 @@
-use Rattle.std.proofs.Common.{◌≡◌, ap, sym, subst, ◌∙◌, refl, Some, Option, List, ℕ, length}
-use Rattle.fec_plan.specs.Partition.{Cut}
+use Rattle.std.proofs.Common.{ap, sym, subst, ◌∙◌, refl}
 use Rattle.norm_order.specs.Entries.{Object}
-use Rattle.norm_send_rules.specs.SenderState.{SenderState}
 use Rattle.tx_window.specs.WindowState.{WindowState, Stands}
-use Rattle.tx_window.specs.WindowSound.{window_view, IsPlaced, object_in}
-use Rattle.tx_window.specs.Asked.{kept_at, about_of, IsWhole}
-use Rattle.tx_window.specs.declared.window.About.{About}
+use Rattle.tx_window.specs.WindowSound.{window_view}
+use Rattle.tx_window.specs.Asked.{kept_at}
 use Rattle.tx_window.proofs.WindowLemmas.{found_at, kept_held}
 use Rattle.std.specs.Prelude.{option_map}
 use Rattle.norm_order.specs.Shapes.{shape_of}

@@ -1,9 +1,9 @@
 use Rattle.std.proofs.Common.{◌≤◌, sym, subst, arith, refl, take}
 use Rattle.fec_plan.specs.Points.{Position, position}
-use Rattle.tx_window.specs.Held.{octets_in}
+use Rattle.held_object.specs.Held.{octets_in}
 use Rattle.tx_window.specs.WindowState.{WindowState, Stands}
-use Rattle.tx_window.specs.Held.{octets_of}
-use Rattle.tx_window.specs.WindowSound.{object_in}
+use Rattle.held_object.specs.Held.{octets_of}
+use Rattle.held_object.specs.Placed.{object_in}
 use Rattle.tx_window.specs.Asked.{AnswersAt}
 use Rattle.tx_window.proofs.WindowLemmas.{found_at, kept_held, answers_kept}
 use Rattle.tx_window.proofs.window.Window.symbol.Goals as goal

@@ -1,0 +1,5 @@
+pub mod ObjectLemmas
+pub mod StreamLemmas
+pub mod OtherLemmas
+pub mod GrowingLemmas
+pub mod FrontLemmas

@@ -1,0 +1,17 @@
+use Rattle.std.proofs.Common.{◌∙◌, List, refl, sym, subst}
+use Rattle.norm_order.specs.Entries.{Part}
+use Rattle.stream_buffer.specs.StreamState.{with_cut}
+use Rattle.held_stream.specs.HeldState.{Knows}
+use Rattle.held_entry.specs.EntryState.{StandsFor}
+use Rattle.held_entry.proofs.GrowingLemmas.{same_parts}
+use Rattle.held_entry.proofs.entry.HeldEntry.cut.Goals as goal
+
+pub returns-in-Stream-clause-stream : goal.returns-in-Stream-clause-stream
+returns-in-Stream-clause-stream c = λ r parts is same.
+    let known = subst (StandsFor r) c.in-Stream.is is in
+    record {
+      parts = with_cut r.p.e parts;
+      object = refl;
+      knows = c.cut.ensures r.p r.index parts r.sent
+          (subst (λ (ps : List Part). Knows r.p r.index ps r.sent c.in-Stream.stream) (same_parts known.parts parts (sym known.object ∙ same)) known.knows);
+    }

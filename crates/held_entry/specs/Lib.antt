@@ -1,0 +1,5 @@
+pub mod EntryState
+pub mod Asked
+pub mod Laws
+pub mod Growing
+pub mod Front

@@ -1,0 +1,5 @@
+pub mod Round
+pub mod Held
+pub mod HeldSound
+pub mod Placed
+pub mod NextIn
