@@ -8,3 +8,4 @@ pub mod ObjectSound
 pub mod HoldState
 pub mod HoldSound
 pub mod HoldMoves
+pub mod EntryState

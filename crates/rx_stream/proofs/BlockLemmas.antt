@@ -392,7 +392,7 @@ source_done k size symbol ids rows count le =
     came : List Came
     came = listed k size ids (coded k size ids rows)
 
-source_open : (k size symbol : ℕ) (ids : List ℕ) (rows : List (List ℕ)) → length rows ≡ length ids → length ids < k
+pub source_open : (k size symbol : ℕ) (ids : List ℕ) (rows : List (List ℕ)) → length rows ≡ length ids → length ids < k
     → source_of (block_of k size ids rows) symbol ≡ given ids (parts k size ids rows) symbol
 source_open k size symbol ids rows count lt =
     ap (λ b. elim b as (λ _. Option (List ℕ)) [ true ↦ Some (solved_symbol size (map (λ (c : Came). c.id) came) (map (λ (c : Came). c.octets) came) symbol) | false ↦ came_under came symbol ])
@@ -489,6 +489,11 @@ row_none k size symbol ids rows s lacking each =
 pub view_empty : (k size : ℕ) (ids : List ℕ) (rows : List (List ℕ)) → ids ≡ [] → block_of k size ids rows ≡ record { k = k; size = size; came = [] }
 unfolding listed
 view_empty k size ids rows none = ap (λ xs. block_of k size xs rows) none
+
+pub none_came : (k size : ℕ) (ids : List ℕ) (rows : List (List ℕ)) → length ids ≡ 0 → (block_of k size ids rows).came ≡ []
+unfolding listed
+none_came k size [] rows none = refl
+none_came k size (id ∷ ids) rows none = absurd (omega arith)
 
 pub back_again : (len : ℕ) (new old : List (List ℕ)) → length new ≡ len → take len (new ++ drop (length new) old) ≡ new
 back_again len new old long = take_at new (drop (length new) old) len long

@@ -23,8 +23,9 @@ use Rattle.norm_receive_rules.specs.declared.words.Put.TheVariants as put
 use Rattle.rx_stream.specs.BlockState.{Came, BlockState, came_before, came_under, empty_block, has_id, lacks, source_of}
 use Rattle.rx_stream.specs.BlockMoves.{IsRow, IsSent, MayCome, with_came}
 use Rattle.rx_stream.specs.StreamMoves.{fits_cut, passed, MayKeep}
-use Rattle.rx_stream.specs.StreamSound.{held_in, held_from, AreOf, stream_of, StreamSound}
+use Rattle.rx_stream.specs.StreamSound.{held_in, held_from, AreOf, AreNamed, stream_of, StreamSound}
 use Rattle.rx_stream.specs.StreamState.{StreamState, alone}
+use Rattle.rx_stream.proofs.HandingLemmas.{all_with, begun_more}
 
 -- ---- what is held of a block
 
@@ -162,7 +163,7 @@ joined_came b c x y ys = elim b [
   | false ↦ elim c [ true ↦ y ∷ with_member came_before x ys | false ↦ y ∷ ys ]
 ]
 
-abbrev held_as : ℕ → ℕ → Came → Held
+abbrev pub held_as : ℕ → ℕ → Came → Held
 held_as index block c = record { at = position index block c.id; octets = c.octets }
 
 in_block : (index block : ℕ) (x : Came) (cs : List Came) → with_member held_before (held_as index block x) (map (held_as index block) cs) ≡ map (held_as index block) (with_member came_before x cs)
@@ -179,7 +180,7 @@ in_block index block x (c ∷ cs) =
     go false true rest = ap (λ hs. held_as index block c ∷ hs) rest
     go false false rest = refl
 
-all_append : (P : Held → Type 0) (xs ys : List Held) → AllByRecursion P xs → AllByRecursion P ys → AllByRecursion P (xs ++ ys)
+pub all_append : (P : Held → Type 0) (xs ys : List Held) → AllByRecursion P xs → AllByRecursion P ys → AllByRecursion P (xs ++ ys)
 all_append P [] ys all more = more
 all_append P (x ∷ xs) ys all more = (all.0, all_append P xs ys all.1 more)
 
@@ -223,7 +224,7 @@ stream_plan plan stream = ap (λ b. cut_if b plan.fti) stream
 pub sources_are : (plan : Plan) (block : ℕ) → says_stream plan.flags ≡ true → source_symbols (cut_of_plan plan) block ≡ plan.fti.b
 sources_are plan block stream = ap (λ (c : Cut). source_symbols c block) (stream_plan plan stream)
 
-block_at : (k size i : ℕ) (bs : List BlockState) (d : BlockState) → AreOf k size bs → i < length bs → ((get_or bs i d).k ≡ k) × ((get_or bs i d).size ≡ size)
+pub block_at : (k size i : ℕ) (bs : List BlockState) (d : BlockState) → AreOf k size bs → i < length bs → ((get_or bs i d).k ≡ k) × ((get_or bs i d).size ≡ size)
 block_at k size i [] d all lt = absurd (omega arith)
 block_at k size zero (b ∷ bs) d all lt = all.0
 block_at k size (suc i) (b ∷ bs) d all lt = block_at k size i bs d all.1 (omega arith)
@@ -382,7 +383,7 @@ stream_value plan info first symbol i block id ring d stream of at lt =
 
 -- ---- a block is passed
 
-all_pass : (q : Held → Bool) (xs : List Held) → AllByRecursion (λ (h : Held). q h ≡ true) xs → filter q xs ≡ xs
+pub all_pass : (q : Held → Bool) (xs : List Held) → AllByRecursion (λ (h : Held). q h ≡ true) xs → filter q xs ≡ xs
 all_pass q [] all = refl
 all_pass q (x ∷ xs) all = ap (λ b. cond b (x ∷ filter q xs) (filter q xs)) all.0 ∙ ap (λ hs. x ∷ hs) (all_pass q xs all.1)
 
@@ -512,15 +513,20 @@ kept_stream plan info first symbol i block id ring after payload d at lt is =
     ∙ ap (λ (hs : List Held). record { plan = plan; room = length ring; info = info; point = position plan.index first symbol; held = hs })
     (sym (held_more plan.index first i block id payload ring d at lt))
 
-pub sound_more : (plan : Plan) (cut : Cut) (first symbol i id : ℕ) (ring after : List BlockState) (payload : List ℕ) (d : BlockState) → StreamSound plan cut first symbol ring → i < length ring
-    → after ≡ set ring i (with_came id payload (get_or ring i d)) → StreamSound plan cut first symbol after
-sound_more plan cut first symbol i id ring after payload d s lt is = subst (λ (bs : List BlockState). StreamSound plan cut first symbol bs) (sym is) (record {
+pub sound_more : (plan : Plan) (cut : Cut) (first symbol i block id : ℕ) (ring after : List BlockState) (payload : List ℕ) (d : BlockState) (spares : List (List ℕ))
+    → StreamSound plan cut first symbol ring spares → block ≡ first + i → block < 16777216 → i < length ring
+    → after ≡ set ring i (with_came id payload (get_or ring i d)) → StreamSound plan cut first symbol after spares
+sound_more plan cut first symbol i block id ring after payload d spares s at small lt is = subst (λ (bs : List BlockState). StreamSound plan cut first symbol bs spares) (sym is) (record {
   stream = s.stream;
   cut_is = s.cut_is;
   sound = s.sound;
   next = s.next;
   some = (let n = length-set ring i (with_came id payload (get_or ring i d)) in let m = s.some in omega (arith, n, m));
   blocks = of_more plan.fti.b (plan.fti.e + 8) i id payload ring d s.blocks lt;
+  begun = begun_more symbol i id payload ring d s.begun lt;
+  named = subst AreNamed (held_more plan.index first i block id payload ring d at lt)
+      (all_with (λ (h : Held). h.at.block < 16777216) (record { at = position plan.index block id; octets = payload }) (held_from plan.index first ring) s.named small);
+  spare = s.spare;
 })
 
 -- ---- the next segment, and a block that is passed

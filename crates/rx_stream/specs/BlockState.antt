@@ -1,7 +1,8 @@
 -- What is held of one block of a stream (RFC 5740 section 4.2.1, RFC 5510 section 8.3).
-use Rattle.std.specs.Prelude.{ℕ, ◌-◌, ◌==◌, Bool, true, false, List, [], map, find, length, nat_lt, Option, Some, None}
-use Rattle.std.specs.List.{list_any}
+use Rattle.std.specs.Prelude.{ℕ, ◌-◌, ◌==◌, Bool, true, false, List, [], map, find, length, min, nat_lt, Option, Some, None}
+use Rattle.std.specs.List.{list_any, range_with_len}
 use Rattle.gf_field.specs.Symbol.{solved_symbol}
+use Rattle.norm_ext.specs.Numbers.{number}
 
 -- a symbol that came: its id, and its octets as they were sent
 pub record Came : Type 0 where
@@ -40,3 +41,11 @@ source_of b symbol = elim (lacks b == 0) [
   | true ↦ Some (solved_symbol b.size (map (λ (c : Came). c.id) b.came) (map (λ (c : Came). c.octets) b.came) symbol)
   | false ↦ came_under b.came symbol
 ]
+
+-- a source symbol is there, and is a segment of no octets, where a segment has at most e
+abbrev pub is_end_at : ℕ → BlockState → ℕ → Bool
+is_end_at e b symbol = elim (source_of b symbol) [ Some octets ↦ min (number 2 0 octets) e == 0 | None ↦ false ]
+
+-- the first source symbol that is there and is such a segment
+abbrev pub end_in_block : ℕ → BlockState → Option ℕ
+end_in_block e b = find (is_end_at e b) (range_with_len 0 b.k)

@@ -1,11 +1,11 @@
 -- What a stream keeps, and what it is seen as.
-use Rattle.std.specs.Prelude.{ℕ, suc, ◌≡◌, ◌<◌, ◌≤◌, ◌+◌, List, [], ◌∷◌, ◌++◌, map, length, Option, true}
+use Rattle.std.specs.Prelude.{ℕ, suc, ◌≡◌, ◌<◌, ◌≤◌, ◌+◌, List, [], ◌∷◌, ◌++◌, map, length, Option, is_some, true}
 use Rattle.std.specs.List.{AllByRecursion}
 use Rattle.fec_plan.specs.Partition.{Cut, IsSound, stream_cut}
 use Rattle.fec_plan.specs.Points.{position}
 use Rattle.norm_receive_rules.specs.Holding.{Plan, Held}
 use Rattle.norm_receive_rules.specs.Plans.{says_stream}
-use Rattle.rx_stream.specs.BlockState.{Came, BlockState}
+use Rattle.rx_stream.specs.BlockState.{Came, BlockState, source_of}
 use Rattle.rx_stream.specs.StreamState.{StreamState}
 
 -- what came of a block, as it is held
@@ -30,11 +30,29 @@ stream_of plan info first symbol ring = record {
   held = held_from plan.index first ring;
 }
 
--- The plan is a stream's, cut as its information says. There is room for a block at least.
-pub record StreamSound (plan : Plan) (cut : Cut) (first symbol : ℕ) (ring : List BlockState) : Type 0 where
+-- each source symbol of the first block before this one is there
+abbrev pub IsBegun : ℕ → List BlockState → Type 0
+IsBegun symbol [] = Unit {0}
+IsBegun symbol (b ∷ blocks) = (before : ℕ) → before < symbol → is_some (source_of b before) ≡ true
+
+-- each symbol is of a block that 24 bits name
+abbrev pub AreNamed : List Held → Type 0
+AreNamed held = AllByRecursion (λ (h : Held). h.at.block < 16777216) held
+
+-- Spare rows for the segments that are handed up: of a block's rows as many as it has segments from the next one on.
+pub record AreSpare (k size symbol : ℕ) (rows : List (List ℕ)) : Type 0 where
+  pub count : length rows + symbol ≡ k
+  pub sizes : AllByRecursion (λ (row : List ℕ). length row ≡ size) rows
+
+-- The plan is a stream's, cut as its information says. There is room for a block at least, and each segment of the first
+-- block before the next one is there.
+pub record StreamSound (plan : Plan) (cut : Cut) (first symbol : ℕ) (ring : List BlockState) (spares : List (List ℕ)) : Type 0 where
   pub stream : says_stream plan.flags ≡ true
   pub cut_is : cut ≡ stream_cut plan.fti.e plan.fti.b plan.fti.max_n
   pub sound : IsSound cut
   pub next : symbol < plan.fti.b
   pub some : 1 ≤ length ring
   pub blocks : AreOf plan.fti.b (plan.fti.e + 8) ring
+  pub begun : IsBegun symbol ring
+  pub named : AreNamed (held_from plan.index first ring)
+  pub spare : AreSpare plan.fti.b (plan.fti.e + 8) symbol spares

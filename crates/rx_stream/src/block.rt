@@ -1,12 +1,12 @@
 //! The symbols of one block, which are solved in place.
 
-ghost use Rattle.std.specs.Prelude.{ℕ, true, List, [], ◌≡◌, ◌≢◌, ◌==◌, ◌<◌, ◌≤◌, ◌-◌, MatchOption, EachIndex, OnErr, OnOk, IfOk, length, insert, option_copied, slice_index};
+ghost use Rattle.std.specs.Prelude.{ℕ, true, false, List, [], ◌≡◌, ◌≢◌, ◌==◌, ◌<◌, ◌≤◌, ◌-◌, ◌+◌, MatchOption, EachIndex, IfSome, OnErr, OnOk, IfOk, is_some, length, insert, option_copied, slice_index};
 ghost use Rattle.std.specs.List.{AllByRecursion, list_any};
 ghost use Rattle.norm_base.specs.Sizes.{symbol_room};
 ghost use Rattle.gf_field.specs.Element.{AreElements};
 ghost use Rattle.gf_field.specs.Symbol.{AreIds, AreSymbols};
 ghost use Rattle.norm_order.specs.Sets.{Rises};
-ghost use Rattle.rx_stream.specs.BlockState.{empty_block, has_id, lacks, source_of};
+ghost use Rattle.rx_stream.specs.BlockState.{empty_block, end_in_block, has_id, is_end_at, lacks, source_of};
 ghost use Rattle.rx_stream.specs.BlockMoves.{IsPlace, IsRow, MayCome, with_came};
 ghost use Rattle.rx_stream.specs.BlockSound.{settled};
 
@@ -198,7 +198,8 @@ impl Block {
     /// A source symbol as it is coded, where it came or none is lacking.
     pub fn row(&self, symbol: u8) -> Option<&Row>
         requires { symbol < self.now.k }
-        ensures { IsRow self.now.size (source_of self.now symbol) (option_copied result) }
+        ensures coded { IsRow self.now.size (source_of self.now symbol) (option_copied result) }
+        ensures long { IfSome (option_copied result) (λ row. length row ≡ self.now.size) }
     {
         if self.ids.len() == usize::from(self.k) {
             return Some(&self.rows[usize::from(symbol)]);
@@ -207,5 +208,44 @@ impl Block {
             Some(place) => Some(&self.rows[place]),
             None => None,
         }
+    }
+
+    /// Whether a source symbol is there, and is a segment of no octets, where a segment has at most `most`.
+    fn is_end(&self, most: u16, symbol: u8) -> bool
+        requires symbol { symbol < self.now.k }
+        requires most { self.now.size ≡ most + 8 }
+        ensures { result ≡ is_end_at most self.now symbol }
+    {
+        match self.row(symbol) {
+            Some(row) => row.segment_len(most) == 0,
+            None => false,
+        }
+    }
+
+    /// The first source symbol that is there and is a segment of no octets, where a segment has at most `most`. Of a block of
+    /// which nothing came it takes constant time.
+    pub fn end(&self, most: u16) -> Option<u8>
+        requires { self.now.size ≡ most + 8 }
+        ensures { result ≡ end_in_block most self.now }
+    {
+        if self.ids.is_empty() {
+            return None;
+        }
+        for symbol in 0..self.k {
+            if self.is_end(most, symbol) {
+                return Some(symbol);
+            }
+        }
+        None
+    }
+
+    /// The rows of a block each of whose source symbols is there. It takes no memory.
+    pub fn into_rows(self) -> Vec<Row>
+        requires { (symbol : ℕ) → symbol < self.k → is_some (source_of self symbol) ≡ true }
+        ensures count { length result.items ≡ self.k }
+        ensures sizes { AllByRecursion (λ (row : List ℕ). length row ≡ self.size) result.items }
+    {
+        let Block { rows, .. } = self;
+        rows
     }
 }

@@ -1,9 +1,11 @@
 //! The octets of one symbol, as they are coded.
 
-ghost use Rattle.std.specs.Prelude.{ℕ, ◌≡◌, ◌≤◌, ◌+◌, IfOk, length, take, drop};
+ghost use Rattle.std.specs.Prelude.{ℕ, ◌≡◌, ◌≤◌, ◌+◌, IfOk, length, min, take, drop};
+ghost use Rattle.norm_ext.specs.Numbers.{number};
 ghost use Rattle.norm_order.specs.Symbols.{padded};
 
 use norm_base::{Memory, Octets};
+use norm_ext::{read_16, read_32};
 use std::alloc::Global;
 use std::marker::Model;
 
@@ -60,6 +62,22 @@ impl Row {
         ensures { self.new ≡ octets.now }
     {
         self.0.copy_from_slice(octets);
+    }
+
+    /// How many octets of its own a segment that is coded so has: as many as it says, and at most so many.
+    pub fn segment_len(&self, most: u16) -> u16
+        requires { 8 ≤ length self.now }
+        ensures { result ≡ min (number 2 0 self.now) most }
+    {
+        read_16(&self.0, 0).min(most)
+    }
+
+    /// Where the segment stands in its stream, as it says.
+    pub fn offset(&self) -> u32
+        requires { 8 ≤ length self.now }
+        ensures { result ≡ number 4 4 self.now }
+    {
+        read_32(&self.0, 4)
     }
 
     /// The first octets of the segment, without its place. It takes no memory.

@@ -1,31 +1,36 @@
 //! The blocks of one stream, from its next segment on.
 
-ghost use Rattle.std.specs.Prelude.{ℕ, List, [], ◌≡◌, ◌==◌, ◌<◌, ◌≤◌, ◌+◌, IfOk, IsTrue, OnErr, MatchOption, length, max, not, is_some, true, false, Some, None, replicate, slice_index_or, slice_set, option_copied, drop, ◌∷◌, ◌++◌};
+ghost use Rattle.std.specs.Prelude.{ℕ, List, [], ◌≡◌, ◌==◌, ◌<◌, ◌≤◌, ◌+◌, IfOk, IsTrue, OnErr, MatchOption, IfSome, length, max, min, not, is_some, true, false, Some, None, replicate, slice_index_or, slice_set, option_copied, option_map, take, drop, ◌∷◌, ◌++◌};
+ghost use Rattle.std.specs.List.{AllByRecursion};
 ghost use Rattle.std.specs.VecDeque.{deque_capacity};
 ghost use Rattle.norm_base.specs.Settings.{Settings};
 ghost use Rattle.fec_plan.specs.Partition.{blocks, stream_cut};
 ghost use Rattle.fec_plan.specs.Points.{position};
 ghost use Rattle.norm_ext.specs.Numbers.{number};
 ghost use Rattle.norm_receive_rules.specs.HandingUp.{next_segment};
+ghost use Rattle.norm_receive_rules.specs.StreamNeeds.{end_of};
+ghost use Rattle.fec_plan.specs.Payload.{Name};
 ghost use Rattle.norm_receive_rules.specs.Holding.{new_plan};
 ghost use Rattle.norm_receive_rules.specs.Plans.{cut_of_plan, has_its_info, holds, is_done, lacking, says_stream};
 ghost use Rattle.norm_receive_rules.specs.Putting.{is_far, is_misfit, is_segment, put_by, with_symbol};
 ghost use Rattle.norm_receive_rules.specs.declared.words.Put.TheVariants as put_word;
-ghost use Rattle.rx_stream.specs.BlockState.{BlockState, empty_block};
+ghost use Rattle.rx_stream.specs.BlockState.{BlockState, empty_block, source_of};
 ghost use Rattle.rx_stream.specs.StreamState.{StreamState, alone, empty_stream, IsOf};
 ghost use Rattle.rx_stream.specs.BlockMoves.{IsRow, IsSent, MayCome, with_came};
-ghost use Rattle.rx_stream.specs.StreamMoves.{MayKeep, fits_cut, passed, shape_of};
+ghost use Rattle.rx_stream.specs.StreamMoves.{MayKeep, fits_cut, handed_on, next_up, passed, shape_of};
 
 use crate::block::Block;
 use crate::row::Row;
 use crate::scratch::Scratch;
-use fec_plan::{MOST_BLOCKS, Plan};
+use fec_plan::{MOST_BLOCKS, PayloadId, Plan};
 use norm_base::{Memory, Octets};
 use norm_ext::{Fti, read_16};
+use norm_order::Up;
 use norm_receive_rules::Put;
 use std::alloc::Global;
 use std::collections::VecDeque;
 use std::marker::Model;
+use std::mem;
 
 /// The octets of a segment's place, which stand before its own.
 const PLACE: usize = 8;
@@ -50,6 +55,9 @@ pub struct Stream {
     symbol: u8,
     /// The blocks from that one on.
     ring: VecDeque<Block>,
+    /// Rows in which the segments of the first block are handed up from the next one on, one for each. Those of a block that
+    /// was passed serve for the next block.
+    spares: Vec<Row>,
 }
 
 impl Model for Stream {
@@ -61,7 +69,7 @@ impl Model for Stream {
 
     ghost view = { λ s. stream_of (record { index = s.index; fti = s.fti; flags = s.flags; seen = s.seen }) s.info s.first s.symbol s.ring.items };
 
-    ghost invariant = { λ s. StreamSound (record { index = s.index; fti = s.fti; flags = s.flags; seen = s.seen }) s.plan s.first s.symbol s.ring.items };
+    ghost invariant = { λ s. StreamSound (record { index = s.index; fti = s.fti; flags = s.flags; seen = s.seen }) s.plan s.first s.symbol s.ring.items s.spares.items };
 }
 
 /// Whether a payload is one segment of at most `e` octets, and nothing behind it.
@@ -81,6 +89,7 @@ fn fits(plan: &Plan, block: u32, symbol: u8, payload: &[u8]) -> bool
     requires { plan.now.l ≡ None }
     ensures exact { (p : Settings) → p.e ≡ plan.now.e → result ≡ fits_cut p plan.now block symbol payload.now }
     ensures small { result ≡ true → symbol < 255 }
+    ensures block { result ≡ true → block < 16777216 }
     ensures sent { result ≡ true → IsSent plan.now.b (plan.now.e + 8) symbol payload.now }
 {
     if block >= MOST_BLOCKS {
@@ -144,13 +153,44 @@ fn is_beyond(ring: &VecDeque<Block>, place: usize) -> bool
     place >= ring.len()
 }
 
-/// Takes the first block away, and puts another behind the last one.
-fn shift(ring: &mut VecDeque<Block>, block: Block)
-    requires { 0 < length ring.old.items }
-    ensures { ring.new.items ≡ drop 1 ring.old.items ++ block ∷ [] }
+/// Takes the first block away, each of whose source symbols is there, and puts another behind the last one. The rows of the
+/// block are given back.
+fn shift(ring: &mut VecDeque<Block>, block: Block) -> Vec<Row>
+    requires some { 0 < length ring.old.items }
+    requires there { (d : BlockState) (symbol : ℕ) → symbol < (slice_index_or ring.old.items 0 d).k → is_some (source_of (slice_index_or ring.old.items 0 d) symbol) ≡ true }
+    ensures ring { ring.new.items ≡ drop 1 ring.old.items ++ block ∷ [] }
+    ensures count { (d : BlockState) → length result.items ≡ (slice_index_or ring.old.items 0 d).k }
+    ensures sizes { (d : BlockState) → AllByRecursion (λ (row : List ℕ). length row ≡ (slice_index_or ring.old.items 0 d).size) result.items }
 {
-    ring[0] = block;
+    let first = mem::replace(&mut ring[0], block);
     ring.rotate_left(1);
+    first.into_rows()
+}
+
+/// So many rows of zeros.
+fn spare_rows(alloc: Global, count: u8, size: usize) -> Result<Vec<Row>, Memory>
+    ensures count { IfOk result (λ rows. length rows.items ≡ count) }
+    ensures sizes { IfOk result (λ rows. AllByRecursion (λ (row : List ℕ). length row ≡ size) rows.items) }
+{
+    let mut rows = Vec::with_capacity(alloc, usize::from(count))?;
+    for _spare in 0..count {
+        rows.push(Row::of(alloc, &[], size)?)?;
+    }
+    Ok(rows)
+}
+
+/// The first octets of a segment, in one of the spare rows.
+fn copy_of(row: &Row, spares: &mut Vec<Row>, len: usize) -> Octets
+    requires some { 0 < length spares.old.items }
+    requires sizes { AllByRecursion (λ (spare : List ℕ). length spare ≡ length row.now) spares.old.items }
+    requires len { 8 + len ≤ length row.now }
+    ensures octets { result ≡ take len (drop 8 row.now) }
+    ensures count { length spares.new.items + 1 ≡ length spares.old.items }
+    ensures sizes { AllByRecursion (λ (spare : List ℕ). length spare ≡ length row.now) spares.new.items }
+{
+    let mut spare = spares.pop().unwrap();
+    spare.copy(row.octets());
+    spare.segment(len)
 }
 
 impl Stream {
@@ -176,6 +216,7 @@ impl Stream {
     {
         let mut ring = VecDeque::with_capacity(alloc, usize::from(room))?;
         let size = usize::from(plan.e()) + PLACE;
+        let spares = spare_rows(alloc, plan.source_len(0), size)?;
         fill(
             alloc,
             plan.source_len(0),
@@ -194,6 +235,7 @@ impl Stream {
             first: 0,
             symbol: 0,
             ring,
+            spares,
         })
     }
 
@@ -202,6 +244,13 @@ impl Stream {
         ensures { self.new ≡ record self.old { plan = record (self.old.plan) { seen = max self.old.plan.seen block } } }
     {
         self.seen = self.seen.max(block);
+    }
+
+    /// The stream's transmission information.
+    pub fn fti(&self) -> Fti
+        ensures { result ≡ self.now.plan.fti }
+    {
+        self.fti
     }
 
     /// How the stream is cut.
@@ -306,6 +355,7 @@ impl Stream {
     fn suits(&self, block: u32, symbol: u8, payload: &[u8]) -> bool
         ensures exact { (p : Settings) → IsOf p self.now → result ≡ not (is_misfit p self.now.plan (position self.now.plan.index block symbol) payload.now) }
         ensures small { result ≡ true → symbol < 255 }
+        ensures block { result ≡ true → block < 16777216 }
         ensures sent { result ≡ true → IsSent self.now.plan.fti.b (self.now.plan.fti.e + 8) symbol payload.now }
     {
         fits(&self.plan, block, symbol, payload)
@@ -387,25 +437,73 @@ impl Stream {
     /// The next segment as it is coded, where it is there: the eight octets of its place and its own ones, with zeros
     /// behind them.
     pub fn next(&self) -> Option<&Row>
-        ensures { IsRow (self.now.plan.fti.e + 8) (next_segment (alone self.now) self.now.plan) (option_copied result) }
+        ensures coded { IsRow (self.now.plan.fti.e + 8) (next_segment (alone self.now) self.now.plan) (option_copied result) }
+        ensures long { IfSome (option_copied result) (λ row. length row ≡ self.now.plan.fti.e + 8) }
     {
         self.ring[0].row(self.symbol)
     }
 
-    /// The next segment is handed up: the one behind it is the next then. Of a block that ends by it nothing is kept. It
-    /// takes no memory.
-    pub fn pass(&mut self)
-        requires { self.old.point.block < 16777216 }
-        ensures { self.new ≡ passed self.old }
+    /// The octets of the next segment. The one behind it is the next then, and of a block that ends by it nothing is kept.
+    fn take_segment(&mut self, len: u16) -> Octets
+        requires { MatchOption (next_segment (alone self.old) self.old.plan) ⊥ (λ symbol. len ≡ min (number 2 0 symbol) self.old.plan.fti.e) }
+        ensures octets { IfSome (next_segment (alone self.old) self.old.plan) (λ symbol. result ≡ take len (drop 8 symbol)) }
+        ensures state { self.new ≡ passed self.old }
     {
+        let row = self.ring[0].row(self.symbol).unwrap();
+        let bytes = copy_of(row, &mut self.spares, usize::from(len));
         let count = self.plan.source_len(0);
         if self.symbol + 1 < count {
             self.symbol += 1;
-            return;
+            return bytes;
         }
         let size = usize::from(self.plan.e()) + PLACE;
         self.symbol = 0;
         self.first += 1;
-        shift(&mut self.ring, Block::new(self.alloc, count, size));
+        self.spares = shift(&mut self.ring, Block::new(self.alloc, count, size));
+        bytes
+    }
+
+    /// The next segment is handed up, where it is there, and the stream's info where it has one: the one behind it is the next
+    /// then, and of a block that ends by it nothing is kept. The end, a segment of no octets, is handed up and stays: nothing
+    /// comes behind it. It takes no memory.
+    pub fn hand_up(&mut self) -> Option<Up>
+        ensures up { (p : Settings) → p.e ≡ self.old.plan.fti.e → result ≡ next_up p self.old }
+        ensures state { self.new ≡ handed_on result self.old }
+    {
+        if !self.has_its_info() {
+            return None;
+        }
+        let index = self.index;
+        let Some(row) = self.next() else {
+            return None;
+        };
+        let len = row.segment_len(self.plan.e());
+        if len == 0 {
+            return Some(Up::StreamEnd { index });
+        }
+        let offset = row.offset();
+        let bytes = self.take_segment(len);
+        Some(Up::StreamBytes {
+            index,
+            offset,
+            bytes,
+        })
+    }
+
+    /// The place of the stream's end, where it is held or given by what is held of its block. It looks at each block from the
+    /// next segment's on, at one of which nothing is held for a moment only.
+    pub fn end(&self) -> Option<PayloadId>
+        ensures { (p : Settings) → p.e ≡ self.now.plan.fti.e
+            → option_map (λ (id : Name). position self.now.plan.index id.block id.symbol) result ≡ end_of p (alone self.now) self.now.plan }
+    {
+        for place in 0..self.ring.len() {
+            if let Some(symbol) = self.ring[place].end(self.plan.e()) {
+                return Some(PayloadId {
+                    block: self.first + place as u32,
+                    symbol,
+                });
+            }
+        }
+        None
     }
 }

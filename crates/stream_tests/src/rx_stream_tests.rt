@@ -6,6 +6,7 @@ ghost use Rattle.rx_stream.specs.StreamState.{StreamState};
 use fec_plan::Plan;
 use norm_base::Memory;
 use norm_ext::Fti;
+use norm_order::Up;
 use norm_receive_rules::Put;
 use rx_stream::{Scratch, Stream};
 use std::alloc::Global;
@@ -45,20 +46,19 @@ fn come(
     stream.offer(block, symbol, payload, scratch)
 }
 
-/// Whether the next segment is the known one with this number; then it is passed.
+/// Whether what is handed up next is the known segment with this number.
 fn shows(stream: &mut Stream, symbol: u8) -> bool {
-    let Some(row) = stream.next() else {
+    let Some(Up::StreamBytes {
+        index,
+        offset,
+        bytes,
+    }) = stream.hand_up()
+    else {
         return false;
     };
     let octets = known_symbol(symbol);
-    if row.octets() != octets.as_slice() {
-        return false;
-    }
-    if stream.first_block() > 1 {
-        return false;
-    }
-    stream.pass();
-    true
+    let (_, segment) = octets.as_slice().split_at(8);
+    index == 7 && offset == u32::from(KNOWN[usize::from(symbol % 5)]) && bytes.bytes() == segment
 }
 
 /// Whether these three symbols of a block, in this order, give its segments, and nothing behind them.
@@ -81,7 +81,7 @@ fn give_back(alloc: Global, first: u8, second: u8, third: u8) -> Result<bool, Me
         shows(&mut stream, 0)
             && shows(&mut stream, 1)
             && shows(&mut stream, 2)
-            && stream.next().is_none(),
+            && stream.hand_up().is_none(),
     )
 }
 
@@ -158,6 +158,82 @@ fn each_symbol_gets_the_first_word_that_applies(rt: HostRuntime) -> Result<(), F
     for (number, row) in WORDS.iter().enumerate() {
         let word = word_of(rt.alloc(), row)?;
         assert!(rt; word == Some(row.5), "row {number}");
+    }
+    Ok(())
+}
+
+/// The lengths that the first three segments of a stream say, in the order in which they come; how many octets are handed up
+/// of each in turn, where it is no end; and where the end is then.
+type Run = ([(u8, u8); 3], [u8; 3], Option<u8>);
+
+/// The lengths of what is handed up, and the end.
+const RUNS: [Run; 5] = [
+    ([(0, 64), (1, 9), (2, 1)], [64, 9, 1], None),
+    ([(0, 64), (1, 9), (2, 0)], [64, 9, 0], Some(2)),
+    ([(2, 0), (1, 9), (0, 64)], [64, 9, 0], Some(2)),
+    ([(1, 0), (2, 5), (0, 3)], [3, 0, 0], Some(1)),
+    ([(0, 0), (1, 0), (2, 7)], [0, 0, 0], Some(0)),
+];
+
+/// A segment of so many octets, as it is sent.
+fn comes_with(
+    stream: &mut Stream,
+    scratch: &mut Scratch,
+    symbol: u8,
+    len: u8,
+) -> Result<Put, Memory>
+    requires point { stream.old.point.block ≡ 0 }
+    requires scratch { scratch.old ≡ record { k = stream.old.plan.fti.b; size = stream.old.plan.fti.e + 8 } }
+    ensures point { IfOk result (λ _. stream.new.point ≡ stream.old.point) }
+    ensures plan { IfOk result (λ _. stream.new.plan ≡ stream.old.plan) }
+    ensures scratch { scratch.new ≡ scratch.old }
+{
+    let mut payload = [0; 72];
+    payload[1] = len;
+    let (payload, _) = payload.as_slice().split_at((8 + usize::from(len)).min(72));
+    come(stream, scratch, 0, symbol, payload)
+}
+
+/// How many octets are handed up next: 0 where it is an end or nothing.
+fn handed(stream: &mut Stream) -> usize {
+    match stream.hand_up() {
+        Some(Up::StreamBytes { bytes, .. }) => bytes.bytes().len(),
+        _ => 0,
+    }
+}
+
+/// Whether a run hands up as many octets as its row says, and knows its end.
+fn runs(alloc: Global, row: &Run) -> Result<bool, Memory> {
+    let (segments, lens, end) = *row;
+    let fti = Fti {
+        l: 384,
+        e: 64,
+        b: 3,
+        max_n: 5,
+    };
+    let Ok(plan) = Plan::stream(64, 3, 5) else {
+        return Ok(false);
+    };
+    let [first, second, third] = segments;
+    let mut scratch = Scratch::new(alloc, 3, CODED)?;
+    let mut stream = Stream::new(alloc, 7, &fti, 32, &plan, 2)?;
+    comes_with(&mut stream, &mut scratch, first.0, first.1)?;
+    comes_with(&mut stream, &mut scratch, second.0, second.1)?;
+    comes_with(&mut stream, &mut scratch, third.0, third.1)?;
+    let known = stream.end().map(|id| id.symbol);
+    Ok(known == end
+        && handed(&mut stream) == usize::from(lens[0])
+        && handed(&mut stream) == usize::from(lens[1])
+        && handed(&mut stream) == usize::from(lens[2]))
+}
+
+#[test]
+fn segments_are_handed_up_at_their_length_and_the_end_is_known(
+    rt: HostRuntime,
+) -> Result<(), Fail> {
+    for (number, row) in RUNS.iter().enumerate() {
+        let run = runs(rt.alloc(), row)?;
+        assert!(rt; run, "row {number}");
     }
     Ok(())
 }

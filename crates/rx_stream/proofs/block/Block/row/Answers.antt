@@ -5,8 +5,8 @@ use Rattle.rx_stream.specs.BlockMoves.{IsRow}
 use Rattle.rx_stream.proofs.BlockLemmas.{row_done, row_open, row_none}
 use Rattle.rx_stream.proofs.block.Block.row.Goals as goal
 
-pub returns-then-len-from : goal.returns-then-len-from
-returns-then-len-from c =
+pub returns-then-len-from-clause-coded : goal.returns-then-len-from-clause-coded
+returns-then-len-from-clause-coded c =
     let k : c.self.inside.k ≡ c.args.self.now.k = ap (λ (b : BlockState). b.k) c.self.view_is in
     subst (λ (b : BlockState). IsRow b.size (source_of b c.args.symbol) (Some c.index.result.now)) c.self.view_is
     (row_done c.self.inside.k c.self.inside.size c.args.symbol c.self.inside.ids.items c.self.inside.rows.items c.index.result.now c.self.invariant
@@ -14,8 +14,8 @@ returns-then-len-from c =
     (let lt = c.requires in omega (arith, lt, k))
     (c.index.ensures ∙ ap (λ n. get_or c.self.inside.rows.items n c.index.result.now) c.from-then-len-from.ensures))
 
-pub returns-in-Some : goal.returns-in-Some
-returns-in-Some c =
+pub returns-in-Some-clause-coded : goal.returns-in-Some-clause-coded
+returns-in-Some-clause-coded c =
     let k : c.self.inside.k ≡ c.args.self.now.k = ap (λ (b : BlockState). b.k) c.self.view_is in
     subst (λ (b : BlockState). IsRow b.size (source_of b c.args.symbol) (Some c.index-in-Some.result.now)) c.self.view_is
     (row_open c.self.inside.k c.self.inside.size c.args.symbol c.in-Some.place c.self.inside.ids.items c.self.inside.rows.items c.index-in-Some.result.now c.self.invariant
@@ -25,8 +25,8 @@ returns-in-Some c =
     (sym (ap (λ xs. get_or xs c.in-Some.place 0) c.deref.ensures.value) ∙ c.in-Some.ensures.1)
     c.index-in-Some.ensures)
 
-pub returns-in-None : goal.returns-in-None
-returns-in-None c =
+pub returns-in-None-clause-coded : goal.returns-in-None-clause-coded
+returns-in-None-clause-coded c =
     subst (λ (b : BlockState). IsRow b.size (source_of b c.args.symbol) None) c.self.view_is
     (row_none c.self.inside.k c.self.inside.size c.args.symbol c.self.inside.ids.items c.self.inside.rows.items c.self.invariant
     (let few = c.self.invariant.few in omega (arith, few, c.if-len-from.false, c.len.ensures, c.from.ensures, c.self.inside.ids.ok))

@@ -16,7 +16,9 @@ put_at-requires-clause-comes c = λ d.
 
 pub invariant_of-self-2 : goal.invariant_of-self-2
 invariant_of-self-2 c =
-    sound_more (record { index = c.self.inside.index; fti = c.self.inside.fti; flags = c.self.inside.flags; seen = c.self.inside.seen }) c.self.inside.plan c.self.inside.first c.self.inside.symbol c.place_of-place.result c.args.symbol c.self.inside.ring.items c.put_at.new.ring.items c.args.payload.now (empty_block 1 8) c.self.invariant
+    sound_more (record { index = c.self.inside.index; fti = c.self.inside.fti; flags = c.self.inside.flags; seen = c.self.inside.seen }) c.self.inside.plan c.self.inside.first c.self.inside.symbol c.place_of-place.result c.args.block c.args.symbol c.self.inside.ring.items c.put_at.new.ring.items c.args.payload.now (empty_block 1 8) c.self.inside.spares.items c.self.invariant
+    (omega (arith, c.place_of-place.ensures))
+    (let m = (subst (λ (o : StreamState). MayKeep o c.args.block c.args.symbol c.args.payload.now) (sym c.self.view_is) c.requires.comes) in m.named)
     (let m = (subst (λ (o : StreamState). MayKeep o c.args.block c.args.symbol c.args.payload.now) (sym c.self.view_is) c.requires.comes) in let n = m.near in omega (arith, n, c.place_of-place.ensures))
     (c.in_ok-put_at.ensures.kept (empty_block 1 8))
 

@@ -23,6 +23,7 @@ returns-clause-word c = λ p h.
 pub returns-clause-kept : goal.returns-clause-kept
 returns-clause-kept c = λ e. record {
   small = c.suits.ensures.small c.if-not-suits.false;
+  named = c.suits.ensures.block c.if-not-suits.false;
   near = c.is_far.ensures.near c.if-is_far.false;
   new = sym c.holds.ensures ∙ c.if-holds.false;
   lacks = sym c.is_done.ensures ∙ c.if-is_done.false;

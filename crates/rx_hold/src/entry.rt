@@ -1,0 +1,163 @@
+//! What is held of one object of either kind.
+
+ghost use Rattle.std.specs.Prelude.{ℕ, ◌≡◌, ◌≤◌, ◌<◌, ◌+◌, ◌*◌, IfOk, OnErr, None, Some, is_some, length};
+ghost use Rattle.norm_base.specs.Settings.{Settings};
+ghost use Rattle.fec_plan.specs.Partition.{blocks};
+ghost use Rattle.fec_plan.specs.Points.{position};
+ghost use Rattle.norm_receive_rules.specs.Plans.{cut_of_plan, holds, lacking};
+ghost use Rattle.norm_receive_rules.specs.Putting.{put_by};
+ghost use Rattle.rx_hold.specs.EntryState.{IsOfKind, IsOfProfile, alone_in, entry_of, with_seen, with_word};
+
+use crate::object::Object;
+use fec_plan::{PayloadId, Plan};
+use norm_base::{Memory, Octets};
+use norm_ext::Fti;
+use norm_receive_rules::Put;
+use rx_stream::{Scratch, Stream};
+
+/// What is held of data or a file, or of a stream.
+#[derive(Debug, Drop)]
+pub enum Entry {
+    /// An object of data or a file, which is handed up whole.
+    Object(Object),
+    /// A stream, which is handed up segment by segment.
+    Stream(Stream),
+}
+
+impl Entry {
+    /// The transmission information.
+    pub fn fti(&self) -> Fti
+        ensures { result ≡ (entry_of self.now).plan.fti }
+    {
+        match self {
+            Entry::Object(object) => object.fti(),
+            Entry::Stream(stream) => stream.fti(),
+        }
+    }
+
+    /// The flags.
+    pub fn flags(&self) -> u8
+        ensures { result ≡ (entry_of self.now).plan.flags }
+    {
+        match self {
+            Entry::Object(object) => object.flags(),
+            Entry::Stream(stream) => stream.flags(),
+        }
+    }
+
+    /// How it is cut.
+    pub fn plan(&self) -> Plan
+        ensures { result ≡ cut_of_plan (entry_of self.now).plan }
+    {
+        match self {
+            Entry::Object(object) => object.plan(),
+            Entry::Stream(stream) => stream.plan(),
+        }
+    }
+
+    /// Whether its info is held.
+    pub fn has_info(&self) -> bool
+        ensures { result ≡ is_some (entry_of self.now).info }
+    {
+        match self {
+            Entry::Object(object) => object.has_info(),
+            Entry::Stream(stream) => stream.has_info(),
+        }
+    }
+
+    /// The block of the next source symbol that is to be handed up: of data and files the first.
+    pub fn first_block(&self) -> u32
+        ensures { result ≡ (entry_of self.now).point.block }
+    {
+        match self {
+            Entry::Object(_) => 0,
+            Entry::Stream(stream) => stream.first_block(),
+        }
+    }
+
+    /// The next source symbol that is to be handed up, in its block.
+    pub fn first_symbol(&self) -> u8
+        ensures { result ≡ (entry_of self.now).point.symbol }
+    {
+        match self {
+            Entry::Object(_) => 0,
+            Entry::Stream(stream) => stream.first_symbol(),
+        }
+    }
+
+    /// Whether a symbol is held, of a block that was not handed up whole.
+    pub fn holds(&self, block: u32, symbol: u8) -> bool
+        requires { (entry_of self.now).point.block ≤ block }
+        ensures { result ≡ holds (alone_in (entry_of self.now)) (position (entry_of self.now).plan.index block symbol) }
+    {
+        match self {
+            Entry::Object(object) => object.holds(block, symbol),
+            Entry::Stream(stream) => stream.holds(block, symbol),
+        }
+    }
+
+    /// How many symbols a block that was not handed up whole lacks to as many as it has source symbols.
+    pub fn lacking(&self, block: u32) -> u8
+        requires reached { (entry_of self.now).point.block ≤ block }
+        requires block { block < blocks (cut_of_plan (entry_of self.now).plan) }
+        ensures { result ≡ lacking (alone_in (entry_of self.now)) (entry_of self.now).plan block }
+    {
+        match self {
+            Entry::Object(object) => object.lacking(block),
+            Entry::Stream(stream) => stream.lacking(block),
+        }
+    }
+
+    /// A block is seen, whether what came with it is kept or not. Of data and files nothing is kept of that.
+    pub fn see(&mut self, block: u32)
+        requires { IsOfKind self.old }
+        ensures state { entry_of self.new ≡ with_seen block (entry_of self.old) }
+        ensures kind { IsOfKind self.new }
+    {
+        if let Entry::Stream(stream) = self {
+            stream.see(block);
+        }
+    }
+
+    /// Keeps the info. It takes no memory.
+    pub fn put_info(&mut self, info: Octets)
+        requires { (entry_of self.old).info ≡ None }
+        ensures { entry_of self.new ≡ record (entry_of self.old) { info = Some info } }
+    {
+        match self {
+            Entry::Object(object) => object.put_info(info),
+            Entry::Stream(stream) => stream.put_info(info),
+        }
+    }
+
+    /// A symbol comes, of a block that was not handed up whole: it is kept where it is news, and a block of which none is
+    /// lacking then is solved. `row` is room for the symbols of a block of data or a file, and `scratch` for those of a stream.
+    ///
+    /// # Errors
+    ///
+    /// `Memory` where memory runs out, which a symbol of a stream takes; then nothing changes.
+    pub fn offer(
+        &mut self,
+        id: PayloadId,
+        payload: &[u8],
+        row: &mut [u8],
+        scratch: &mut Scratch,
+    ) -> Result<Put, Memory>
+        requires kind { IsOfKind self.old }
+        requires reached { (entry_of self.old).point.block ≤ id.block }
+        requires row { (entry_of self.old).plan.fti.b * (entry_of self.old).plan.fti.e ≤ length row.old }
+        requires scratch { scratch.old ≡ record { k = (entry_of self.old).plan.fti.b; size = (entry_of self.old).plan.fti.e + 8 } }
+        ensures word { IfOk result (λ word. (p : Settings) → IsOfProfile p (entry_of self.old)
+            → word ≡ put_by p (alone_in (entry_of self.old)) (entry_of self.old).plan (position (entry_of self.old).plan.index id.block id.symbol) payload.now) }
+        ensures state { IfOk result (λ word. entry_of self.new ≡ with_word word id.block id.symbol payload.now (entry_of self.old)) }
+        ensures refused { OnErr result (entry_of self.new ≡ entry_of self.old) }
+        ensures kind { IsOfKind self.new }
+        ensures row { length row.new ≡ length row.old }
+        ensures scratch { scratch.new ≡ scratch.old }
+    {
+        match self {
+            Entry::Object(object) => Ok(object.offer(id.block, id.symbol, payload, row)),
+            Entry::Stream(stream) => stream.offer(id.block, id.symbol, payload, scratch),
+        }
+    }
+}
