@@ -43,3 +43,5 @@ pub mod Summed
 pub mod Rising
 pub mod Heard
 pub mod Retired
+pub mod Moved
+pub mod Shifted
