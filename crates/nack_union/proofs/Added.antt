@@ -2,7 +2,7 @@
 use Rattle.std.proofs.Common.{◌≡◌, ℕ, suc, ◌+◌, ◌<◌, ◌≤◌, ◌⊎◌, inl, inr, List, [], ◌∷◌, ◌++◌, map, length, get_or, Bool, true, false, Option, None, refl, sym, ap, subst, ◌∙◌, arith, flat_map}
 use Rattle.std.specs.Prelude.{drop, filter, max, nat_lt, ◌||◌}
 use Rattle.std.specs.List.{AllByRecursion}
-use Rattle.std.proofs.lemmas.Bool.{cases_lt}
+use Rattle.std.proofs.lemmas.Bool.{cases_lt, le-ltb}
 use Rattle.std.proofs.lemmas.List.{get_or_past}
 use Rattle.std.proofs.lemmas.List.Concat.{flat_map-append}
 use Rattle.norm_base.specs.Settings.{Settings}
@@ -11,7 +11,7 @@ use Rattle.fec_plan.specs.Points.{point}
 use Rattle.norm_ext.specs.Asking.{Named, named, asked_counts}
 use Rattle.norm_ext.specs.Requests.{Request}
 use Rattle.norm_order.specs.Sets.{is_member}
-use Rattle.norm_order.specs.Shapes.{Shape}
+use Rattle.norm_order.specs.Shapes.{Shape, closed_in}
 use Rattle.norm_send_rules.specs.SenderState.{SenderState, Asked}
 use Rattle.norm_send_rules.specs.InWindow.{stands_behind, current_shapes, next_index, last_index}
 use Rattle.norm_send_rules.specs.Asking.{wants_of, counts_of}
@@ -22,7 +22,8 @@ use Rattle.norm_send_rules.specs.Wants.{want_before}
 use Rattle.norm_send_rules.specs.declared.want.Want.{Want}
 use Rattle.norm_send_rules.proofs.ClosingLemmas.{rise_more}
 use Rattle.nack_union.specs.Slots.{want_at, slot_of_want}
-use Rattle.nack_union.specs.Kept.{Marked, Kept, Holds, listed, shape_of_marked, admitted}
+use Rattle.nack_union.specs.Kept.{Marked, Kept, Holds, listed, shape_of_marked, symbols_of_marked, admitted}
+use Rattle.nack_union.specs.More.{kept_count}
 use Rattle.nack_union.specs.Earliest.{lesser, earliest, earliest_with}
 use Rattle.nack_union.specs.Collected.{Collects, asked_of}
 use Rattle.nack_union.specs.Adding.{IsPlanned, HasAsked, HasAdded, asks_slot, is_asked_slot}
@@ -34,7 +35,8 @@ use Rattle.nack_union.proofs.Sources.{any_in, in_any, map_in, in_map}
 use Rattle.nack_union.proofs.Came.{all_at}
 use Rattle.nack_union.proofs.NamedSymbols.{one_of, of_right}
 use Rattle.nack_union.proofs.AskedSlots.{AsksAt, slot_in, in_slot}
-use Rattle.nack_union.proofs.AskedCounts.{greatest_both, all_kept, none_past}
+use Rattle.nack_union.proofs.AskedCounts.{greatest_both, counts_kept, none_kept}
+use Rattle.nack_union.proofs.Wholes.{closed_past}
 use Rattle.nack_union.proofs.Risen.{in_set, set_in, rising_self, found_in, is_found, in_listed}
 
 -- what each place has the same of
@@ -218,15 +220,18 @@ module _ (p : Settings) (s : SenderState) (old new : Kept) (asked : List Asked) 
           ≡ max (greatest (flat_map (counts_of (current_shapes p s)) asked) (point (old.first + k) block)) (greatest (flat_map (counts_of (current_shapes p s)) more) (point (old.first + k) block))
       go (inl less) =
           each.counts block less
-          ∙ ap (λ n. max n (greatest (flat_map asked_counts requests) (point (old.first + k) block))) (col.counts k d lt block)
+          ∙ ap (λ n. max n (kept_count (symbols_of_marked (get_or old.objects k d)) block (greatest (flat_map asked_counts requests) (point (old.first + k) block)))) (col.counts k d lt block)
           ∙ ap (max (greatest (flat_map (counts_of (current_shapes p s)) asked) (point (old.first + k) block)))
-          (sym (all_kept p s old d st planned requests k block lt (let all = plan.counts in omega (arith, less, all))))
+          (counts_kept p s old d st planned requests k block lt)
       go (inr past) =
           let here = get_or_past (get_or new.objects k d).counts block 0 (let many = each.blocks in omega (arith, past, many)) in
           let before = get_or_past (get_or old.objects k d).counts block 0 past in
           let was = col.counts k d lt block in
-          let now = none_past p s old d st planned requests k block lt (let all = plan.counts in omega (arith, past, all)) in
+          let now = none_kept p s old d st planned requests k block lt (empty (closed_past (get_or old.objects k d) block plan (let all = plan.counts in omega (arith, past, all)))) in
           omega (arith, here, before, was, now)
+        where
+          empty : closed_in (shape_of_marked (get_or old.objects k d)) block ≡ 0 → nat_lt 0 (closed_in (shape_of_marked (get_or old.objects k d)) block) ≡ false
+          empty e = ap (nat_lt 0) e ∙ le-ltb 0 0 (omega arith)
 
   -- Requests that were added as they came are collected.
   pub collects_more : Collects p new s (asked ++ more)

@@ -18,6 +18,7 @@ pub mod Collections
 pub mod Windows
 pub mod Sources
 pub mod Wholes
+pub mod Ends
 pub mod Came
 pub mod NamedSymbols
 pub mod AskedSlots

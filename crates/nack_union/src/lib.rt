@@ -4,6 +4,7 @@
 #![tactic(auto)]
 
 mod asking;
+mod closed;
 mod collection;
 mod coverage;
 mod earliest;

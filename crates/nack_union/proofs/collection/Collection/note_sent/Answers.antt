@@ -53,6 +53,6 @@ note_sent-requires c =
     let encoded = subst (λ (u : Kept). IsEncodedIn u c.args.at) (sym view) c.requires in
     let there = there_at items (c.at.inside.index - c.self.inside.first) m (omega (arith, first, many, encoded.first, encoded.object, at)) c.index_mut-object.ensures.value in
     subst (λ n. n < slots (blocks m.cut)) (sym (c.slot_of.ensures.slot ∙ ap (λ (x : Position). symbol_slot x.block x.symbol) c.at.view_is))
-    (slot_there m c.args.at.block c.args.at.symbol c.hold.ensures.planned.sound
+    (slot_there m c.args.at.block c.args.at.symbol c.hold.ensures.planned
     (encoded.symbol m (subst (λ (x : Position). slice_get items (x.index - c.self.inside.first) ≡ Some m) c.at.view_is there))
     (subst (λ (x : Position). x.symbol < 256) c.at.view_is c.slot_of.ensures.named))
