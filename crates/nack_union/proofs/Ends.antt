@@ -101,7 +101,7 @@ own_or true own found = found
 own_or false own found = Some own
 
 -- the last closed source symbol of a shape that has one
-abbrev own_last : ℕ → Shape → Position
+abbrev pub own_last : ℕ → Shape → Position
 own_last index s = position index (closed_blocks s - 1) (closed_in s (closed_blocks s - 1) - 1)
 
 found_is : (index : ℕ) (found : Option Position) (s : Shape) → found_by index found s ≡ own_or (s.closed == 0) (own_last index s) found
@@ -194,3 +194,27 @@ closed_by_last index found (x ∷ shapes) zero s before e ends =
 closed_by_last index found (x ∷ shapes) (suc k) s before e ends =
     ap (λ i. closed_at (last_from (index + 1) (found_by index found x) shapes) i s) (let f : index + suc k ≡ index + 1 + k = omega arith in f)
     ∙ closed_by_last (index + 1) (found_by index found x) shapes k s (before_next index found x before) e ends
+
+-- the last closed source symbol of an order is the last of one of its shapes, or one that was found before
+pub last_owned : (index : ℕ) (found : Option Position) (shapes : List Shape) (at : Position) → last_from index found shapes ≡ Some at
+    → (found ≡ Some at) ⊎ ((k : ℕ) × (s : Shape) × (slice_get shapes k ≡ Some s) × (at ≡ own_last (index + k) s) × (0 < s.closed))
+unfolding last_from
+last_owned index found [] at e = inl e
+last_owned index found (x ∷ shapes) at e = go (last_owned (index + 1) (found_by index found x) shapes at e)
+  where
+    some : (n : ℕ) → (n == 0) ≡ false → 0 < n
+    some zero h = absurd (cc)
+    some (suc n) h = omega arith
+
+    by : (b : Bool) → (x.closed == 0) ≡ b → own_or b (own_last index x) found ≡ Some at
+        → (found ≡ Some at) ⊎ ((k : ℕ) × (s : Shape) × (slice_get (x ∷ shapes) k ≡ Some s) × (at ≡ own_last (index + k) s) × (0 < s.closed))
+    by true is h = inl h
+    by false is h = inr (0, x, refl, same h ∙ ap (λ i. own_last i x) (let f : index ≡ index + 0 = omega arith in f), some x.closed is)
+      where
+        same : Some (own_last index x) ≡ Some at → at ≡ own_last index x
+        same g = cc
+
+    go : (found_by index found x ≡ Some at) ⊎ ((k : ℕ) × (s : Shape) × (slice_get shapes k ≡ Some s) × (at ≡ own_last (index + 1 + k) s) × (0 < s.closed))
+        → (found ≡ Some at) ⊎ ((k : ℕ) × (s : Shape) × (slice_get (x ∷ shapes) k ≡ Some s) × (at ≡ own_last (index + k) s) × (0 < s.closed))
+    go (inl h) = by (x.closed == 0) refl (sym (found_is index found x) ∙ h)
+    go (inr (k, s, there, is, more)) = inr (suc k, s, there, is ∙ ap (λ i. own_last i s) (let f : index + 1 + k ≡ index + suc k = omega arith in f), more)

@@ -44,5 +44,6 @@ pub mod Summed
 pub mod Rising
 pub mod Heard
 pub mod Retired
+pub mod Grown
 pub mod Moved
 pub mod Shifted

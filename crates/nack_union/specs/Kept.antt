@@ -83,6 +83,10 @@ retired index u = record u { first = index; objects = drop (index - u.first) u.o
 abbrev pub with_marks : ℕ → Marked → Kept → Kept
 with_marks index m u = record u { objects = set u.objects (index - u.first) m }
 
+-- the union of which so many segments of the last object, a stream, are closed
+abbrev pub grown_to : ℕ → Marked → Kept → Kept
+grown_to closed m u = record u { objects = set u.objects (length u.objects - 1) (record m { closed = closed }) }
+
 -- a union as an instance begins
 abbrev pub begun_union : Kept
 begun_union = record { first = 0; objects = []; earliest = None }

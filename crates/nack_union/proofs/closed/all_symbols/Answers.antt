@@ -1,4 +1,4 @@
-use Rattle.std.proofs.Common.{◌≡◌, ◌-◌, ◌<◌, ap, ◌∙◌, arith}
+use Rattle.std.proofs.Common.{◌-◌, ◌<◌, ap, ◌∙◌, arith}
 use Rattle.fec_plan.specs.Partition.{blocks, source_symbols, symbol_number}
 use Rattle.fec_plan.proofs.PartitionLemmas.{some_blocks_of}
 use Rattle.nack_union.proofs.Counted.{block_fits}

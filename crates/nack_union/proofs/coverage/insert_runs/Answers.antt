@@ -2,7 +2,7 @@ use Rattle.std.proofs.Common.{◌≡◌, ◌<◌, ◌≤◌, ◌+◌, refl, ap, 
 use Rattle.std.specs.Prelude.{◌||◌, ◌&&◌, max}
 use Rattle.std.proofs.Math.Bool.{or_assoc}
 use Rattle.norm_order.specs.Sets.{is_member}
-use Rattle.fec_plan.specs.Partition.{blocks, source_symbols, symbol_number}
+use Rattle.fec_plan.specs.Partition.{blocks}
 use Rattle.norm_order.specs.Shapes.{closed_in}
 use Rattle.nack_union.specs.Repairs.{shape_closed}
 use Rattle.nack_union.specs.Coverage.{farthest}

@@ -1,4 +1,4 @@
-use Rattle.std.proofs.Common.{◌+◌, ◌<◌, ◌≤◌, get_or, length, refl, ap, sym, ◌∙◌, arith}
+use Rattle.std.proofs.Common.{arith}
 use Rattle.nack_union.proofs.Moved.{word_moved, word_left, all_moved}
 use Rattle.nack_union.proofs.mask.move_words.Goals as goal
 

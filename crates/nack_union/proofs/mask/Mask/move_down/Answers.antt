@@ -1,9 +1,8 @@
-use Rattle.std.proofs.Common.{◌≡◌, ◌+◌, ◌*◌, ◌≤◌, ℕ, List, get_or, length, ap, sym, ◌∙◌, arith, nat_lt}
+use Rattle.std.proofs.Common.{◌≡◌, ◌+◌, ◌*◌, ℕ, List, get_or, length, ap, ◌∙◌, arith, nat_lt}
 use Rattle.std.specs.Vec.{with_items}
 use Rattle.std.proofs.lemmas.List.{with_items_is}
 use Rattle.norm_order.specs.Sets.{is_member}
 use Rattle.nack_union.specs.Places.{Places}
-use Rattle.nack_union.specs.Words.{has_bit}
 use Rattle.nack_union.proofs.Moved.{rest_moved, front_moved, members_moved}
 use Rattle.nack_union.proofs.mask.Mask.move_down.Goals as goal
 

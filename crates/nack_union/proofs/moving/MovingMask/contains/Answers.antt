@@ -1,4 +1,4 @@
-use Rattle.std.proofs.Common.{◌≤◌, nat_lt, ap, sym, ◌∙◌, arith}
+use Rattle.std.proofs.Common.{nat_lt, ap, sym, ◌∙◌, arith}
 use Rattle.norm_order.specs.Sets.{is_member}
 use Rattle.nack_union.specs.Stretches.{Stretch}
 use Rattle.nack_union.proofs.Shifted.{member_from}

@@ -1,4 +1,4 @@
-use Rattle.std.proofs.Common.{◌+◌, ◌≤◌, nat_lt, ap, sym, ◌∙◌, arith}
+use Rattle.std.proofs.Common.{◌+◌, nat_lt, ap, sym, ◌∙◌, arith}
 use Rattle.std.specs.Prelude.{not}
 use Rattle.norm_order.specs.Sets.{with_member, is_member}
 use Rattle.nack_union.specs.Stretches.{Stretch}

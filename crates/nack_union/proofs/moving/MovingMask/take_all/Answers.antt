@@ -1,4 +1,4 @@
-use Rattle.std.proofs.Common.{◌≡◌, ◌+◌, ℕ, List, nat_lt, ap, sym, ◌∙◌}
+use Rattle.std.proofs.Common.{◌≡◌, ◌+◌, nat_lt, ap, sym, ◌∙◌}
 use Rattle.norm_order.specs.Sets.{with_members}
 use Rattle.nack_union.specs.Stretches.{Stretch}
 use Rattle.nack_union.proofs.Shifted.{moved_up, with_all_up, stretch_is}
