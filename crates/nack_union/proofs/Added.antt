@@ -1,17 +1,19 @@
 -- What a union has collected and stands for after requests were added.
-use Rattle.std.proofs.Common.{◌≡◌, ℕ, suc, ◌+◌, ◌<◌, ◌≤◌, ◌⊎◌, inl, inr, List, [], ◌∷◌, ◌++◌, map, length, get_or, Bool, true, false, Option, None, refl, sym, ap, subst, ◌∙◌, arith, flat_map}
-use Rattle.std.specs.Prelude.{drop, filter, max, nat_lt, ◌||◌}
+use Rattle.std.proofs.Common.{◌≡◌, ℕ, suc, ◌+◌, ◌-◌, ◌<◌, ◌≤◌, ◌⊎◌, inl, inr, List, [], ◌∷◌, ◌++◌, map, length, get_or, Bool, true, false, Option, None, Some, refl, sym, ap, subst, ◌∙◌, arith, flat_map}
+use Rattle.std.specs.Prelude.{drop, filter, max, nat_lt, ◌||◌, IfSome, slice_get}
 use Rattle.std.specs.List.{AllByRecursion}
-use Rattle.std.proofs.lemmas.Bool.{cases_lt}
-use Rattle.std.proofs.lemmas.List.{get_or_past}
+use Rattle.std.proofs.lemmas.Bool.{cases_lt, le-ltb}
+use Rattle.std.proofs.lemmas.List.{get_or_past, length-map}
 use Rattle.std.proofs.lemmas.List.Concat.{flat_map-append}
 use Rattle.norm_base.specs.Settings.{Settings}
-use Rattle.fec_plan.specs.Partition.{stream_cut}
+use Rattle.fec_plan.specs.Partition.{stream_cut, symbol_number}
+use Rattle.fec_plan.specs.declared.position.Position.{Position}
+use Rattle.norm_order.specs.Entries.{Entry}
 use Rattle.fec_plan.specs.Points.{point}
 use Rattle.norm_ext.specs.Asking.{Named, named, asked_counts}
 use Rattle.norm_ext.specs.Requests.{Request}
 use Rattle.norm_order.specs.Sets.{is_member}
-use Rattle.norm_order.specs.Shapes.{Shape}
+use Rattle.norm_order.specs.Shapes.{Shape, shape_of, closed_in, closed_blocks, last_source}
 use Rattle.norm_send_rules.specs.SenderState.{SenderState, Asked}
 use Rattle.norm_send_rules.specs.InWindow.{stands_behind, current_shapes, next_index, last_index}
 use Rattle.norm_send_rules.specs.Asking.{wants_of, counts_of}
@@ -22,9 +24,10 @@ use Rattle.norm_send_rules.specs.Wants.{want_before}
 use Rattle.norm_send_rules.specs.declared.want.Want.{Want}
 use Rattle.norm_send_rules.proofs.ClosingLemmas.{rise_more}
 use Rattle.nack_union.specs.Slots.{want_at, slot_of_want}
-use Rattle.nack_union.specs.Kept.{Marked, Kept, Holds, listed, shape_of_marked, admitted}
+use Rattle.nack_union.specs.Kept.{Marked, Kept, Holds, listed, shape_of_marked, symbols_of_marked, admitted}
+use Rattle.nack_union.specs.More.{kept_count}
 use Rattle.nack_union.specs.Earliest.{lesser, earliest, earliest_with}
-use Rattle.nack_union.specs.Collected.{Collects, asked_of}
+use Rattle.nack_union.specs.Collected.{Collects, IsKnownIn, asked_of}
 use Rattle.nack_union.specs.Adding.{IsPlanned, HasAsked, HasAdded, asks_slot, is_asked_slot}
 use Rattle.nack_union.proofs.Orders.{want_there}
 use Rattle.nack_union.proofs.Dropped.{behind_start, index_at}
@@ -32,9 +35,12 @@ use Rattle.nack_union.proofs.Members.{member_at}
 use Rattle.nack_union.proofs.Lists.{In, in_left, in_right, in_either, flat_in, in_flat, filter_in, in_filter, same_set}
 use Rattle.nack_union.proofs.Sources.{any_in, in_any, map_in, in_map}
 use Rattle.nack_union.proofs.Came.{all_at}
+use Rattle.nack_union.proofs.Ends.{own_last, last_owned, marked_ends}
+use Rattle.nack_union.proofs.Collecting.{window_shape, past_end}
 use Rattle.nack_union.proofs.NamedSymbols.{one_of, of_right}
 use Rattle.nack_union.proofs.AskedSlots.{AsksAt, slot_in, in_slot}
-use Rattle.nack_union.proofs.AskedCounts.{greatest_both, all_kept, none_past}
+use Rattle.nack_union.proofs.AskedCounts.{greatest_both, counts_kept, none_kept}
+use Rattle.nack_union.proofs.Wholes.{closed_past}
 use Rattle.nack_union.proofs.Risen.{in_set, set_in, rising_self, found_in, is_found, in_listed}
 
 -- what each place has the same of
@@ -79,13 +85,83 @@ stands_added p s old new requests st h = record {
       ∙ st.sent;
 }
 
-known_all : (n : ℕ) (xs ys : List Asked) → AllByRecursion (λ (a : Asked). a.next ≤ n) xs → AllByRecursion (λ (a : Asked). a.next ≤ n) ys → AllByRecursion (λ (a : Asked). a.next ≤ n) (xs ++ ys)
-known_all n [] ys these those = those
-known_all n (x ∷ xs) ys these those = (these.0, known_all n xs ys these.1 those)
+known_all : (u : Kept) (n : ℕ) (xs ys : List Asked) → AllByRecursion (IsKnownIn u n) xs → AllByRecursion (IsKnownIn u n) ys → AllByRecursion (IsKnownIn u n) (xs ++ ys)
+known_all u n [] ys these those = those
+known_all u n (x ∷ xs) ys these those = (these.0, known_all u n xs ys these.1 those)
 
-known_now : (p : Settings) (s : SenderState) (requests : List Named) → AllByRecursion (λ (a : Asked). a.next ≤ next_index s) (map (asked_of p s) requests)
-known_now p s [] = tt
-known_now p s (r ∷ requests) = (omega arith, known_now p s requests)
+-- the last closed source symbol is of the order, and of an object of the window it is the last that is closed
+last_known : (p : Settings) (s : SenderState) (u : Kept) → Holds p u s → AllByRecursion IsPlanned u.objects
+    → IfSome (last_source (current_shapes p s)) (λ at. (at.index < next_index s) × ((k : ℕ) (d : Marked) → k < length u.objects → at.index ≡ u.first + k
+    → symbol_number (get_or u.objects k d).cut at.block at.symbol + 1 ≤ (get_or u.objects k d).closed))
+last_known p s u st planned = by (last_source (current_shapes p s)) refl
+  where
+    same_some : (x y : Shape) → Some x ≡ Some y → x ≡ y
+    same_some x y e = cc
+
+    none : {A : Position} → None ≡ Some A → ⊥
+    none e = cc
+
+    own : (at : Position) → (k : ℕ) × (x : Shape) × (slice_get (current_shapes p s) k ≡ Some x) × (at ≡ own_last (0 + k) x) × (0 < x.closed)
+        → (at.index < next_index s) × ((k : ℕ) (d : Marked) → k < length u.objects → at.index ≡ u.first + k
+        → symbol_number (get_or u.objects k d).cut at.block at.symbol + 1 ≤ (get_or u.objects k d).closed)
+    own at (i, x, there, is, some) = (
+      (let past = past_end (current_shapes p s) i x there in let index = ap (λ (q : Position). q.index) is in omega (arith, past, index, length-map s.current.order (λ (e : Entry). shape_of p e.object))),
+      λ k d lt at_k.
+          let index = ap (λ (q : Position). q.index) is in
+          let place : u.first + k ≡ i = omega (arith, index, at_k) in
+          let shape : x ≡ shape_of_marked (get_or u.objects k d) =
+          same_some x (shape_of_marked (get_or u.objects k d)) (sym there ∙ ap (slice_get (current_shapes p s)) (sym place) ∙ window_shape p s u k d st lt) in
+          ends k d lt x at (ap (λ (q : Position). q.block) is) (ap (λ (q : Position). q.symbol) is) some shape,
+    )
+      where
+        ends : (k : ℕ) (d : Marked) → k < length u.objects → (x : Shape) (at : Position) → at.block ≡ closed_blocks x - 1 → at.symbol ≡ closed_in x (closed_blocks x - 1) - 1
+            → 0 < x.closed → x ≡ shape_of_marked (get_or u.objects k d)
+            → symbol_number (get_or u.objects k d).cut at.block at.symbol + 1 ≤ (get_or u.objects k d).closed
+        ends k d lt x at block symbol some shape =
+            let m : Marked = get_or u.objects k d in
+            let last = marked_ends m (all_at u.objects k d planned lt) (subst (λ (y : Shape). 0 < y.closed) shape some) in
+            let number =
+            ap (λ b. symbol_number m.cut b at.symbol) (block ∙ ap (λ (y : Shape). closed_blocks y - 1) shape)
+            ∙ ap (symbol_number m.cut (closed_blocks (shape_of_marked m) - 1)) (symbol ∙ ap (λ (y : Shape). closed_in y (closed_blocks y - 1) - 1) shape) in
+            omega (arith, last, number)
+
+    by : (last : Option Position) → last_source (current_shapes p s) ≡ last
+        → IfSome last (λ at. (at.index < next_index s) × ((k : ℕ) (d : Marked) → k < length u.objects → at.index ≡ u.first + k
+        → symbol_number (get_or u.objects k d).cut at.block at.symbol + 1 ≤ (get_or u.objects k d).closed))
+    by None e = tt
+    by (Some at) e = go (last_owned 0 None (current_shapes p s) at e)
+      where
+        go : (None ≡ Some at) ⊎ ((k : ℕ) × (x : Shape) × (slice_get (current_shapes p s) k ≡ Some x) × (at ≡ own_last (0 + k) x) × (0 < x.closed))
+            → (at.index < next_index s) × ((k : ℕ) (d : Marked) → k < length u.objects → at.index ≡ u.first + k
+            → symbol_number (get_or u.objects k d).cut at.block at.symbol + 1 ≤ (get_or u.objects k d).closed)
+        go (inl h) = absurd (none h)
+        go (inr found) = own at found
+
+known_now : (p : Settings) (s : SenderState) (u : Kept) → Holds p u s → AllByRecursion IsPlanned u.objects → (requests : List Named) → AllByRecursion (IsKnownIn u (next_index s)) (map (asked_of p s) requests)
+known_now p s u st planned [] = tt
+known_now p s u st planned (r ∷ requests) = (record { next = omega arith; last = last_known p s u st planned }, known_now p s u st planned requests)
+
+-- what is known stays where cuts and closed symbols do
+known_added : (old new : Kept) (requests : List Named) (n : ℕ) (asked : List Asked) → HasAdded requests old new → AllByRecursion (IsKnownIn old n) asked → AllByRecursion (IsKnownIn new n) asked
+known_added old new requests n [] h known = tt
+known_added old new requests n (a ∷ asked) h known = (record { next = known.0.next; last = by a.last known.0.last }, known_added old new requests n asked h known.1)
+  where
+    by : (last : Option Position)
+        → IfSome last (λ at. (at.index < n) × ((j : ℕ) (e : Marked) → j < length old.objects → at.index ≡ old.first + j
+        → symbol_number (get_or old.objects j e).cut at.block at.symbol + 1 ≤ (get_or old.objects j e).closed))
+        → IfSome last (λ at. (at.index < n) × ((j : ℕ) (e : Marked) → j < length new.objects → at.index ≡ new.first + j
+        → symbol_number (get_or new.objects j e).cut at.block at.symbol + 1 ≤ (get_or new.objects j e).closed))
+    by None know = know
+    by (Some at) know = (
+      know.0,
+      λ j e less is.
+          let within : j < length old.objects = let many = h.objects in omega (arith, less, many) in
+          let le = know.1 j e within (let first = h.first in omega (arith, is, first)) in
+          let rest = (h.each j e within).rest in
+          let number = ap (λ (m : Marked). symbol_number m.cut at.block at.symbol) rest in
+          let many = ap (λ (m : Marked). m.closed) rest in
+          omega (arith, le, number, many),
+    )
 
 -- the least index of more requests
 later : (p : Settings) (s : SenderState) (found : Option ℕ) (asked : List Asked) (requests : List Named)
@@ -218,21 +294,24 @@ module _ (p : Settings) (s : SenderState) (old new : Kept) (asked : List Asked) 
           ≡ max (greatest (flat_map (counts_of (current_shapes p s)) asked) (point (old.first + k) block)) (greatest (flat_map (counts_of (current_shapes p s)) more) (point (old.first + k) block))
       go (inl less) =
           each.counts block less
-          ∙ ap (λ n. max n (greatest (flat_map asked_counts requests) (point (old.first + k) block))) (col.counts k d lt block)
+          ∙ ap (λ n. max n (kept_count (symbols_of_marked (get_or old.objects k d)) block (greatest (flat_map asked_counts requests) (point (old.first + k) block)))) (col.counts k d lt block)
           ∙ ap (max (greatest (flat_map (counts_of (current_shapes p s)) asked) (point (old.first + k) block)))
-          (sym (all_kept p s old d st planned requests k block lt (let all = plan.counts in omega (arith, less, all))))
+          (counts_kept p s old d st planned requests k block lt)
       go (inr past) =
           let here = get_or_past (get_or new.objects k d).counts block 0 (let many = each.blocks in omega (arith, past, many)) in
           let before = get_or_past (get_or old.objects k d).counts block 0 past in
           let was = col.counts k d lt block in
-          let now = none_past p s old d st planned requests k block lt (let all = plan.counts in omega (arith, past, all)) in
+          let now = none_kept p s old d st planned requests k block lt (empty (closed_past (get_or old.objects k d) block plan (let all = plan.counts in omega (arith, past, all)))) in
           omega (arith, here, before, was, now)
+        where
+          empty : closed_in (shape_of_marked (get_or old.objects k d)) block ≡ 0 → nat_lt 0 (closed_in (shape_of_marked (get_or old.objects k d)) block) ≡ false
+          empty e = ap (nat_lt 0) e ∙ le-ltb 0 0 (omega arith)
 
   -- Requests that were added as they came are collected.
   pub collects_more : Collects p new s (asked ++ more)
   collects_more = record {
     earliest = h.earliest ∙ ap (λ found. earliest_with found requests) col.earliest ∙ sym (later p s None asked requests);
-    known = known_all (next_index s) asked more col.known (known_now p s requests);
+    known = known_added old new requests (next_index s) (asked ++ more) h (known_all old (next_index s) asked more col.known (known_now p s old st planned requests));
     named = sym (rising_self (collected new) h.rise) ∙ same_set (collected new) (filter behind (flat_map wants (asked ++ more))) [] there back;
     counts = λ k d lt block.
         count_is k d (let many = h.objects in omega (arith, lt, many)) block

@@ -2,10 +2,9 @@
 use Rattle.std.proofs.Common.{◌≡◌, ℕ, ◌+◌, ◌<◌, ◌≤◌, ◌⊎◌, inl, inr, List, [], ◌∷◌, ◌++◌, map, length, get_or, Bool, true, false, cond, refl, sym, ap, subst, ◌∙◌, arith, flat_map}
 use Rattle.std.specs.Prelude.{filter, fold, max, nat_lt, not, ◌&&◌}
 use Rattle.std.specs.List.{AllByRecursion}
-use Rattle.std.proofs.lemmas.Bool.{cases_lt, lt-ltb, ltb-true}
+use Rattle.std.proofs.lemmas.Bool.{cases_lt}
 use Rattle.std.proofs.lemmas.Bool.Decides.{Decides-eqb, Decides-and}
 use Rattle.norm_base.specs.Settings.{Settings}
-use Rattle.fec_plan.specs.Partition.{IsSound, blocks}
 use Rattle.fec_plan.specs.Points.{Point, point, point_before, position, same_point}
 use Rattle.norm_ext.specs.Asking.{Named, Count, asked_counts}
 use Rattle.norm_order.specs.Shapes.{closed_in}
@@ -15,17 +14,14 @@ use Rattle.norm_send_rules.specs.Asking.{as_it_came, counts_of, is_kept}
 use Rattle.norm_send_rules.specs.Closing.{greatest}
 use Rattle.nack_union.specs.Collected.{asked_of}
 use Rattle.norm_send_rules.specs.declared.want.Want.TheVariants.{Symbol}
-use Rattle.fec_plan.proofs.PartitionLemmas.{some_sources}
-use Rattle.nack_union.specs.Kept.{Marked, Kept, Holds, shape_of_marked}
+use Rattle.nack_union.specs.Kept.{Marked, Kept, Holds, shape_of_marked, symbols_of_marked}
+use Rattle.nack_union.specs.More.{kept_count}
 use Rattle.nack_union.specs.Adding.{IsPlanned}
 use Rattle.nack_union.proofs.AskedSlots.{test_at}
-use Rattle.nack_union.proofs.Came.{all_at}
 use Rattle.nack_union.proofs.Collecting.{some_greatest}
-use Rattle.nack_union.proofs.Counted.{closed_is}
 use Rattle.nack_union.proofs.Dropped.{behind_start}
 use Rattle.nack_union.proofs.Lists.{In, in_flat, in_filter}
 use Rattle.nack_union.proofs.Sources.{in_map}
-use Rattle.nack_union.proofs.Wholes.{closed_past}
 
 abbrev pub most : List Count → ℕ
 most counts = fold (λ n (c : Count). max n c.lacking) 0 counts
@@ -77,22 +73,18 @@ module _ (p : Settings) (s : SenderState) (u : Kept) (d : Marked) (st : Holds p 
   abbrev kept_at : Named → Point → Bool
   kept_at r at = is_kept (as_it_came (asked_of p s r) (current_shapes p s)) s.current.drop at
 
-  -- a block of the window is kept
-  block_kept : (r : Named) (k block : ℕ) → k < length u.objects → block < blocks (get_or u.objects k d).cut → kept_at r (point (u.first + k) block) ≡ true
-  block_kept r k block lt less =
+  -- a block of the window of which something is closed is kept
+  block_kept : (r : Named) (k block : ℕ) → k < length u.objects → nat_lt 0 (closed_in (shape_of_marked (get_or u.objects k d)) block) ≡ true → kept_at r (point (u.first + k) block) ≡ true
+  block_kept r k block lt some =
       go _ _ (behind_start s.current.drop (Symbol (position (u.first + k) block 0)) st.whole (let f = st.first in omega (arith, f)))
-      (test_at p s u r d st planned k lt (λ x. nat_lt 0 (closed_in x block))
-      ∙ lt-ltb 0 (closed_in (shape_of_marked (get_or u.objects k d)) block) (let all = closed_is (get_or u.objects k d) block sound less in let some = some_sources (get_or u.objects k d).cut block sound in omega (arith, all, some)))
+      (test_at p s u r d st planned k lt (λ x. nat_lt 0 (closed_in x block)) ∙ some)
     where
-      sound : IsSound (get_or u.objects k d).cut
-      sound = (all_at u.objects k d planned lt).sound
-
       go : (b c : Bool) → b ≡ true → c ≡ true → (b && c) ≡ true
       go true c e f = f
       go false c e f = absurd (cc)
 
   -- so that of such a block the rules keep all counts
-  pub all_kept : (requests : List Named) (k block : ℕ) → k < length u.objects → block < blocks (get_or u.objects k d).cut
+  pub all_kept : (requests : List Named) (k block : ℕ) → k < length u.objects → nat_lt 0 (closed_in (shape_of_marked (get_or u.objects k d)) block) ≡ true
       → greatest (flat_map (counts_of (current_shapes p s)) (map (asked_of p s) requests)) (point (u.first + k) block)
       ≡ greatest (flat_map asked_counts requests) (point (u.first + k) block)
   all_kept [] k block lt less = refl
@@ -103,13 +95,16 @@ module _ (p : Settings) (s : SenderState) (u : Kept) (d : Marked) (st : Holds p 
       ∙ ap (max (greatest (asked_counts r) (point (u.first + k) block))) (all_kept requests k block lt less)
       ∙ sym (greatest_both (asked_counts r) (flat_map asked_counts requests) (point (u.first + k) block))
 
-  -- and of one that the object has not, none
-  pub none_past : (requests : List Named) (k block : ℕ) → k < length u.objects → blocks (get_or u.objects k d).cut ≤ block
+  -- and of one of which nothing is closed, none
+  pub none_kept : (requests : List Named) (k block : ℕ) → k < length u.objects → nat_lt 0 (closed_in (shape_of_marked (get_or u.objects k d)) block) ≡ false
       → greatest (flat_map (counts_of (current_shapes p s)) (map (asked_of p s) requests)) (point (u.first + k) block) ≡ 0
-  none_past requests k block lt past = go (cases_lt 0 (greatest counts (point (u.first + k) block)))
+  none_kept requests k block lt empty = go (cases_lt 0 (greatest counts (point (u.first + k) block)))
     where
       counts : List Count
       counts = flat_map (counts_of (current_shapes p s)) (map (asked_of p s) requests)
+
+      clash : false ≡ true → ⊥
+      clash h = cc
 
       second : (b c : Bool) → (b && c) ≡ true → c ≡ true
       second true c e = e
@@ -117,9 +112,7 @@ module _ (p : Settings) (s : SenderState) (u : Kept) (d : Marked) (st : Holds p 
 
       refuted : (r : Named) → kept_at r (point (u.first + k) block) ≡ true → ⊥
       refuted r e =
-          let some = ltb-true 0 (closed_in (shape_of_marked (get_or u.objects k d)) block) (sym (test_at p s u r d st planned k lt (λ x. nat_lt 0 (closed_in x block))) ∙ second (not (point_before (point (u.first + k) block) s.current.drop)) _ e) in
-          let none = closed_past (get_or u.objects k d) block (all_at u.objects k d planned lt).sound past in
-          omega (arith, some, none)
+          clash (sym empty ∙ sym (test_at p s u r d st planned k lt (λ x. nat_lt 0 (closed_in x block))) ∙ second (not (point_before (point (u.first + k) block) s.current.drop)) _ e)
 
       go : (0 < greatest counts (point (u.first + k) block)) ⊎ (greatest counts (point (u.first + k) block) ≤ 0) → greatest counts (point (u.first + k) block) ≡ 0
       go (inl some) =
@@ -130,3 +123,15 @@ module _ (p : Settings) (s : SenderState) (u : Kept) (d : Marked) (st : Holds p 
           let kept = (in_filter (λ (c : Count). kept_at r.0 c.of) c.0 (asked_counts r.0) of).1 in
           absurd (refuted r.0 (sym (ap (kept_at r.0) c.2) ∙ kept))
       go (inr none) = omega (arith, none)
+
+  -- what the rules keep of the counts of a block
+  pub counts_kept : (requests : List Named) (k block : ℕ) → k < length u.objects
+      → kept_count (symbols_of_marked (get_or u.objects k d)) block (greatest (flat_map asked_counts requests) (point (u.first + k) block))
+      ≡ greatest (flat_map (counts_of (current_shapes p s)) (map (asked_of p s) requests)) (point (u.first + k) block)
+  counts_kept requests k block lt = by (nat_lt 0 (closed_in (symbols_of_marked (get_or u.objects k d)) block)) refl
+    where
+      by : (b : Bool) → nat_lt 0 (closed_in (symbols_of_marked (get_or u.objects k d)) block) ≡ b
+          → (elim b as (λ _. ℕ) [ true ↦ greatest (flat_map asked_counts requests) (point (u.first + k) block) | false ↦ 0 ])
+          ≡ greatest (flat_map (counts_of (current_shapes p s)) (map (asked_of p s) requests)) (point (u.first + k) block)
+      by true e = sym (all_kept requests k block lt e)
+      by false e = sym (none_kept requests k block lt e)

@@ -18,14 +18,14 @@ use Rattle.norm_send_rules.specs.declared.want.Want.{Want}
 use Rattle.norm_send_rules.specs.declared.want.Want.TheVariants.{Info, Symbol}
 use Rattle.fec_plan.proofs.PartitionLemmas.{sources_fit}
 use Rattle.nack_union.specs.Slots.{want_at, slot_of_want, IsNamed}
-use Rattle.nack_union.specs.Kept.{Marked, Kept, Holds, shape_of_marked}
+use Rattle.nack_union.specs.Kept.{Marked, Kept, Holds, shape_of_marked, symbols_of_marked}
 use Rattle.nack_union.specs.Adding.{IsPlanned, names_symbol, asks_symbol, asks_slot}
 use Rattle.nack_union.proofs.Collecting.{past_end}
-use Rattle.nack_union.proofs.Counted.{closed_is, encoded_is}
+use Rattle.nack_union.proofs.Counted.{encoded_fits}
 use Rattle.nack_union.proofs.Dropped.{not_behind_start}
 use Rattle.nack_union.proofs.Lists.{In, in_left, in_right, in_either, filter_in, in_filter}
 use Rattle.nack_union.proofs.Sources.{map_in, in_map, range_in, in_all_sources, all_sources_have}
-use Rattle.nack_union.proofs.Wholes.{blocks_closed, encoded_past}
+use Rattle.nack_union.proofs.Wholes.{in_closed, closed_past, encoded_past}
 use Rattle.nack_union.proofs.Came.{all_at, came_at, length_came}
 use Rattle.nack_union.proofs.Windows.{within_order}
 use Rattle.nack_union.proofs.NamedSymbols.{clash, both_of, of_both, one_of, of_left, of_right, slot_asks, named_in, in_named}
@@ -57,14 +57,14 @@ module _ (p : Settings) (s : SenderState) (u : Kept) (r : Named) (d : Marked) (s
   test_at k lt test = ap (λ (o : Option Shape). elim o as (λ _. Bool) [ Some x ↦ test x | None ↦ false ]) (came_at p s u r k d st planned lt)
 
   source_in : (k : ℕ) (at : Position) → k < length u.objects → at.index ≡ u.first + k → at.block < blocks (get_or u.objects k d).cut
-      → at.symbol < source_symbols (get_or u.objects k d).cut at.block → asks_source r at ≡ true → In (Symbol at) (wants_of (current_shapes p s) (asked_of p s r))
+      → at.symbol < closed_in (symbols_of_marked (get_or u.objects k d)) at.block → asks_source r at ≡ true → In (Symbol at) (wants_of (current_shapes p s) (asked_of p s r))
   source_in k at lt index block symbol asks =
       in_left (Symbol at) (of_sources ++ of_named) of_infos (in_left (Symbol at) of_sources of_named
       (map_in Symbol at (filter (asks_source r) (all_sources 0 came)) (filter_in (asks_source r) at (all_sources 0 came)
       (all_sources_have 0 came at (u.first + k) (shape_of_marked m) (came_at p s u r k d st planned lt) (record {
         index_is = omega (arith, index);
-        block = let all = blocks_closed m sound in omega (arith, block, all);
-        symbol = let all = closed_is m at.block sound block in omega (arith, symbol, all);
+        block = in_closed m at.block sound block (let some : 0 < closed_in (shape_of_marked m) at.block = omega (arith, symbol) in some);
+        symbol = symbol;
       })) asks)))
     where
       m : Marked
@@ -74,14 +74,13 @@ module _ (p : Settings) (s : SenderState) (u : Kept) (r : Named) (d : Marked) (s
       sound = (all_at u.objects k d planned lt).sound
 
   encoded_there : (k : ℕ) (at : Position) → k < length u.objects → at.index ≡ u.first + k → at.block < blocks (get_or u.objects k d).cut
-      → at.symbol < encoding_symbols (get_or u.objects k d).cut at.block → names_symbol r at ≡ true → In (Symbol at) (wants_of (current_shapes p s) (asked_of p s r))
+      → at.symbol < encoded_in (symbols_of_marked (get_or u.objects k d)) at.block → names_symbol r at ≡ true → In (Symbol at) (wants_of (current_shapes p s) (asked_of p s r))
   encoded_there k at lt index block symbol names =
       in_left (Symbol at) (of_sources ++ of_named) of_infos (in_right (Symbol at) of_sources of_named
       (map_in Symbol at (filter (is_encoded came) (asked_symbols r)) (filter_in (is_encoded came) at (asked_symbols r) (named_in r at names)
       (ap (λ i. at_index came i false (λ x. nat_lt at.symbol (encoded_in x at.block))) index
       ∙ test_at k lt (λ x. nat_lt at.symbol (encoded_in x at.block))
-      ∙ lt-ltb at.symbol (encoded_in (shape_of_marked (get_or u.objects k d)) at.block)
-      (let all = encoded_is (get_or u.objects k d) at.block (all_at u.objects k d planned lt).sound block in omega (arith, symbol, all))))))
+      ∙ lt-ltb at.symbol (encoded_in (shape_of_marked (get_or u.objects k d)) at.block) symbol))))
 
   info_in : (k : ℕ) → k < length u.objects → ((get_or u.objects k d).info && asks_info r (u.first + k)) ≡ true → In (Info (u.first + k)) (wants_of (current_shapes p s) (asked_of p s r))
   info_in k lt asks =
@@ -104,11 +103,11 @@ module _ (p : Settings) (s : SenderState) (u : Kept) (r : Named) (d : Marked) (s
       at = position (u.first + k) (n / 256) (n % 256)
 
       go : n / 256 < blocks (get_or u.objects k d).cut
-          → ((nat_lt at.symbol (source_symbols (get_or u.objects k d).cut at.block) && asks_source r at) ≡ true)
-          ⊎ ((nat_lt at.symbol (encoding_symbols (get_or u.objects k d).cut at.block) && names_symbol r at) ≡ true)
+          → ((nat_lt at.symbol (closed_in (symbols_of_marked (get_or u.objects k d)) at.block) && asks_source r at) ≡ true)
+          ⊎ ((nat_lt at.symbol (encoded_in (symbols_of_marked (get_or u.objects k d)) at.block) && names_symbol r at) ≡ true)
           → In (Symbol at) (wants_of (current_shapes p s) (asked_of p s r))
-      go block (inl h) = let two = both_of _ _ h in source_in k at lt refl block (ltb-true at.symbol (source_symbols (get_or u.objects k d).cut at.block) two.0) two.1
-      go block (inr h) = let two = both_of _ _ h in encoded_there k at lt refl block (ltb-true at.symbol (encoding_symbols (get_or u.objects k d).cut at.block) two.0) two.1
+      go block (inl h) = let two = both_of _ _ h in source_in k at lt refl block (ltb-true at.symbol (closed_in (symbols_of_marked (get_or u.objects k d)) at.block) two.0) two.1
+      go block (inr h) = let two = both_of _ _ h in encoded_there k at lt refl block (ltb-true at.symbol (encoded_in (symbols_of_marked (get_or u.objects k d)) at.block) two.0) two.1
 
   -- what stands behind the drop point and in the order is in the window
   place_of : (w : Want) → want_index w < length came → stands_behind s.current.drop w ≡ true → (k : ℕ) × (k < length u.objects) × (want_index w ≡ u.first + k)
@@ -123,25 +122,35 @@ module _ (p : Settings) (s : SenderState) (u : Kept) (r : Named) (d : Marked) (s
       )
 
   symbol_asked : (k : ℕ) (at : Position) → k < length u.objects → at.index ≡ u.first + k → at.block < blocks (get_or u.objects k d).cut
-      → at.symbol < encoding_symbols (get_or u.objects k d).cut at.block
-      → ((nat_lt at.symbol (source_symbols (get_or u.objects k d).cut at.block) && asks_source r at) || (nat_lt at.symbol (encoding_symbols (get_or u.objects k d).cut at.block) && names_symbol r at)) ≡ true
+      → at.symbol < 256
+      → ((nat_lt at.symbol (closed_in (symbols_of_marked (get_or u.objects k d)) at.block) && asks_source r at) || (nat_lt at.symbol (encoded_in (symbols_of_marked (get_or u.objects k d)) at.block) && names_symbol r at)) ≡ true
       → AsksAt u r d (Symbol at)
-  symbol_asked k at lt index block symbol asks = record {
+  symbol_asked k at lt index block few asks = record {
     place = k;
     within = lt;
     index = index;
     named = few;
     asks =
         slot_asks r (u.first + k) at.block at.symbol (get_or u.objects k d) few
-        ∙ ap (λ i. asks_symbol r (get_or u.objects k d).cut (position i at.block at.symbol)) (sym index)
+        ∙ ap (λ i. asks_symbol r (symbols_of_marked (get_or u.objects k d)) (position i at.block at.symbol)) (sym index)
         ∙ of_both _ _ (lt-ltb at.block (blocks (get_or u.objects k d).cut) block) asks;
   }
+
+  encoded_few : (k : ℕ) (at : Position) → k < length u.objects → at.symbol < encoded_in (shape_of_marked (get_or u.objects k d)) at.block → at.symbol < 256
+  encoded_few k at lt symbol =
+      let plan = all_at u.objects k d planned lt in
+      less (encoded_fits (shape_of_marked (get_or u.objects k d)) at.block plan.sound) (plan.few at.block)
     where
-      few : at.symbol < 256
-      few =
-          let plan = all_at u.objects k d planned lt in
-          let most = plan.few at.block in
-          omega (arith, most, symbol)
+      less : encoded_in (shape_of_marked (get_or u.objects k d)) at.block ≤ encoding_symbols (get_or u.objects k d).cut at.block
+          → encoding_symbols (get_or u.objects k d).cut at.block ≤ 255 → at.symbol < 256
+      less fits few = omega (arith, fits, few, symbol)
+
+  source_few : (k : ℕ) (at : Position) → k < length u.objects → at.symbol < closed_in (shape_of_marked (get_or u.objects k d)) at.block → at.symbol < 256
+  source_few k at lt symbol =
+      let plan = all_at u.objects k d planned lt in
+      let fit = sources_fit (get_or u.objects k d).cut at.block plan.sound in
+      let few = plan.few at.block in
+      omega (arith, symbol, fit, few)
 
   same_some : (x y : Shape) → Some x ≡ Some y → x ≡ y
   same_some x y e = cc
@@ -158,11 +167,16 @@ module _ (p : Settings) (s : SenderState) (u : Kept) (r : Named) (d : Marked) (s
           → at.block < closed_blocks x → at.symbol < closed_in x at.block → AsksAt u r d (Symbol at)
       go k lt index x is block symbol =
           let shape = same_some x (shape_of_marked (get_or u.objects k d)) (sym is ∙ came_at p s u r k d st planned lt) in
-          let sound = (all_at u.objects k d planned lt).sound in
-          let block_lt : at.block < blocks (get_or u.objects k d).cut = subst (λ n. at.block < n) (ap closed_blocks shape ∙ blocks_closed (get_or u.objects k d) sound) block in
-          let symbol_lt : at.symbol < source_symbols (get_or u.objects k d).cut at.block = subst (λ n. at.symbol < n) (ap (λ y. closed_in y at.block) shape ∙ closed_is (get_or u.objects k d) at.block sound block_lt) symbol in
-          symbol_asked k at lt index block_lt (let fit = sources_fit (get_or u.objects k d).cut at.block sound in omega (arith, fit, symbol_lt))
-          (of_left _ _ (of_both _ _ (lt-ltb at.symbol (source_symbols (get_or u.objects k d).cut at.block) symbol_lt) asks))
+          let symbol_lt : at.symbol < closed_in (shape_of_marked (get_or u.objects k d)) at.block = subst (λ n. at.symbol < n) (ap (λ y. closed_in y at.block) shape) symbol in
+          let few = source_few k at lt symbol_lt in
+          by (cases_lt at.block (blocks (get_or u.objects k d).cut)) symbol_lt few
+        where
+          by : (at.block < blocks (get_or u.objects k d).cut) ⊎ (blocks (get_or u.objects k d).cut ≤ at.block)
+              → at.symbol < closed_in (shape_of_marked (get_or u.objects k d)) at.block → at.symbol < 256 → AsksAt u r d (Symbol at)
+          by (inl less) symbol_lt few =
+              symbol_asked k at lt index less few
+              (of_left _ _ (of_both _ _ (lt-ltb at.symbol (closed_in (symbols_of_marked (get_or u.objects k d)) at.block) symbol_lt) asks))
+          by (inr past) symbol_lt few = let none = closed_past (get_or u.objects k d) at.block (all_at u.objects k d planned lt) past in absurd (omega (arith, none, symbol_lt))
 
   from_named : (at : Position) → In at (asked_symbols r) → is_encoded came at ≡ true → stands_behind s.current.drop (Symbol at) ≡ true → AsksAt u r d (Symbol at)
   from_named at here encoded behind =
@@ -172,19 +186,15 @@ module _ (p : Settings) (s : SenderState) (u : Kept) (r : Named) (d : Marked) (s
       go : (k : ℕ) → k < length u.objects → at.index ≡ u.first + k → (at.block < blocks (get_or u.objects k d).cut) ⊎ (blocks (get_or u.objects k d).cut ≤ at.block) → AsksAt u r d (Symbol at)
       go k lt index side = by side
         where
-          sound : IsSound (get_or u.objects k d).cut
-          sound = (all_at u.objects k d planned lt).sound
-
           symbol : at.symbol < encoded_in (shape_of_marked (get_or u.objects k d)) at.block
           symbol = ltb-true at.symbol (encoded_in (shape_of_marked (get_or u.objects k d)) at.block)
               (sym (test_at k lt (λ x. nat_lt at.symbol (encoded_in x at.block))) ∙ ap (λ i. at_index came i false (λ x. nat_lt at.symbol (encoded_in x at.block))) (sym index) ∙ encoded)
 
           by : (at.block < blocks (get_or u.objects k d).cut) ⊎ (blocks (get_or u.objects k d).cut ≤ at.block) → AsksAt u r d (Symbol at)
           by (inl block) =
-              let symbol_lt : at.symbol < encoding_symbols (get_or u.objects k d).cut at.block = subst (λ n. at.symbol < n) (encoded_is (get_or u.objects k d) at.block sound block) symbol in
-              symbol_asked k at lt index block symbol_lt
-              (of_right _ _ (of_both _ _ (lt-ltb at.symbol (encoding_symbols (get_or u.objects k d).cut at.block) symbol_lt) (in_named r at here)))
-          by (inr past) = let none = encoded_past (get_or u.objects k d) at.block sound past in absurd (omega (arith, none, symbol))
+              symbol_asked k at lt index block (encoded_few k at lt symbol)
+              (of_right _ _ (of_both _ _ (lt-ltb at.symbol (encoded_in (symbols_of_marked (get_or u.objects k d)) at.block) symbol) (in_named r at here)))
+          by (inr past) = let none = encoded_past (get_or u.objects k d) at.block (all_at u.objects k d planned lt) past in absurd (omega (arith, none, symbol))
 
   from_info : (i : ℕ) → (has_info came i && asks_info r i) ≡ true → stands_behind s.current.drop (Info i) ≡ true → AsksAt u r d (Info i)
   from_info i asks behind =

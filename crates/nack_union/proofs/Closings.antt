@@ -8,10 +8,11 @@ use Rattle.std.proofs.lemmas.List.{append-nil, map-append, length-replicate}
 use Rattle.norm_order.specs.Sets.{with_member, with_members}
 use Rattle.norm_send_rules.specs.Wants.{want_before}
 use Rattle.norm_send_rules.specs.declared.want.Want.{Want}
-use Rattle.fec_plan.specs.Partition.{Cut, source_symbols}
+use Rattle.fec_plan.specs.Partition.{source_symbols}
+use Rattle.norm_order.specs.Shapes.{Shape, closed_in}
 use Rattle.nack_union.specs.Slots.{want_at, symbol_slot}
 use Rattle.nack_union.specs.Repairs.{counted_slots, repair_slots, fresh_parities}
-use Rattle.nack_union.specs.Kept.{Marked, listed, closed_marks, IsCounted}
+use Rattle.nack_union.specs.Kept.{Marked, listed, closed_marks, IsCounted, symbols_of_marked}
 use Rattle.nack_union.specs.Rounds.{new_wants}
 use Rattle.nack_union.proofs.Orders.{put_here, put_behind, put_before}
 use Rattle.nack_union.proofs.Unions.{put_collected, put_swap, alone}
@@ -19,7 +20,7 @@ use Rattle.nack_union.proofs.Freshness.{put_both}
 
 -- the slots that an object's round asks for
 abbrev pub asked_slots : Marked → List ℕ
-asked_slots m = m.asked ++ counted_slots m.cut m.sent 0 m.counts
+asked_slots m = m.asked ++ counted_slots (symbols_of_marked m) m.sent 0 m.counts
 
 -- members of an object go to their places in the object's set
 pub puts_here : (index : ℕ) (slots xs : List ℕ) (rest : List Want)
@@ -74,7 +75,7 @@ all_closed index (m ∷ ms) =
     ∙ sym (put_both want_before (map (want_at index) (asked_slots m)) later (map (want_at index) m.wants ++ old))
   where
     counted : List ℕ
-    counted = counted_slots m.cut m.sent 0 m.counts
+    counted = counted_slots (symbols_of_marked m) m.sent 0 m.counts
 
     set : List ℕ
     set = with_members nat_lt counted m.asked
@@ -136,22 +137,22 @@ queued_more xs i x new queued more sum total lt at is many added so_far =
     by c w a b here first before = omega (arith, here, first, added, before)
 
 -- where nothing is counted, no slot is asked for
-zero_slots : (cut : Cut) (sent : List ℕ) (block n : ℕ) → counted_slots cut sent block (replicate n 0) ≡ []
+zero_slots : (cut : Shape) (sent : List ℕ) (block n : ℕ) → counted_slots cut sent block (replicate n 0) ≡ []
 zero_slots cut sent block zero = refl
 zero_slots cut sent block (suc n) =
-    ap (λ c. repair_slots cut sent block c ++ counted_slots cut sent (suc block) (replicate n 0)) (let e : min 0 (source_symbols cut block) ≡ 0 = omega arith in e)
+    ap (λ c. repair_slots cut sent block c ++ counted_slots cut sent (suc block) (replicate n 0)) (let e : min 0 (source_symbols cut.cut block) ≡ 0 = omega arith in e)
     ∙ ap (λ xs. xs ++ counted_slots cut sent (suc block) (replicate n 0)) (here (nat_le 0 (length (fresh_parities cut sent block))) (le-leb 0 (length (fresh_parities cut sent block)) (omega arith)))
     ∙ zero_slots cut sent (suc block) n
   where
-    here : (b : Bool) → b ≡ true → map (symbol_slot block) (elim b [ true ↦ [] | false ↦ range_with_len 0 (source_symbols cut block) ]) ≡ []
+    here : (b : Bool) → b ≡ true → map (symbol_slot block) (elim b [ true ↦ [] | false ↦ range_with_len 0 (closed_in cut block) ]) ≡ []
     here true f = refl
     here false f = absurd (cc)
 
 -- an object that asks for nothing stays as its round closes
 pub idle_stays : (m : Marked) (n : ℕ) → m.asked ≡ [] → m.counts ≡ replicate n 0 → m ≡ closed_marks m
 idle_stays m n unasked uncounted =
-    sym (ap (λ xs. record m { wants = with_members nat_lt (with_members nat_lt (counted_slots m.cut m.sent 0 xs) m.asked) m.wants; asked = []; counts = replicate (length xs) 0 }) uncounted
-    ∙ ap (λ xs. record m { wants = with_members nat_lt (with_members nat_lt xs m.asked) m.wants; asked = []; counts = replicate (length {A = ℕ} (replicate n 0)) 0 }) (zero_slots m.cut m.sent 0 n)
+    sym (ap (λ xs. record m { wants = with_members nat_lt (with_members nat_lt (counted_slots (symbols_of_marked m) m.sent 0 xs) m.asked) m.wants; asked = []; counts = replicate (length xs) 0 }) uncounted
+    ∙ ap (λ xs. record m { wants = with_members nat_lt (with_members nat_lt xs m.asked) m.wants; asked = []; counts = replicate (length {A = ℕ} (replicate n 0)) 0 }) (zero_slots (symbols_of_marked m) m.sent 0 n)
     ∙ ap (λ xs. record m { wants = with_members nat_lt xs m.wants; asked = []; counts = replicate (length {A = ℕ} (replicate n 0)) 0 }) unasked
     ∙ ap (λ k. record m { asked = []; counts = replicate k 0 }) (length-replicate n 0)
     ∙ ap (λ xs. record m { asked = xs; counts = replicate n 0 }) (sym unasked)

@@ -17,7 +17,7 @@ use Rattle.norm_send_rules.specs.declared.want.Want.TheVariants.{Symbol}
 use Rattle.fec_plan.proofs.PartitionLemmas.{sources_within, sources_fit}
 use Rattle.nack_union.specs.Slots.{want_at, symbol_slot}
 use Rattle.nack_union.specs.Repairs.{fresh_parities, repair_slots, counted_slots}
-use Rattle.nack_union.specs.Kept.{Marked, shape_of_marked, listed, IsCounted, IsRepairable}
+use Rattle.nack_union.specs.Kept.{Marked, shape_of_marked, symbols_of_marked, listed, IsCounted, IsRepairable}
 use Rattle.nack_union.specs.Rounds.{counted_of, asked_from}
 use Rattle.nack_union.proofs.Orders.{symbol_at}
 use Rattle.nack_union.proofs.Closings.{asked_slots}
@@ -27,7 +27,7 @@ abbrev pub HasSent : SenderState → ℕ → Marked → Type 0
 HasSent s index m = (block symbol : ℕ) → symbol < 256 → is_member nat_lt (symbol_slot block symbol) m.sent ≡ is_member position_before (position index block symbol) s.sent
 
 -- a block's source symbols lie within the object
-block_fits : (c : Cut) (block : ℕ) → IsSound c → block < blocks c → symbol_number c block 0 + source_symbols c block ≤ all_symbols c
+pub block_fits : (c : Cut) (block : ℕ) → IsSound c → block < blocks c → symbol_number c block 0 + source_symbols c block ≤ all_symbols c
 block_fits c block sound lt = go c.l lt refl
   where
     go : (l : Option ℕ) → block < blocks (record c { l = l }) → c.l ≡ l
@@ -35,19 +35,13 @@ block_fits c block sound lt = go c.l lt refl
     go (Some n) less e = sources_within (record c { l = Some n }) block (subst (λ (l : Option ℕ). IsSound (record c { l = l })) e sound) refl less
     go None less e = let one : (block + 1) * c.b ≤ 16777216 * c.b = mul-le-mul_right c.b (omega arith) in omega (arith, one)
 
-pub closed_is : (m : Marked) (block : ℕ) → IsSound m.cut → block < blocks m.cut → closed_in (shape_of_marked m) block ≡ source_symbols m.cut block
-closed_is m block sound lt = full (source_symbols m.cut block) (all_symbols m.cut) (symbol_number m.cut block 0) (block_fits m.cut block sound lt)
+-- a block has no more encoded symbols than it may have
+pub encoded_fits : (s : Shape) (block : ℕ) → IsSound s.cut → encoded_in s block ≤ encoding_symbols s.cut block
+encoded_fits s block sound = go (closed_in s block == source_symbols s.cut block)
   where
-    full : (size all first : ℕ) → first + size ≤ all → min size (all - first) ≡ size
-    full size all first le = omega arith
-
-pub encoded_is : (m : Marked) (block : ℕ) → IsSound m.cut → block < blocks m.cut → encoded_in (shape_of_marked m) block ≡ encoding_symbols m.cut block
-encoded_is m block sound lt =
-    taken (closed_in (shape_of_marked m) block == source_symbols m.cut block) _ _ (eq-eqb (closed_in (shape_of_marked m) block) (source_symbols m.cut block) (closed_is m block sound lt))
-  where
-    taken : (b : Bool) (x y : ℕ) → b ≡ true → (elim b as (λ _. ℕ) [ true ↦ x | false ↦ y ]) ≡ x
-    taken true x y e = refl
-    taken false x y e = absurd (cc)
+    go : (b : Bool) → (elim b as (λ _. ℕ) [ true ↦ encoding_symbols s.cut block | false ↦ closed_in s block ]) ≤ encoding_symbols s.cut block
+    go true = omega arith
+    go false = let fit = sources_fit s.cut block sound in omega (arith, fit)
 
 -- a filter of a range, where a test asks for numbers from one on
 same_within : (p q : ℕ → Bool) (a n : ℕ) → ((i : ℕ) → a ≤ i → i < a + n → q i ≡ p i) → filter q (range_with_len a n) ≡ filter p (range_with_len a n)
@@ -90,16 +84,22 @@ filter_over f q (x ∷ xs) = go (q (f x)) (filter_over f q xs)
     go false rest = rest
 
 -- the fresh parity symbols of a block are those that its slots say
-fresh_are : (s : SenderState) (index : ℕ) (m : Marked) (block : ℕ) → HasSent s index m → IsSound m.cut → block < blocks m.cut → encoding_symbols m.cut block ≤ 255
-    → fresh_parity s (point index block) (shape_of_marked m) ≡ map (position index block) (fresh_parities m.cut m.sent block)
-fresh_are s index m block has sound lt few =
-    filter_over (position index block) (λ symbol. nat_le (source_symbols m.cut block) symbol.symbol && not (is_member position_before symbol s.sent)) (range_with_len 0 (encoded_in (shape_of_marked m) block))
+fresh_are : (s : SenderState) (index : ℕ) (m : Marked) (block : ℕ) → HasSent s index m → encoded_in (symbols_of_marked m) block ≤ 255
+    → fresh_parity s (point index block) (shape_of_marked m) ≡ map (position index block) (fresh_parities (symbols_of_marked m) m.sent block)
+fresh_are s index m block has few =
+    filter_over (position index block) (λ symbol. nat_le (source_symbols m.cut block) symbol.symbol && not (is_member position_before symbol s.sent)) (range_with_len 0 (encoded_in (symbols_of_marked m) block))
     ∙ ap (map (position index block))
-    (ap (λ n. filter (λ x. nat_le (source_symbols m.cut block) x && not (is_member position_before (position index block x) s.sent)) (range_with_len 0 n)) (encoded_is m block sound lt)
-    ∙ from_on (λ x. not (is_member position_before (position index block x) s.sent)) (source_symbols m.cut block) 0 (encoding_symbols m.cut block) (omega arith)
-    ∙ ap (λ c. filter (λ x. not (is_member position_before (position index block x) s.sent)) (range_with_len (source_symbols m.cut block) c)) (let e : (0 + encoding_symbols m.cut block) - source_symbols m.cut block ≡ encoding_symbols m.cut block - source_symbols m.cut block = omega arith in e)
-    ∙ sym (same_within (λ x. not (is_member position_before (position index block x) s.sent)) (λ x. not (is_member nat_lt (symbol_slot block x) m.sent)) (source_symbols m.cut block) (encoding_symbols m.cut block - source_symbols m.cut block)
-    (λ i above under. ap not (has block i (omega (arith, few, above, under))))))
+    (from_on (λ x. not (is_member position_before (position index block x) s.sent)) (source_symbols m.cut block) 0 (encoded_in (symbols_of_marked m) block) (omega arith)
+    ∙ ap (λ c. filter (λ x. not (is_member position_before (position index block x) s.sent)) (range_with_len (source_symbols m.cut block) c))
+    (less (encoded_in (symbols_of_marked m) block) (source_symbols m.cut block))
+    ∙ sym (same_within (λ x. not (is_member position_before (position index block x) s.sent)) (λ x. not (is_member nat_lt (symbol_slot block x) m.sent)) (source_symbols m.cut block) (encoded_in (symbols_of_marked m) block - source_symbols m.cut block)
+    (λ i above under. ap not (has block i (id_fits i (source_symbols m.cut block) (encoded_in (symbols_of_marked m) block) few above under)))))
+  where
+    less : (n k : ℕ) → (0 + n) - k ≡ n - k
+    less n k = omega arith
+
+    id_fits : (i k n : ℕ) → n ≤ 255 → k ≤ i → i < k + (n - k) → i < 256
+    id_fits i k n few above under = omega arith
 
 -- Ids of 8 bits.
 
@@ -130,28 +130,44 @@ symbols_are index block (x ∷ xs) all =
     ∙ ap (λ ws. Symbol (position index block x) ∷ ws) (symbols_are index block xs all.1)
 
 -- the repairs of a counted block are those that its slots say
-repairs_are : (s : SenderState) (index : ℕ) (m : Marked) (block count : ℕ) → HasSent s index m → IsSound m.cut → block < blocks m.cut → encoding_symbols m.cut block ≤ 255
-    → map (want_at index) (repair_slots m.cut m.sent block count) ≡ repairs s (point index block) (shape_of_marked m) count
-repairs_are s index m block count has sound lt few =
+repairs_are : (s : SenderState) (index : ℕ) (m : Marked) (block count : ℕ) → HasSent s index m → IsSound m.cut → encoding_symbols m.cut block ≤ 255
+    → map (want_at index) (repair_slots (symbols_of_marked m) m.sent block count) ≡ repairs s (point index block) (shape_of_marked m) count
+repairs_are s index m block count has sound few =
     go (nat_le count (length fresh))
     ∙ ap (λ n. elim (nat_le count n) as (λ _. List Want) [ true ↦ map Symbol (take count (map (position index block) fresh)) | false ↦ block_wants (point index block) (shape_of_marked m) ]) (sym (length-map fresh (position index block)))
-    ∙ ap (λ xs. elim (nat_le count (length xs)) as (λ _. List Want) [ true ↦ map Symbol (take count xs) | false ↦ block_wants (point index block) (shape_of_marked m) ]) (sym (fresh_are s index m block has sound lt few))
+    ∙ ap (λ xs. elim (nat_le count (length xs)) as (λ _. List Want) [ true ↦ map Symbol (take count xs) | false ↦ block_wants (point index block) (shape_of_marked m) ]) (sym (fresh_are s index m block has most))
   where
     fresh : List ℕ
-    fresh = fresh_parities m.cut m.sent block
+    fresh = fresh_parities (symbols_of_marked m) m.sent block
 
-    most : source_symbols m.cut block ≤ 256
-    most = omega (arith, few, sources_fit m.cut block sound)
+    most : encoded_in (symbols_of_marked m) block ≤ 255
+    most = at_most (encoded_in (symbols_of_marked m) block) (encoding_symbols m.cut block) (encoded_fits (symbols_of_marked m) block sound) few
+      where
+        at_most : (n k : ℕ) → n ≤ k → k ≤ 255 → n ≤ 255
+        at_most n k le few = omega arith
+
+    sources : source_symbols m.cut block ≤ 255
+    sources = let fit = sources_fit m.cut block sound in omega (arith, few, fit)
+
+    within : source_symbols m.cut block + (encoded_in (symbols_of_marked m) block - source_symbols m.cut block) ≤ 256
+    within = both (source_symbols m.cut block) (encoded_in (symbols_of_marked m) block) sources most
+      where
+        both : (k n : ℕ) → k ≤ 255 → n ≤ 255 → k + (n - k) ≤ 256
+        both k n a b = omega arith
+
+    closed : 0 + closed_in (symbols_of_marked m) block ≤ 256
+    closed = by (source_symbols m.cut block) (m.closed - symbol_number m.cut block 0) sources
+      where
+        by : (k n : ℕ) → k ≤ 255 → 0 + min k n ≤ 256
+        by k n le = omega arith
 
     go : (b : Bool)
-        → map (want_at index) (map (symbol_slot block) (elim b [ true ↦ take count fresh | false ↦ range_with_len 0 (source_symbols m.cut block) ]))
+        → map (want_at index) (map (symbol_slot block) (elim b [ true ↦ take count fresh | false ↦ range_with_len 0 (closed_in (symbols_of_marked m) block) ]))
         ≡ elim b as (λ _. List Want) [ true ↦ map Symbol (take count (map (position index block) fresh)) | false ↦ block_wants (point index block) (shape_of_marked m) ]
     go true =
-        symbols_are index block (take count fresh) (ids_take count fresh (ids_filter (λ x. not (is_member nat_lt (symbol_slot block x) m.sent)) (source_symbols m.cut block) (encoding_symbols m.cut block - source_symbols m.cut block) (omega (arith, few, most))))
+        symbols_are index block (take count fresh) (ids_take count fresh (ids_filter (λ x. not (is_member nat_lt (symbol_slot block x) m.sent)) (source_symbols m.cut block) (encoded_in (symbols_of_marked m) block - source_symbols m.cut block) within))
         ∙ ap (map Symbol) (sym (take-map (position index block) count fresh))
-    go false =
-        symbols_are index block (range_with_len 0 (source_symbols m.cut block)) (ids_range 0 (source_symbols m.cut block) (omega (arith, most)))
-        ∙ ap (λ n. map Symbol (symbols_of index n block)) (sym (closed_is m block sound lt))
+    go false = symbols_are index block (range_with_len 0 (closed_in (symbols_of_marked m) block)) (ids_range 0 (closed_in (symbols_of_marked m) block) closed)
 
 -- a count of 0 asks for nothing
 pub none_asked : (s : SenderState) (at : Point) (shape : Shape) (count : ℕ) → count ≡ 0 → repairs s at shape count ≡ []
@@ -163,32 +179,32 @@ none_asked s at shape count e =
     there false f = absurd (cc)
 
 none_repaired : (s : SenderState) (index : ℕ) (m : Marked) (block count : ℕ) → count ≡ 0
-    → map (want_at index) (repair_slots m.cut m.sent block count) ≡ repairs s (point index block) (shape_of_marked m) count
+    → map (want_at index) (repair_slots (symbols_of_marked m) m.sent block count) ≡ repairs s (point index block) (shape_of_marked m) count
 none_repaired s index m block count e =
-    ap (λ n. map (want_at index) (repair_slots m.cut m.sent block n)) e
-    ∙ here (nat_le 0 (length (fresh_parities m.cut m.sent block))) (le-leb 0 (length (fresh_parities m.cut m.sent block)) (omega arith))
+    ap (λ n. map (want_at index) (repair_slots (symbols_of_marked m) m.sent block n)) e
+    ∙ here (nat_le 0 (length (fresh_parities (symbols_of_marked m) m.sent block))) (le-leb 0 (length (fresh_parities (symbols_of_marked m) m.sent block)) (omega arith))
     ∙ sym (none_asked s (point index block) (shape_of_marked m) count e)
   where
     here : (b : Bool) → b ≡ true
-        → map (want_at index) (map (symbol_slot block) (elim b [ true ↦ [] | false ↦ range_with_len 0 (source_symbols m.cut block) ])) ≡ []
+        → map (want_at index) (map (symbol_slot block) (elim b [ true ↦ [] | false ↦ range_with_len 0 (closed_in (symbols_of_marked m) block) ])) ≡ []
     here true f = refl
     here false f = absurd (cc)
 
 -- those of the counted blocks from one on
 counted_are : (s : SenderState) (index : ℕ) (m : Marked) → HasSent s index m → (block : ℕ) (counts : List ℕ)
     → ((j : ℕ) → 0 < get_or counts j 0 → IsRepairable m.cut (block + j))
-    → map (want_at index) (counted_slots m.cut m.sent block counts) ≡ counted_of s index m block counts
+    → map (want_at index) (counted_slots (symbols_of_marked m) m.sent block counts) ≡ counted_of s index m block counts
 counted_are s index m has block [] repairable = refl
 counted_are s index m has block (c ∷ counts) repairable =
-    map-append (want_at index) (repair_slots m.cut m.sent block (min c (source_symbols m.cut block))) (counted_slots m.cut m.sent (suc block) counts)
-    ∙ ap (λ ws. ws ++ map (want_at index) (counted_slots m.cut m.sent (suc block) counts)) (go (cases_lt 0 c))
+    map-append (want_at index) (repair_slots (symbols_of_marked m) m.sent block (min c (source_symbols m.cut block))) (counted_slots (symbols_of_marked m) m.sent (suc block) counts)
+    ∙ ap (λ ws. ws ++ map (want_at index) (counted_slots (symbols_of_marked m) m.sent (suc block) counts)) (go (cases_lt 0 c))
     ∙ ap (λ ws. repairs s (point index block) (shape_of_marked m) (min c (source_symbols m.cut block)) ++ ws)
     (counted_are s index m has (suc block) counts (λ j some. subst (IsRepairable m.cut) (let e : block + suc j ≡ suc block + j = omega arith in e) (repairable (suc j) some)))
   where
-    go : (0 < c) ⊎ (c ≤ 0) → map (want_at index) (repair_slots m.cut m.sent block (min c (source_symbols m.cut block))) ≡ repairs s (point index block) (shape_of_marked m) (min c (source_symbols m.cut block))
+    go : (0 < c) ⊎ (c ≤ 0) → map (want_at index) (repair_slots (symbols_of_marked m) m.sent block (min c (source_symbols m.cut block))) ≡ repairs s (point index block) (shape_of_marked m) (min c (source_symbols m.cut block))
     go (inl some) =
         let this : IsRepairable m.cut block = subst (IsRepairable m.cut) (let e : block + 0 ≡ block = omega arith in e) (repairable 0 some) in
-        repairs_are s index m block (min c (source_symbols m.cut block)) has this.sound this.within this.named
+        repairs_are s index m block (min c (source_symbols m.cut block)) has this.sound this.named
     go (inr none) = none_repaired s index m block (min c (source_symbols m.cut block)) (omega (arith, none))
 
 -- what the slots of all objects ask for is what the round asks for
@@ -197,7 +213,7 @@ pub asked_are : (s : SenderState) (index : ℕ) (ms : List Marked) (d : Marked) 
 asked_are s index [] d has all = refl
 asked_are s index (m ∷ ms) d has all =
     ap (λ ws. ws ++ listed asked_slots (suc index) ms)
-    (map-append (want_at index) m.asked (counted_slots m.cut m.sent 0 m.counts)
+    (map-append (want_at index) m.asked (counted_slots (symbols_of_marked m) m.sent 0 m.counts)
     ∙ ap (λ ws. map (want_at index) m.asked ++ ws) (counted_are s index m (subst (λ i. HasSent s i m) (let e : index + 0 ≡ index = omega arith in e) (has 0 (omega arith))) 0 m.counts (λ j some. subst (IsRepairable m.cut) (let e : j ≡ 0 + j = omega arith in e) (all.0 j some))))
     ∙ ap (λ ws. (map (want_at index) m.asked ++ counted_of s index m 0 m.counts) ++ ws)
     (asked_are s (suc index) ms d (λ k lt. subst (λ i. HasSent s i (get_or ms k d)) (let e : index + suc k ≡ suc index + k = omega arith in e) (has (suc k) (omega arith))) all.1)

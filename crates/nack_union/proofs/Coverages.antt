@@ -5,7 +5,8 @@ use Rattle.std.specs.List.{range_with_len, AllByRecursion}
 use Rattle.std.proofs.Math.Nat.{div-add-mod}
 use Rattle.std.proofs.lemmas.Bool.{cases_eq, cases_lt, lt-ltb, le-ltb, ltb-true}
 use Rattle.std.proofs.lemmas.Bool.Decides.{nat_tests}
-use Rattle.fec_plan.specs.Partition.{Cut, blocks, source_symbols}
+use Rattle.fec_plan.specs.Partition.{blocks}
+use Rattle.norm_order.specs.Shapes.{Shape, closed_in}
 use Rattle.norm_order.specs.Sets.{is_member, with_member, Rises, IsRising}
 use Rattle.norm_order.proofs.SetLemmas.{same_sets, numbers}
 use Rattle.nack_union.specs.Slots.{slots, symbol_slot}
@@ -64,7 +65,7 @@ lies_raised ends first behind block lt = go (cases_lt block first)
     go (inr from) = ap (nat_lt block) (raised_within ends first behind (suc block) lt (omega arith)) ∙ later block (farthest (take (suc block) ends)) behind from
 
 -- a run of blocks more
-run_slot_more : (c : Cut) (ends : List ℕ) (first behind slot : ℕ) → first < length ends
+run_slot_more : (c : Shape) (ends : List ℕ) (first behind slot : ℕ) → first < length ends
     → is_run_slot c (set ends first (max (get_or ends first 0) behind)) slot ≡ (is_run_slot c ends slot || (is_source_slot c slot && is_in_blocks first behind slot))
 run_slot_more c ends first behind zero lt = refl
 run_slot_more c ends first behind (suc n) lt =
@@ -75,26 +76,26 @@ run_slot_more c ends first behind (suc n) lt =
     spread false a b = refl
 
 -- which slots are covered
-pub covered_is : (c : Cut) (ends alone : List ℕ) (slot : ℕ)
-    → is_member nat_lt slot (covered_slots c ends alone) ≡ (nat_lt slot (slots (blocks c)) && (is_member nat_lt slot alone || is_run_slot c ends slot))
+pub covered_is : (c : Shape) (ends alone : List ℕ) (slot : ℕ)
+    → is_member nat_lt slot (covered_slots c ends alone) ≡ (nat_lt slot (slots (blocks c.cut)) && (is_member nat_lt slot alone || is_run_slot c ends slot))
 unfolding covered_slots
-covered_is c ends alone slot = go (cases_lt slot (slots (blocks c)))
+covered_is c ends alone slot = go (cases_lt slot (slots (blocks c.cut)))
   where
-    go : (slot < slots (blocks c)) ⊎ (slots (blocks c) ≤ slot)
-        → is_member nat_lt slot (filter (λ slot. is_member nat_lt slot alone || is_run_slot c ends slot) (range_with_len 0 (slots (blocks c))))
-        ≡ (nat_lt slot (slots (blocks c)) && (is_member nat_lt slot alone || is_run_slot c ends slot))
+    go : (slot < slots (blocks c.cut)) ⊎ (slots (blocks c.cut) ≤ slot)
+        → is_member nat_lt slot (filter (λ slot. is_member nat_lt slot alone || is_run_slot c ends slot) (range_with_len 0 (slots (blocks c.cut))))
+        ≡ (nat_lt slot (slots (blocks c.cut)) && (is_member nat_lt slot alone || is_run_slot c ends slot))
     go (inl lt) =
-        filter_member (λ slot. is_member nat_lt slot alone || is_run_slot c ends slot) slot 0 (slots (blocks c)) (omega arith) (omega arith)
-        ∙ ap (λ b. b && (is_member nat_lt slot alone || is_run_slot c ends slot)) (sym (lt-ltb slot (slots (blocks c)) lt))
+        filter_member (λ slot. is_member nat_lt slot alone || is_run_slot c ends slot) slot 0 (slots (blocks c.cut)) (omega arith) (omega arith)
+        ∙ ap (λ b. b && (is_member nat_lt slot alone || is_run_slot c ends slot)) (sym (lt-ltb slot (slots (blocks c.cut)) lt))
     go (inr past) =
-        none_past (λ slot. is_member nat_lt slot alone || is_run_slot c ends slot) slot 0 (slots (blocks c)) (omega arith)
-        ∙ ap (λ b. b && (is_member nat_lt slot alone || is_run_slot c ends slot)) (sym (le-ltb slot (slots (blocks c)) past))
+        none_past (λ slot. is_member nat_lt slot alone || is_run_slot c ends slot) slot 0 (slots (blocks c.cut)) (omega arith)
+        ∙ ap (λ b. b && (is_member nat_lt slot alone || is_run_slot c ends slot)) (sym (le-ltb slot (slots (blocks c.cut)) past))
 
-source_within : (c : Cut) (slot : ℕ) → is_source_slot c slot ≡ true → nat_lt slot (slots (blocks c)) ≡ true
+source_within : (c : Shape) (slot : ℕ) → is_source_slot c slot ≡ true → nat_lt slot (slots (blocks c.cut)) ≡ true
 source_within c zero e = absurd (cc)
-source_within c (suc n) e = by (nat_lt (n / 256) (blocks c)) (nat_lt (n % 256) (source_symbols c (n / 256))) refl e
+source_within c (suc n) e = by (nat_lt (n / 256) (blocks c.cut)) (nat_lt (n % 256) (closed_in c (n / 256))) refl e
   where
-    by : (a b : Bool) → a ≡ nat_lt (n / 256) (blocks c) → (a && b) ≡ true → nat_lt (suc n) (slots (blocks c)) ≡ true
+    by : (a b : Bool) → a ≡ nat_lt (n / 256) (blocks c.cut) → (a && b) ≡ true → nat_lt (suc n) (slots (blocks c.cut)) ≡ true
     by true b is e = grind (arith, nat_tests, div-add-mod n 256)
     by false b is e = absurd (cc)
 
@@ -116,30 +117,30 @@ joins_runs true false r s i within = refl
 joins_runs false a r true i within = let e = within refl in absurd (cc)
 joins_runs false a r false i within = refl
 
-pub part_more : (c : Cut) (ends alone new : List ℕ) (from to : ℕ)
+pub part_more : (c : Shape) (ends alone new : List ℕ) (from to : ℕ)
     → ((slot : ℕ) → is_member nat_lt slot new ≡ (is_member nat_lt slot alone || (is_source_slot c slot && in_run from to slot)))
     → (slot : ℕ) → is_member nat_lt slot (covered_slots c ends new) ≡ (is_member nat_lt slot (covered_slots c ends alone) || (is_source_slot c slot && in_run from to slot))
 part_more c ends alone new from to more slot =
     covered_is c ends new slot
-    ∙ ap (λ b. nat_lt slot (slots (blocks c)) && (b || is_run_slot c ends slot)) (more slot)
-    ∙ joins_alone (nat_lt slot (slots (blocks c))) (is_member nat_lt slot alone) (is_run_slot c ends slot) (is_source_slot c slot) (in_run from to slot) (source_within c slot)
+    ∙ ap (λ b. nat_lt slot (slots (blocks c.cut)) && (b || is_run_slot c ends slot)) (more slot)
+    ∙ joins_alone (nat_lt slot (slots (blocks c.cut))) (is_member nat_lt slot alone) (is_run_slot c ends slot) (is_source_slot c slot) (in_run from to slot) (source_within c slot)
     ∙ ap (λ b. b || (is_source_slot c slot && in_run from to slot)) (sym (covered_is c ends alone slot))
 
-pub blocks_more : (c : Cut) (ends alone new : List ℕ) (first behind : ℕ) → first < length ends → new ≡ set ends first (max (get_or ends first 0) behind)
+pub blocks_more : (c : Shape) (ends alone new : List ℕ) (first behind : ℕ) → first < length ends → new ≡ set ends first (max (get_or ends first 0) behind)
     → (slot : ℕ) → is_member nat_lt slot (covered_slots c new alone) ≡ (is_member nat_lt slot (covered_slots c ends alone) || (is_source_slot c slot && is_in_blocks first behind slot))
 blocks_more c ends alone new first behind lt is slot =
     covered_is c new alone slot
-    ∙ ap (λ b. nat_lt slot (slots (blocks c)) && (is_member nat_lt slot alone || b)) (ap (λ (es : List ℕ). is_run_slot c es slot) is ∙ run_slot_more c ends first behind slot lt)
-    ∙ joins_runs (nat_lt slot (slots (blocks c))) (is_member nat_lt slot alone) (is_run_slot c ends slot) (is_source_slot c slot) (is_in_blocks first behind slot) (source_within c slot)
+    ∙ ap (λ b. nat_lt slot (slots (blocks c.cut)) && (is_member nat_lt slot alone || b)) (ap (λ (es : List ℕ). is_run_slot c es slot) is ∙ run_slot_more c ends first behind slot lt)
+    ∙ joins_runs (nat_lt slot (slots (blocks c.cut))) (is_member nat_lt slot alone) (is_run_slot c ends slot) (is_source_slot c slot) (is_in_blocks first behind slot) (source_within c slot)
     ∙ ap (λ b. b || (is_source_slot c slot && is_in_blocks first behind slot)) (sym (covered_is c ends alone slot))
 
 -- one slot more
-pub slot_more : (c : Cut) (ends alone : List ℕ) (slot : ℕ) → slot < slots (blocks c)
+pub slot_more : (c : Shape) (ends alone : List ℕ) (slot : ℕ) → slot < slots (blocks c.cut)
     → covered_slots c ends (with_member nat_lt slot alone) ≡ with_member nat_lt slot (covered_slots c ends alone)
 unfolding covered_slots
 slot_more c ends alone slot lt =
     filter_with (λ i. is_member nat_lt i alone || is_run_slot c ends i) (λ i. is_member nat_lt i (with_member nat_lt slot alone) || is_run_slot c ends i)
-    slot 0 (slots (blocks c)) (omega arith) (omega arith)
+    slot 0 (slots (blocks c.cut)) (omega arith) (omega arith)
     (ap (λ b. b || is_run_slot c ends slot) (with_puts slot slot alone ∙ ap (λ b. is_member nat_lt slot alone || b) (same_is slot slot refl) ∙ or_true (is_member nat_lt slot alone)))
     (λ i ne. ap (λ b. b || is_run_slot c ends i) (with_puts i slot alone ∙ or_false (is_member nat_lt i alone) (i == slot) (other_is i slot ne)))
   where
@@ -148,9 +149,9 @@ slot_more c ends alone slot lt =
     or_true false = refl
 
 -- they rise, and no more of them are there than slots
-pub covered_rise : (c : Cut) (ends alone : List ℕ) → Rises (covered_slots c ends alone)
+pub covered_rise : (c : Shape) (ends alone : List ℕ) → Rises (covered_slots c ends alone)
 unfolding covered_slots
-covered_rise c ends alone = rises_filter (λ slot. is_member nat_lt slot alone || is_run_slot c ends slot) 0 (slots (blocks c))
+covered_rise c ends alone = rises_filter (λ slot. is_member nat_lt slot alone || is_run_slot c ends slot) 0 (slots (blocks c.cut))
 
 by_tests : (n : ℕ) (ns : List ℕ) → AllByRecursion (λ m. n < m) ns → AllByRecursion (λ m. nat_lt n m ≡ true) ns
 by_tests n [] all = tt
@@ -161,18 +162,18 @@ rising [] rises = tt
 rising (n ∷ ns) rises = (by_tests n ns rises.0, rising ns rises.1)
 
 -- where the runs joined the slots that are alone, these are all
-pub all_alone : (c : Cut) (ends alone new : List ℕ) → ((slot : ℕ) → is_member nat_lt slot new ≡ (is_member nat_lt slot alone || is_run_slot c ends slot))
-    → Rises new → ((slot : ℕ) → slots (blocks c) ≤ slot → is_member nat_lt slot new ≡ false) → new ≡ covered_slots c ends alone
+pub all_alone : (c : Shape) (ends alone new : List ℕ) → ((slot : ℕ) → is_member nat_lt slot new ≡ (is_member nat_lt slot alone || is_run_slot c ends slot))
+    → Rises new → ((slot : ℕ) → slots (blocks c.cut) ≤ slot → is_member nat_lt slot new ≡ false) → new ≡ covered_slots c ends alone
 all_alone c ends alone new filled rises within =
-    same_sets nat_lt new (covered_slots c ends alone) numbers (rising new rises) (rising _ (covered_rise c ends alone)) (λ slot. go slot (cases_lt slot (slots (blocks c))))
+    same_sets nat_lt new (covered_slots c ends alone) numbers (rising new rises) (rising _ (covered_rise c ends alone)) (λ slot. go slot (cases_lt slot (slots (blocks c.cut))))
   where
-    go : (slot : ℕ) → (slot < slots (blocks c)) ⊎ (slots (blocks c) ≤ slot) → is_member nat_lt slot new ≡ is_member nat_lt slot (covered_slots c ends alone)
+    go : (slot : ℕ) → (slot < slots (blocks c.cut)) ⊎ (slots (blocks c.cut) ≤ slot) → is_member nat_lt slot new ≡ is_member nat_lt slot (covered_slots c ends alone)
     go slot (inl lt) =
         filled slot
-        ∙ ap (λ b. b && (is_member nat_lt slot alone || is_run_slot c ends slot)) (sym (lt-ltb slot (slots (blocks c)) lt)) ∙ sym (covered_is c ends alone slot)
+        ∙ ap (λ b. b && (is_member nat_lt slot alone || is_run_slot c ends slot)) (sym (lt-ltb slot (slots (blocks c.cut)) lt)) ∙ sym (covered_is c ends alone slot)
     go slot (inr past) =
         within slot past
-        ∙ ap (λ b. b && (is_member nat_lt slot alone || is_run_slot c ends slot)) (sym (le-ltb slot (slots (blocks c)) past)) ∙ sym (covered_is c ends alone slot)
+        ∙ ap (λ b. b && (is_member nat_lt slot alone || is_run_slot c ends slot)) (sym (le-ltb slot (slots (blocks c.cut)) past)) ∙ sym (covered_is c ends alone slot)
 
 -- no slot is covered where none is alone and no run ends anywhere
 no_end : (n k : ℕ) → farthest (take k (replicate n 0)) ≡ 0
@@ -181,7 +182,7 @@ no_end zero (suc k) = refl
 no_end (suc n) zero = refl
 no_end (suc n) (suc k) = ap (max 0) (no_end n k)
 
-no_run : (c : Cut) (n slot : ℕ) → is_run_slot c (replicate n 0) slot ≡ false
+no_run : (c : Shape) (n slot : ℕ) → is_run_slot c (replicate n 0) slot ≡ false
 no_run c n zero = refl
 no_run c n (suc m) = ap (λ k. is_source_slot c (suc m) && nat_lt (m / 256) k) (no_end n (suc (m / 256))) ∙ by (is_source_slot c (suc m)) _ (le-ltb (m / 256) 0 (omega arith))
   where
@@ -189,10 +190,10 @@ no_run c n (suc m) = ap (λ k. is_source_slot c (suc m) && nat_lt (m / 256) k) (
     by true b e = e
     by false b e = refl
 
-pub none_covered : (c : Cut) (ends alone : List ℕ) (n : ℕ) → ends ≡ replicate n 0 → alone ≡ [] → covered_slots c ends alone ≡ []
+pub none_covered : (c : Shape) (ends alone : List ℕ) (n : ℕ) → ends ≡ replicate n 0 → alone ≡ [] → covered_slots c ends alone ≡ []
 unfolding covered_slots
 none_covered c ends alone n zeros none =
-    no_filter (λ slot. is_member nat_lt slot alone || is_run_slot c ends slot) 0 (slots (blocks c))
+    no_filter (λ slot. is_member nat_lt slot alone || is_run_slot c ends slot) 0 (slots (blocks c.cut))
     (λ i le lt. ap (λ (xs : List ℕ). is_member nat_lt i xs || is_run_slot c ends i) none ∙ ap (λ b. b || is_run_slot c ends i) (no_member i)
     ∙ ap (λ (es : List ℕ). is_run_slot c es i) zeros ∙ no_run c n i)
 
@@ -205,7 +206,7 @@ by_source : (s x y z w : Bool) → ((x || y) || z) ≡ w → (((s && x) || (s &&
 by_source true x y z w e = e
 by_source false x y z w e = refl
 
-pub parts_are_run : (c : Cut) (m : Bool) (slot from to first behind : ℕ) → from ≤ 256 * first + 1 → first < behind → 256 * behind + 1 ≤ to
+pub parts_are_run : (c : Shape) (m : Bool) (slot from to first behind : ℕ) → from ≤ 256 * first + 1 → first < behind → 256 * behind + 1 ≤ to
     → (((m || (is_source_slot c slot && in_run from (256 * first + 1) slot)) || (is_source_slot c slot && is_in_blocks first behind slot)) || (is_source_slot c slot && in_run (256 * behind + 1) to slot))
     ≡ (m || (is_source_slot c slot && in_run from to slot))
 parts_are_run c true slot from to first behind low some high = refl
@@ -224,7 +225,7 @@ block_there : (n b j : ℕ) (s : Bool) → j ≤ 256 → (n / 256 ≡ b → ⊥)
     → ((s && nat_lt (n / 256) b) || in_run (256 * b + 0 + 1) (256 * b + 0 + 1 + j) (suc n)) ≡ (s && nat_lt (n / 256) (b + 1))
 block_there n b j s few ne = grind (arith, nat_tests, div-add-mod n 256)
 
-pub run_block : (c : Cut) (ends : List ℕ) (slot b j : ℕ) → j ≡ source_symbols c b → j ≤ 256 → b < blocks c → b < farthest (take (suc b) ends)
+pub run_block : (c : Shape) (ends : List ℕ) (slot b j : ℕ) → j ≡ closed_in c b → j ≤ 256 → b < blocks c.cut → b < farthest (take (suc b) ends)
     → ((is_run_slot c ends slot && is_below b slot) || in_run (256 * b + 0 + 1) (256 * b + 0 + 1 + j) slot) ≡ (is_run_slot c ends slot && is_below (b + 1) slot)
 run_block c ends zero b j is few lt lies = grind (arith, nat_tests)
 run_block c ends (suc n) b j is few lt lies = go (cases_eq (n / 256) b)
@@ -232,11 +233,11 @@ run_block c ends (suc n) b j is few lt lies = go (cases_eq (n / 256) b)
     go : (n / 256 ≡ b) ⊎ (n / 256 ≡ b → ⊥)
         → ((is_run_slot c ends (suc n) && nat_lt (n / 256) b) || in_run (256 * b + 0 + 1) (256 * b + 0 + 1 + j) (suc n)) ≡ (is_run_slot c ends (suc n) && nat_lt (n / 256) (b + 1))
     go (inl e) =
-        block_here n (blocks c) (source_symbols c (n / 256)) j b (lies_in_run ends (n / 256)) few lt e (ap (source_symbols c) e ∙ sym is)
+        block_here n (blocks c.cut) (closed_in c (n / 256)) j b (lies_in_run ends (n / 256)) few lt e (ap (closed_in c) e ∙ sym is)
         (ap (lies_in_run ends) e ∙ lt-ltb b _ lies)
     go (inr ne) = block_there n b j (is_run_slot c ends (suc n)) few ne
 
-pub no_run_block : (c : Cut) (ends : List ℕ) (slot b : ℕ) → farthest (take (suc b) ends) ≤ b
+pub no_run_block : (c : Shape) (ends : List ℕ) (slot b : ℕ) → farthest (take (suc b) ends) ≤ b
     → (is_run_slot c ends slot && is_below b slot) ≡ (is_run_slot c ends slot && is_below (b + 1) slot)
 no_run_block c ends zero b none = refl
 no_run_block c ends (suc n) b none = go (cases_eq (n / 256) b)
@@ -254,7 +255,7 @@ no_run_block c ends (suc n) b none = go (cases_eq (n / 256) b)
     go (inr ne) = apart (is_run_slot c ends (suc n)) ne
 
 -- no block yet, and all blocks
-pub no_block : (c : Cut) (ends : List ℕ) (slot : ℕ) → (is_run_slot c ends slot && is_below 0 slot) ≡ false
+pub no_block : (c : Shape) (ends : List ℕ) (slot : ℕ) → (is_run_slot c ends slot && is_below 0 slot) ≡ false
 no_block c ends zero = refl
 no_block c ends (suc n) = by (is_run_slot c ends (suc n)) _ (le-ltb (n / 256) 0 (omega arith))
   where
@@ -262,19 +263,19 @@ no_block c ends (suc n) = by (is_run_slot c ends (suc n)) _ (le-ltb (n / 256) 0 
     by true b e = e
     by false b e = refl
 
-pub all_blocks : (c : Cut) (ends : List ℕ) (slot b : ℕ) → blocks c ≤ b → (is_run_slot c ends slot && is_below b slot) ≡ is_run_slot c ends slot
+pub all_blocks : (c : Shape) (ends : List ℕ) (slot b : ℕ) → blocks c.cut ≤ b → (is_run_slot c ends slot && is_below b slot) ≡ is_run_slot c ends slot
 all_blocks c ends zero b all = refl
-all_blocks c ends (suc n) b all = by (nat_lt (n / 256) (blocks c)) (nat_lt (n % 256) (source_symbols c (n / 256))) (lies_in_run ends (n / 256)) refl
+all_blocks c ends (suc n) b all = by (nat_lt (n / 256) (blocks c.cut)) (nat_lt (n % 256) (closed_in c (n / 256))) (lies_in_run ends (n / 256)) refl
   where
-    by : (x y l : Bool) → x ≡ nat_lt (n / 256) (blocks c) → (((x && y) && l) && nat_lt (n / 256) b) ≡ ((x && y) && l)
+    by : (x y l : Bool) → x ≡ nat_lt (n / 256) (blocks c.cut) → (((x && y) && l) && nat_lt (n / 256) b) ≡ ((x && y) && l)
     by true true true is = grind (arith, nat_tests)
     by true true false is = refl
     by true false l is = refl
     by false y l is = refl
 
-pub run_step : (c : Cut) (ends : List ℕ) (slot b : ℕ) (wanted : Bool) → source_symbols c b ≤ 256 → b < blocks c → wanted ≡ nat_lt b (farthest (take (suc b) ends))
-    → ((is_run_slot c ends slot && is_below b slot) || (wanted && in_run (symbol_slot b 0) (symbol_slot b 0 + source_symbols c b) slot)) ≡ (is_run_slot c ends slot && is_below (b + 1) slot)
-run_step c ends slot b true few lt is = run_block c ends slot b (source_symbols c b) refl few lt (ltb-true b _ (sym is))
+pub run_step : (c : Shape) (ends : List ℕ) (slot b : ℕ) (wanted : Bool) → closed_in c b ≤ 256 → b < blocks c.cut → wanted ≡ nat_lt b (farthest (take (suc b) ends))
+    → ((is_run_slot c ends slot && is_below b slot) || (wanted && in_run (symbol_slot b 0) (symbol_slot b 0 + closed_in c b) slot)) ≡ (is_run_slot c ends slot && is_below (b + 1) slot)
+run_step c ends slot b true few lt is = run_block c ends slot b (closed_in c b) refl few lt (ltb-true b _ (sym is))
 run_step c ends slot b false few lt is = or_false _ false refl ∙ no_run_block c ends slot b (not_below (cases_lt b (farthest (take (suc b) ends))))
   where
     not_below : (b < farthest (take (suc b) ends)) ⊎ (farthest (take (suc b) ends) ≤ b) → farthest (take (suc b) ends) ≤ b

@@ -18,6 +18,7 @@ pub mod Collections
 pub mod Windows
 pub mod Sources
 pub mod Wholes
+pub mod Ends
 pub mod Came
 pub mod NamedSymbols
 pub mod AskedSlots
@@ -43,3 +44,6 @@ pub mod Summed
 pub mod Rising
 pub mod Heard
 pub mod Retired
+pub mod Grown
+pub mod Moved
+pub mod Shifted

@@ -6,7 +6,8 @@ use Rattle.std.proofs.lemmas.Bool.Decides.{nat_tests}
 use Rattle.std.proofs.lemmas.List.{get_or-set_same, get_or-set_other, get_or_read}
 use Rattle.fec_plan.specs.Points.{position}
 use Rattle.norm_ext.specs.Asking.{Span, lies_in, block_span, object_span, has_flag, segment_flag, block_flag, object_flag, info_flag}
-use Rattle.nack_union.specs.Kept.{Marked}
+use Rattle.norm_order.specs.Shapes.{Shape}
+use Rattle.nack_union.specs.Kept.{Marked, symbols_of_marked}
 use Rattle.nack_union.specs.More.{HasMore, is_source_slot, slot_in, asks_by}
 use Rattle.nack_union.proofs.Mores.{more_by, more_twice}
 
@@ -42,32 +43,32 @@ in_objects index s from to = plain s.first.index s.last.index from to
 -- the parts of what flags ask, one after another
 pub named_more : (flags : ℕ) (s : Span) (index : ℕ) (old a b c new : Marked) (f g h i : Bool) → f ≡ has_flag flags segment_flag → g ≡ has_flag flags block_flag
     → h ≡ has_flag flags object_flag → i ≡ has_flag flags info_flag → s.first.index ≤ index → index ≤ s.last.index
-    → HasMore (λ slot. f && (is_source_slot old.cut slot && slot_in index s slot)) (λ block. 0) old a
-    → HasMore (λ slot. g && (is_source_slot a.cut slot && slot_in index (block_span s) slot)) (λ block. 0) a b
-    → HasMore (λ slot. h && (is_source_slot b.cut slot && slot_in index (object_span s) slot)) (λ block. 0) b c
+    → HasMore (λ slot. f && (is_source_slot (symbols_of_marked old) slot && slot_in index s slot)) (λ block. 0) old a
+    → HasMore (λ slot. g && (is_source_slot (symbols_of_marked a) slot && slot_in index (block_span s) slot)) (λ block. 0) a b
+    → HasMore (λ slot. h && (is_source_slot (symbols_of_marked b) slot && slot_in index (object_span s) slot)) (λ block. 0) b c
     → HasMore (λ slot. i && (c.info && slot == 0)) (λ block. 0) c new
-    → HasMore (asks_by flags s index old.cut old.info) (λ block. 0) old new
+    → HasMore (asks_by flags s index (symbols_of_marked old) old.info) (λ block. 0) old new
 named_more flags s index old a b c new f g h i f_is g_is h_is i_is from to one two three four =
-    let cut_a = ap (λ (m : Marked). m.cut) one.rest in
-    let cut_b = ap (λ (m : Marked). m.cut) two.rest ∙ cut_a in
+    let cut_a = ap symbols_of_marked one.rest in
+    let cut_b = ap symbols_of_marked two.rest ∙ cut_a in
     let info = ap (λ (m : Marked). m.info) three.rest ∙ ap (λ (m : Marked). m.info) two.rest ∙ ap (λ (m : Marked). m.info) one.rest in
     more_by _ _ _ _ old new
     (more_twice _ _ _ _ old c new
     (more_twice _ _ _ _ old b c
     (more_twice _ _ _ _ old a b one
-    (subst (λ cut. HasMore (λ slot. g && (is_source_slot cut slot && slot_in index (block_span s) slot)) (λ block. 0) a b) cut_a two))
-    (subst (λ cut. HasMore (λ slot. h && (is_source_slot cut slot && slot_in index (object_span s) slot)) (λ block. 0) b c) cut_b three))
+    (subst (λ (cut : Shape). HasMore (λ slot. g && (is_source_slot cut slot && slot_in index (block_span s) slot)) (λ block. 0) a b) cut_a two))
+    (subst (λ (cut : Shape). HasMore (λ slot. h && (is_source_slot cut slot && slot_in index (object_span s) slot)) (λ block. 0) b c) cut_b three))
     (subst (λ has. HasMore (λ slot. i && (has && slot == 0)) (λ block. 0) c new) info four))
     (λ slot.
-    ap (λ v. (((v && (is_source_slot old.cut slot && slot_in index s slot)) || (g && (is_source_slot old.cut slot && slot_in index (block_span s) slot)))
-    || (h && (is_source_slot old.cut slot && slot_in index (object_span s) slot))) || (i && (old.info && slot == 0))) f_is
-    ∙ ap (λ v. (((has_flag flags segment_flag && (is_source_slot old.cut slot && slot_in index s slot)) || (v && (is_source_slot old.cut slot && slot_in index (block_span s) slot)))
-    || (h && (is_source_slot old.cut slot && slot_in index (object_span s) slot))) || (i && (old.info && slot == 0))) g_is
-    ∙ ap (λ v. (((has_flag flags segment_flag && (is_source_slot old.cut slot && slot_in index s slot)) || (has_flag flags block_flag && (is_source_slot old.cut slot && slot_in index (block_span s) slot)))
-    || (v && (is_source_slot old.cut slot && slot_in index (object_span s) slot))) || (i && (old.info && slot == 0))) h_is
-    ∙ ap (λ v. (((has_flag flags segment_flag && (is_source_slot old.cut slot && slot_in index s slot)) || (has_flag flags block_flag && (is_source_slot old.cut slot && slot_in index (block_span s) slot)))
-    || (has_flag flags object_flag && (is_source_slot old.cut slot && slot_in index (object_span s) slot))) || (v && (old.info && slot == 0))) i_is
-    ∙ shuffle (has_flag flags segment_flag) (has_flag flags block_flag) (has_flag flags object_flag) (has_flag flags info_flag) (is_source_slot old.cut slot)
+    ap (λ v. (((v && (is_source_slot (symbols_of_marked old) slot && slot_in index s slot)) || (g && (is_source_slot (symbols_of_marked old) slot && slot_in index (block_span s) slot)))
+    || (h && (is_source_slot (symbols_of_marked old) slot && slot_in index (object_span s) slot))) || (i && (old.info && slot == 0))) f_is
+    ∙ ap (λ v. (((has_flag flags segment_flag && (is_source_slot (symbols_of_marked old) slot && slot_in index s slot)) || (v && (is_source_slot (symbols_of_marked old) slot && slot_in index (block_span s) slot)))
+    || (h && (is_source_slot (symbols_of_marked old) slot && slot_in index (object_span s) slot))) || (i && (old.info && slot == 0))) g_is
+    ∙ ap (λ v. (((has_flag flags segment_flag && (is_source_slot (symbols_of_marked old) slot && slot_in index s slot)) || (has_flag flags block_flag && (is_source_slot (symbols_of_marked old) slot && slot_in index (block_span s) slot)))
+    || (v && (is_source_slot (symbols_of_marked old) slot && slot_in index (object_span s) slot))) || (i && (old.info && slot == 0))) h_is
+    ∙ ap (λ v. (((has_flag flags segment_flag && (is_source_slot (symbols_of_marked old) slot && slot_in index s slot)) || (has_flag flags block_flag && (is_source_slot (symbols_of_marked old) slot && slot_in index (block_span s) slot)))
+    || (has_flag flags object_flag && (is_source_slot (symbols_of_marked old) slot && slot_in index (object_span s) slot))) || (v && (old.info && slot == 0))) i_is
+    ∙ shuffle (has_flag flags segment_flag) (has_flag flags block_flag) (has_flag flags object_flag) (has_flag flags info_flag) (is_source_slot (symbols_of_marked old) slot)
     (slot_in index s slot) (slot_in index (block_span s) slot) (slot_in index (object_span s) slot) (old.info && slot == 0)
     (lies_in (position index 0 0) (object_span s)) (in_objects index s from to))
     (λ block. refl)

@@ -8,7 +8,7 @@ use Rattle.fec_plan.specs.Points.{position}
 use Rattle.fec_plan.specs.declared.position.Position.{Position}
 use Rattle.norm_ext.specs.Asking.{Named, asked_symbols}
 use Rattle.nack_union.specs.Slots.{symbol_slot}
-use Rattle.nack_union.specs.Kept.{Marked}
+use Rattle.nack_union.specs.Kept.{Marked, symbols_of_marked}
 use Rattle.nack_union.specs.Adding.{names_symbol, asks_symbol, asks_slot}
 use Rattle.nack_union.proofs.Lists.{In}
 use Rattle.nack_union.proofs.Sources.{any_in, in_any}
@@ -38,16 +38,16 @@ of_right false b e = e
 
 -- a symbol's slot asks for the symbol
 pub slot_asks : (r : Named) (index block symbol : ℕ) (m : Marked) → symbol < 256
-    → asks_slot r index m (symbol_slot block symbol) ≡ asks_symbol r m.cut (position index block symbol)
+    → asks_slot r index m (symbol_slot block symbol) ≡ asks_symbol r (symbols_of_marked m) (position index block symbol)
 slot_asks r index block symbol m lt = go (256 * block + symbol) refl
   where
-    go : (n : ℕ) → n ≡ 256 * block + symbol → asks_slot r index m (n + 1) ≡ asks_symbol r m.cut (position index block symbol)
+    go : (n : ℕ) → n ≡ 256 * block + symbol → asks_slot r index m (n + 1) ≡ asks_symbol r (symbols_of_marked m) (position index block symbol)
     go n e =
         let high : n / 256 ≡ block = omega (arith, div-add-mod n 256) in
         let low : n % 256 ≡ symbol = omega (arith, div-add-mod n 256) in
         ap (asks_slot r index m) (let f : n + 1 ≡ suc n = omega arith in f)
-        ∙ ap (λ b. asks_symbol r m.cut (position index b (n % 256))) high
-        ∙ ap (λ x. asks_symbol r m.cut (position index block x)) low
+        ∙ ap (λ b. asks_symbol r (symbols_of_marked m) (position index b (n % 256))) high
+        ∙ ap (λ x. asks_symbol r (symbols_of_marked m) (position index block x)) low
 
 -- a request that names a symbol has it among those that it asks for
 pub named_in : (r : Named) (at : Position) → names_symbol r at ≡ true → In at (asked_symbols r)

@@ -3,10 +3,10 @@ use Rattle.std.proofs.Common.{◌≡◌, ℕ, zero, suc, ◌+◌, ◌-◌, ◌/�
 use Rattle.std.specs.Prelude.{◌==◌, ◌&&◌, ◌||◌, min, max}
 use Rattle.std.proofs.lemmas.Bool.{cases_lt}
 use Rattle.std.proofs.lemmas.Bool.Decides.{nat_tests}
-use Rattle.fec_plan.specs.Partition.{Cut}
+use Rattle.norm_order.specs.Shapes.{Shape}
 use Rattle.fec_plan.specs.Points.{position}
 use Rattle.norm_ext.specs.Asking.{Span, span, lies_in, has_flag, segment_flag, block_flag, object_flag, info_flag}
-use Rattle.nack_union.specs.Kept.{Marked}
+use Rattle.nack_union.specs.Kept.{Marked, symbols_of_marked}
 use Rattle.nack_union.specs.CollectionSound.{IsIdle, AreIdle}
 use Rattle.nack_union.specs.More.{MoreOf, is_source_slot, slot_in, asks_by, named_part}
 use Rattle.nack_union.proofs.Mores.{none_more}
@@ -45,7 +45,7 @@ all_false g b c d e x y z l xf yf zf lf =
     go true false false false true = refl
     go true false false false false = refl
 
-nothing_by : (flags : ℕ) (s : Span) (index : ℕ) (c : Cut) (info : Bool) (slot : ℕ) → (index < s.first.index) ⊎ (s.last.index < index) → asks_by flags s index c info slot ≡ false
+nothing_by : (flags : ℕ) (s : Span) (index : ℕ) (c : Shape) (info : Bool) (slot : ℕ) → (index < s.first.index) ⊎ (s.last.index < index) → asks_by flags s index c info slot ≡ false
 nothing_by flags s index c info slot out =
     all_false (is_source_slot c slot) (has_flag flags segment_flag) (has_flag flags block_flag) (has_flag flags object_flag) (has_flag flags info_flag && (info && slot == 0)) _ _ _ _
     (slot_out index slot s.first.index s.first.block s.first.symbol s.last.index s.last.block s.last.symbol out)
@@ -63,7 +63,7 @@ named_in_all flags s first from to old new starts ends each rest k d lt = go (ca
     other : (k < from) ⊎ (to ≤ k) → (first + k < s.first.index) ⊎ (s.last.index < first + k) → MoreOf (named_part flags s) (first + k) (get_or old k d) (get_or new k d)
     other out away =
         subst (MoreOf (named_part flags s) (first + k) (get_or old k d)) (sym (rest k d out))
-        (none_more _ (λ block. 0) (get_or old k d) (λ slot. nothing_by flags s (first + k) (get_or old k d).cut (get_or old k d).info slot away) (λ block. refl))
+        (none_more _ (λ block. 0) (get_or old k d) (λ slot. nothing_by flags s (first + k) (symbols_of_marked (get_or old k d)) (get_or old k d).info slot away) (λ block. refl))
 
     go : (k < from) ⊎ (from ≤ k) → (k < to) ⊎ (to ≤ k) → MoreOf (named_part flags s) (first + k) (get_or old k d) (get_or new k d)
     go (inl before) at = other (inl before) (inl (omega (arith, before, starts)))

@@ -1,6 +1,7 @@
 -- One part after another.
 use Rattle.std.proofs.Common.{ℕ, ◌+◌, ◌<◌, get_or, false, refl, sym, ap, ◌∙◌, subst}
-use Rattle.nack_union.specs.Kept.{Kept, Marked}
+use Rattle.norm_order.specs.Shapes.{Shape}
+use Rattle.nack_union.specs.Kept.{Kept, Marked, symbols_of_marked}
 use Rattle.nack_union.specs.More.{HasMore, HasPart, MoreOf, Part, no_part, and_part}
 use Rattle.nack_union.proofs.Mores.{none_more, more_twice}
 
@@ -21,6 +22,7 @@ part_then a b old mid new one two = record {
   where
     go : (k : ℕ) (x y z : Marked) → MoreOf a (old.first + k) x y → MoreOf b (old.first + k) y z → MoreOf (and_part a b) (old.first + k) x z
     go k x y z f g =
-        more_twice (a.slots (old.first + k) x.cut x.info) (b.slots (old.first + k) x.cut x.info) (a.counts (old.first + k)) (b.counts (old.first + k)) x y z f
-        (subst (λ c. HasMore (b.slots (old.first + k) c x.info) (b.counts (old.first + k)) y z) (ap (λ (m : Marked). m.cut) f.rest)
-        (subst (λ i. HasMore (b.slots (old.first + k) y.cut i) (b.counts (old.first + k)) y z) (ap (λ (m : Marked). m.info) f.rest) g))
+        more_twice (a.slots (old.first + k) (symbols_of_marked x) x.info) (b.slots (old.first + k) (symbols_of_marked x) x.info)
+        (a.counts (old.first + k) (symbols_of_marked x)) (b.counts (old.first + k) (symbols_of_marked x)) x y z f
+        (subst (λ (c : Shape). HasMore (b.slots (old.first + k) c x.info) (b.counts (old.first + k) c) y z) (ap symbols_of_marked f.rest)
+        (subst (λ i. HasMore (b.slots (old.first + k) (symbols_of_marked y) i) (b.counts (old.first + k) (symbols_of_marked y)) y z) (ap (λ (m : Marked). m.info) f.rest) g))

@@ -3,7 +3,7 @@ use Rattle.std.proofs.Common.{◌≡◌, ℕ, zero, suc, ◌/◌, ◌%◌, List,
 use Rattle.std.specs.Prelude.{◌==◌, ◌&&◌, ◌||◌, filter}
 use Rattle.std.specs.List.{list_any}
 use Rattle.std.proofs.Math.Bool.{or_assoc}
-use Rattle.fec_plan.specs.Partition.{Cut}
+use Rattle.norm_order.specs.Shapes.{Shape}
 use Rattle.fec_plan.specs.Points.{position}
 use Rattle.fec_plan.specs.declared.position.Position.{Position}
 use Rattle.norm_ext.specs.Asking.{Span, lies_in, block_span, object_span, has_flag, segment_flag, block_flag, object_flag, info_flag, where_flag, is_proper}
@@ -81,7 +81,7 @@ none_and true b e = e
 none_and false b e = refl
 
 -- of a span, for the slot of a symbol
-slot_by : (flags index n : ℕ) (s : Span) (c : Cut) (info : Bool)
+slot_by : (flags index n : ℕ) (s : Span) (c : Shape) (info : Bool)
     → asks_by flags s index c info (suc n) ≡ (is_source_slot c (suc n) && by_span flags (position index (n / 256) (n % 256)) s)
 slot_by flags index n s c info =
     or_false _ _ (gone (has_flag flags info_flag) info (suc n == 0) (lies_in (position index 0 0) (object_span s)) (other_is (suc n) 0 (λ e. absurd (omega (arith, e)))))
@@ -95,7 +95,7 @@ slot_by flags index n s c info =
         go false b = refl
 
 -- and of its object's info
-info_by : (flags index : ℕ) (s : Span) (c : Cut) (info : Bool)
+info_by : (flags index : ℕ) (s : Span) (c : Shape) (info : Bool)
     → asks_by flags s index c info zero ≡ (info && (has_flag flags info_flag && lies_in (position index 0 0) (object_span s)))
 info_by flags index s c info = go (has_flag flags info_flag) info (lies_in (position index 0 0) (object_span s))
   where
@@ -109,7 +109,7 @@ info_by flags index s c info = go (has_flag flags info_flag) info (lies_in (posi
 abbrev pub same_symbol : Position → Position → Bool
 same_symbol at x = x.index == at.index && x.block == at.block && x.symbol == at.symbol
 
-named_by_flag : (flags index n : ℕ) (x : Position) (c : Cut) (info : Bool)
+named_by_flag : (flags index n : ℕ) (x : Position) (c : Shape) (info : Bool)
     → (part_where (has_flag flags segment_flag) (symbol_part x)).slots index c info (suc n)
     ≡ (is_encoded_slot c (suc n) && (has_flag flags segment_flag && same_symbol (position index (n / 256) (n % 256)) x))
 named_by_flag flags index n x c info = go (has_flag flags segment_flag)
@@ -128,7 +128,7 @@ named_by_flag flags index n x c info = go (has_flag flags segment_flag)
     go true = turn (is_encoded_slot c (suc n)) (x.index == index) (x.block == n / 256) (x.symbol == n % 256)
     go false = off (is_encoded_slot c (suc n))
 
-named_info : (flags index : ℕ) (x : Position) (c : Cut) (info : Bool) → (part_where (has_flag flags segment_flag) (symbol_part x)).slots index c info zero ≡ false
+named_info : (flags index : ℕ) (x : Position) (c : Shape) (info : Bool) → (part_where (has_flag flags segment_flag) (symbol_part x)).slots index c info zero ≡ false
 named_info flags index x c info = go (has_flag flags segment_flag)
   where
     go : (f : Bool) → (part_where f (symbol_part x)).slots index c info zero ≡ false
@@ -152,7 +152,7 @@ abbrev pub begins : List Span → List Position
 begins spans = map (λ (s : Span). s.first) spans
 
 -- items, for the slot of a symbol
-pub items_slot : (flags index n : ℕ) (c : Cut) (info : Bool) (spans : List Span)
+pub items_slot : (flags index n : ℕ) (c : Shape) (info : Bool) (spans : List Span)
     → (items_part flags spans).slots index c info (suc n)
     ≡ ((is_source_slot c (suc n) && by_spans flags (position index (n / 256) (n % 256)) spans)
     || (is_encoded_slot c (suc n) && (has_flag flags segment_flag && list_any (same_symbol (position index (n / 256) (n % 256))) (begins spans))))
@@ -177,7 +177,7 @@ no_infos true false = refl
 no_infos false f = refl
 
 -- items, for an info
-pub items_info : (flags index : ℕ) (c : Cut) (info : Bool) (spans : List Span)
+pub items_info : (flags index : ℕ) (c : Shape) (info : Bool) (spans : List Span)
     → (items_part flags spans).slots index c info zero
     ≡ (info && (has_flag flags info_flag && list_any (λ s. lies_in (position index 0 0) (object_span s)) spans))
 items_info flags index c info [] = no_infos info (has_flag flags info_flag)
@@ -189,7 +189,7 @@ items_info flags index c info (x ∷ spans) =
     ∙ dist info _ _ ∙ ap (λ v. info && v) (dist (has_flag flags info_flag) _ _)
 
 -- ranges
-pub ranges_slot : (flags index n : ℕ) (c : Cut) (info : Bool) (spans : List Span)
+pub ranges_slot : (flags index n : ℕ) (c : Shape) (info : Bool) (spans : List Span)
     → (ranges_part flags spans).slots index c info (suc n)
     ≡ (is_source_slot c (suc n) && by_spans flags (position index (n / 256) (n % 256)) (filter is_proper spans))
 ranges_slot flags index n c info [] = go (is_source_slot c (suc n)) (has_flag flags segment_flag) (has_flag flags block_flag) (has_flag flags object_flag)
@@ -209,7 +209,7 @@ ranges_slot flags index n c info (x ∷ spans) = go (is_proper x) (ranges_slot f
         ∙ ap (λ v. is_source_slot c (suc n) && v) (more_spans flags (position index (n / 256) (n % 256)) x (filter is_proper spans))
     go false rest = rest
 
-pub ranges_info : (flags index : ℕ) (c : Cut) (info : Bool) (spans : List Span)
+pub ranges_info : (flags index : ℕ) (c : Shape) (info : Bool) (spans : List Span)
     → (ranges_part flags spans).slots index c info zero
     ≡ (info && (has_flag flags info_flag && list_any (λ s. lies_in (position index 0 0) (object_span s)) (filter is_proper spans)))
 ranges_info flags index c info [] = no_infos info (has_flag flags info_flag)

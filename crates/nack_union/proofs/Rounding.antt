@@ -10,7 +10,7 @@ use Rattle.norm_send_rules.specs.SenderState.{SenderState}
 use Rattle.norm_send_rules.specs.Wants.{want_before}
 use Rattle.nack_union.specs.Slots.{want_at}
 use Rattle.nack_union.specs.Repairs.{counted_slots}
-use Rattle.nack_union.specs.Kept.{Marked, Kept, Holds, listed, closed_marks, closed_union, admitted, shape_of_marked, IsCounted}
+use Rattle.nack_union.specs.Kept.{Marked, Kept, Holds, listed, symbols_of_marked, closed_marks, closed_union, admitted, shape_of_marked, IsCounted}
 use Rattle.nack_union.specs.Rounds.{asked_of, wants_closed, new_wants}
 use Rattle.nack_union.proofs.Closings.{all_closed}
 use Rattle.nack_union.proofs.Counted.{asked_are}
@@ -69,7 +69,7 @@ grown index (m ∷ ms) =
     let new_here = length-map (closed_marks m).wants (want_at index) in
     let old_here = length-map m.wants (want_at index) in
     let rest = grown (suc index) ms in
-    let here = no_fewer (with_members nat_lt (counted_slots m.cut m.sent 0 m.counts) m.asked) m.wants in
+    let here = no_fewer (with_members nat_lt (counted_slots (symbols_of_marked m) m.sent 0 m.counts) m.asked) m.wants in
     omega (arith, new, old, new_here, old_here, rest, here)
 
 pub all_queued : (p : Settings) (s : SenderState) (u : Kept) → AllByRecursion IsCounted u.objects → Holds p u s

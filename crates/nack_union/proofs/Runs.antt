@@ -4,7 +4,8 @@ use Rattle.std.specs.Prelude.{◌==◌, ◌&&◌, ◌||◌, nat_lt, min, max}
 use Rattle.std.proofs.lemmas.Bool.Decides.{nat_tests}
 use Rattle.std.proofs.lemmas.Bool.{cases_eq}
 use Rattle.std.proofs.Math.Nat.{div-add-mod}
-use Rattle.fec_plan.specs.Partition.{Cut, blocks, source_symbols}
+use Rattle.fec_plan.specs.Partition.{blocks}
+use Rattle.norm_order.specs.Shapes.{Shape, closed_in}
 use Rattle.nack_union.specs.More.{in_run, is_source_slot, is_below}
 
 -- one slot more
@@ -35,30 +36,30 @@ plain_more n m k j b from to low high few lt same first last = go (cases_eq (n /
     go (inr ne) = grind (arith, nat_tests, div-add-mod n 256)
 
 -- the source symbols of one block more, by their slots
-pub slot_more : (c : Cut) (slot b from to low high j : ℕ) → j ≡ source_symbols c b → j ≤ 256 → b < blocks c
+pub slot_more : (c : Shape) (slot b from to low high j : ℕ) → j ≡ closed_in c b → j ≤ 256 → b < blocks c.cut
     → low ≡ max (256 * b + 0 + 1) from → high ≡ min (256 * b + 0 + 1 + j) to
     → ((is_source_slot c slot && in_run from to slot && is_below b slot) || in_run low high slot)
     ≡ (is_source_slot c slot && in_run from to slot && is_below (b + 1) slot)
 slot_more c zero b from to low high j is few lt first last = grind (arith, nat_tests)
 slot_more c (suc n) b from to low high j is few lt first last =
-    plain_more n (blocks c) (source_symbols c (n / 256)) j b from to low high few lt (λ e. ap (source_symbols c) e ∙ sym is) first last
+    plain_more n (blocks c.cut) (closed_in c (n / 256)) j b from to low high few lt (λ e. ap (closed_in c) e ∙ sym is) first last
 
 plain_none : (n m k from to start : ℕ) → start ≡ from - 1 → (nat_lt (n / 256) m && nat_lt (n % 256) k && in_run from to (suc n) && nat_lt (n / 256) (start / 256)) ≡ false
 plain_none n m k from to start is = grind (arith, nat_tests, div-add-mod n 256, div-add-mod start 256)
 
 -- none before the first block that has one
-pub blocks_none : (c : Cut) (slot from to start : ℕ) → start ≡ from - 1 → (is_source_slot c slot && in_run from to slot && is_below (start / 256) slot) ≡ false
+pub blocks_none : (c : Shape) (slot from to start : ℕ) → start ≡ from - 1 → (is_source_slot c slot && in_run from to slot && is_below (start / 256) slot) ≡ false
 blocks_none c zero from to start is = refl
-blocks_none c (suc n) from to start is = plain_none n (blocks c) (source_symbols c (n / 256)) from to start is
+blocks_none c (suc n) from to start is = plain_none n (blocks c.cut) (closed_in c (n / 256)) from to start is
 
 plain_end : (n m k from to start i top behind : ℕ) → start ≡ from - 1 → behind ≡ min top m → to - 1 ≤ 256 * top → i ≤ max (start / 256) behind → behind ≤ i
     → (nat_lt (n / 256) m && nat_lt (n % 256) k && in_run from to (suc n) && nat_lt (n / 256) i) ≡ (nat_lt (n / 256) m && nat_lt (n % 256) k && in_run from to (suc n))
 plain_end n m k from to start i top behind is last cover most least = grind (arith, nat_tests, div-add-mod n 256, div-add-mod start 256)
 
 -- and none behind the last
-pub blocks_end : (c : Cut) (slot from to start i top behind : ℕ) → start ≡ from - 1 → behind ≡ min top (blocks c) → to - 1 ≤ 256 * top
+pub blocks_end : (c : Shape) (slot from to start i top behind : ℕ) → start ≡ from - 1 → behind ≡ min top (blocks c.cut) → to - 1 ≤ 256 * top
     → i ≤ max (start / 256) behind → behind ≤ i
     → (is_source_slot c slot && in_run from to slot && is_below i slot) ≡ (is_source_slot c slot && in_run from to slot)
 blocks_end c zero from to start i top behind is last cover most least = refl
 blocks_end c (suc n) from to start i top behind is last cover most least =
-    plain_end n (blocks c) (source_symbols c (n / 256)) from to start i top behind is last cover most least
+    plain_end n (blocks c.cut) (closed_in c (n / 256)) from to start i top behind is last cover most least

@@ -4,7 +4,8 @@ use Rattle.std.specs.Prelude.{◌==◌, ◌&&◌, not, nat_lt}
 use Rattle.std.proofs.lemmas.Bool.{cases_eq}
 use Rattle.std.proofs.lemmas.Bool.Decides.{nat_tests}
 use Rattle.std.proofs.Math.Nat.{div-add-mod}
-use Rattle.fec_plan.specs.Partition.{Cut, blocks, source_symbols, encoding_symbols}
+use Rattle.fec_plan.specs.Partition.{blocks}
+use Rattle.norm_order.specs.Shapes.{Shape, closed_in, encoded_in}
 use Rattle.fec_plan.specs.Points.{position, position_before}
 use Rattle.fec_plan.specs.declared.position.Position.{Position}
 use Rattle.norm_ext.specs.Asking.{span, lies_in}
@@ -72,12 +73,12 @@ between a n m index first last low high from to =
     both (nat_lt (n / 256) m && a) _ _ _ _ (start_is index n first low from)
     (λ g. end_is index n m last high to (ltb-true (n / 256) m (first_true (nat_lt (n / 256) m) a g)))
 
-pub in_span : (c : Cut) (index : ℕ) (first last : Position) (slot : ℕ) → first.symbol < 256 → last.symbol < 256 → first.index ≤ index → index ≤ last.index
-    → (is_source_slot c slot && in_run (slot_from index first) (slot_behind index last (256 * blocks c + 1)) slot)
+pub in_span : (c : Shape) (index : ℕ) (first last : Position) (slot : ℕ) → first.symbol < 256 → last.symbol < 256 → first.index ≤ index → index ≤ last.index
+    → (is_source_slot c slot && in_run (slot_from index first) (slot_behind index last (256 * blocks c.cut + 1)) slot)
     ≡ (is_source_slot c slot && slot_in index (span first last) slot)
 in_span c index first last zero low high from to = refl
 in_span c index first last (suc n) low high from to =
-    between (nat_lt (n % 256) (source_symbols c (n / 256))) n (blocks c) index first last low high from to
+    between (nat_lt (n % 256) (closed_in c (n / 256))) n (blocks c.cut) index first last low high from to
 
 plain_at : (many k block symbol n : ℕ) → symbol < 256 → block < many → (n / 256 ≡ block → symbol < k)
     → ((nat_lt (n / 256) many && nat_lt (n % 256) k) && (block == n / 256 && symbol == n % 256)) ≡ (suc n == 256 * block + symbol + 1)
@@ -93,8 +94,8 @@ plain_at many k block symbol n few within named = go (cases_eq (n / 256) block)
     go (inr ne) = grind (arith, nat_tests, div-add-mod n 256)
 
 -- the one slot of an encoded symbol
-pub at_symbol : (c : Cut) (block symbol slot : ℕ) → symbol < 256 → block < blocks c → symbol < encoding_symbols c block
+pub at_symbol : (c : Shape) (block symbol slot : ℕ) → symbol < 256 → block < blocks c.cut → symbol < encoded_in c block
     → (is_encoded_slot c slot && is_slot_of block symbol slot) ≡ (slot == symbol_slot block symbol)
 at_symbol c block symbol zero few within named = grind (arith, nat_tests)
 at_symbol c block symbol (suc n) few within named =
-    plain_at (blocks c) (encoding_symbols c (n / 256)) block symbol n few within (λ e. subst (λ i. symbol < encoding_symbols c i) (sym e) named)
+    plain_at (blocks c.cut) (encoded_in c (n / 256)) block symbol n few within (λ e. subst (λ i. symbol < encoded_in c i) (sym e) named)

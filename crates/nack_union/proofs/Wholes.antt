@@ -1,4 +1,4 @@
--- The numbers of an object of which all source symbols are closed.
+-- The numbers of an object: which of its blocks have closed symbols, and how many.
 use Rattle.std.proofs.Common.{◌≡◌, ℕ, ◌+◌, ◌-◌, ◌*◌, ◌/◌, ◌%◌, ◌<◌, ◌≤◌, ◌⊎◌, inl, inr, Bool, true, false, refl, sym, ap, arith, Option, Some, None}
 use Rattle.std.specs.Prelude.{nat_lt, min, ◌==◌, if◌then◌else◌}
 use Rattle.std.specs.Int.{div_ceil}
@@ -13,6 +13,7 @@ use Rattle.norm_order.specs.Shapes.{closed_in, encoded_in, closed_blocks}
 use Rattle.fec_plan.proofs.PartitionLemmas.{some_sources}
 use Rattle.nack_union.specs.Slots.{slots, symbol_slot}
 use Rattle.nack_union.specs.Kept.{Marked, shape_of_marked}
+use Rattle.nack_union.specs.Adding.{IsPlanned}
 
 -- all blocks together have all symbols
 to_end : (a r n rest t large : ℕ) → a * n + r ≡ t → n ≤ r + rest → large ≡ a + min 1 r → t ≤ r * large + rest * a
@@ -71,34 +72,37 @@ last_ends c sound = go c.l sound.some
     go (Some n) some = let all = last_whole (symbols_in n c.e) (blocks_in (symbols_in n c.e) c.b) (some_blocks (symbols_in n c.e) c.b some sound.least_b) in omega (arith, all)
     go None some = omega arith
 
--- each block has closed symbols
-pub blocks_closed : (m : Marked) → IsSound m.cut → closed_blocks (shape_of_marked m) ≡ blocks m.cut
-blocks_closed m sound = go m.cut.l
+-- a block of which something is closed is among those that have closed symbols
+pub in_closed : (m : Marked) (block : ℕ) → IsSound m.cut → block < blocks m.cut → 0 < closed_in (shape_of_marked m) block → block < closed_blocks (shape_of_marked m)
+in_closed m block sound lt some = go m.cut.l lt some
   where
-    go : (l : Option ℕ) → closed_blocks (record { cut = record (m.cut) { l = l }; closed = all_symbols (record (m.cut) { l = l }); info = m.info }) ≡ blocks (record (m.cut) { l = l })
-    go (Some n) = refl
-    go None =
-        let up = (div_ceil_times (16777216 * m.cut.b) m.cut.b sound.least_b).0 in
-        let down = (div_ceil_times (16777216 * m.cut.b) m.cut.b sound.least_b).1 in
-        let below : div_ceil (16777216 * m.cut.b) m.cut.b < 16777217 = lt_of_mul-lt-mul_right m.cut.b (omega (arith, down)) in
-        let above : 16777215 < div_ceil (16777216 * m.cut.b) m.cut.b = lt_of_mul-lt-mul_right m.cut.b (let some = sound.least_b in omega (arith, up, some)) in
-        omega (arith, below, above)
+    go : (l : Option ℕ) → block < blocks (record (m.cut) { l = l })
+        → 0 < min (source_symbols (record (m.cut) { l = l }) block) (m.closed - symbol_number (record (m.cut) { l = l }) block 0)
+        → block < closed_blocks (record { cut = record (m.cut) { l = l }; closed = m.closed; info = m.info })
+    go (Some n) less more = less
+    go None less more =
+        let up = (div_ceil_times m.closed m.cut.b sound.least_b).0 in
+        lt_of_mul-lt-mul_right m.cut.b (omega (arith, up, more))
 
 -- a block that the object has not has no symbols
-pub closed_past : (m : Marked) (block : ℕ) → IsSound m.cut → blocks m.cut ≤ block → closed_in (shape_of_marked m) block ≡ 0
-closed_past m block sound past = let all = past_all m.cut block sound past in omega (arith, all)
+pub closed_past : (m : Marked) (block : ℕ) → IsPlanned m → blocks m.cut ≤ block → closed_in (shape_of_marked m) block ≡ 0
+closed_past m block plan past =
+    none (source_symbols m.cut block) m.closed (all_symbols m.cut) (symbol_number m.cut block 0) plan.closed (past_all m.cut block plan.sound past)
+  where
+    none : (size closed all first : ℕ) → closed ≤ all → all ≤ first → min size (closed - first) ≡ 0
+    none size closed all first few le = omega arith
 
-pub encoded_past : (m : Marked) (block : ℕ) → IsSound m.cut → blocks m.cut ≤ block → encoded_in (shape_of_marked m) block ≡ 0
-encoded_past m block sound past = go (closed_in (shape_of_marked m) block == source_symbols m.cut block) refl
+pub encoded_past : (m : Marked) (block : ℕ) → IsPlanned m → blocks m.cut ≤ block → encoded_in (shape_of_marked m) block ≡ 0
+encoded_past m block plan past = go (closed_in (shape_of_marked m) block == source_symbols m.cut block) refl
   where
     none : closed_in (shape_of_marked m) block ≡ 0
-    none = closed_past m block sound past
+    none = closed_past m block plan past
 
     go : (b : Bool) → (closed_in (shape_of_marked m) block == source_symbols m.cut block) ≡ b
         → (elim b as (λ _. ℕ) [ true ↦ encoding_symbols m.cut block | false ↦ closed_in (shape_of_marked m) block ]) ≡ 0
     go true e =
         let same = (Decides-eqb (closed_in (shape_of_marked m) block) (source_symbols m.cut block)).0 e in
-        let some = some_sources m.cut block sound in
+        let some = some_sources m.cut block plan.sound in
         absurd (omega (arith, none, same, some))
     go false e = none
 
@@ -146,9 +150,9 @@ few_encoded c block sound few =
     omega (arith, most, few)
 
 -- an encoded symbol has a slot
-pub slot_there : (m : Marked) (block symbol : ℕ) → IsSound m.cut → symbol < encoded_in (shape_of_marked m) block → symbol < 256 → symbol_slot block symbol < slots (blocks m.cut)
-slot_there m block symbol sound lt named = go (cases_lt block (blocks m.cut))
+pub slot_there : (m : Marked) (block symbol : ℕ) → IsPlanned m → symbol < encoded_in (shape_of_marked m) block → symbol < 256 → symbol_slot block symbol < slots (blocks m.cut)
+slot_there m block symbol plan lt named = go (cases_lt block (blocks m.cut))
   where
     go : (block < blocks m.cut) ⊎ (blocks m.cut ≤ block) → symbol_slot block symbol < slots (blocks m.cut)
     go (inl less) = omega arith
-    go (inr past) = absurd (let none = encoded_past m block sound past in omega (arith, none))
+    go (inr past) = absurd (let none = encoded_past m block plan past in omega (arith, none))

@@ -1,10 +1,11 @@
 -- What a union collected stays as objects enter and leave the window.
-use Rattle.std.proofs.Common.{◌≡◌, ℕ, zero, suc, ◌+◌, ◌<◌, ◌≤◌, ◌⊎◌, inl, inr, List, [], ◌∷◌, ◌++◌, length, get_or, take, drop, replicate, Bool, true, false, Option, Some, None, refl, sym, ap, ◌∙◌, cond, arith, flat_map}
-use Rattle.std.specs.Prelude.{not, ◌&&◌, nat_lt, filter, slice_get}
+use Rattle.std.proofs.Common.{◌≡◌, ℕ, zero, suc, ◌+◌, ◌<◌, ◌≤◌, ◌⊎◌, inl, inr, List, [], ◌∷◌, ◌++◌, length, get_or, take, drop, replicate, Bool, true, false, Option, Some, None, refl, sym, ap, subst, ◌∙◌, cond, arith, flat_map}
+use Rattle.std.specs.Prelude.{IfSome, not, ◌&&◌, nat_lt, filter, slice_get}
 use Rattle.std.specs.List.{AllByRecursion}
 use Rattle.std.proofs.lemmas.Bool.{cases_lt}
 use Rattle.std.proofs.lemmas.List.{length-drop, length-take, take-append-le, length-append, length-map, map-append}
 use Rattle.norm_base.specs.Settings.{Settings}
+use Rattle.fec_plan.specs.Partition.{symbol_number}
 use Rattle.fec_plan.specs.Points.{Point, point, point_before}
 use Rattle.fec_plan.specs.declared.position.Position.{Position}
 use Rattle.norm_ext.specs.Asking.{Count, asked_counts}
@@ -22,7 +23,7 @@ use Rattle.norm_send_rules.specs.Wants.{want_before, want_index}
 use Rattle.norm_send_rules.specs.declared.want.Want.{Want}
 use Rattle.norm_send_rules.proofs.ClosingLemmas.{rise_more}
 use Rattle.nack_union.specs.Kept.{Marked, Kept, Holds, with_object}
-use Rattle.nack_union.specs.Collected.{Collects}
+use Rattle.nack_union.specs.Collected.{Collects, IsKnownIn}
 use Rattle.nack_union.proofs.Collecting.{some_greatest, past_end}
 use Rattle.nack_union.proofs.Dropped.{behind_start, not_behind_start, filter_with_want, filter_twice, listed_dropped}
 use Rattle.nack_union.proofs.Idle.{at_front, at_end, zeros}
@@ -75,12 +76,56 @@ get_drop zero ms k d lt = ap (λ i. get_or ms i d) (let e : k ≡ 0 + k = omega 
 get_drop (suc n) [] k d lt = absurd (omega arith)
 get_drop (suc n) (m ∷ ms) k d lt = get_drop n ms k d (omega arith) ∙ ap (λ i. get_or (m ∷ ms) i d) (let e : suc (n + k) ≡ suc n + k = omega arith in e)
 
+-- what is known of requests stays where the first n objects are dropped
+known_dropped : (u : Kept) (n many : ℕ) (asked : List Asked) → AllByRecursion (IsKnownIn u many) asked
+    → AllByRecursion (IsKnownIn (record u { first = u.first + n; objects = drop n u.objects }) many) asked
+known_dropped u n many [] known = tt
+known_dropped u n many (a ∷ asked) known = (record { next = known.0.next; last = by a.last known.0.last }, known_dropped u n many asked known.1)
+  where
+    by : (last : Option Position)
+        → IfSome last (λ at. (at.index < many) × ((j : ℕ) (e : Marked) → j < length u.objects → at.index ≡ u.first + j
+        → symbol_number (get_or u.objects j e).cut at.block at.symbol + 1 ≤ (get_or u.objects j e).closed))
+        → IfSome last (λ at. (at.index < many) × ((j : ℕ) (e : Marked) → j < length (drop n u.objects) → at.index ≡ u.first + n + j
+        → symbol_number (get_or (drop n u.objects) j e).cut at.block at.symbol + 1 ≤ (get_or (drop n u.objects) j e).closed))
+    by None h = h
+    by (Some at) h = (
+      h.0,
+      λ j e less is.
+          let within : n + j < length u.objects = omega (arith, less, length-drop n u.objects) in
+          subst (λ (m : Marked). symbol_number m.cut at.block at.symbol + 1 ≤ m.closed) (sym (get_drop n u.objects j e within)) (h.1 (n + j) e within (omega (arith, is))),
+    )
+
+-- and where one more object comes behind them
+known_joined : (u : Kept) (m : Marked) (many : ℕ) (asked : List Asked) → u.first + length u.objects ≡ many → AllByRecursion (IsKnownIn u many) asked
+    → AllByRecursion (IsKnownIn (with_object m u) (many + 1)) asked
+known_joined u m many [] all known = tt
+known_joined u m many (a ∷ asked) all known =
+    (record { next = (let le = known.0.next in omega (arith, le)); last = by a.last known.0.last }, known_joined u m many asked all known.1)
+  where
+    by : (last : Option Position)
+        → IfSome last (λ at. (at.index < many) × ((j : ℕ) (e : Marked) → j < length u.objects → at.index ≡ u.first + j
+        → symbol_number (get_or u.objects j e).cut at.block at.symbol + 1 ≤ (get_or u.objects j e).closed))
+        → IfSome last (λ at. (at.index < many + 1) × ((j : ℕ) (e : Marked) → j < length (u.objects ++ m ∷ []) → at.index ≡ u.first + j
+        → symbol_number (get_or (u.objects ++ m ∷ []) j e).cut at.block at.symbol + 1 ≤ (get_or (u.objects ++ m ∷ []) j e).closed))
+    by None h = h
+    by (Some at) h = (
+      (let lt = h.0 in omega (arith, lt)),
+      λ j e less is.
+          let within : j < length u.objects = let lt = h.0 in omega (arith, lt, is, all) in
+          subst (λ (x : Marked). symbol_number x.cut at.block at.symbol + 1 ≤ x.closed) (sym (at_front u.objects m j e within)) (h.1 j e within is),
+    )
+
+-- no request came when the order had more entries
+nexts : (u : Kept) (many : ℕ) (asked : List Asked) → AllByRecursion (IsKnownIn u many) asked → AllByRecursion (λ (a : Asked). a.next ≤ many) asked
+nexts u many [] known = tt
+nexts u many (a ∷ asked) known = (known.0.next, nexts u many asked known.1)
+
 -- the first n objects are dropped
 pub collects_retired : (p : Settings) (s : SenderState) (u : Kept) (asked : List Asked) (n : ℕ) → n ≤ length u.objects → Holds p u s → Collects p u s asked
     → Collects p (record u { first = u.first + n; objects = drop n u.objects }) (dropped_to (point (u.first + n) 0) s) asked
 collects_retired p s u asked n le st col = record {
   earliest = col.earliest;
-  known = col.known;
+  known = known_dropped u n (next_index s) asked col.known;
   named =
       sym (listed_dropped (λ m. m.asked) (point (u.first + n) 0) u.first n u.objects refl refl)
       ∙ ap (filter (stands_behind (point (u.first + n) 0))) col.named
@@ -151,7 +196,9 @@ pub collects_admitted : (p : Settings) (s : SenderState) (u : Kept) (asked : Lis
     → Holds p u s → Collects p u s asked → Collects p (with_object m u) (with_entry entry s) asked
 collects_admitted p s u asked entry m n unasked uncounted st col = record {
   earliest = col.earliest;
-  known = more asked col.known;
+  known =
+      subst (λ n. AllByRecursion (IsKnownIn (with_object m u) n) asked) (sym (length-append s.current.order (entry ∷ [])))
+      (known_joined u m (next_index s) asked st.next col.known);
   named = joined_at (λ m. m.asked) u.first u.objects m unasked ∙ col.named ∙ ap (λ ws. with_members want_before (filter (stands_behind s.current.drop) ws) []) (sym wants_same);
   counts = λ k d lt block. at k d lt block (cases_lt k (length u.objects)) ∙ ap (λ cs. greatest cs (point (u.first + k) block)) (sym counts_same);
 }
@@ -165,20 +212,16 @@ collects_admitted p s u asked entry m n unasked uncounted st col = record {
     many : length (current_shapes p s) ≡ next_index s
     many = length-map s.current.order (λ (e : Entry). shape_of p e.object)
 
-    more : (asked : List Asked) → AllByRecursion (λ (a : Asked). a.next ≤ next_index s) asked → AllByRecursion (λ (a : Asked). a.next ≤ next_index (with_entry entry s)) asked
-    more [] known = tt
-    more (a ∷ asked) known = (let le = known.0 in omega (arith, le, length-append s.current.order (entry ∷ [])), more asked known.1)
-
     wants_same : flat_map (wants_of (current_shapes p (with_entry entry s))) asked ≡ flat_map (wants_of (current_shapes p s)) asked
     wants_same =
         flat_same (wants_of (current_shapes p (with_entry entry s))) (wants_of (current_shapes p s)) (next_index s) asked
-        (λ a le. ap (λ shapes. wants_of shapes a) grown ∙ ap (λ shapes. asks_for shapes a.request) (came_same a (current_shapes p s) x (omega (arith, le, many)))) col.known
+        (λ a le. ap (λ shapes. wants_of shapes a) grown ∙ ap (λ shapes. asks_for shapes a.request) (came_same a (current_shapes p s) x (omega (arith, le, many)))) (nexts u (next_index s) asked col.known)
 
     counts_same : flat_map (counts_of (current_shapes p (with_entry entry s))) asked ≡ flat_map (counts_of (current_shapes p s)) asked
     counts_same =
         flat_same (counts_of (current_shapes p (with_entry entry s))) (counts_of (current_shapes p s)) (next_index s) asked
         (λ a le. ap (λ shapes. counts_of shapes a) grown
-        ∙ ap (λ shapes. filter (λ (c : Count). is_kept shapes a.first c.of) (asked_counts a.request)) (came_same a (current_shapes p s) x (omega (arith, le, many)))) col.known
+        ∙ ap (λ shapes. filter (λ (c : Count). is_kept shapes a.first c.of) (asked_counts a.request)) (came_same a (current_shapes p s) x (omega (arith, le, many)))) (nexts u (next_index s) asked col.known)
 
     at : (k : ℕ) (d : Marked) → k < length (u.objects ++ m ∷ []) → (block : ℕ) → (k < length u.objects) ⊎ (length u.objects ≤ k)
         → get_or (get_or (u.objects ++ m ∷ []) k d).counts block 0 ≡ greatest (flat_map (counts_of (current_shapes p s)) asked) (point (u.first + k) block)

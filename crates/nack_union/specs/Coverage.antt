@@ -1,15 +1,17 @@
 -- The slots of an object that a round asks for: some by themselves, and the source symbols of runs of whole blocks.
 use Rattle.std.specs.Prelude.{◌≡◌, ◌≤◌, ℕ, zero, suc, ◌/◌, ◌&&◌, ◌||◌, List, [], ◌∷◌, length, take, filter, max, Bool, false, not, nat_lt}
 use Rattle.std.specs.List.{range_with_len}
-use Rattle.fec_plan.specs.Partition.{Cut, blocks, most_blocks}
+use Rattle.fec_plan.specs.Partition.{blocks, most_blocks}
 use Rattle.norm_order.specs.Sets.{is_member}
+use Rattle.norm_order.specs.Shapes.{Shape}
 use Rattle.nack_union.specs.Slots.{slots}
+use Rattle.nack_union.specs.Repairs.{shape_closed}
 use Rattle.nack_union.specs.More.{is_source_slot}
 use Rattle.nack_union.specs.declared.coverage.Coverage.TheInside.{Inside}
 
--- the slots of an object that is cut so
+-- the slots of an object of this shape
 pub record Covered : Type 0 where
-  pub cut : Cut
+  pub shape : Shape
   pub members : List ℕ
 
 -- the farthest of some ends
@@ -22,14 +24,14 @@ farthest (n ∷ ns) = max n (farthest ns)
 abbrev pub lies_in_run : List ℕ → ℕ → Bool
 lies_in_run ends block = nat_lt block (farthest (take (suc block) ends))
 
--- the slot of a source symbol of a block that lies in a run
-abbrev pub is_run_slot : Cut → List ℕ → ℕ → Bool
+-- the slot of a closed source symbol of a block that lies in a run
+abbrev pub is_run_slot : Shape → List ℕ → ℕ → Bool
 is_run_slot c ends zero = false
 is_run_slot c ends (suc n) = is_source_slot c (suc n) && lies_in_run ends (n / 256)
 
 -- these slots, and those of the runs
-unfoldable pub covered_slots : Cut → List ℕ → List ℕ → List ℕ
-covered_slots c ends alone = filter (λ slot. is_member nat_lt slot alone || is_run_slot c ends slot) (range_with_len 0 (slots (blocks c)))
+unfoldable pub covered_slots : Shape → List ℕ → List ℕ → List ℕ
+covered_slots c ends alone = filter (λ slot. is_member nat_lt slot alone || is_run_slot c ends slot) (range_with_len 0 (slots (blocks c.cut)))
 
 -- There is a place for each slot, and an end for each block.
 pub record IsSoundCoverage (m : Inside) : Type 0 where
@@ -38,7 +40,7 @@ pub record IsSoundCoverage (m : Inside) : Type 0 where
   pub ends : length m.ends.items ≡ blocks m.plan
 
 abbrev pub coverage_view : Inside → Covered
-coverage_view m = record { cut = m.plan; members = covered_slots m.plan m.ends.items m.alone.members }
+coverage_view m = record { shape = shape_closed m.plan m.closed; members = covered_slots (shape_closed m.plan m.closed) m.ends.items m.alone.members }
 
 -- the slot lies in the blocks from one up to another
 abbrev pub is_in_blocks : ℕ → ℕ → ℕ → Bool

@@ -13,12 +13,13 @@ use Rattle.norm_send_rules.specs.declared.want.Want.{Want}
 use Rattle.norm_send_rules.specs.declared.want.Want.TheVariants.{Symbol}
 use Rattle.norm_order.specs.Sets.{with_members}
 use Rattle.nack_union.specs.Slots.{want_at}
-use Rattle.nack_union.specs.Repairs.{counted_slots}
+use Rattle.nack_union.specs.Repairs.{shape_closed, counted_slots}
 
--- An object of the window: how it is cut, whether it has info, and the slots that are wanted and that were sent. What the
--- open round asks for: slots, and of each block the greatest count.
+-- An object of the window: how it is cut, how many of its source symbols are closed, whether it has info, and the slots that
+-- are wanted and that were sent. What the open round asks for: slots, and of each block the greatest count.
 pub record Marked : Type 0 where
   pub cut : Cut
+  pub closed : ℕ
   pub info : Bool
   pub wants : List ℕ
   pub sent : List ℕ
@@ -36,9 +37,17 @@ pub record Kept : Type 0 where
 abbrev pub known_of : Kept → ℕ
 known_of u = u.first + length u.objects - 1
 
--- an object as it is admitted
+-- an object as it is admitted: all of its source symbols are closed
 abbrev pub admitted : Cut → Bool → Marked
-admitted cut info = record { cut = cut; info = info; wants = []; sent = []; asked = []; counts = replicate (blocks cut) 0 }
+admitted cut info = record { cut = cut; closed = all_symbols cut; info = info; wants = []; sent = []; asked = []; counts = replicate (blocks cut) 0 }
+
+-- the shape of an object
+abbrev pub shape_of_marked : Marked → Shape
+shape_of_marked m = record { cut = m.cut; closed = m.closed; info = m.info }
+
+-- which symbols an object has, whatever its info
+abbrev pub symbols_of_marked : Marked → Shape
+symbols_of_marked m = shape_closed m.cut m.closed
 
 -- what holds of a block that is counted: nothing is wrong with its object's cut, which has it, and its symbols' ids have 8 bits
 pub record IsRepairable (c : Cut) (block : ℕ) : Type 0 where
@@ -53,7 +62,7 @@ IsCounted m = (block : ℕ) → 0 < slice_index m.counts block → IsRepairable 
 -- an object of which the round is closed: what it asked for is wanted, and nothing is asked for
 abbrev pub closed_marks : Marked → Marked
 closed_marks m = record m {
-  wants = with_members nat_lt (with_members nat_lt (counted_slots m.cut m.sent 0 m.counts) m.asked) m.wants;
+  wants = with_members nat_lt (with_members nat_lt (counted_slots (symbols_of_marked m) m.sent 0 m.counts) m.asked) m.wants;
   asked = [];
   counts = replicate (length m.counts) 0;
 }
@@ -74,6 +83,10 @@ retired index u = record u { first = index; objects = drop (index - u.first) u.o
 abbrev pub with_marks : ℕ → Marked → Kept → Kept
 with_marks index m u = record u { objects = set u.objects (index - u.first) m }
 
+-- the union of which so many segments of the last object, a stream, are closed
+abbrev pub grown_to : ℕ → Marked → Kept → Kept
+grown_to closed m u = record u { objects = set u.objects (length u.objects - 1) (record m { closed = closed }) }
+
 -- a union as an instance begins
 abbrev pub begun_union : Kept
 begun_union = record { first = 0; objects = []; earliest = None }
@@ -82,10 +95,6 @@ begun_union = record { first = 0; objects = []; earliest = None }
 abbrev pub listed : (Marked → List ℕ) → ℕ → List Marked → List Want
 listed slots index [] = []
 listed slots index (m ∷ ms) = map (want_at index) (slots m) ++ listed slots (suc index) ms
-
--- the shape of an object of which all source symbols are closed
-abbrev pub shape_of_marked : Marked → Shape
-shape_of_marked m = record { cut = m.cut; closed = all_symbols m.cut; info = m.info }
 
 -- what is read of a sender's state: the order and its drop point, the wants, which symbols were sent, and what the open round was
 -- asked for

@@ -1,4 +1,5 @@
 pub mod Places
+pub mod Stretches
 pub mod Words
 pub mod Slots
 pub mod Repairs

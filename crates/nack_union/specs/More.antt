@@ -1,22 +1,23 @@
 -- What calls add to what the open round asks for, slot by slot and block by block.
 use Rattle.std.specs.Prelude.{ℕ, zero, suc, ◌≡◌, ◌+◌, ◌<◌, ◌/◌, ◌%◌, ◌==◌, ◌&&◌, ◌||◌, length, max, Bool, true, false, nat_lt, not, get_or, slice_index, List, [], ◌∷◌}
-use Rattle.fec_plan.specs.Partition.{Cut, blocks, source_symbols, encoding_symbols}
+use Rattle.fec_plan.specs.Partition.{blocks}
 use Rattle.fec_plan.specs.Points.{position}
 use Rattle.fec_plan.specs.declared.position.Position.{Position}
 use Rattle.nack_union.specs.Slots.{symbol_slot}
 use Rattle.norm_ext.specs.declared.kinds.Form.TheVariants as form
 use Rattle.norm_ext.specs.Asking.{Span, Named, is_proper, lies_in, block_span, object_span, has_flag, segment_flag, block_flag, object_flag, info_flag}
 use Rattle.norm_order.specs.Sets.{is_member}
-use Rattle.nack_union.specs.Kept.{Marked, Kept}
+use Rattle.norm_order.specs.Shapes.{Shape, closed_in, encoded_in}
+use Rattle.nack_union.specs.Kept.{Marked, Kept, symbols_of_marked}
 
 -- from one number up to another
 abbrev pub in_run : ℕ → ℕ → ℕ → Bool
 in_run from to n = not (nat_lt n from) && nat_lt n to
 
--- the slot of a source symbol
-abbrev pub is_source_slot : Cut → ℕ → Bool
+-- the slot of a closed source symbol
+abbrev pub is_source_slot : Shape → ℕ → Bool
 is_source_slot c zero = false
-is_source_slot c (suc n) = nat_lt (n / 256) (blocks c) && nat_lt (n % 256) (source_symbols c (n / 256))
+is_source_slot c (suc n) = nat_lt (n / 256) (blocks c.cut) && nat_lt (n % 256) (closed_in c (n / 256))
 
 -- the symbol at a slot of the object with this index lies in the span
 abbrev pub slot_in : ℕ → Span → ℕ → Bool
@@ -30,14 +31,18 @@ pub record HasMore (slots : ℕ → Bool) (counts : ℕ → ℕ) (old new : Mark
   pub blocks : length new.counts ≡ length old.counts
   pub counted : (block : ℕ) → block < length old.counts → slice_index new.counts block ≡ max (slice_index old.counts block) (counts block)
 
--- what is asked for of objects: slots, by their index, cut and whether they have info, and counts, by index and block
+-- what is asked for of objects: slots, by their index, shape and whether they have info, and counts, by index, shape and block
 pub record Part : Type 0 where
-  pub slots : ℕ → Cut → Bool → ℕ → Bool
-  pub counts : ℕ → ℕ → ℕ
+  pub slots : ℕ → Shape → Bool → ℕ → Bool
+  pub counts : ℕ → Shape → ℕ → ℕ
+
+-- a count, where something of the block is closed
+abbrev pub kept_count : Shape → ℕ → ℕ → ℕ
+kept_count s block count = elim (nat_lt 0 (closed_in s block)) [ true ↦ count | false ↦ 0 ]
 
 -- what is asked of an object with this index
 abbrev pub MoreOf : Part → ℕ → Marked → Marked → Type 0
-MoreOf part index old new = HasMore (part.slots index old.cut old.info) (part.counts index) old new
+MoreOf part index old new = HasMore (part.slots index (symbols_of_marked old) old.info) (part.counts index (symbols_of_marked old)) old new
 
 -- of the objects of a union this part is asked for too
 pub record HasPart (part : Part) (old new : Kept) : Type 0 where
@@ -51,9 +56,9 @@ is_below block zero = true
 is_below block (suc n) = nat_lt (n / 256) block
 
 -- the slot of an encoded symbol
-abbrev pub is_encoded_slot : Cut → ℕ → Bool
+abbrev pub is_encoded_slot : Shape → ℕ → Bool
 is_encoded_slot c zero = false
-is_encoded_slot c (suc n) = nat_lt (n / 256) (blocks c) && nat_lt (n % 256) (encoding_symbols c (n / 256))
+is_encoded_slot c (suc n) = nat_lt (n / 256) (blocks c.cut) && nat_lt (n % 256) (encoded_in c (n / 256))
 
 -- so many are counted of one block, and none of another
 abbrev pub count_at : ℕ → ℕ → ℕ → ℕ
@@ -67,8 +72,8 @@ slot_from index first = elim (index == first.index) [ true ↦ symbol_slot first
 abbrev pub slot_behind : ℕ → Position → ℕ → ℕ
 slot_behind index last most = elim (index == last.index) [ true ↦ symbol_slot last.block last.symbol + 1 | false ↦ most ]
 
--- What these flags ask of a named span: the source symbols that lie in it, in its blocks, or in its objects, and infos.
-abbrev pub asks_by : ℕ → Span → ℕ → Cut → Bool → ℕ → Bool
+-- What these flags ask of a named span: the closed source symbols that lie in it, in its blocks, or in its objects, and infos.
+abbrev pub asks_by : ℕ → Span → ℕ → Shape → Bool → ℕ → Bool
 asks_by flags s index c info slot =
     (is_source_slot c slot && (
     ((has_flag flags segment_flag && slot_in index s slot)
@@ -78,7 +83,7 @@ asks_by flags s index c info slot =
 
 -- a named span, as a part
 abbrev pub named_part : ℕ → Span → Part
-named_part flags s = record { slots = asks_by flags s; counts = λ index block. 0 }
+named_part flags s = record { slots = asks_by flags s; counts = λ index c block. 0 }
 
 -- the slot of a symbol of a block
 abbrev pub is_slot_of : ℕ → ℕ → ℕ → Bool
@@ -89,25 +94,25 @@ is_slot_of block symbol (suc n) = block == n / 256 && symbol == n % 256
 abbrev pub symbol_part : Position → Part
 symbol_part at = record {
   slots = λ index c info slot. at.index == index && (is_encoded_slot c slot && is_slot_of at.block at.symbol slot);
-  counts = λ index block. 0;
+  counts = λ index c block. 0;
 }
 
 -- a block that is counted
 abbrev pub count_part : Position → Part
 count_part at = record {
   slots = λ index c info slot. false;
-  counts = λ index block. elim (at.index == index) [ true ↦ count_at at.block at.symbol block | false ↦ 0 ];
+  counts = λ index c block. elim (at.index == index) [ true ↦ kept_count c block (count_at at.block at.symbol block) | false ↦ 0 ];
 }
 
 -- nothing
 abbrev pub no_part : Part
-no_part = record { slots = λ index c info slot. false; counts = λ index block. 0 }
+no_part = record { slots = λ index c info slot. false; counts = λ index c block. 0 }
 
 -- two parts
 abbrev pub and_part : Part → Part → Part
 and_part a b = record {
   slots = λ index c info slot. a.slots index c info slot || b.slots index c info slot;
-  counts = λ index block. max (a.counts index block) (b.counts index block);
+  counts = λ index c block. max (a.counts index c block) (b.counts index c block);
 }
 
 -- a part where the flags have this one

@@ -1,14 +1,16 @@
 //! What the open round asks for of an object.
 
 ghost use Rattle.std.specs.Prelude.{◌≡◌, ◌+◌, ◌*◌, ◌^◌, ◌<◌, ◌≤◌, [], nat_lt, IfOk, ℕ, List, length, slice_index, ◌&&◌, ◌||◌};
-ghost use Rattle.fec_plan.specs.Partition.{blocks, most_blocks, source_symbols};
+ghost use Rattle.fec_plan.specs.Partition.{blocks, most_blocks};
+ghost use Rattle.norm_order.specs.Shapes.{closed_in};
 ghost use Rattle.norm_order.specs.Sets.{with_member, with_members, is_member, Rises};
 ghost use Rattle.nack_union.specs.Slots.{slots, symbol_slot};
 ghost use Rattle.nack_union.specs.More.{is_source_slot, in_run};
 ghost use Rattle.nack_union.specs.Kept.{IsRepairable};
-ghost use Rattle.nack_union.specs.Repairs.{counted_slots};
+ghost use Rattle.nack_union.specs.Repairs.{shape_closed, counted_slots};
 ghost use Rattle.nack_union.specs.Coverage.{Covered, is_in_blocks, is_run_slot};
 
+use crate::closed::closed_len;
 use crate::mask::Mask;
 use crate::repairs::ask_counted;
 use crate::slots::{BLOCK, slot_of};
@@ -17,11 +19,12 @@ use norm_base::Memory;
 use std::alloc::Global;
 use std::marker::Model;
 
-/// The slots of an object that the open round asks for. A run of whole blocks is kept as its end alone, at the block with which
+/// The slots of an object, of which so many source symbols are closed, that the open round asks for. A run of whole blocks is kept as its end alone, at the block with which
 /// it begins, and filled as the round closes; all other slots are kept in a set.
 #[derive(Debug, Drop)]
 pub struct Coverage {
     plan: Plan,
+    closed: u64,
     alone: Mask,
     ends: Vec<u32>,
 }
@@ -38,11 +41,11 @@ impl Model for Coverage {
     ghost invariant = { IsSoundCoverage };
 }
 
-/// Puts the slots of an object's source symbols, from one slot up to another, into a set.
-fn insert_sources(set: &mut Mask, plan: &Plan, from: usize, to: usize)
+/// Puts the slots of an object's closed source symbols, from one slot up to another, into a set.
+fn insert_sources(set: &mut Mask, plan: &Plan, closed: u64, from: usize, to: usize)
     requires { slots (blocks plan.now) ≤ set.old.size }
     ensures members { (slot : ℕ) → is_member nat_lt slot set.new.members
-        ≡ (is_member nat_lt slot set.old.members || (is_source_slot plan.now slot && in_run from to slot)) }
+        ≡ (is_member nat_lt slot set.old.members || (is_source_slot (shape_closed plan.now closed) slot && in_run from to slot)) }
     ensures size { set.new.size ≡ set.old.size }
 {
     let first = from.saturating_sub(1) / BLOCK;
@@ -53,50 +56,51 @@ fn insert_sources(set: &mut Mask, plan: &Plan, from: usize, to: usize)
     // Proof: the label names the loop for its invariant.
     'runs: for block in first..behind {
         let start = slot_of(block as u32, 0);
-        let end = start + usize::from(plan.source_len(block as u32));
+        let end = start + usize::from(closed_len(plan, closed, block as u32));
         set.insert_run(start.max(from), end.min(to));
     }
 }
 
-/// Puts the source symbols of a block into a set, where that is wanted.
-fn insert_block(set: &mut Mask, plan: &Plan, block: u32, wanted: bool)
+/// Puts the closed source symbols of a block into a set, where that is wanted.
+fn insert_block(set: &mut Mask, plan: &Plan, closed: u64, block: u32, wanted: bool)
     requires within { block < blocks plan.now }
     requires room { slots (blocks plan.now) ≤ set.old.size }
     ensures members { (slot : ℕ) → is_member nat_lt slot set.new.members ≡ (is_member nat_lt slot set.old.members
-        || (wanted && in_run (symbol_slot block 0) (symbol_slot block 0 + source_symbols plan.now block) slot)) }
+        || (wanted && in_run (symbol_slot block 0) (symbol_slot block 0 + closed_in (shape_closed plan.now closed) block) slot)) }
     ensures size { set.new.size ≡ set.old.size }
 {
     if wanted {
         let start = slot_of(block, 0);
-        set.insert_run(start, start + usize::from(plan.source_len(block)));
+        set.insert_run(start, start + usize::from(closed_len(plan, closed, block)));
     }
 }
 
-/// Puts the source symbols of the blocks that lie in a run into a set.
-fn insert_runs(set: &mut Mask, plan: &Plan, ends: &[u32])
+/// Puts the closed source symbols of the blocks that lie in a run into a set.
+fn insert_runs(set: &mut Mask, plan: &Plan, closed: u64, ends: &[u32])
     requires room { slots (blocks plan.now) ≤ set.old.size }
     requires ends { length ends.now ≡ blocks plan.now }
-    ensures members { (slot : ℕ) → is_member nat_lt slot set.new.members ≡ (is_member nat_lt slot set.old.members || is_run_slot plan.now ends.now slot) }
+    ensures members { (slot : ℕ) → is_member nat_lt slot set.new.members ≡ (is_member nat_lt slot set.old.members || is_run_slot (shape_closed plan.now closed) ends.now slot) }
     ensures size { set.new.size ≡ set.old.size }
 {
     let mut farthest = 0u32;
     // Proof: the label names the loop for its invariant.
     'covered: for block in 0..plan.blocks() {
         farthest = farthest.max(ends[block as usize]);
-        insert_block(set, plan, block, block < farthest);
+        insert_block(set, plan, closed, block, block < farthest);
     }
 }
 
 impl Coverage {
-    /// No slot of an object, with room for all that ever can be.
-    pub fn new(alloc: Global, plan: &Plan) -> Result<Coverage, Memory>
-        ensures { IfOk result (λ coverage. coverage ≡ record { cut = plan.now; members = [] }) }
+    /// No slot of an object of which so many source symbols are closed, with room for all that ever can be.
+    pub fn new(alloc: Global, plan: &Plan, closed: u64) -> Result<Coverage, Memory>
+        ensures { IfOk result (λ coverage. coverage ≡ record { shape = shape_closed plan.now closed; members = [] }) }
     {
         let blocks = plan.blocks() as usize;
         let alone = Mask::with_room(alloc, BLOCK * blocks + 1)?;
         let ends = vec![in alloc; 0; blocks]?;
         Ok(Coverage {
             plan: *plan,
+            closed,
             alone,
             ends,
         })
@@ -112,35 +116,35 @@ impl Coverage {
 
     /// Puts a slot into them.
     pub fn insert(&mut self, slot: usize)
-        requires { slot < slots (blocks self.old.cut) }
+        requires { slot < slots (blocks self.old.shape.cut) }
         ensures { self.new ≡ record self.old { members = with_member nat_lt slot self.old.members } }
     {
         self.alone.insert(slot);
     }
 
-    /// Puts the source symbols from one slot up to another into them, one by one.
+    /// Puts the closed source symbols from one slot up to another into them, one by one.
     fn insert_part(&mut self, from: usize, to: usize)
-        ensures members { (slot : ℕ) → is_member nat_lt slot self.new.members ≡ (is_member nat_lt slot self.old.members || (is_source_slot self.old.cut slot && in_run from to slot)) }
-        ensures cut { self.new.cut ≡ self.old.cut }
+        ensures members { (slot : ℕ) → is_member nat_lt slot self.new.members ≡ (is_member nat_lt slot self.old.members || (is_source_slot self.old.shape slot && in_run from to slot)) }
+        ensures shape { self.new.shape ≡ self.old.shape }
     {
-        insert_sources(&mut self.alone, &self.plan, from, to);
+        insert_sources(&mut self.alone, &self.plan, self.closed, from, to);
     }
 
-    /// Puts the source symbols of the blocks from one up to another into them, as a run.
+    /// Puts the closed source symbols of the blocks from one up to another into them, as a run.
     fn insert_blocks(&mut self, first: usize, behind: usize)
         requires some { first < behind }
-        requires within { behind ≤ blocks self.old.cut }
-        ensures members { (slot : ℕ) → is_member nat_lt slot self.new.members ≡ (is_member nat_lt slot self.old.members || (is_source_slot self.old.cut slot && is_in_blocks first behind slot)) }
-        ensures cut { self.new.cut ≡ self.old.cut }
+        requires within { behind ≤ blocks self.old.shape.cut }
+        ensures members { (slot : ℕ) → is_member nat_lt slot self.new.members ≡ (is_member nat_lt slot self.old.members || (is_source_slot self.old.shape slot && is_in_blocks first behind slot)) }
+        ensures shape { self.new.shape ≡ self.old.shape }
     {
         let end = self.ends[first].max(behind as u32);
         self.ends[first] = end;
     }
 
-    /// Puts the source symbols from one slot up to another into them.
+    /// Puts the closed source symbols from one slot up to another into them.
     pub fn insert_sources(&mut self, from: usize, to: usize)
-        ensures members { (slot : ℕ) → is_member nat_lt slot self.new.members ≡ (is_member nat_lt slot self.old.members || (is_source_slot self.old.cut slot && in_run from to slot)) }
-        ensures cut { self.new.cut ≡ self.old.cut }
+        ensures members { (slot : ℕ) → is_member nat_lt slot self.new.members ≡ (is_member nat_lt slot self.old.members || (is_source_slot self.old.shape slot && in_run from to slot)) }
+        ensures shape { self.new.shape ≡ self.old.shape }
     {
         let first = from.saturating_sub(1).div_ceil(BLOCK);
         let behind = (to.saturating_sub(1) / BLOCK).min(self.ends.len());
@@ -156,21 +160,21 @@ impl Coverage {
     /// Closes the round: they join the wants of the object, with what the counts of its blocks ask for, and none is left. Says how
     /// many wants are new.
     pub fn close_into(&mut self, wants: &mut Mask, sent: &Mask, counts: &[u8]) -> usize
-        requires wants { wants.old.size ≡ slots (blocks self.old.cut) }
-        requires sent { slots (blocks self.old.cut) ≤ sent.now.size }
-        requires counts { length counts.now ≡ blocks self.old.cut }
-        ensures members { wants.new.members ≡ with_members nat_lt (with_members nat_lt (counted_slots self.old.cut sent.now.members 0 counts.now) self.old.members) wants.old.members }
+        requires wants { wants.old.size ≡ slots (blocks self.old.shape.cut) }
+        requires sent { slots (blocks self.old.shape.cut) ≤ sent.now.size }
+        requires counts { length counts.now ≡ blocks self.old.shape.cut }
+        ensures members { wants.new.members ≡ with_members nat_lt (with_members nat_lt (counted_slots self.old.shape sent.now.members 0 counts.now) self.old.members) wants.old.members }
         ensures new { length wants.new.members ≡ length wants.old.members + result }
         ensures few { length wants.new.members ≤ wants.old.size }
         ensures size { wants.new.size ≡ wants.old.size }
         ensures emptied { self.new.members ≡ [] }
-        ensures cut { self.new.cut ≡ self.old.cut }
-        ensures repairable { (block : ℕ) → 0 < slice_index counts.now block → IsRepairable self.old.cut block }
+        ensures shape { self.new.shape ≡ self.old.shape }
+        ensures repairable { (block : ℕ) → 0 < slice_index counts.now block → IsRepairable self.old.shape.cut block }
     {
-        insert_runs(&mut self.alone, &self.plan, &self.ends);
+        insert_runs(&mut self.alone, &self.plan, self.closed, &self.ends);
         self.ends.fill(0);
         self.alone.rises();
-        ask_counted(&mut self.alone, sent, &self.plan, counts);
+        ask_counted(&mut self.alone, sent, &self.plan, self.closed, counts);
         wants.take_all(&mut self.alone)
     }
 }

@@ -1,7 +1,7 @@
 //! What is promised of the sets that a union keeps, and of the states for which it stands. Each law is the contract of a
 //! function that does nothing.
 
-ghost use Rattle.nack_union.specs.Laws.{MayBeNoted, RoundsAreCollected};
+ghost use Rattle.nack_union.specs.Laws.{MayBeNoted, RoundsAreCollected, StreamsGrow};
 
 /// What the requests of a round ask for may be kept as a set until the round closes: the wants are then the same as if
 /// each had been put in as the round closes, in the order in which it was asked for.
@@ -14,4 +14,10 @@ pub fn rounds_are_collected()
 #[tactic(auto, using(crate::proofs::Heard::may_be_noted))]
 pub fn may_be_noted()
     ensures { MayBeNoted }
+{}
+
+/// As the last object of a union, a stream, grows, the union that has as many of its segments closed stands for the state of then:
+/// what its open round was asked for is still what each request asked for as it came.
+pub fn streams_grow()
+    ensures { StreamsGrow }
 {}

@@ -4,13 +4,14 @@ ghost use Rattle.std.specs.Prelude.{◌≡◌, ◌+◌, ◌^◌, ◌<◌, ◌≤
 ghost use Rattle.fec_plan.specs.Partition.{blocks, most_blocks};
 ghost use Rattle.norm_order.specs.Sets.{with_member, is_member, Rises};
 ghost use Rattle.nack_union.specs.Slots.{slots, symbol_slot, want_at};
-ghost use Rattle.nack_union.specs.More.{HasMore, is_source_slot, is_encoded_slot, in_run, slot_in, slot_from, slot_behind, is_slot_of, count_at, MoreOf, named_part};
+ghost use Rattle.nack_union.specs.More.{HasMore, is_source_slot, is_encoded_slot, in_run, slot_in, slot_from, slot_behind, is_slot_of, count_at, kept_count, MoreOf, named_part};
 ghost use Rattle.nack_union.specs.Adding.{IsPlanned};
 ghost use Rattle.norm_ext.specs.Asking.{span, block_span, object_span, has_flag};
-ghost use Rattle.nack_union.specs.Kept.{admitted, closed_marks, IsCounted};
+ghost use Rattle.nack_union.specs.Kept.{admitted, closed_marks, IsCounted, symbols_of_marked};
 ghost use Rattle.norm_send_rules.specs.declared.want.Want.TheVariants.{Symbol};
 ghost use Rattle.fec_plan.specs.Points.{position};
 
+use crate::closed::{all_symbols, closed_len, encoded_len};
 use crate::coverage::Coverage;
 use crate::mask::Mask;
 use crate::slots::{BLOCK, slot_of};
@@ -24,11 +25,12 @@ use std::marker::Model;
 /// The greatest number of a block.
 const LAST_BLOCK: u32 = 16_777_215;
 
-/// An object of the window: which of its slots are wanted, and how many, and which were sent. Of the open round the slots
+/// An object of the window: how many of its source symbols are closed, which of its slots are wanted, and how many, and which were sent. Of the open round the slots
 /// that it asks for, of each block the greatest count, and whether it asks for anything.
 #[derive(Debug, Drop)]
 pub struct Marks {
     plan: Plan,
+    closed: u64,
     info: bool,
     wants: Mask,
     wanted: usize,
@@ -117,10 +119,12 @@ impl Marks {
         let places = BLOCK * plan.blocks() as usize + 1;
         let wants = Mask::with_room(alloc, places)?;
         let sent = Mask::with_room(alloc, places)?;
-        let asked = Coverage::new(alloc, plan)?;
+        let closed = all_symbols(plan);
+        let asked = Coverage::new(alloc, plan, closed)?;
         let counts = vec![in alloc; 0; plan.blocks() as usize]?;
         Ok(Marks {
             plan: *plan,
+            closed,
             info,
             wants,
             wanted: 0,
@@ -175,20 +179,20 @@ impl Marks {
         self.is_asked = true;
     }
 
-    /// The round asks for the source symbols whose slots lie from one up to another.
+    /// The round asks for the closed source symbols whose slots lie from one up to another.
     fn ask_sources(&mut self, from: usize, to: usize)
-        ensures { HasMore (λ slot. is_source_slot self.old.cut slot && in_run from to slot) (λ block. 0) self.old self.new }
+        ensures { HasMore (λ slot. is_source_slot (symbols_of_marked self.old) slot && in_run from to slot) (λ block. 0) self.old self.new }
     {
         self.asked.insert_sources(from, to);
         self.is_asked = true;
     }
 
-    /// The round asks for the source symbols of the object, which has this index, from one position to another, both
+    /// The round asks for the closed source symbols of the object, which has this index, from one position to another, both
     /// included.
     pub fn ask_between(&mut self, index: u32, first: Position, last: Position)
         requires from { first.index ≤ index }
         requires to { index ≤ last.index }
-        ensures { HasMore (λ slot. is_source_slot self.old.cut slot && slot_in index (span first last) slot) (λ block. 0) self.old self.new }
+        ensures { HasMore (λ slot. is_source_slot (symbols_of_marked self.old) slot && slot_in index (span first last) slot) (λ block. 0) self.old self.new }
     {
         let behind = BLOCK * self.plan.blocks() as usize + 1;
         self.ask_sources(slot_from(index, first), slot_behind(index, last, behind));
@@ -207,7 +211,7 @@ impl Marks {
     fn ask_where(&mut self, wanted: bool, index: u32, first: Position, last: Position)
         requires from { first.index ≤ index }
         requires to { index ≤ last.index }
-        ensures { HasMore (λ slot. wanted && (is_source_slot self.old.cut slot && slot_in index (span first last) slot)) (λ block. 0) self.old self.new }
+        ensures { HasMore (λ slot. wanted && (is_source_slot (symbols_of_marked self.old) slot && slot_in index (span first last) slot)) (λ block. 0) self.old self.new }
     {
         if wanted {
             self.ask_between(index, first, last);
@@ -240,18 +244,18 @@ impl Marks {
 
     /// The round asks for an encoded symbol of the object.
     pub fn ask_symbol(&mut self, block: u32, symbol: u8)
-        ensures { HasMore (λ slot. is_encoded_slot self.old.cut slot && is_slot_of block symbol slot) (λ block. 0) self.old self.new }
+        ensures { HasMore (λ slot. is_encoded_slot (symbols_of_marked self.old) slot && is_slot_of block symbol slot) (λ block. 0) self.old self.new }
     {
-        if block < self.plan.blocks() && symbol < self.plan.encoded_len(block) {
+        if block < self.plan.blocks() && symbol < encoded_len(&self.plan, self.closed, block) {
             self.ask(slot_of(block, symbol));
         }
     }
 
-    /// The round counts a block of the object, where it has it.
+    /// The round counts a block of the object, where something of it is closed.
     pub fn count_block(&mut self, block: u32, lacking: u8)
-        ensures { HasMore (λ slot. false) (λ other. count_at block lacking other) self.old self.new }
+        ensures { HasMore (λ slot. false) (λ other. kept_count (symbols_of_marked self.old) other (count_at block lacking other)) self.old self.new }
     {
-        if block < self.plan.blocks() {
+        if block < self.plan.blocks() && closed_len(&self.plan, self.closed, block) > 0 {
             self.count(block, lacking);
         }
     }

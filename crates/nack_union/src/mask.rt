@@ -77,6 +77,25 @@ fn set_run(words: &mut [u64], from: usize, to: usize)
     }
 }
 
+/// The word at a place, or 0 behind the last one.
+fn word_at(words: &[u64], place: usize) -> u64
+    ensures { result ≡ slice_index words.now place }
+{
+    if place < words.len() { words[place] } else { 0 }
+}
+
+/// Moves words down by so many places. Those that would fall below the first go, and 0 comes behind.
+fn move_words(words: &mut [u64], count: usize)
+    requires small { length words.old ≤ 2 ^ 58 }
+    ensures { (k : ℕ) → slice_index words.new k ≡ slice_index words.old (k + count) }
+{
+    let gone = count.min(words.len());
+    // Proof: the label names the loop for its invariant.
+    'moved: for place in 0..words.len() {
+        words[place] = word_at(words, place + gone);
+    }
+}
+
 impl Mask {
     /// The empty set of places below a size, with as many words as they need.
     pub fn with_room(alloc: Global, places: usize) -> Result<Mask, Memory>
@@ -135,6 +154,15 @@ impl Mask {
             set_run(&mut self.words, from, to);
             self.lowest = self.lowest.min(from / WORD);
         }
+    }
+
+    /// Moves all members down by so many words of places. Those that would fall below 0 go.
+    pub fn move_down(&mut self, count: usize)
+        ensures members { (place : ℕ) → is_member nat_lt place self.new.members ≡ is_member nat_lt (place + 64 * count) self.old.members }
+        ensures size { self.new.size ≡ self.old.size }
+    {
+        move_words(&mut self.words, count);
+        self.lowest = self.lowest.saturating_sub(count);
     }
 
     /// Leaves the set without members.

@@ -6,8 +6,9 @@ ghost use Rattle.fec_plan.specs.Partition.{blocks, source_symbols};
 ghost use Rattle.norm_order.specs.Sets.{with_members};
 ghost use Rattle.nack_union.specs.Slots.{symbol_slot, slots};
 ghost use Rattle.nack_union.specs.Kept.{IsRepairable};
-ghost use Rattle.nack_union.specs.Repairs.{fresh_symbols, repair_slots, counted_slots};
+ghost use Rattle.nack_union.specs.Repairs.{shape_closed, fresh_symbols, repair_slots, counted_slots};
 
+use crate::closed::{closed_len, encoded_len};
 use crate::mask::Mask;
 use crate::slots::slot_of;
 use fec_plan::Plan;
@@ -60,31 +61,32 @@ fn ask_below(asked: &mut Mask, block: u32, to: u8)
     }
 }
 
-/// Asks for so many symbols of a block, and at most for as many as it has source symbols.
-fn ask_repairs(asked: &mut Mask, sent: &Mask, plan: &Plan, block: u32, lacking: u8)
+/// Asks for so many symbols of a block of an object of which so many are closed, and at most for as many as the block has source
+/// symbols.
+fn ask_repairs(asked: &mut Mask, sent: &Mask, plan: &Plan, closed: u64, block: u32, lacking: u8)
     requires block { block < blocks plan.now }
     requires asked { slots (blocks plan.now) ≤ asked.old.size }
     requires sent { slots (blocks plan.now) ≤ sent.now.size }
-    ensures members { asked.new.members ≡ with_members nat_lt (repair_slots plan.now sent.now.members block (min lacking (source_symbols plan.now block))) asked.old.members }
+    ensures members { asked.new.members ≡ with_members nat_lt (repair_slots (shape_closed plan.now closed) sent.now.members block (min lacking (source_symbols plan.now block))) asked.old.members }
     ensures size { asked.new.size ≡ asked.old.size }
     ensures repairable { IsRepairable plan.now block }
 {
     let sources = plan.source_len(block);
-    let encoded = plan.encoded_len(block);
+    let encoded = encoded_len(plan, closed, block);
     let count = lacking.min(sources);
     if count <= count_fresh(sent, block, sources, encoded) {
         ask_fresh(asked, sent, block, sources, encoded, count);
     } else {
-        ask_below(asked, block, sources);
+        ask_below(asked, block, closed_len(plan, closed, block));
     }
 }
 
 /// Asks for what the counts of all blocks ask for.
-pub fn ask_counted(asked: &mut Mask, sent: &Mask, plan: &Plan, counts: &[u8])
+pub fn ask_counted(asked: &mut Mask, sent: &Mask, plan: &Plan, closed: u64, counts: &[u8])
     requires counts { length counts.now ≡ blocks plan.now }
     requires asked { slots (blocks plan.now) ≤ asked.old.size }
     requires sent { slots (blocks plan.now) ≤ sent.now.size }
-    ensures members { asked.new.members ≡ with_members nat_lt (counted_slots plan.now sent.now.members 0 counts.now) asked.old.members }
+    ensures members { asked.new.members ≡ with_members nat_lt (counted_slots (shape_closed plan.now closed) sent.now.members 0 counts.now) asked.old.members }
     ensures size { asked.new.size ≡ asked.old.size }
     ensures repairable { (block : ℕ) → 0 < slice_index counts.now block → IsRepairable plan.now block }
 {
@@ -92,7 +94,7 @@ pub fn ask_counted(asked: &mut Mask, sent: &Mask, plan: &Plan, counts: &[u8])
     'counted: for block in 0..plan.blocks() {
         let lacking = counts[block as usize];
         if lacking > 0 {
-            ask_repairs(asked, sent, plan, block, lacking);
+            ask_repairs(asked, sent, plan, closed, block, lacking);
         }
     }
 }

@@ -7,7 +7,10 @@ use Rattle.nack_union.specs.Kept.{Kept, Marked, Holds, admitted}
 use Rattle.nack_union.proofs.Counting.{not_wanted, position-None}
 use Rattle.nack_union.specs.Collected.{Collects}
 use Rattle.nack_union.proofs.Quiet.{quiet_before, quiet_set, idle_set, few_set}
-use Rattle.nack_union.proofs.Collections.{collects_kept}
+use Rattle.std.specs.List.{AllByRecursion}
+use Rattle.norm_send_rules.specs.InWindow.{next_index}
+use Rattle.nack_union.specs.Collected.{IsKnownIn}
+use Rattle.nack_union.proofs.Collections.{collects_kept, known_kept}
 use Rattle.nack_union.proofs.Standing.{stands_next, stands_idle}
 use Rattle.nack_union.proofs.collection.Collection.next.Goals as goal
 
@@ -46,7 +49,11 @@ returns-clause-collects c = λ p s asked rest col.
     let there = position-Some wanted c.self.inside.objects.items c.in_ok-place.place c.index_mut-object.result.now at in
     let same = sym c.index_mut-object.ensures.value ∙ c.in_ok-slot.ensures.0 in
     let kept = collects_kept p s (record { first = c.self.inside.first; objects = c.self.inside.objects.items; earliest = c.self.inside.earliest }) asked c.in_ok-place.place c.take_lowest.new.self c.index_mut-object.result.now
-    there.0 (sym (ap (λ (m : Marked). m.asked) same)) (sym (ap (λ (m : Marked). m.counts) same)) (subst (λ (u : Kept). Collects p u s asked) (sym c.self.view_is) col) in
+    there.0 (sym (ap (λ (m : Marked). m.asked) same)) (sym (ap (λ (m : Marked). m.counts) same))
+    (known_kept _ c.in_ok-place.place (next_index s) c.take_lowest.new.self c.index_mut-object.result.now asked
+    there.0 (sym (ap (λ (m : Marked). m.cut) same)) (sym (ap (λ (m : Marked). m.closed) same))
+    (subst (λ (u : Kept). AllByRecursion (IsKnownIn u (next_index s)) asked) (sym c.self.view_is) col.known))
+    (subst (λ (u : Kept). Collects p u s asked) (sym c.self.view_is) col) in
     record { known = kept.known; named = kept.named; counts = kept.counts; earliest = kept.earliest }
 
 pub invariant_of-self : goal.invariant_of-self

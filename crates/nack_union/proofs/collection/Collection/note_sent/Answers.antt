@@ -8,7 +8,10 @@ use Rattle.nack_union.specs.Kept.{Kept, Marked, Holds, IsEncodedIn}
 use Rattle.nack_union.proofs.Wholes.{slot_there}
 use Rattle.nack_union.proofs.Heard.{there_at}
 use Rattle.nack_union.specs.Collected.{Collects}
-use Rattle.nack_union.proofs.Collections.{collects_kept}
+use Rattle.std.specs.List.{AllByRecursion}
+use Rattle.norm_send_rules.specs.InWindow.{next_index}
+use Rattle.nack_union.specs.Collected.{IsKnownIn}
+use Rattle.nack_union.proofs.Collections.{collects_kept, known_kept}
 use Rattle.nack_union.proofs.Standing.{stands_noted}
 use Rattle.nack_union.proofs.collection.Collection.note_sent.Goals as goal
 
@@ -39,6 +42,10 @@ returns-clause-collects c = λ p s asked col.
     let kept = collects_kept p s (record { first = c.self.inside.first; objects = c.self.inside.objects.items; earliest = c.self.inside.earliest }) asked (c.at.inside.index - c.self.inside.first) c.note_sent.new.self c.index_mut-object.result.now
     (omega (arith, first, many, from, to, at))
     (ap (λ (m : Marked). m.asked) c.note_sent.ensures ∙ ap (λ (m : Marked). m.asked) there) (ap (λ (m : Marked). m.counts) c.note_sent.ensures ∙ ap (λ (m : Marked). m.counts) there)
+    (known_kept _ (c.at.inside.index - c.self.inside.first) (next_index s) c.note_sent.new.self c.index_mut-object.result.now asked
+    (omega (arith, first, many, from, to, at)) (ap (λ (m : Marked). m.cut) c.note_sent.ensures ∙ ap (λ (m : Marked). m.cut) there)
+    (ap (λ (m : Marked). m.closed) c.note_sent.ensures ∙ ap (λ (m : Marked). m.closed) there)
+    (subst (λ (u : Kept). AllByRecursion (IsKnownIn u (next_index s)) asked) (sym view) col.known))
     (subst (λ (u : Kept). Collects p u s asked) (sym view) col) in
     record { known = kept.known; named = kept.named; counts = kept.counts; earliest = kept.earliest }
 
@@ -53,6 +60,6 @@ note_sent-requires c =
     let encoded = subst (λ (u : Kept). IsEncodedIn u c.args.at) (sym view) c.requires in
     let there = there_at items (c.at.inside.index - c.self.inside.first) m (omega (arith, first, many, encoded.first, encoded.object, at)) c.index_mut-object.ensures.value in
     subst (λ n. n < slots (blocks m.cut)) (sym (c.slot_of.ensures.slot ∙ ap (λ (x : Position). symbol_slot x.block x.symbol) c.at.view_is))
-    (slot_there m c.args.at.block c.args.at.symbol c.hold.ensures.planned.sound
+    (slot_there m c.args.at.block c.args.at.symbol c.hold.ensures.planned
     (encoded.symbol m (subst (λ (x : Position). slice_get items (x.index - c.self.inside.first) ≡ Some m) c.at.view_is there))
     (subst (λ (x : Position). x.symbol < 256) c.at.view_is c.slot_of.ensures.named))

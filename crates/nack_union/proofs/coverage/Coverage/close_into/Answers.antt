@@ -1,7 +1,7 @@
 use Rattle.std.proofs.Common.{◌≡◌, ℕ, List, ap, ◌∙◌, arith, nat_lt}
 use Rattle.std.specs.Prelude.{◌||◌}
 use Rattle.norm_order.specs.Sets.{is_member, with_members}
-use Rattle.nack_union.specs.Repairs.{counted_slots}
+use Rattle.nack_union.specs.Repairs.{shape_closed, counted_slots}
 use Rattle.nack_union.specs.Coverage.{Covered, is_run_slot}
 use Rattle.nack_union.proofs.Coverages.{none_covered, all_alone}
 use Rattle.nack_union.proofs.coverage.Coverage.close_into.Goals as goal
@@ -9,9 +9,9 @@ use Rattle.nack_union.proofs.coverage.Coverage.close_into.Goals as goal
 -- the slots, with those of the runs
 alone : (c : goal.After-take_all) → c.insert_runs.new.set.members ≡ c.args.self.now.members
 alone c =
-    all_alone c.self.inside.plan c.self.inside.ends.items c.self.inside.alone.members c.insert_runs.new.set.members
+    all_alone (shape_closed c.self.inside.plan c.self.inside.closed) c.self.inside.ends.items c.self.inside.alone.members c.insert_runs.new.set.members
     (λ slot. c.insert_runs.ensures.members slot
-    ∙ ap (λ (es : List ℕ). is_member nat_lt slot c.self.inside.alone.members || is_run_slot c.self.inside.plan es slot) c.deref.ensures.value)
+    ∙ ap (λ (es : List ℕ). is_member nat_lt slot c.self.inside.alone.members || is_run_slot (shape_closed c.self.inside.plan c.self.inside.closed) es slot) c.deref.ensures.value)
     c.rises.ensures.rises
     (λ slot past. c.rises.ensures.within slot (let same = c.insert_runs.ensures.size in let size = c.self.invariant.size in omega (arith, past, same, size)))
     ∙ ap (λ (v : Covered). v.members) c.self.view_is
@@ -21,9 +21,9 @@ returns-clause-members c =
     c.take_all.ensures.members
     ∙ ap (λ (xs : List ℕ). with_members nat_lt xs c.args.wants.now.members)
     (c.ask_counted.ensures.members
-    ∙ ap (λ (xs : List ℕ). with_members nat_lt (counted_slots c.self.inside.plan c.args.sent.now.members 0 c.args.counts.now) xs) (alone c)
-    ∙ ap (λ (v : Covered). with_members nat_lt (counted_slots v.cut c.args.sent.now.members 0 c.args.counts.now) c.args.self.now.members) c.self.view_is)
+    ∙ ap (λ (xs : List ℕ). with_members nat_lt (counted_slots (shape_closed c.self.inside.plan c.self.inside.closed) c.args.sent.now.members 0 c.args.counts.now) xs) (alone c)
+    ∙ ap (λ (v : Covered). with_members nat_lt (counted_slots v.shape c.args.sent.now.members 0 c.args.counts.now) c.args.self.now.members) c.self.view_is)
 
 pub returns-clause-emptied : goal.returns-clause-emptied
 returns-clause-emptied c =
-    none_covered c.self.inside.plan c.fill.new.self.items c.take_all.new.other.members _ (c.fill.ensures.items (λ _ e. e)) c.take_all.ensures.emptied
+    none_covered (shape_closed c.self.inside.plan c.self.inside.closed) c.fill.new.self.items c.take_all.new.other.members _ (c.fill.ensures.items (λ _ e. e)) c.take_all.ensures.emptied

@@ -1,7 +1,8 @@
 use Rattle.std.proofs.Common.{◌<◌, ap, sym, ◌∙◌, arith}
 use Rattle.std.specs.Prelude.{◌==◌}
-use Rattle.fec_plan.specs.Partition.{blocks, encoding_symbols}
-use Rattle.nack_union.specs.Kept.{Marked}
+use Rattle.fec_plan.specs.Partition.{blocks}
+use Rattle.norm_order.specs.Shapes.{encoded_in}
+use Rattle.nack_union.specs.Kept.{Marked, symbols_of_marked}
 use Rattle.nack_union.proofs.Mores.{one_slot}
 use Rattle.nack_union.proofs.Spans.{at_symbol}
 use Rattle.nack_union.proofs.marks.Marks.ask_symbol.Goals as goal
@@ -12,7 +13,7 @@ returns-then-symbol-encoded_len c =
     let cut = ap (λ (m : Marked). m.cut) c.self.view_is in
     let within : c.args.block < blocks c.args.self.now.cut =
     let lt = c.if-block-blocks.true in let many = c.blocks-2.ensures.exact ∙ ap blocks cut in omega (arith, lt, many) in
-    let named : c.args.symbol < encoding_symbols c.args.self.now.cut c.args.block =
-    let lt = c.if-symbol-encoded_len.true in let many = c.encoded_len.ensures ∙ ap (λ x. encoding_symbols x c.args.block) cut in omega (arith, lt, many) in
+    let named : c.args.symbol < encoded_in (symbols_of_marked c.args.self.now) c.args.block =
+    let lt = c.if-symbol-encoded_len.true in let many = c.encoded_len.ensures.exact ∙ ap (λ (m : Marked). encoded_in (symbols_of_marked m) c.args.block) c.self.view_is in omega (arith, lt, many) in
     one_slot _ c.slot_of.result c.args.self.now c.ask.new.self c.ask.ensures
-    (λ slot. at_symbol c.args.self.now.cut c.args.block c.args.symbol slot few within named ∙ ap (λ n. slot == n) (sym c.slot_of.ensures.slot))
+    (λ slot. at_symbol (symbols_of_marked c.args.self.now) c.args.block c.args.symbol slot few within named ∙ ap (λ n. slot == n) (sym c.slot_of.ensures.slot))

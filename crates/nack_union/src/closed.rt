@@ -1,0 +1,39 @@
+//! How many symbols of a block are closed, and how many it has encoded.
+
+ghost use Rattle.std.specs.Prelude.{◌≡◌, ◌≤◌};
+ghost use Rattle.fec_plan.specs.Partition.{all_symbols, encoding_symbols};
+ghost use Rattle.norm_order.specs.Shapes.{closed_in, encoded_in};
+ghost use Rattle.nack_union.specs.Repairs.{shape_closed};
+
+use fec_plan::Plan;
+
+/// How many source symbols an object has.
+pub fn all_symbols(plan: &Plan) -> u64
+    ensures { result ≡ all_symbols plan.now }
+{
+    let last = plan.blocks() - 1;
+    plan.symbol_number(last, 0) + u64::from(plan.source_len(last))
+}
+
+/// How many source symbols of a block are closed, of an object of which so many are.
+pub fn closed_len(plan: &Plan, closed: u64, block: u32) -> u8
+    ensures { result ≡ closed_in (shape_closed plan.now closed) block }
+{
+    let sources = u64::from(plan.source_len(block));
+    let behind = closed.saturating_sub(plan.symbol_number(block, 0));
+    sources.min(behind) as u8
+}
+
+/// How many encoded symbols a block has: parity only where all its source symbols are closed.
+pub fn encoded_len(plan: &Plan, closed: u64, block: u32) -> u8
+    ensures exact { result ≡ encoded_in (shape_closed plan.now closed) block }
+    ensures named { encoding_symbols plan.now block ≤ 255 }
+{
+    let most = plan.encoded_len(block);
+    let len = closed_len(plan, closed, block);
+    if len == plan.source_len(block) {
+        most
+    } else {
+        len
+    }
+}
