@@ -1,6 +1,6 @@
 -- Causes of faults, from what each call of the outside says of its count.
-use Rattle.std.proofs.Common.{◌≡◌, ℕ, Bool, true, Result, Ok, Err, refl, sym, ap, ◌∙◌, subst}
-use Rattle.norm_base.specs.Faults.{Counts, one_more, network_failed}
+use Rattle.std.proofs.Common.{◌≡◌, ℕ, Result, Err, sym, ap, ◌∙◌, subst}
+use Rattle.norm_base.specs.Faults.{Counts, network_failed}
 use Rattle.norm_base.specs.declared.fault.FabricFault.{FabricFault}
 use Rattle.norm_base.specs.declared.fault.FabricFault.TheVariants as network_fault
 use Rattle.norm_session.specs.Causes.{Counted, counted, counts_after, session_fault, HasCause, NetworkCause}

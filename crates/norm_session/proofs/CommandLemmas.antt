@@ -1,13 +1,9 @@
 -- Commands of a turn: a pull, and offers of a command's job.
-use Rattle.std.proofs.Common.{◌≡◌, ℕ, zero, suc, ◌+◌, ◌<◌, ◌≤◌, inl, inr, List, length, [], ◌∷◌, ◌++◌, Option, None, Some, Bool, true, false, refl, sym, ap, ◌∙◌, subst, drop, get_or, arith}
-use Rattle.std.specs.Prelude.{◌≢◌, ◌⊎◌, Result, Ok, Err, OnOk, IfErr, nat_lt, slice_get, option_and_then}
-use Rattle.std.proofs.lemmas.Bool.Decides.{Decides-ltb}
-use Rattle.std.proofs.lemmas.List.{drop_all}
-use Rattle.std.proofs.lemmas.List.Elements.{All-nil}
-use Rattle.std.proofs.lemmas.Option.{slice_get_past, slice_get_read, slice_get_within, get_or_from_slice_get}
+use Rattle.std.proofs.Common.{◌≡◌, ℕ, suc, ◌<◌, ◌≤◌, inl, inr, List, length, [], ◌∷◌, ◌++◌, Option, None, Some, Bool, true, false, refl, sym, ap, ◌∙◌, subst, get_or, arith}
+use Rattle.std.specs.Prelude.{◌==◌, ◌≢◌, ◌⊎◌, Result, Ok, Err, OnOk, IfErr, nat_lt, slice_get, option_and_then}
+use Rattle.std.proofs.lemmas.Bool.Decides.{Decides-eqb, Decides-ltb}
+use Rattle.std.proofs.lemmas.Option.{get_or_from_slice_get, slice_get_past, slice_get_read}
 use Rattle.std.proofs.lemmas.Bool.{cases_lt}
-use Rattle.std.proofs.Math.Seq.{drop-cons}
-use Rattle.std.proofs.Math.Numerals.{suc-eq-add-one}
 use Rattle.std.specs.Option.{option_map, option_to_list}
 use Rattle.norm_base.specs.Network.{Network}
 use Rattle.norm_base.specs.Settings.{Settings}
@@ -48,52 +44,38 @@ use Rattle.norm_world.specs.WorldMoves.{IsEvent}
 use Rattle.norm_session.specs.Commanding.{IsDue, IsAtLine, IsAnswered, given, offering, told_at, waits_at, within_lines}
 use Rattle.norm_session.specs.Turning.{IsOver, command_next}
 use Rattle.norm_session.specs.Context.{Context, judged_of}
+use Rattle.norm_session.specs.Left.{IsTaken, lines_at}
 use Rattle.norm_session.specs.RunKept.{RunKept}
 use Rattle.norm_session.specs.SoFar.{HasAll, IsOffered, IsTelling, At, Leads}
 use Rattle.norm_session.specs.Stopping.{IsUnwritten, Stopped}
 use Rattle.norm_session.specs.declared.fault.SessionFault.{SessionFault}
 use Rattle.norm_session.specs.declared.fault.SessionFault.TheVariants as fault
+use Rattle.norm_session.proofs.LeftLemmas.{some_there}
 use Rattle.norm_session.proofs.SoFarLemmas.{more, leads_on, untold, gained-nil, stops_for_memory, line_stops}
 
 -- ---- a pull
 
--- what is left from a place on begins with what stands there
-from_place : {X : Type 0} (xs : List X) (n : ℕ) (x : X) → slice_get xs n ≡ Some x → drop n xs ≡ x ∷ drop (n + 1) xs
-from_place xs n x e =
-    drop-cons xs n x (slice_get_within xs n x e) ∙ ap (λ y. y ∷ drop (suc n) xs) (get_or_from_slice_get xs n x x e) ∙ ap (λ m. x ∷ drop m xs) (suc-eq-add-one n)
-
 -- the run after a pull
-abbrev pub pulled_on : RunKept → List Event → ℕ → RunKept
-pulled_on k journal pulled = record k { journal = journal; pulled = pulled }
+abbrev pub pulled_on : RunKept → List Event → List ℕ → RunKept
+pulled_on k journal left = record k { journal = journal; left = left }
 
-pub pulls : (x : Context) (k : RunKept) (journal : List Event) (line : Line) (network : Network) (written : Pieces)
-    → slice_get x.script.lines k.pulled ≡ Some line → journal ≡ k.journal ++ event.Pull (origin_of line) ∷ [] → At x k Pulling network written
-    → IsAtLine x (pulled_on k journal (k.pulled + 1)) k.pulled true network written
-pulls x k journal line network written there joined here =
+pub pulls : (x : Context) (k : RunKept) (journal : List Event) (left : List ℕ) (producer place : ℕ) (network : Network) (written : Pieces)
+    → (taken : IsTaken x.script.lines k.left left producer place) → journal ≡ k.journal ++ event.Pull (origin_of taken.line) ∷ [] → At x k Pulling network written
+    → IsAtLine x (pulled_on k journal left) place true network written
+pulls x k journal left producer place network written taken joined here =
     let s = here.so_far in
     let w = here.world in
     let j = judged_of x k w Pulling in
+    let line = taken.line in
     let e : Event = event.Pull (origin_of line) in
-    let new = pulled_on k journal (k.pulled + 1) in
+    let new = pulled_on k journal left in
     let next = judged_of x new w (Giving line) in
-    let follows : CommandPulled j (origin_of line) next = record {
-      place = refl;
-      line = line;
-      rest = drop (k.pulled + 1) x.script.lines;
-      is_first = record {
-        named = refl;
-        before = [];
-        behind = drop (k.pulled + 1) x.script.lines;
-        its_place = from_place x.script.lines k.pulled line there;
-        rest_is = refl;
-        first = All-nil (λ (l : Line). l.producer ≢ line.producer);
-      };
-      then = refl;
-    } in
+    let follows : CommandPulled j (origin_of line) next =
+    record { place = refl; line = line; rest = lines_at x.script.lines left; is_first = taken.first; then = refl } in
     record {
       line = line;
       due = record {
-        line_is = there;
+        line_is = taken.line_is;
         here = record {
           world = w;
           so_far = more x k new e w w Pulling (Giving line) network network written written s
@@ -110,22 +92,21 @@ pulls x k journal line network written there joined here =
       };
     }
 
--- by what the run is seen as, and by the script
-pub pulls_on : (x : Context) (lines : List Line) (k v : RunKept) (journal : List Event) (line : Line) (by : Origin) (network : Network) (written : Pieces)
-    → x.script.lines ≡ lines → k ≡ v → slice_get lines k.pulled ≡ Some line → by ≡ origin_of line → journal ≡ k.journal ++ event.Pull by ∷ []
-    → At x v Pulling network written → IsAtLine x (pulled_on k journal (k.pulled + 1)) k.pulled true network written
-pulls_on x lines k v journal line by network written same is there named joined here =
-    pulls x k journal line network written (subst (λ ls. slice_get ls k.pulled ≡ Some line) (sym same) there)
-    (subst (λ o. journal ≡ k.journal ++ event.Pull o ∷ []) named joined) (subst (λ (u : RunKept). At x u Pulling network written) (sym is) here)
-
 -- by the script as it is read
-pub pulls_read : (x : Context) (commands : Commands) (k v : RunKept) (journal : List Event) (line : Line) (by : Origin) (network : Network) (written : Pieces)
-    → x.script ≡ commands → k ≡ v → v.pulled < length commands.lines → line ≡ get_or commands.lines k.pulled line → by ≡ origin_of line
-    → journal ≡ k.journal ++ event.Pull by ∷ [] → At x v Pulling network written → IsAtLine x (pulled_on k journal (k.pulled + 1)) k.pulled true network written
-pulls_read x commands k v journal line by network written same is lt read named joined here =
-    pulls_on x commands.lines k v journal line by network written (ap (λ (c : Commands). c.lines) same) is
-    (slice_get_read commands.lines (length commands.lines) k.pulled line refl (subst (λ (u : RunKept). u.pulled < length commands.lines) (sym is) lt) read)
-    named joined here
+pub pulls_read : (x : Context) (commands : Commands) (k v : RunKept) (journal : List Event) (left : List ℕ) (producer place : ℕ) (line : Line) (by : Origin)
+    (network : Network) (written : Pieces) → x.script ≡ commands → k ≡ v → IsTaken commands.lines k.left left producer place
+    → line ≡ get_or commands.lines place line → by ≡ origin_of line → journal ≡ k.journal ++ event.Pull by ∷ []
+    → At x v Pulling network written → IsAtLine x (pulled_on k journal left) place true network written
+pulls_read x commands k v journal left producer place line by network written same is taken read named joined here =
+    pulls x k journal left producer place network written
+    (subst (λ (c : Commands). IsTaken c.lines k.left left producer place) (sym same) taken)
+    (subst_line (sym same) taken (joined ∙ ap (λ o. k.journal ++ event.Pull o ∷ [])
+    (named ∙ ap origin_of (read ∙ get_or_from_slice_get commands.lines place taken.line line taken.line_is))))
+    (subst (λ (u : RunKept). At x u Pulling network written) (sym is) here)
+  where
+    subst_line : {c d : Commands} (e : c ≡ d) (t : IsTaken c.lines k.left left producer place) → journal ≡ k.journal ++ event.Pull (origin_of t.line) ∷ []
+        → journal ≡ k.journal ++ event.Pull (origin_of (subst (λ (u : Commands). IsTaken u.lines k.left left producer place) e t).line) ∷ []
+    subst_line _ t j = j
 
 -- a run that stops for want of memory, wherever it is
 pub memory_at : (x : Context) (k : RunKept) (place : Place) (network : Network) (written : Pieces) → At x k place network written
@@ -355,11 +336,6 @@ record Waits (lines : List Line) (waiting : Option ℕ) (place : ℕ) : Type 0 w
   there : slice_get lines place ≡ Some line
   waits : option_and_then (slice_get lines) waiting ≡ Some line
 
-some_there : {X : Type 0} (xs : List X) (n : ℕ) → n < length xs → (x : X) × (slice_get xs n ≡ Some x)
-some_there [] n lt = absurd (omega (arith, lt))
-some_there (x ∷ xs) zero lt = (x, refl)
-some_there (x ∷ xs) (suc n) lt = some_there xs n (omega (arith, lt))
-
 waits_there : (lines : List Line) (waiting : Option ℕ) (place : ℕ) → within_lines waiting (length lines) ≡ Some place → Waits lines waiting place
 waits_there lines None place e = absurd (cc)
 waits_there lines (Some p) place e = go (nat_lt p (length lines)) refl e
@@ -392,32 +368,36 @@ waits_again x lines k place network written same within here =
       line = found.line;
       due = record {
         line_is = found.there;
-        here = subst (λ o. At x k (command_due o (drop k.pulled x.script.lines)) network written) found.waits here;
+        here = subst (λ o. At x k (command_due o (lines_at x.script.lines k.left)) network written) found.waits here;
       };
     }
 
 -- where none waits the next is due
 pub none_waits : (x : Context) (lines : List Line) (k : RunKept) (network : Network) (written : Pieces) → x.script.lines ≡ lines
     → within_lines k.waiting (length lines) ≡ None → At x k (command_next x k) network written
-    → At x k (command_due None (drop k.pulled lines)) network written
+    → At x k (command_due None (lines_at lines k.left)) network written
 none_waits x lines k network written same within here =
     let none = waits_not x.script.lines k.waiting (ap (λ (ls : List Line). within_lines k.waiting (length ls)) same ∙ within) in
-    subst (λ (ls : List Line). At x k (command_due None (drop k.pulled ls)) network written) same
-    (subst (λ o. At x k (command_due o (drop k.pulled x.script.lines)) network written) none here)
+    subst (λ (ls : List Line). At x k (command_due None (lines_at ls k.left)) network written) same
+    (subst (λ o. At x k (command_due o (lines_at x.script.lines k.left)) network written) none here)
 
 -- where some are left the next is pulled
-pub next_pulled : (x : Context) (lines : List Line) (k : RunKept) (network : Network) (written : Pieces) → k.pulled < length lines
-    → At x k (command_due None (drop k.pulled lines)) network written → At x k Pulling network written
-next_pulled x lines k network written lt here =
-    let found = some_there lines k.pulled lt in
-    subst (λ (ls : List Line). At x k (command_due None ls) network written) (from_place lines k.pulled found.0 found.1) here
+pub next_pulled : (x : Context) (lines : List Line) (k : RunKept) (network : Network) (written : Pieces) → (length (lines_at lines k.left) == 0) ≡ false
+    → At x k (command_due None (lines_at lines k.left)) network written → At x k Pulling network written
+next_pulled x lines k network written some here = go (lines_at lines k.left) some here
+  where
+    go : (ls : List Line) → (length ls == 0) ≡ false → At x k (command_due None ls) network written → At x k Pulling network written
+    go [] more at = absurd (cc)
+    go (l ∷ ls) more at = at
 
 -- where none is left the sender ticks
-pub none_left : (x : Context) (lines : List Line) (k : RunKept) (network : Network) (written : Pieces) → length lines ≤ k.pulled
-    → At x k (command_due None (drop k.pulled lines)) network written → IsTelling x k Sending network written
-none_left x lines k network written le here =
-    let there = subst (λ (ls : List Line). At x k (command_due None ls) network written) (drop_all k.pulled lines le) here in
-    record { world = there.world; so_far = there.so_far }
+pub none_left : (x : Context) (lines : List Line) (k : RunKept) (network : Network) (written : Pieces) → (length (lines_at lines k.left) == 0) ≡ true
+    → At x k (command_due None (lines_at lines k.left)) network written → IsTelling x k Sending network written
+none_left x lines k network written none here = go (lines_at lines k.left) none here
+  where
+    go : (ls : List Line) → (length ls == 0) ≡ true → At x k (command_due None ls) network written → IsTelling x k Sending network written
+    go [] said at = record { world = at.world; so_far = at.so_far }
+    go (l ∷ ls) said at = let nothing : suc (length ls) ≡ 0 = (Decides-eqb (suc (length ls)) 0).0 said in absurd (omega (arith, nothing))
 
 -- the line at a place is the one that is read there
 pub at_read : (x : Context) (commands : Commands) (files : Told) (k : RunKept) (place : ℕ) (line : Line) (first : Bool) (network : Network) (written : Pieces)

@@ -2,6 +2,7 @@ pub mod SoFarLemmas
 pub mod SendingLemmas
 pub mod TakingLemmas
 pub mod EndingLemmas
+pub mod LeftLemmas
 pub mod CommandLemmas
 pub mod ReadingLemmas
 pub mod StartingLemmas

@@ -1,7 +1,6 @@
 -- Moments of turns: how many there were, and the last.
-use Rattle.std.proofs.Common.{◌≡◌, ℕ, ◌+◌, List, [], ◌∷◌, ◌++◌, Bool, true, false, Option, None, Some, refl, sym, ap, ◌∙◌, subst, append_assoc, arith}
-use Rattle.std.specs.Prelude.{◌==◌, max, option_and_then, IfSome}
-use Rattle.std.specs.List.{list_any, flat_map}
+use Rattle.std.proofs.Common.{◌≡◌, ℕ, ◌+◌, List, [], ◌∷◌, ◌++◌, Bool, true, false, Option, None, Some, refl, sym, ap, ◌∙◌, subst, arith}
+use Rattle.std.specs.Prelude.{◌==◌, max, option_and_then}
 use Rattle.std.proofs.lemmas.List.Concat.{flat_map-append}
 use Rattle.norm_base.specs.Told.{gained}
 use Rattle.norm_safety.specs.Events.{Delivered}

@@ -1,6 +1,6 @@
 -- A whole session.
-use Rattle.std.proofs.Common.{◌≡◌, ℕ, List, [], ◌∷◌, ◌++◌, Bool, true, false, Some, refl, sym, ap, ◌∙◌, subst, inl, inr}
-use Rattle.std.specs.Prelude.{◌⊎◌, Option, IfSome}
+use Rattle.std.proofs.Common.{◌≡◌, ℕ, List, Bool, true, false, Some, refl, sym, subst, inl, inr}
+use Rattle.std.specs.Prelude.{◌⊎◌}
 use Rattle.norm_base.specs.Network.{Network, Starts}
 use Rattle.norm_base.specs.Told.{Pieces}
 use Rattle.norm_base.specs.declared.kinds.Local.TheVariants.{All}
@@ -9,15 +9,14 @@ use Rattle.norm_journal.specs.declared.event.Event.{Event}
 use Rattle.norm_journal.specs.Jobs.{Told}
 use Rattle.norm_journal.specs.Judged.{Judged, is_whole}
 use Rattle.norm_journal.specs.Places.{Between, Over}
-use Rattle.norm_journal.specs.Projections.{moments_in}
-use Rattle.norm_journal.specs.SessionRun.{Ending, Whole, Spent, ending_of}
+use Rattle.norm_journal.specs.SessionRun.{Whole, Spent, ending_of}
 use Rattle.norm_session.specs.Context.{Context, with_moments, judged_of}
 use Rattle.norm_session.specs.Finishing.{HasEnded, Finishes}
 use Rattle.norm_session.specs.Moments.{HaveMoments}
 use Rattle.norm_session.specs.RunKept.{RunKept}
 use Rattle.norm_session.specs.SoFar.{Leads, At}
 use Rattle.norm_session.specs.Starting.{IsBegun}
-use Rattle.norm_session.specs.Session.{IsRunnable, OverHonest, IsSafe, RunsSession, NotBegun, BreaksOff, StopsSession, context_of, end_of}
+use Rattle.norm_session.specs.Session.{IsRunnable, OverHonest, IsSafe, RunsSession, StopsSession, context_of, end_of}
 use Rattle.norm_session.specs.Turning.{Span, span, StopsTurns}
 use Rattle.norm_session.specs.declared.fault.SessionFault.{SessionFault}
 use Rattle.norm_session.specs.declared.fault.SessionFault.TheVariants as fault

@@ -1,5 +1,5 @@
 -- The beginning of a run.
-use Rattle.std.proofs.Common.{◌≡◌, ℕ, List, [], ◌∷◌, ◌++◌, Some, None, refl, sym, ap, ◌∙◌, subst, inl, inr}
+use Rattle.std.proofs.Common.{◌≡◌, ℕ, List, [], ◌∷◌, None, refl, sym, ap, ◌∙◌, subst, inl, inr}
 use Rattle.std.specs.Prelude.{◌⊎◌}
 use Rattle.std.specs.List.{AllByRecursion}
 use Rattle.rand_pcg.specs.Lcg.{Lcg}
@@ -10,8 +10,9 @@ use Rattle.norm_base.specs.Told.{gained}
 use Rattle.norm_base.specs.declared.fault.FabricFault.{FabricFault}
 use Rattle.norm_base.specs.declared.fault.FabricFault.TheVariants as network_fault
 use Rattle.norm_script.specs.Commands.{Commands}
+use Rattle.norm_script.specs.declared.script.Line.{Line}
 use Rattle.norm_safety.specs.World.{world_opening}
-use Rattle.norm_journal.specs.Accepting.{accepts, judged_from}
+use Rattle.norm_journal.specs.Accepting.{judged_from}
 use Rattle.norm_journal.specs.Draws.{first_draws}
 use Rattle.norm_journal.specs.Follows.{NetworkStarts}
 use Rattle.norm_journal.specs.Jobs.{IsOfObjects}
@@ -26,8 +27,9 @@ use Rattle.norm_journal.proofs.FollowLemmas.{judges_what_follows}
 use Rattle.norm_world.specs.WorldKept.{WorldKept, StandsFor}
 use Rattle.norm_session.specs.Causes.{session_fault}
 use Rattle.norm_session.specs.Context.{Context, opening, judged_of}
+use Rattle.norm_session.specs.Left.{lines_at}
 use Rattle.norm_session.specs.RunKept.{RunKept}
-use Rattle.norm_session.specs.SoFar.{AreOffered, Leads, HasAll, At}
+use Rattle.norm_session.specs.SoFar.{AreOffered, Leads, At}
 use Rattle.norm_session.specs.Starting.{IsBegun}
 use Rattle.norm_session.specs.declared.fault.SessionFault.TheVariants as fault
 use Rattle.norm_session.proofs.SoFarLemmas.{gained-nil, tells, untold, leads_on}
@@ -48,8 +50,8 @@ unbegun x script network b = record {
 }
 
 -- a run as it begins
-abbrev pub begun_with : Settings → WorldKept → List Event → Totals → Lcg → RunKept
-begun_with p world journal totals draws = record {
+abbrev pub begun_with : Settings → WorldKept → List Event → Totals → Lcg → List ℕ → RunKept
+begun_with p world journal totals draws left = record {
   p = p;
   world = world;
   journal = journal;
@@ -57,17 +59,17 @@ begun_with p world journal totals draws = record {
   draws = draws;
   turn = 0;
   now = 0;
-  pulled = 0;
+  left = left;
   waiting = None;
 }
 
-begins : (x : Context) (script : Commands) (network : Network) (world : WorldKept) → IsBegun x script network → AllByRecursion IsOfObjects x.script.lines
+begins : (x : Context) (script : Commands) (network : Network) (world : WorldKept) (left : List ℕ) → lines_at x.script.lines left ≡ x.script.lines → IsBegun x script network → AllByRecursion IsOfObjects x.script.lines
     → world.p ≡ x.script.profile → StandsFor world (world_opening x.script.profile)
-    → At x (begun_with x.script.profile world (event.Start ∷ []) nothing_counted (first_draws x.script.profile)) Between network x.written
-begins x script network world b objects same stands =
-    let k = begun_with x.script.profile world (event.Start ∷ []) nothing_counted (first_draws x.script.profile) in
+    → At x (begun_with x.script.profile world (event.Start ∷ []) nothing_counted (first_draws x.script.profile) left) Between network x.written
+begins x script network world left all b objects same stands =
+    let k = begun_with x.script.profile world (event.Start ∷ []) nothing_counted (first_draws x.script.profile) left in
     let w = world_opening x.script.profile in
-    let follows : NetworkStarts (opening x) (judged_of x k w Between) = record { place = refl; then = refl } in
+    let follows : NetworkStarts (opening x) (judged_of x k w Between) = record { place = refl; then = ap (λ (ls : List Line). record (judged_of x k w Between) { left = ls }) all } in
     record {
       world = w;
       so_far = record {
@@ -87,16 +89,16 @@ begins x script network world b objects same stands =
 
 -- by what it keeps
 pub run_begins : (x : Context) (script : Commands) (network : Network) (p : Settings) (world : WorldKept) (journal : List Event) (totals : Totals) (draws : Lcg)
-    → AllByRecursion IsOfObjects script.lines → p ≡ script.profile → world.p ≡ p → StandsFor world (world_opening p) → journal ≡ event.Start ∷ []
-    → totals ≡ nothing_counted → draws ≡ first_draws p → IsBegun x script network → At x (begun_with p world journal totals draws) Between network x.written
-run_begins x script network p world journal totals draws objects p_is same stands journal_is totals_is draws_is b =
+    (left : List ℕ) → lines_at script.lines left ≡ script.lines → AllByRecursion IsOfObjects script.lines → p ≡ script.profile → world.p ≡ p → StandsFor world (world_opening p) → journal ≡ event.Start ∷ []
+    → totals ≡ nothing_counted → draws ≡ first_draws p → IsBegun x script network → At x (begun_with p world journal totals draws left) Between network x.written
+run_begins x script network p world journal totals draws left all objects p_is same stands journal_is totals_is draws_is b =
     let own : p ≡ x.script.profile = p_is ∙ ap (λ (s : Commands). s.profile) (sym b.script) in
-    let here = begins x script network world b (subst (λ (s : Commands). AllByRecursion IsOfObjects s.lines) (sym b.script) objects) (same ∙ own)
+    let here = begins x script network world left (subst (λ (s : Commands). lines_at s.lines left ≡ s.lines) (sym b.script) all) b (subst (λ (s : Commands). AllByRecursion IsOfObjects s.lines) (sym b.script) objects) (same ∙ own)
     (subst (λ (q : Settings). StandsFor world (world_opening q)) own stands) in
-    subst (λ js. At x (begun_with p world js totals draws) Between network x.written) (sym journal_is)
-    (subst (λ (t : Totals). At x (begun_with p world (event.Start ∷ []) t draws) Between network x.written) (sym totals_is)
-    (subst (λ (d : Lcg). At x (begun_with p world (event.Start ∷ []) nothing_counted d) Between network x.written) (sym draws_is)
-    (subst (λ (q : Settings). At x (begun_with q world (event.Start ∷ []) nothing_counted (first_draws q)) Between network x.written) (sym own) here)))
+    subst (λ js. At x (begun_with p world js totals draws left) Between network x.written) (sym journal_is)
+    (subst (λ (t : Totals). At x (begun_with p world (event.Start ∷ []) t draws left) Between network x.written) (sym totals_is)
+    (subst (λ (d : Lcg). At x (begun_with p world (event.Start ∷ []) nothing_counted d left) Between network x.written) (sym draws_is)
+    (subst (λ (q : Settings). At x (begun_with q world (event.Start ∷ []) nothing_counted (first_draws q) left) Between network x.written) (sym own) here)))
 
 -- why the network was not started
 pub start_fault : (failed : FabricFault) → (session_fault failed ≡ fault.Memory) ⊎ (session_fault failed ≡ fault.Fabric)

@@ -9,7 +9,7 @@ use Rattle.norm_base.specs.Network.{Network}
 use Rattle.norm_base.specs.Settings.{Settings}
 use Rattle.norm_base.specs.Told.{Pieces}
 use Rattle.norm_journal.specs.Accepting.{accepts, accepts_news, accepts_next}
-use Rattle.norm_journal.specs.Judged.{Judged, is_done, news_due}
+use Rattle.norm_journal.specs.Judged.{is_done, news_due}
 use Rattle.norm_journal.specs.Places.{Between}
 use Rattle.norm_journal.specs.Projections.{moments_in}
 use Rattle.norm_journal.specs.Turns.{is_moment, in_turn}

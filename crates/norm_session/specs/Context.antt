@@ -1,5 +1,5 @@
 -- What a run is over: all that it does not keep.
-use Rattle.std.specs.Prelude.{ℕ, List, ◌++◌, drop, slice_get, option_and_then}
+use Rattle.std.specs.Prelude.{ℕ, List, ◌++◌, slice_get, option_and_then}
 use Rattle.norm_base.specs.Network.{Network}
 use Rattle.norm_base.specs.Told.{Pieces}
 use Rattle.norm_script.specs.Commands.{Commands}
@@ -7,6 +7,7 @@ use Rattle.norm_safety.specs.World.{World}
 use Rattle.norm_journal.specs.Jobs.{Told}
 use Rattle.norm_journal.specs.Judged.{Judged, judged_opening}
 use Rattle.norm_journal.specs.Places.{Place}
+use Rattle.norm_session.specs.Left.{lines_at}
 use Rattle.norm_session.specs.RunKept.{RunKept}
 
 -- The script; the files that are there, where they are told; the receivers that the run has; what the network told once it was
@@ -37,7 +38,7 @@ judged_of x k w place = record {
   turn = k.turn;
   now = k.now;
   place = place;
-  left = drop k.pulled x.script.lines;
+  left = lines_at x.script.lines k.left;
   waiting = option_and_then (slice_get x.script.lines) k.waiting;
   draws = k.draws;
   totals = k.totals;

@@ -1,4 +1,5 @@
 pub mod RunKept
+pub mod Left
 pub mod Context
 pub mod SoFar
 pub mod Stopping

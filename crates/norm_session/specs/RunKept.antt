@@ -6,8 +6,8 @@ use Rattle.norm_journal.specs.declared.event.Event.{Event}
 use Rattle.norm_journal.specs.declared.totals.Totals.{Totals}
 use Rattle.norm_world.specs.WorldKept.{WorldKept}
 
--- The profile, the nodes and the journal; the counts and the draws; the turn and its moment; how many of the script's lines were
--- pulled, and the place of the one whose command waits.
+-- The profile, the nodes and the journal; the counts and the draws; the turn and its moment; the places of the script's lines that
+-- were not pulled, and of the one whose command waits.
 pub record RunKept : Type 0 where
   pub p : Settings
   pub world : WorldKept
@@ -16,5 +16,5 @@ pub record RunKept : Type 0 where
   pub draws : Lcg
   pub turn : ℕ
   pub now : ℕ
-  pub pulled : ℕ
+  pub left : List ℕ
   pub waiting : Option ℕ

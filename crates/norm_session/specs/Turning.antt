@@ -1,5 +1,5 @@
 -- A turn of a run, and all its turns.
-use Rattle.std.specs.Prelude.{◌≡◌, ℕ, ◌*◌, ◌==◌, max, List, [], ◌∷◌, Option, drop, slice_get, option_and_then, true, false}
+use Rattle.std.specs.Prelude.{◌≡◌, ℕ, ◌*◌, ◌==◌, max, List, [], ◌∷◌, Option, slice_get, option_and_then, true, false}
 use Rattle.norm_base.specs.Network.{Network}
 use Rattle.norm_base.specs.Told.{Pieces}
 use Rattle.norm_script.specs.Commands.{Commands}
@@ -7,6 +7,7 @@ use Rattle.norm_journal.specs.Jobs.{Told}
 use Rattle.norm_journal.specs.Judged.{is_done}
 use Rattle.norm_journal.specs.Places.{Place, Sending, Between, command_due}
 use Rattle.norm_session.specs.Context.{Context, judged_of, with_moments}
+use Rattle.norm_session.specs.Left.{lines_at}
 use Rattle.norm_session.specs.Moments.{Either, Gave, HaveMoments, last_moment}
 use Rattle.norm_session.specs.RunKept.{RunKept}
 use Rattle.norm_session.specs.SoFar.{At}
@@ -15,7 +16,7 @@ use Rattle.norm_session.specs.declared.fault.SessionFault.{SessionFault}
 
 -- a turn begins with a command: one that waits, or one that is pulled, where there are some left
 abbrev pub command_next : Context → RunKept → Place
-command_next x k = command_due (option_and_then (slice_get x.script.lines) k.waiting) (drop k.pulled x.script.lines)
+command_next x k = command_due (option_and_then (slice_get x.script.lines) k.waiting) (lines_at x.script.lines k.left)
 
 -- The clock gave the moment, if it did not fall.
 pub record IsGiven (so_far now : ℕ) (before after : Option (List ℕ)) : Type 0 where

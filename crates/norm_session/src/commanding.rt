@@ -1,6 +1,6 @@
 //! Commands of a turn: a pull gives the next one, and it is offered to the sender, again in each turn while it has to wait.
 
-ghost use Rattle.std.specs.Prelude.{◌≡◌, ◌≢◌, ◌<◌, true, false, None, Some, Err, drop, length, IfOk, IfErr, IfSome, OnOk};
+ghost use Rattle.std.specs.Prelude.{◌≡◌, ◌≢◌, ◌<◌, true, false, None, Some, Err, length, IfOk, IfErr, IfNone, IfSome, OnOk};
 ghost use Rattle.norm_base.specs.Network.{Network};
 ghost use Rattle.norm_base.specs.Told.{Pieces};
 ghost use Rattle.norm_journal.specs.Jobs.{job_of};
@@ -16,10 +16,12 @@ ghost use Rattle.norm_world.specs.WorldMoves.{IsEvent};
 ghost use Rattle.norm_session.specs.Causes.{WriteCause, NeedsMemory};
 ghost use Rattle.norm_session.specs.Commanding.{IsDue, IsAtLine, CommandCause, Notes, StopsNoting, told_at, waits_at, within_lines};
 ghost use Rattle.norm_session.specs.Context.{Context};
+ghost use Rattle.norm_session.specs.Left.{lines_at};
 ghost use Rattle.norm_session.specs.SoFar.{At, IsTelling};
 ghost use Rattle.norm_session.specs.Stopping.{Stopped};
 ghost use Rattle.norm_session.specs.Turning.{IsOver, command_next};
 
+use crate::arrivals::{Arrivals, Arrived};
 use crate::fault::SessionFault;
 use crate::printing::write_line;
 use crate::run::Run;
@@ -29,6 +31,8 @@ use norm_order::copy_of_octets;
 use norm_script::{Line, Script, Verb};
 use norm_send_rules::{Job, Receipt, SendFault, copy_of_job};
 use norm_world::World;
+use std::sync::Wait;
+use std::thread;
 
 /// What the sender gives to a command.
 pub(crate) type Gives = Result<Receipt, SendFault>;
@@ -201,13 +205,38 @@ fn within_lines(waiting: Option<usize>, lines: usize) -> Option<usize>
 }
 
 impl Run {
-    /// The next line is pulled, in the script's order. Answers its place there.
+    /// Pulls a line that was handed over, where it is the next one of its producer; any other is passed over. Answers its place.
+    fn pull_one(&mut self, script: &Script, arrived: Arrived) -> Result<Option<usize>, SessionFault>
+        ensures place { IfOk result (λ pulled. IfSome pulled (λ place. place < length script.now.lines)) }
+        ensures goes { IfOk result (λ pulled. IfSome pulled (λ place. (x : Context) (network : Network) (written : Pieces) → x.script ≡ script.now
+            → At x self.old Pulling network written → IsAtLine x self.new place true network written)) }
+        ensures same { IfOk result (λ pulled. IfNone pulled (self.new ≡ self.old)) }
+        ensures stops { IfErr result (λ fault. (x : Context) (network : Network) (written : Pieces) → At x self.old Pulling network written
+            → Stopped x fault network written) }
+        ensures cause { NeedsMemory result }
+    {
+        let place = arrived.place as usize;
+        if place >= script.lines.len() {
+            return Ok(None);
+        }
+        if !self.left.take(&script.lines, arrived.producer, place) {
+            return Ok(None);
+        }
+        self.journal.push_pull(origin_of(&script.lines[place]))?;
+        Ok(Some(place))
+    }
+
+    /// A line is pulled, as producers hand them over: the next one of its producer. Answers its place in the script.
     ///
     /// # Errors
     ///
     /// `Memory` where memory runs out.
-    pub fn pull(&mut self, script: &Script) -> Result<usize, SessionFault>
-        requires { self.old.pulled < length script.now.lines }
+    pub fn pull<R: Wait, A: Arrivals>(
+        &mut self,
+        rt: &R,
+        script: &Script,
+        arrivals: &mut A,
+    ) -> Result<usize, SessionFault>
         ensures place { IfOk result (λ place. place < length script.now.lines) }
         ensures goes { IfOk result (λ place. (x : Context) (network : Network) (written : Pieces) → x.script ≡ script.now
             → At x self.old Pulling network written → IsAtLine x self.new place true network written) }
@@ -215,11 +244,17 @@ impl Run {
             → Stopped x fault network written) }
         ensures cause { NeedsMemory result }
     {
-        let place = self.pulled;
-        let by = origin_of(&script.lines[place]);
-        self.journal.push_pull(by)?;
-        self.pulled += 1;
-        Ok(place)
+        // Proof: the label names the loop for its invariant.
+        'tries: for _ in rt.forever() {
+            let Some(arrived) = arrivals.arrive() else {
+                thread::yield_now();
+                continue;
+            };
+            if let Some(place) = self.pull_one(script, arrived)? {
+                return Ok(place);
+            }
+        }
+        unreachable!()
     }
 
     /// What the sender gave to a command is counted and noted with the job that is told, and its line is written. The command waits where
@@ -299,25 +334,27 @@ impl Run {
     }
 
     /// The next command, where none waits: it is pulled and offered, if there is one.
-    fn next_command<K: Sink, D: Files>(
+    fn next_command<R: Wait, A: Arrivals, K: Sink, D: Files>(
         &mut self,
+        rt: &R,
         script: &Script,
+        arrivals: &mut A,
         files: &mut D,
         output: &mut K,
     ) -> Result<(), SessionFault>
         ensures goes { OnOk result ((x : Context) (network : Network) → IsOver x script.now (D.contents files.old)
-            → At x self.old (command_due None (drop self.old.pulled script.now.lines)) network (K.pieces output.old)
+            → At x self.old (command_due None (lines_at script.now.lines self.old.left)) network (K.pieces output.old)
             → IsTelling x self.new Sending network (K.pieces output.new)) }
         ensures stops { IfErr result (λ fault. (x : Context) (network : Network) → IsOver x script.now (D.contents files.old)
-            → At x self.old (command_due None (drop self.old.pulled script.now.lines)) network (K.pieces output.old)
+            → At x self.old (command_due None (lines_at script.now.lines self.old.left)) network (K.pieces output.old)
             → Stopped x fault network (K.pieces output.new)) }
         ensures same { D.contents files.new ≡ D.contents files.old }
         ensures cause { CommandCause result (K.fault_count output.old) (K.fault_count output.new) (D.fault_count files.old) (D.fault_count files.new) }
     {
-        if self.pulled >= script.lines.len() {
+        if self.has_pulled_all(script) {
             return Ok(());
         }
-        let place = self.pull(script)?;
+        let place = self.pull(rt, script, arrivals)?;
         self.offer_command(script, place, true, files, output)
     }
 
@@ -327,9 +364,11 @@ impl Run {
     ///
     /// `Write` where the write of its line failed, `Files` where a call of the files did, `Absent` where its file is not there, or
     /// `Memory`.
-    pub fn command<K: Sink, D: Files>(
+    pub fn command<R: Wait, A: Arrivals, K: Sink, D: Files>(
         &mut self,
+        rt: &R,
         script: &Script,
+        arrivals: &mut A,
         files: &mut D,
         output: &mut K,
     ) -> Result<(), SessionFault>
@@ -342,7 +381,7 @@ impl Run {
     {
         match within_lines(self.waiting, script.lines.len()) {
             Some(place) => self.offer_command(script, place, false, files, output),
-            None => self.next_command(script, files, output),
+            None => self.next_command(rt, script, arrivals, files, output),
         }
     }
 }

@@ -1,10 +1,12 @@
 //! The turns of a session over the nodes' world (RFC 5740 section 5), each event of which the judge of journals accepts.
 #![tactic(auto)]
 
+mod arrivals;
 mod commanding;
 mod ending;
 mod fault;
 mod handing;
+mod left;
 mod printing;
 mod reading;
 mod run;
@@ -16,6 +18,7 @@ mod taking;
 mod telling;
 mod turning;
 
+pub use crate::arrivals::{Arrivals, Arrived};
 pub use crate::fault::SessionFault;
 pub use crate::run::Run;
 pub use crate::session::{Ended, run_session};

@@ -2,6 +2,7 @@
 
 ghost use Rattle.std.specs.Prelude.{◌≡◌};
 
+use crate::left::Left;
 use norm_base::{Moment, NodeId, Profile};
 use norm_journal::Totals;
 use norm_record::Journal;
@@ -24,7 +25,7 @@ pub struct Run {
     pub(crate) draws: Lcg64Xsh32,
     pub(crate) turn: u32,
     pub(crate) now: Moment,
-    pub(crate) pulled: usize,
+    pub(crate) left: Left,
     pub(crate) waiting: Option<usize>,
 }
 
@@ -43,7 +44,7 @@ impl Model for Run {
       draws = r.draws;
       turn = r.turn;
       now = r.now;
-      pulled = r.pulled;
+      left = r.left;
       waiting = r.waiting;
     } };
 

@@ -6,6 +6,7 @@ ghost use Rattle.norm_session.specs.Finishing.{Finishes};
 ghost use Rattle.norm_session.specs.Session.{IsRunnable, RunsSession, StopsSession};
 ghost use Rattle.norm_session.specs.Turning.{StopsTurns, span};
 
+use crate::arrivals::{Arrivals, InOrder};
 use crate::fault::SessionFault;
 use crate::run::Run;
 use norm_base::{Clock, Datagram, Fabric, Files, Sink};
@@ -30,7 +31,7 @@ pub struct Ended {
 /// `Write`, `Fabric` or `Files` where a call of the output, the network or the files failed; `Absent` where a command's file is not
 /// there; or `Memory`.
 pub fn run_session<R: Threads + Wait + Sync, K: Sink, F: Fabric, D: Files, C: Clock>(
-    _rt: &R,
+    rt: &R,
     alloc: Global,
     script: &Script,
     output: &mut K,
@@ -47,13 +48,28 @@ pub fn run_session<R: Threads + Wait + Sync, K: Sink, F: Fabric, D: Files, C: Cl
     ensures cause { HasCause result (counted (K.fault_count output.old) (F.fault_count fabric.old) (D.fault_count files.old))
         (counted (K.fault_count output.new) (F.fault_count fabric.new) (D.fault_count files.new)) }
 {
-    run_script(alloc, script, output, fabric, files, clock)
+    let mut arrivals = InOrder {
+        lines: &script.lines,
+        next: 0,
+    };
+    run_script(
+        rt,
+        alloc,
+        script,
+        &mut arrivals,
+        output,
+        fabric,
+        files,
+        clock,
+    )
 }
 
-/// The session, which waits for nobody.
-fn run_script<K: Sink, F: Fabric, D: Files, C: Clock>(
+/// The session, over what its producers hand over.
+fn run_script<R: Wait, A: Arrivals, K: Sink, F: Fabric, D: Files, C: Clock>(
+    rt: &R,
     alloc: Global,
     script: &Script,
+    arrivals: &mut A,
     output: &mut K,
     fabric: &mut F,
     files: &mut D,
@@ -70,7 +86,16 @@ fn run_script<K: Sink, F: Fabric, D: Files, C: Clock>(
 {
     let mut datagram = Datagram::new(alloc)?;
     let mut run = Run::start(alloc, script, fabric)?;
-    let whole = run.finish(script, output, fabric, files, clock, &mut datagram)?;
+    let whole = run.finish(
+        rt,
+        script,
+        arrivals,
+        output,
+        fabric,
+        files,
+        clock,
+        &mut datagram,
+    )?;
     Ok(Ended {
         journal: run.into_journal(),
         whole,
@@ -86,9 +111,11 @@ impl Run {
     }
 
     /// All turns, and the summary. Whether all was done.
-    fn finish<K: Sink, F: Fabric, D: Files, C: Clock>(
+    fn finish<R: Wait, A: Arrivals, K: Sink, F: Fabric, D: Files, C: Clock>(
         &mut self,
+        rt: &R,
         script: &Script,
+        arrivals: &mut A,
         output: &mut K,
         fabric: &mut F,
         files: &mut D,
@@ -103,7 +130,7 @@ impl Run {
         ensures cause { HasCause result (counted (K.fault_count output.old) (F.fault_count fabric.old) (D.fault_count files.old))
             (counted (K.fault_count output.new) (F.fault_count fabric.new) (D.fault_count files.new)) }
     {
-        self.turns(script, output, fabric, files, clock, datagram)?;
+        self.turns(rt, script, arrivals, output, fabric, files, clock, datagram)?;
         self.summarize(output)?;
         Ok(self.is_whole(script))
     }

@@ -12,6 +12,7 @@ ghost use Rattle.norm_session.specs.SoFar.{At};
 ghost use Rattle.norm_session.specs.Starting.{IsBegun};
 
 use crate::fault::SessionFault;
+use crate::left::Left;
 use crate::run::Run;
 use norm_base::{Fabric, Local, Memory, Moment, Profile};
 use norm_journal::Totals;
@@ -42,6 +43,7 @@ impl Run {
         let mut journal = Journal::new(alloc);
         journal.push_start()?;
         let draws = first_draws(&profile);
+        let left = Left::all(alloc, &script.lines)?;
         Ok(Run {
             alloc,
             profile,
@@ -52,7 +54,7 @@ impl Run {
             draws,
             turn: 0,
             now: Moment(0),
-            pulled: 0,
+            left,
             waiting: None,
         })
     }

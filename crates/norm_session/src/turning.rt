@@ -1,6 +1,6 @@
 //! Turns of a run, from its beginning to its end.
 
-ghost use Rattle.std.specs.Prelude.{◌≡◌, ◌≤◌, ℕ, ◌==◌, ◌&&◌, ◌||◌, drop, length, nat_le, is_none, slice_get, option_and_then, OnOk, IfErr};
+ghost use Rattle.std.specs.Prelude.{◌≡◌, ◌≤◌, ℕ, ◌==◌, ◌&&◌, ◌||◌, length, nat_le, is_none, slice_get, option_and_then, OnOk, IfErr};
 ghost use Rattle.norm_journal.specs.Judged.{is_done, is_whole};
 ghost use Rattle.norm_journal.specs.Places.{Place, Sending, Taking, Between};
 ghost use Rattle.norm_safety.specs.World.{World as Rules};
@@ -8,15 +8,18 @@ ghost use Rattle.norm_session.specs.Causes.{NeedsMemory, HasCause, counted};
 ghost use Rattle.norm_send_rules.specs.Ticking.{is_idle};
 ghost use Rattle.norm_send_rules.specs.Watermarks.{open_watermarks};
 ghost use Rattle.norm_session.specs.Context.{Context, judged_of};
+ghost use Rattle.norm_session.specs.Left.{lines_at};
 ghost use Rattle.norm_session.specs.SoFar.{HasAll, At};
 ghost use Rattle.norm_session.specs.Stopping.{Stopped};
 ghost use Rattle.norm_session.specs.Turning.{IsNextMoment, BeginsTurn, StopsBeginning, OpensTurn, StopsOpening, TakesTurn, StopsTurn, TakesTurns, StopsTurns, span};
 ghost use Rattle.norm_world.specs.WorldKept.{StandsFor};
 
+use crate::arrivals::Arrivals;
 use crate::fault::SessionFault;
 use crate::run::{Run, sender_node};
 use norm_base::{Clock, Datagram, Fabric, Files, Moment, Profile, Sink};
 use norm_script::Script;
+use std::sync::Wait;
 
 /// The moment of a turn: its number times the profile's step; where the step is 0 the clock's, which does not fall.
 fn moment_of<C: Clock>(turn: u32, step: u32, so_far: Moment, clock: &mut C) -> Moment
@@ -53,13 +56,10 @@ fn with_either(first: bool, second: bool, third: bool) -> bool
 
 impl Run {
     /// Whether all of a script's commands were pulled.
-    fn has_pulled_all(&self, script: &Script) -> bool
-        ensures { result ≡ (length (drop self.entry.now.pulled script.now.lines) == 0) }
+    pub(crate) fn has_pulled_all(&self, script: &Script) -> bool
+        ensures { result ≡ (length (lines_at script.now.lines self.entry.now.left) == 0) }
     {
-        if self.pulled < script.lines.len() {
-            return false;
-        }
-        true
+        self.left.is_empty(&script.lines)
     }
 
     /// Whether none of a script's commands waits.
@@ -146,9 +146,11 @@ impl Run {
     }
 
     /// A turn begins with its command, and what that made to be told is told.
-    fn open_turn<K: Sink, D: Files, C: Clock>(
+    fn open_turn<R: Wait, A: Arrivals, K: Sink, D: Files, C: Clock>(
         &mut self,
+        rt: &R,
         script: &Script,
+        arrivals: &mut A,
         output: &mut K,
         files: &mut D,
         clock: &mut C,
@@ -162,7 +164,7 @@ impl Run {
             (counted (K.fault_count output.new) network (D.fault_count files.new)) }
     {
         self.begin_turn(clock)?;
-        self.command(script, files, output)?;
+        self.command(rt, script, arrivals, files, output)?;
         self.tell_all(output)?;
         Ok(())
     }
@@ -209,9 +211,11 @@ impl Run {
     }
 
     /// One turn.
-    fn turn<K: Sink, F: Fabric, D: Files, C: Clock>(
+    fn turn<R: Wait, A: Arrivals, K: Sink, F: Fabric, D: Files, C: Clock>(
         &mut self,
+        rt: &R,
         script: &Script,
+        arrivals: &mut A,
         output: &mut K,
         fabric: &mut F,
         files: &mut D,
@@ -226,7 +230,7 @@ impl Run {
         ensures cause { HasCause result (counted (K.fault_count output.old) (F.fault_count fabric.old) (D.fault_count files.old))
             (counted (K.fault_count output.new) (F.fault_count fabric.new) (D.fault_count files.new)) }
     {
-        self.open_turn(script, output, files, clock)?;
+        self.open_turn(rt, script, arrivals, output, files, clock)?;
         self.exchange(fabric, output, datagram)?;
         Ok(())
     }
@@ -236,9 +240,11 @@ impl Run {
     /// # Errors
     ///
     /// `Write`, `Fabric` or `Files` where a call failed, `Absent` where a command's file is not there, or `Memory`.
-    pub fn turns<K: Sink, F: Fabric, D: Files, C: Clock>(
+    pub fn turns<R: Wait, A: Arrivals, K: Sink, F: Fabric, D: Files, C: Clock>(
         &mut self,
+        rt: &R,
         script: &Script,
+        arrivals: &mut A,
         output: &mut K,
         fabric: &mut F,
         files: &mut D,
@@ -257,7 +263,7 @@ impl Run {
             if self.is_done(script) {
                 return Ok(());
             }
-            self.turn(script, output, fabric, files, clock, datagram)?;
+            self.turn(rt, script, arrivals, output, fabric, files, clock, datagram)?;
         }
         Ok(())
     }

@@ -1,6 +1,5 @@
-use Rattle.std.proofs.Common.{◌≡◌, ◌∙◌, refl, sym, subst, inl}
+use Rattle.std.proofs.Common.{◌∙◌, sym, subst}
 use Rattle.std.proofs.lemmas.Result.{err_from_is_err_and}
-use Rattle.norm_session.specs.Causes.{counted}
 use Rattle.norm_session.specs.Session.{RunsSession}
 use Rattle.norm_session.specs.Turning.{span}
 use Rattle.norm_session.proofs.CauseLemmas.{cause_exit}

@@ -1,7 +1,6 @@
-use Rattle.std.proofs.Common.{◌≡◌, sym, ◌∙◌}
+use Rattle.std.proofs.Common.{sym, ◌∙◌}
 use Rattle.std.proofs.lemmas.Result.{err_from_is_err_and}
 use Rattle.norm_journal.specs.Places.{Over}
-use Rattle.norm_session.specs.Causes.{counted}
 use Rattle.norm_session.specs.Context.{with_moments}
 use Rattle.norm_session.proofs.CauseLemmas.{cause_exit}
 use Rattle.norm_session.proofs.SoFarLemmas.{at_fault}
