@@ -109,14 +109,22 @@ fn receives(
 
 const DATA: &str =
     "12080000 00000001 00074041 00050000 00000000 40030000 00000005 00400406 68656c6c6f";
+
 const FLUSH: &str = "13050001 00000001 00074041 01050000 00000000 00000002";
-const ACK: &str =
-    "15060000 00000002 00000001 00070200 00000000 00000000 05000000 00000000";
+
+const ACK: &str = "15060000 00000002 00000001 00070200 00000000 00000000 05000000 00000000";
 
 #[test]
 fn a_receiver_hands_up_and_acknowledges(rt: HostRuntime) -> Result<(), Fail> {
     let line = b"up 2 7 0 data 5 - 68656c6c6f\n".as_slice();
-    receives(&rt, rt.alloc(), &[(2, DATA), (2, FLUSH)], line, None, &[(2, ACK)])
+    receives(
+        &rt,
+        rt.alloc(),
+        &[(2, DATA), (2, FLUSH)],
+        line,
+        None,
+        &[(2, ACK)],
+    )
 }
 
 #[test]
@@ -137,7 +145,14 @@ fn a_receiver_puts_a_file_under_its_own_name(rt: HostRuntime) -> Result<(), Fail
 
 #[test]
 fn what_is_for_another_node_changes_nothing(rt: HostRuntime) -> Result<(), Fail> {
-    receives(&rt, rt.alloc(), &[(3, DATA), (3, FLUSH)], b"".as_slice(), None, &[])
+    receives(
+        &rt,
+        rt.alloc(),
+        &[(3, DATA), (3, FLUSH)],
+        b"".as_slice(),
+        None,
+        &[],
+    )
 }
 
 #[test]
