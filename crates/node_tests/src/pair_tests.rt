@@ -8,7 +8,7 @@ use std::process::Abort;
 use std::test::Fail;
 
 /// The octets that a text spells in hexadecimal, with spaces between them.
-fn octets_of(alloc: Global, text: &str) -> Result<Option<Octets>, Fail> {
+pub(crate) fn octets_of(alloc: Global, text: &str) -> Result<Option<Octets>, Fail> {
     let mut digits = Vec::new(alloc);
     for digit in text.as_bytes() {
         if *digit != b' ' {

@@ -22,3 +22,7 @@ pub use crate::arrivals::{Arrivals, Arrived};
 pub use crate::fault::SessionFault;
 pub use crate::run::Run;
 pub use crate::session::{Ended, run_session};
+/// What the run of one node goes by too: the draws of deliveries, and the moments of turns.
+pub use crate::starting::first_draws;
+pub use crate::taking::next_draw;
+pub use crate::turning::moment_of;

@@ -26,7 +26,7 @@ use std::alloc::Global;
 
 /// The draws of a session as it begins: their seed is the one after the network's.
 #[tactic(auto, unfolding(norm_journal::specs::Draws::first_draws))]
-fn first_draws(profile: &Profile) -> Lcg64Xsh32
+pub fn first_draws(profile: &Profile) -> Lcg64Xsh32
     ensures { result ≡ first_draws profile.now }
 {
     Lcg64Xsh32::seed_from_u64(u64::from(profile.chance) + 1)

@@ -22,7 +22,7 @@ const MOST_TAKES: u32 = 512;
 
 /// The next draw.
 #[tactic(auto, unfolding(norm_journal::specs::Draws::next_draw, norm_journal::specs::Draws::draws_after))]
-fn next_draw(draws: &mut Lcg64Xsh32) -> u32
+pub fn next_draw(draws: &mut Lcg64Xsh32) -> u32
     ensures word { result ≡ next_draw draws.old }
     ensures rest { draws.new ≡ draws_after draws.old }
 {

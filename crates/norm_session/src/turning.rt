@@ -22,7 +22,7 @@ use norm_script::Script;
 use std::sync::Wait;
 
 /// The moment of a turn: its number times the profile's step; where the step is 0 the clock's, which does not fall.
-fn moment_of<C: Clock>(turn: u32, step: u32, so_far: Moment, clock: &mut C) -> Moment
+pub fn moment_of<C: Clock>(turn: u32, step: u32, so_far: Moment, clock: &mut C) -> Moment
     ensures { IsNextMoment turn step so_far result (C.moments clock.old) (C.moments clock.new) }
 {
     if step > 0 {

@@ -1,0 +1,4 @@
+pub mod FaultLemmas
+pub mod GoesLemmas
+pub mod HubLemmas
+pub mod RunLemmas

@@ -1,0 +1,10 @@
+pub mod Lone
+pub mod Shown
+pub mod RunKept
+pub mod Stopping
+pub mod Runs
+pub mod Taking
+pub mod Turning
+pub mod Handing
+pub mod Hub
+pub mod Passing

@@ -1,0 +1,62 @@
+//! What a receiver sends.
+
+ghost use Rattle.std.specs.Prelude.{◌≡◌, ◌≤◌, [], length, IfErr, OnOk};
+ghost use Rattle.norm_base.specs.Sizes.{datagram_room};
+ghost use Rattle.norm_session.specs.Causes.{NetworkCause};
+ghost use Rattle.norm_node.specs.Lone.{Between, Handing, Offering};
+ghost use Rattle.norm_node.specs.RunKept.{Begun, At, IsSameTurn, over};
+ghost use Rattle.norm_node.specs.Shown.{Outside};
+ghost use Rattle.norm_node.specs.Stopping.{Stopped};
+ghost use Rattle.norm_node.specs.Taking.{after_sent};
+
+use crate::run::ReceiverRun;
+use norm_base::{Datagram, Fabric, Sent};
+use norm_session::SessionFault;
+
+impl ReceiverRun {
+    /// The receiver ticks, all of whose hand-ups were told.
+    fn tick(&mut self, out: &mut Datagram) -> Sent
+        requires { self.old.receiver.hold.ups ≡ [] }
+        ensures goes { (x : Begun) (o : Outside) → At x self.old Handing o → At x self.new (after_sent result out.new) o }
+        ensures turn { IsSameTurn self.old self.new }
+    {
+        self.receiver.tick(self.now, out)
+    }
+
+    /// A datagram is offered to the network.
+    fn offer<F: Fabric>(&self, fabric: &mut F, bytes: &[u8]) -> Result<(), SessionFault>
+        requires { length bytes.now ≤ datagram_room }
+        ensures goes { OnOk result ((x : Begun) (o : Outside) → At x self.entry.now (Offering bytes.now) (over o (F.told fabric.old))
+            → At x self.entry.now Between (over o (F.told fabric.new))) }
+        ensures stops { IfErr result (λ fault. (x : Begun) (o : Outside) → At x self.entry.now (Offering bytes.now) (over o (F.told fabric.old))
+            → Stopped x fault (over o (F.told fabric.new))) }
+        ensures cause { NetworkCause result (F.fault_count fabric.old) (F.fault_count fabric.new) }
+    {
+        fabric.offer(self.node, bytes)?;
+        Ok(())
+    }
+
+    /// The receiver ticks, all of whose hand-ups were told, and what it wrote is offered.
+    ///
+    /// # Errors
+    ///
+    /// `Fabric` where the network failed, or `Memory`.
+    pub fn answer<F: Fabric>(
+        &mut self,
+        fabric: &mut F,
+        datagram: &mut Datagram,
+    ) -> Result<(), SessionFault>
+        requires { self.old.receiver.hold.ups ≡ [] }
+        ensures turn { OnOk result (IsSameTurn self.old self.new) }
+        ensures goes { OnOk result ((x : Begun) (o : Outside) → At x self.old Handing (over o (F.told fabric.old))
+            → At x self.new Between (over o (F.told fabric.new))) }
+        ensures stops { IfErr result (λ fault. (x : Begun) (o : Outside) → At x self.old Handing (over o (F.told fabric.old))
+            → Stopped x fault (over o (F.told fabric.new))) }
+        ensures cause { NetworkCause result (F.fault_count fabric.old) (F.fault_count fabric.new) }
+    {
+        match self.tick(datagram) {
+            Sent::Nothing => Ok(()),
+            Sent::Datagram => self.offer(fabric, datagram.bytes()),
+        }
+    }
+}

@@ -1,0 +1,72 @@
+//! A receiver's run so far.
+
+ghost use Rattle.std.specs.Prelude.{◌≡◌, IfOk};
+ghost use Rattle.norm_node.specs.Lone.{Between};
+ghost use Rattle.norm_node.specs.RunKept.{At};
+ghost use Rattle.norm_node.specs.Runs.{begun};
+ghost use Rattle.norm_node.specs.Shown.{Outside};
+
+use norm_base::{Memory, Moment, NodeId, Profile};
+use norm_receiver::Receiver;
+use norm_session::first_draws;
+use norm_text::Line;
+use rand_pcg::Lcg64Xsh32;
+use std::alloc::Global;
+use std::marker::Model;
+
+/// A receiver that runs alone. Each turn begins at its moment ([`begin_turn`](ReceiverRun::begin_turn)), takes what the network
+/// has ([`take_all`](ReceiverRun::take_all)), tells what was handed up ([`hand_all`](ReceiverRun::hand_all)), and then sends what
+/// the receiver has to say ([`answer`](ReceiverRun::answer)).
+#[derive(Drop)]
+pub struct ReceiverRun {
+    pub(crate) alloc: Global,
+    pub(crate) profile: Profile,
+    pub(crate) node: NodeId,
+    pub(crate) receiver: Receiver,
+    /// The line that is printed, in memory that is kept from one to the next.
+    pub(crate) line: Line,
+    pub(crate) draws: Lcg64Xsh32,
+    pub(crate) turn: u32,
+    pub(crate) now: Moment,
+}
+
+impl Model for ReceiverRun {
+    ghost use Rattle.norm_node.specs.RunKept.{RunKept};
+
+    ghost Value = { RunKept };
+
+    ghost view = { λ r. record {
+      p = r.profile;
+      node = r.node;
+      receiver = r.receiver;
+      draws = r.draws;
+      turn = r.turn;
+      now = r.now;
+    } };
+}
+
+impl ReceiverRun {
+    /// A node's receiver before its first turn.
+    ///
+    /// # Errors
+    ///
+    /// `Memory` where memory runs out.
+    pub fn new(alloc: Global, profile: &Profile, node: NodeId) -> Result<ReceiverRun, Memory>
+        ensures begun { IfOk result (λ run. (o : Outside) → At (begun profile.now node o) run Between o) }
+        ensures turn { IfOk result (λ run. run.turn ≡ 0) }
+        ensures profile { IfOk result (λ run. run.p ≡ profile.now) }
+    {
+        let receiver = Receiver::new(alloc, profile, node)?;
+        let draws = first_draws(profile);
+        Ok(ReceiverRun {
+            alloc,
+            profile: *profile,
+            node,
+            receiver,
+            line: Line::new(alloc),
+            draws,
+            turn: 0,
+            now: Moment(0),
+        })
+    }
+}

@@ -1,0 +1,94 @@
+//! Datagrams that the network gives.
+
+ghost use Rattle.std.specs.Prelude.{◌≡◌, ℕ, Some, None, IfOk, IfErr, OnOk};
+ghost use Rattle.norm_session.specs.Causes.{NetworkCause, NeedsMemory};
+ghost use Rattle.norm_node.specs.Lone.{Taking, Handing, reaches};
+ghost use Rattle.norm_node.specs.RunKept.{Begun, At, IsSameTurn, over};
+ghost use Rattle.norm_node.specs.Shown.{Outside};
+ghost use Rattle.norm_node.specs.Stopping.{Stopped};
+ghost use Rattle.norm_node.specs.Taking.{Delivers, HasTaken};
+
+use crate::run::ReceiverRun;
+use norm_base::{Datagram, Fabric, NodeId};
+use norm_receiver::is_of_no_stream;
+use norm_session::{SessionFault, next_draw};
+
+/// A turn takes at most so many datagrams.
+const MOST_TAKES: u32 = 512;
+
+/// Whether a datagram for a node is one for this node, and of no stream.
+fn reaches(to: NodeId, bytes: &[u8], node: NodeId) -> bool
+    ensures { result ≡ reaches to bytes.now node }
+{
+    if to.number() != node.number() {
+        return false;
+    }
+    is_of_no_stream(bytes)
+}
+
+impl ReceiverRun {
+    /// A datagram comes to a node. If it is this one, its receiver gets it with the next draw, unless it is of a stream.
+    fn deliver(&mut self, to: NodeId, bytes: &[u8]) -> Result<(), SessionFault>
+        ensures goes { OnOk result (Delivers self.old self.new to bytes.now) }
+        ensures turn { OnOk result (IsSameTurn self.old self.new) }
+        ensures cause { NeedsMemory result }
+    {
+        if !reaches(to, bytes, self.node) {
+            return Ok(());
+        }
+        let draw = next_draw(&mut self.draws);
+        self.receiver.deliver(bytes, self.now, draw)?;
+        Ok(())
+    }
+
+    /// Takes a datagram from the network, and delivers it. False where the network has none ready.
+    ///
+    /// # Errors
+    ///
+    /// `Fabric` where the network failed, or `Memory`.
+    pub fn take<F: Fabric>(
+        &mut self,
+        fabric: &mut F,
+        into: &mut Datagram,
+    ) -> Result<bool, SessionFault>
+        ensures goes { IfOk result (λ took. (x : Begun) (o : Outside) (count : ℕ) → At x self.old (Taking count) (over o (F.told fabric.old))
+            → HasTaken took x self.new count (over o (F.told fabric.new))) }
+        ensures stops { IfErr result (λ fault. (x : Begun) (o : Outside) (count : ℕ) → At x self.old (Taking count) (over o (F.told fabric.old))
+            → Stopped x fault (over o (F.told fabric.new))) }
+        ensures turn { OnOk result (IsSameTurn self.old self.new) }
+        ensures cause { NetworkCause result (F.fault_count fabric.old) (F.fault_count fabric.new) }
+    {
+        match fabric.take(into)? {
+            Some(to) => {
+                self.deliver(to, into.bytes())?;
+                Ok(true)
+            }
+            None => Ok(false),
+        }
+    }
+
+    /// Datagrams are taken and delivered until the network has none ready, or a turn's many were taken.
+    ///
+    /// # Errors
+    ///
+    /// As of [`take`](ReceiverRun::take).
+    pub fn take_all<F: Fabric>(
+        &mut self,
+        fabric: &mut F,
+        datagram: &mut Datagram,
+    ) -> Result<(), SessionFault>
+        ensures goes { OnOk result ((x : Begun) (o : Outside) → At x self.old (Taking 0) (over o (F.told fabric.old))
+            → At x self.new Handing (over o (F.told fabric.new))) }
+        ensures stops { IfErr result (λ fault. (x : Begun) (o : Outside) → At x self.old (Taking 0) (over o (F.told fabric.old))
+            → Stopped x fault (over o (F.told fabric.new))) }
+        ensures turn { OnOk result (IsSameTurn self.old self.new) }
+        ensures cause { NetworkCause result (F.fault_count fabric.old) (F.fault_count fabric.new) }
+    {
+        for _ in 0..MOST_TAKES {
+            if !self.take(fabric, datagram)? {
+                return Ok(());
+            }
+        }
+        Ok(())
+    }
+}
