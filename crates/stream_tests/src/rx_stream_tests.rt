@@ -48,11 +48,13 @@ fn come(
 
 /// Whether what is handed up next is the known segment with this number.
 fn shows(stream: &mut Stream, symbol: u8) -> bool {
-    let Some(Up::StreamBytes {
-        index,
-        offset,
-        bytes,
-    }) = stream.hand_up()
+    let Some(
+        Up::StreamBytes {
+            index,
+            offset,
+            bytes,
+        },
+    ) = stream.hand_up()
     else {
         return false;
     };
@@ -221,10 +223,12 @@ fn runs(alloc: Global, row: &Run) -> Result<bool, Memory> {
     comes_with(&mut stream, &mut scratch, second.0, second.1)?;
     comes_with(&mut stream, &mut scratch, third.0, third.1)?;
     let known = stream.end().map(|id| id.symbol);
-    Ok(known == end
-        && handed(&mut stream) == usize::from(lens[0])
-        && handed(&mut stream) == usize::from(lens[1])
-        && handed(&mut stream) == usize::from(lens[2]))
+    Ok(
+        known == end
+            && handed(&mut stream) == usize::from(lens[0])
+            && handed(&mut stream) == usize::from(lens[1])
+            && handed(&mut stream) == usize::from(lens[2]),
+    )
 }
 
 #[test]
