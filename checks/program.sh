@@ -173,7 +173,7 @@ fails 8 '' "${set}set window 1\nset turns 50\n1 data 01\n1 data 02\n" 'enq 1 1 7
 fails 7 '' '1 file none.txt\n' 'absent none.txt\n'
 fails 7 '' "${set}1 data 01\n1 file none.txt\n1 data 02\n" 'enq 1 1 7 0 data 1\nup 2 7 0 data 1 - 01\nabsent none.txt\n'
 fails 7 'cannot use the file ./folder: is a directory\n' '1 file folder\n' 'fault files\n'
-fails 6 'cannot bind 127.0.0.1:40000: unsupported\n' 'set fabric udp\n1 data 61\n' 'fault fabric\n'
+fails 0 '' "set fabric udp\nset port $((20000 + $$ % 20000))\n1 data 61\n1 mark\n" 'enq 1 1 1 0 data 1\nup 2 1 0 data 1 - 61\nmark 1 2 1 1 0 0 0\npast 2 1 0 0 0\ndone 1 satisfied\nend objects 1 octets 1 handed 1 lost 0 satisfied 1 expired 0 cut 0\n'
 
 # Lines of a script without a meaning, and why.
 contents='contents are an even number of hexadecimal digits, 2 to 16384'

@@ -1,4 +1,5 @@
-use Rattle.std.specs.Prelude.{ℕ, ◌==◌, ◌&&◌, ◌||◌, nat_le, not, List, ◌∷◌, ◌++◌, length, Bool, slice_index}
+use Rattle.std.specs.Prelude.{ℕ, ◌==◌, ◌&&◌, ◌||◌, nat_le, not, List, ◌∷◌, ◌++◌, length, codes, Bool, false, slice_index, Option, Some, None, if◌then◌else◌}
+use Rattle.std.specs.Cmp.Lexicographic.{pointwise}
 use Rattle.std.specs.List.{list_all}
 
 -- The names of files, as a script may give them.
@@ -20,3 +21,17 @@ is_file_name name =
 -- a name in a folder
 abbrev pub path_in : List ℕ → List ℕ → List ℕ
 path_in folder name = folder ++ 47 ∷ name
+
+-- Where a file is written before it has its name: beside it, at a name that is none of a file.
+abbrev pub path_beside : List ℕ → List ℕ → List ℕ
+path_beside folder name = folder ++ 47 ∷ 46 ∷ name ++ codes ".part"
+
+-- a name is the path that was told, octet for octet
+abbrev pub is_told : Option (List ℕ) → List ℕ → Bool
+is_told None name = false
+is_told (Some told) name = pointwise ◌==◌ told name
+
+-- the path at which a name is read: the one that was told, as it stands; else that of a file in the folder, if it is the name of one
+abbrev pub path_read : List ℕ → Option (List ℕ) → List ℕ → Option (List ℕ)
+path_read folder told name =
+    if is_told told name then Some name else (if is_file_name name then Some (path_in folder name) else None)

@@ -8,9 +8,10 @@ use Rattle.norm_base.specs.declared.kinds.Local.{Local}
 use Rattle.norm_memory.specs.Chances.{ChanceState, chance_unstarted, chance_started, chance_offer, chance_take}
 use Rattle.norm_memory.specs.Direct.{direct_offer}
 use Rattle.norm_memory.specs.Networks.{NetworkState, unstarted, started, after_take}
+use Rattle.norm_udp.specs.Untold.{untold}
 
--- A network that is one of two by the profile of its last start: its starts, which of the two it is, and how often a
--- call failed.
+-- A network that is one of three by the profile of its last start: its starts, which of the three it is, and how often a
+-- call failed. Of sockets nothing is known.
 pub record HostState : Type 0 where
   pub starts : List (Settings × Local)
   pub kind : FabricKind
@@ -23,13 +24,25 @@ is_chance kind.Direct = false
 is_chance kind.Chance = true
 is_chance kind.Udp = false
 
--- the one that it is
+-- it is the one that loses nothing
+abbrev pub is_direct : FabricKind → Bool
+is_direct kind.Direct = true
+is_direct kind.Chance = false
+is_direct kind.Udp = false
+
+-- the one in memory that it is
 abbrev pub network_of : HostState → NetworkState
 network_of s = if is_chance s.kind then s.chance.network else s.direct
 
--- it tells its starts and what that one tells, and is honest
+-- it is one of sockets
+abbrev pub is_udp : FabricKind → Bool
+is_udp kind.Direct = false
+is_udp kind.Chance = false
+is_udp kind.Udp = true
+
+-- in memory it tells its starts and what that network tells, and is honest; over sockets it tells nothing
 abbrev pub host_told : HostState → Network
-host_told s = record {
+host_told s = if is_udp s.kind then untold else record {
   starts = Some s.starts;
   offered = Some (network_of s).offered;
   answers = Some (network_of s).answers;
@@ -45,12 +58,12 @@ abbrev pub host_started : HostState → Settings → Local → HostState
 host_started s profile local = record {
   starts = s.starts ++ (profile, local) ∷ [];
   kind = profile.fabric;
-  direct = if is_chance profile.fabric then s.direct else started s.direct profile local;
+  direct = if is_direct profile.fabric then started s.direct profile local else s.direct;
   chance = if is_chance profile.fabric then chance_started s.chance profile local else s.chance;
   faults = s.faults;
 }
 
--- a start that failed
+-- a call that failed
 abbrev pub host_failed : HostState → HostState
 host_failed s = record { starts = s.starts; kind = s.kind; direct = s.direct; chance = s.chance; faults = one_more s.faults }
 
@@ -59,7 +72,7 @@ abbrev pub host_offer : HostState → ℕ → List ℕ → HostState
 host_offer s from bytes = record {
   starts = s.starts;
   kind = s.kind;
-  direct = if is_chance s.kind then s.direct else direct_offer s.direct from bytes;
+  direct = if is_direct s.kind then direct_offer s.direct from bytes else s.direct;
   chance = if is_chance s.kind then chance_offer s.chance from bytes else s.chance;
   faults = s.faults;
 }
@@ -69,7 +82,7 @@ abbrev pub host_take : HostState → HostState
 host_take s = record {
   starts = s.starts;
   kind = s.kind;
-  direct = if is_chance s.kind then s.direct else after_take s.direct;
+  direct = if is_direct s.kind then after_take s.direct else s.direct;
   chance = if is_chance s.kind then chance_take s.chance else s.chance;
   faults = s.faults;
 }

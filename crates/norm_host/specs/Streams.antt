@@ -1,4 +1,5 @@
-use Rattle.std.specs.Prelude.{ℕ, List, string_bytes}
+use Rattle.std.specs.Prelude.{ℕ, List, Option, string_bytes}
+use Rattle.std.specs.Option.{option_map}
 use Rattle.norm_host.specs.declared.folder.FolderFiles.{FolderFiles}
 use Rattle.norm_host.specs.declared.std_source.StdSource.{StdSource}
 use Rattle.norm_host.specs.declared.std_sink.StdSink.{StdSink}
@@ -16,3 +17,7 @@ writer_of s = s.writer
 -- the folder of files, as its path
 abbrev pub folder_of : {F : Type 0} → FolderFiles F → List ℕ
 folder_of f = string_bytes f.folder
+
+-- the path that files were told to read as it stands
+abbrev pub told_to : {F : Type 0} → FolderFiles F → Option (List ℕ)
+told_to f = option_map string_bytes f.told

@@ -1,14 +1,14 @@
 //! The files of one folder.
 
-ghost use Rattle.std.specs.Prelude.{◌≡◌, ◌↔◌, ◌<◌, ◌≤◌, None, Ok, IsTrue, IsOk, length, string_bytes, IfOk, IfErr, OnOk, is_err, true, false};
+ghost use Rattle.std.specs.Prelude.{◌≡◌, ◌↔◌, ◌<◌, ◌≤◌, None, Some, Ok, IsTrue, IsOk, length, string_bytes, IfOk, IfErr, OnOk, OnErr, is_err, true, false};
 ghost use Rattle.std.specs.Fs.{metadata_len, file_type, IsFile};
 ghost use Rattle.std.specs.Io.Seek.{MovesTo};
 ghost use Rattle.std.specs.IoError.{error_kind};
 ghost use Rattle.std.specs.declared.io.ErrorKind.TheVariants.{NotFound, IsADirectory};
 ghost use Rattle.std.specs.List.{list_all};
 ghost use Rattle.norm_base.specs.Faults.{Counts, file_failed};
-ghost use Rattle.norm_host.specs.FileNames.{is_name_octet, is_file_name, path_in};
-ghost use Rattle.norm_host.specs.Streams.{folder_of};
+ghost use Rattle.norm_host.specs.FileNames.{is_name_octet, is_file_name, path_in, path_beside, path_read, is_told};
+ghost use Rattle.norm_host.specs.Streams.{folder_of, told_to};
 
 use norm_base::{Cause, Failed, FileFault, Files, Memory};
 use std::alloc::{AllocError, Global};
@@ -50,6 +50,17 @@ fn path_in(alloc: Global, folder: &str, name: &str) -> Result<String, AllocError
     Ok(path)
 }
 
+/// The path beside a file at which its octets are written first: no name of a file leads there, since it begins with a `.`.
+fn path_beside(alloc: Global, folder: &str, name: &str) -> Result<String, AllocError>
+    ensures { IfOk result (λ path. string_bytes path ≡ path_beside folder.now name.now) }
+{
+    let mut path = String::from_str(alloc, folder)?;
+    path.push_str("/.")?;
+    path.push_str(name)?;
+    path.push_str(".part")?;
+    Ok(path)
+}
+
 /// How many octets a plain file has, as its metadata say. Any other file is as a folder.
 fn length_in(metadata: &Metadata) -> io::Result<u64>
     ensures file { IsOk result ↔ IsFile (file_type metadata.now) }
@@ -80,14 +91,15 @@ fn fault_of(error: &io::Error) -> FileFault
     FileFault::Failed
 }
 
-/// The files of one folder. A name that is none of a file there, also one with a slash or that begins with a
-/// `.`, is absent, and put nowhere. A read of 0 octets, and want of memory, are faults. It tells nothing of
-/// what the files hold.
+/// The files of one folder, and one path that is read as it stands, where it was told one. Any other name that is none of a file there, also
+/// one with a slash or that begins with a `.`, is absent, and put nowhere. A file that is put is written beside its name and renamed, so that
+/// nobody sees a part of it. A read of 0 octets, and want of memory, are faults. It tells nothing of what the files hold.
 #[derive(Drop)]
 pub struct FolderFiles<F> {
     files: F,
     alloc: Global,
     folder: String,
+    told: Option<String>,
     faults: u64,
     cause: Option<Cause>,
 }
@@ -95,15 +107,31 @@ pub struct FolderFiles<F> {
 impl<F: fs::Files + Drop> FolderFiles<F> {
     /// The files of this folder.
     pub fn of(alloc: Global, files: F, folder: &str) -> Result<FolderFiles<F>, Memory>
-        ensures { IfOk result (λ made. folder_of made ≡ folder.now) }
+        ensures folder { IfOk result (λ made. folder_of made ≡ folder.now) }
+        ensures told { IfOk result (λ made. told_to made ≡ None) }
     {
         Ok(FolderFiles {
             files,
             alloc,
             folder: String::from_str(alloc, folder)?,
+            told: None,
             faults: 0,
             cause: None,
         })
+    }
+
+    /// Tells it a path that is read as it stands, in place of one that it was told before.
+    ///
+    /// # Errors
+    ///
+    /// `Memory` where memory runs out.
+    pub fn tell(&mut self, path: &str) -> Result<(), Memory>
+        ensures told { OnOk result (told_to self.new ≡ Some path.now) }
+        ensures kept { OnErr result (told_to self.new ≡ told_to self.old) }
+        ensures folder { folder_of self.new ≡ folder_of self.old }
+    {
+        self.told = Some(String::from_str(self.alloc, path)?);
+        Ok(())
     }
 
     /// What the last failed call was about. `None` before one, and where there was no memory to keep it.
@@ -122,6 +150,27 @@ impl<F: fs::Files + Drop> FolderFiles<F> {
         Ok(path_in(self.alloc, &self.folder, name)?)
     }
 
+    /// Whether a name is the path that it was told.
+    fn is_told(&self, name: &str) -> bool
+        ensures { result ≡ is_told (told_to self.now) name.now }
+    {
+        match &self.told {
+            Some(path) => path.as_bytes() == name.as_bytes(),
+            None => false,
+        }
+    }
+
+    /// The path at which a name is read: the one that it was told, as it stands, and else that of a file in the folder.
+    fn path_read(&self, name: &str) -> io::Result<String>
+        ensures path { IfOk result (λ path. path_read (string_bytes self.now.folder) (told_to self.now) name.now ≡ Some (string_bytes path)) }
+        ensures absent { IfErr result (λ error. (error_kind error ≡ NotFound) ↔ (path_read (string_bytes self.now.folder) (told_to self.now) name.now ≡ None)) }
+    {
+        if self.is_told(name) {
+            return Ok(String::from_str(self.alloc, name)?);
+        }
+        self.path(name)
+    }
+
     /// How many octets the plain file at this path has.
     fn plain_length(&self, path: &str) -> io::Result<u64> {
         length_in(&fs::metadata(&self.files, path)?)
@@ -129,7 +178,7 @@ impl<F: fs::Files + Drop> FolderFiles<F> {
 
     /// How many octets a file has.
     fn length_of(&self, name: &str) -> io::Result<u64> {
-        let path = self.path(name)?;
+        let path = self.path_read(name)?;
         self.plain_length(path.as_str())
     }
 
@@ -137,7 +186,7 @@ impl<F: fs::Files + Drop> FolderFiles<F> {
     fn read_of(&self, name: &str, offset: u64, buf: &mut [u8]) -> io::Result<usize>
         ensures { IfOk result (λ n. (0 < n) × (n ≤ length buf.old)) }
     {
-        let path = self.path(name)?;
+        let path = self.path_read(name)?;
         self.plain_length(path.as_str())?;
         let mut file = fs::open(&self.files, path.as_str())?;
         seek_to(&mut file, offset)?;
@@ -145,6 +194,19 @@ impl<F: fs::Files + Drop> FolderFiles<F> {
             0 => Err(io::Error::from(ErrorKind::UnexpectedEof)),
             n => Ok(n),
         }
+    }
+
+    /// Writes the octets beside the file at this path, and gives them its name.
+    fn write_beside(&self, path: &str, name: &str, bytes: &[u8]) -> io::Result<()> {
+        let beside = path_beside(self.alloc, &self.folder, name)?;
+        let mut done = fs::write(&self.files, beside.as_str(), bytes);
+        if done.is_ok() {
+            done = fs::rename(&self.files, beside.as_str(), path);
+        }
+        if done.is_err() {
+            let _ = fs::remove_file(&self.files, beside.as_str());
+        }
+        done
     }
 
     /// Writes a file anew, unless what has its name is no plain file.
@@ -155,7 +217,7 @@ impl<F: fs::Files + Drop> FolderFiles<F> {
                 return Err(error);
             }
         }
-        fs::write(&self.files, path.as_str(), bytes)
+        self.write_beside(path.as_str(), name, bytes)
     }
 
     /// Keeps what a failed call was about, and counts it.

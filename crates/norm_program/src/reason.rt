@@ -9,7 +9,7 @@ ghost use Rattle.norm_program.specs.StatusOf.{status_of};
 ghost use Rattle.norm_program.specs.declared.status.Ending.TheVariants as ending;
 
 use crate::status::Ending;
-use norm_base::{Cause, Memory};
+use norm_base::Memory;
 use std::fmt;
 use std::process::ExitCode;
 
@@ -132,7 +132,7 @@ pub(crate) fn explain_no_text(rt: &impl Eprint) {
 }
 
 /// Says on standard error what a failed call of the outside was about, where one failed.
-pub fn say_cause(rt: &impl Eprint, cause: Option<&Cause>) {
+pub fn say_cause<C: fmt::Display>(rt: &impl Eprint, cause: Option<&C>) {
     if let Some(cause) = cause {
         let _ = eprintln!(rt; "{cause}");
     }

@@ -7,7 +7,7 @@ use Rattle.clap.specs.declared.error.Error.{Error}
 use Rattle.clap.specs.declared.error.kind.ErrorKind.{ErrorKind}
 use Rattle.clap.specs.declared.error.kind.ErrorKind.TheVariants.{OutOfMemory}
 use Rattle.clap.proofs.OnLiterals.{clap_on_literals}
-use Rattle.norm_words.specs.Forms.{session_form, show_form, generate_form, is_fine, found_in}
+use Rattle.norm_words.specs.Forms.{session_form, show_form, generate_form, send_form, recv_form, hub_form, is_fine, found_in}
 
 pub simple_session : is_simple_and_free session_form ≡ true
 unfolding clap_on_literals
@@ -20,6 +20,18 @@ simple_show = refl
 pub simple_generate : is_simple_and_free generate_form ≡ true
 unfolding clap_on_literals
 simple_generate = refl
+
+pub simple_send : is_simple_and_free send_form ≡ true
+unfolding clap_on_literals
+simple_send = refl
+
+pub simple_recv : is_simple_and_free recv_form ≡ true
+unfolding clap_on_literals
+simple_recv = refl
+
+pub simple_hub : is_simple_and_free hub_form ≡ true
+unfolding clap_on_literals
+simple_hub = refl
 
 first_of_both : (a b : Bool) → (a && b) ≡ true → a ≡ true
 first_of_both true b h = refl

@@ -1,5 +1,5 @@
 -- The numbers of a task are in their ranges.
-use Rattle.std.specs.Prelude.{ℕ, ◌≤◌, IfSome}
+use Rattle.std.specs.Prelude.{◌≤◌, IfSome}
 use Rattle.norm_base.specs.Keys.{IsValue}
 use Rattle.norm_base.specs.declared.key.Key.TheVariants as key
 use Rattle.norm_words.specs.declared.tasks.Options.{Options}

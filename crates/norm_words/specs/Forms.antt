@@ -22,6 +22,18 @@ show_form = new_app (codes "show")
 abbrev pub generate_form : App
 generate_form = with_rule (new_app (codes "generate")) (word_named (codes "N"))
 
+-- send PROFILE
+abbrev pub send_form : App
+send_form = with_rule (new_app (codes "send")) (word_named (codes "PROFILE"))
+
+-- recv PROFILE NODE
+abbrev pub recv_form : App
+recv_form = with_rule (with_rule (new_app (codes "recv")) (word_named (codes "PROFILE"))) (word_named (codes "NODE"))
+
+-- hub PROFILE
+abbrev pub hub_form : App
+hub_form = with_rule (new_app (codes "hub")) (word_named (codes "PROFILE"))
+
 -- no kind of error comes
 abbrev pub is_fine : Kinds → Bool
 is_fine [] = true

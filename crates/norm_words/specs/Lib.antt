@@ -1,3 +1,4 @@
 pub mod Forms
 pub mod Tasks
 pub mod Fits
+pub mod NodeTasks

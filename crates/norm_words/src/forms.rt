@@ -4,7 +4,7 @@ ghost use Rattle.std.specs.Prelude.{◌≡◌, true, map, string_bytes, IfOk};
 ghost use Rattle.std.specs.Bool.{Decides};
 ghost use Rattle.std.specs.Option.{option_map};
 ghost use Rattle.clap.specs.Words.{app_of, rows_of, found_of, is_simple_and_free, kind_of};
-ghost use Rattle.norm_words.specs.Forms.{session_form, show_form, generate_form, found_in};
+ghost use Rattle.norm_words.specs.Forms.{session_form, show_form, generate_form, send_form, recv_form, hub_form, found_in};
 
 use clap::error::ErrorKind;
 use clap::{Arg, ArgMatches, Command, Error};
@@ -34,6 +34,34 @@ pub(crate) fn generate_form<'a>(alloc: Global) -> Result<Command<'a>, AllocError
 {
     let number = Arg::new(alloc, "N").required(true);
     let command = Command::new(alloc, "generate").arg(number)?;
+    Ok(command)
+}
+
+/// `send PROFILE`.
+pub(crate) fn send_form<'a>(alloc: Global) -> Result<Command<'a>, AllocError>
+    ensures { IfOk result (λ command. app_of command ≡ send_form) }
+{
+    let profile = Arg::new(alloc, "PROFILE").required(true);
+    let command = Command::new(alloc, "send").arg(profile)?;
+    Ok(command)
+}
+
+/// `recv PROFILE NODE`.
+pub(crate) fn recv_form<'a>(alloc: Global) -> Result<Command<'a>, AllocError>
+    ensures { IfOk result (λ command. app_of command ≡ recv_form) }
+{
+    let profile = Arg::new(alloc, "PROFILE").required(true);
+    let node = Arg::new(alloc, "NODE").required(true);
+    let command = Command::new(alloc, "recv").arg(profile)?.arg(node)?;
+    Ok(command)
+}
+
+/// `hub PROFILE`.
+pub(crate) fn hub_form<'a>(alloc: Global) -> Result<Command<'a>, AllocError>
+    ensures { IfOk result (λ command. app_of command ≡ hub_form) }
+{
+    let profile = Arg::new(alloc, "PROFILE").required(true);
+    let command = Command::new(alloc, "hub").arg(profile)?;
     Ok(command)
 }
 

@@ -47,7 +47,7 @@ fn value_given(key: Key, word: Option<&str>) -> Option<Option<u32>>
 }
 
 /// The value of an option, or the word that stands in a place.
-fn word_in<'a>(matches: &ArgMatches<'a>, name: &str) -> Option<&'a str>
+pub(crate) fn word_in<'a>(matches: &ArgMatches<'a>, name: &str) -> Option<&'a str>
     ensures { option_map (λ w. w.now) result ≡ first_of name.now (rows_of (found_of matches.now)) }
 {
     matches.get_str(name)

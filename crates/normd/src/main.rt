@@ -9,7 +9,7 @@ use std::process::ExitCode;
 /// Makes the real objects, and runs the program on them. Its files are those of the folder that it runs in.
 fn main(rt: HostRuntime) -> ExitCode {
     let alloc = rt.alloc();
-    let mut fabric = match needed(&rt, HostFabric::new(alloc)) {
+    let mut fabric = match needed(&rt, HostFabric::new(alloc, rt)) {
         Ok(fabric) => fabric,
         Err(code) => return code,
     };

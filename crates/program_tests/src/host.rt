@@ -1,8 +1,8 @@
 //! Each adapter over the process once, over a reader and a writer that fail in mid-stream too.
 
-use crate::calls::{Call, answers, moments, reads, takes, writes};
-use norm_base::{Fabric, FabricFault, FabricKind, FileFault, Files, Local, NodeId, Profile};
-use norm_host::{FolderFiles, HostClock, HostFabric, StdSink, StdSource};
+use crate::calls::{Call, answers, moments, reads, writes};
+use norm_base::{FileFault, Files};
+use norm_host::{FolderFiles, HostClock, StdSink, StdSource};
 use std::cell::Cell;
 use std::fs;
 use std::io::{self, ErrorKind, Read, Write};
@@ -165,37 +165,5 @@ fn a_folder_keeps_names_within(rt: HostRuntime) -> Result<(), Fail> {
     assert!(rt; buf.as_slice() == b"lo\0".as_slice());
     assert!(rt; files.read_at("a.txt", 5, &mut buf) == Err(FileFault::Failed));
     fs::remove_dir_all(&rt, FOLDER)?;
-    Ok(())
-}
-
-/// Begins a session of one receiver over a network of this kind, and offers it a datagram.
-fn play<F: Fabric>(fabric: &mut F, kind: FabricKind, from: NodeId) -> Result<(), FabricFault> {
-    let profile = Profile {
-        fabric: kind,
-        ..Profile::default()
-    };
-    fabric.start(&profile, Local::All)?;
-    fabric.offer(from, b"hello")
-}
-
-/// Whether such a session failed, for want of a network or of memory.
-fn fails<F: Fabric>(fabric: &mut F, kind: FabricKind, from: NodeId) -> bool {
-    play(fabric, kind, from).is_err()
-}
-
-#[test]
-fn a_network_goes_by_the_profile(rt: HostRuntime) -> Result<(), Fail> {
-    let Some(sender) = NodeId::of(1) else {
-        return Err("no member")?;
-    };
-    let mut fabric = HostFabric::new(rt.alloc())?;
-    for kind in [FabricKind::Direct, FabricKind::Chance] {
-        assert!(rt; !fails(&mut fabric, kind, sender));
-        assert!(rt; fails(&mut fabric, FabricKind::Udp, sender));
-        let mut all = Vec::new(rt.alloc());
-        assert!(rt; takes(rt.alloc(), &mut fabric, &mut all).is_ok());
-        assert!(rt; all.as_slice() == b"2hello".as_slice());
-    }
-    assert!(rt; fabric.faults() == 2);
     Ok(())
 }

@@ -1,0 +1,159 @@
+//! Reads profiles.
+
+ghost use Rattle.std.specs.Prelude.{◌≡◌, IsUtf8, IfOk, Err, nat_lt, length, if◌then◌else◌};
+ghost use Rattle.norm_base.specs.Given.{nothing_given, value_in};
+ghost use Rattle.norm_profile.specs.Profiles.{number_for, word_for, number_given, word_given, value_given, given_in, broken_rule, profile_with, profile_of, profile_in};
+ghost use Rattle.norm_profile.specs.declared.refusal.ProfileRefusal.TheVariants as refusal;
+ghost use Rattle.toml.specs.View.{view, table_view};
+
+use crate::refusal::ProfileRefusal;
+use norm_base::{Given, Key, Memory, Profile, Text};
+use std::alloc::{AllocError, Global};
+use std::str;
+use toml::{Table, Value};
+
+/// The most octets of a profile.
+const MOST_OCTETS: usize = 65_536;
+
+/// A whole number as a key's value.
+fn number_for(key: Key, number: i64) -> Result<u32, ProfileRefusal>
+    ensures { result ≡ number_for key number }
+{
+    let row = key.row();
+    match u32::try_from(number) {
+        Ok(n) if row.least <= n && n <= row.greatest => Ok(n),
+        _ => Err(ProfileRefusal::NoValue { key }),
+    }
+}
+
+/// A value where the key's values are numbers.
+fn number_given(key: Key, value: &Value) -> Result<u32, ProfileRefusal>
+    ensures { result ≡ number_given key (view value.now) }
+{
+    match value.as_integer() {
+        Some(number) => number_for(key, number),
+        None => Err(ProfileRefusal::NoNumber { key }),
+    }
+}
+
+/// A value where the key's values are words.
+fn word_given(key: Key, value: &Value) -> Result<u32, ProfileRefusal>
+    ensures { result ≡ word_given key (view value.now) }
+{
+    match value.as_str() {
+        Some(word) => match key.value_of(word.as_bytes()) {
+            Some(place) => Ok(place),
+            None => Err(ProfileRefusal::NoValue { key }),
+        },
+        None => Err(ProfileRefusal::NoText { key }),
+    }
+}
+
+/// What a value gives a key.
+fn value_given(key: Key, value: &Value) -> Result<u32, ProfileRefusal>
+    ensures { result ≡ value_given key (view value.now) }
+{
+    if key.row().words.is_empty() {
+        number_given(key, value)
+    } else {
+        word_given(key, value)
+    }
+}
+
+/// A name that no key has.
+fn no_key(alloc: Global, name: &str) -> Result<ProfileRefusal, AllocError>
+    ensures { IfOk result (λ why. why ≡ refusal.NoKey name.now) }
+{
+    let name = Text::of(String::from_str(alloc, name)?);
+    Ok(ProfileRefusal::NoKey { name })
+}
+
+/// What the members of a document give to the keys.
+fn given_in(alloc: Global, table: &Table) -> Result<Result<Given, ProfileRefusal>, Memory>
+    ensures { IfOk result (λ given. given ≡ given_in (table_view table.now) nothing_given) }
+{
+    let mut given = Given::new();
+    for (name, value) in table.iter() {
+        let Some(key) = Key::named(name.as_bytes()) else {
+            return Ok(Err(no_key(alloc, name)?));
+        };
+        match value_given(key, value) {
+            Ok(number) => given.set(key, number),
+            Err(why) => return Ok(Err(why)),
+        }
+    }
+    Ok(Ok(given))
+}
+
+/// Which of the two rules across keys is broken.
+fn broken_rule(given: &Given) -> ProfileRefusal
+    ensures { result ≡ broken_rule (value_in given.now) }
+{
+    let b = given.value(Key::B);
+    let max_n = given.value(Key::MaxN);
+    if max_n < b {
+        return ProfileRefusal::MaxBelowB { max_n, b };
+    }
+    ProfileRefusal::Buffer {
+        blocks: given.value(Key::Blocks),
+        b,
+        e: given.value(Key::E),
+    }
+}
+
+/// The profile of the given values.
+fn profile_with(given: &Given) -> Result<Profile, ProfileRefusal>
+    ensures { result ≡ profile_with given.now }
+{
+    match Profile::of(given) {
+        Some(profile) => Ok(profile),
+        None => Err(broken_rule(given)),
+    }
+}
+
+/// The profile that a table is.
+fn profile_of(alloc: Global, table: &Table) -> Result<Result<Profile, ProfileRefusal>, Memory>
+    ensures { IfOk result (λ profile. profile ≡ profile_of (table_view table.now)) }
+{
+    match given_in(alloc, table)? {
+        Ok(given) => Ok(profile_with(&given)),
+        Err(why) => Ok(Err(why)),
+    }
+}
+
+/// Reads the profile that a text is.
+///
+/// # Errors
+///
+/// `Memory` where memory runs out. The refusal within names the first key, in the order of names, that is refused.
+pub fn read_text(alloc: Global, text: &str) -> Result<Result<Profile, ProfileRefusal>, Memory>
+    ensures { IfOk result (λ profile. profile ≡ profile_in text.now) }
+{
+    if text.len() > MOST_OCTETS {
+        return Ok(Err(ProfileRefusal::TooLong));
+    }
+    match toml::table_from_str(alloc, text) {
+        Ok(table) => profile_of(alloc, &table),
+        Err(error) if error.is_memory() => Err(Memory),
+        Err(_) => Ok(Err(ProfileRefusal::NoDocument)),
+    }
+}
+
+/// Reads the profile that the octets of a file are. Octets that are not UTF-8 are no document.
+///
+/// # Errors
+///
+/// As [`read_text`].
+pub fn read_profile(alloc: Global, octets: &[u8]) -> Result<Result<Profile, ProfileRefusal>, Memory>
+    ensures text { IfOk result (λ profile. IsUtf8 octets.now → profile ≡ profile_in octets.now) }
+    ensures other { IfOk result (λ profile. ¬ (IsUtf8 octets.now) →
+        profile ≡ (if nat_lt 65536 (length octets.now) then Err refusal.TooLong else Err refusal.NoDocument)) }
+{
+    if octets.len() > MOST_OCTETS {
+        return Ok(Err(ProfileRefusal::TooLong));
+    }
+    match str::from_utf8(octets) {
+        Ok(text) => read_text(alloc, text),
+        Err(_) => Ok(Err(ProfileRefusal::NoDocument)),
+    }
+}

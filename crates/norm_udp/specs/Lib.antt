@@ -1,0 +1,4 @@
+pub mod Addresses
+pub mod Losses
+pub mod Pausing
+pub mod Untold

@@ -1,0 +1,75 @@
+//! Where the members of a session are.
+
+ghost use Rattle.std.specs.Prelude.{◌≡◌, ◌≤◌, ◌+◌, ◌<◌, true, if◌then◌else◌, IfSome, Some, None};
+ghost use Rattle.norm_base.specs.Members.{is_node};
+ghost use Rattle.norm_udp.specs.Addresses.{port_of, member_with, member_from, IsAt, gets_copy};
+
+use norm_base::{NodeId, Profile};
+use std::net::{Ipv4Addr, SocketAddr, SocketAddrV4};
+
+/// The address of this machine with a port.
+pub(crate) fn address_at(port: u16) -> SocketAddr
+    ensures { IsAt result port }
+{
+    SocketAddr::V4(SocketAddrV4::new(Ipv4Addr::new(127, 0, 0, 1), port))
+}
+
+/// Whether a node is one of the profile: its sender, or a receiver.
+pub(crate) fn is_node(profile: &Profile, node: NodeId) -> bool
+    ensures { result ≡ is_node profile.now node }
+{
+    node.number() == profile.sender || profile.is_receiver(node)
+}
+
+/// The port of a member.
+fn port_of(profile: &Profile, node: NodeId) -> u16
+    requires { is_node profile.now node ≡ true }
+    ensures { result ≡ port_of profile.now node }
+{
+    profile.port + 1 + (node.number() - profile.sender) as u16
+}
+
+/// The address of a member.
+pub(crate) fn address_of(profile: &Profile, node: NodeId) -> SocketAddr
+    requires { is_node profile.now node ≡ true }
+    ensures { IsAt result (port_of profile.now node) }
+{
+    address_at(port_of(profile, node))
+}
+
+/// The member at this place among them: the sender at 0, and then the receivers.
+pub(crate) fn member_at(profile: &Profile, place: u8) -> NodeId
+    requires { place ≤ profile.now.receivers }
+    ensures id { result ≡ profile.now.sender + place }
+    ensures node { is_node profile.now result ≡ true }
+{
+    NodeId::of(profile.sender + u32::from(place)).unwrap()
+}
+
+/// The member that has a port. `None` where no member has it.
+fn member_with(profile: &Profile, port: u16) -> Option<NodeId>
+    ensures { result ≡ member_with profile.now port }
+{
+    let first = profile.port + 1;
+    if port < first || port > first + u16::from(profile.receivers) {
+        return None;
+    }
+    NodeId::of(profile.sender + u32::from(port - first))
+}
+
+/// The member that a datagram came from. `None` where its address is no member's.
+pub(crate) fn member_from(profile: &Profile, address: &SocketAddr) -> Option<NodeId>
+    ensures { result ≡ member_from profile.now address.now }
+{
+    match address {
+        SocketAddr::V4(at) if at.ip().octets() == [127, 0, 0, 1] => member_with(profile, at.port()),
+        _ => None,
+    }
+}
+
+/// Whether a datagram that a member offered goes to this one.
+pub(crate) fn gets_copy(profile: &Profile, from: NodeId, to: NodeId) -> bool
+    ensures { result ≡ gets_copy profile.now from to }
+{
+    is_node(profile, from) && is_node(profile, to) && to != from
+}

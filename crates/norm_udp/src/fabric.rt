@@ -1,0 +1,211 @@
+//! The network of sockets.
+
+ghost use Rattle.std.specs.Prelude.{◌≡◌, [], true, IfOk, IfNone, OnErr};
+ghost use Rattle.norm_base.specs.Faults.{Counts};
+ghost use Rattle.norm_udp.specs.Untold.{untold};
+
+use crate::cause::SocketCause;
+use crate::pace::{Pace, Pause};
+use crate::socket::BUFFER;
+use crate::sockets::{Open, OpenFault, open_for};
+use norm_base::{Datagram, Fabric, FabricFault, Local, Memory, NodeId, Profile};
+use std::alloc::Global;
+use std::net::Net;
+use std::thread;
+use std::time::{Clock, Duration};
+
+/// How often a sender looks at most, while its gap lasts.
+const MOST_LOOKS: u32 = 16_384;
+
+/// A network of UDP sockets at 127.0.0.1: the hub at the profile's port, and the members behind it, in their order. With all members in
+/// this process each has its socket, and what one offers goes to each other; a member alone offers to the hub; and the hub offers a member's datagram
+/// to each other member, and its `take` says from whom a datagram came. A peer that is not there and a full buffer lose a datagram;
+/// a socket that cannot be made or bound, and any other error, fail. `start` comes first. It tells nothing of what it gives and takes.
+#[derive(Drop)]
+pub struct UdpFabric<R> {
+    rt: R,
+    alloc: Global,
+    open: Open,
+    pace: Pace,
+    buffer: Vec<u8>,
+    faults: u64,
+    cause: Option<SocketCause>,
+}
+
+impl<R: Net + Clock + Drop> UdpFabric<R> {
+    /// A network that was not started: nothing is taken, and what is offered goes nowhere.
+    ///
+    /// # Errors
+    ///
+    /// `Memory` where memory runs out.
+    pub fn new(alloc: Global, rt: R) -> Result<UdpFabric<R>, Memory>
+        ensures { IfOk result (λ f. ⟦<UdpFabric<R> as Fabric>⟧.fault_count f ≡ 0) }
+    {
+        Ok(UdpFabric {
+            rt,
+            alloc,
+            open: Open::Nothing,
+            pace: Pace::new(0),
+            buffer: vec![in alloc; 0u8; BUFFER]?,
+            faults: 0,
+            cause: None,
+        })
+    }
+
+    /// Closes all sockets.
+    pub fn close(&mut self)
+        ensures { self.new.faults ≡ self.old.faults }
+    {
+        self.open = Open::Nothing;
+    }
+
+    /// What the last failed call was about. `None` before one.
+    pub fn cause(&self) -> Option<&SocketCause> {
+        self.cause.as_ref()
+    }
+
+    /// What the last failed call was about, which is then kept elsewhere.
+    pub fn take_cause(&mut self) -> Option<SocketCause> {
+        self.cause.take()
+    }
+
+    /// Keeps what a failed call was about, and counts it.
+    fn keep(&mut self, cause: SocketCause)
+        ensures { Counts self.old.faults self.new.faults true }
+    {
+        self.faults = self.faults.saturating_add(1);
+        self.cause = Some(cause);
+    }
+
+    /// The clock's microseconds, or 0 where it fails.
+    fn now(&self) -> u64 {
+        match self.rt.monotonic() {
+            Ok(time) => u64::try_from(time.as_micros()).unwrap_or(0),
+            Err(_) => 0,
+        }
+    }
+
+    /// Notes that a datagram was offered; a sender notes the moment too.
+    fn note_offer(&mut self)
+        ensures { self.new.faults ≡ self.old.faults }
+    {
+        if self.open.is_sender() {
+            let now = self.now();
+            self.pace.note_offer_at(now);
+        } else {
+            self.pace.note_busy();
+        }
+    }
+
+    /// Takes a datagram that is there.
+    fn look(&mut self, into: &mut Datagram) -> Result<Option<NodeId>, SocketCause>
+        requires { into.old ≡ [] }
+        ensures none { IfOk result (λ node. IfNone node (into.new ≡ [])) }
+        ensures err { OnErr result (into.new ≡ []) }
+        ensures faults { self.new.faults ≡ self.old.faults }
+    {
+        self.open.look(&mut self.buffer, into)
+    }
+
+    /// Looks until a moment.
+    fn look_until(&mut self, until: u64, into: &mut Datagram) -> Result<Option<NodeId>, SocketCause>
+        requires { into.old ≡ [] }
+        ensures none { IfOk result (λ node. IfNone node (into.new ≡ [])) }
+        ensures err { OnErr result (into.new ≡ []) }
+        ensures faults { self.new.faults ≡ self.old.faults }
+    {
+        for _ in 0..MOST_LOOKS {
+            if let Some(node) = self.look(into)? {
+                return Ok(Some(node));
+            }
+            if self.now() >= until {
+                return Ok(None);
+            }
+        }
+        Ok(None)
+    }
+
+    /// Takes a datagram where none is there at once: it pauses, as the last calls ask for, and looks again.
+    fn look_later(&mut self, into: &mut Datagram) -> Result<Option<NodeId>, SocketCause>
+        requires { into.old ≡ [] }
+        ensures none { IfOk result (λ node. IfNone node (into.new ≡ [])) }
+        ensures err { OnErr result (into.new ≡ []) }
+        ensures faults { self.new.faults ≡ self.old.faults }
+    {
+        let now = self.now();
+        match self.pace.pause(now) {
+            Pause::Answer => Ok(None),
+            Pause::Look(until) => self.look_until(until, into),
+            Pause::Sleep(micros) => {
+                thread::sleep(&self.rt, Duration::from_micros(micros));
+                self.look(into)
+            }
+        }
+    }
+
+    /// Takes the next datagram, at once or after a pause.
+    fn find(&mut self, into: &mut Datagram) -> Result<Option<NodeId>, SocketCause>
+        requires { into.old ≡ [] }
+        ensures none { IfOk result (λ node. IfNone node (into.new ≡ [])) }
+        ensures err { OnErr result (into.new ≡ []) }
+        ensures faults { self.new.faults ≡ self.old.faults }
+    {
+        let mut found = self.look(into)?;
+        if found.is_none() {
+            found = self.look_later(into)?;
+        }
+        if found.is_some() {
+            self.pace.note_busy();
+        } else {
+            let now = self.now();
+            self.pace.note_empty(now);
+        }
+        Ok(found)
+    }
+}
+
+impl<R: Net + Clock + Drop> Fabric for UdpFabric<R> {
+    ghost told = { λ _. untold };
+
+    ghost fault_count = { λ s. s.faults };
+
+    fn start(&mut self, profile: &Profile, local: Local) -> Result<(), FabricFault> {
+        self.close();
+        self.pace = Pace::new(u64::from(profile.gap));
+        match open_for(&self.rt, self.alloc, profile, local) {
+            Ok(open) => {
+                self.open = open;
+                Ok(())
+            }
+            Err(OpenFault::Memory) => Err(FabricFault::Memory),
+            Err(OpenFault::Socket(cause)) => {
+                self.keep(cause);
+                Err(FabricFault::Failed)
+            }
+        }
+    }
+
+    fn offer(&mut self, from: NodeId, bytes: &[u8]) -> Result<(), FabricFault> {
+        if let Err(cause) = self.open.send(from, bytes) {
+            self.keep(cause);
+            return Err(FabricFault::Failed);
+        }
+        self.note_offer();
+        Ok(())
+    }
+
+    fn take(&mut self, into: &mut Datagram) -> Result<Option<NodeId>, FabricFault> {
+        into.clear();
+        match self.find(into) {
+            Ok(node) => Ok(node),
+            Err(cause) => {
+                self.keep(cause);
+                Err(FabricFault::Failed)
+            }
+        }
+    }
+
+    fn faults(&self) -> u64 {
+        self.faults
+    }
+}

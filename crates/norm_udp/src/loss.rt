@@ -1,0 +1,21 @@
+//! What is a lost datagram, and no fault.
+
+ghost use Rattle.std.specs.Prelude.{◌≡◌};
+ghost use Rattle.std.specs.IoError.{raw_os_error};
+ghost use Rattle.norm_udp.specs.Losses.{is_loss};
+
+use libc::{EAGAIN, ECONNREFUSED};
+use std::io;
+
+/// The system has no buffers (Linux's ENOBUFS).
+const NO_BUFFERS: i32 = 105;
+
+/// Whether an error of a socket is a lost datagram: nobody is there, or there is no room for it.
+pub(crate) fn is_loss(error: &io::Error) -> bool
+    ensures { result ≡ is_loss (raw_os_error error.now) }
+{
+    match error.raw_os_error() {
+        Some(code) => code == EAGAIN || code == NO_BUFFERS || code == ECONNREFUSED,
+        None => false,
+    }
+}

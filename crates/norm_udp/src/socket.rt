@@ -1,0 +1,133 @@
+//! Single sockets. None of them ever waits.
+
+ghost use Rattle.std.specs.Prelude.{◌≡◌, [], IfOk, IfNone, OnErr, if◌then◌else◌};
+
+use crate::cause::SocketCause;
+use crate::loss::is_loss;
+use libc::net::{SO_RCVBUF, SOL_SOCKET, setsockopt};
+use norm_base::{DATAGRAM_ROOM, Datagram};
+use std::io;
+use std::net::{Net, SocketAddr, UdpSocket};
+use std::os::fd::AsRawFd;
+
+/// Octets of a buffer that a datagram is received into: one more than a datagram may have, so that a longer one shows.
+pub(crate) const BUFFER: usize = DATAGRAM_ROOM + 1;
+
+/// Octets of the receive buffer that a socket asks for.
+const RECEIVE_BUFFER: i32 = 4 << 20;
+
+/// How many datagrams in a row are passed over at most, before it is answered that nothing is there.
+pub(crate) const MOST_PASSED: u32 = 1_024;
+
+/// Asks for a large receive buffer. The system may give less, and the socket goes on with that.
+fn ask_for_room(socket: &UdpSocket) {
+    let mut value = [0u8; 16];
+    value[..4].copy_from_slice(&RECEIVE_BUFFER.to_ne_bytes());
+    let _ = unsafe { setsockopt(socket.as_raw_fd(), SOL_SOCKET, SO_RCVBUF, &value, 4) };
+}
+
+/// A socket at this address that never waits.
+fn at<R: Net>(rt: &R, address: SocketAddr) -> io::Result<UdpSocket> {
+    let socket = rt.bind_udp(address)?;
+    socket.set_nonblocking(true)?;
+    Ok(socket)
+}
+
+/// A socket with a large receive buffer at this address.
+pub(crate) fn bind<R: Net>(rt: &R, address: SocketAddr) -> Result<UdpSocket, SocketCause> {
+    match at(rt, address) {
+        Ok(socket) => {
+            ask_for_room(&socket);
+            Ok(socket)
+        }
+        Err(error) => Err(SocketCause::Bind { address, error }),
+    }
+}
+
+/// A socket at any port, connected to this address.
+fn connected_to<R: Net>(rt: &R, own: SocketAddr, address: SocketAddr) -> io::Result<UdpSocket> {
+    let socket = at(rt, own)?;
+    socket.connect(address)?;
+    Ok(socket)
+}
+
+/// A socket at any port that sends to this address alone.
+pub(crate) fn connect<R: Net>(
+    rt: &R,
+    own: SocketAddr,
+    address: SocketAddr,
+) -> Result<UdpSocket, SocketCause> {
+    match connected_to(rt, own, address) {
+        Ok(socket) => Ok(socket),
+        Err(error) => Err(SocketCause::Bind { address, error }),
+    }
+}
+
+/// What becomes of a datagram that was sent to an address: it may be lost.
+fn sent(done: io::Result<usize>, address: SocketAddr) -> Result<(), SocketCause> {
+    match done {
+        Ok(_) => Ok(()),
+        Err(error) if is_loss(&error) => Ok(()),
+        Err(error) => Err(SocketCause::Send { address, error }),
+    }
+}
+
+/// Sends a datagram to an address.
+pub(crate) fn send_to(
+    socket: &UdpSocket,
+    bytes: &[u8],
+    address: SocketAddr,
+) -> Result<(), SocketCause> {
+    sent(socket.send_to(bytes, address), address)
+}
+
+/// Sends a datagram through a socket that is connected to this address.
+pub(crate) fn send(
+    socket: &UdpSocket,
+    bytes: &[u8],
+    address: SocketAddr,
+) -> Result<(), SocketCause> {
+    sent(socket.send(bytes), address)
+}
+
+/// Puts the datagram that was received into `into`, unless it is longer than one may be.
+fn put(received: &[u8], into: &mut Datagram) -> bool
+    requires { into.old ≡ [] }
+    ensures { into.new ≡ (if result then received.now else []) }
+{
+    if received.len() > DATAGRAM_ROOM {
+        return false;
+    }
+    into.push(received);
+    true
+}
+
+/// Receives the next datagram that is no longer than one may be, and says where it came from. `None` where nothing is there.
+pub(crate) fn receive(
+    socket: &UdpSocket,
+    own: SocketAddr,
+    buffer: &mut [u8],
+    into: &mut Datagram,
+) -> Result<Option<SocketAddr>, SocketCause>
+    requires { into.old ≡ [] }
+    ensures none { IfOk result (λ from. IfNone from (into.new ≡ [])) }
+    ensures err { OnErr result (into.new ≡ []) }
+{
+    for _ in 0..MOST_PASSED {
+        match socket.recv_from(buffer) {
+            Ok((n, from)) => {
+                if put(&buffer[..n], into) {
+                    return Ok(Some(from));
+                }
+            }
+            Err(error) if is_loss(&error) => return Ok(None),
+            Err(error) => {
+                return Err(SocketCause::Receive {
+                    address: own,
+                    error,
+                });
+            }
+        }
+    }
+    Ok(None)
+}
