@@ -30,3 +30,4 @@ pub mod PutLemmas
 pub mod InfoLemmas
 pub mod UntakeLemmas
 pub mod SeeLemmas
+pub mod EntryLemmas
