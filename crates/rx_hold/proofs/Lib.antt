@@ -31,3 +31,6 @@ pub mod InfoLemmas
 pub mod UntakeLemmas
 pub mod SeeLemmas
 pub mod EntryLemmas
+pub mod EntryRing
+pub mod EntryStands
+pub mod EntryWords
