@@ -34,3 +34,4 @@ pub mod EntryLemmas
 pub mod EntryRing
 pub mod EntryStands
 pub mod EntryWords
+pub mod EntryKept
