@@ -35,3 +35,4 @@ pub mod EntryRing
 pub mod EntryStands
 pub mod EntryWords
 pub mod EntryKept
+pub mod EntryHands
