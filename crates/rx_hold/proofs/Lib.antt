@@ -36,3 +36,4 @@ pub mod EntryStands
 pub mod EntryWords
 pub mod EntryKept
 pub mod EntryHands
+pub mod EntryMoves
