@@ -37,3 +37,4 @@ pub mod EntryWords
 pub mod EntryKept
 pub mod EntryHands
 pub mod EntryMoves
+pub mod EntryBlocks
