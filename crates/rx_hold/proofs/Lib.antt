@@ -30,3 +30,11 @@ pub mod PutLemmas
 pub mod InfoLemmas
 pub mod UntakeLemmas
 pub mod SeeLemmas
+pub mod EntryLemmas
+pub mod EntryRing
+pub mod EntryStands
+pub mod EntryWords
+pub mod EntryKept
+pub mod EntryHands
+pub mod EntryMoves
+pub mod EntryBlocks

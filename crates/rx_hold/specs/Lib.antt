@@ -9,3 +9,4 @@ pub mod HoldState
 pub mod HoldSound
 pub mod HoldMoves
 pub mod EntryState
+pub mod EntryHold
