@@ -13,7 +13,7 @@ use std::str;
 use toml::{Table, Value};
 
 /// The most octets of a profile.
-const MOST_OCTETS: usize = 65_536;
+pub(crate) const MOST_OCTETS: usize = 65_536;
 
 /// A whole number as a key's value.
 fn number_for(key: Key, number: i64) -> Result<u32, ProfileRefusal>
