@@ -1,0 +1,8 @@
+//! Tests of the network of sockets: sockets of this machine, at ports that go by the process's id, so that tests side by side do not
+//! meet. No other code stands here.
+#![tactic(auto)]
+
+#[cfg(test)]
+mod calls;
+#[cfg(test)]
+mod sockets;
