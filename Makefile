@@ -24,12 +24,13 @@ proved:
 		{ echo "make: $$newer is newer than the proved program: run './build' first." >&2; exit 1; }
 
 install: proved
-	$(INSTALL) -d $(bin) $(man)/man1 $(man)/man5 $(share) $(examples)
+	$(INSTALL) -d $(bin) $(man)/man1 $(man)/man5 $(share) $(examples)/profiles
 	$(INSTALL) -m 755 $(program) $(bin)/normd
 	$(INSTALL) -m 644 man/normd.1 $(man)/man1/normd.1
 	$(INSTALL) -m 644 man/norm-script.5 $(man)/man5/norm-script.5
 	$(INSTALL) -m 644 tools/norm.lua $(share)/norm.lua
-	$(INSTALL) -m 644 examples/* $(examples)
+	$(INSTALL) -m 644 $$(find examples -maxdepth 1 -type f) $(examples)
+	$(INSTALL) -m 644 examples/profiles/* $(examples)/profiles
 
 uninstall:
 	rm -f $(bin)/normd $(man)/man1/normd.1 $(man)/man5/norm-script.5
