@@ -1,14 +1,21 @@
 //! Nodes that run alone, over a list of datagrams: what they print, put and offer.
 
+ghost use Rattle.std.specs.Prelude.{IfOk, IfSome};
+ghost use Rattle.norm_session.specs.Session.{IsRunnable};
+
 use crate::fed::FedFabric;
 use crate::pair::profile_of;
 use crate::pair_tests::octets_of;
 use norm_base::{Key, NodeId, Octets};
 use norm_memory::{MemClock, MemFiles, MemSink};
 use norm_node::{run_hub, run_receiver};
+use norm_script::{Extent, Script, read};
+use norm_session::run_send;
 use std::alloc::Global;
 use std::process::Abort;
+use std::sync::Wait;
 use std::test::Fail;
+use std::thread::Threads;
 
 /// What a node left behind.
 #[derive(Drop)]
@@ -68,6 +75,49 @@ fn passed(alloc: Global, feed: &[(u32, &str)]) -> Result<Option<FedFabric>, Fail
     };
     match run_hub(alloc, &profile, &mut fabric, &mut clock) {
         Ok(()) => Ok(Some(fabric)),
+        Err(_) => Ok(None),
+    }
+}
+
+/// The script that a text is, if it can be run.
+fn script_of(alloc: Global, text: &[u8]) -> Result<Option<Script>, Fail>
+    ensures { IfOk result (λ found. IfSome found IsRunnable) }
+{
+    match read(alloc, text, Extent::Built) {
+        Ok(Ok(script)) => Ok(Some(script)),
+        Ok(Err(_)) => Ok(None),
+        Err(_) => Err("no memory")?,
+    }
+}
+
+/// Runs the sender of a script alone.
+fn sent<R: Threads + Wait + Sync>(
+    rt: &R,
+    alloc: Global,
+    text: &[u8],
+    feed: &[(u32, &str)],
+) -> Result<Option<Left>, Fail> {
+    let mut fabric = network(alloc, feed)?;
+    let mut output = MemSink::of(Vec::new(alloc), Vec::new(alloc));
+    let mut files = MemFiles::of(Vec::new(alloc), Vec::new(alloc));
+    let mut clock = MemClock::of(Vec::new(alloc));
+    let Some(script) = script_of(alloc, text)? else {
+        return Ok(None);
+    };
+    match run_send(
+        rt,
+        alloc,
+        &script,
+        &mut output,
+        &mut fabric,
+        &mut files,
+        &mut clock,
+    ) {
+        Ok(_) => Ok(Some(Left {
+            fabric,
+            output,
+            files,
+        })),
         Err(_) => Ok(None),
     }
 }
@@ -153,6 +203,19 @@ fn what_is_for_another_node_changes_nothing(rt: HostRuntime) -> Result<(), Fail>
         None,
         &[],
     )
+}
+
+#[test]
+fn a_sender_hears_of_a_receiver_that_is_elsewhere(rt: HostRuntime) -> Result<(), Fail> {
+    let text =
+        b"set e 64\nset b 4\nset instance 7\nset turns 3\n1 data 68656c6c6f\n1 mark\n".as_slice();
+    let printed =
+        b"enq 1 1 7 0 data 5\npast 2 7 0 0 0\nmark 1 2 7 1 0 0 0\ndone 1 satisfied\nend objects 1 octets 5 handed 0 lost 0 satisfied 1 expired 0 cut 0\n".as_slice();
+    let Some(left) = sent(&rt, rt.alloc(), text, &[(1, ACK)])? else {
+        panic!(&rt; "it stopped");
+    };
+    assert!(&rt; left.output.bytes() == printed);
+    Ok(())
 }
 
 #[test]

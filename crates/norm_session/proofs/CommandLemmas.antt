@@ -81,6 +81,7 @@ pulls x k journal left producer place network written taken joined here =
           so_far = more x k new e w w Pulling (Giving line) network network written written s
               (record {
                 profile = refl;
+                alone = refl;
                 nodes = refl;
                 journal = joined;
                 stands = s.stands;

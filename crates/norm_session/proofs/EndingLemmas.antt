@@ -38,6 +38,7 @@ ended x k journal network unwritten written here done joined out =
       so_far = more x k new e w w Between Over network network unwritten written s
           (record {
             profile = refl;
+            alone = refl;
             nodes = refl;
             journal = joined;
             stands = s.stands;

@@ -95,6 +95,7 @@ hands x k v world node instance nodes up network unwritten written seen is out t
       so_far = more x k new e w next (Handing node nodes) (Handing node nodes) network network unwritten written s
           (record {
             profile = refl;
+            alone = refl;
             nodes = is.nodes;
             journal = refl;
             stands = subst (λ (q : Settings). StandsFor world (world_step q w (UpTaken node)).0) s.all.world (is.event.steps w s.stands).0;
@@ -184,6 +185,7 @@ receiver_ticks x k v world journal node nodes said out network written seen is_o
       so_far = more x k new e w step.0 (Handing node nodes) next network network written written s
           (record {
             profile = refl;
+            alone = refl;
             nodes = same;
             journal = joined;
             stands = stepped.0;

@@ -136,6 +136,7 @@ tick_accepted x k world journal said out network written joined same ticks here 
       so_far = more x k new e w step.0 Sending next network network written written s
           (record {
             profile = refl;
+            alone = refl;
             nodes = same;
             journal = joined;
             stands = stepped.0;
@@ -177,6 +178,7 @@ offers x k journal node octets after network written joined here =
       so_far = more x k new e w step.0 (Offering node octets after) after network (with_offer network node octets) written written s
           (record {
             profile = refl;
+            alone = refl;
             nodes = refl;
             journal = joined;
             stands = stands;

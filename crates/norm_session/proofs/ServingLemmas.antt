@@ -16,7 +16,7 @@ use Rattle.norm_journal.specs.Takes.{most_takes}
 use Rattle.norm_world.proofs.ReceiverEvents.{not_same}
 use Rattle.norm_session.specs.Causes.{Counted, HasCause, counts_after}
 use Rattle.norm_session.specs.Context.{Context}
-use Rattle.norm_session.specs.RunKept.{RunKept}
+use Rattle.norm_session.specs.RunKept.{RunKept, nodes_in}
 use Rattle.norm_session.specs.SoFar.{At, IsTelling, HasTaken, hands_next, takes_next, after_sent}
 use Rattle.norm_session.specs.declared.fault.SessionFault.{SessionFault}
 use Rattle.norm_session.specs.declared.fault.SessionFault.TheVariants as fault
@@ -50,17 +50,29 @@ one_profile : (x : Context) (old k : RunKept) (before now : Place) (n m : Networ
     → At x k now m written → old.p ≡ k.p
 one_profile x old k before now n m unwritten written there here = there.so_far.all.script ∙ sym here.so_far.all.script
 
+-- where the sender is alone, no receiver has a part
+pub none_served : (x : Context) (k : RunKept) (network : Network) (written : Pieces) → k.alone ≡ true → At x k (handing x.nodes) network written
+    → At x k Between network written
+none_served x k network written alone here =
+    subst (λ (place : Place). At x k place network written) (ap handing (here.so_far.all.receivers ∙ ap (λ b. nodes_in b k.p) alone)) here
+
+-- else a run has all receivers of its profile
+has_all_of_them : (x : Context) (k : RunKept) (p : Settings) (place : Place) (network : Network) (written : Pieces) → p ≡ k.p → k.alone ≡ false
+    → At x k place network written → x.nodes ≡ receivers_of p p.receivers
+has_all_of_them x k p place network written under present here =
+    here.so_far.all.receivers ∙ ap (λ b. nodes_in b k.p) present ∙ ap (λ (q : Settings). receivers_of q q.receivers) (sym under)
+
 -- the next receiver has its part
 pub record IsNext (x : Context) (k : RunKept) (node i : ℕ) (network : Network) (written : Pieces) : Type 0 where
   pub receiver : is_receiver k.p node ≡ true
   pub here : At x k (Handing node (drop (i + 1) x.nodes)) network written
 
 pub next_served : (x : Context) (old k : RunKept) (p : Settings) (i node : ℕ) (before : Place) (n m : Network) (unwritten written : Pieces) → p ≡ old.p
-    → i < p.receivers → node ≡ p.sender + 1 + i → At x old before n unwritten → At x k (handing (drop i x.nodes)) m written
+    → old.alone ≡ false → i < p.receivers → node ≡ p.sender + 1 + i → At x old before n unwritten → At x k (handing (drop i x.nodes)) m written
     → IsNext x k node i m written
-next_served x old k p i node before n m unwritten written under lt is there here =
+next_served x old k p i node before n m unwritten written under present lt is there here =
     let same : p ≡ k.p = under ∙ one_profile x old k before (handing (drop i x.nodes)) n m unwritten written there here in
-    let all : x.nodes ≡ receivers_of p p.receivers = here.so_far.all.receivers ∙ ap (λ (q : Settings). receivers_of q q.receivers) (sym same) in
+    let all = has_all_of_them x old p before n unwritten under present there in
     record {
       receiver = subst (λ (q : Settings). is_receiver q node ≡ true) same (is_among p i node lt is);
       here = subst (λ (place : Place). At x k place m written) (ap handing (next_part p x.nodes i node all lt is)) here;
@@ -68,10 +80,9 @@ next_served x old k p i node before n m unwritten written under lt is there here
 
 -- all receivers had theirs
 pub all_served : (x : Context) (old k : RunKept) (p : Settings) (i : ℕ) (before : Place) (n m : Network) (unwritten written : Pieces) → p ≡ old.p
-    → p.receivers ≤ i → At x old before n unwritten → At x k (handing (drop i x.nodes)) m written → At x k Between m written
-all_served x old k p i before n m unwritten written under past there here =
-    let same : p ≡ k.p = under ∙ one_profile x old k before (handing (drop i x.nodes)) n m unwritten written there here in
-    let all : x.nodes ≡ receivers_of p p.receivers = here.so_far.all.receivers ∙ ap (λ (q : Settings). receivers_of q q.receivers) (sym same) in
+    → old.alone ≡ false → p.receivers ≤ i → At x old before n unwritten → At x k (handing (drop i x.nodes)) m written → At x k Between m written
+all_served x old k p i before n m unwritten written under present past there here =
+    let all = has_all_of_them x old p before n unwritten under present there in
     let many = ap length all ∙ member_laws.count p p.receivers in
     subst (λ (place : Place). At x k place m written) (ap handing (drop_all i x.nodes (omega (arith, many, past)))) here
 

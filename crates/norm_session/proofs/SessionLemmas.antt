@@ -3,7 +3,7 @@ use Rattle.std.proofs.Common.{◌≡◌, ℕ, List, Bool, true, false, Some, ref
 use Rattle.std.specs.Prelude.{◌⊎◌}
 use Rattle.norm_base.specs.Network.{Network, Starts}
 use Rattle.norm_base.specs.Told.{Pieces}
-use Rattle.norm_base.specs.declared.kinds.Local.TheVariants.{All}
+use Rattle.norm_base.specs.declared.kinds.Local.TheVariants.{All, One}
 use Rattle.norm_script.specs.Commands.{Commands}
 use Rattle.norm_journal.specs.declared.event.Event.{Event}
 use Rattle.norm_journal.specs.Jobs.{Told}
@@ -15,8 +15,8 @@ use Rattle.norm_session.specs.Finishing.{HasEnded, Finishes}
 use Rattle.norm_session.specs.Moments.{HaveMoments}
 use Rattle.norm_session.specs.RunKept.{RunKept}
 use Rattle.norm_session.specs.SoFar.{Leads, At}
-use Rattle.norm_session.specs.Starting.{IsBegun}
-use Rattle.norm_session.specs.Session.{IsRunnable, OverHonest, IsSafe, RunsSession, StopsSession, context_of, end_of}
+use Rattle.norm_session.specs.Starting.{IsBegun, local_of}
+use Rattle.norm_session.specs.Session.{IsRunnable, OverHonest, IsSafe, RunsSession, RunsSender, RunsScript, StopsSession, StopsSender, StopsScript, context_of, end_of}
 use Rattle.norm_session.specs.Turning.{Span, span, StopsTurns}
 use Rattle.norm_session.specs.declared.fault.SessionFault.{SessionFault}
 use Rattle.norm_session.specs.declared.fault.SessionFault.TheVariants as fault
@@ -24,8 +24,8 @@ use Rattle.norm_session.proofs.SafeLemmas.{safe_over, safe_stopped}
 use Rattle.norm_session.specs.Stopping.{Stopped}
 
 -- a run begins where the network was started
-abbrev Begins : Commands → RunKept → Network → Type 0
-Begins script k started = (x : Context) → IsBegun x script started → At x k Between started x.written
+abbrev Begins : Bool → Commands → RunKept → Network → Type 0
+Begins alone script k started = (x : Context) → IsBegun x script alone started → At x k Between started x.written
 
 -- what leads somewhere is safe
 abbrev pub LeadsSafely : Context → Type 0
@@ -36,6 +36,17 @@ LeadsSafely x = (journal : List Event) (j : Judged) (network : Network) (written
 abbrev pub StopsSafely : Context → Type 0
 StopsSafely x = (failed : SessionFault) (network : Network) (written : Pieces) (s : Stopped x failed network written)
     → OverHonest x.network (IsSafe x.script x.files s.journal)
+
+-- what a session leads to is safe, and what a fault stops, where it began over a network that was just started
+pub leads_safely : (script : Commands) (files : Told) (before started : Network) (unwritten : Pieces) → IsRunnable script
+    → Starts before started script.profile All → (ms : List ℕ) → LeadsSafely (with_moments (context_of false script files started unwritten) ms)
+leads_safely script files before started unwritten is starts ms journal j network written l =
+    safe_over (with_moments (context_of false script files started unwritten) ms) journal j network written l refl is starts.offered
+
+pub stops_safely : (script : Commands) (files : Told) (before started : Network) (unwritten : Pieces) → IsRunnable script
+    → Starts before started script.profile All → (ms : List ℕ) → StopsSafely (with_moments (context_of false script files started unwritten) ms)
+stops_safely script files before started unwritten is starts ms failed network written s =
+    safe_stopped (with_moments (context_of false script files started unwritten) ms) failed network written s refl is starts.offered
 
 how_it_ended : (x : Context) (k : RunKept) (whole : Bool) (network : Network) (written : Pieces) (e : HasEnded x k whole network written)
     → ending_of (judged_of x k e.here.world Over) ≡ Some (end_of whole)
@@ -48,12 +59,12 @@ how_it_ended x k whole network written e = go whole (is_whole (judged_of x k e.h
     go false true is = absurd (cc)
 
 -- a session that ran to its end
-pub session_runs : (script : Commands) (files : Told) (started : Network) (begun k : RunKept) (whole : Bool) (o : Span)
-    → Starts o.before started script.profile All → Begins script begun started
+session_runs : (script : Commands) (files : Told) (started : Network) (begun k : RunKept) (whole : Bool) (o : Span)
+    → Starts o.before started script.profile All → Begins false script begun started
     → Finishes script files begun k whole (span started o.after o.unwritten o.written o.unasked o.asked)
-    → ((ms : List ℕ) → LeadsSafely (with_moments (context_of script files started o.unwritten) ms)) → RunsSession script files k.journal whole o
-session_runs script files started begun k whole o starts begins finishes safe =
-    let x = context_of script files started o.unwritten in
+    → IsRunnable script → RunsSession script files k.journal whole o
+session_runs script files started begun k whole o starts begins finishes is =
+    let x = context_of false script files started o.unwritten in
     let f = finishes.1 x (record { script = refl; files = refl }) refl (begins x (record { script = refl; nodes = refl; network = refl; moments = refl })) in
     let y = with_moments x finishes.0 in
     let e = f.1 in
@@ -65,16 +76,43 @@ session_runs script files started begun k whole o starts begins finishes safe =
       told = l.told;
       lines = l.lines;
       moments = subst (λ ms. HaveMoments script.profile.step 0 o.unasked o.asked ms) (sym l.moments) f.0;
-      safe = safe finishes.0 k.journal (judged_of y k e.here.world Over) o.after o.written l;
+      safe = leads_safely script files o.before started o.unwritten is starts finishes.0 k.journal (judged_of y k e.here.world Over) o.after o.written l;
     }
 
+-- the same of a sender alone
+sender_runs : (script : Commands) (files : Told) (started : Network) (begun k : RunKept) (whole : Bool) (o : Span)
+    → Starts o.before started script.profile (One script.profile.sender) → Begins true script begun started
+    → Finishes script files begun k whole (span started o.after o.unwritten o.written o.unasked o.asked) → RunsSender script files k.journal whole o
+sender_runs script files started begun k whole o starts begins finishes =
+    let x = context_of true script files started o.unwritten in
+    let f = finishes.1 x (record { script = refl; files = refl }) refl (begins x (record { script = refl; nodes = refl; network = refl; moments = refl })) in
+    let y = with_moments x finishes.0 in
+    let e = f.1 in
+    let l = e.here.so_far.leads in
+    record {
+      started = started;
+      starts = starts;
+      run = record { last = judged_of y k e.here.world Over; begun = l.judged; ended = how_it_ended y k whole o.after o.written e };
+      told = l.told;
+      lines = l.lines;
+      moments = subst (λ ms. HaveMoments script.profile.step 0 o.unasked o.asked ms) (sym l.moments) f.0;
+    }
+
+-- a run of a script that ran to its end
+pub script_runs : (alone : Bool) (script : Commands) (files : Told) (started : Network) (begun k : RunKept) (whole : Bool) (o : Span)
+    → Starts o.before started script.profile (local_of alone script.profile) → Begins alone script begun started
+    → Finishes script files begun k whole (span started o.after o.unwritten o.written o.unasked o.asked) → IsRunnable script
+    → RunsScript alone script files k.journal whole o
+script_runs true script files started begun k whole o starts begins finishes is = sender_runs script files started begun k whole o starts begins finishes
+script_runs false script files started begun k whole o starts begins finishes is = session_runs script files started begun k whole o starts begins finishes is
+
 -- a session that a fault broke off
-pub session_stops : (script : Commands) (files : Told) (started : Network) (begun : RunKept) (failed : SessionFault) (o : Span)
-    → Starts o.before started script.profile All → Begins script begun started
+session_stops : (script : Commands) (files : Told) (started : Network) (begun : RunKept) (failed : SessionFault) (o : Span)
+    → Starts o.before started script.profile All → Begins false script begun started
     → StopsTurns script files begun failed (span started o.after o.unwritten o.written o.unasked o.asked)
-    → ((ms : List ℕ) → StopsSafely (with_moments (context_of script files started o.unwritten) ms)) → StopsSession failed script files o
-session_stops script files started begun failed o starts begins stops safe =
-    let x = context_of script files started o.unwritten in
+    → IsRunnable script → StopsSession failed script files o
+session_stops script files started begun failed o starts begins stops is =
+    let x = context_of false script files started o.unwritten in
     let f = stops.1 x (record { script = refl; files = refl }) refl (begins x (record { script = refl; nodes = refl; network = refl; moments = refl })) in
     inr (record {
       started = started;
@@ -82,21 +120,28 @@ session_stops script files started begun failed o starts begins stops safe =
       moments = stops.0;
       by_clock = f.0;
       stopped = f.1;
-      safe = safe stops.0 failed o.after o.written f.1;
+      safe = stops_safely script files o.before started o.unwritten is starts stops.0 failed o.after o.written f.1;
     })
 
--- a session that did not begin
-pub not_begun : (script : Commands) (files : Told) (failed : SessionFault) (o : Span) → (failed ≡ fault.Memory) ⊎ (failed ≡ fault.Fabric) → o.after ≡ o.before
-    → o.written ≡ o.unwritten → o.asked ≡ o.unasked → StopsSession failed script files o
-not_begun script files failed o why network output clock = inl (record { why = why; network = network; output = output; clock = clock })
+-- the same of a sender alone
+sender_stops : (script : Commands) (files : Told) (started : Network) (begun : RunKept) (failed : SessionFault) (o : Span)
+    → Starts o.before started script.profile (One script.profile.sender) → Begins true script begun started
+    → StopsTurns script files begun failed (span started o.after o.unwritten o.written o.unasked o.asked) → StopsSender failed script files o
+sender_stops script files started begun failed o starts begins stops =
+    let x = context_of true script files started o.unwritten in
+    let f = stops.1 x (record { script = refl; files = refl }) refl (begins x (record { script = refl; nodes = refl; network = refl; moments = refl })) in
+    inr (record { started = started; starts = starts; moments = stops.0; by_clock = f.0; stopped = f.1 })
 
--- what a session leads to is safe, and what a fault stops, where it began over a network that was just started
-pub leads_safely : (script : Commands) (files : Told) (before started : Network) (unwritten : Pieces) → IsRunnable script
-    → Starts before started script.profile All → (ms : List ℕ) → LeadsSafely (with_moments (context_of script files started unwritten) ms)
-leads_safely script files before started unwritten is starts ms journal j network written l =
-    safe_over (with_moments (context_of script files started unwritten) ms) journal j network written l refl is starts.offered
+-- a run of a script that a fault broke off
+pub script_stops : (alone : Bool) (script : Commands) (files : Told) (started : Network) (begun : RunKept) (failed : SessionFault) (o : Span)
+    → Starts o.before started script.profile (local_of alone script.profile) → Begins alone script begun started
+    → StopsTurns script files begun failed (span started o.after o.unwritten o.written o.unasked o.asked) → IsRunnable script
+    → StopsScript alone failed script files o
+script_stops true script files started begun failed o starts begins stops is = sender_stops script files started begun failed o starts begins stops
+script_stops false script files started begun failed o starts begins stops is = session_stops script files started begun failed o starts begins stops is
 
-pub stops_safely : (script : Commands) (files : Told) (before started : Network) (unwritten : Pieces) → IsRunnable script
-    → Starts before started script.profile All → (ms : List ℕ) → StopsSafely (with_moments (context_of script files started unwritten) ms)
-stops_safely script files before started unwritten is starts ms failed network written s =
-    safe_stopped (with_moments (context_of script files started unwritten) ms) failed network written s refl is starts.offered
+-- a run of a script that did not begin
+pub not_begun : (alone : Bool) (script : Commands) (files : Told) (failed : SessionFault) (o : Span) → (failed ≡ fault.Memory) ⊎ (failed ≡ fault.Fabric)
+    → o.after ≡ o.before → o.written ≡ o.unwritten → o.asked ≡ o.unasked → StopsScript alone failed script files o
+not_begun true script files failed o why network output clock = inl (record { why = why; network = network; output = output; clock = clock })
+not_begun false script files failed o why network output clock = inl (record { why = why; network = network; output = output; clock = clock })

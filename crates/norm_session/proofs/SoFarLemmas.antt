@@ -5,7 +5,6 @@ use Rattle.std.specs.List.{AllByRecursion}
 use Rattle.std.specs.Option.{option_to_list}
 use Rattle.std.proofs.lemmas.List.{append-nil}
 use Rattle.std.proofs.lemmas.List.Concat.{flat_map-append}
-use Rattle.norm_base.specs.Members.{receivers_of}
 use Rattle.norm_base.specs.Network.{Network}
 use Rattle.norm_base.specs.Settings.{Settings}
 use Rattle.norm_base.specs.Told.{Pieces, gained, GainsFront}
@@ -20,7 +19,7 @@ use Rattle.norm_journal.proofs.FrontLemmas.{judged_from-append, fronts_printed}
 use Rattle.norm_safety.specs.World.{World}
 use Rattle.norm_world.specs.WorldKept.{StandsFor}
 use Rattle.norm_session.specs.Context.{Context, with_moments, opening, judged_of}
-use Rattle.norm_session.specs.RunKept.{RunKept}
+use Rattle.norm_session.specs.RunKept.{RunKept, nodes_in}
 use Rattle.norm_session.specs.SoFar.{Leads, SoFar, IsOffered, AreOffered}
 use Rattle.norm_session.specs.Stopping.{IsUnwritten, Stopped}
 use Rattle.norm_session.specs.declared.fault.SessionFault.{SessionFault}
@@ -117,6 +116,7 @@ leads_on x journal e j next before now unwritten written s accepted net out offe
 -- A run moves by an event: it joins the journal, the judge accepts it with the new state, and the world stands for the nodes.
 pub record Moves (x : Context) (k new : RunKept) (e : Event) (w v : World) (place next : Place) : Type 0 where
   pub profile : new.p ≡ k.p
+  pub alone : new.alone ≡ k.alone
   pub nodes : new.world.p ≡ k.world.p
   pub journal : new.journal ≡ k.journal ++ e ∷ []
   pub stands : StandsFor new.world v
@@ -131,7 +131,7 @@ more x k new e w v place next before now unwritten written s m net out offered n
   all = record {
     script = m.profile ∙ s.all.script;
     world = m.nodes ∙ s.all.world ∙ sym m.profile;
-    receivers = s.all.receivers ∙ ap (λ (p : Settings). receivers_of p p.receivers) (sym m.profile);
+    receivers = s.all.receivers ∙ ap (nodes_in k.alone) (sym m.profile) ∙ ap (λ b. nodes_in b new.p) (sym m.alone);
     objects = s.all.objects;
   };
   stands = m.stands;

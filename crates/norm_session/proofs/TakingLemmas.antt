@@ -31,7 +31,7 @@ use Rattle.norm_world.specs.WorldMoves.{IsEvent}
 use Rattle.norm_world.proofs.ReceiverEvents.{no_sender, is_sender}
 use Rattle.norm_session.specs.Causes.{session_fault}
 use Rattle.norm_session.specs.Context.{Context, judged_of}
-use Rattle.norm_session.specs.RunKept.{RunKept}
+use Rattle.norm_session.specs.RunKept.{RunKept, nodes_in}
 use Rattle.norm_session.specs.SoFar.{Leads, HasAll, IsTelling, At, HasTaken, hands_next, takes_next}
 use Rattle.norm_session.specs.Stopping.{Stopped}
 use Rattle.norm_session.specs.Taking.{IsDelivered, Delivers, GoesOn, StopsAfter}
@@ -41,9 +41,23 @@ use Rattle.norm_session.proofs.SoFarLemmas.{more, leads_on, answer_told, gained-
 
 -- ---- a delivery
 
--- the receivers of a run are those of its profile
-are_receivers : (x : Context) (k : RunKept) (node : ℕ) → HasAll x k → list_any (λ other. other == node) x.nodes ≡ is_receiver_of k.p node
-are_receivers x k node all = ap (list_any (λ other. other == node)) all.receivers ∙ member_laws.receivers k.p node
+-- a node that is no receiver of the profile is none of the run's
+none_of_them : (x : Context) (k : RunKept) (node : ℕ) → HasAll x k → is_receiver_of k.p node ≡ false → list_any (λ other. other == node) x.nodes ≡ false
+none_of_them x k node all outside = ap (list_any (λ other. other == node)) all.receivers ∙ go k.alone
+  where
+    go : (alone : Bool) → list_any (λ other. other == node) (nodes_in alone k.p) ≡ false
+    go true = refl
+    go false = member_laws.receivers k.p node ∙ outside
+
+-- where the sender is alone, no node is
+none_alone : (x : Context) (k : RunKept) (node : ℕ) → HasAll x k → k.alone ≡ true → list_any (λ other. other == node) x.nodes ≡ false
+none_alone x k node all alone = ap (list_any (λ other. other == node)) (all.receivers ∙ ap (λ b. nodes_in b k.p) alone)
+
+-- and else each receiver of the profile is one
+one_of_them : (x : Context) (k : RunKept) (node : ℕ) → HasAll x k → k.alone ≡ false → is_receiver_of k.p node ≡ true
+    → list_any (λ other. other == node) x.nodes ≡ true
+one_of_them x k node all present among =
+    ap (list_any (λ other. other == node)) (all.receivers ∙ ap (λ b. nodes_in b k.p) present) ∙ member_laws.receivers k.p node ∙ among
 
 -- what is delivered, by the two tests
 abbrev by_node : Bool → Bool → Judged → Judged → Judged → Judged
@@ -56,21 +70,22 @@ at_sender node octets j = world_after (Delivered node octets j.now 0) j
 abbrev at_receiver : ℕ → List ℕ → Judged → Judged
 at_receiver node octets j = record (world_after (Delivered node octets j.now (next_draw j.draws)) j) { draws = draws_after j.draws }
 
-delivered_by : (x : Context) (k : RunKept) (w : World) (place : Place) (node : ℕ) (octets : List ℕ) (own other : Bool) → HasAll x k
-    → (node == k.p.sender) ≡ own → is_receiver_of k.p node ≡ other
+delivered_by : (x : Context) (k : RunKept) (w : World) (place : Place) (node : ℕ) (octets : List ℕ) (own other : Bool)
+    → (node == k.p.sender) ≡ own → list_any (λ n. n == node) x.nodes ≡ other
     → delivered node octets (judged_of x k w place)
     ≡ by_node own other (at_sender node octets (judged_of x k w place)) (at_receiver node octets (judged_of x k w place)) (judged_of x k w place)
-delivered_by x k w place node octets own other all is_own is_other =
+delivered_by x k w place node octets own other is_own is_other =
     let j = judged_of x k w place in
     ap (λ b. by_node b (list_any (λ n. n == node) x.nodes) (at_sender node octets j) (at_receiver node octets j) j) is_own
-    ∙ ap (λ b. by_node own b (at_sender node octets j) (at_receiver node octets j) j) (are_receivers x k node all ∙ is_other)
+    ∙ ap (λ b. by_node own b (at_sender node octets j) (at_receiver node octets j) j) is_other
 
 -- a delivery, by the state that it leads to
 is_delivered : (x : Context) (k new : RunKept) (w : World) (place : Place) (node : ℕ) (octets : List ℕ) (next : Judged)
-    → delivered node octets (judged_of x k w place) ≡ next → new.p ≡ k.p → new.world.p ≡ k.world.p → new.journal ≡ k.journal
+    → delivered node octets (judged_of x k w place) ≡ next → new.p ≡ k.p → new.alone ≡ k.alone → new.world.p ≡ k.world.p → new.journal ≡ k.journal
     → StandsFor new.world next.world → judged_of x new next.world place ≡ next → IsDelivered x k new w place node octets
-is_delivered x k new w place node octets next is profile nodes journal stands state = record {
+is_delivered x k new w place node octets next is profile alone nodes journal stands state = record {
   profile = profile;
+  alone = alone;
   nodes = nodes;
   journal = journal;
   stands = subst (λ (j : Judged). StandsFor new.world j.world) (sym is) stands;
@@ -88,7 +103,15 @@ drawn k world draws = record k { world = world; draws = draws }
 pub to_nobody : (k : RunKept) (node : ℕ) (octets : List ℕ) → is_node k.world.p node ≡ false → Delivers k k node octets
 to_nobody k node octets nobody x w place all stands =
     let no = neither (node == k.p.sender) (is_receiver_of k.p node) (ap (λ (q : Settings). is_node q node) (sym all.world) ∙ nobody) in
-    is_delivered x k k w place node octets (judged_of x k w place) (delivered_by x k w place node octets false false all no.0 no.1) refl refl refl stands refl
+    is_delivered x k k w place node octets (judged_of x k w place) (delivered_by x k w place node octets false false no.0 (none_of_them x k node all no.1))
+    refl refl refl refl stands refl
+
+-- a datagram for a receiver that is elsewhere comes to nobody
+pub to_absent : (k : RunKept) (node : ℕ) (octets : List ℕ) → is_receiver_of k.world.p node ≡ true → k.alone ≡ true → Delivers k k node octets
+to_absent k node octets receiver alone x w place all stands =
+    let yes : is_receiver_of k.p node ≡ true = ap (λ (q : Settings). is_receiver_of q node) (sym all.world) ∙ receiver in
+    is_delivered x k k w place node octets (judged_of x k w place)
+    (delivered_by x k w place node octets false false (no_sender k.p node yes) (none_alone x k node all alone)) refl refl refl refl stands refl
 
 pub to_sender : (k : RunKept) (world : WorldKept) (node : ℕ) (octets : List ℕ) → is_node k.world.p node ≡ true → is_receiver_of k.world.p node ≡ false
     → world.p ≡ k.world.p → IsEvent k.world world (Delivered node octets k.now 0) (λ answer. answer ≡ Silent) → Delivers k (drawn k world k.draws) node octets
@@ -97,19 +120,20 @@ to_sender k world node octets member other same comes x w place all stands =
     ap (λ (q : Settings). node == q.sender) (sym all.world) ∙ (Decides-eqb node k.world.p.sender).1 (is_sender k.world.p node member other) in
     let no : is_receiver_of k.p node ≡ false = ap (λ (q : Settings). is_receiver_of q node) (sym all.world) ∙ other in
     let j = judged_of x k w place in
-    is_delivered x k (drawn k world k.draws) w place node octets (at_sender node octets j) (delivered_by x k w place node octets true false all own no) refl same refl
+    is_delivered x k (drawn k world k.draws) w place node octets (at_sender node octets j) (delivered_by x k w place node octets true false own (none_of_them x k node all no))
+    refl refl same refl
     (subst (λ (q : Settings). StandsFor world (world_step q w (Delivered node octets k.now 0)).0) all.world (comes.steps w stands).0) refl
 
 pub to_receiver : (k : RunKept) (world : WorldKept) (draws : Lcg) (draw node : ℕ) (octets : List ℕ) → is_receiver_of k.world.p node ≡ true
-    → draw ≡ next_draw k.draws → draws ≡ draws_after k.draws → world.p ≡ k.world.p
+    → k.alone ≡ false → draw ≡ next_draw k.draws → draws ≡ draws_after k.draws → world.p ≡ k.world.p
     → IsEvent k.world world (Delivered node octets k.now draw) (λ answer. answer ≡ Silent) → Delivers k (drawn k world draws) node octets
-to_receiver k world draws draw node octets receiver word rest same comes x w place all stands =
+to_receiver k world draws draw node octets receiver present word rest same comes x w place all stands =
     let yes : is_receiver_of k.p node ≡ true = ap (λ (q : Settings). is_receiver_of q node) (sym all.world) ∙ receiver in
     let j = judged_of x k w place in
     let stepped : StandsFor world (world_step k.p w (Delivered node octets k.now draw)).0 =
     subst (λ (q : Settings). StandsFor world (world_step q w (Delivered node octets k.now draw)).0) all.world (comes.steps w stands).0 in
     is_delivered x k (drawn k world draws) w place node octets (at_receiver node octets j)
-    (delivered_by x k w place node octets false true all (no_sender k.p node yes) yes) refl same refl
+    (delivered_by x k w place node octets false true (no_sender k.p node yes) (one_of_them x k node all present yes)) refl refl same refl
     (subst (λ d. StandsFor world (world_step k.p w (Delivered node octets k.now d)).0) word stepped)
     (ap (λ (d : Lcg). record (world_after (Delivered node octets k.now (next_draw k.draws)) j) { draws = d }) rest)
 
@@ -153,6 +177,7 @@ takes x k new journal count node octets before now written delivers joined told 
       so_far = more x k (noted new journal) e w (delivered node octets j).world (Taking count) (takes_next x count) before now written written s
           (record {
             profile = did.profile;
+            alone = did.alone;
             nodes = did.nodes;
             journal = joined ∙ ap (λ js. js ++ e ∷ []) did.journal;
             stands = did.stands;
@@ -192,6 +217,7 @@ finds_none x k v journal count before now written is joined told there =
       so_far = more x k (noted k journal) e w w (Taking count) (hands_next x) before now written written s
           (record {
             profile = refl;
+            alone = refl;
             nodes = refl;
             journal = joined;
             stands = s.stands;

@@ -208,6 +208,7 @@ tells x k v world n place network unwritten written instance left many seen same
       so_far = more x k (having_told k world n) e w (world_step k.p w NewsAsked).0 place place network network unwritten written s
           (record {
             profile = refl;
+            alone = refl;
             nodes = same;
             journal = refl;
             stands = is.stands;

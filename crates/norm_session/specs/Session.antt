@@ -1,10 +1,10 @@
--- A whole session: what it did, and what a fault leaves of it.
+-- A whole session, or the run of its sender alone: what it did, and what a fault leaves of it.
 use Rattle.std.specs.Prelude.{◌≡◌, ◌⊎◌, ℕ, List, [], Bool, true, false, IfSome, IsTrue}
 use Rattle.std.specs.List.{AllByRecursion}
 use Rattle.norm_base.specs.Members.{receivers_of}
 use Rattle.norm_base.specs.Network.{Network, Starts}
 use Rattle.norm_base.specs.Told.{Pieces, gained}
-use Rattle.norm_base.specs.declared.kinds.Local.TheVariants.{All}
+use Rattle.norm_base.specs.declared.kinds.Local.TheVariants.{All, One}
 use Rattle.norm_script.specs.Commands.{Commands}
 use Rattle.norm_script.specs.Scripts.{IsScript}
 use Rattle.norm_journal.specs.declared.event.Event.{Event}
@@ -12,7 +12,7 @@ use Rattle.norm_journal.specs.Jobs.{Told, IsOfObjects}
 use Rattle.norm_journal.specs.Judged.{Judged, judged_opening}
 use Rattle.norm_journal.specs.Printed.{lines_from}
 use Rattle.norm_journal.specs.Projections.{moments_in, network_after}
-use Rattle.norm_journal.specs.SessionRun.{SessionRun, Ending, Whole, Spent}
+use Rattle.norm_journal.specs.SessionRun.{SessionRun, SenderRun, Ending, Whole, Spent}
 use Rattle.norm_journal.specs.WorldEvents.{world_events}
 use Rattle.norm_safety.specs.Acknowledges.{OwesWhatItHanded}
 use Rattle.norm_safety.specs.AcknowledgesHanded.{AcknowledgesHanded}
@@ -26,6 +26,7 @@ use Rattle.norm_safety.specs.LosesNothing.{LosesNothing}
 use Rattle.norm_safety.specs.Safe.{Safe}
 use Rattle.norm_session.specs.Context.{Context, with_moments}
 use Rattle.norm_session.specs.Moments.{HaveMoments}
+use Rattle.norm_session.specs.RunKept.{nodes_in}
 use Rattle.norm_session.specs.Stopping.{Stopped}
 use Rattle.norm_session.specs.Turning.{Span}
 use Rattle.norm_session.specs.declared.fault.SessionFault.{SessionFault}
@@ -92,6 +93,21 @@ pub record RunsSession (script : Commands) (files : Told) (journal : List Event)
   pub moments : HaveMoments script.profile.step 0 o.unasked o.asked (moments_in journal)
   pub safe : OverHonest started (IsSafe script files journal)
 
+-- A sender was run alone to its end, its receivers elsewhere: as a session, but that the network was started for its node alone, and
+-- that the run has no receivers. What comes to it was offered elsewhere, so that nothing is said of the nodes' world.
+pub record RunsSender (script : Commands) (files : Told) (journal : List Event) (whole : Bool) (o : Span) : Type 0 where
+  pub started : Network
+  pub starts : Starts o.before started script.profile (One script.profile.sender)
+  pub run : SenderRun script files journal (end_of whole)
+  pub told : o.after ≡ network_after started journal
+  pub lines : o.written ≡ gained o.unwritten (lines_from (judged_opening script files []) journal)
+  pub moments : HaveMoments script.profile.step 0 o.unasked o.asked (moments_in journal)
+
+-- a run of a script, with its sender alone or with all members
+abbrev pub RunsScript : Bool → Commands → Told → List Event → Bool → Span → Type 0
+RunsScript true = RunsSender
+RunsScript false = RunsSession
+
 -- Nothing was done: there was no memory, or the network was not started.
 pub record NotBegun (failed : SessionFault) (o : Span) : Type 0 where
   pub why : (failed ≡ fault.Memory) ⊎ (failed ≡ fault.Fabric)
@@ -99,12 +115,12 @@ pub record NotBegun (failed : SessionFault) (o : Span) : Type 0 where
   pub output : o.written ≡ o.unwritten
   pub clock : o.asked ≡ o.unasked
 
--- what a session of a script is over
-abbrev pub context_of : Commands → Told → Network → Pieces → Context
-context_of script files started unwritten = record {
+-- what a run of a script is over, with its sender alone or with all members
+abbrev pub context_of : Bool → Commands → Told → Network → Pieces → Context
+context_of alone script files started unwritten = record {
   script = script;
   files = files;
-  nodes = nodes_of script;
+  nodes = nodes_in alone script.profile;
   network = started;
   written = unwritten;
   moments = [];
@@ -117,9 +133,26 @@ pub record BreaksOff (failed : SessionFault) (script : Commands) (files : Told) 
   pub starts : Starts o.before started script.profile All
   pub moments : List ℕ
   pub by_clock : HaveMoments script.profile.step 0 o.unasked o.asked moments
-  pub stopped : Stopped (with_moments (context_of script files started o.unwritten) moments) failed o.after o.written
+  pub stopped : Stopped (with_moments (context_of false script files started o.unwritten) moments) failed o.after o.written
   pub safe : OverHonest started (IsSafe script files stopped.journal)
 
 -- what a fault leaves of a session
 abbrev pub StopsSession : SessionFault → Commands → Told → Span → Type 0
 StopsSession failed script files o = NotBegun failed o ⊎ BreaksOff failed script files o
+
+-- A fault broke off the run of a sender alone: the same, but that nothing is said of the nodes' world.
+pub record BreaksOffSender (failed : SessionFault) (script : Commands) (files : Told) (o : Span) : Type 0 where
+  pub started : Network
+  pub starts : Starts o.before started script.profile (One script.profile.sender)
+  pub moments : List ℕ
+  pub by_clock : HaveMoments script.profile.step 0 o.unasked o.asked moments
+  pub stopped : Stopped (with_moments (context_of true script files started o.unwritten) moments) failed o.after o.written
+
+-- what a fault leaves of the run of a sender alone
+abbrev pub StopsSender : SessionFault → Commands → Told → Span → Type 0
+StopsSender failed script files o = NotBegun failed o ⊎ BreaksOffSender failed script files o
+
+-- what a fault leaves of a run of a script
+abbrev pub StopsScript : Bool → SessionFault → Commands → Told → Span → Type 0
+StopsScript true = StopsSender
+StopsScript false = StopsSession

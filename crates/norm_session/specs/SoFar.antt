@@ -2,7 +2,6 @@
 -- what it says.
 use Rattle.std.specs.Prelude.{◌≡◌, ℕ, ◌+◌, ◌==◌, Bool, true, false, List, [], ◌∷◌, ◌++◌, None, Some, IsTrue, ⊤}
 use Rattle.std.specs.List.{AllByRecursion}
-use Rattle.norm_base.specs.Members.{receivers_of}
 use Rattle.norm_base.specs.Network.{Network, WasOffered}
 use Rattle.norm_base.specs.Told.{Pieces, gained}
 use Rattle.norm_base.specs.declared.kinds.Sent.{Sent}
@@ -20,7 +19,7 @@ use Rattle.norm_journal.specs.Projections.{offers_in, moments_in, network_after}
 use Rattle.norm_safety.specs.World.{World}
 use Rattle.norm_world.specs.WorldKept.{StandsFor}
 use Rattle.norm_session.specs.Context.{Context, opening, judged_of}
-use Rattle.norm_session.specs.RunKept.{RunKept}
+use Rattle.norm_session.specs.RunKept.{RunKept, nodes_in}
 
 -- an event's take, if it is one, gives what another member had offered before
 abbrev pub IsOffered : List Event → Event → Type 0
@@ -42,11 +41,11 @@ pub record Leads (x : Context) (journal : List Event) (j : Judged) (network : Ne
   pub moments : moments_in journal ≡ x.moments
   pub octets : AllByRecursion HasOctets journal
 
--- A run has all receivers of its profile, its nodes and its script are under that, and no line of the script is of a stream.
+-- A run has all receivers of its profile, or its sender is alone; its nodes and its script are under that, and no line of the script is of a stream.
 pub record HasAll (x : Context) (k : RunKept) : Type 0 where
   pub script : k.p ≡ x.script.profile
   pub world : k.world.p ≡ k.p
-  pub receivers : x.nodes ≡ receivers_of k.p k.p.receivers
+  pub receivers : x.nodes ≡ nodes_in k.alone k.p
   pub objects : AllByRecursion IsOfObjects x.script.lines
 
 -- A run with these nodes of the rules, at a place: its world stands for them, and its journal leads there.

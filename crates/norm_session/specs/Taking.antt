@@ -15,6 +15,7 @@ use Rattle.norm_session.specs.declared.fault.SessionFault.{SessionFault}
 -- The run is the one that the judge's delivery leads to; its journal is as it was.
 pub record IsDelivered (x : Context) (k new : RunKept) (w : World) (place : Place) (node : ℕ) (octets : List ℕ) : Type 0 where
   pub profile : new.p ≡ k.p
+  pub alone : new.alone ≡ k.alone
   pub nodes : new.world.p ≡ k.world.p
   pub journal : new.journal ≡ k.journal
   pub stands : StandsFor new.world (delivered node octets (judged_of x k w place)).world

@@ -21,7 +21,7 @@ mod turning;
 pub use crate::arrivals::{Arrivals, Arrived};
 pub use crate::fault::SessionFault;
 pub use crate::run::Run;
-pub use crate::session::{Ended, run_session};
+pub use crate::session::{Ended, run_send, run_session};
 /// What the run of one node goes by too: the draws of deliveries, and the moments of turns.
 pub use crate::starting::first_draws;
 pub use crate::taking::next_draw;

@@ -17,6 +17,8 @@ use std::marker::Model;
 pub struct Run {
     pub(crate) alloc: Global,
     pub(crate) profile: Profile,
+    /// Whether the sender is alone, and the receivers are elsewhere.
+    pub(crate) alone: bool,
     pub(crate) world: World,
     pub(crate) journal: Journal,
     /// The line that is printed, in memory that is kept from one to the next.
@@ -38,6 +40,7 @@ impl Model for Run {
 
     ghost view = { λ r. record {
       p = r.profile;
+      alone = r.alone;
       world = r.world;
       journal = r.journal;
       totals = r.totals;

@@ -45,7 +45,7 @@ impl Run {
         }
     }
 
-    /// The parts of a turn of all receivers, in order of their ids.
+    /// The parts of a turn of all receivers, in order of their ids. There are none where the sender is alone.
     ///
     /// # Errors
     ///
@@ -63,6 +63,9 @@ impl Run {
         ensures cause { (files : ℕ) → HasCause result (counted (K.fault_count output.old) (F.fault_count fabric.old) files)
             (counted (K.fault_count output.new) (F.fault_count fabric.new) files) }
     {
+        if self.alone {
+            return Ok(());
+        }
         let profile = self.profile;
         for i in 0..u32::from(profile.receivers) {
             self.serve(fabric, output, profile.receiver(i), datagram)?;

@@ -3,7 +3,7 @@
 ghost use Rattle.std.specs.Prelude.{◌≡◌, IfOk, IfErr};
 ghost use Rattle.norm_session.specs.Causes.{HasCause, counted};
 ghost use Rattle.norm_session.specs.Finishing.{Finishes};
-ghost use Rattle.norm_session.specs.Session.{IsRunnable, RunsSession, StopsSession};
+ghost use Rattle.norm_session.specs.Session.{IsRunnable, RunsSession, RunsSender, RunsScript, StopsSession, StopsSender, StopsScript};
 ghost use Rattle.norm_session.specs.Turning.{StopsTurns, span};
 
 use crate::arrivals::{Arrivals, InOrder};
@@ -16,7 +16,7 @@ use std::alloc::Global;
 use std::sync::Wait;
 use std::thread::Threads;
 
-/// How a session ended: its journal, and whether all was done. If not, the turns were spent.
+/// How a run of a script ended: its journal, and whether all was done. If not, the turns were spent.
 #[derive(Drop)]
 pub struct Ended {
     pub journal: Journal,
@@ -56,6 +56,7 @@ pub fn run_session<R: Threads + Wait + Sync, K: Sink, F: Fabric, D: Files, C: Cl
         rt,
         alloc,
         script,
+        false,
         &mut arrivals,
         output,
         fabric,
@@ -64,11 +65,55 @@ pub fn run_session<R: Threads + Wait + Sync, K: Sink, F: Fabric, D: Files, C: Cl
     )
 }
 
-/// The session, over what its producers hand over.
+/// Runs the sender of a script's session alone, its receivers elsewhere: the network is started for its node. Turn by turn it offers what
+/// the sender sends and takes what comes to it, up to the same end as [`run_session`]. A datagram that comes to any other node is passed
+/// over, and the summary counts no hand-up. Each line is one write of the output, the summary is the last.
+///
+/// # Errors
+///
+/// `Write`, `Fabric` or `Files` where a call of the output, the network or the files failed; `Absent` where a command's file is not
+/// there; or `Memory`.
+pub fn run_send<R: Threads + Wait + Sync, K: Sink, F: Fabric, D: Files, C: Clock>(
+    rt: &R,
+    alloc: Global,
+    script: &Script,
+    output: &mut K,
+    fabric: &mut F,
+    files: &mut D,
+    clock: &mut C,
+) -> Result<Ended, SessionFault>
+    requires { IsRunnable script.now }
+    ensures run { IfOk result (λ ended. RunsSender script.now (D.contents files.old) ended.journal ended.whole
+        (span (F.told fabric.old) (F.told fabric.new) (K.pieces output.old) (K.pieces output.new) (C.moments clock.old) (C.moments clock.new))) }
+    ensures stops { IfErr result (λ fault. StopsSender fault script.now (D.contents files.old)
+        (span (F.told fabric.old) (F.told fabric.new) (K.pieces output.old) (K.pieces output.new) (C.moments clock.old) (C.moments clock.new))) }
+    ensures files { D.contents files.new ≡ D.contents files.old }
+    ensures cause { HasCause result (counted (K.fault_count output.old) (F.fault_count fabric.old) (D.fault_count files.old))
+        (counted (K.fault_count output.new) (F.fault_count fabric.new) (D.fault_count files.new)) }
+{
+    let mut arrivals = InOrder {
+        lines: &script.lines,
+        next: 0,
+    };
+    run_script(
+        rt,
+        alloc,
+        script,
+        true,
+        &mut arrivals,
+        output,
+        fabric,
+        files,
+        clock,
+    )
+}
+
+/// A script's run, with its sender alone or with all members, over what its producers hand over.
 fn run_script<R: Wait, A: Arrivals, K: Sink, F: Fabric, D: Files, C: Clock>(
     rt: &R,
     alloc: Global,
     script: &Script,
+    alone: bool,
     arrivals: &mut A,
     output: &mut K,
     fabric: &mut F,
@@ -76,16 +121,16 @@ fn run_script<R: Wait, A: Arrivals, K: Sink, F: Fabric, D: Files, C: Clock>(
     clock: &mut C,
 ) -> Result<Ended, SessionFault>
     requires { IsRunnable script.now }
-    ensures run { IfOk result (λ ended. RunsSession script.now (D.contents files.old) ended.journal ended.whole
+    ensures run { IfOk result (λ ended. RunsScript alone script.now (D.contents files.old) ended.journal ended.whole
         (span (F.told fabric.old) (F.told fabric.new) (K.pieces output.old) (K.pieces output.new) (C.moments clock.old) (C.moments clock.new))) }
-    ensures stops { IfErr result (λ fault. StopsSession fault script.now (D.contents files.old)
+    ensures stops { IfErr result (λ fault. StopsScript alone fault script.now (D.contents files.old)
         (span (F.told fabric.old) (F.told fabric.new) (K.pieces output.old) (K.pieces output.new) (C.moments clock.old) (C.moments clock.new))) }
     ensures files { D.contents files.new ≡ D.contents files.old }
     ensures cause { HasCause result (counted (K.fault_count output.old) (F.fault_count fabric.old) (D.fault_count files.old))
         (counted (K.fault_count output.new) (F.fault_count fabric.new) (D.fault_count files.new)) }
 {
     let mut datagram = Datagram::new(alloc)?;
-    let mut run = Run::start(alloc, script, fabric)?;
+    let mut run = Run::start(alloc, script, alone, fabric)?;
     let whole = run.finish(
         rt,
         script,

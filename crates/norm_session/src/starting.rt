@@ -9,11 +9,11 @@ ghost use Rattle.norm_journal.specs.Places.{Between};
 ghost use Rattle.norm_session.specs.Causes.{NetworkCause};
 ghost use Rattle.norm_session.specs.Context.{Context};
 ghost use Rattle.norm_session.specs.SoFar.{At};
-ghost use Rattle.norm_session.specs.Starting.{IsBegun};
+ghost use Rattle.norm_session.specs.Starting.{IsBegun, local_of};
 
 use crate::fault::SessionFault;
 use crate::left::Left;
-use crate::run::Run;
+use crate::run::{Run, sender_node};
 use norm_base::{Fabric, Local, Memory, Moment, Profile};
 use norm_journal::Totals;
 use norm_record::Journal;
@@ -32,11 +32,22 @@ pub fn first_draws(profile: &Profile) -> Lcg64Xsh32
     Lcg64Xsh32::seed_from_u64(u64::from(profile.chance) + 1)
 }
 
+/// What the network is started for.
+fn local_of(profile: &Profile, alone: bool) -> Local
+    ensures { result ≡ local_of alone profile.now }
+{
+    if alone {
+        Local::One(sender_node(profile))
+    } else {
+        Local::All
+    }
+}
+
 impl Run {
     /// A run of the script as it begins, once the network is started.
-    fn begun(alloc: Global, script: &Script) -> Result<Run, Memory>
+    fn begun(alloc: Global, script: &Script, alone: bool) -> Result<Run, Memory>
         requires { AllByRecursion IsOfObjects script.now.lines }
-        ensures { IfOk result (λ run. (x : Context) (network : Network) → IsBegun x script.now network → At x run Between network x.written) }
+        ensures { IfOk result (λ run. (x : Context) (network : Network) → IsBegun x script.now alone network → At x run Between network x.written) }
     {
         let profile = script.profile;
         let world = World::new(alloc, &profile)?;
@@ -47,6 +58,7 @@ impl Run {
         Ok(Run {
             alloc,
             profile,
+            alone,
             world,
             journal,
             line: Line::new(alloc),
@@ -59,7 +71,7 @@ impl Run {
         })
     }
 
-    /// The network is started with all members, and a run of the script begins.
+    /// The network is started with all members, or with the sender alone, and a run of the script begins.
     ///
     /// # Errors
     ///
@@ -67,17 +79,18 @@ impl Run {
     pub fn start<F: Fabric>(
         alloc: Global,
         script: &Script,
+        alone: bool,
         fabric: &mut F,
     ) -> Result<Run, SessionFault>
         requires { AllByRecursion IsOfObjects script.now.lines }
-        ensures starts { OnOk result (Starts (F.told fabric.old) (F.told fabric.new) script.now.profile Local.All) }
-        ensures goes { IfOk result (λ run. (x : Context) → IsBegun x script.now (F.told fabric.new) → At x run Between (F.told fabric.new) x.written) }
+        ensures starts { OnOk result (Starts (F.told fabric.old) (F.told fabric.new) script.now.profile (local_of alone script.now.profile)) }
+        ensures goes { IfOk result (λ run. (x : Context) → IsBegun x script.now alone (F.told fabric.new) → At x run Between (F.told fabric.new) x.written) }
         ensures same { OnErr result (F.told fabric.new ≡ F.told fabric.old) }
         ensures why { IfErr result (λ fault. (fault ≡ SessionFault.Memory) ⊎ (fault ≡ SessionFault.Fabric)) }
         ensures cause { NetworkCause result (F.fault_count fabric.old) (F.fault_count fabric.new) }
     {
-        let run = Run::begun(alloc, script)?;
-        fabric.start(&script.profile, Local::All)?;
+        let run = Run::begun(alloc, script, alone)?;
+        fabric.start(&script.profile, local_of(&script.profile, alone))?;
         Ok(run)
     }
 }

@@ -30,7 +30,8 @@ pub fn next_draw(draws: &mut Lcg64Xsh32) -> u32
 }
 
 impl Run {
-    /// A datagram comes to a node: to the sender, or to a receiver with the next draw. Any other node gets nothing.
+    /// A datagram comes to a node: to the sender, or to a receiver with the next draw. Any other node gets nothing, nor does a receiver
+    /// where the sender is alone.
     fn deliver(&mut self, to: NodeId, bytes: &[u8]) -> Result<(), SessionFault>
         ensures goes { OnOk result (Delivers self.old self.new to bytes.now) }
         ensures memory { IfErr result (λ fault. fault ≡ SessionFault.Memory) }
@@ -40,6 +41,9 @@ impl Run {
         }
         if !self.world.is_receiver(to) {
             self.world.deliver(to, bytes, self.now, 0)?;
+            return Ok(());
+        }
+        if self.alone {
             return Ok(());
         }
         let draw = next_draw(&mut self.draws);

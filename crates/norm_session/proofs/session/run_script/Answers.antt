@@ -1,11 +1,25 @@
-use Rattle.std.proofs.Common.{◌∙◌, sym, subst}
+use Rattle.std.proofs.Common.{◌∙◌, refl, sym, subst, inl}
 use Rattle.std.proofs.lemmas.Result.{err_from_is_err_and}
-use Rattle.norm_session.specs.Session.{RunsSession}
+use Rattle.norm_session.specs.Session.{RunsScript}
 use Rattle.norm_session.specs.Turning.{span}
+use Rattle.norm_session.specs.declared.fault.SessionFault.TheVariants as fault
 use Rattle.norm_session.proofs.CauseLemmas.{cause_exit}
-use Rattle.norm_session.proofs.SessionLemmas.{session_runs, session_stops, leads_safely, stops_safely}
+use Rattle.norm_session.proofs.SessionLemmas.{script_runs, script_stops, not_begun}
 use Rattle.norm_session.proofs.SoFarLemmas.{at_fault}
 use Rattle.norm_session.proofs.session.run_script.Goals as goal
+
+pub returns-in_err-datagram-clause-stops : goal.returns-in_err-datagram-clause-stops
+returns-in_err-datagram-clause-stops g c =
+    let exit = err_from_is_err_and c.from_residual.result c.from_residual.ensures.1 in
+    at_fault _ c.from_residual.result exit.0 fault.Memory exit.1 exit.2
+    (not_begun c.args.alone c.args.script.now (g.D.Files.contents c.args.files.now) fault.Memory _ (inl refl) refl refl refl)
+
+pub returns-in_err-run-clause-stops : goal.returns-in_err-run-clause-stops
+returns-in_err-run-clause-stops g c =
+    let exit = err_from_is_err_and c.from_residual-in_err-run.result c.from_residual-in_err-run.ensures.1 in
+    let e = c.in_err-run.field-0.0 in
+    at_fault _ c.from_residual-in_err-run.result exit.0 e exit.1 exit.2
+    (not_begun c.args.alone c.args.script.now (g.D.Files.contents c.args.files.now) e _ c.in_err-run.ensures.why c.in_err-run.ensures.same refl refl)
 
 pub returns-in_err-whole-clause-stops : goal.returns-in_err-whole-clause-stops
 returns-in_err-whole-clause-stops g c =
@@ -13,11 +27,9 @@ returns-in_err-whole-clause-stops g c =
     let e = c.in_err-whole.field-0.0 in
     let files = g.D.Files.contents c.args.files.now in
     let started = g.F.Fabric.told c.start.new.fabric in
-    let unwritten = g.K.Sink.pieces c.args.output.now in
     let starts = c.in_ok-run.ensures.starts in
     at_fault _ c.from_residual-in_err-whole.result exit.0 e exit.1 exit.2
-    (session_stops c.args.script.now files started c.in_ok-run.run' e _ starts c.in_ok-run.ensures.goes c.in_err-whole.ensures.stops
-    (stops_safely c.args.script.now files (g.F.Fabric.told c.args.fabric.now) started unwritten c.requires starts))
+    (script_stops c.args.alone c.args.script.now files started c.in_ok-run.run' e _ starts c.in_ok-run.ensures.goes c.in_err-whole.ensures.stops c.requires)
 
 pub returns-in_err-whole-clause-cause : goal.returns-in_err-whole-clause-cause
 returns-in_err-whole-clause-cause g c =
@@ -31,11 +43,11 @@ returns-clause-run g c =
     let started = g.F.Fabric.told c.start.new.fabric in
     let unwritten = g.K.Sink.pieces c.args.output.now in
     let starts = c.in_ok-run.ensures.starts in
-    subst (λ journal. RunsSession c.args.script.now files journal c.in_ok-whole.whole
+    subst (λ journal. RunsScript c.args.alone c.args.script.now files journal c.in_ok-whole.whole
     (span (g.F.Fabric.told c.args.fabric.now) (g.F.Fabric.told c.finish.new.fabric) unwritten (g.K.Sink.pieces c.finish.new.output)
     (g.C.Clock.moments c.args.clock.now) (g.C.Clock.moments c.finish.new.clock))) (sym c.into_journal.ensures)
-    (session_runs c.args.script.now files started c.in_ok-run.run' c.finish.new.self c.in_ok-whole.whole _ starts c.in_ok-run.ensures.goes
-    c.in_ok-whole.ensures.goes (leads_safely c.args.script.now files (g.F.Fabric.told c.args.fabric.now) started unwritten c.requires starts))
+    (script_runs c.args.alone c.args.script.now files started c.in_ok-run.run' c.finish.new.self c.in_ok-whole.whole _ starts c.in_ok-run.ensures.goes
+    c.in_ok-whole.ensures.goes c.requires)
 
 pub returns-clause-cause : goal.returns-clause-cause
 returns-clause-cause g c =
