@@ -1,5 +1,5 @@
 -- Whether the first entries of a window may all go, and how the last goes on.
-use Rattle.std.proofs.Common.{◌≡◌, ℕ, zero, suc, ◌+◌, ◌-◌, ◌<◌, refl, sym, ap, subst, ◌∙◌, arith, Bool, true, false, Option, Some, List, [], ◌∷◌, length, take, drop}
+use Rattle.std.proofs.Common.{◌≡◌, ℕ, zero, suc, ◌+◌, ◌-◌, ◌<◌, ◌⊎◌, inl, inr, refl, sym, ap, subst, ◌∙◌, arith, Bool, true, false, Option, Some, List, [], ◌∷◌, length, take, drop}
 use Rattle.std.specs.Prelude.{slice_get, slice_set, ◌&&◌, MatchOption, Result, Err}
 use Rattle.norm_base.specs.Settings.{Settings}
 use Rattle.norm_order.specs.Entries.{Part, Entry, Stream}
@@ -10,9 +10,12 @@ use Rattle.norm_send_rules.specs.declared.fault.EnqueueFault.{EnqueueFault}
 use Rattle.norm_send_rules.specs.declared.fault.EnqueueFault.TheVariants.{NoStream}
 use Rattle.held_entry.specs.Front.{LastGoesOn, LastIsCut}
 use Rattle.held_entry.specs.Growing.{EntryGoesOn, KeepsObject}
-use Rattle.held_entry.specs.EntryState.{EntryReads, StandsFor}
+use Rattle.held_entry.specs.EntryState.{EntryReads, StandsFor, first_of}
 use Rattle.stream_buffer.specs.StreamState.{with_cut}
 use Rattle.held_entry.specs.declared.entry.HeldEntry.{HeldEntry}
+use Rattle.held_entry.specs.declared.entry.HeldEntry.TheVariants as held
+use Rattle.held_entry.specs.Places.{Stays, AllStay}
+use Rattle.std.proofs.lemmas.List.{length-set}
 
 drop_one : {X : Type 0} (n : ℕ) (xs : List X) (x : X) → slice_get xs n ≡ Some x → drop n xs ≡ x ∷ drop (suc n) xs
 drop_one n [] x e = absurd (cc)
@@ -67,12 +70,51 @@ last_goes ring p first entries s more value old place e now before answer same f
     (λ entry there. (now, refl, subst (λ (b : Bool). EntryGoesOn ring p (first + place) entry.object s more b value e now answer) before-is (goes entry there))))
 
 -- the last entry is cut, where it is at this place
-pub last_cut : (old : List HeldEntry) (place : ℕ) (e now : HeldEntry) → place ≡ length old - 1 → slice_get old place ≡ Some e → KeepsObject e now
+pub last_cut : (old : List HeldEntry) (place : ℕ) (e now : HeldEntry) → place ≡ length old - 1 → slice_get old place ≡ Some e → KeepsObject e now → first_of now ≡ first_of e
     → ((r : EntryReads) (parts : List Part) → StandsFor r e → r.object ≡ Stream parts → StandsFor (record r { object = Stream (with_cut r.p.e parts) }) now)
     → LastIsCut old (slice_set old place now)
-last_cut old place e now same found keeps stands =
-    subst (λ (n : ℕ). MatchOption (slice_get old n) (slice_set old place now ≡ old) (λ x. (after : HeldEntry) × (slice_set old place now ≡ slice_set old n after) × KeepsObject x after
+last_cut old place e now same found keeps first stands =
+    subst (λ (n : ℕ). MatchOption (slice_get old n) (slice_set old place now ≡ old) (λ x. (after : HeldEntry) × (slice_set old place now ≡ slice_set old n after) × KeepsObject x after × (first_of after ≡ first_of x)
     × ((r : EntryReads) (parts : List Part) → StandsFor r x → r.object ≡ Stream parts → StandsFor (record r { object = Stream (with_cut r.p.e parts) }) after))) same
-    (subst (λ (o : Option HeldEntry). MatchOption o (slice_set old place now ≡ old) (λ x. (after : HeldEntry) × (slice_set old place now ≡ slice_set old place after) × KeepsObject x after
+    (subst (λ (o : Option HeldEntry). MatchOption o (slice_set old place now ≡ old) (λ x. (after : HeldEntry) × (slice_set old place now ≡ slice_set old place after) × KeepsObject x after × (first_of after ≡ first_of x)
     × ((r : EntryReads) (parts : List Part) → StandsFor r x → r.object ≡ Stream parts → StandsFor (record r { object = Stream (with_cut r.p.e parts) }) after))) (sym found)
-    (now, refl, keeps, stands))
+    (now, refl, keeps, first, stands))
+
+-- ---- what stays of all
+
+pub stays_itself : (e : HeldEntry) → Stays e e
+stays_itself (held.Object h) = (refl, refl, refl)
+stays_itself (held.Stream stream) = tt
+
+same_entry : (e k : HeldEntry) → Some e ≡ Some k → e ≡ k
+same_entry e k is = cc
+
+pub all_itself : (old new : List HeldEntry) → new ≡ old → AllStay old new
+all_itself old new same = subst (AllStay old) (sym same) (record {
+  long = refl;
+  each = λ n e k there here. subst (Stays e) (same_entry e k (sym there ∙ here)) (stays_itself e);
+})
+
+set_at : (xs : List HeldEntry) (place n : ℕ) (now k : HeldEntry) → slice_get (slice_set xs place now) n ≡ Some k
+    → ((n ≡ place) × (now ≡ k)) ⊎ (slice_get xs n ≡ Some k)
+set_at [] place n now k is = absurd (cc)
+set_at (x ∷ xs) zero zero now k is = inl (refl, cc)
+set_at (x ∷ xs) zero (suc n) now k is = inr is
+set_at (x ∷ xs) (suc place) zero now k is = inr is
+set_at (x ∷ xs) (suc place) (suc n) now k is = go (set_at xs place n now k is)
+  where
+    go : ((n ≡ place) × (now ≡ k)) ⊎ (slice_get xs n ≡ Some k) → ((suc n ≡ suc place) × (now ≡ k)) ⊎ (slice_get xs n ≡ Some k)
+    go (inl here) = inl (ap suc here.0, here.1)
+    go (inr there) = inr there
+
+-- one of them stays so, and the others as they are
+pub one_stays : (old : List HeldEntry) (place : ℕ) (e now : HeldEntry) → slice_get old place ≡ Some e → Stays e now → AllStay old (slice_set old place now)
+one_stays old place e now found stays = record {
+  long = length-set old place now;
+  each = λ n x k there is. go n x k there (set_at old place n now k is);
+}
+  where
+    go : (n : ℕ) (x k : HeldEntry) → slice_get old n ≡ Some x → ((n ≡ place) × (now ≡ k)) ⊎ (slice_get old n ≡ Some k) → Stays x k
+    go n x k there (inr same) = subst (Stays x) (same_entry x k (sym there ∙ same)) (stays_itself x)
+    go n x k there (inl here) =
+        subst (Stays x) here.1 (subst (λ (y : HeldEntry). Stays y now) (same_entry e x (sym found ∙ ap (slice_get old) (sym here.0) ∙ there)) stays)

@@ -8,7 +8,7 @@ use Rattle.norm_send_rules.specs.declared.fault.EnqueueFault.{EnqueueFault}
 use Rattle.norm_send_rules.specs.declared.fault.EnqueueFault.TheVariants.{NoStream}
 use Rattle.stream_buffer.specs.StreamState.{with_cut}
 use Rattle.held_entry.specs.Growing.{EntryGoesOn, KeepsObject}
-use Rattle.held_entry.specs.EntryState.{EntryReads, StandsFor, reads_of}
+use Rattle.held_entry.specs.EntryState.{EntryReads, StandsFor, reads_of, first_of}
 use Rattle.held_entry.specs.declared.entry.HeldEntry.{HeldEntry}
 
 -- these stand for the entries of an order, the first of which has this index, each for its own
@@ -27,10 +27,10 @@ LastGoesOn ring p first entries s more value old new answer =
     × EntryGoesOn ring p (first + last) entry.object s more (may_all_go p s first (take last entries)) value e now answer)
 
 -- The segment that fills of the last of them is closed, where it is a stream with one that holds octets; the others stay as they are,
--- and an object does.
+-- and an object does. The same blocks are kept.
 abbrev pub LastIsCut : List HeldEntry → List HeldEntry → Type 0
 LastIsCut old new =
     let last = length old - 1 in
     MatchOption (slice_get old last) (new ≡ old)
-    (λ e. (now : HeldEntry) × (new ≡ slice_set old last now) × KeepsObject e now
+    (λ e. (now : HeldEntry) × (new ≡ slice_set old last now) × KeepsObject e now × (first_of now ≡ first_of e)
     × ((r : EntryReads) (parts : List Part) → StandsFor r e → r.object ≡ Stream parts → StandsFor (record r { object = Stream (with_cut r.p.e parts) }) now))

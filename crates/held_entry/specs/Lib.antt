@@ -1,5 +1,6 @@
 pub mod EntryState
 pub mod Asked
+pub mod Places
 pub mod Laws
 pub mod Growing
 pub mod Front

@@ -1,6 +1,6 @@
 //! An entry of the window, an object or a stream.
 
-ghost use Rattle.std.specs.Prelude.{ℕ, true, ◌≡◌, ◌+◌, ◌*◌, ◌<◌, ◌≤◌, ◌^◌, List, Option, Some, None, MatchOption, ⊤, length, nat_lt, option_copied};
+ghost use Rattle.std.specs.Prelude.{ℕ, true, ◌≡◌, ◌+◌, ◌*◌, ◌<◌, ◌≤◌, ◌^◌, List, Option, Some, None, MatchOption, ⊤, length, nat_lt, option_copied, is_some};
 ghost use Rattle.norm_base.specs.Sizes.{datagram_room, symbol_room};
 ghost use Rattle.fec_plan.specs.Points.{Position as Place, position, position_before, reached_by};
 ghost use Rattle.norm_base.specs.Settings.{Settings};
@@ -17,6 +17,8 @@ ghost use Rattle.stream_buffer.specs.StreamState.{StandsFor as KeepsStream};
 ghost use Rattle.held_object.specs.Held.{info_of};
 ghost use Rattle.held_entry.specs.EntryState.{EntryReads, reads_of, StandsFor, first_of};
 ghost use Rattle.held_entry.specs.Asked.{is_sent, Lies, IsKept, AnswersKept, IsNext};
+ghost use Rattle.held_entry.specs.Places.{Stays, held_size, held_info};
+ghost use Rattle.norm_send_rules.specs.Enqueuing.{open_parts};
 
 use fec_plan::{Plan, Position, reached_by};
 use held_object::{Held, Ring};
@@ -93,6 +95,27 @@ fn next_segment(stream: &HeldStream, auto: u8, at: Position) -> Option<Position>
     })
 }
 
+/// The first segment of a stream with this index that is kept and sent by itself.
+fn first_segment(stream: &HeldStream, auto: u8, index: u32) -> Option<Position>
+    ensures next { (p : Settings) (parts : List Part) → KeepsStream p parts stream.now.buffer → p.auto ≡ auto
+        → IsNext p (shape_of p (Stream parts)) (position index stream.now.buffer.first 0) result }
+    ensures id { MatchOption result ⊤ (λ next. next.symbol < 255) }
+{
+    let block = stream.first_block();
+    let plan = stream.plan();
+    let segments = u64::from(stream.segments());
+    let blocks = segments.div_ceil(u64::from(plan.source_len(block)));
+    if u64::from(block) >= blocks {
+        return None;
+    }
+    let at = Position {
+        index,
+        block,
+        symbol: 0,
+    };
+    next_segment(stream, auto, at)
+}
+
 /// Adds a symbol of a stream, and answers how many octets it has.
 fn stream_symbol(stream: &HeldStream, block: u32, symbol: u8, out: &mut Datagram) -> Option<u16>
     requires { length out.old + symbol_room ≤ datagram_room }
@@ -126,6 +149,7 @@ impl HeldEntry {
     /// How many octets of the window it takes: an object's own, or those of a stream's buffer.
     pub fn size(&self, profile: &Profile) -> u64
         ensures exact { (r : EntryReads) → StandsFor r self.now → r.p ≡ profile.now → result ≡ size_of profile.now r.object }
+        ensures held { result ≡ held_size profile.now self.now }
         ensures most { result < 2 ^ 48 }
     {
         match self {
@@ -162,10 +186,21 @@ impl HeldEntry {
     pub fn info(&self) -> Option<&[u8]>
         ensures exact { (r : EntryReads) → StandsFor r self.now → option_copied result ≡ info_of r.object }
         ensures short { (r : EntryReads) → StandsFor r self.now → MatchOption (option_copied result) ⊤ (λ info. length info ≤ r.p.e) }
+        ensures held { option_copied result ≡ held_info self.now }
     {
         match self {
             HeldEntry::Object(held) => held.info(),
             HeldEntry::Stream(_) => None,
+        }
+    }
+
+    /// Whether it has info.
+    pub fn has_info(&self) -> bool
+        ensures { result ≡ is_some (held_info self.now) }
+    {
+        match self {
+            HeldEntry::Object(held) => held.has_info(),
+            HeldEntry::Stream(_) => false,
         }
     }
 
@@ -176,6 +211,26 @@ impl HeldEntry {
         match self {
             HeldEntry::Object(_) => 0,
             HeldEntry::Stream(stream) => stream.first_block(),
+        }
+    }
+
+    /// Whether it is a stream that was not closed.
+    pub fn is_open(&self) -> bool
+        ensures { (r : EntryReads) → StandsFor r self.now → result ≡ is_some (open_parts r.object) }
+    {
+        match self {
+            HeldEntry::Object(_) => false,
+            HeldEntry::Stream(stream) => !stream.is_ended(),
+        }
+    }
+
+    /// How many segments of a stream are closed. An object has none.
+    pub fn segments(&self) -> u32
+        ensures { (r : EntryReads) (parts : List Part) → StandsFor r self.now → r.object ≡ Stream parts → result ≡ (shape_of r.p r.object).closed }
+    {
+        match self {
+            HeldEntry::Object(_) => 0,
+            HeldEntry::Stream(stream) => stream.segments(),
         }
     }
 
@@ -225,6 +280,25 @@ impl HeldEntry {
         }
     }
 
+    /// The first kept symbol that is sent by itself, where the entry has this index, as by [`next_in`](HeldEntry::next_in).
+    pub fn first_in(&self, auto: u8, index: u32) -> Option<Position>
+        ensures next { (r : EntryReads) → StandsFor r self.now → r.p.auto ≡ auto
+            → IsNext r.p (shape_of r.p r.object) (position index (first_of self.now) 0) result }
+        ensures id { MatchOption result ⊤ (λ next. next.symbol < 255) }
+    {
+        match self {
+            HeldEntry::Object(held) => {
+                let at = Position {
+                    index,
+                    block: 0,
+                    symbol: 0,
+                };
+                held.next_in(auto, at)
+            }
+            HeldEntry::Stream(stream) => first_segment(stream, auto, index),
+        }
+    }
+
     /// Adds a symbol, and answers how many octets it has. `None` exactly where its block is gone, or there is no such encoded
     /// symbol; then nothing is added. It takes no memory.
     pub fn symbol(&self, ring: &Ring, block: u32, symbol: u8, out: &mut Datagram) -> Option<u16>
@@ -242,7 +316,9 @@ impl HeldEntry {
     /// Marks an encoded symbol of a kept block as sent.
     pub fn note_sent(&mut self, block: u32, symbol: u8)
         requires { IsKept self.old block }
-        ensures { (r : EntryReads) → StandsFor r self.old → nat_lt symbol (encoded_in (shape_of r.p r.object) block) ≡ true
+        ensures stays { Stays self.old self.new }
+        ensures first { first_of self.new ≡ first_of self.old }
+        ensures noted { (r : EntryReads) → StandsFor r self.old → nat_lt symbol (encoded_in (shape_of r.p r.object) block) ≡ true
             → StandsFor (record r { sent = with_member position_before (position r.index block symbol) r.sent }) self.new }
     {
         match self {
@@ -253,7 +329,9 @@ impl HeldEntry {
 
     /// Marks the info as sent.
     pub fn note_info(&mut self)
-        ensures { (r : EntryReads) → StandsFor r self.old
+        ensures stays { Stays self.old self.new }
+        ensures first { first_of self.new ≡ first_of self.old }
+        ensures noted { (r : EntryReads) → StandsFor r self.old
             → StandsFor (record r { infos = with_member nat_lt r.index r.infos }) self.new }
     {
         match self {

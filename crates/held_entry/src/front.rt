@@ -1,6 +1,6 @@
 //! The entries of a window in their order: whether the first may go, and how the last goes on.
 
-ghost use Rattle.std.specs.Prelude.{ℕ, ◌≡◌, ◌+◌, ◌≤◌, List, [], ◌∷◌, length, take};
+ghost use Rattle.std.specs.Prelude.{ℕ, ◌≡◌, ◌+◌, ◌≤◌, List, [], ◌∷◌, length, take, OnErr};
 ghost use Rattle.fec_plan.specs.Points.{Position as Place, reached_by};
 ghost use Rattle.norm_order.specs.Entries.{Entry, Write, End};
 ghost use Rattle.norm_order.specs.Segments.{written};
@@ -9,6 +9,8 @@ ghost use Rattle.norm_send_rules.specs.SenderState.{SenderState};
 ghost use Rattle.norm_send_rules.specs.Watermarks.{all_past};
 ghost use Rattle.norm_send_rules.specs.Room.{may_all_go};
 ghost use Rattle.held_entry.specs.Front.{AreEntries, LastGoesOn, LastIsCut};
+ghost use Rattle.held_entry.specs.Places.{AllStay};
+ghost use Rattle.std.specs.VecDeque.{deque_capacity};
 
 use crate::entry::HeldEntry;
 use fec_plan::Position;
@@ -54,7 +56,10 @@ pub fn write_last(
 ) -> Result<u32, EnqueueFault>
     requires some { 1 ≤ length bytes.now }
     requires numbered { first + length held.old.items ≤ 4294967295 }
-    ensures { (ring : List ℕ) (s : SenderState) (entries : List Entry) (by : Origin) → AreEntries ring profile.now first entries s held.old.items
+    ensures stays { AllStay held.old.items held.new.items }
+    ensures room { deque_capacity held.new ≡ deque_capacity held.old }
+    ensures refused { OnErr result (held.new.items ≡ held.old.items) }
+    ensures goes { (ring : List ℕ) (s : SenderState) (entries : List Entry) (by : Origin) → AreEntries ring profile.now first entries s held.old.items
         → ((at : Place) → all_past s at ≡ reached_by past.now at)
         → LastGoesOn ring profile.now first entries s (Write by bytes.now ∷ []) (λ parts. length (written parts)) held.old.items held.new.items result }
 {
@@ -79,7 +84,10 @@ pub fn close_last(
     past: &Option<Position>,
 ) -> Result<(), EnqueueFault>
     requires { first + length held.old.items ≤ 4294967295 }
-    ensures { (ring : List ℕ) (s : SenderState) (entries : List Entry) → AreEntries ring profile.now first entries s held.old.items
+    ensures stays { AllStay held.old.items held.new.items }
+    ensures room { deque_capacity held.new ≡ deque_capacity held.old }
+    ensures refused { OnErr result (held.new.items ≡ held.old.items) }
+    ensures goes { (ring : List ℕ) (s : SenderState) (entries : List Entry) → AreEntries ring profile.now first entries s held.old.items
         → ((at : Place) → all_past s at ≡ reached_by past.now at)
         → LastGoesOn ring profile.now first entries s (End ∷ []) (λ parts. tt) held.old.items held.new.items result }
 {
@@ -93,7 +101,9 @@ pub fn close_last(
 
 /// Closes the segment that fills of the last entry, where that is a stream with one that holds octets.
 pub fn cut_last(held: &mut VecDeque<HeldEntry>)
-    ensures { LastIsCut held.old.items held.new.items }
+    ensures stays { AllStay held.old.items held.new.items }
+    ensures room { deque_capacity held.new ≡ deque_capacity held.old }
+    ensures cut { LastIsCut held.old.items held.new.items }
 {
     if held.is_empty() {
         return;

@@ -9,8 +9,9 @@ ghost use Rattle.norm_send_rules.specs.SenderState.{SenderState};
 ghost use Rattle.norm_send_rules.specs.Watermarks.{all_past};
 ghost use Rattle.stream_buffer.specs.StreamState.{with_cut};
 ghost use Rattle.held_stream.specs.HeldState.{Knows};
-ghost use Rattle.held_entry.specs.EntryState.{EntryReads, reads_of, StandsFor};
+ghost use Rattle.held_entry.specs.EntryState.{EntryReads, reads_of, StandsFor, first_of};
 ghost use Rattle.held_entry.specs.Growing.{GoesOn, EntryGoesOn, KeepsObject};
+ghost use Rattle.held_entry.specs.Places.{Stays};
 
 use crate::entry::HeldEntry;
 use fec_plan::Position;
@@ -84,6 +85,7 @@ impl HeldEntry {
             → ((at : Place) → all_past s at ≡ reached_by past.now at)
             → EntryGoesOn ring profile.now index object s (Write by bytes.now ∷ []) before (λ parts. length (written parts)) self.old self.new result }
         ensures refused { OnErr result (self.new ≡ self.old) }
+        ensures stays { Stays self.old self.new }
     {
         match self {
             HeldEntry::Object(_) => Err(EnqueueFault::NoStream),
@@ -107,6 +109,7 @@ impl HeldEntry {
             → ((at : Place) → all_past s at ≡ reached_by past.now at)
             → EntryGoesOn ring profile.now index object s (End ∷ []) before (λ parts. tt) self.old self.new result }
         ensures refused { OnErr result (self.new ≡ self.old) }
+        ensures stays { Stays self.old self.new }
     {
         match self {
             HeldEntry::Object(_) => Err(EnqueueFault::NoStream),
@@ -117,6 +120,8 @@ impl HeldEntry {
     /// Closes the segment that fills, where this is a stream with one that holds octets. Of an object nothing changes.
     pub fn cut(&mut self)
         ensures object { KeepsObject self.old self.new }
+        ensures first { first_of self.new ≡ first_of self.old }
+        ensures stays { Stays self.old self.new }
         ensures stream { (r : EntryReads) (parts : List Part) → StandsFor r self.old → r.object ≡ Stream parts
             → StandsFor (record r { object = Stream (with_cut r.p.e parts) }) self.new }
     {

@@ -153,8 +153,9 @@ impl HeldStream {
 
     /// Closes the segment that fills, where it holds octets.
     pub fn cut(&mut self)
-        ensures { (p : Settings) (index : ℕ) (parts : List Part) (sent : List Place) → Knows p index parts sent self.old
+        ensures knows { (p : Settings) (index : ℕ) (parts : List Part) (sent : List Place) → Knows p index parts sent self.old
             → Knows p index (with_cut p.e parts) sent self.new }
+        ensures first { self.new.buffer.first ≡ self.old.buffer.first }
     {
         self.buffer.cut();
         let kept = self.buffer.kept();
@@ -185,7 +186,8 @@ impl HeldStream {
     /// Marks an encoded symbol of a kept block as sent.
     pub fn note_sent(&mut self, block: u32, symbol: u8)
         requires { self.old.buffer.first ≤ block }
-        ensures { (p : Settings) (index : ℕ) (parts : List Part) (sent : List Place) → Knows p index parts sent self.old
+        ensures first { self.new.buffer.first ≡ self.old.buffer.first }
+        ensures knows { (p : Settings) (index : ℕ) (parts : List Part) (sent : List Place) → Knows p index parts sent self.old
             → nat_lt symbol (encoded_in (shape_of p (Stream parts)) block) ≡ true
             → Knows p index parts (with_member position_before (position index block symbol) sent) self.new }
     {

@@ -12,6 +12,6 @@ returns-in-Stream-clause-stream c = λ r parts is same.
     record {
       parts = with_cut r.p.e parts;
       object = refl;
-      knows = c.cut.ensures r.p r.index parts r.sent
+      knows = c.cut.ensures.knows r.p r.index parts r.sent
           (subst (λ (ps : List Part). Knows r.p r.index ps r.sent c.in-Stream.stream) (same_parts known.parts parts (sym known.object ∙ same)) known.knows);
     }

@@ -6,8 +6,8 @@ use Rattle.held_stream.specs.HeldSound.{held_view}
 use Rattle.held_stream.proofs.KnowsLemmas.{blocks_by, longer, goes_on}
 use Rattle.held_stream.proofs.stream.HeldStream.cut.Goals as goal
 
-pub returns : goal.returns
-returns c = λ p index parts sent knows.
+pub returns-clause-knows : goal.returns-clause-knows
+returns-clause-knows c = λ p index parts sent knows.
     let s : StreamState = c.self.inside.buffer in
     let new : StreamState = c.cut.new.self in
     let here : Knows p index parts sent (held_view c.self.inside) = subst (Knows p index parts sent) (sym c.self.view_is) knows in

@@ -7,13 +7,13 @@ use Rattle.held_stream.proofs.RangeLemmas.{place_at}
 use Rattle.held_stream.proofs.NotedLemmas.{noted_parity, noted_segment, never_open}
 use Rattle.held_stream.proofs.stream.HeldStream.note_sent.Goals as goal
 
-pub returns-then-symbol-self : goal.returns-then-symbol-self
-returns-then-symbol-self c = λ p index parts sent knows encoded.
+pub returns-then-symbol-self-clause-knows : goal.returns-then-symbol-self-clause-knows
+returns-then-symbol-self-clause-knows c = λ p index parts sent knows encoded.
     let b : c.self.inside.b ≡ p.b = c.self.invariant.b ∙ ap (λ (v : HeldState). v.buffer.cut.b) c.self.view_is ∙ ap (λ (k : Cut). k.b) knows.buffer.cut in
     noted_parity p index parts sent c.args.self.now c.args.block c.args.symbol (omega (arith, b, c.self.invariant.some)) (omega (arith, b, c.if-symbol-self.true)) knows encoded
 
-pub returns-then-place-len : goal.returns-then-place-len
-returns-then-place-len c = λ p index parts sent knows encoded.
+pub returns-then-place-len-clause-knows : goal.returns-then-place-len-clause-knows
+returns-then-place-len-clause-knows c = λ p index parts sent knows encoded.
     let here : Knows p index parts sent (held_view c.self.inside) = subst (Knows p index parts sent) (sym c.self.view_is) knows in
     let b : c.self.inside.b ≡ p.b = c.self.invariant.b ∙ ap (λ (k : Cut). k.b) here.buffer.cut in
     let first : c.self.inside.buffer.first ≤ c.args.block = subst (λ (v : HeldState). v.buffer.first ≤ c.args.block) (sym c.self.view_is) c.requires in
@@ -23,8 +23,8 @@ returns-then-place-len c = λ p index parts sent knows encoded.
     (mul-le-mul_right p.b first) first)
     (omega (arith, c.if-place-len.true, c.len.ensures, c.self.inside.sent.ok.0, c.self.invariant.marks)))
 
-pub returns : goal.returns
-returns c = λ p index parts sent knows encoded.
+pub returns-clause-knows : goal.returns-clause-knows
+returns-clause-knows c = λ p index parts sent knows encoded.
     let here : Knows p index parts sent (held_view c.self.inside) = subst (Knows p index parts sent) (sym c.self.view_is) knows in
     let b : c.self.inside.b ≡ p.b = c.self.invariant.b ∙ ap (λ (k : Cut). k.b) here.buffer.cut in
     let first : c.self.inside.buffer.first ≤ c.args.block = subst (λ (v : HeldState). v.buffer.first ≤ c.args.block) (sym c.self.view_is) c.requires in

@@ -1,0 +1,310 @@
+//! The window of a sender, and what it is asked.
+
+ghost use Rattle.std.specs.Prelude.{ℕ, ⊤, ◌^◌, ◌≡◌, ◌+◌, ◌<◌, ◌≤◌, List, Option, IfOk, MatchOption, length, option_map, option_copied, is_some, find, Bool, true};
+ghost use Rattle.norm_base.specs.Settings.{InRange};
+ghost use Rattle.norm_base.specs.Sizes.{datagram_room, symbol_room};
+ghost use Rattle.fec_plan.specs.Partition.{IsSound};
+ghost use Rattle.norm_order.specs.Entries.{Object};
+ghost use Rattle.norm_order.specs.Shapes.{shape_of, last_source, is_source};
+ghost use Rattle.norm_ext.specs.Laws.{IsNear};
+ghost use Rattle.norm_send_rules.specs.SenderState.{SenderState, sender_opening};
+ghost use Rattle.norm_send_rules.specs.InWindow.{current_shapes, last_index, next_index as next_index_of};
+ghost use Rattle.norm_send_rules.specs.Repairable.{streams};
+ghost use Rattle.norm_send_rules.specs.Laws.{next_at};
+ghost use Rattle.norm_send_rules.specs.Sending.{next_new};
+ghost use Rattle.norm_send_rules.specs.declared.want.Want.TheVariants.{Symbol};
+ghost use Rattle.held_entry.specs.Asked.{IsNext};
+ghost use Rattle.held_entry.specs.EntryState.{EntryReads, first_of, StandsFor as StandsForEntry};
+ghost use Rattle.tx_window.specs.Asked.{from_first, kept_at, info_at, about_of};
+ghost use Rattle.tx_window.specs.Next.{HasNext};
+ghost use Rattle.stream_window.specs.WindowState.{Stands, drop_of};
+ghost use Rattle.stream_window.specs.Asked.{AnswersAt, IsOpenAt, later_of};
+
+use crate::extent::{Extent, extent_at, is_closed};
+use crate::room::count_streams;
+use fec_plan::{Plan, Position};
+use held_entry::HeldEntry;
+use held_object::{Held, Ring};
+use norm_base::{Datagram, Memory, Profile};
+use norm_send_rules::Want;
+use std::alloc::Global;
+use std::collections::VecDeque;
+use std::marker::Model;
+use tx_window::About;
+
+/// The window of a sender. The octets of its objects lie in one ring, made once; a stream takes its memory as it is opened.
+///
+/// An object is taken in by [`enqueue`](Window::enqueue), or piece by piece: [`begin`](Window::begin), then [`fill`](Window::fill) until
+/// all its octets are there, then [`finish`](Window::finish), or at any time [`leave`](Window::leave). A stream is opened by
+/// [`open_stream`](Window::open_stream), and goes on by [`write`](Window::write) and [`cut`](Window::cut) until
+/// [`close_stream`](Window::close_stream). Entries are dropped only by calls that need room, and are the first ones.
+#[derive(Debug, Drop)]
+pub struct Window {
+    pub(crate) alloc: Global,
+    pub(crate) profile: Profile,
+    pub(crate) ring: Ring,
+    pub(crate) held: VecDeque<HeldEntry>,
+    /// How many of the first entries were forgotten: no id names one of them.
+    pub(crate) forgotten: u32,
+    /// How far each of the others reaches, dropped or not.
+    pub(crate) extents: VecDeque<Extent>,
+    /// How many octets all entries of the window take, with the object that is being filled.
+    pub(crate) octets: u32,
+    /// The octet of the ring behind them.
+    pub(crate) free: usize,
+    /// The object that is being filled.
+    pub(crate) begun: Option<Held>,
+    /// How many octets of it are there.
+    pub(crate) filled: usize,
+    /// How many entries were dropped.
+    pub(crate) dropped: u32,
+    /// The last closed source symbol of the order.
+    pub(crate) last: Option<Position>,
+    /// The least position that all receivers are listed past.
+    pub(crate) past: Option<Position>,
+}
+
+impl Model for Window {
+    ghost use Rattle.stream_window.specs.WindowState.{WindowState};
+    ghost use Rattle.stream_window.specs.WindowSound.{window_view, WindowSound};
+
+    ghost Value = { WindowState };
+
+    ghost view = { window_view };
+
+    ghost invariant = { WindowSound };
+}
+
+/// How many parity symbols of a block are sent by themselves.
+fn auto_of(profile: &Profile) -> u8
+    ensures exact { result ≡ profile.now.auto }
+    ensures range { InRange profile.now }
+{
+    profile.auto
+}
+
+/// The first kept symbol of an entry from a place on that is sent by itself, with so much parity.
+fn next_of(entry: &HeldEntry, auto: u8, from: Position) -> Option<Position>
+    ensures next { (r : EntryReads) → StandsForEntry r entry.now → r.p.auto ≡ auto → IsNext r.p (shape_of r.p r.object) (later_of from (first_of entry.now)) result }
+    ensures id { MatchOption result ⊤ (λ next. next.symbol < 255) }
+{
+    if from.block < entry.first_block() {
+        return entry.first_in(auto, from.index);
+    }
+    entry.next_in(auto, from)
+}
+
+/// The entry with an index, where so many were dropped.
+fn entry_at(held: &VecDeque<HeldEntry>, dropped: u32, index: u32) -> Option<&HeldEntry>
+    ensures { option_copied result ≡ from_first dropped held.now.items index }
+{
+    if index < dropped {
+        return None;
+    }
+    held.get((index - dropped) as usize)
+}
+
+impl Window {
+    /// An empty window.
+    ///
+    /// # Errors
+    ///
+    /// `Memory` where memory runs out.
+    pub fn new(alloc: Global, profile: &Profile) -> Result<Window, Memory>
+        ensures profile { IfOk result (λ window. window.p ≡ profile.now) }
+        ensures begun { IfOk result (λ window. (instance : ℕ) → Stands window (sender_opening profile.now instance)) }
+    {
+        let e = u64::from(profile.e);
+        let slots = u64::from(profile.octets) / e + u64::from(profile.window);
+        let ring = Ring::new(alloc, (slots * e) as usize)?;
+        let held = VecDeque::with_capacity(alloc, usize::from(profile.window))?;
+        Ok(Window {
+            alloc,
+            profile: *profile,
+            ring,
+            held,
+            forgotten: 0,
+            extents: VecDeque::new(alloc),
+            octets: 0,
+            free: 0,
+            begun: None,
+            filled: 0,
+            dropped: 0,
+            last: None,
+            past: None,
+        })
+    }
+
+    /// The entry and the block of it before which all was dropped.
+    pub fn first(&self) -> (u32, u32)
+        ensures exact { (s : SenderState) → Stands self.now s → (result.0 ≡ s.current.drop.index) × (result.1 ≡ s.current.drop.block) }
+        ensures number { (result.0 ≡ (drop_of self.now).index) × (result.1 ≡ (drop_of self.now).block) }
+    {
+        if self.held.is_empty() {
+            return (self.dropped, 0);
+        }
+        let entry = &self.held[0];
+        (self.dropped, entry.first_block())
+    }
+
+    /// The last closed source symbol, also where its entry was dropped.
+    pub fn end(&self) -> Option<Position>
+        ensures { (s : SenderState) → Stands self.now s → result ≡ last_source (current_shapes self.now.p s) }
+    {
+        self.last
+    }
+
+    /// The index of the next entry.
+    pub fn next_index(&self) -> u32
+        ensures exact { (s : SenderState) → Stands self.now s → result ≡ next_index_of s }
+        ensures number { result ≡ self.now.dropped + length self.now.entries }
+    {
+        self.dropped + self.held.len() as u32
+    }
+
+    /// The index of the open stream, which is the last entry. `None` exactly where no stream is open.
+    pub fn open_index(&self) -> Option<u32>
+        ensures { (s : SenderState) → Stands self.now s → IsOpenAt s result }
+    {
+        if self.held.is_empty() {
+            return None;
+        }
+        let place = self.held.len() - 1;
+        let entry = &self.held[place];
+        if !entry.is_open() {
+            return None;
+        }
+        Some(self.dropped + place as u32)
+    }
+
+    /// Adds a symbol, and answers how many octets it has. `None` exactly where it was dropped or not enqueued, or its entry has no
+    /// such encoded symbol; then nothing is added. It takes no memory.
+    pub fn symbol(&self, at: Position, out: &mut Datagram) -> Option<u16>
+        requires { length out.old + symbol_room ≤ datagram_room }
+        ensures { (s : SenderState) → Stands self.now s → AnswersAt self.now.p s at out.old out.new result }
+    {
+        let Some(entry) = entry_at(&self.held, self.dropped, at.index) else {
+            return None;
+        };
+        entry.symbol(&self.ring, at.block, at.symbol, out)
+    }
+
+    /// The info of an object; of a file its name. `None` where it was dropped or not enqueued, or has none.
+    pub fn info(&self, index: u32) -> Option<&[u8]>
+        ensures exact { (s : SenderState) → Stands self.now s → option_copied result ≡ info_at s index }
+        ensures short { MatchOption (option_copied result) ⊤ (λ info. length info ≤ self.now.p.e) }
+    {
+        let Some(entry) = entry_at(&self.held, self.dropped, index) else {
+            return None;
+        };
+        entry.info()
+    }
+
+    /// What each message of an entry says of it. `None` exactly where it was dropped or not enqueued.
+    pub fn about(&self, index: u32) -> Option<About>
+        ensures exact { (s : SenderState) → Stands self.now s → result ≡ option_map (about_of self.now.p) (kept_at s index) }
+        ensures long { MatchOption result ⊤ (λ about. about.fti.l < 2 ^ 48) }
+    {
+        let Some(entry) = entry_at(&self.held, self.dropped, index) else {
+            return None;
+        };
+        let fti = entry.fti(&self.profile);
+        let flags = entry.flags();
+        Some(About { fti, flags })
+    }
+
+    /// How an entry is cut, soundly. `None` exactly where it was dropped or not enqueued.
+    pub fn plan(&self, index: u32) -> Option<Plan>
+        ensures exact { (s : SenderState) → Stands self.now s → result ≡ option_map (λ object. (shape_of self.now.p object).cut) (kept_at s index) }
+        ensures sound { MatchOption result ⊤ IsSound }
+    {
+        let Some(entry) = entry_at(&self.held, self.dropped, index) else {
+            return None;
+        };
+        let plan = entry.plan();
+        // Proof: that it is sound is known of each plan that was asked.
+        let _ = plan.e();
+        Some(plan)
+    }
+
+    /// The first info or kept symbol of an entry that is sent by itself. `None` where there is none.
+    fn new_of(&self, index: u32) -> Option<Want>
+        requires { self.now.dropped ≤ index }
+        ensures exact { (s : SenderState) → Stands self.now s → index < next_index_of s
+            → next_new self.now.p (next_at index s) ≡ elim result [ Some w ↦ Some w | None ↦ next_new self.now.p (next_at (index + 1) s) ] }
+        ensures id { MatchOption result ⊤ HasNext }
+    {
+        let Some(entry) = entry_at(&self.held, self.dropped, index) else {
+            return None;
+        };
+        if entry.has_info() {
+            return Some(Want::Info { index });
+        }
+        match entry.first_in(auto_of(&self.profile), index) {
+            Some(at) => Some(Want::Symbol { at }),
+            None => None,
+        }
+    }
+
+    /// The first info or kept symbol that is sent by itself, of the entries from an index on. `None` where there is none.
+    fn first_new(&self, index: u32) -> Option<Want>
+        requires { self.now.dropped ≤ index }
+        ensures exact { (s : SenderState) → Stands self.now s → result ≡ next_new self.now.p (next_at index s) }
+        ensures id { MatchOption result ⊤ HasNext }
+    {
+        for next in index..self.next_index() {
+            if let Some(want) = self.new_of(next) {
+                return Some(want);
+            }
+        }
+        None
+    }
+
+    /// What is new next, where that is no earlier than a symbol.
+    fn next_symbol(&self, from: Position) -> Option<Want>
+        ensures exact { (s : SenderState) → Stands self.now s → s.next ≡ Symbol from → result ≡ next_new self.now.p s }
+        ensures id { MatchOption result ⊤ HasNext }
+    {
+        if from.index < self.dropped {
+            return self.first_new(self.dropped);
+        }
+        let Some(entry) = entry_at(&self.held, self.dropped, from.index) else {
+            return None;
+        };
+        match next_of(entry, auto_of(&self.profile), from) {
+            Some(at) => Some(Want::Symbol { at }),
+            None => self.first_new(from.index + 1),
+        }
+    }
+
+    /// The next new info or symbol, where none before this one is: the first from there on that was not dropped. A symbol
+    /// that is answered has another id behind it.
+    pub fn next_new(&self, from: Want) -> Option<Want>
+        ensures exact { (s : SenderState) → Stands self.now s → s.next ≡ from → result ≡ next_new self.now.p s }
+        ensures id { MatchOption result ⊤ HasNext }
+    {
+        match from {
+            Want::Info { index } => self.first_new(index.max(self.dropped)),
+            Want::Symbol { at } => self.next_symbol(at),
+        }
+    }
+
+    /// Whether a position, of an entry that an id can name, is a closed source symbol of the order, also where its entry
+    /// was dropped.
+    pub fn is_source(&self, at: Position) -> bool
+        ensures { (s : SenderState) → Stands self.now s → IsNear (last_index s) at.index
+            → result ≡ is_source (current_shapes self.now.p s) at }
+    {
+        let Some(extent) = extent_at(&self.extents, self.forgotten, at.index) else {
+            return false;
+        };
+        is_closed(&self.profile, extent, at.block, at.symbol)
+    }
+
+    /// How many streams are enqueued and not dropped whole.
+    pub fn streams(&self) -> u32
+        ensures { (s : SenderState) → Stands self.now s → result ≡ streams s }
+    {
+        count_streams(&self.held)
+    }
+}
