@@ -6,3 +6,4 @@ pub mod FitLemmas
 pub mod HandingLemmas
 pub mod EndLemmas
 pub mod SegmentLemmas
+pub mod LeftLemmas

@@ -1,5 +1,5 @@
 -- When a symbol may be kept of a stream (RFC 5740 section 4.2.1), and what its next segment is handed up as (section 5.3).
-use Rattle.std.specs.Prelude.{ℕ, ◌≡◌, ◌==◌, ◌&&◌, ◌<◌, ◌+◌, Bool, List, length, filter, not, nat_lt, true, false, Option, Some, None}
+use Rattle.std.specs.Prelude.{ℕ, ◌≡◌, ◌==◌, ◌&&◌, ◌<◌, ◌+◌, ◌-◌, Bool, List, length, filter, not, nat_lt, true, false, Option, Some, None}
 use Rattle.norm_base.specs.Settings.{Settings}
 use Rattle.fec_plan.specs.Partition.{Cut, blocks, source_symbols, encoding_symbols, coded_octets}
 use Rattle.fec_plan.specs.Points.{position}
@@ -53,3 +53,13 @@ next_up p o = elim (has_its_info (alone o) o.plan) [
 abbrev pub handed_on : Option Up → StreamState → StreamState
 handed_on (Some (up.StreamBytes index offset bytes)) o = passed o
 handed_on _ o = o
+
+-- At most so many segments can be handed up of what is held: each is of a symbol that came, and those before the next segment in
+-- its block were handed up already.
+abbrev pub left : StreamState → ℕ
+left o = length o.held - o.point.symbol
+
+-- the same behind a hand-up, where this is the stream then: behind an end nothing is left
+abbrev pub left_behind : Up → StreamState → ℕ
+left_behind (up.StreamBytes index offset bytes) o = left o
+left_behind _ o = 0

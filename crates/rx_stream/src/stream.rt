@@ -17,7 +17,7 @@ ghost use Rattle.norm_receive_rules.specs.declared.words.Put.TheVariants as put_
 ghost use Rattle.rx_stream.specs.BlockState.{BlockState, empty_block, source_of};
 ghost use Rattle.rx_stream.specs.StreamState.{StreamState, alone, empty_stream, IsOf};
 ghost use Rattle.rx_stream.specs.BlockMoves.{IsRow, IsSent, MayCome, with_came};
-ghost use Rattle.rx_stream.specs.StreamMoves.{MayKeep, fits_cut, handed_on, next_up, passed, shape_of};
+ghost use Rattle.rx_stream.specs.StreamMoves.{MayKeep, fits_cut, handed_on, left, left_behind, next_up, passed, shape_of};
 
 use crate::block::Block;
 use crate::row::Row;
@@ -448,6 +448,7 @@ impl Stream {
         requires { MatchOption (next_segment (alone self.old) self.old.plan) ⊥ (λ symbol. len ≡ min (number 2 0 symbol) self.old.plan.fti.e) }
         ensures octets { IfSome (next_segment (alone self.old) self.old.plan) (λ symbol. result ≡ take len (drop 8 symbol)) }
         ensures state { self.new ≡ passed self.old }
+        ensures fewer { left self.new < left self.old }
     {
         let row = self.ring[0].row(self.symbol).unwrap();
         let bytes = copy_of(row, &mut self.spares, usize::from(len));
@@ -465,10 +466,12 @@ impl Stream {
 
     /// The next segment is handed up, where it is there, and the stream's info where it has one: the one behind it is the next
     /// then, and of a block that ends by it nothing is kept. The end, a segment of no octets, is handed up and stays: nothing
-    /// comes behind it. It takes no memory.
+    /// comes behind it. It takes no memory. Each hand-up leaves fewer segments that can be handed up of what is held, so that their
+    /// number is known before.
     pub fn hand_up(&mut self) -> Option<Up>
         ensures up { (p : Settings) → p.e ≡ self.old.plan.fti.e → result ≡ next_up p self.old }
         ensures state { self.new ≡ handed_on result self.old }
+        ensures fewer { IfSome result (λ up. left_behind up self.new < left self.old) }
     {
         if !self.has_its_info() {
             return None;

@@ -3,4 +3,6 @@
 #![tactic(auto)]
 
 #[cfg(test)]
+mod rx_entries_tests;
+#[cfg(test)]
 mod rx_stream_tests;

@@ -3,6 +3,7 @@ use Rattle.std.specs.Prelude.{min}
 use Rattle.fec_plan.specs.Partition.{Cut}
 use Rattle.norm_ext.specs.Numbers.{number}
 use Rattle.rx_stream.specs.StreamState.{StreamState}
+use Rattle.rx_stream.proofs.LeftLemmas.{left_lent}
 use Rattle.rx_stream.proofs.SegmentLemmas.{up_bytes}
 use Rattle.rx_stream.proofs.stream.Stream.hand_up.Goals as goal
 
@@ -16,3 +17,8 @@ returns-clause-up c = λ p same.
     c.if-len-eq0.false
     c.offset-offset.ensures
     c.take_segment-bytes.ensures.octets
+
+pub returns-then-len-eq0-clause-fewer : goal.returns-then-len-eq0-clause-fewer
+returns-then-len-eq0-clause-fewer c =
+    left_lent (record { index = c.self.inside.index; fti = c.self.inside.fti; flags = c.self.inside.flags; seen = c.self.inside.seen }) c.self.inside.plan c.self.inside.info c.self.inside.first c.self.inside.symbol c.self.inside.ring.items c.self.inside.spares.items c.args.self.now c.in-Some.row.now
+    c.self.invariant c.self.view_is c.in-Some.ensures.coded

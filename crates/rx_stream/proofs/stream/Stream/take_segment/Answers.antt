@@ -8,8 +8,10 @@ use Rattle.norm_receive_rules.specs.HandingUp.{next_segment}
 use Rattle.rx_stream.specs.BlockState.{BlockState, source_of}
 use Rattle.rx_stream.specs.declared.row.Row.{Row}
 use Rattle.rx_stream.specs.BlockMoves.{IsRow}
-use Rattle.rx_stream.specs.StreamMoves.{passed}
+use Rattle.rx_stream.specs.StreamMoves.{left, passed}
+use Rattle.rx_stream.specs.StreamSound.{stream_of}
 use Rattle.rx_stream.specs.StreamState.{StreamState, alone}
+use Rattle.rx_stream.proofs.LeftLemmas.{left_next, left_passed}
 use Rattle.rx_stream.proofs.StreamLemmas.{next_row, passed_block}
 use Rattle.rx_stream.proofs.SegmentLemmas.{there_by, none_row, next_value, size_first, first_named, octets_next, sound_next, sound_passed}
 use Rattle.rx_stream.proofs.stream.Stream.take_segment.Goals as goal
@@ -96,3 +98,28 @@ returns-clause-state c =
     (let n = c.self.invariant.some in omega (arith, n))
     (c.shift.ensures.ring ∙ ap (λ (b : BlockState). drop 1 c.self.inside.ring.items ++ b ∷ []) c.new.ensures)
     ∙ ap passed c.self.view_is
+
+pub returns-then-self-count-clause-fewer : goal.returns-then-self-count-clause-fewer
+returns-then-self-count-clause-fewer c =
+    let some : 0 < length c.self.inside.ring.items = (let n = c.self.invariant.some in omega (arith, n)) in
+    let there : is_some (source_of c.index.result.now c.self.inside.symbol) ≡ true =
+    ap (λ (o : Option (List ℕ)). is_some o) (sym (next_value (record { index = c.self.inside.index; fti = c.self.inside.fti; flags = c.self.inside.flags; seen = c.self.inside.seen }) c.self.inside.info c.self.inside.first c.self.inside.symbol c.self.inside.ring.items c.index.result.now c.self.invariant.stream c.self.invariant.blocks some c.index.ensures))
+    ∙ subst (λ (o : StreamState). is_some (next_segment (alone o) o.plan) ≡ true) (sym c.self.view_is)
+    (there_by (next_segment (alone c.args.self.now) c.args.self.now.plan) (λ symbol. c.args.len ≡ min (number 2 0 symbol) c.args.self.now.plan.fti.e) c.requires) in
+    let at : is_some (source_of (get_or c.self.inside.ring.items 0 c.index.result.now) c.self.inside.symbol) ≡ true = ap (λ (b : BlockState). is_some (source_of b c.self.inside.symbol)) (sym c.index.ensures) ∙ there in
+    subst (λ (o : StreamState). left (stream_of (record { index = c.self.inside.index; fti = c.self.inside.fti; flags = c.self.inside.flags; seen = c.self.inside.seen }) c.self.inside.info c.self.inside.first (c.self.inside.symbol + 1) c.self.inside.ring.items) < left o) c.self.view_is
+    (left_next (record { index = c.self.inside.index; fti = c.self.inside.fti; flags = c.self.inside.flags; seen = c.self.inside.seen }) c.self.inside.plan c.self.inside.info c.self.inside.first c.self.inside.symbol c.self.inside.ring.items c.self.inside.spares.items c.index.result.now c.self.invariant at)
+
+pub returns-clause-fewer : goal.returns-clause-fewer
+returns-clause-fewer c =
+    let some : 0 < length c.self.inside.ring.items = (let n = c.self.invariant.some in omega (arith, n)) in
+    let there : is_some (source_of c.index.result.now c.self.inside.symbol) ≡ true =
+    ap (λ (o : Option (List ℕ)). is_some o) (sym (next_value (record { index = c.self.inside.index; fti = c.self.inside.fti; flags = c.self.inside.flags; seen = c.self.inside.seen }) c.self.inside.info c.self.inside.first c.self.inside.symbol c.self.inside.ring.items c.index.result.now c.self.invariant.stream c.self.invariant.blocks some c.index.ensures))
+    ∙ subst (λ (o : StreamState). is_some (next_segment (alone o) o.plan) ≡ true) (sym c.self.view_is)
+    (there_by (next_segment (alone c.args.self.now) c.args.self.now.plan) (λ symbol. c.args.len ≡ min (number 2 0 symbol) c.args.self.now.plan.fti.e) c.requires) in
+    let at : is_some (source_of (get_or c.self.inside.ring.items 0 c.index.result.now) c.self.inside.symbol) ≡ true = ap (λ (b : BlockState). is_some (source_of b c.self.inside.symbol)) (sym c.index.ensures) ∙ there in
+    subst (λ (o : StreamState). left (stream_of (record { index = c.self.inside.index; fti = c.self.inside.fti; flags = c.self.inside.flags; seen = c.self.inside.seen }) c.self.inside.info (c.self.inside.first + 1) 0 c.shift.new.ring.items) < left o) c.self.view_is
+    (left_passed (record { index = c.self.inside.index; fti = c.self.inside.fti; flags = c.self.inside.flags; seen = c.self.inside.seen }) c.self.inside.plan c.self.inside.info c.self.inside.first c.self.inside.symbol c.self.inside.ring.items c.self.inside.spares.items c.index.result.now c.self.invariant at
+    c.source_len-count.result (c.from-size.result + 8) c.shift.new.ring.items
+    (let e = c.source_len-count.ensures.exact ∙ ap (λ (x : Cut). source_symbols x 0) c.self.invariant.cut_is in omega (arith, e, c.if-self-count.false))
+    (c.shift.ensures.ring ∙ ap (λ (b : BlockState). drop 1 c.self.inside.ring.items ++ b ∷ []) c.new.ensures))

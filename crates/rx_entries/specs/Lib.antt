@@ -1,0 +1,4 @@
+pub mod Seats
+pub mod FrontSound
+pub mod Fits
+pub mod HoldSound

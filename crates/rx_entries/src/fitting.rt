@@ -1,0 +1,202 @@
+//! How transmission information fits what is held, and the object that is taken up with it (RFC 5740 section 5.3 on EXT_FTI).
+
+ghost use Rattle.std.specs.Prelude.{◌≡◌, ◌==◌, ◌&&◌, ◌||◌, ◌<◌, ◌≤◌, ◌+◌, ◌^◌, false, if◌then◌else◌, IfErr, IfOk, OnErr, MatchResult, None, Some, nat_le, nat_lt};
+ghost use Rattle.fec_plan.specs.Partition.{first_fault};
+ghost use Rattle.norm_receive_rules.specs.Fitting.{fit_of, fitted, most_ahead, room_of, with_plan};
+ghost use Rattle.norm_receive_rules.specs.Holding.{Holding, new_plan};
+ghost use Rattle.norm_receive_rules.specs.Plans.{cut_by, says_stream};
+ghost use Rattle.norm_receive_rules.specs.declared.words.Fit.TheVariants as fit_word;
+ghost use Rattle.rx_hold.specs.EntryState.{IsOfKind, entry_of};
+ghost use Rattle.rx_hold.specs.EntryHold.{StandsFor};
+ghost use Rattle.rx_entries.specs.Fits.{MayTake, are_same, empty_entry};
+ghost use Rattle.rx_entries.specs.FrontSound.{IsFront, front_view};
+
+use crate::front::Front;
+use crate::ring::{PLACES, Seat};
+use fec_plan::{Plan, PlanFault};
+use norm_base::{Memory, Profile};
+use norm_ext::Fti;
+use norm_ext::flags::STREAM;
+use norm_ext::items::has_flag;
+use norm_receive_rules::Fit;
+use rx_hold::{Entry, Object};
+use rx_stream::Stream;
+use std::alloc::Global;
+
+/// For how many hand-ups room is taken with an object: a stream's open and its loss. Data and files need one.
+const FIRST_UPS: usize = 2;
+
+/// Whether flags are a stream's.
+fn is_stream(flags: u8) -> bool
+    ensures { result ≡ says_stream flags }
+{
+    has_flag(flags, STREAM)
+}
+
+/// How many octets an object takes: its length, and of a stream its buffer.
+fn room_of(profile: &Profile, fti: &Fti, flags: u8) -> u64
+    ensures exact { result ≡ room_of profile.now fti.now flags }
+    ensures most { result < 2 ^ 48 }
+{
+    if is_stream(flags) {
+        return u64::from(profile.blocks) * u64::from(profile.b) * u64::from(profile.e);
+    }
+    fti.l
+}
+
+/// Whether both say the same plan; of a stream the length says nothing.
+fn is_same(fti: &Fti, flags: u8, known: &Fti, known_flags: u8) -> bool
+    ensures { result ≡ are_same fti.now flags known.now known_flags }
+{
+    fti.e == known.e
+        && fti.b == known.b
+        && fti.max_n == known.max_n
+        && is_stream(flags) == is_stream(known_flags)
+        && (is_stream(flags) || fti.l == known.l)
+}
+
+/// The word that transmission information gets, where this is the one that is known.
+fn known_word(fti: &Fti, flags: u8, known: &Fti, known_flags: u8) -> Fit
+    ensures word { result ≡ (if are_same fti.now flags known.now known_flags then fit_word.Known else fit_word.Unfit) }
+    ensures other { result ≡ fit_word.Taken → ⊥ }
+{
+    if is_same(fti, flags, known, known_flags) {
+        return Fit::Known;
+    }
+    Fit::Unfit
+}
+
+/// Whether a plan with these symbols, and the blocks that transmission information says, is of the profile.
+fn is_of(profile: &Profile, e: u16, fti: &Fti) -> bool
+    ensures { result ≡ (e == profile.now.e && fti.now.b == profile.now.b && fti.now.max_n == profile.now.max_n) }
+{
+    e == profile.e && fti.b == profile.b && fti.max_n == profile.max_n
+}
+
+/// The plan of an object with this transmission information, or what is wrong with it.
+fn plan_by(fti: &Fti, flags: u8) -> Result<Plan, PlanFault>
+    ensures { MatchResult result (λ plan. (first_fault (cut_by fti.now flags) ≡ None) × (plan ≡ cut_by fti.now flags)) (λ fault. first_fault (cut_by fti.now flags) ≡ Some fault) }
+{
+    if is_stream(flags) {
+        return Plan::stream(fti.e, fti.b, fti.max_n);
+    }
+    Plan::of(fti.l, fti.e, fti.b, fti.max_n)
+}
+
+impl Front {
+    /// Whether an object that is not over is too far ahead, or there is no room for its octets.
+    fn is_away(&self, index: u32, fti: &Fti, flags: u8) -> bool
+        requires front { IsFront self.now }
+        requires reached { self.now.point ≤ index }
+        ensures { result ≡ (nat_le (self.now.point + most_ahead) index || nat_lt self.now.profile.octets (self.now.taken + room_of self.now.profile fti.now flags)) }
+    {
+        let profile = self.profile;
+        (index - self.point) as usize >= PLACES
+            || self.taken + room_of(&profile, fti, flags) > u64::from(profile.octets)
+    }
+
+    /// The plan by which an object is taken up with this transmission information, or the word that it gets instead.
+    fn plan_for(&self, index: u32, fti: &Fti, flags: u8) -> Result<Plan, Fit>
+        requires { IsFront self.now }
+        ensures word { (s : Holding) → StandsFor (front_view self.now) s → MatchResult result (λ _. fit_of self.now.profile s index fti.now flags ≡ fit_word.Taken)
+            (λ word. word ≡ fit_of self.now.profile s index fti.now flags) }
+        ensures other { IfErr result (λ word. word ≡ fit_word.Taken → ⊥) }
+        ensures plan { IfOk result (λ plan. plan ≡ cut_by fti.now flags) }
+        ensures may { IfOk result (λ plan. MayTake self.now index fti.now flags plan) }
+    {
+        if index < self.point {
+            return Err(Fit::Known);
+        }
+        if let Some(entry) = self.entry(index) {
+            return Err(known_word(fti, flags, &entry.fti(), entry.flags()));
+        }
+        if self.is_away(index, fti, flags) {
+            return Err(Fit::Away);
+        }
+        let Ok(plan) = plan_by(fti, flags) else {
+            return Err(Fit::Unfit);
+        };
+        if !is_of(&self.profile, plan.e(), fti) {
+            return Err(Fit::Unfit);
+        }
+        Ok(plan)
+    }
+
+    /// Takes up an object with this plan, and with it room for its first hand-ups.
+    fn take_up(
+        &mut self,
+        alloc: Global,
+        index: u32,
+        fti: &Fti,
+        flags: u8,
+        plan: &Plan,
+    ) -> Result<(), Memory>
+        requires front { IsFront self.old }
+        requires may { MayTake self.old index fti.now flags plan.now }
+        requires cut { plan.now ≡ cut_by fti.now flags }
+        requires last { index < 4294967295 }
+        ensures sound { IsFront self.new }
+        ensures profile { self.new.profile ≡ self.old.profile }
+        ensures state { IfOk result (λ _. (s : Holding) → StandsFor (front_view self.old) s → fit_of self.old.profile s index fti.now flags ≡ fit_word.Taken
+            → StandsFor (front_view self.new) (with_plan index fti.now flags s)) }
+        ensures refused { OnErr result (front_view self.new ≡ front_view self.old) }
+    {
+        let profile = self.profile;
+        let entry = new_entry(alloc, index, fti, flags, plan, profile.blocks)?;
+        self.reserve(FIRST_UPS)?;
+        let place = (index - self.point) as usize;
+        let seat = Seat {
+            entry,
+            waiting: FIRST_UPS,
+        };
+        self.seat(place, seat, room_of(&profile, fti, flags));
+        Ok(())
+    }
+
+    /// The transmission information of an object, and its flags, come: where they fit and are new, the object is taken up.
+    ///
+    /// # Errors
+    ///
+    /// `Memory` where memory runs out; then nothing changes.
+    pub fn fti(&mut self, alloc: Global, index: u32, fti: &Fti, flags: u8) -> Result<Fit, Memory>
+        requires front { IsFront self.old }
+        requires last { index < 4294967295 }
+        ensures sound { IsFront self.new }
+        ensures profile { self.new.profile ≡ self.old.profile }
+        ensures state { IfOk result (λ word. (s : Holding) → StandsFor (front_view self.old) s
+            → (word ≡ fit_of self.old.profile s index fti.now flags) × StandsFor (front_view self.new) (fitted word index fti.now flags s)) }
+        ensures refused { OnErr result (front_view self.new ≡ front_view self.old) }
+    {
+        match self.plan_for(index, fti, flags) {
+            Ok(plan) => {
+                self.take_up(alloc, index, fti, flags, &plan)?;
+                Ok(Fit::Taken)
+            }
+            Err(word) => Ok(word),
+        }
+    }
+}
+
+/// An object of which nothing is held. It takes the memory that its symbols need where it is data or a file, and of a stream that of
+/// the segments that are handed up.
+fn new_entry(
+    alloc: Global,
+    index: u32,
+    fti: &Fti,
+    flags: u8,
+    plan: &Plan,
+    blocks: u16,
+) -> Result<Entry, Memory>
+    requires cut { plan.now ≡ cut_by fti.now flags }
+    requires length { says_stream flags ≡ false → fti.now.l ≤ 16777216 }
+    requires some { 1 ≤ blocks }
+    ensures state { IfOk result (λ entry. entry_of entry ≡ empty_entry (new_plan index fti.now flags) blocks) }
+    ensures kind { IfOk result (λ entry. IsOfKind entry) }
+{
+    if is_stream(flags) {
+        let stream = Stream::new(alloc, index, fti, flags, plan, blocks)?;
+        return Ok(Entry::Stream(stream));
+    }
+    let object = Object::new(alloc, index, fti, flags, plan)?;
+    Ok(Entry::Object(object))
+}

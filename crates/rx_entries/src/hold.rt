@@ -1,0 +1,251 @@
+//! What a receiver holds of objects that it did not hand up yet.
+
+ghost use Rattle.std.specs.Prelude.{◌≡◌, ◌<◌, ◌≤◌, [], IfOk, IfNone, MatchOption, OnErr, is_some, length, not, false, ⊤};
+ghost use Rattle.fec_plan.specs.Partition.{blocks};
+ghost use Rattle.fec_plan.specs.Points.{point as point_at, point_of, point_before, position};
+ghost use Rattle.norm_receive_rules.specs.Acknowledging.{lost_nothing};
+ghost use Rattle.norm_receive_rules.specs.Fitting.{fit_of, fitted};
+ghost use Rattle.norm_receive_rules.specs.Holding.{Holding, holding_nothing};
+ghost use Rattle.norm_receive_rules.specs.Plans.{cut_of_plan, holds, info_of};
+ghost use Rattle.norm_receive_rules.specs.Putting.{put_info_of, put_of, with_info, with_symbol};
+ghost use Rattle.norm_receive_rules.specs.Seeing.{sees_block};
+ghost use Rattle.norm_receive_rules.specs.Taking.{up_taken};
+ghost use Rattle.rx_hold.specs.EntryHold.{StandsFor};
+ghost use Rattle.rx_hold.specs.HoldState.{flags_at, missing_at, plan_at};
+ghost use Rattle.rx_entries.specs.FrontSound.{object_in};
+ghost use Rattle.rx_entries.specs.HoldSound.{empty_hold};
+
+use crate::front::Front;
+use crate::ring::{PLACES, fill};
+use fec_plan::{PayloadId, Plan, Point, Position};
+use norm_base::{Memory, Profile};
+use norm_ext::Fti;
+use norm_order::Up;
+use norm_receive_rules::{Fit, Missing, Put};
+use rx_stream::Scratch;
+use std::alloc::Global;
+use std::collections::VecDeque;
+use std::marker::Model;
+
+/// The octets of a segment's place, which stand before its own.
+const SEGMENT_PLACE: usize = 8;
+
+/// Where the next source symbol is that is to be handed up. A stream whose last block was handed up, of those that 24 bits name, goes
+/// on behind it, at a block that no message names.
+#[derive(Clone, Copy, Debug, PartialEq, Eq)]
+pub struct Place {
+    pub index: u32,
+    pub block: u32,
+    pub symbol: u8,
+}
+
+/// What a receiver holds.
+#[derive(Debug, Drop)]
+pub struct Hold {
+    alloc: Global,
+    front: Front,
+    /// Room for the symbols of a block of data or a file.
+    row: Vec<u8>,
+    /// Room for those of a stream's block.
+    scratch: Scratch,
+}
+
+impl Model for Hold {
+    ghost use Rattle.rx_hold.specs.EntryHold.{EntryHold};
+
+    ghost Value = { EntryHold };
+
+    ghost use Rattle.rx_entries.specs.HoldSound.{hold_view, IsSoundHold};
+
+    ghost view = { hold_view };
+
+    ghost invariant = { IsSoundHold };
+}
+
+impl Hold {
+    /// Nothing is held.
+    ///
+    /// # Errors
+    ///
+    /// `Memory` where memory runs out.
+    pub fn new(alloc: Global, profile: &Profile) -> Result<Hold, Memory>
+        ensures empty { IfOk result (λ hold. hold ≡ empty_hold profile.now) }
+        ensures begun { IfOk result (λ hold. StandsFor hold holding_nothing) }
+    {
+        let mut ring = VecDeque::with_capacity(alloc, PLACES)?;
+        fill(&mut ring);
+        let size = usize::from(profile.e);
+        let row = vec![in alloc; 0; usize::from(profile.b) * size]?;
+        let scratch = Scratch::new(alloc, profile.b, size + SEGMENT_PLACE)?;
+        Ok(Hold {
+            alloc,
+            front: Front {
+                profile: *profile,
+                point: 0,
+                ring,
+                taken: 0,
+                waiting: 0,
+                ups: VecDeque::new(alloc),
+                lost: false,
+            },
+            row,
+            scratch,
+        })
+    }
+
+    /// A hold of this profile of which nothing is held, for an instance that begins: it takes the place of this one once
+    /// nothing can fail any more.
+    ///
+    /// # Errors
+    ///
+    /// `Memory` where memory runs out.
+    pub fn anew(&self) -> Result<Hold, Memory>
+        ensures empty { IfOk result (λ hold. hold ≡ empty_hold self.now.p) }
+        ensures begun { IfOk result (λ hold. StandsFor hold holding_nothing) }
+    {
+        Hold::new(self.alloc, &self.front.profile)
+    }
+
+    /// The next source symbol that is to be handed up.
+    pub fn hand_up(&self) -> Place
+        ensures exact { position result.index result.block result.symbol ≡ self.now.point }
+        ensures state { (s : Holding) → StandsFor self.now s → position result.index result.block result.symbol ≡ s.point }
+    {
+        Place {
+            index: self.front.point,
+            block: self.front.first_block(),
+            symbol: self.front.first_symbol(),
+        }
+    }
+
+    /// How an object is cut. `None` exactly where it has no plan.
+    pub fn plan(&self, index: u32) -> Option<Plan>
+        requires { self.now.point.index ≤ index }
+        ensures { (s : Holding) → StandsFor self.now s → result ≡ plan_at s index }
+    {
+        self.front.plan(index)
+    }
+
+    /// The flags of an object. `None` exactly where it has no plan.
+    pub fn flags(&self, index: u32) -> Option<u8>
+        requires { self.now.point.index ≤ index }
+        ensures { (s : Holding) → StandsFor self.now s → result ≡ flags_at s index }
+    {
+        self.front.flags(index)
+    }
+
+    /// Whether the info of an object is held.
+    pub fn has_info(&self, index: u32) -> bool
+        requires { self.now.point.index ≤ index }
+        ensures { (s : Holding) → StandsFor self.now s → result ≡ is_some (info_of s index) }
+    {
+        self.front.has_info(index)
+    }
+
+    /// Whether a symbol is held.
+    pub fn holds(&self, at: Position) -> bool
+        requires { point_before (point_of at) (point_of self.now.point) ≡ false }
+        ensures { (s : Holding) → StandsFor self.now s → result ≡ holds s at }
+    {
+        self.front.holds(at.index, at.block, at.symbol)
+    }
+
+    /// What is lacking of a block. Where the object has a plan, the block is one of its.
+    pub fn missing(&self, index: u32, block: u32) -> Missing
+        requires reached { point_before (point_at index block) (point_of self.now.point) ≡ false }
+        requires block { MatchOption (object_in self.now index) ⊤ (λ o. block < blocks (cut_of_plan o.plan)) }
+        ensures { (s : Holding) → StandsFor self.now s → result ≡ missing_at s index block }
+    {
+        self.front.missing(index, block)
+    }
+
+    /// Whether an object was lost in this instance.
+    pub fn has_lost(&self) -> bool
+        ensures { (s : Holding) → StandsFor self.now s → lost_nothing s ≡ not result }
+    {
+        self.front.lost
+    }
+
+    /// How many hand-ups were not taken yet.
+    pub fn ups(&self) -> usize
+        ensures { result ≡ length self.now.ups }
+    {
+        self.front.ups.len()
+    }
+
+    /// A block is seen, whether what came with it is kept or not: of a stream the greatest one is kept.
+    pub fn see(&mut self, at: Point)
+        requires { self.old.point.index ≤ at.index }
+        ensures profile { self.new.p ≡ self.old.p }
+        ensures state { (s : Holding) → StandsFor self.old s → StandsFor self.new (sees_block at s) }
+    {
+        self.front.see_block(at.index, at.block);
+    }
+
+    /// Takes the next hand-up, where one is left. `None` where all were taken; then nothing changes.
+    pub fn next_up(&mut self) -> Option<Up>
+        ensures profile { self.new.p ≡ self.old.p }
+        ensures none { IfNone result ((self.old.ups ≡ []) × (self.new ≡ self.old)) }
+        ensures rest { self.new ≡ record self.old { ups = self.new.ups } }
+        ensures state { (s : Holding) → StandsFor self.old s → (result ≡ (up_taken s).1) × StandsFor self.new (up_taken s).0 }
+    {
+        self.front.ups.pop_front()
+    }
+
+    /// A symbol of an object comes: it is kept where it is news. What can be handed up by it waits for `advance`.
+    ///
+    /// The first word that applies: `Had` where the object was handed up or lost, the symbol is held, or its block is done; `Away`
+    /// where the object has no plan, or there is no room for a stream's block; `Unfit` where it has no such encoded symbol, or the
+    /// payload is not the symbol's; `Kept`.
+    ///
+    /// # Errors
+    ///
+    /// `Memory` where memory runs out; then nothing changes.
+    pub fn put(&mut self, index: u32, id: PayloadId, payload: &[u8]) -> Result<Put, Memory>
+        ensures profile { self.new.p ≡ self.old.p }
+        ensures state { IfOk result (λ word. (s : Holding) → StandsFor self.old s
+            → (word ≡ put_of self.old.p s (position index id.block id.symbol) payload.now)
+            × StandsFor self.new (with_symbol word (position index id.block id.symbol) payload.now s)) }
+        ensures refused { OnErr result (self.new ≡ self.old) }
+    {
+        self.front
+            .put(index, id, payload, &mut self.row, &mut self.scratch)
+    }
+
+    /// The transmission information of an object, and its flags, come: where they fit and are new, the object is taken up. Data and
+    /// files take all the memory that their symbols need; a stream takes that of each symbol as it comes.
+    ///
+    /// The first word that applies: `Known` where the object has this plan already, or was handed up or lost; `Away` where it is 256
+    /// objects or more ahead, or is new and there is no room for its octets, which of a stream are those of its buffer; `Unfit` where
+    /// the plan is refused, is not the one that is known, or is not of the profile; `Taken`. Of a stream the length says nothing.
+    ///
+    /// # Errors
+    ///
+    /// `Memory` where memory runs out; then nothing changes.
+    pub fn fti(&mut self, index: u32, fti: &Fti, flags: u8) -> Result<Fit, Memory>
+        requires { index < 4294967295 }
+        ensures profile { self.new.p ≡ self.old.p }
+        ensures state { IfOk result (λ word. (s : Holding) → StandsFor self.old s
+            → (word ≡ fit_of self.old.p s index fti.now flags) × StandsFor self.new (fitted word index fti.now flags s)) }
+        ensures refused { OnErr result (self.new ≡ self.old) }
+    {
+        self.front.fti(self.alloc, index, fti, flags)
+    }
+
+    /// The info of an object comes: it is kept where it is news.
+    ///
+    /// The first word that applies: `Had` where the object was handed up or lost, or its info is held; `Away` where it has
+    /// no plan; `Unfit` where the info is above `e` octets or the object's flags have no INFO; `Kept`.
+    ///
+    /// # Errors
+    ///
+    /// `Memory` where memory runs out; then nothing changes.
+    pub fn put_info(&mut self, index: u32, info: &[u8]) -> Result<Put, Memory>
+        ensures profile { self.new.p ≡ self.old.p }
+        ensures state { IfOk result (λ word. (s : Holding) → StandsFor self.old s
+            → (word ≡ put_info_of self.old.p s index info.now) × StandsFor self.new (with_info word index info.now s)) }
+        ensures refused { OnErr result (self.new ≡ self.old) }
+    {
+        self.front.keep_info(self.alloc, index, info)
+    }
+}
