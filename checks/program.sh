@@ -90,7 +90,15 @@ row 'a session' 0 'enq 1 1 7 0 data 5\nup 2 7 0 data 5 - 68656c6c6f\nend objects
 words 'no word says what to do'
 words 'the word sessions is unknown' sessions
 words 'the word normd is unknown' normd session
-words 'the word hub is not built yet' hub profile
+takes_profile='takes one word, the path of a profile'
+recv_takes='recv takes two words, the path of a profile and a node, from 1 to 4294967294'
+words "send $takes_profile" send
+words "send $takes_profile" send one two
+words "hub $takes_profile" hub --help
+words "$recv_takes" recv profile
+words "$recv_takes" recv profile 0
+words "$recv_takes" recv profile 02
+words "$recv_takes" recv profile 4294967295
 session_takes='session takes --chance N, from 0 to 4294967295, and --turns N, from 1 to 4000000, each at most once, and no other word'
 words "$session_takes" session now
 words "$session_takes" session --help
@@ -203,6 +211,118 @@ refused 1 'it has an octet 0, 254 or 255, as UTF-16 has: write ASCII or UTF-8' '
 refused 1 'it has an octet 0, 254 or 255, as UTF-16 has: write ASCII or UTF-8' 's\0000e\0000t\0000 \0000e\0000\n'
 refused 1 'it ends with a space' '1 data 61 \n'
 refused 1 'it has two spaces in a row: words have one between them' 'set  e 64\n'
+
+# Nodes, each in a process of its own: the sender lists both receivers, which put the file that they hand up. They are ended by a signal.
+port=$((20000 + $$ % 20000))
+printf 'fabric = "udp"\nport = %s\nreceivers = 2\nstep = 0\n' "$port" >"$scratch/profile"
+mkdir "$scratch/two" "$scratch/three" || exit 1
+"$program" hub "$scratch/profile" </dev/null >"$scratch/hub.out" 2>&1 &
+nodes=$!
+for node in two 2 three 3; do
+    case $node in
+        two | three) folder=$node ;;
+        *)
+            (cd "$scratch/$folder" && exec "$program" recv ../profile "$node" </dev/null) >"$scratch/$folder.out" 2>&1 &
+            nodes="$nodes $!"
+            ;;
+    esac
+done
+printf '1 file letter.txt\n1 mark\n' >"$scratch/in"
+(cd "$files" && exec "$program" send "$scratch/profile") <"$scratch/in" >"$scratch/out" 2>"$scratch/err"
+status=$?
+mv "$scratch/out" "$scratch/sent"
+mv "$scratch/err" "$scratch/said"
+: >"$scratch/in"
+(cd "$files" && exec "$program" hub "$scratch/profile") <"$scratch/in" >"$scratch/out" 2>"$scratch/err"
+taken=$?
+# shellcheck disable=SC2086 # each is a process of its own
+kill $nodes
+wait 2>/dev/null
+ended $taken 'a hub whose port is taken' 6
+echo 'fault fabric' | cmp -s - "$scratch/out" || { echo 'program: a hub whose port is taken wrote'; cat "$scratch/out"; exit 1; }
+reason="cannot bind 127.0.0.1:$port: Address already in use (os error 98)\n"
+said 'a hub whose port is taken'
+mv "$scratch/sent" "$scratch/out"
+mv "$scratch/said" "$scratch/err"
+ended $status 'a sender alone' 0
+{
+    printf 'enq 1 1 1 0 file 141\nmark 1 2 1 1 0 0 0\ndone 1 satisfied\n'
+    printf 'end objects 1 octets 141 handed 0 lost 0 satisfied 1 expired 0 cut 0\npast 2 1 0 0 0\npast 3 1 0 0 0\n'
+} | LC_ALL=C sort >"$scratch/wanted"
+LC_ALL=C sort "$scratch/out" | cmp -s "$scratch/wanted" - || { echo 'program: a sender alone wrote'; cat "$scratch/out"; exit 1; }
+said 'a sender alone'
+for node in two:2 three:3; do
+    folder=${node%:*}
+    node=${node#*:}
+    cmp -s examples/letter.txt "$scratch/$folder/n$node-i1-x0" || { echo "program: receiver $node put another file"; exit 1; }
+    echo "up $node $up" | cmp -s - "$scratch/$folder.out" || { echo "program: receiver $node wrote"; cat "$scratch/$folder.out"; exit 1; }
+done
+[ ! -s "$scratch/hub.out" ] || { echo 'program: the hub wrote'; cat "$scratch/hub.out"; exit 1; }
+
+# profile STATUS LINE WHY TEXT: a profile that gives no run. Its turns are few, so that a node that ran would end.
+profile() {
+    printf '%b' "$4" >"$scratch/profile"
+    : >"$scratch/in"
+    for node in send recv hub; do
+        reason=$3
+        case $node in
+            recv) row "$node with the profile $4" "$1" "$2" recv "$scratch/profile" 2 ;;
+            *) row "$node with the profile $4" "$1" "$2" "$node" "$scratch/profile" ;;
+        esac
+    done
+}
+
+refuses() {
+    profile 3 'refused profile\n' "the profile is refused: $1\n" "$2"
+}
+
+refuses 'it is no TOML document' 'e 64\n'
+refuses 'it is no TOML document' '\0377'
+refuses 'it has more than 65536 octets' "#$(digits 65536)"
+refuses 'the key f is unknown' 'e = 64\nf = 1\n'
+refuses 'the key e takes a whole number from 64 to 1400' 'e = "64"\n'
+refuses 'the key e takes a whole number from 64 to 1400' 'e = 63\n'
+refuses 'the key mode takes "hold" or "drop"' 'mode = 1\n'
+refuses 'the key max_n is 3, and less than b, 4' 'b = 4\nmax_n = 3\n'
+printf 'turns = 3\n' >"$scratch/profile"
+: >"$scratch/in"
+row 'a receiver that hears nothing' 0 '' recv "$scratch/profile" 2
+row 'a hub that hears nothing' 0 '' hub "$scratch/profile"
+row 'a sender with nothing to do' 0 "$none" send "$scratch/profile"
+reason='the node 3 is no receiver of the profile, whose receivers are 2 to 2\n'
+row 'a node that is no receiver' 3 'refused profile\n' recv "$scratch/profile" 3
+row 'a profile that is absent' 7 'absent ../none.toml\n' hub ../none.toml
+printf '1 data 61\n1 data 62\n' >"$scratch/in"
+printf 'turns = 1\n' >"$scratch/profile"
+row 'a sender whose turns are spent' 8 'enq 1 1 1 0 data 1\nend objects 1 octets 1 handed 0 lost 0 satisfied 0 expired 0 cut 0\nturns spent\n' send "$scratch/profile"
+
+# What is said of a node at work: a step that is none for sockets, and each datagram.
+: >"$scratch/in"
+printf 'fabric = "udp"\nport = %s\nturns = 1\n' "$port" >"$scratch/profile"
+step="the profile's step is 1000: over sockets it is to be 0, so that the clock gives the moments\n"
+reason=$step
+row 'a receiver by steps over sockets' 0 '' recv "$scratch/profile" 2
+reason=$step
+row 'a sender by steps over sockets' 0 "$none" send "$scratch/profile"
+row 'a hub by steps over sockets' 0 '' hub "$scratch/profile"
+hello=120800000000000100074041000500000000000040030000000000050040406068656c6c6f
+NORMD_LOG=trace "$program" session <examples/hello.norm >"$scratch/out" 2>"$scratch/err"
+ended $? 'a session whose datagrams are traced' 0
+reason="offer 1 $hello\ntake 2 $hello\n"
+said 'a session whose datagrams are traced'
+printf 'turns = 1\n' >"$scratch/profile"
+
+# unsent LINE WHY INPUT: a script for `send` of which this line is the first without meaning.
+unsent() {
+    printf '%b' "$3" >"$scratch/in"
+    reason="line $1: $2\n"
+    row "the script for send $3" 3 "refused line $1\n" send "$scratch/profile"
+}
+
+unsent 1 'no key is set here: keys are set before every command' 'set e 64\n1 data 61\n'
+unsent 2 "$streams" '1 data 61\n1 open\n'
+unsent 3 "$contents" '1 data 61\n1 open\n1 data 6\n'
+unsent 2 'the producer is 2, and there are 1' '\n2 data 61\n'
 
 # Datagrams, and lines that spell none.
 printf '1908000000000001\n\n1304E4DB0000000183CD53C40600FF3E' >"$scratch/in"

@@ -4,4 +4,6 @@
 #[cfg(test)]
 mod alone;
 #[cfg(test)]
+mod sessions;
+#[cfg(test)]
 mod threads;

@@ -11,6 +11,7 @@ use norm_memory::{MemClock, MemFiles, MemSink};
 use norm_node::{run_hub, run_receiver};
 use norm_script::{Extent, Script, read};
 use norm_session::run_send;
+use producer_gate::{Board, Through};
 use std::alloc::Global;
 use std::process::Abort;
 use std::sync::Wait;
@@ -104,10 +105,15 @@ fn sent<R: Threads + Wait + Sync>(
     let Some(script) = script_of(alloc, text)? else {
         return Ok(None);
     };
+    let Ok((mut board, _readers)) = Board::new(alloc, 1) else {
+        return Ok(None);
+    };
     match run_send(
         rt,
         alloc,
         &script,
+        &Through,
+        &mut board,
         &mut output,
         &mut fabric,
         &mut files,

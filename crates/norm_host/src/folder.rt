@@ -1,6 +1,6 @@
 //! The files of one folder.
 
-ghost use Rattle.std.specs.Prelude.{◌≡◌, ◌↔◌, ◌<◌, ◌≤◌, None, Some, Ok, IsTrue, IsOk, length, string_bytes, IfOk, IfErr, OnOk, OnErr, is_err, true, false};
+ghost use Rattle.std.specs.Prelude.{◌≡◌, ◌↔◌, ◌<◌, ◌≤◌, None, Some, Ok, IsTrue, IsOk, IfSome, length, string_bytes, IfOk, IfErr, OnOk, OnErr, is_err, true, false};
 ghost use Rattle.std.specs.Fs.{metadata_len, file_type, IsFile};
 ghost use Rattle.std.specs.Io.Seek.{MovesTo};
 ghost use Rattle.std.specs.IoError.{error_kind};
@@ -91,15 +91,50 @@ fn fault_of(error: &io::Error) -> FileFault
     FileFault::Failed
 }
 
+/// The most octets of a file that are read ahead: a file that is sent is asked for a symbol at a time.
+const AHEAD: usize = 65_536;
+
+/// Octets of a file that were read ahead, from an offset on.
+#[derive(Drop)]
+struct Ahead {
+    name: String,
+    offset: u64,
+    octets: Vec<u8>,
+}
+
+impl Ahead {
+    /// Gives of a file's octets from an offset on those that are here and have room. `None` where there are none.
+    fn give(&self, name: &str, offset: u64, buf: &mut [u8]) -> Option<usize>
+        ensures { IfSome result (λ n. (0 < n) × (n ≤ length buf.old)) }
+    {
+        if self.name.as_bytes() != name.as_bytes() {
+            return None;
+        }
+        let start = usize::try_from(offset.checked_sub(self.offset)?).ok()?;
+        if start >= self.octets.len() {
+            return None;
+        }
+        let there = self.octets.split_at(start).1;
+        let n = there.len().min(buf.len());
+        if n == 0 {
+            return None;
+        }
+        buf.split_at_mut(n).0.copy_from_slice(there.split_at(n).0);
+        Some(n)
+    }
+}
+
 /// The files of one folder, and one path that is read as it stands, where it was told one. Any other name that is none of a file there, also
 /// one with a slash or that begins with a `.`, is absent, and put nowhere. A file that is put is written beside its name and renamed, so that
-/// nobody sees a part of it. A read of 0 octets, and want of memory, are faults. It tells nothing of what the files hold.
+/// nobody sees a part of it. A read of 0 octets, and want of memory, are faults. It tells nothing of what the files hold. A read keeps up to
+/// 65,536 octets of the file for the reads behind it, until a length is asked for or a file is put.
 #[derive(Drop)]
 pub struct FolderFiles<F> {
     files: F,
     alloc: Global,
     folder: String,
     told: Option<String>,
+    ahead: Option<Ahead>,
     faults: u64,
     cause: Option<Cause>,
 }
@@ -115,6 +150,7 @@ impl<F: fs::Files + Drop> FolderFiles<F> {
             alloc,
             folder: String::from_str(alloc, folder)?,
             told: None,
+            ahead: None,
             faults: 0,
             cause: None,
         })
@@ -182,17 +218,46 @@ impl<F: fs::Files + Drop> FolderFiles<F> {
         self.plain_length(path.as_str())
     }
 
-    /// Reads at least one octet of a file, from an offset on.
-    fn read_of(&self, name: &str, offset: u64, buf: &mut [u8]) -> io::Result<usize>
-        ensures { IfOk result (λ n. (0 < n) × (n ≤ length buf.old)) }
-    {
+    /// Reads octets of a file ahead, from an offset on.
+    fn ahead_of(&self, name: &str, offset: u64) -> io::Result<Ahead> {
         let path = self.path_read(name)?;
         self.plain_length(path.as_str())?;
         let mut file = fs::open(&self.files, path.as_str())?;
         seek_to(&mut file, offset)?;
-        match file.read(buf)? {
-            0 => Err(io::Error::from(ErrorKind::UnexpectedEof)),
-            n => Ok(n),
+        let mut octets = vec![in self.alloc; 0u8; AHEAD]?;
+        let n = file.read(&mut octets)?;
+        octets.truncate(n);
+        let name = String::from_str(self.alloc, name)?;
+        Ok(Ahead {
+            name,
+            offset,
+            octets,
+        })
+    }
+
+    /// Gives octets of a file that were read ahead.
+    fn give_ahead(&self, name: &str, offset: u64, buf: &mut [u8]) -> Option<usize>
+        ensures { IfSome result (λ n. (0 < n) × (n ≤ length buf.old)) }
+    {
+        match &self.ahead {
+            Some(ahead) => ahead.give(name, offset, buf),
+            None => None,
+        }
+    }
+
+    /// Reads at least one octet of a file, from an offset on: of those that were read ahead, or else after reading ahead.
+    fn read_of(&mut self, name: &str, offset: u64, buf: &mut [u8]) -> io::Result<usize>
+        ensures count { IfOk result (λ n. (0 < n) × (n ≤ length buf.old)) }
+        ensures faults { self.new.faults ≡ self.old.faults }
+    {
+        if let Some(n) = self.give_ahead(name, offset, buf) {
+            return Ok(n);
+        }
+        self.ahead = None;
+        self.ahead = Some(self.ahead_of(name, offset)?);
+        match self.give_ahead(name, offset, buf) {
+            Some(n) => Ok(n),
+            None => Err(io::Error::from(ErrorKind::UnexpectedEof)),
         }
     }
 
@@ -225,7 +290,12 @@ impl<F: fs::Files + Drop> FolderFiles<F> {
         ensures { Counts self.old.faults self.new.faults true }
     {
         self.faults = self.faults.saturating_add(1);
-        self.cause = match path_in(self.alloc, &self.folder, name) {
+        let path = if self.is_told(name) {
+            String::from_str(self.alloc, name)
+        } else {
+            path_in(self.alloc, &self.folder, name)
+        };
+        self.cause = match path {
             Ok(path) => Some(Cause::File { path, error }),
             Err(_) => None,
         };
@@ -255,6 +325,7 @@ impl<F: fs::Files + Drop> Files for FolderFiles<F> {
     ghost fault_count = { λ s. s.faults };
 
     fn length(&mut self, name: &str) -> Result<u64, FileFault> {
+        self.ahead = None;
         let done = self.length_of(name);
         self.answer(name, done)
     }
@@ -265,6 +336,7 @@ impl<F: fs::Files + Drop> Files for FolderFiles<F> {
     }
 
     fn put(&mut self, name: &str, bytes: &[u8]) -> Result<(), Failed> {
+        self.ahead = None;
         if let Err(error) = self.write_of(name, bytes) {
             self.keep(name, error);
             return Err(Failed);

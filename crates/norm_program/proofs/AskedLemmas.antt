@@ -1,5 +1,5 @@
 -- Options in place of a script's keys.
-use Rattle.std.proofs.Common.{◌≡◌, ◌∙◌, ap, refl, ℕ, List, Option, None, Some, Ok}
+use Rattle.std.proofs.Common.{◌≡◌, ap, ℕ, List, Option, None, Some, Ok}
 use Rattle.std.specs.Prelude.{IfSome, unwrap_or}
 use Rattle.std.specs.Result.{result_map_both}
 use Rattle.norm_base.specs.Keys.{IsValue}

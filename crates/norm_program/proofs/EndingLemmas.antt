@@ -5,47 +5,47 @@ use Rattle.norm_base.specs.Told.{Pieces}
 use Rattle.norm_script.specs.Commands.{Commands}
 use Rattle.norm_journal.specs.declared.event.Event.{Event}
 use Rattle.norm_session.specs.Causes.{Counted, HasCause, counted}
-use Rattle.norm_session.specs.Session.{RunsSession, StopsSession}
-use Rattle.norm_session.specs.Turning.{span}
 use Rattle.norm_session.specs.declared.fault.SessionFault.{SessionFault}
 use Rattle.norm_session.specs.declared.fault.SessionFault.TheVariants as fault
-use Rattle.norm_words.specs.declared.tasks.Options.{Options}
-use Rattle.norm_program.specs.Ends.{Called, outside, EndsSession, EndsEarly, Prepared, IsReadEnding, IsTextEnding, IsLastEnding, IsAbsentEnding, IsStoppedEnding, IsInput, RanSession, StoppedSession}
+use Rattle.norm_program.specs.Asked.{Asked, is_alone}
+use Rattle.norm_program.specs.Boarded.{RunsScript, StopsScript, span}
+use Rattle.norm_program.specs.Ends.{Called, outside, EndsScript, EndsEarly, Prepared, IsReadEnding, IsTextEnding, IsLastEnding, IsAbsentEnding, IsStoppedEnding, IsInput, RanSession, StoppedSession}
 use Rattle.norm_program.specs.declared.status.Ending.{Ending}
-use Rattle.norm_program.specs.declared.status.Ending.TheVariants.{Done, Datagram, Memory, Words, Refused, Line, Read, Write, Fabric, Files, Absent, Spent}
+use Rattle.norm_program.specs.declared.status.Ending.TheVariants.{Done, Datagram, Memory, Words, Refused, Line, Profile, Read, Write, Fabric, Files, Absent, Spent}
 
 -- Each part that ends the program early, or at last, in plain variables: the input before and after (i, j), the output's pieces (u, v, w),
 -- the counts of failed reads (r, s) and writes (k, l, t), and what only a session calls (c, d).
 
 -- the input was not read whole
-pub read_ends : (ending : Ending) (options : Options) (i j : Option (List ℕ)) (u w : Pieces) (r s k t : ℕ)
-    → IsReadEnding ending r s u w k t → EndsEarly options ending i j u w r s k t
-read_ends Memory options i j u w r s k t h = λ called. record {
+pub read_ends : (ending : Ending) (a : Asked) (i j : Option (List ℕ)) (u w : Pieces) (r s k t : ℕ)
+    → IsReadEnding ending r s u w k t → EndsEarly a ending i j u w r s k t
+read_ends Memory a i j u w r s k t h = λ called. record {
   session = inl (record { called = refl; output = h.1 });
   undisturbed = record { reads = h.0; calls = refl; files = refl };
   writes = h.2;
 }
-read_ends Read options i j u w r s k t h = λ called. record { cause = h.0; called = refl; output = h.1 }
-read_ends Done options i j u w r s k t h = absurd h
-read_ends Words options i j u w r s k t h = absurd h
-read_ends Datagram options i j u w r s k t h = absurd h
-read_ends (Line number why) options i j u w r s k t h = absurd h
-read_ends (Refused refusal) options i j u w r s k t h = absurd h
-read_ends Write options i j u w r s k t h = absurd h
-read_ends Fabric options i j u w r s k t h = absurd h
-read_ends Files options i j u w r s k t h = absurd h
-read_ends (Absent name) options i j u w r s k t h = absurd h
-read_ends Spent options i j u w r s k t h = absurd h
+read_ends Read a i j u w r s k t h = λ called. record { cause = h.0; called = refl; output = h.1 }
+read_ends Done a i j u w r s k t h = absurd h
+read_ends Words a i j u w r s k t h = absurd h
+read_ends Datagram a i j u w r s k t h = absurd h
+read_ends (Line number why) a i j u w r s k t h = absurd h
+read_ends (Profile why) a i j u w r s k t h = absurd h
+read_ends (Refused refusal) a i j u w r s k t h = absurd h
+read_ends Write a i j u w r s k t h = absurd h
+read_ends Fabric a i j u w r s k t h = absurd h
+read_ends Files a i j u w r s k t h = absurd h
+read_ends (Absent name) a i j u w r s k t h = absurd h
+read_ends Spent a i j u w r s k t h = absurd h
 
 -- the text is no script
-pub text_ends : (ending : Ending) (options : Options) (text : List ℕ) (i j : Option (List ℕ)) (u w : Pieces) (r s k t : ℕ)
-    → IsInput text i j → s ≡ r → IsTextEnding ending text u w k t → EndsEarly options ending i j u w r s k t
-text_ends Memory options text i j u w r s k t input quiet h = λ called. record {
+pub text_ends : (ending : Ending) (a : Asked) (text : List ℕ) (i j : Option (List ℕ)) (u w : Pieces) (r s k t : ℕ)
+    → IsInput text i j → s ≡ r → IsTextEnding a ending text u w k t → EndsEarly a ending i j u w r s k t
+text_ends Memory a text i j u w r s k t input quiet h = λ called. record {
   session = inl (record { called = refl; output = h.0 });
   undisturbed = record { reads = quiet; calls = refl; files = refl };
   writes = h.1;
 }
-text_ends (Refused refusal) options text i j u w r s k t input quiet h = λ called. record {
+text_ends (Refused refusal) a text i j u w r s k t input quiet h = λ called. record {
   text = text;
   input = input;
   read = h.0;
@@ -53,161 +53,164 @@ text_ends (Refused refusal) options text i j u w r s k t input quiet h = λ call
   output = h.1;
   undisturbed = record { reads = quiet; calls = refl; files = refl };
 }
-text_ends Done options text i j u w r s k t input quiet h = absurd h
-text_ends Words options text i j u w r s k t input quiet h = absurd h
-text_ends Datagram options text i j u w r s k t input quiet h = absurd h
-text_ends (Line number why) options text i j u w r s k t input quiet h = absurd h
-text_ends Read options text i j u w r s k t input quiet h = absurd h
-text_ends Write options text i j u w r s k t input quiet h = absurd h
-text_ends Fabric options text i j u w r s k t input quiet h = absurd h
-text_ends Files options text i j u w r s k t input quiet h = absurd h
-text_ends (Absent name) options text i j u w r s k t input quiet h = absurd h
-text_ends Spent options text i j u w r s k t input quiet h = absurd h
+text_ends Done a text i j u w r s k t input quiet h = absurd h
+text_ends Words a text i j u w r s k t input quiet h = absurd h
+text_ends Datagram a text i j u w r s k t input quiet h = absurd h
+text_ends (Line number why) a text i j u w r s k t input quiet h = absurd h
+text_ends (Profile why) a text i j u w r s k t input quiet h = absurd h
+text_ends Read a text i j u w r s k t input quiet h = absurd h
+text_ends Write a text i j u w r s k t input quiet h = absurd h
+text_ends Fabric a text i j u w r s k t input quiet h = absurd h
+text_ends Files a text i j u w r s k t input quiet h = absurd h
+text_ends (Absent name) a text i j u w r s k t input quiet h = absurd h
+text_ends Spent a text i j u w r s k t input quiet h = absurd h
 
-pub text_ended : {T : Type 0} → (result : Result T Ending) (options : Options) (text : List ℕ) (i j : Option (List ℕ)) (u w : Pieces) (r s k t : ℕ)
-    → IsInput text i j → s ≡ r → IfErr result (λ ending. IsTextEnding ending text u w k t)
-    → IfErr result (λ ending. EndsEarly options ending i j u w r s k t)
-text_ended (Ok script) options text i j u w r s k t input quiet h = h
-text_ended (Err ending) options text i j u w r s k t input quiet h = text_ends ending options text i j u w r s k t input quiet h
+pub text_ended : {T : Type 0} → (result : Result T Ending) (a : Asked) (text : List ℕ) (i j : Option (List ℕ)) (u w : Pieces) (r s k t : ℕ)
+    → IsInput text i j → s ≡ r → IfErr result (λ ending. IsTextEnding a ending text u w k t)
+    → IfErr result (λ ending. EndsEarly a ending i j u w r s k t)
+text_ended (Ok script) a text i j u w r s k t input quiet h = h
+text_ended (Err ending) a text i j u w r s k t input quiet h = text_ends ending a text i j u w r s k t input quiet h
 
 -- of a session that was run, up to when this was written
-abbrev Ran : Commands → List Event → Bool → (c d : Called) → (u v : Pieces) → Type 0
-Ran script journal whole c d u v = RunsSession script c.files journal whole (span c.network d.network u v c.moments d.moments)
+abbrev Ran : Bool → Commands → List Event → Bool → (c d : Called) → (u v : Pieces) → Type 0
+Ran alone script journal whole c d u v = RunsScript alone script c.files journal whole (span c.network d.network u v c.moments d.moments)
 
 -- of one that a fault stopped
-abbrev Stopped : SessionFault → Commands → (c d : Called) → (u v : Pieces) → Type 0
-Stopped stop script c d u v = StopsSession stop script c.files (span c.network d.network u v c.moments d.moments)
+abbrev Stopped : Bool → SessionFault → Commands → (c d : Called) → (u v : Pieces) → Type 0
+Stopped alone stop script c d u v = StopsScript alone stop script c.files (span c.network d.network u v c.moments d.moments)
 
 -- which calls of it failed
-abbrev counts : ℕ → Called → Counted
+abbrev pub counts : ℕ → Called → Counted
 counts writes called = counted writes called.network_faults called.file_faults
 
-ran_session : (options : Options) (script : Commands) (journal : List Event) (whole : Bool) (i j : Option (List ℕ)) (u v w : Pieces)
-    (r s k t : ℕ) (c d : Called) → Prepared options script i j → Ran script journal whole c d u v
-    → RanSession options (outside i u r k c) (outside j w s t d) whole v
-ran_session options script journal whole i j u v w r s k t c d p runs =
+ran_session : (a : Asked) (script : Commands) (journal : List Event) (whole : Bool) (i j : Option (List ℕ)) (u v w : Pieces)
+    (r s k t : ℕ) (c d : Called) → Prepared a script i j → Ran (is_alone a) script journal whole c d u v
+    → RanSession a (outside i u r k c) (outside j w s t d) whole v
+ran_session a script journal whole i j u v w r s k t c d p runs =
     record { text = p.text; script = script; journal = journal; input = p.input; read = p.read; session = runs }
 
 -- the session ran
-pub last_ends : (ending : Ending) (options : Options) (script : Commands) (journal : List Event) (whole : Bool) (i j : Option (List ℕ))
-    (u v w : Pieces) (r s k l t : ℕ) (c d : Called) → Prepared options script i j → s ≡ r → Ran script journal whole c d u v
-    → counts l d ≡ counts k c → IsLastEnding ending whole v w l t → EndsSession options ending (outside i u r k c) (outside j w s t d)
-last_ends Done options script journal whole i j u v w r s k l t c d p reads runs cause h =
+pub last_ends : (ending : Ending) (a : Asked) (script : Commands) (journal : List Event) (whole : Bool) (i j : Option (List ℕ))
+    (u v w : Pieces) (r s k l t : ℕ) (c d : Called) → Prepared a script i j → s ≡ r → Ran (is_alone a) script journal whole c d u v
+    → counts l d ≡ counts k c → IsLastEnding ending whole v w l t → EndsScript a ending (outside i u r k c) (outside j w s t d)
+last_ends Done a script journal whole i j u v w r s k l t c d p reads runs cause h =
     let B = outside i u r k c in
     let A = outside j w s t d in
-    let P : Bool → Type 0 = λ b. RanSession options B A b v in
-    let Q : Pieces → Type 0 = λ x. RanSession options B A true x in record {
-      session = subst Q (sym h.1) (subst P h.0 (ran_session options script journal whole i j u v w r s k t c d p runs));
+    let P : Bool → Type 0 = λ b. RanSession a B A b v in
+    let Q : Pieces → Type 0 = λ x. RanSession a B A true x in record {
+      session = subst Q (sym h.1) (subst P h.0 (ran_session a script journal whole i j u v w r s k t c d p runs));
       undisturbed = record { reads = reads; calls = ap (λ n. n.network) cause; files = ap (λ n. n.files) cause };
       writes = h.2 ∙ ap (λ n. n.output) cause;
     }
-last_ends Spent options script journal whole i j u v w r s k l t c d p reads runs cause h =
-    let P : Bool → Type 0 = λ b. RanSession options (outside i u r k c) (outside j w s t d) b v in record {
+last_ends Spent a script journal whole i j u v w r s k l t c d p reads runs cause h =
+    let P : Bool → Type 0 = λ b. RanSession a (outside i u r k c) (outside j w s t d) b v in record {
       unsaid = v;
-      session = subst P h.0 (ran_session options script journal whole i j u v w r s k t c d p runs);
+      session = subst P h.0 (ran_session a script journal whole i j u v w r s k t c d p runs);
       output = h.1;
       undisturbed = record { reads = reads; calls = ap (λ n. n.network) cause; files = ap (λ n. n.files) cause };
       writes = h.2 ∙ ap (λ n. n.output) cause;
     }
-last_ends Write options script journal whole i j u v w r s k l t c d p reads runs cause h =
-    let P : Bool → Type 0 = λ b. RanSession options (outside i u r k c) (outside j w s t d) b v in record {
+last_ends Write a script journal whole i j u v w r s k l t c d p reads runs cause h =
+    let P : Bool → Type 0 = λ b. RanSession a (outside i u r k c) (outside j w s t d) b v in record {
       cause = h.2 ∙ ap (λ n. one_more n.output) cause;
-      session = inr (record { unsaid = v; session = subst P h.0 (ran_session options script journal whole i j u v w r s k t c d p runs); output = h.1 });
+      session = inr (record { unsaid = v; session = subst P h.0 (ran_session a script journal whole i j u v w r s k t c d p runs); output = h.1 });
       undisturbed = record { reads = reads; calls = ap (λ n. n.network) cause; files = ap (λ n. n.files) cause };
     }
-last_ends Words options script journal whole i j u v w r s k l t c d p reads runs cause h = absurd h
-last_ends Datagram options script journal whole i j u v w r s k l t c d p reads runs cause h = absurd h
-last_ends (Line number why) options script journal whole i j u v w r s k l t c d p reads runs cause h = absurd h
-last_ends (Refused refusal) options script journal whole i j u v w r s k l t c d p reads runs cause h = absurd h
-last_ends Read options script journal whole i j u v w r s k l t c d p reads runs cause h = absurd h
-last_ends Memory options script journal whole i j u v w r s k l t c d p reads runs cause h = absurd h
-last_ends Fabric options script journal whole i j u v w r s k l t c d p reads runs cause h = absurd h
-last_ends Files options script journal whole i j u v w r s k l t c d p reads runs cause h = absurd h
-last_ends (Absent name) options script journal whole i j u v w r s k l t c d p reads runs cause h = absurd h
+last_ends Words a script journal whole i j u v w r s k l t c d p reads runs cause h = absurd h
+last_ends Datagram a script journal whole i j u v w r s k l t c d p reads runs cause h = absurd h
+last_ends (Line number why) a script journal whole i j u v w r s k l t c d p reads runs cause h = absurd h
+last_ends (Profile why) a script journal whole i j u v w r s k l t c d p reads runs cause h = absurd h
+last_ends (Refused refusal) a script journal whole i j u v w r s k l t c d p reads runs cause h = absurd h
+last_ends Read a script journal whole i j u v w r s k l t c d p reads runs cause h = absurd h
+last_ends Memory a script journal whole i j u v w r s k l t c d p reads runs cause h = absurd h
+last_ends Fabric a script journal whole i j u v w r s k l t c d p reads runs cause h = absurd h
+last_ends Files a script journal whole i j u v w r s k l t c d p reads runs cause h = absurd h
+last_ends (Absent name) a script journal whole i j u v w r s k l t c d p reads runs cause h = absurd h
 
-stopped_session : (stop : SessionFault) (options : Options) (script : Commands) (i j : Option (List ℕ)) (u v w : Pieces)
-    (r s k t : ℕ) (c d : Called) → Prepared options script i j → Stopped stop script c d u v
-    → StoppedSession options stop (outside i u r k c) (outside j w s t d) v
-stopped_session stop options script i j u v w r s k t c d p stops =
+stopped_session : (stop : SessionFault) (a : Asked) (script : Commands) (i j : Option (List ℕ)) (u v w : Pieces)
+    (r s k t : ℕ) (c d : Called) → Prepared a script i j → Stopped (is_alone a) stop script c d u v
+    → StoppedSession a stop (outside i u r k c) (outside j w s t d) v
+stopped_session stop a script i j u v w r s k t c d p stops =
     record { text = p.text; script = script; input = p.input; read = p.read; session = stops }
 
 -- what was written when a fault stopped the session is what was written at last
-stopped_last : (stop : SessionFault) (options : Options) (script : Commands) (i j : Option (List ℕ)) (u v w : Pieces)
-    (r s k t : ℕ) (c d : Called) → Prepared options script i j → Stopped stop script c d u v → w ≡ v
-    → StoppedSession options stop (outside i u r k c) (outside j w s t d) w
-stopped_last stop options script i j u v w r s k t c d p stops is =
-    let Q : Pieces → Type 0 = λ x. StoppedSession options stop (outside i u r k c) (outside j w s t d) x in
-    subst Q (sym is) (stopped_session stop options script i j u v w r s k t c d p stops)
+stopped_last : (stop : SessionFault) (a : Asked) (script : Commands) (i j : Option (List ℕ)) (u v w : Pieces)
+    (r s k t : ℕ) (c d : Called) → Prepared a script i j → Stopped (is_alone a) stop script c d u v → w ≡ v
+    → StoppedSession a stop (outside i u r k c) (outside j w s t d) w
+stopped_last stop a script i j u v w r s k t c d p stops is =
+    let Q : Pieces → Type 0 = λ x. StoppedSession a stop (outside i u r k c) (outside j w s t d) x in
+    subst Q (sym is) (stopped_session stop a script i j u v w r s k t c d p stops)
 
 -- an absent file stopped it
-pub absent_ends : (ending : Ending) (name : List ℕ) (options : Options) (script : Commands) (i j : Option (List ℕ))
-    (u v w : Pieces) (r s k l t : ℕ) (c d : Called) → Prepared options script i j → s ≡ r → Stopped (fault.Absent name) script c d u v
-    → counts l d ≡ counts k c → IsAbsentEnding ending name v w l t → EndsSession options ending (outside i u r k c) (outside j w s t d)
-absent_ends (Absent said) name options script i j u v w r s k l t c d p reads stops cause h =
+pub absent_ends : (ending : Ending) (name : List ℕ) (a : Asked) (script : Commands) (i j : Option (List ℕ))
+    (u v w : Pieces) (r s k l t : ℕ) (c d : Called) → Prepared a script i j → s ≡ r → Stopped (is_alone a) (fault.Absent name) script c d u v
+    → counts l d ≡ counts k c → IsAbsentEnding ending name v w l t → EndsScript a ending (outside i u r k c) (outside j w s t d)
+absent_ends (Absent said) name a script i j u v w r s k l t c d p reads stops cause h =
     let writes : l ≡ k = ap (λ n. n.output) cause in
-    let P : List ℕ → Type 0 = λ x. EndsSession options (Absent x) (outside i u r k c) (outside j w s t d) in
+    let P : List ℕ → Type 0 = λ x. EndsScript a (Absent x) (outside i u r k c) (outside j w s t d) in
     subst P (sym h.0) record {
       unsaid = v;
-      session = stopped_session (fault.Absent name) options script i j u v w r s k t c d p stops;
+      session = stopped_session (fault.Absent name) a script i j u v w r s k t c d p stops;
       output = rw writes at h.1;
       undisturbed = record { reads = reads; calls = ap (λ n. n.network) cause; files = ap (λ n. n.files) cause };
     }
-absent_ends Memory name options script i j u v w r s k l t c d p reads stops cause h = record {
-  session = inr (inr (name, stopped_last (fault.Absent name) options script i j u v w r s k t c d p stops h.0));
+absent_ends Memory name a script i j u v w r s k l t c d p reads stops cause h = record {
+  session = inr (inr (name, stopped_last (fault.Absent name) a script i j u v w r s k t c d p stops h.0));
   undisturbed = record { reads = reads; calls = ap (λ n. n.network) cause; files = ap (λ n. n.files) cause };
   writes = h.1 ∙ ap (λ n. n.output) cause;
 }
-absent_ends Done name options script i j u v w r s k l t c d p reads stops cause h = absurd h
-absent_ends Words name options script i j u v w r s k l t c d p reads stops cause h = absurd h
-absent_ends Datagram name options script i j u v w r s k l t c d p reads stops cause h = absurd h
-absent_ends (Line number why) name options script i j u v w r s k l t c d p reads stops cause h = absurd h
-absent_ends (Refused refusal) name options script i j u v w r s k l t c d p reads stops cause h = absurd h
-absent_ends Read name options script i j u v w r s k l t c d p reads stops cause h = absurd h
-absent_ends Write name options script i j u v w r s k l t c d p reads stops cause h = absurd h
-absent_ends Fabric name options script i j u v w r s k l t c d p reads stops cause h = absurd h
-absent_ends Files name options script i j u v w r s k l t c d p reads stops cause h = absurd h
-absent_ends Spent name options script i j u v w r s k l t c d p reads stops cause h = absurd h
+absent_ends Done name a script i j u v w r s k l t c d p reads stops cause h = absurd h
+absent_ends Words name a script i j u v w r s k l t c d p reads stops cause h = absurd h
+absent_ends Datagram name a script i j u v w r s k l t c d p reads stops cause h = absurd h
+absent_ends (Line number why) name a script i j u v w r s k l t c d p reads stops cause h = absurd h
+absent_ends (Profile why) name a script i j u v w r s k l t c d p reads stops cause h = absurd h
+absent_ends (Refused refusal) name a script i j u v w r s k l t c d p reads stops cause h = absurd h
+absent_ends Read name a script i j u v w r s k l t c d p reads stops cause h = absurd h
+absent_ends Write name a script i j u v w r s k l t c d p reads stops cause h = absurd h
+absent_ends Fabric name a script i j u v w r s k l t c d p reads stops cause h = absurd h
+absent_ends Files name a script i j u v w r s k l t c d p reads stops cause h = absurd h
+absent_ends Spent name a script i j u v w r s k l t c d p reads stops cause h = absurd h
 
 -- a fault stopped the session
-pub stopped_ends : (T : Type 0) (stop : SessionFault) (ending : Ending) (options : Options) (script : Commands) (i j : Option (List ℕ))
-    (u v w : Pieces) (r s k l t : ℕ) (c d : Called) → Prepared options script i j → s ≡ r → Stopped stop script c d u v
+pub stopped_ends : (T : Type 0) (stop : SessionFault) (ending : Ending) (a : Asked) (script : Commands) (i j : Option (List ℕ))
+    (u v w : Pieces) (r s k l t : ℕ) (c d : Called) → Prepared a script i j → s ≡ r → Stopped (is_alone a) stop script c d u v
     → HasCause {T = T} (Err stop) (counts k c) (counts l d)
-    → IsStoppedEnding stop ending v w l t → EndsSession options ending (outside i u r k c) (outside j w s t d)
-stopped_ends T fault.Memory ending options script i j u v w r s k l t c d p reads stops cause h =
-    let P : Ending → Type 0 = λ e. EndsSession options e (outside i u r k c) (outside j w s t d) in
+    → IsStoppedEnding stop ending v w l t → EndsScript a ending (outside i u r k c) (outside j w s t d)
+stopped_ends T fault.Memory ending a script i j u v w r s k l t c d p reads stops cause h =
+    let P : Ending → Type 0 = λ e. EndsScript a e (outside i u r k c) (outside j w s t d) in
     subst P (sym h.0) record {
-      session = inr (inl (stopped_last fault.Memory options script i j u v w r s k t c d p stops h.1));
+      session = inr (inl (stopped_last fault.Memory a script i j u v w r s k t c d p stops h.1));
       undisturbed = record { reads = reads; calls = ap (λ n. n.network) cause; files = ap (λ n. n.files) cause };
       writes = h.2 ∙ ap (λ n. n.output) cause;
     }
-stopped_ends T fault.Write ending options script i j u v w r s k l t c d p reads stops cause h =
-    let P : Ending → Type 0 = λ e. EndsSession options e (outside i u r k c) (outside j w s t d) in
+stopped_ends T fault.Write ending a script i j u v w r s k l t c d p reads stops cause h =
+    let P : Ending → Type 0 = λ e. EndsScript a e (outside i u r k c) (outside j w s t d) in
     subst P (sym h.0) record {
       cause = h.2 ∙ ap (λ n. n.output) cause;
-      session = inl (stopped_last fault.Write options script i j u v w r s k t c d p stops h.1);
+      session = inl (stopped_last fault.Write a script i j u v w r s k t c d p stops h.1);
       undisturbed = record { reads = reads; calls = ap (λ n. n.network) cause; files = ap (λ n. n.files) cause };
     }
-stopped_ends T fault.Fabric ending options script i j u v w r s k l t c d p reads stops cause h =
+stopped_ends T fault.Fabric ending a script i j u v w r s k l t c d p reads stops cause h =
     let writes : l ≡ k = ap (λ n. n.output) cause in
-    let P : Ending → Type 0 = λ e. EndsSession options e (outside i u r k c) (outside j w s t d) in
+    let P : Ending → Type 0 = λ e. EndsScript a e (outside i u r k c) (outside j w s t d) in
     subst P (sym h.0) record {
       cause = ap (λ n. n.network) cause;
       unsaid = v;
-      session = stopped_session fault.Fabric options script i j u v w r s k t c d p stops;
+      session = stopped_session fault.Fabric a script i j u v w r s k t c d p stops;
       output = rw writes at h.1;
       reads = reads;
       files = ap (λ n. n.files) cause;
     }
-stopped_ends T fault.Files ending options script i j u v w r s k l t c d p reads stops cause h =
+stopped_ends T fault.Files ending a script i j u v w r s k l t c d p reads stops cause h =
     let writes : l ≡ k = ap (λ n. n.output) cause in
-    let P : Ending → Type 0 = λ e. EndsSession options e (outside i u r k c) (outside j w s t d) in
+    let P : Ending → Type 0 = λ e. EndsScript a e (outside i u r k c) (outside j w s t d) in
     subst P (sym h.0) record {
       cause = ap (λ n. n.files) cause;
       unsaid = v;
-      session = stopped_session fault.Files options script i j u v w r s k t c d p stops;
+      session = stopped_session fault.Files a script i j u v w r s k t c d p stops;
       output = rw writes at h.1;
       reads = reads;
       calls = ap (λ n. n.network) cause;
     }
-stopped_ends T (fault.Absent name) ending options script i j u v w r s k l t c d p reads stops cause h =
-    absent_ends ending name options script i j u v w r s k l t c d p reads stops cause h
+stopped_ends T (fault.Absent name) ending a script i j u v w r s k l t c d p reads stops cause h =
+    absent_ends ending name a script i j u v w r s k l t c d p reads stops cause h

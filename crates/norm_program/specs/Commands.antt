@@ -1,10 +1,16 @@
 -- How the program ends: by what its words ask for, or as words that are of no form.
-use Rattle.std.specs.Prelude.{◌≡◌, ◌⊎◌, ℕ, List, Option, None, Some}
+use Rattle.std.specs.Prelude.{◌≡◌, ◌⊎◌, ⊤, ℕ, List, Option, None, Some}
+use Rattle.norm_journal.specs.Jobs.{Told}
+use Rattle.norm_words.specs.NodeTasks.{node_task_of}
 use Rattle.norm_words.specs.Tasks.{task_of}
+use Rattle.norm_words.specs.declared.node_tasks.NodeTask.{NodeTask}
+use Rattle.norm_words.specs.declared.node_tasks.NodeTask.TheVariants.{Send, Receive, Hub}
 use Rattle.norm_words.specs.declared.tasks.Task.{Task}
 use Rattle.norm_words.specs.declared.tasks.Task.TheVariants.{Session, Show, Generate}
-use Rattle.norm_program.specs.Ends.{Outside, RefusedWords, EndsSession}
+use Rattle.norm_program.specs.Asked.{Members}
+use Rattle.norm_program.specs.Ends.{Outside, RefusedWords, EndsScript}
 use Rattle.norm_program.specs.GenerateEnds.{GenerateEnds}
+use Rattle.norm_program.specs.NodeEnds.{EndsUnder, EndsSender, EndsReceiver, EndsHub}
 use Rattle.norm_program.specs.ShowEnds.{ShowEnds}
 use Rattle.norm_program.specs.StatusOf.{status_of}
 use Rattle.norm_program.specs.declared.words.WordsFault.{WordsFault}
@@ -12,20 +18,35 @@ use Rattle.norm_program.specs.declared.words.WordsFault.TheVariants.{NotText, Me
 use Rattle.norm_program.specs.declared.status.Ending.{Ending}
 use Rattle.norm_program.specs.declared.status.Ending.TheVariants.{Words, Memory}
 
--- what was asked for ended so; words that ask for nothing are refused
-abbrev pub EndsTask : Option Task → Ending → Outside → Outside → Type 0
-EndsTask None ending before after = (ending ≡ Words) × RefusedWords before after
-EndsTask (Some (Session options)) ending before after = EndsSession options ending before after
-EndsTask (Some Show) ending before after = ShowEnds ending before after
-EndsTask (Some (Generate n)) ending before after = GenerateEnds n ending before after
+-- what was asked for of a node ended so, under the profile at its path; words that ask for nothing are refused
+abbrev pub EndsNode : Option NodeTask → Ending → Outside → Outside → Type 0
+EndsNode None ending before after = (ending ≡ Words) × RefusedWords before after
+EndsNode (Some (Send path)) ending before after = EndsUnder path EndsSender ending before after
+EndsNode (Some (Receive path node)) ending before after = EndsUnder path (EndsReceiver node) ending before after
+EndsNode (Some (Hub path)) ending before after = EndsUnder path EndsHub ending before after
+
+-- what was asked for ended so
+abbrev pub EndsTask : Task → Ending → Outside → Outside → Type 0
+EndsTask (Session options) ending before after = EndsScript (Members options) ending before after
+EndsTask Show ending before after = ShowEnds ending before after
+EndsTask (Generate n) ending before after = GenerateEnds n ending before after
+
+-- a task, or else one of a node
+abbrev pub EndsAsked : Option Task → Option NodeTask → Ending → Outside → Outside → Type 0
+EndsAsked (Some task) other ending before after = EndsTask task ending before after
+EndsAsked None other ending before after = EndsNode other ending before after
 
 -- there was no memory to read the words in, and nothing was done
 abbrev pub ReadsNoWords : Ending → Outside → Outside → Type 0
 ReadsNoWords ending before after = (ending ≡ Memory) × (after ≡ before)
 
+-- how words that ask for no other task ended
+abbrev pub EndsOther : Ending → List (List ℕ) → Outside → Outside → Type 0
+EndsOther ending words before after = EndsNode (node_task_of words) ending before after ⊎ ReadsNoWords ending before after
+
 -- how a call with these words ended
 abbrev pub EndsBy : Ending → List (List ℕ) → Outside → Outside → Type 0
-EndsBy ending words before after = EndsTask (task_of words) ending before after ⊎ ReadsNoWords ending before after
+EndsBy ending words before after = EndsAsked (task_of words) (node_task_of words) ending before after ⊎ ReadsNoWords ending before after
 
 -- A call with these words ended so: it answers the ending's status, and what the ending says holds.
 pub record EndsWith (status : ℕ) (words : List (List ℕ)) (before after : Outside) : Type 0 where
@@ -38,3 +59,15 @@ pub record EndsWith (status : ℕ) (words : List (List ℕ)) (before after : Out
 abbrev pub EndsUnread : WordsFault → ℕ → Outside → Outside → Type 0
 EndsUnread NotText status before after = (status ≡ status_of Words) × RefusedWords before after
 EndsUnread NoMemory status before after = (status ≡ status_of Memory) × (after ≡ before)
+
+-- The files have what they had, but where a receiver puts those that it hands up: what it puts is said by its run.
+abbrev pub KeepsFiles : Option NodeTask → (before after : Told) → Type 0
+KeepsFiles (Some (Receive path node)) before after = ⊤
+KeepsFiles _ before after = after ≡ before
+
+-- the path of the profile that is asked for
+abbrev pub path_asked : Option NodeTask → Option (List ℕ)
+path_asked None = None
+path_asked (Some (Send path)) = Some path
+path_asked (Some (Receive path node)) = Some path
+path_asked (Some (Hub path)) = Some path

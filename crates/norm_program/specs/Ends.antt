@@ -1,23 +1,19 @@
--- How a session ends, and what each ending says.
-use Rattle.std.specs.Prelude.{◌≡◌, ℕ, List, [], ◌∷◌, ◌++◌, ◌⊎◌, Bool, true, false, codes, Option, IfSome, Ok, Err}
+-- How a session ends, or the run of a sender alone, and what each ending says.
+use Rattle.std.specs.Prelude.{◌≡◌, ℕ, List, [], ◌∷◌, ◌++◌, ◌⊎◌, Bool, true, false, codes, Option, IfSome}
 use Rattle.std.specs.Fmt.{decimal}
 use Rattle.norm_base.specs.Faults.{one_more}
 use Rattle.norm_base.specs.Network.{Network}
 use Rattle.norm_base.specs.Told.{Pieces, gained, GainsFront}
 use Rattle.norm_script.specs.Commands.{Commands}
-use Rattle.norm_script.specs.Reading.{script_of}
-use Rattle.norm_script.specs.declared.refusal.Extent.TheVariants.{Built}
 use Rattle.norm_script.specs.declared.refusal.Refusal.{Refusal}
 use Rattle.norm_journal.specs.declared.event.Event.{Event}
 use Rattle.norm_journal.specs.Jobs.{Told}
-use Rattle.norm_session.specs.Session.{RunsSession, StopsSession}
-use Rattle.norm_session.specs.Turning.{Span, span}
 use Rattle.norm_session.specs.declared.fault.SessionFault.{SessionFault}
 use Rattle.norm_session.specs.declared.fault.SessionFault.TheVariants as fault
-use Rattle.norm_words.specs.declared.tasks.Options.{Options}
-use Rattle.norm_program.specs.Asked.{script_asked}
+use Rattle.norm_program.specs.Asked.{Asked, is_alone, IsAsked, IsRefusedLine}
+use Rattle.norm_program.specs.Boarded.{RunsScript, Span, StopsScript, span}
 use Rattle.norm_program.specs.declared.status.Ending.{Ending}
-use Rattle.norm_program.specs.declared.status.Ending.TheVariants.{Done, Datagram, Memory, Words, Refused, Line, Read, Write, Fabric, Files, Absent, Spent}
+use Rattle.norm_program.specs.declared.status.Ending.TheVariants.{Done, Datagram, Memory, Words, Refused, Line, Profile, Read, Write, Fabric, Files, Absent, Spent}
 
 abbrev pub usage_line : List ℕ
 usage_line = codes "usage: normd session | show | generate N | send PROFILE | recv PROFILE NODE | hub PROFILE\n"
@@ -34,7 +30,7 @@ abbrev pub Says : (unwritten written : Pieces) (before now : ℕ) → List ℕ �
 Says unwritten written before now line =
     ((written ≡ gained unwritten (line ∷ [])) × (now ≡ before)) ⊎ (GainsFront unwritten written line × (now ≡ one_more before))
 
--- what only a session calls: the network, the files with their contents, and the clock with the moments that it gave; and how often
+-- what only nodes call: the network, the files with their contents, and the clock with the moments that it gave; and how often
 -- the first two had failed
 pub record Called : Type 0 where
   pub network : Network
@@ -67,50 +63,50 @@ abbrev pub session_span : Outside → Outside → Pieces → Span
 session_span before after written =
     span before.called.network after.called.network before.written written before.called.moments after.called.moments
 
--- A session was run to its end: the input is a script, with the options in place of its keys what was done is a run of it, and the
+-- A session was run to its end, or a sender alone: the input is the script that is asked for, what was done is a run of it, and the
 -- lines of that journal, of which the summary is the last, had then been written, one piece each.
-pub record RanSession (options : Options) (before after : Outside) (whole : Bool) (written : Pieces) : Type 0 where
+pub record RanSession (a : Asked) (before after : Outside) (whole : Bool) (written : Pieces) : Type 0 where
   pub text : List ℕ
   pub script : Commands
   pub journal : List Event
   pub input : IsInput text before.input after.input
-  pub read : script_asked options text ≡ Ok script
-  pub session : RunsSession script before.called.files journal whole (session_span before after written)
+  pub read : IsAsked a text script
+  pub session : RunsScript (is_alone a) script before.called.files journal whole (session_span before after written)
 
--- A fault stopped a session: the input is a script, what was done is nothing or the beginning of a run of it with the options, and that
--- had then been written.
-pub record StoppedSession (options : Options) (failed : SessionFault) (before after : Outside) (written : Pieces) : Type 0 where
+-- A fault stopped it: the input is the script that is asked for, what was done is nothing or the beginning of a run of it, and that had
+-- then been written.
+pub record StoppedSession (a : Asked) (failed : SessionFault) (before after : Outside) (written : Pieces) : Type 0 where
   pub text : List ℕ
   pub script : Commands
   pub input : IsInput text before.input after.input
-  pub read : script_asked options text ≡ Ok script
-  pub session : StopsSession failed script before.called.files (session_span before after written)
+  pub read : IsAsked a text script
+  pub session : StopsScript (is_alone a) failed script before.called.files (session_span before after written)
 
 -- All was done.
-pub record DidAll (options : Options) (before after : Outside) : Type 0 where
-  pub session : RanSession options before after true after.written
+pub record DidAll (a : Asked) (before after : Outside) : Type 0 where
+  pub session : RanSession a before after true after.written
   pub undisturbed : Undisturbed before after
   pub writes : after.write_faults ≡ before.write_faults
 
 -- The turns were spent, and a last line says so.
-pub record SpentTurns (options : Options) (before after : Outside) : Type 0 where
+pub record SpentTurns (a : Asked) (before after : Outside) : Type 0 where
   pub unsaid : Pieces
-  pub session : RanSession options before after false unsaid
+  pub session : RanSession a before after false unsaid
   pub output : after.written ≡ gained unsaid (codes "turns spent\n" ∷ [])
   pub undisturbed : Undisturbed before after
   pub writes : after.write_faults ≡ before.write_faults
 
 -- The turns were spent, and a front of the last line says so.
-pub record SpentUnsaid (options : Options) (before after : Outside) : Type 0 where
+pub record SpentUnsaid (a : Asked) (before after : Outside) : Type 0 where
   pub unsaid : Pieces
-  pub session : RanSession options before after false unsaid
+  pub session : RanSession a before after false unsaid
   pub output : GainsFront unsaid after.written (codes "turns spent\n")
 
--- A line is the input's first that has no meaning, or none that a session can run today.
-pub record RefusedLine (before after : Outside) (refusal : Refusal) : Type 0 where
+-- A line is the input's first that has no meaning, or none that can be run today.
+pub record RefusedLine (a : Asked) (before after : Outside) (refusal : Refusal) : Type 0 where
   pub text : List ℕ
   pub input : IsInput text before.input after.input
-  pub read : script_of Built text ≡ Err refusal
+  pub read : IsRefusedLine a text refusal
   pub called : after.called ≡ before.called
   pub output : Says before.written after.written before.write_faults after.write_faults (refused_line refusal.line)
   pub undisturbed : Undisturbed before after
@@ -122,33 +118,33 @@ pub record FailedRead (before after : Outside) : Type 0 where
   pub output : Says before.written after.written before.write_faults after.write_faults (codes "fault read\n")
 
 -- One write failed. It stopped the session, or it was that of the last line of spent turns.
-pub record FailedWrite (options : Options) (before after : Outside) : Type 0 where
+pub record FailedWrite (a : Asked) (before after : Outside) : Type 0 where
   pub cause : after.write_faults ≡ one_more before.write_faults
-  pub session : StoppedSession options fault.Write before after after.written ⊎ SpentUnsaid options before after
+  pub session : StoppedSession a fault.Write before after after.written ⊎ SpentUnsaid a before after
   pub undisturbed : Undisturbed before after
 
 -- One call of the network failed. It stopped the session, and a last line says so.
-pub record FailedNetwork (options : Options) (before after : Outside) : Type 0 where
+pub record FailedNetwork (a : Asked) (before after : Outside) : Type 0 where
   pub cause : after.called.network_faults ≡ one_more before.called.network_faults
   pub unsaid : Pieces
-  pub session : StoppedSession options fault.Fabric before after unsaid
+  pub session : StoppedSession a fault.Fabric before after unsaid
   pub output : Says unsaid after.written before.write_faults after.write_faults (codes "fault fabric\n")
   pub reads : after.read_faults ≡ before.read_faults
   pub files : after.called.file_faults ≡ before.called.file_faults
 
 -- One call of the files failed. It stopped the session, and a last line says so.
-pub record FailedFiles (options : Options) (before after : Outside) : Type 0 where
+pub record FailedFiles (a : Asked) (before after : Outside) : Type 0 where
   pub cause : after.called.file_faults ≡ one_more before.called.file_faults
   pub unsaid : Pieces
-  pub session : StoppedSession options fault.Files before after unsaid
+  pub session : StoppedSession a fault.Files before after unsaid
   pub output : Says unsaid after.written before.write_faults after.write_faults (codes "fault files\n")
   pub reads : after.read_faults ≡ before.read_faults
   pub calls : after.called.network_faults ≡ before.called.network_faults
 
 -- A command's file is not there. That stopped the session, and a last line has its name. No call failed but that of the line.
-pub record AbsentFile (options : Options) (name : List ℕ) (before after : Outside) : Type 0 where
+pub record AbsentFile (a : Asked) (name : List ℕ) (before after : Outside) : Type 0 where
   pub unsaid : Pieces
-  pub session : StoppedSession options (fault.Absent name) before after unsaid
+  pub session : StoppedSession a (fault.Absent name) before after unsaid
   pub output : Says unsaid after.written before.write_faults after.write_faults (absent_line name)
   pub undisturbed : Undisturbed before after
 
@@ -158,13 +154,13 @@ pub record Untouched (before after : Outside) : Type 0 where
   pub output : after.written ≡ before.written
 
 -- a command's file is not there, and no line says so
-abbrev pub AbsentUnsaid : Options → Outside → Outside → Type 0
-AbsentUnsaid options before after = (name : List ℕ) × StoppedSession options (fault.Absent name) before after after.written
+abbrev pub AbsentUnsaid : Asked → Outside → Outside → Type 0
+AbsentUnsaid a before after = (name : List ℕ) × StoppedSession a (fault.Absent name) before after after.written
 
 -- There was no memory: for reading a script; in a session, which that stopped; or for the line that names an absent file. No call
 -- failed.
-pub record WantedMemory (options : Options) (before after : Outside) : Type 0 where
-  pub session : Untouched before after ⊎ (StoppedSession options fault.Memory before after after.written ⊎ AbsentUnsaid options before after)
+pub record WantedMemory (a : Asked) (before after : Outside) : Type 0 where
+  pub session : Untouched before after ⊎ (StoppedSession a fault.Memory before after after.written ⊎ AbsentUnsaid a before after)
   pub undisturbed : Undisturbed before after
   pub writes : after.write_faults ≡ before.write_faults
 
@@ -175,20 +171,21 @@ pub record RefusedWords (before after : Outside) : Type 0 where
   pub output : Says before.written after.written before.write_faults after.write_faults usage_line
   pub undisturbed : Undisturbed before after
 
--- what each ending of a session with these options says
-abbrev pub EndsSession : Options → Ending → Outside → Outside → Type 0
-EndsSession options Done before after = DidAll options before after
-EndsSession options Spent before after = SpentTurns options before after
-EndsSession options (Refused refusal) before after = RefusedLine before after refusal
-EndsSession options Read before after = FailedRead before after
-EndsSession options Memory before after = WantedMemory options before after
-EndsSession options Write before after = FailedWrite options before after
-EndsSession options Fabric before after = FailedNetwork options before after
-EndsSession options Files before after = FailedFiles options before after
-EndsSession options (Absent name) before after = AbsentFile options name before after
-EndsSession options Words before after = ⊥
-EndsSession options Datagram before after = ⊥
-EndsSession options (Line n why) before after = ⊥
+-- what each ending of what is to be run says
+abbrev pub EndsScript : Asked → Ending → Outside → Outside → Type 0
+EndsScript a Done before after = DidAll a before after
+EndsScript a Spent before after = SpentTurns a before after
+EndsScript a (Refused refusal) before after = RefusedLine a before after refusal
+EndsScript a Read before after = FailedRead before after
+EndsScript a Memory before after = WantedMemory a before after
+EndsScript a Write before after = FailedWrite a before after
+EndsScript a Fabric before after = FailedNetwork a before after
+EndsScript a Files before after = FailedFiles a before after
+EndsScript a (Absent name) before after = AbsentFile a name before after
+EndsScript a Words before after = ⊥
+EndsScript a Datagram before after = ⊥
+EndsScript a (Line n why) before after = ⊥
+EndsScript a (Profile why) before after = ⊥
 
 abbrev pub called_as : (network : Network) (files : Told) (moments : Option (List ℕ)) (network_faults file_faults : ℕ) → Called
 called_as network files moments network_faults file_faults = record {
@@ -203,17 +200,17 @@ abbrev pub outside : (input : Option (List ℕ)) (written : Pieces) (read_faults
 outside input written read_faults write_faults called =
     record { input = input; written = written; read_faults = read_faults; write_faults = write_faults; called = called }
 
--- What there is to run: the input is this script, with the options in place of its keys.
-pub record Prepared (options : Options) (script : Commands) (before after : Option (List ℕ)) : Type 0 where
+-- What there is to run: the input is this script.
+pub record Prepared (a : Asked) (script : Commands) (before after : Option (List ℕ)) : Type 0 where
   pub text : List ℕ
   pub input : IsInput text before after
-  pub read : script_asked options text ≡ Ok script
+  pub read : IsAsked a text script
 
 -- What ends the program before a session: a read failed, a line has no meaning, or there was no memory. Nothing of the session was
 -- called.
-abbrev pub EndsEarly : Options → Ending → (input left : Option (List ℕ)) → (unwritten written : Pieces) → (reads read_faults writes write_faults : ℕ) → Type 0
-EndsEarly options ending input left unwritten written reads read_faults writes write_faults =
-    (called : Called) → EndsSession options ending (outside input unwritten reads writes called) (outside left written read_faults write_faults called)
+abbrev pub EndsEarly : Asked → Ending → (input left : Option (List ℕ)) → (unwritten written : Pieces) → (reads read_faults writes write_faults : ℕ) → Type 0
+EndsEarly a ending input left unwritten written reads read_faults writes write_faults =
+    (called : Called) → EndsScript a ending (outside input unwritten reads writes called) (outside left written read_faults write_faults called)
 
 -- how a read of the whole input failed
 abbrev pub IsReadEnding : Ending → (before after : ℕ) → (unwritten written : Pieces) → (old new : ℕ) → Type 0
@@ -223,11 +220,11 @@ IsReadEnding Read before after unwritten written old new =
 IsReadEnding _ before after unwritten written old new = ⊥
 
 -- how a text is no script
-abbrev pub IsTextEnding : Ending → List ℕ → (unwritten written : Pieces) → (old new : ℕ) → Type 0
-IsTextEnding Memory text unwritten written old new = (written ≡ unwritten) × (new ≡ old)
-IsTextEnding (Refused refusal) text unwritten written old new =
-    (script_of Built text ≡ Err refusal) × Says unwritten written old new (refused_line refusal.line)
-IsTextEnding _ text unwritten written old new = ⊥
+abbrev pub IsTextEnding : Asked → Ending → List ℕ → (unwritten written : Pieces) → (old new : ℕ) → Type 0
+IsTextEnding a Memory text unwritten written old new = (written ≡ unwritten) × (new ≡ old)
+IsTextEnding a (Refused refusal) text unwritten written old new =
+    IsRefusedLine a text refusal × Says unwritten written old new (refused_line refusal.line)
+IsTextEnding a _ text unwritten written old new = ⊥
 
 -- how a session that ran ends the program
 abbrev pub IsLastEnding : Ending → Bool → (unwritten written : Pieces) → (before after : ℕ) → Type 0

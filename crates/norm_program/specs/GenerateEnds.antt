@@ -7,7 +7,7 @@ use Rattle.norm_script.specs.Reading.{script_of}
 use Rattle.norm_script.specs.declared.refusal.Extent.TheVariants.{Whole}
 use Rattle.norm_program.specs.Ends.{Outside, Undisturbed}
 use Rattle.norm_program.specs.declared.status.Ending.{Ending}
-use Rattle.norm_program.specs.declared.status.Ending.TheVariants.{Done, Datagram, Memory, Words, Refused, Line, Read, Write, Fabric, Files, Absent, Spent}
+use Rattle.norm_program.specs.declared.status.Ending.TheVariants.{Done, Write}
 
 -- nothing was read, and no network, no files and no clock were called
 pub record Untold (before after : Outside) : Type 0 where

@@ -1,8 +1,10 @@
 pub mod StatusOf
 pub mod Reasons
 pub mod Asked
+pub mod Boarded
 pub mod Ends
 pub mod ShowEnds
 pub mod GenerateEnds
+pub mod NodeEnds
 pub mod Commands
 pub mod InputCause

@@ -1,15 +1,13 @@
--- What stands on standard error of an ending, for people: why words, a line or the memory ended the program.
-use Rattle.std.specs.Prelude.{ℕ, List, [], ◌∷◌, ◌++◌, ◌||◌, Bool, true, false, codes, nat_eq, if◌then◌else◌}
+-- What stands on standard error of an ending, for people: why words, a line, a profile or the memory ended the program.
+use Rattle.std.specs.Prelude.{ℕ, List, [], ◌∷◌, ◌++◌, Bool, true, false, Option, None, Some, codes, nat_eq, if◌then◌else◌}
 use Rattle.std.specs.Cmp.Lexicographic.{pointwise}
 use Rattle.std.specs.Fmt.{decimal}
 use Rattle.norm_script.specs.Sentences.{refusal_text}
 use Rattle.norm_show.specs.Sentences.{sentence_of_none}
 use Rattle.norm_program.specs.declared.status.Ending.{Ending}
-use Rattle.norm_program.specs.declared.status.Ending.TheVariants.{Memory, Words, Refused, Line}
-
--- a word of the usage line that no program does yet
-abbrev pub is_unbuilt : List ℕ → Bool
-is_unbuilt word = pointwise nat_eq word (codes "send") || pointwise nat_eq word (codes "recv") || pointwise nat_eq word (codes "hub")
+use Rattle.norm_program.specs.declared.status.Ending.TheVariants.{Memory, Words, Refused, Line, Profile}
+use Rattle.norm_program.specs.declared.status.ProfileFault.{ProfileFault}
+use Rattle.norm_program.specs.declared.status.ProfileFault.TheVariants.{Document, Node}
 
 -- what the commands take that do not stand alone
 abbrev pub session_takes : List ℕ
@@ -18,19 +16,40 @@ session_takes = codes "session takes --chance N, from 0 to 4294967295, and --tur
 abbrev pub generate_takes : List ℕ
 generate_takes = codes "generate takes one word, a number from 0 to 4294967295"
 
+abbrev pub send_takes : List ℕ
+send_takes = codes "send takes one word, the path of a profile"
+
+abbrev pub recv_takes : List ℕ
+recv_takes = codes "recv takes two words, the path of a profile and a node, from 1 to 4294967294"
+
+abbrev pub hub_takes : List ℕ
+hub_takes = codes "hub takes one word, the path of a profile"
+
 -- what is wrong with a command that stands alone, by the words behind it
 abbrev pub extra_reason : List ℕ → List (List ℕ) → List ℕ
 extra_reason word [] = []
 extra_reason word (extra ∷ others) = codes "the word " ++ (extra ++ (codes " is one too many behind " ++ word))
 
--- why words are refused: the first is unknown or not built, or what stands behind it is not what it takes
+-- why words are refused: the first is unknown, or what stands behind it is not what it takes
 abbrev pub words_reason : List (List ℕ) → List ℕ
 words_reason [] = codes "no word says what to do"
 words_reason (word ∷ others) =
     if pointwise nat_eq word (codes "session") then session_takes else
     (if pointwise nat_eq word (codes "generate") then generate_takes else
     (if pointwise nat_eq word (codes "show") then extra_reason word others else
-    (if is_unbuilt word then codes "the word " ++ (word ++ codes " is not built yet") else codes "the word " ++ (word ++ codes " is unknown"))))
+    (if pointwise nat_eq word (codes "send") then send_takes else
+    (if pointwise nat_eq word (codes "recv") then recv_takes else
+    (if pointwise nat_eq word (codes "hub") then hub_takes else codes "the word " ++ (word ++ codes " is unknown"))))))
+
+-- why a node is none of a profile's receivers, which are those from the first to the last
+abbrev pub node_reason : (node first last : ℕ) → List ℕ
+node_reason node first last =
+    codes "the node " ++ (decimal node ++ (codes " is no receiver of the profile, whose receivers are " ++ (decimal first ++ (codes " to " ++ decimal last))))
+
+-- why a profile is refused; of a document the sentence is that of its refusal, which is not named here
+abbrev pub profile_reason : ProfileFault → Option (List ℕ)
+profile_reason (Document why) = None
+profile_reason (Node node first last) = Some (node_reason node first last)
 
 -- an ending has a reason of its own, beside what the objects of the outside keep
 abbrev pub has_reason : Ending → Bool
@@ -38,11 +57,14 @@ has_reason Memory = true
 has_reason Words = true
 has_reason (Refused refusal) = true
 has_reason (Line n why) = true
+has_reason (Profile why) = true
 has_reason _ = false
 
-abbrev pub reason_of : Ending → List (List ℕ) → List ℕ
-reason_of Memory words = codes "out of memory"
-reason_of Words words = words_reason words
-reason_of (Refused refusal) words = refusal_text refusal
-reason_of (Line n why) words = codes "line " ++ (decimal n ++ (codes ": " ++ sentence_of_none why))
-reason_of _ words = []
+-- what it is, where that is named
+abbrev pub reason_of : Ending → List (List ℕ) → Option (List ℕ)
+reason_of Memory words = Some (codes "out of memory")
+reason_of Words words = Some (words_reason words)
+reason_of (Refused refusal) words = Some (refusal_text refusal)
+reason_of (Line n why) words = Some (codes "line " ++ (decimal n ++ (codes ": " ++ sentence_of_none why)))
+reason_of (Profile why) words = profile_reason why
+reason_of _ words = Some []

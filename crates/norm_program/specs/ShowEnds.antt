@@ -7,9 +7,9 @@ use Rattle.norm_show.specs.declared.fault.NoDatagram.{NoDatagram}
 use Rattle.norm_show.specs.declared.fault.ShowFault.TheVariants as fault
 use Rattle.norm_program.specs.Ends.{Outside, Says, refused_line}
 use Rattle.norm_program.specs.declared.status.Ending.{Ending}
-use Rattle.norm_program.specs.declared.status.Ending.TheVariants.{Done, Datagram, Memory, Words, Refused, Line, Read, Write, Fabric, Files, Absent, Spent}
+use Rattle.norm_program.specs.declared.status.Ending.TheVariants.{Done, Datagram, Memory, Words, Refused, Line, Profile, Read, Write, Fabric, Files, Absent, Spent}
 
--- nothing was called that only a session calls: no network, no files and no clock
+-- nothing was called that only nodes call: no network, no files and no clock
 abbrev pub Alone : Outside → Outside → Type 0
 Alone before after = after.called ≡ before.called
 
@@ -62,6 +62,7 @@ ShowEnds (Refused refusal) before after = ⊥
 ShowEnds Fabric before after = ⊥
 ShowEnds Files before after = ⊥
 ShowEnds (Absent name) before after = ⊥
+ShowEnds (Profile why) before after = ⊥
 ShowEnds Spent before after = ⊥
 
 -- how a line that spells no datagram ends the program: it is said, or there was no memory for that

@@ -5,8 +5,12 @@
 #![tactic(auto)]
 
 mod asked;
+mod boarded;
+mod commands;
 mod generate;
 mod input;
+mod nodes;
+mod profiles;
 mod program;
 mod reason;
 mod show;
@@ -15,5 +19,5 @@ mod words;
 
 pub use crate::program::{norm_main, run};
 pub use crate::reason::{needed, say_cause};
-pub use crate::status::{Ending, Status};
-pub use crate::words::{WordsFault, arguments};
+pub use crate::status::{Ending, ProfileFault, Status};
+pub use crate::words::{WordsFault, arguments, path_asked};

@@ -1,24 +1,27 @@
 //! The program: its words, its input and its output.
 
-ghost use Rattle.std.specs.Prelude.{◌≡◌, codes, map, string_bytes, Some, Ok, MatchResult, IfOk, IfErr, OnOk};
+ghost use Rattle.std.specs.Prelude.{◌≡◌, codes, map, string_bytes, Ok, MatchResult, IfOk, IfErr, OnOk};
 ghost use Rattle.std.specs.Process.{exit_status};
-ghost use Rattle.norm_program.specs.Asked.{script_asked};
-ghost use Rattle.norm_program.specs.Commands.{EndsTask, EndsBy, EndsWith, EndsUnread};
-ghost use Rattle.norm_program.specs.Ends.{usage_line, refused_line, absent_line, outside, called_as, Says, IsInput, Prepared, IsReadEnding, IsTextEnding, IsLastEnding, IsAbsentEnding, IsStoppedEnding, EndsEarly, EndsSession};
+ghost use Rattle.norm_program.specs.Asked.{Members, script_asked};
+ghost use Rattle.norm_program.specs.Commands.{EndsNode, EndsTask, EndsOther, EndsBy, EndsWith, EndsUnread, KeepsFiles};
+ghost use Rattle.norm_program.specs.Ends.{usage_line, refused_line, absent_line, outside, called_as, Says, IsInput, Prepared, IsReadEnding, IsTextEnding, IsLastEnding, IsAbsentEnding, IsStoppedEnding, EndsEarly, EndsScript};
 ghost use Rattle.norm_session.specs.Session.{IsRunnable};
 ghost use Rattle.norm_words.specs.Fits.{FitsOptions, FitsTask};
+ghost use Rattle.norm_words.specs.NodeTasks.{node_task_of};
 
 use crate::asked::script_with;
+use crate::boarded::run_session;
 use crate::generate::write_script;
 use crate::input::{InputFault, read_all};
+use crate::nodes::end_node;
 use crate::reason::{explain, explain_no_text};
 use crate::show::show;
 use crate::status::{Ending, Status};
 use crate::words::WordsFault;
 use norm_base::{Clock, Fabric, Failed, Files, Memory, Sink, Source, Text};
 use norm_script::{Extent, Script, read};
-use norm_session::{Ended, SessionFault, run_session};
-use norm_words::{Options, Task, task_of};
+use norm_session::{Ended, SessionFault};
+use norm_words::{NodeTask, Options, Task, node_task_of, task_of};
 use std::alloc::{AllocError, Global};
 use std::process::ExitCode;
 use std::sync::Wait;
@@ -52,7 +55,7 @@ fn absent_line(alloc: Global, name: &str) -> Result<String, AllocError>
 }
 
 /// Reads the input whole.
-fn read_input<S: Source, K: Sink>(
+pub(crate) fn read_input<S: Source, K: Sink>(
     alloc: Global,
     input: &mut S,
     output: &mut K,
@@ -84,7 +87,7 @@ fn read_text<K: Sink>(
     ensures script { IfOk result (λ script. (script_asked options text.now ≡ Ok script) × IsRunnable script) }
     ensures unwritten { OnOk result (K.pieces output.new ≡ K.pieces output.old) }
     ensures quiet { OnOk result (K.fault_count output.new ≡ K.fault_count output.old) }
-    ensures ending { IfErr result (λ ending. IsTextEnding ending text.now (K.pieces output.old) (K.pieces output.new)
+    ensures ending { IfErr result (λ ending. IsTextEnding (Members options) ending text.now (K.pieces output.old) (K.pieces output.new)
         (K.fault_count output.old) (K.fault_count output.new)) }
 {
     match read(alloc, text, Extent::Built) {
@@ -99,7 +102,7 @@ fn read_text<K: Sink>(
 }
 
 /// How a session that ran ended: one that spent its turns says so.
-fn end_session<K: Sink>(ended: &Ended, output: &mut K) -> Ending
+pub(crate) fn end_session<K: Sink>(ended: &Ended, output: &mut K) -> Ending
     ensures { IsLastEnding result ended.now.whole (K.pieces output.old) (K.pieces output.new)
         (K.fault_count output.old) (K.fault_count output.new) }
 {
@@ -113,7 +116,7 @@ fn end_session<K: Sink>(ended: &Ended, output: &mut K) -> Ending
 }
 
 /// Says which file is absent, and how that ends the program.
-fn say_absent<K: Sink>(alloc: Global, name: Text, output: &mut K) -> Ending
+pub(crate) fn say_absent<K: Sink>(alloc: Global, name: Text, output: &mut K) -> Ending
     ensures { IsAbsentEnding result name (K.pieces output.old) (K.pieces output.new)
         (K.fault_count output.old) (K.fault_count output.new) }
 {
@@ -130,7 +133,7 @@ fn say_absent<K: Sink>(alloc: Global, name: Text, output: &mut K) -> Ending
 }
 
 /// How a session that a fault stopped ends the program.
-fn stop_session<K: Sink>(alloc: Global, fault: SessionFault, output: &mut K) -> Ending
+pub(crate) fn stop_session<K: Sink>(alloc: Global, fault: SessionFault, output: &mut K) -> Ending
     ensures { IsStoppedEnding fault result (K.pieces output.old) (K.pieces output.new)
         (K.fault_count output.old) (K.fault_count output.new) }
 {
@@ -157,11 +160,11 @@ fn prepare<S: Source, K: Sink>(
     output: &mut K,
 ) -> Result<Script, Ending>
     requires { FitsOptions options }
-    ensures ready { IfOk result (λ script. Prepared options script (S.left input.old) (S.left input.new)) }
+    ensures ready { IfOk result (λ script. Prepared (Members options) script (S.left input.old) (S.left input.new)) }
     ensures runnable { IfOk result IsRunnable }
     ensures unwritten { OnOk result (K.pieces output.new ≡ K.pieces output.old) }
     ensures quiet { OnOk result ((S.fault_count input.new ≡ S.fault_count input.old) × (K.fault_count output.new ≡ K.fault_count output.old)) }
-    ensures ending { IfErr result (λ ending. EndsEarly options ending (S.left input.old) (S.left input.new)
+    ensures ending { IfErr result (λ ending. EndsEarly (Members options) ending (S.left input.old) (S.left input.new)
         (K.pieces output.old) (K.pieces output.new) (S.fault_count input.old) (S.fault_count input.new)
         (K.fault_count output.old) (K.fault_count output.new)) }
 {
@@ -182,7 +185,7 @@ fn run_input<R: Threads + Wait + Sync, S: Source, K: Sink, F: Fabric, D: Files, 
     clock: &mut C,
 ) -> Ending
     requires { FitsOptions options }
-    ensures ends { EndsSession options result
+    ensures ends { EndsScript (Members options) result
         (outside (S.left input.old) (K.pieces output.old) (S.fault_count input.old) (K.fault_count output.old)
         (called_as (F.told fabric.old) (D.contents files.old) (C.moments clock.old) (F.fault_count fabric.old) (D.fault_count files.old)))
         (outside (S.left input.new) (K.pieces output.new) (S.fault_count input.new) (K.fault_count output.new)
@@ -211,7 +214,7 @@ fn end_task<R: Threads + Wait + Sync, S: Source, K: Sink, F: Fabric, D: Files, C
     clock: &mut C,
 ) -> Ending
     requires { FitsTask task }
-    ensures ends { EndsTask (Some task) result
+    ensures ends { EndsTask task result
         (outside (S.left input.old) (K.pieces output.old) (S.fault_count input.old) (K.fault_count output.old)
         (called_as (F.told fabric.old) (D.contents files.old) (C.moments clock.old) (F.fault_count fabric.old) (D.fault_count files.old)))
         (outside (S.left input.new) (K.pieces output.new) (S.fault_count input.new) (K.fault_count output.new)
@@ -227,8 +230,59 @@ fn end_task<R: Threads + Wait + Sync, S: Source, K: Sink, F: Fabric, D: Files, C
     }
 }
 
-/// How the program ends with these words, after its name; what each ending says is in `EndsBy`. It leaves the contents of the files as they
-/// were.
+/// How what is asked for of a node ends the program, or how words end it that ask for nothing; what each ending says is in `EndsNode`.
+fn end_other<R: Threads + Wait + Sync, S: Source, K: Sink, F: Fabric, D: Files, C: Clock>(
+    rt: &R,
+    alloc: Global,
+    task: Option<NodeTask>,
+    input: &mut S,
+    output: &mut K,
+    fabric: &mut F,
+    files: &mut D,
+    clock: &mut C,
+) -> Ending
+    ensures ends { EndsNode task result
+        (outside (S.left input.old) (K.pieces output.old) (S.fault_count input.old) (K.fault_count output.old)
+        (called_as (F.told fabric.old) (D.contents files.old) (C.moments clock.old) (F.fault_count fabric.old) (D.fault_count files.old)))
+        (outside (S.left input.new) (K.pieces output.new) (S.fault_count input.new) (K.fault_count output.new)
+        (called_as (F.told fabric.new) (D.contents files.new) (C.moments clock.new) (F.fault_count fabric.new) (D.fault_count files.new))) }
+    ensures files { KeepsFiles task (D.contents files.old) (D.contents files.new) }
+{
+    match task {
+        Some(task) => end_node(rt, alloc, task, input, output, fabric, files, clock),
+        None => {
+            say(output, USAGE);
+            Ending::Words
+        }
+    }
+}
+
+/// How words end the program that ask for no task but, it may be, one of a node.
+fn end_others<R: Threads + Wait + Sync, S: Source, K: Sink, F: Fabric, D: Files, C: Clock>(
+    rt: &R,
+    alloc: Global,
+    words: &Vec<String>,
+    input: &mut S,
+    output: &mut K,
+    fabric: &mut F,
+    files: &mut D,
+    clock: &mut C,
+) -> Ending
+    ensures ends { EndsOther result (map string_bytes words.now.items)
+        (outside (S.left input.old) (K.pieces output.old) (S.fault_count input.old) (K.fault_count output.old)
+        (called_as (F.told fabric.old) (D.contents files.old) (C.moments clock.old) (F.fault_count fabric.old) (D.fault_count files.old)))
+        (outside (S.left input.new) (K.pieces output.new) (S.fault_count input.new) (K.fault_count output.new)
+        (called_as (F.told fabric.new) (D.contents files.new) (C.moments clock.new) (F.fault_count fabric.new) (D.fault_count files.new))) }
+    ensures files { KeepsFiles (node_task_of (map string_bytes words.now.items)) (D.contents files.old) (D.contents files.new) }
+{
+    match node_task_of(alloc, words) {
+        Ok(task) => end_other(rt, alloc, task, input, output, fabric, files, clock),
+        Err(Memory) => Ending::Memory,
+    }
+}
+
+/// How the program ends with these words, after its name; what each ending says is in `EndsBy`, and what the files have then in
+/// `KeepsFiles`.
 fn end_of<R: Threads + Wait + Sync, S: Source, K: Sink, F: Fabric, D: Files, C: Clock>(
     rt: &R,
     alloc: Global,
@@ -244,20 +298,17 @@ fn end_of<R: Threads + Wait + Sync, S: Source, K: Sink, F: Fabric, D: Files, C: 
         (called_as (F.told fabric.old) (D.contents files.old) (C.moments clock.old) (F.fault_count fabric.old) (D.fault_count files.old)))
         (outside (S.left input.new) (K.pieces output.new) (S.fault_count input.new) (K.fault_count output.new)
         (called_as (F.told fabric.new) (D.contents files.new) (C.moments clock.new) (F.fault_count fabric.new) (D.fault_count files.new))) }
-    ensures files { D.contents files.new ≡ D.contents files.old }
+    ensures files { KeepsFiles (node_task_of (map string_bytes words.now.items)) (D.contents files.old) (D.contents files.new) }
 {
     match task_of(alloc, words) {
         Ok(Some(task)) => end_task(rt, alloc, task, input, output, fabric, files, clock),
-        Ok(None) => {
-            say(output, USAGE);
-            Ending::Words
-        }
+        Ok(None) => end_others(rt, alloc, words, input, output, fabric, files, clock),
         Err(Memory) => Ending::Memory,
     }
 }
 
 /// The program: `words` are those after its name. Answers the exit status; what each one says is in
-/// `Ends`. It leaves the contents of the files as they were.
+/// `Ends` and `NodeEnds`. It leaves the contents of the files as they were, but where it is a receiver that puts files.
 pub fn norm_main<R: Threads + Wait + Sync, S: Source, K: Sink, F: Fabric, D: Files, C: Clock>(
     rt: &R,
     alloc: Global,
@@ -273,7 +324,7 @@ pub fn norm_main<R: Threads + Wait + Sync, S: Source, K: Sink, F: Fabric, D: Fil
         (called_as (F.told fabric.old) (D.contents files.old) (C.moments clock.old) (F.fault_count fabric.old) (D.fault_count files.old)))
         (outside (S.left input.new) (K.pieces output.new) (S.fault_count input.new) (K.fault_count output.new)
         (called_as (F.told fabric.new) (D.contents files.new) (C.moments clock.new) (F.fault_count fabric.new) (D.fault_count files.new))) }
-    ensures files { D.contents files.new ≡ D.contents files.old }
+    ensures files { KeepsFiles (node_task_of (map string_bytes words.now.items)) (D.contents files.old) (D.contents files.new) }
 {
     end_of(rt, alloc, words, input, output, fabric, files, clock).status()
 }
@@ -297,7 +348,8 @@ pub fn run<R: Threads + Wait + Sync + Eprint, S: Source, K: Sink, F: Fabric, D: 
         (called_as (F.told fabric.new) (D.contents files.new) (C.moments clock.new) (F.fault_count fabric.new) (D.fault_count files.new)) in
         MatchResult words (λ words. EndsWith (exit_status result) (map string_bytes words.items) before after)
         (λ fault. EndsUnread fault (exit_status result) before after) }
-    ensures files { D.contents files.new ≡ D.contents files.old }
+    ensures files { MatchResult words (λ words. KeepsFiles (node_task_of (map string_bytes words.items)) (D.contents files.old) (D.contents files.new))
+        (λ fault. D.contents files.new ≡ D.contents files.old) }
 {
     let words = match words {
         Ok(words) => words,

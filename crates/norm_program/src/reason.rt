@@ -1,14 +1,14 @@
-//! What stands on standard error, for people: why words, a line or the memory ended the program, and what a failed call of
-//! the outside was about.
+//! What stands on standard error, for people: why words, a line, a profile or the memory ended the program, and what a failed call
+//! of the outside was about.
 
 ghost use Rattle.std.specs.Prelude.{◌≡◌, ◌∷◌, Some, map, string_bytes, Ok, Err, MatchResult};
 ghost use Rattle.std.specs.Fmt.{DisplaysOnOk};
 ghost use Rattle.std.specs.Process.{exit_status};
-ghost use Rattle.norm_program.specs.Reasons.{is_unbuilt, extra_reason, words_reason, has_reason, reason_of};
+ghost use Rattle.norm_program.specs.Reasons.{extra_reason, words_reason, node_reason, profile_reason, has_reason, reason_of};
 ghost use Rattle.norm_program.specs.StatusOf.{status_of};
 ghost use Rattle.norm_program.specs.declared.status.Ending.TheVariants as ending;
 
-use crate::status::Ending;
+use crate::status::{Ending, ProfileFault};
 use norm_base::Memory;
 use std::fmt;
 use std::process::ExitCode;
@@ -23,13 +23,15 @@ const SESSION_TAKES: &str =
 /// What `generate` takes.
 const GENERATE_TAKES: &str = "generate takes one word, a number from 0 to 4294967295";
 
-/// Whether a word is one of the usage line that the program does not do yet.
-fn is_unbuilt(word: &str) -> bool
-    ensures { result ≡ is_unbuilt word.now }
-{
-    let word = word.as_bytes();
-    word == b"send".as_slice() || word == b"recv".as_slice() || word == b"hub".as_slice()
-}
+/// What `send` takes.
+const SEND_TAKES: &str = "send takes one word, the path of a profile";
+
+/// What `recv` takes.
+const RECV_TAKES: &str =
+    "recv takes two words, the path of a profile and a node, from 1 to 4294967294";
+
+/// What `hub` takes.
+const HUB_TAKES: &str = "hub takes one word, the path of a profile";
 
 /// Why a command that stands alone is refused with these words behind it.
 fn say_extra<W: fmt::Write>(word: &str, others: &[String], f: &mut fmt::Formatter<W>) -> fmt::Result
@@ -58,8 +60,14 @@ fn say_first<W: fmt::Write>(word: &str, others: &[String], f: &mut fmt::Formatte
     if octets == b"show".as_slice() {
         return say_extra(word, others, f);
     }
-    if is_unbuilt(word) {
-        return write!(f, "the word {word} is not built yet");
+    if octets == b"send".as_slice() {
+        return f.write_str(SEND_TAKES);
+    }
+    if octets == b"recv".as_slice() {
+        return f.write_str(RECV_TAKES);
+    }
+    if octets == b"hub".as_slice() {
+        return f.write_str(HUB_TAKES);
     }
     write!(f, "the word {word} is unknown")
 }
@@ -74,6 +82,31 @@ fn say_words<W: fmt::Write>(words: &[String], f: &mut fmt::Formatter<W>) -> fmt:
     }
 }
 
+/// Why a node is no receiver of a profile, whose are those from the first to the last.
+fn say_node<W: fmt::Write>(
+    node: u32,
+    first: u32,
+    last: u32,
+    f: &mut fmt::Formatter<W>,
+) -> fmt::Result
+    ensures { DisplaysOnOk W.write_str_gives f.old result (Some (node_reason node first last)) f.new }
+{
+    write!(
+        f,
+        "the node {node} is no receiver of the profile, whose receivers are {first} to {last}"
+    )
+}
+
+/// Why a profile is refused.
+fn say_profile<W: fmt::Write>(why: &ProfileFault, f: &mut fmt::Formatter<W>) -> fmt::Result
+    ensures { DisplaysOnOk W.write_str_gives f.old result (profile_reason why.now) f.new }
+{
+    match why {
+        ProfileFault::Document { why } => write!(f, "the profile is refused: {why}"),
+        ProfileFault::Node { node, first, last } => say_node(node.number(), *first, *last, f),
+    }
+}
+
 /// The reason of an ending, under the words of the call.
 #[derive(Drop)]
 pub(crate) struct Reason<'a> {
@@ -82,7 +115,7 @@ pub(crate) struct Reason<'a> {
 }
 
 impl fmt::Display for Reason<'_> {
-    ghost output = { λ r. Some (reason_of r.ending.now (map string_bytes r.words.now)) };
+    ghost output = { λ r. reason_of r.ending.now (map string_bytes r.words.now) };
 
     fn fmt<W: fmt::Write>(&self, f: &mut fmt::Formatter<W>) -> fmt::Result {
         match self.ending {
@@ -90,6 +123,7 @@ impl fmt::Display for Reason<'_> {
             Ending::Words => say_words(self.words, f),
             Ending::Refused { refusal } => write!(f, "{refusal}"),
             Ending::Line { number, why } => write!(f, "line {number}: {why}"),
+            Ending::Profile { why } => say_profile(why, f),
             Ending::Done
             | Ending::Datagram
             | Ending::Read
@@ -109,7 +143,11 @@ impl Ending {
     {
         matches!(
             self,
-            Ending::Memory | Ending::Words | Ending::Refused { .. } | Ending::Line { .. }
+            Ending::Memory
+                | Ending::Words
+                | Ending::Refused { .. }
+                | Ending::Line { .. }
+                | Ending::Profile { .. }
         )
     }
 }

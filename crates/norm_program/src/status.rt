@@ -5,7 +5,8 @@ ghost use Rattle.std.specs.Process.{exit_status};
 ghost use Rattle.norm_program.specs.StatusOf.{status_of};
 ghost use Rattle.norm_program.specs.declared.status.Ending.TheVariants as ending;
 
-use norm_base::Text;
+use norm_base::{NodeId, Text};
+use norm_profile::ProfileRefusal;
 use norm_script::Refusal;
 use norm_show::NoDatagram;
 use std::alloc::AllocError;
@@ -45,6 +46,15 @@ impl From<Status> for ExitCode {
     }
 }
 
+/// Why a profile is refused.
+#[derive(Debug, Drop)]
+pub enum ProfileFault {
+    /// Its document is none of a profile.
+    Document { why: ProfileRefusal },
+    /// The node is none of its receivers, which are those from the first to the last.
+    Node { node: NodeId, first: u32, last: u32 },
+}
+
 /// How the program ended.
 #[derive(Debug, Drop)]
 pub enum Ending {
@@ -60,6 +70,8 @@ pub enum Ending {
     Refused { refusal: Refusal },
     /// A line to be shown, of this number, spells no datagram.
     Line { number: u64, why: NoDatagram },
+    /// The profile is refused.
+    Profile { why: ProfileFault },
     /// A read failed.
     Read,
     /// A write failed.
@@ -91,7 +103,7 @@ impl Ending {
             Ending::Done => Status(0),
             Ending::Memory => Status(1),
             Ending::Words => Status(2),
-            Ending::Refused { .. } | Ending::Line { .. } => Status(3),
+            Ending::Refused { .. } | Ending::Line { .. } | Ending::Profile { .. } => Status(3),
             Ending::Read => Status(4),
             Ending::Write => Status(5),
             Ending::Fabric => Status(6),

@@ -1,10 +1,14 @@
 //! The words of the command line.
 
-ghost use Rattle.std.specs.Prelude.{◌≡◌, ◌↔◌, drop, map, string_bytes};
+ghost use Rattle.std.specs.Prelude.{◌≡◌, ◌↔◌, drop, map, string_bytes, IfOk};
 ghost use Rattle.std.specs.IoError.{error_kind};
 ghost use Rattle.std.specs.declared.io.ErrorKind.TheVariants.{OutOfMemory};
+ghost use Rattle.norm_program.specs.Commands.{path_asked};
 ghost use Rattle.norm_program.specs.declared.words.WordsFault.TheVariants as fault;
+ghost use Rattle.norm_words.specs.NodeTasks.{node_task_of};
 
+use norm_base::{Memory, Text};
+use norm_words::{NodeTask, node_task_of};
 use std::alloc::{AllocFailed, Global};
 use std::rt::Env;
 use std::{env, io};
@@ -54,4 +58,28 @@ fn drop_first(words: &mut Vec<String>)
     if !words.is_empty() {
         words.remove(0);
     }
+}
+
+/// The path of the profile that a node's task names.
+fn path_of(task: Option<NodeTask>) -> Option<Text>
+    ensures { result ≡ path_asked task }
+{
+    match task {
+        Some(NodeTask::Send(path)) => Some(path),
+        Some(NodeTask::Receive(path, _)) => Some(path),
+        Some(NodeTask::Hub(path)) => Some(path),
+        None => None,
+    }
+}
+
+/// The path of the profile that the words ask for, where they ask for a node's run: it is a path as the shell gives it, which the
+/// files are to be told, and no name in their folder.
+///
+/// # Errors
+///
+/// `Memory` where memory runs out.
+pub fn path_asked(alloc: Global, words: &[String]) -> Result<Option<Text>, Memory>
+    ensures { IfOk result (λ path. path ≡ path_asked (node_task_of (map string_bytes words.now))) }
+{
+    Ok(path_of(node_task_of(alloc, words)?))
 }

@@ -45,6 +45,7 @@ use Rattle.norm_session.specs.Commanding.{IsDue, IsAtLine, IsAnswered, given, of
 use Rattle.norm_session.specs.Turning.{IsOver, command_next}
 use Rattle.norm_session.specs.Context.{Context, judged_of}
 use Rattle.norm_session.specs.Left.{IsTaken, lines_at}
+use Rattle.norm_session.specs.Posting.{entries_in}
 use Rattle.norm_session.specs.RunKept.{RunKept}
 use Rattle.norm_session.specs.SoFar.{HasAll, IsOffered, IsTelling, At, Leads}
 use Rattle.norm_session.specs.Stopping.{IsUnwritten, Stopped}
@@ -87,7 +88,7 @@ pulls x k journal left producer place network written taken joined here =
                 stands = s.stands;
                 accepted = (judges_what_follows j next e).1 (here.quiet, follows);
               })
-              (untold network e refl refl) (sym (gained-nil written)) (λ honest told. tt) refl tt;
+              (untold network e refl refl) (sym (gained-nil written)) (λ honest told. tt) refl refl tt;
           quiet = here.quiet;
         };
       };
@@ -149,10 +150,11 @@ pub record IsQuietEvent (e : Event) : Type 0 where
   pub no_offer : offers_in (e ∷ []) ≡ []
   pub no_answer : answers_in (e ∷ []) ≡ []
   pub no_turn : moments_in (e ∷ []) ≡ []
+  pub no_outcome : entries_in (e ∷ []) ≡ []
   pub no_take : (past : List Event) → IsOffered past e
 
 pub job_quiet : (by : Origin) (told : Option Job) (gave : Result Receipt SendFault) → IsQuietEvent (event.Job by told gave)
-job_quiet by told gave = record { no_offer = refl; no_answer = refl; no_turn = refl; no_take = λ past. tt }
+job_quiet by told gave = record { no_offer = refl; no_answer = refl; no_turn = refl; no_outcome = refl; no_take = λ past. tt }
 
 pub notes : (x : Context) (k v : RunKept) (e : Event) (journal : List Event) (totals : Totals) (waiting : Option ℕ) (place : ℕ) (line : Line)
     (gave : Result Receipt SendFault) (text : Option (List ℕ)) (network : Network) (unwritten written : Pieces) → IsQuietEvent e → k ≡ v
@@ -173,7 +175,7 @@ notes x k v e journal totals waiting place line gave text network unwritten writ
         stands = g.stands;
         leads = subst (λ js. Leads x js next network written) (sym joined)
             (leads_on x k.journal e j next network network unwritten written g.leads accepted (untold network e quiet.no_offer quiet.no_answer)
-            (out ∙ ap (λ o. gained unwritten (option_to_list o)) (sym g.text_is)) (λ honest told. quiet.no_take k.journal) quiet.no_turn g.octets);
+            (out ∙ ap (λ o. gained unwritten (option_to_list o)) (sym g.text_is)) (λ honest told. quiet.no_take k.journal) quiet.no_turn quiet.no_outcome g.octets);
       };
     }
 
@@ -182,7 +184,7 @@ pub notes_stop : (x : Context) (failed : SessionFault) (k : RunKept) (e : Event)
     → IsAnswered x k place line e gave text network unwritten → Stopped x failed network written
 notes_stop x failed k e place line gave text network unwritten written quiet un g =
     line_stops x failed k.journal e (judged_of x k g.before (offering g.first line)) (given x k g.before g.after g.first line gave) network unwritten written
-    g.leads g.accepted quiet.no_offer quiet.no_answer quiet.no_turn (λ honest told. quiet.no_take k.journal) g.octets
+    g.leads g.accepted quiet.no_offer quiet.no_answer quiet.no_turn quiet.no_outcome (λ honest told. quiet.no_take k.journal) g.octets
     (subst (IsUnwritten failed unwritten written) (sym g.text_is) un)
 
 pub notes_memory : (x : Context) (k : RunKept) (e : Event) (place : ℕ) (line : Line) (gave : Result Receipt SendFault)

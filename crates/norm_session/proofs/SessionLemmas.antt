@@ -10,7 +10,7 @@ use Rattle.norm_journal.specs.Jobs.{Told}
 use Rattle.norm_journal.specs.Judged.{Judged, is_whole}
 use Rattle.norm_journal.specs.Places.{Between, Over}
 use Rattle.norm_journal.specs.SessionRun.{Whole, Spent, ending_of}
-use Rattle.norm_session.specs.Context.{Context, with_moments, judged_of}
+use Rattle.norm_session.specs.Context.{Context, with_moments, with_posted, judged_of}
 use Rattle.norm_session.specs.Finishing.{HasEnded, Finishes}
 use Rattle.norm_session.specs.Moments.{HaveMoments}
 use Rattle.norm_session.specs.RunKept.{RunKept}
@@ -22,6 +22,7 @@ use Rattle.norm_session.specs.declared.fault.SessionFault.{SessionFault}
 use Rattle.norm_session.specs.declared.fault.SessionFault.TheVariants as fault
 use Rattle.norm_session.proofs.SafeLemmas.{safe_over, safe_stopped}
 use Rattle.norm_session.specs.Stopping.{Stopped}
+use Rattle.producer_gate.specs.Boards.{BoardState}
 
 -- a run begins where the network was started
 abbrev Begins : Bool → Commands → RunKept → Network → Type 0
@@ -38,15 +39,15 @@ StopsSafely x = (failed : SessionFault) (network : Network) (written : Pieces) (
     → OverHonest x.network (IsSafe x.script x.files s.journal)
 
 -- what a session leads to is safe, and what a fault stops, where it began over a network that was just started
-pub leads_safely : (script : Commands) (files : Told) (before started : Network) (unwritten : Pieces) → IsRunnable script
-    → Starts before started script.profile All → (ms : List ℕ) → LeadsSafely (with_moments (context_of false script files started unwritten) ms)
-leads_safely script files before started unwritten is starts ms journal j network written l =
-    safe_over (with_moments (context_of false script files started unwritten) ms) journal j network written l refl is starts.offered
+pub leads_safely : (script : Commands) (files : Told) (before started : Network) (unwritten : Pieces) (unposted posted : BoardState) → IsRunnable script
+    → Starts before started script.profile All → (ms : List ℕ) → LeadsSafely (with_moments (with_posted (context_of false script files started unwritten unposted) posted) ms)
+leads_safely script files before started unwritten unposted posted is starts ms journal j network written l =
+    safe_over (with_moments (with_posted (context_of false script files started unwritten unposted) posted) ms) journal j network written l refl is starts.offered
 
-pub stops_safely : (script : Commands) (files : Told) (before started : Network) (unwritten : Pieces) → IsRunnable script
-    → Starts before started script.profile All → (ms : List ℕ) → StopsSafely (with_moments (context_of false script files started unwritten) ms)
-stops_safely script files before started unwritten is starts ms failed network written s =
-    safe_stopped (with_moments (context_of false script files started unwritten) ms) failed network written s refl is starts.offered
+pub stops_safely : (script : Commands) (files : Told) (before started : Network) (unwritten : Pieces) (unposted posted : BoardState) → IsRunnable script
+    → Starts before started script.profile All → (ms : List ℕ) → StopsSafely (with_moments (with_posted (context_of false script files started unwritten unposted) posted) ms)
+stops_safely script files before started unwritten unposted posted is starts ms failed network written s =
+    safe_stopped (with_moments (with_posted (context_of false script files started unwritten unposted) posted) ms) failed network written s refl is starts.offered
 
 how_it_ended : (x : Context) (k : RunKept) (whole : Bool) (network : Network) (written : Pieces) (e : HasEnded x k whole network written)
     → ending_of (judged_of x k e.here.world Over) ≡ Some (end_of whole)
@@ -61,12 +62,12 @@ how_it_ended x k whole network written e = go whole (is_whole (judged_of x k e.h
 -- a session that ran to its end
 session_runs : (script : Commands) (files : Told) (started : Network) (begun k : RunKept) (whole : Bool) (o : Span)
     → Starts o.before started script.profile All → Begins false script begun started
-    → Finishes script files begun k whole (span started o.after o.unwritten o.written o.unasked o.asked)
+    → Finishes script files begun k whole (span started o.after o.unwritten o.written o.unasked o.asked o.unposted o.posted)
     → IsRunnable script → RunsSession script files k.journal whole o
 session_runs script files started begun k whole o starts begins finishes is =
-    let x = context_of false script files started o.unwritten in
-    let f = finishes.1 x (record { script = refl; files = refl }) refl (begins x (record { script = refl; nodes = refl; network = refl; moments = refl })) in
-    let y = with_moments x finishes.0 in
+    let x = context_of false script files started o.unwritten o.unposted in
+    let f = finishes.1 x (record { script = refl; files = refl }) refl (begins x (record { script = refl; nodes = refl; network = refl; moments = refl; board = refl })) in
+    let y = with_moments (with_posted x o.posted) finishes.0 in
     let e = f.1 in
     let l = e.here.so_far.leads in
     record {
@@ -75,18 +76,19 @@ session_runs script files started begun k whole o starts begins finishes is =
       run = record { last = judged_of y k e.here.world Over; begun = l.judged; ended = how_it_ended y k whole o.after o.written e };
       told = l.told;
       lines = l.lines;
+      board = l.board;
       moments = subst (λ ms. HaveMoments script.profile.step 0 o.unasked o.asked ms) (sym l.moments) f.0;
-      safe = leads_safely script files o.before started o.unwritten is starts finishes.0 k.journal (judged_of y k e.here.world Over) o.after o.written l;
+      safe = leads_safely script files o.before started o.unwritten o.unposted o.posted is starts finishes.0 k.journal (judged_of y k e.here.world Over) o.after o.written l;
     }
 
 -- the same of a sender alone
 sender_runs : (script : Commands) (files : Told) (started : Network) (begun k : RunKept) (whole : Bool) (o : Span)
     → Starts o.before started script.profile (One script.profile.sender) → Begins true script begun started
-    → Finishes script files begun k whole (span started o.after o.unwritten o.written o.unasked o.asked) → RunsSender script files k.journal whole o
+    → Finishes script files begun k whole (span started o.after o.unwritten o.written o.unasked o.asked o.unposted o.posted) → RunsSender script files k.journal whole o
 sender_runs script files started begun k whole o starts begins finishes =
-    let x = context_of true script files started o.unwritten in
-    let f = finishes.1 x (record { script = refl; files = refl }) refl (begins x (record { script = refl; nodes = refl; network = refl; moments = refl })) in
-    let y = with_moments x finishes.0 in
+    let x = context_of true script files started o.unwritten o.unposted in
+    let f = finishes.1 x (record { script = refl; files = refl }) refl (begins x (record { script = refl; nodes = refl; network = refl; moments = refl; board = refl })) in
+    let y = with_moments (with_posted x o.posted) finishes.0 in
     let e = f.1 in
     let l = e.here.so_far.leads in
     record {
@@ -95,13 +97,14 @@ sender_runs script files started begun k whole o starts begins finishes =
       run = record { last = judged_of y k e.here.world Over; begun = l.judged; ended = how_it_ended y k whole o.after o.written e };
       told = l.told;
       lines = l.lines;
+      board = l.board;
       moments = subst (λ ms. HaveMoments script.profile.step 0 o.unasked o.asked ms) (sym l.moments) f.0;
     }
 
 -- a run of a script that ran to its end
 pub script_runs : (alone : Bool) (script : Commands) (files : Told) (started : Network) (begun k : RunKept) (whole : Bool) (o : Span)
     → Starts o.before started script.profile (local_of alone script.profile) → Begins alone script begun started
-    → Finishes script files begun k whole (span started o.after o.unwritten o.written o.unasked o.asked) → IsRunnable script
+    → Finishes script files begun k whole (span started o.after o.unwritten o.written o.unasked o.asked o.unposted o.posted) → IsRunnable script
     → RunsScript alone script files k.journal whole o
 script_runs true script files started begun k whole o starts begins finishes is = sender_runs script files started begun k whole o starts begins finishes
 script_runs false script files started begun k whole o starts begins finishes is = session_runs script files started begun k whole o starts begins finishes is
@@ -109,39 +112,41 @@ script_runs false script files started begun k whole o starts begins finishes is
 -- a session that a fault broke off
 session_stops : (script : Commands) (files : Told) (started : Network) (begun : RunKept) (failed : SessionFault) (o : Span)
     → Starts o.before started script.profile All → Begins false script begun started
-    → StopsTurns script files begun failed (span started o.after o.unwritten o.written o.unasked o.asked)
+    → StopsTurns script files begun failed (span started o.after o.unwritten o.written o.unasked o.asked o.unposted o.posted)
     → IsRunnable script → StopsSession failed script files o
 session_stops script files started begun failed o starts begins stops is =
-    let x = context_of false script files started o.unwritten in
-    let f = stops.1 x (record { script = refl; files = refl }) refl (begins x (record { script = refl; nodes = refl; network = refl; moments = refl })) in
+    let x = context_of false script files started o.unwritten o.unposted in
+    let f = stops.1 x (record { script = refl; files = refl }) refl (begins x (record { script = refl; nodes = refl; network = refl; moments = refl; board = refl })) in
     inr (record {
       started = started;
       starts = starts;
       moments = stops.0;
       by_clock = f.0;
       stopped = f.1;
-      safe = stops_safely script files o.before started o.unwritten is starts stops.0 failed o.after o.written f.1;
+      safe = stops_safely script files o.before started o.unwritten o.unposted o.posted is starts stops.0 failed o.after o.written f.1;
     })
 
 -- the same of a sender alone
 sender_stops : (script : Commands) (files : Told) (started : Network) (begun : RunKept) (failed : SessionFault) (o : Span)
     → Starts o.before started script.profile (One script.profile.sender) → Begins true script begun started
-    → StopsTurns script files begun failed (span started o.after o.unwritten o.written o.unasked o.asked) → StopsSender failed script files o
+    → StopsTurns script files begun failed (span started o.after o.unwritten o.written o.unasked o.asked o.unposted o.posted) → StopsSender failed script files o
 sender_stops script files started begun failed o starts begins stops =
-    let x = context_of true script files started o.unwritten in
-    let f = stops.1 x (record { script = refl; files = refl }) refl (begins x (record { script = refl; nodes = refl; network = refl; moments = refl })) in
+    let x = context_of true script files started o.unwritten o.unposted in
+    let f = stops.1 x (record { script = refl; files = refl }) refl (begins x (record { script = refl; nodes = refl; network = refl; moments = refl; board = refl })) in
     inr (record { started = started; starts = starts; moments = stops.0; by_clock = f.0; stopped = f.1 })
 
 -- a run of a script that a fault broke off
 pub script_stops : (alone : Bool) (script : Commands) (files : Told) (started : Network) (begun : RunKept) (failed : SessionFault) (o : Span)
     → Starts o.before started script.profile (local_of alone script.profile) → Begins alone script begun started
-    → StopsTurns script files begun failed (span started o.after o.unwritten o.written o.unasked o.asked) → IsRunnable script
+    → StopsTurns script files begun failed (span started o.after o.unwritten o.written o.unasked o.asked o.unposted o.posted) → IsRunnable script
     → StopsScript alone failed script files o
 script_stops true script files started begun failed o starts begins stops is = sender_stops script files started begun failed o starts begins stops
 script_stops false script files started begun failed o starts begins stops is = session_stops script files started begun failed o starts begins stops is
 
 -- a run of a script that did not begin
 pub not_begun : (alone : Bool) (script : Commands) (files : Told) (failed : SessionFault) (o : Span) → (failed ≡ fault.Memory) ⊎ (failed ≡ fault.Fabric)
-    → o.after ≡ o.before → o.written ≡ o.unwritten → o.asked ≡ o.unasked → StopsScript alone failed script files o
-not_begun true script files failed o why network output clock = inl (record { why = why; network = network; output = output; clock = clock })
-not_begun false script files failed o why network output clock = inl (record { why = why; network = network; output = output; clock = clock })
+    → o.after ≡ o.before → o.written ≡ o.unwritten → o.asked ≡ o.unasked → o.posted ≡ o.unposted → StopsScript alone failed script files o
+not_begun true script files failed o why network output clock board =
+    inl (record { why = why; network = network; output = output; clock = clock; board = board })
+not_begun false script files failed o why network output clock board =
+    inl (record { why = why; network = network; output = output; clock = clock; board = board })

@@ -31,7 +31,7 @@ use Rattle.norm_session.specs.RunKept.{RunKept, nodes_in}
 use Rattle.norm_session.specs.SoFar.{AreOffered, Leads, At}
 use Rattle.norm_session.specs.Starting.{IsBegun}
 use Rattle.norm_session.specs.declared.fault.SessionFault.TheVariants as fault
-use Rattle.norm_session.proofs.SoFarLemmas.{gained-nil, tells, untold, leads_on}
+use Rattle.norm_session.proofs.SoFarLemmas.{gained-nil, posting-nil, tells, untold, leads_on}
 
 -- nothing happened yet
 nothing_told : (n : Network) → n ≡ network_after n []
@@ -45,6 +45,7 @@ unbegun x script alone network b = record {
   lines = sym (gained-nil x.written);
   offered = λ honest told. tt;
   moments = sym b.moments;
+  board = b.board ∙ sym (posting-nil x.board);
   octets = tt;
 }
 
@@ -82,7 +83,7 @@ begins x script alone network world left all b objects same stands =
         stands = stands;
         leads = leads_on x [] event.Start (opening x) (judged_of x k w Between) network network x.written x.written (unbegun x script alone network b)
             ((judges_what_follows (opening x) (judged_of x k w Between) event.Start).1 (refl, follows)) (untold network event.Start refl refl)
-            (sym (gained-nil x.written)) (λ honest told. tt) refl tt;
+            (sym (gained-nil x.written)) (λ honest told. tt) refl refl tt;
       };
       quiet = refl;
     }

@@ -184,7 +184,7 @@ takes x k new journal count node octets before now written delivers joined told 
             accepted = accepted;
           })
           (told ∙ answer_told before e refl) (sym (gained-nil written))
-          (λ is told. was_offered x k.journal j before written node octets s.leads honest is told) refl tt;
+          (λ is told. was_offered x k.journal j before written node octets s.leads honest is told) refl refl tt;
     }
 
 -- the datagram was taken, and there was no memory to deliver or to note it
@@ -199,7 +199,7 @@ take_unnoted x k count node octets before now written told honest here =
     stops_for_memory x (k.journal ++ e ∷ []) next now written
     (leads_on x k.journal e j next before now written written s.leads (take_accepted x k here.world count node octets here.quiet)
     (told ∙ answer_told before e refl) (sym (gained-nil written))
-    (λ is told. was_offered x k.journal j before written node octets s.leads honest is told) refl tt)
+    (λ is told. was_offered x k.journal j before written node octets s.leads honest is told) refl refl tt)
 
 -- the network had none ready
 pub finds_none : (x : Context) (k v : RunKept) (journal : List Event) (count : ℕ) (before now : Network) (written : Pieces) → k ≡ v
@@ -223,7 +223,7 @@ finds_none x k v journal count before now written is joined told there =
             stands = s.stands;
             accepted = (judges_what_follows j (judged_of x (noted k journal) w (hands_next x)) e).1 (here.quiet, follows);
           })
-          (told ∙ answer_told before e refl) (sym (gained-nil written)) (λ is told. tt) refl tt;
+          (told ∙ answer_told before e refl) (sym (gained-nil written)) (λ is told. tt) refl refl tt;
       quiet = here.quiet;
     }
 
@@ -248,6 +248,7 @@ take_stops x k network_fault.Failed count network written here =
       told = s.told;
       offered = s.offered;
       moments = s.moments;
+      board = s.board;
       octets = s.octets;
       leaves = (
         s.lines,

@@ -27,13 +27,15 @@ use Rattle.norm_send_rules.specs.declared.news.News.TheVariants as news
 use Rattle.norm_sender.specs.SenderKept.{SenderKept, Stands}
 use Rattle.norm_world.specs.WorldKept.{WorldKept, StandsFor}
 use Rattle.norm_world.specs.WorldMoves.{IsEvent}
-use Rattle.norm_session.specs.Context.{Context, judged_of}
+use Rattle.norm_session.specs.Context.{Context, with_posted, judged_of}
 use Rattle.norm_session.specs.RunKept.{RunKept}
 use Rattle.norm_session.specs.SoFar.{SoFar, At}
 use Rattle.norm_session.specs.Stopping.{IsUnwritten, Stopped}
 use Rattle.norm_session.specs.Telling.{untold_count, left_past, left_by, IsTellingOf, HasTold}
 use Rattle.norm_session.specs.declared.fault.SessionFault.{SessionFault}
-use Rattle.norm_session.proofs.SoFarLemmas.{more, untold, line_stops}
+use Rattle.norm_session.specs.declared.fault.SessionFault.TheVariants as fault
+use Rattle.producer_gate.specs.Boards.{BoardState}
+use Rattle.norm_session.proofs.SoFarLemmas.{more_told, posted_by, untold, told_line_stops}
 
 -- ---- the members that are left
 
@@ -193,19 +195,21 @@ line_said x k world w n place instance left says is =
     news_is x k w place n instance left (sym (says.instance_is (told w.sender).0 after ∙ same.instance))
     (sym (says.left_is (told w.sender).0 after ∙ same.left n))
 
-pub tells : (x : Context) (k v : RunKept) (world : WorldKept) (n : News) (place : Place) (network : Network) (unwritten written : Pieces)
-    (instance : ℕ) (left : List ℕ) (many : ℕ) → k ≡ v → world.p ≡ k.world.p → IsEvent k.world world NewsAsked (λ answer. answer ≡ Told (Some n))
+pub tells : (x : Context) (board : BoardState) (k v : RunKept) (world : WorldKept) (n : News) (place : Place) (network : Network) (unwritten written : Pieces)
+    (instance : ℕ) (left : List ℕ) (many : ℕ) → board ≡ posted_by x (event.News n) → k ≡ v → world.p ≡ k.world.p → IsEvent k.world world NewsAsked (λ answer. answer ≡ Told (Some n))
     → SaysLeft world n instance left → written ≡ gained unwritten (option_to_list (news_line instance left n))
-    → IsTellingOf x v place network unwritten many → IsTellingOf x (having_told k world n) place network written (many - 1)
-tells x k v world n place network unwritten written instance left many seen same asked says out there =
+    → IsTellingOf x v place network unwritten many
+    → IsTellingOf (with_posted x board) (having_told k world n) place network written (many - 1)
+tells x board k v world n place network unwritten written instance left many posted seen same asked says out there =
     let here = subst (λ (u : RunKept). IsTellingOf x u place network unwritten many) (sym seen) there in
     let s = here.so_far in
     let w = here.world in
     let e : Event = event.News n in
     let is = is_told x k world w n place network unwritten s asked in
-    record {
+    subst (λ (b : BoardState). IsTellingOf (with_posted x b) (having_told k world n) place network written (many - 1)) (sym posted)
+    (record {
       world = (world_step k.p w NewsAsked).0;
-      so_far = more x k (having_told k world n) e w (world_step k.p w NewsAsked).0 place place network network unwritten written s
+      so_far = more_told x k (having_told k world n) e w (world_step k.p w NewsAsked).0 place place network network unwritten written s
           (record {
             profile = refl;
             alone = refl;
@@ -217,21 +221,23 @@ tells x k v world n place network unwritten written instance left many seen same
           (untold network e refl refl)
           (out ∙ ap (λ l. gained unwritten (option_to_list l)) (sym (line_said x k world w n place instance left says is))) (λ honest told. tt) refl tt;
       count = one_fewer w.sender n is.due ∙ ap (λ m. m - 1) here.count;
-    }
+    })
 
 -- its line was not written
-pub tell_stops : (x : Context) (failed : SessionFault) (k v : RunKept) (world : WorldKept) (n : News) (place : Place) (network : Network)
-    (unwritten written : Pieces) (instance : ℕ) (left : List ℕ) (many : ℕ) → k ≡ v
+pub tell_stops : (x : Context) (board : BoardState) (k v : RunKept) (world : WorldKept) (n : News) (place : Place) (network : Network)
+    (unwritten written : Pieces) (instance : ℕ) (left : List ℕ) (many : ℕ) → board ≡ posted_by x (event.News n) → k ≡ v
     → IsEvent k.world world NewsAsked (λ answer. answer ≡ Told (Some n)) → SaysLeft world n instance left
-    → IsUnwritten failed unwritten written (news_line instance left n) → IsTellingOf x v place network unwritten many → Stopped x failed network written
-tell_stops x failed k v world n place network unwritten written instance left many seen asked says un there =
+    → IsUnwritten fault.Write unwritten written (news_line instance left n) → IsTellingOf x v place network unwritten many
+    → Stopped (with_posted x board) fault.Write network written
+tell_stops x board k v world n place network unwritten written instance left many posted seen asked says un there =
     let here = subst (λ (u : RunKept). IsTellingOf x u place network unwritten many) (sym seen) there in
     let s = here.so_far in
     let w = here.world in
     let is = is_told x k world w n place network unwritten s asked in
-    line_stops x failed k.journal (event.News n) (judged_of x k w place) (judged_of x (having_told k world n) (world_step k.p w NewsAsked).0 place)
+    subst (λ (b : BoardState). Stopped (with_posted x b) fault.Write network written) (sym posted)
+    (told_line_stops x k.journal (event.News n) (judged_of x k w place) (judged_of x (having_told k world n) (world_step k.p w NewsAsked).0 place)
     network unwritten written s.leads (news_accepted x k world w n place is) refl refl refl (λ honest told. tt) tt
-    (subst (λ l. IsUnwritten failed unwritten written l) (sym (line_said x k world w n place instance left says is)) un)
+    (subst (λ l. IsUnwritten fault.Write unwritten written l) (sym (line_said x k world w n place instance left says is)) un))
 
 -- ---- all changes are told
 

@@ -108,7 +108,7 @@ begins_turn x k journal turn now before after network written number moment join
         stands = s.stands;
         leads = subst (λ js. Leads y js (judged_of y new w (command_next x new)) network written) (sym joined)
             (leads_by x k.journal e (judged_of x k w Between) (judged_of y new w (command_next x new)) network network written written s.leads
-            (turn_accepted x k w turn now before after here.quiet more number moment) (untold network e refl refl) (sym (gained-nil written)) (λ honest told. tt) tt);
+            (turn_accepted x k w turn now before after here.quiet more number moment) (untold network e refl refl) (sym (gained-nil written)) (λ honest told. tt) refl tt);
       };
       quiet = here.quiet;
     }

@@ -11,7 +11,7 @@ use Rattle.norm_journal.specs.Jobs.{Told}
 use Rattle.norm_journal.specs.Judged.{is_done, is_whole}
 use Rattle.norm_journal.specs.Places.{Place, Between}
 use Rattle.norm_world.specs.WorldKept.{StandsFor}
-use Rattle.norm_session.specs.Context.{Context, with_moments, judged_of}
+use Rattle.norm_session.specs.Context.{Context, with_moments, with_posted, judged_of}
 use Rattle.norm_session.specs.Moments.{HaveMoments, last_moment, count_of}
 use Rattle.norm_session.specs.RunKept.{RunKept}
 use Rattle.norm_session.specs.SoFar.{HasAll, At}
@@ -25,8 +25,8 @@ use Rattle.norm_session.proofs.TurningLemmas.{turns_so_far}
 pub record HasTurned (script : Commands) (files : Told) (start k : RunKept) (o : Span) (many : ℕ) : Type 0 where
   pub moments : List ℕ
   pub count : count_of moments ≡ many
-  pub goes : (x : Context) → IsOver x script files → At x start Between o.before o.unwritten
-      → FollowMoments x o.unasked o.asked moments × At (with_moments x moments) k Between o.after o.written
+  pub goes : (x : Context) → IsOver x script files → At (with_posted x o.unposted) start Between o.before o.unwritten
+      → FollowMoments x o.unasked o.asked moments × At (with_moments (with_posted x o.posted) moments) k Between o.after o.written
 
 -- what the test for the last turn said of a run
 abbrev pub Tells : Commands → RunKept → Bool → Type 0
@@ -38,15 +38,16 @@ over_more x script files moments over = record { script = over.script; files = o
 
 -- none was made yet
 pub has_not_turned : (script : Commands) (files : Told) (k : RunKept) (o : Span) → o.after ≡ o.before → o.written ≡ o.unwritten → o.asked ≡ o.unasked
-    → HasTurned script files k k o 0
-has_not_turned script files k o network output clock = record {
+    → o.posted ≡ o.unposted → HasTurned script files k k o 0
+has_not_turned script files k o network output clock board = record {
   moments = [];
   count = refl;
   goes = λ x over here. (
     subst (λ asked. FollowMoments x o.unasked asked []) (sym clock) (no_moments x.script.profile.step (last_moment 0 x.moments) o.unasked),
-    subst (λ n. At (with_moments x []) k Between n o.written) (sym network)
-        (subst (λ ps. At (with_moments x []) k Between o.before ps) (sym output)
-        (subst (λ ms. At (record x { moments = ms }) k Between o.before o.unwritten) (sym (append-nil x.moments)) here)),
+    subst (λ b. At (with_moments (with_posted x b) []) k Between o.after o.written) (sym board)
+        (subst (λ n. At (with_moments (with_posted x o.unposted) []) k Between n o.written) (sym network)
+        (subst (λ ps. At (with_moments (with_posted x o.unposted) []) k Between o.before ps) (sym output)
+        (subst (λ ms. At (record (with_posted x o.unposted) { moments = ms }) k Between o.before o.unwritten) (sym (append-nil x.moments)) here))),
   );
 }
 
@@ -59,21 +60,24 @@ follow_both x a b c xs ys one two =
 
 -- one more
 pub has_turned_on : (script : Commands) (files : Told) (start k new : RunKept) (o p : Span) (many : ℕ) (done : Bool) → HasTurned script files start k o many
-    → Tells script k done → done ≡ false → p.before ≡ o.after → p.unwritten ≡ o.written → p.unasked ≡ o.asked → TakesTurn script files k new p
-    → HasTurned script files start new (span o.before p.after o.unwritten p.written o.unasked p.asked) (many + 1)
-has_turned_on script files start k new o p many done so tells more net out clock turn = record {
+    → Tells script k done → done ≡ false → p.before ≡ o.after → p.unwritten ≡ o.written → p.unasked ≡ o.asked
+    → p.unposted ≡ o.posted → TakesTurn script files k new p
+    → HasTurned script files start new (span o.before p.after o.unwritten p.written o.unasked p.asked o.unposted p.posted) (many + 1)
+has_turned_on script files start k new o p many done so tells more net out clock board turn = record {
   moments = so.moments ++ turn.0 ∷ [];
   count = count-both so.moments (turn.0 ∷ []) ∙ one (count_of so.moments) many so.count;
   goes = λ x over here.
       let s = so.goes x over here in
       let y = with_moments x so.moments in
-      let there : At y k Between p.before p.unwritten =
-      subst (λ n. At y k Between n p.unwritten) (sym net) (subst (λ ps. At y k Between o.after ps) (sym out) s.1) in
-      let goes_on = sym (tells y there.world Between there.so_far.all over.script there.so_far.stands) ∙ more in
+      let there : At (with_posted y p.unposted) k Between p.before p.unwritten =
+      subst (λ b. At (with_posted y b) k Between p.before p.unwritten) (sym board)
+      (subst (λ n. At (with_posted y o.posted) k Between n p.unwritten) (sym net)
+      (subst (λ ps. At (with_posted y o.posted) k Between o.after ps) (sym out) s.1)) in
+      let goes_on = sym (tells (with_posted y p.unposted) there.world Between there.so_far.all over.script there.so_far.stands) ∙ more in
       let t = turn.1 y (over_more x script files so.moments over) there goes_on in (
         follow_both x o.unasked o.asked p.asked so.moments (turn.0 ∷ []) s.0
             (subst (λ a. FollowMoments y a p.asked (turn.0 ∷ [])) clock t.0),
-        subst (λ ms. At (record x { moments = ms }) new Between p.after p.written) (append_assoc x.moments so.moments (turn.0 ∷ [])) t.1,
+        subst (λ ms. At (record (with_posted x p.posted) { moments = ms }) new Between p.after p.written) (append_assoc x.moments so.moments (turn.0 ∷ [])) t.1,
       );
 }
   where
@@ -83,18 +87,21 @@ has_turned_on script files start k new o p many done so tells more net out clock
 -- a turn was stopped
 pub turns_stop : (script : Commands) (files : Told) (start k : RunKept) (o p : Span) (many : ℕ) (done : Bool) (fault : SessionFault)
     → HasTurned script files start k o many → Tells script k done → done ≡ false → p.before ≡ o.after → p.unwritten ≡ o.written → p.unasked ≡ o.asked
-    → StopsTurn script files k fault p → StopsTurns script files start fault (span o.before p.after o.unwritten p.written o.unasked p.asked)
-turns_stop script files start k o p many done fault so tells more net out clock turn = (
+    → p.unposted ≡ o.posted → StopsTurn script files k fault p
+    → StopsTurns script files start fault (span o.before p.after o.unwritten p.written o.unasked p.asked o.unposted p.posted)
+turns_stop script files start k o p many done fault so tells more net out clock board turn = (
   so.moments ++ turn.0,
   λ x over none here.
       let s = so.goes x over here in
       let y = with_moments x so.moments in
-      let there : At y k Between p.before p.unwritten =
-      subst (λ n. At y k Between n p.unwritten) (sym net) (subst (λ ps. At y k Between o.after ps) (sym out) s.1) in
-      let goes_on = sym (tells y there.world Between there.so_far.all over.script there.so_far.stands) ∙ more in
+      let there : At (with_posted y p.unposted) k Between p.before p.unwritten =
+      subst (λ b. At (with_posted y b) k Between p.before p.unwritten) (sym board)
+      (subst (λ n. At (with_posted y o.posted) k Between n p.unwritten) (sym net)
+      (subst (λ ps. At (with_posted y o.posted) k Between o.after ps) (sym out) s.1)) in
+      let goes_on = sym (tells (with_posted y p.unposted) there.world Between there.so_far.all over.script there.so_far.stands) ∙ more in
       let t = turn.1 y (over_more x script files so.moments over) there goes_on in (
         follow_both x o.unasked o.asked p.asked so.moments turn.0 s.0 (subst (λ a. FollowMoments y a p.asked turn.0) clock t.0),
-        subst (λ ms. Stopped (record x { moments = ms }) fault p.after p.written) (append_assoc x.moments so.moments turn.0) t.1,
+        subst (λ ms. Stopped (record (with_posted x p.posted) { moments = ms }) fault p.after p.written) (append_assoc x.moments so.moments turn.0) t.1,
       ),
 )
 
@@ -105,7 +112,7 @@ turns_done script files start k o many done so tells is = (
   so.moments,
   λ x over none here.
       let s = so.goes x over here in
-      let y = with_moments x so.moments in
+      let y = with_moments (with_posted x o.posted) so.moments in
       (s.0, record { here = s.1; done = sym (tells y s.1.world Between s.1.so_far.all over.script s.1.so_far.stands) ∙ is }),
 )
 
@@ -124,7 +131,7 @@ turns_spent script files start k o many so all least = (
   so.moments,
   λ x over none here.
       let s = so.goes x over here in
-      let y = with_moments x so.moments in
+      let y = with_moments (with_posted x o.posted) so.moments in
       let turned : k.turn ≡ script.profile.turns =
       turns_so_far y k o.after o.written s.1 ∙ ap (λ ms. count_of (ms ++ so.moments)) none ∙ so.count ∙ all in
       let most : script.profile.turns ≡ k.p.turns =

@@ -9,9 +9,10 @@ use Rattle.norm_journal.specs.Judged.{Judged, judged_opening}
 use Rattle.norm_journal.specs.Places.{Place}
 use Rattle.norm_session.specs.Left.{lines_at}
 use Rattle.norm_session.specs.RunKept.{RunKept}
+use Rattle.producer_gate.specs.Boards.{BoardState}
 
 -- The script; the files that are there, where they are told; the receivers that the run has; what the network told once it was
--- started, and the output before; the moments of the turns so far.
+-- started, and the output before; the moments of the turns so far; the board before, and as it is now.
 pub record Context : Type 0 where
   pub script : Commands
   pub files : Told
@@ -19,10 +20,16 @@ pub record Context : Type 0 where
   pub network : Network
   pub written : Pieces
   pub moments : List ℕ
+  pub board : BoardState
+  pub posted : BoardState
 
 -- with the moments of more turns
 abbrev pub with_moments : Context → List ℕ → Context
 with_moments x moments = record x { moments = x.moments ++ moments }
+
+-- with the board as it is later
+abbrev pub with_posted : Context → BoardState → Context
+with_posted x board = record x { posted = board }
 
 -- the judge's state before anything happened
 abbrev pub opening : Context → Judged

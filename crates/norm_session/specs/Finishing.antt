@@ -6,7 +6,7 @@ use Rattle.norm_script.specs.Commands.{Commands}
 use Rattle.norm_journal.specs.Jobs.{Told}
 use Rattle.norm_journal.specs.Judged.{is_whole}
 use Rattle.norm_journal.specs.Places.{Between, Over}
-use Rattle.norm_session.specs.Context.{Context, judged_of, with_moments}
+use Rattle.norm_session.specs.Context.{Context, judged_of, with_moments, with_posted}
 use Rattle.norm_session.specs.RunKept.{RunKept}
 use Rattle.norm_session.specs.SoFar.{At}
 use Rattle.norm_session.specs.Turning.{Span, IsOver, FollowMoments}
@@ -19,5 +19,5 @@ pub record HasEnded (x : Context) (k : RunKept) (whole : Bool) (network : Networ
 -- A run in which no turn was made goes to its end.
 abbrev pub Finishes : Commands → Told → (old new : RunKept) → Bool → Span → Type 0
 Finishes script files old new whole o = (moments : List ℕ) × ((x : Context) → IsOver x script files → x.moments ≡ []
-    → At x old Between o.before o.unwritten
-    → FollowMoments x o.unasked o.asked moments × HasEnded (with_moments x moments) new whole o.after o.written)
+    → At (with_posted x o.unposted) old Between o.before o.unwritten
+    → FollowMoments x o.unasked o.asked moments × HasEnded (with_moments (with_posted x o.posted) moments) new whole o.after o.written)

@@ -1,5 +1,6 @@
 pub mod RunKept
 pub mod Left
+pub mod Posting
 pub mod Context
 pub mod SoFar
 pub mod Stopping

@@ -24,13 +24,15 @@ use Rattle.norm_safety.specs.Lawful.{Lawful}
 use Rattle.norm_safety.specs.Laws.{SaidOfOrders}
 use Rattle.norm_safety.specs.LosesNothing.{LosesNothing}
 use Rattle.norm_safety.specs.Safe.{Safe}
-use Rattle.norm_session.specs.Context.{Context, with_moments}
+use Rattle.norm_session.specs.Context.{Context, with_moments, with_posted}
 use Rattle.norm_session.specs.Moments.{HaveMoments}
+use Rattle.norm_session.specs.Posting.{entries_in, posting}
 use Rattle.norm_session.specs.RunKept.{nodes_in}
 use Rattle.norm_session.specs.Stopping.{Stopped}
 use Rattle.norm_session.specs.Turning.{Span}
 use Rattle.norm_session.specs.declared.fault.SessionFault.{SessionFault}
 use Rattle.norm_session.specs.declared.fault.SessionFault.TheVariants as fault
+use Rattle.producer_gate.specs.Boards.{BoardState}
 
 -- What a session can run: a script that opens no stream.
 pub record IsRunnable (script : Commands) : Type 0 where
@@ -82,14 +84,16 @@ end_of true = Whole
 end_of false = Spent
 
 -- A session was run to its end: its journal is a run of the script by the defined protocol, over the network that was started once,
--- whose offers and answers are the journal's; the output has the journal's lines, each one piece; its turns began at their moments,
--- by the clock where the step is 0. Over an honest network it is safe.
+-- whose offers and answers are the journal's; the output has the journal's lines, each one piece; the board has one entry more for each
+-- outcome that the journal tells, in their order; its turns began at their moments, by the clock where the step is 0. Over an honest
+-- network it is safe.
 pub record RunsSession (script : Commands) (files : Told) (journal : List Event) (whole : Bool) (o : Span) : Type 0 where
   pub started : Network
   pub starts : Starts o.before started script.profile All
   pub run : SessionRun script files journal (end_of whole)
   pub told : o.after ≡ network_after started journal
   pub lines : o.written ≡ gained o.unwritten (lines_from (session_opening script files) journal)
+  pub board : o.posted ≡ posting o.unposted (entries_in journal)
   pub moments : HaveMoments script.profile.step 0 o.unasked o.asked (moments_in journal)
   pub safe : OverHonest started (IsSafe script files journal)
 
@@ -101,6 +105,7 @@ pub record RunsSender (script : Commands) (files : Told) (journal : List Event) 
   pub run : SenderRun script files journal (end_of whole)
   pub told : o.after ≡ network_after started journal
   pub lines : o.written ≡ gained o.unwritten (lines_from (judged_opening script files []) journal)
+  pub board : o.posted ≡ posting o.unposted (entries_in journal)
   pub moments : HaveMoments script.profile.step 0 o.unasked o.asked (moments_in journal)
 
 -- a run of a script, with its sender alone or with all members
@@ -114,26 +119,29 @@ pub record NotBegun (failed : SessionFault) (o : Span) : Type 0 where
   pub network : o.after ≡ o.before
   pub output : o.written ≡ o.unwritten
   pub clock : o.asked ≡ o.unasked
+  pub board : o.posted ≡ o.unposted
 
 -- what a run of a script is over, with its sender alone or with all members
-abbrev pub context_of : Bool → Commands → Told → Network → Pieces → Context
-context_of alone script files started unwritten = record {
+abbrev pub context_of : Bool → Commands → Told → Network → Pieces → BoardState → Context
+context_of alone script files started unwritten board = record {
   script = script;
   files = files;
   nodes = nodes_in alone script.profile;
   network = started;
   written = unwritten;
   moments = [];
+  board = board;
+  posted = board;
 }
 
--- A fault broke a session off: what was done is the beginning of a run, and that is what the network, the output and the clock have of
--- it.
+-- A fault broke a session off: what was done is the beginning of a run, and that is what the network, the output, the clock and the board
+-- have of it.
 pub record BreaksOff (failed : SessionFault) (script : Commands) (files : Told) (o : Span) : Type 0 where
   pub started : Network
   pub starts : Starts o.before started script.profile All
   pub moments : List ℕ
   pub by_clock : HaveMoments script.profile.step 0 o.unasked o.asked moments
-  pub stopped : Stopped (with_moments (context_of false script files started o.unwritten) moments) failed o.after o.written
+  pub stopped : Stopped (with_moments (with_posted (context_of false script files started o.unwritten o.unposted) o.posted) moments) failed o.after o.written
   pub safe : OverHonest started (IsSafe script files stopped.journal)
 
 -- what a fault leaves of a session
@@ -146,7 +154,7 @@ pub record BreaksOffSender (failed : SessionFault) (script : Commands) (files : 
   pub starts : Starts o.before started script.profile (One script.profile.sender)
   pub moments : List ℕ
   pub by_clock : HaveMoments script.profile.step 0 o.unasked o.asked moments
-  pub stopped : Stopped (with_moments (context_of true script files started o.unwritten) moments) failed o.after o.written
+  pub stopped : Stopped (with_moments (with_posted (context_of true script files started o.unwritten o.unposted) o.posted) moments) failed o.after o.written
 
 -- what a fault leaves of the run of a sender alone
 abbrev pub StopsSender : SessionFault → Commands → Told → Span → Type 0

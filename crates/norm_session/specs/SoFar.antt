@@ -19,6 +19,7 @@ use Rattle.norm_journal.specs.Projections.{offers_in, moments_in, network_after}
 use Rattle.norm_safety.specs.World.{World}
 use Rattle.norm_world.specs.WorldKept.{StandsFor}
 use Rattle.norm_session.specs.Context.{Context, opening, judged_of}
+use Rattle.norm_session.specs.Posting.{entries_in, posting}
 use Rattle.norm_session.specs.RunKept.{RunKept, nodes_in}
 
 -- an event's take, if it is one, gives what another member had offered before
@@ -32,13 +33,14 @@ AreOffered past [] = ⊤
 AreOffered past (e ∷ events) = IsOffered past e × AreOffered (past ++ e ∷ []) events
 
 -- A journal leads to a state of the judge: it is accepted event by event, the network told its offers and answers, and the output its
--- lines; its turns began at the moments that are said, and the files that it read have octets; and where the network is honest and tells what is offered, what was taken had been offered by another member.
+-- lines; its turns began at the moments that are said, the board has its outcomes, and the files that it read have octets; and where the network is honest and tells what is offered, what was taken had been offered by another member.
 pub record Leads (x : Context) (journal : List Event) (j : Judged) (network : Network) (written : Pieces) : Type 0 where
   pub judged : judged_from (opening x) journal ≡ Some j
   pub told : network ≡ network_after x.network journal
   pub lines : written ≡ gained x.written (lines_from (opening x) journal)
   pub offered : IsTrue x.network.honest → x.network.offered ≡ Some [] → AreOffered [] journal
   pub moments : moments_in journal ≡ x.moments
+  pub board : x.posted ≡ posting x.board (entries_in journal)
   pub octets : AllByRecursion HasOctets journal
 
 -- A run has all receivers of its profile, or its sender is alone; its nodes and its script are under that, and no line of the script is of a stream.

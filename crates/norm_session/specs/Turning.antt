@@ -6,13 +6,14 @@ use Rattle.norm_script.specs.Commands.{Commands}
 use Rattle.norm_journal.specs.Jobs.{Told}
 use Rattle.norm_journal.specs.Judged.{is_done}
 use Rattle.norm_journal.specs.Places.{Place, Sending, Between, command_due}
-use Rattle.norm_session.specs.Context.{Context, judged_of, with_moments}
+use Rattle.norm_session.specs.Context.{Context, judged_of, with_moments, with_posted}
 use Rattle.norm_session.specs.Left.{lines_at}
 use Rattle.norm_session.specs.Moments.{Either, Gave, HaveMoments, last_moment}
 use Rattle.norm_session.specs.RunKept.{RunKept}
 use Rattle.norm_session.specs.SoFar.{At}
 use Rattle.norm_session.specs.Stopping.{Stopped}
 use Rattle.norm_session.specs.declared.fault.SessionFault.{SessionFault}
+use Rattle.producer_gate.specs.Boards.{BoardState}
 
 -- a turn begins with a command: one that waits, or one that is pulled, where there are some left
 abbrev pub command_next : Context → RunKept → Place
@@ -57,18 +58,20 @@ pub record IsOver (x : Context) (commands : Commands) (told : Told) : Type 0 whe
   pub files : x.files ≡ told
 
 -- A turn begins with its command, where the last was not done, and all is told.
-abbrev pub OpensTurn : Commands → Told → (old new : RunKept) → (unwritten written : Pieces) → (unasked asked : Option (List ℕ)) → Type 0
-OpensTurn script files old new unwritten written unasked asked = (moment : ℕ) × ((x : Context) (network : Network) → IsOver x script files
-    → (here : At x old Between network unwritten) → GoesOn x old network unwritten here
-    → FollowMoments x unasked asked (moment ∷ []) × At (with_moments x (moment ∷ [])) new Sending network written)
+abbrev pub OpensTurn : Commands → Told → (old new : RunKept) → (unposted posted : BoardState) → (unwritten written : Pieces)
+    → (unasked asked : Option (List ℕ)) → Type 0
+OpensTurn script files old new unposted posted unwritten written unasked asked = (moment : ℕ) × ((x : Context) (network : Network) → IsOver x script files
+    → (here : At (with_posted x unposted) old Between network unwritten) → GoesOn (with_posted x unposted) old network unwritten here
+    → FollowMoments x unasked asked (moment ∷ []) × At (with_moments (with_posted x posted) (moment ∷ [])) new Sending network written)
 
 -- A fault stops that.
-abbrev pub StopsOpening : Commands → Told → RunKept → SessionFault → (unwritten written : Pieces) → (unasked asked : Option (List ℕ)) → Type 0
-StopsOpening script files old fault unwritten written unasked asked = (moments : List ℕ) × ((x : Context) (network : Network) → IsOver x script files
-    → (here : At x old Between network unwritten) → GoesOn x old network unwritten here
-    → FollowMoments x unasked asked moments × Stopped (with_moments x moments) fault network written)
+abbrev pub StopsOpening : Commands → Told → RunKept → SessionFault → (unposted posted : BoardState) → (unwritten written : Pieces)
+    → (unasked asked : Option (List ℕ)) → Type 0
+StopsOpening script files old fault unposted posted unwritten written unasked asked = (moments : List ℕ) × ((x : Context) (network : Network)
+    → IsOver x script files → (here : At (with_posted x unposted) old Between network unwritten) → GoesOn (with_posted x unposted) old network unwritten here
+    → FollowMoments x unasked asked moments × Stopped (with_moments (with_posted x posted) moments) fault network written)
 
--- What the outside told before and after a part of a run: the network, the output, and the clock.
+-- What the outside told before and after a part of a run, the network, the output and the clock, and the board.
 pub record Span : Type 0 where
   pub before : Network
   pub after : Network
@@ -76,22 +79,32 @@ pub record Span : Type 0 where
   pub written : Pieces
   pub unasked : Option (List ℕ)
   pub asked : Option (List ℕ)
+  pub unposted : BoardState
+  pub posted : BoardState
 
-abbrev pub span : (before after : Network) (unwritten written : Pieces) (unasked asked : Option (List ℕ)) → Span
-span before after unwritten written unasked asked =
-    record { before = before; after = after; unwritten = unwritten; written = written; unasked = unasked; asked = asked }
+abbrev pub span : (before after : Network) (unwritten written : Pieces) (unasked asked : Option (List ℕ)) (unposted posted : BoardState) → Span
+span before after unwritten written unasked asked unposted posted = record {
+  before = before;
+  after = after;
+  unwritten = unwritten;
+  written = written;
+  unasked = unasked;
+  asked = asked;
+  unposted = unposted;
+  posted = posted;
+}
 
 -- A turn is made, where the last was not done.
 abbrev pub TakesTurn : Commands → Told → (old new : RunKept) → Span → Type 0
-TakesTurn script files old new o = (moment : ℕ) × ((x : Context) → IsOver x script files → (here : At x old Between o.before o.unwritten)
-    → GoesOn x old o.before o.unwritten here
-    → FollowMoments x o.unasked o.asked (moment ∷ []) × At (with_moments x (moment ∷ [])) new Between o.after o.written)
+TakesTurn script files old new o = (moment : ℕ) × ((x : Context) → IsOver x script files → (here : At (with_posted x o.unposted) old Between o.before o.unwritten)
+    → GoesOn (with_posted x o.unposted) old o.before o.unwritten here
+    → FollowMoments x o.unasked o.asked (moment ∷ []) × At (with_moments (with_posted x o.posted) (moment ∷ [])) new Between o.after o.written)
 
 -- A fault stops a turn.
 abbrev pub StopsTurn : Commands → Told → RunKept → SessionFault → Span → Type 0
-StopsTurn script files old fault o = (moments : List ℕ) × ((x : Context) → IsOver x script files → (here : At x old Between o.before o.unwritten)
-    → GoesOn x old o.before o.unwritten here
-    → FollowMoments x o.unasked o.asked moments × Stopped (with_moments x moments) fault o.after o.written)
+StopsTurn script files old fault o = (moments : List ℕ) × ((x : Context) → IsOver x script files → (here : At (with_posted x o.unposted) old Between o.before o.unwritten)
+    → GoesOn (with_posted x o.unposted) old o.before o.unwritten here
+    → FollowMoments x o.unasked o.asked moments × Stopped (with_moments (with_posted x o.posted) moments) fault o.after o.written)
 
 -- a run that is at the end of its last turn
 pub record AtLast (x : Context) (k : RunKept) (network : Network) (written : Pieces) : Type 0 where
@@ -100,10 +113,10 @@ pub record AtLast (x : Context) (k : RunKept) (network : Network) (written : Pie
 
 -- All turns are made of a run in which none was.
 abbrev pub TakesTurns : Commands → Told → (old new : RunKept) → Span → Type 0
-TakesTurns script files old new o = (moments : List ℕ) × ((x : Context) → IsOver x script files → x.moments ≡ [] → At x old Between o.before o.unwritten
-    → FollowMoments x o.unasked o.asked moments × AtLast (with_moments x moments) new o.after o.written)
+TakesTurns script files old new o = (moments : List ℕ) × ((x : Context) → IsOver x script files → x.moments ≡ [] → At (with_posted x o.unposted) old Between o.before o.unwritten
+    → FollowMoments x o.unasked o.asked moments × AtLast (with_moments (with_posted x o.posted) moments) new o.after o.written)
 
 -- A fault stops a run in one of its turns, or behind them.
 abbrev pub StopsTurns : Commands → Told → RunKept → SessionFault → Span → Type 0
-StopsTurns script files old fault o = (moments : List ℕ) × ((x : Context) → IsOver x script files → x.moments ≡ [] → At x old Between o.before o.unwritten
-    → FollowMoments x o.unasked o.asked moments × Stopped (with_moments x moments) fault o.after o.written)
+StopsTurns script files old fault o = (moments : List ℕ) × ((x : Context) → IsOver x script files → x.moments ≡ [] → At (with_posted x o.unposted) old Between o.before o.unwritten
+    → FollowMoments x o.unasked o.asked moments × Stopped (with_moments (with_posted x o.posted) moments) fault o.after o.written)

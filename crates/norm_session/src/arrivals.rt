@@ -1,7 +1,5 @@
 //! How a session's commands come to it.
 
-use norm_script::Line;
-
 /// What a producer hands over: the place of a line in the script.
 #[derive(Clone, Copy, Debug)]
 pub struct Arrived {
@@ -15,23 +13,4 @@ pub struct Arrived {
 pub trait Arrivals {
     /// The next that was handed over, or `None` where there is none now.
     fn arrive(&mut self) -> Option<Arrived>;
-}
-
-/// The lines of a script in its order.
-#[derive(Drop)]
-pub(crate) struct InOrder<'s> {
-    pub(crate) lines: &'s [Line],
-    pub(crate) next: u32,
-}
-
-impl Arrivals for InOrder<'_> {
-    fn arrive(&mut self) -> Option<Arrived> {
-        let line = self.lines.get(self.next as usize)?;
-        let arrived = Arrived {
-            producer: line.producer,
-            place: self.next,
-        };
-        self.next = self.next.checked_add(1)?;
-        Some(arrived)
-    }
 }

@@ -8,6 +8,7 @@ mod fault;
 mod handing;
 mod left;
 mod printing;
+mod producing;
 mod reading;
 mod run;
 mod sending;

@@ -23,6 +23,7 @@ pub(crate) fn write_line<K: Sink>(
 ) -> Result<(), SessionFault>
     ensures written { OnOk result (K.pieces output.new ≡ gained (K.pieces output.old) (option_to_list (line_if has line.now))) }
     ensures stops { IfErr result (λ fault. IsUnwritten fault (K.pieces output.old) (K.pieces output.new) (line_if has line.now)) }
+    ensures why { IfErr result (λ fault. fault ≡ SessionFault.Write) }
     ensures cause { WriteCause result (K.fault_count output.old) (K.fault_count output.new) }
 {
     if !has {

@@ -6,12 +6,14 @@ ghost use Rattle.norm_session.specs.Finishing.{Finishes};
 ghost use Rattle.norm_session.specs.Session.{IsRunnable, RunsSession, RunsSender, RunsScript, StopsSession, StopsSender, StopsScript};
 ghost use Rattle.norm_session.specs.Turning.{StopsTurns, span};
 
-use crate::arrivals::{Arrivals, InOrder};
+use crate::arrivals::Arrivals;
 use crate::fault::SessionFault;
+use crate::producing::run_produced;
 use crate::run::Run;
 use norm_base::{Clock, Datagram, Fabric, Files, Sink};
 use norm_record::Journal;
 use norm_script::Script;
+use producer_gate::{Board, Turnstile};
 use std::alloc::Global;
 use std::sync::Wait;
 use std::thread::Threads;
@@ -30,10 +32,19 @@ pub struct Ended {
 ///
 /// `Write`, `Fabric` or `Files` where a call of the output, the network or the files failed; `Absent` where a command's file is not
 /// there; or `Memory`.
-pub fn run_session<R: Threads + Wait + Sync, K: Sink, F: Fabric, D: Files, C: Clock>(
+pub fn run_session<
+    R: Threads + Wait + Sync,
+    K: Sink,
+    F: Fabric,
+    D: Files,
+    C: Clock,
+    G: Turnstile + Sync,
+>(
     rt: &R,
     alloc: Global,
     script: &Script,
+    gate: &G,
+    board: &mut Board,
     output: &mut K,
     fabric: &mut F,
     files: &mut D,
@@ -41,27 +52,15 @@ pub fn run_session<R: Threads + Wait + Sync, K: Sink, F: Fabric, D: Files, C: Cl
 ) -> Result<Ended, SessionFault>
     requires { IsRunnable script.now }
     ensures run { IfOk result (λ ended. RunsSession script.now (D.contents files.old) ended.journal ended.whole
-        (span (F.told fabric.old) (F.told fabric.new) (K.pieces output.old) (K.pieces output.new) (C.moments clock.old) (C.moments clock.new))) }
+        (span (F.told fabric.old) (F.told fabric.new) (K.pieces output.old) (K.pieces output.new) (C.moments clock.old) (C.moments clock.new) board.old board.new)) }
     ensures stops { IfErr result (λ fault. StopsSession fault script.now (D.contents files.old)
-        (span (F.told fabric.old) (F.told fabric.new) (K.pieces output.old) (K.pieces output.new) (C.moments clock.old) (C.moments clock.new))) }
+        (span (F.told fabric.old) (F.told fabric.new) (K.pieces output.old) (K.pieces output.new) (C.moments clock.old) (C.moments clock.new) board.old board.new)) }
     ensures files { D.contents files.new ≡ D.contents files.old }
     ensures cause { HasCause result (counted (K.fault_count output.old) (F.fault_count fabric.old) (D.fault_count files.old))
         (counted (K.fault_count output.new) (F.fault_count fabric.new) (D.fault_count files.new)) }
 {
-    let mut arrivals = InOrder {
-        lines: &script.lines,
-        next: 0,
-    };
-    run_script(
-        rt,
-        alloc,
-        script,
-        false,
-        &mut arrivals,
-        output,
-        fabric,
-        files,
-        clock,
+    run_produced(
+        rt, alloc, script, false, gate, board, output, fabric, files, clock,
     )
 }
 
@@ -73,10 +72,19 @@ pub fn run_session<R: Threads + Wait + Sync, K: Sink, F: Fabric, D: Files, C: Cl
 ///
 /// `Write`, `Fabric` or `Files` where a call of the output, the network or the files failed; `Absent` where a command's file is not
 /// there; or `Memory`.
-pub fn run_send<R: Threads + Wait + Sync, K: Sink, F: Fabric, D: Files, C: Clock>(
+pub fn run_send<
+    R: Threads + Wait + Sync,
+    K: Sink,
+    F: Fabric,
+    D: Files,
+    C: Clock,
+    G: Turnstile + Sync,
+>(
     rt: &R,
     alloc: Global,
     script: &Script,
+    gate: &G,
+    board: &mut Board,
     output: &mut K,
     fabric: &mut F,
     files: &mut D,
@@ -84,37 +92,26 @@ pub fn run_send<R: Threads + Wait + Sync, K: Sink, F: Fabric, D: Files, C: Clock
 ) -> Result<Ended, SessionFault>
     requires { IsRunnable script.now }
     ensures run { IfOk result (λ ended. RunsSender script.now (D.contents files.old) ended.journal ended.whole
-        (span (F.told fabric.old) (F.told fabric.new) (K.pieces output.old) (K.pieces output.new) (C.moments clock.old) (C.moments clock.new))) }
+        (span (F.told fabric.old) (F.told fabric.new) (K.pieces output.old) (K.pieces output.new) (C.moments clock.old) (C.moments clock.new) board.old board.new)) }
     ensures stops { IfErr result (λ fault. StopsSender fault script.now (D.contents files.old)
-        (span (F.told fabric.old) (F.told fabric.new) (K.pieces output.old) (K.pieces output.new) (C.moments clock.old) (C.moments clock.new))) }
+        (span (F.told fabric.old) (F.told fabric.new) (K.pieces output.old) (K.pieces output.new) (C.moments clock.old) (C.moments clock.new) board.old board.new)) }
     ensures files { D.contents files.new ≡ D.contents files.old }
     ensures cause { HasCause result (counted (K.fault_count output.old) (F.fault_count fabric.old) (D.fault_count files.old))
         (counted (K.fault_count output.new) (F.fault_count fabric.new) (D.fault_count files.new)) }
 {
-    let mut arrivals = InOrder {
-        lines: &script.lines,
-        next: 0,
-    };
-    run_script(
-        rt,
-        alloc,
-        script,
-        true,
-        &mut arrivals,
-        output,
-        fabric,
-        files,
-        clock,
+    run_produced(
+        rt, alloc, script, true, gate, board, output, fabric, files, clock,
     )
 }
 
 /// A script's run, with its sender alone or with all members, over what its producers hand over.
-fn run_script<R: Wait, A: Arrivals, K: Sink, F: Fabric, D: Files, C: Clock>(
+pub(crate) fn run_script<R: Wait, A: Arrivals, K: Sink, F: Fabric, D: Files, C: Clock>(
     rt: &R,
     alloc: Global,
     script: &Script,
     alone: bool,
     arrivals: &mut A,
+    board: &mut Board,
     output: &mut K,
     fabric: &mut F,
     files: &mut D,
@@ -122,9 +119,9 @@ fn run_script<R: Wait, A: Arrivals, K: Sink, F: Fabric, D: Files, C: Clock>(
 ) -> Result<Ended, SessionFault>
     requires { IsRunnable script.now }
     ensures run { IfOk result (λ ended. RunsScript alone script.now (D.contents files.old) ended.journal ended.whole
-        (span (F.told fabric.old) (F.told fabric.new) (K.pieces output.old) (K.pieces output.new) (C.moments clock.old) (C.moments clock.new))) }
+        (span (F.told fabric.old) (F.told fabric.new) (K.pieces output.old) (K.pieces output.new) (C.moments clock.old) (C.moments clock.new) board.old board.new)) }
     ensures stops { IfErr result (λ fault. StopsScript alone fault script.now (D.contents files.old)
-        (span (F.told fabric.old) (F.told fabric.new) (K.pieces output.old) (K.pieces output.new) (C.moments clock.old) (C.moments clock.new))) }
+        (span (F.told fabric.old) (F.told fabric.new) (K.pieces output.old) (K.pieces output.new) (C.moments clock.old) (C.moments clock.new) board.old board.new)) }
     ensures files { D.contents files.new ≡ D.contents files.old }
     ensures cause { HasCause result (counted (K.fault_count output.old) (F.fault_count fabric.old) (D.fault_count files.old))
         (counted (K.fault_count output.new) (F.fault_count fabric.new) (D.fault_count files.new)) }
@@ -135,6 +132,7 @@ fn run_script<R: Wait, A: Arrivals, K: Sink, F: Fabric, D: Files, C: Clock>(
         rt,
         script,
         arrivals,
+        board,
         output,
         fabric,
         files,
@@ -161,6 +159,7 @@ impl Run {
         rt: &R,
         script: &Script,
         arrivals: &mut A,
+        board: &mut Board,
         output: &mut K,
         fabric: &mut F,
         files: &mut D,
@@ -168,14 +167,16 @@ impl Run {
         datagram: &mut Datagram,
     ) -> Result<bool, SessionFault>
         ensures goes { IfOk result (λ whole. Finishes script.now (D.contents files.old) self.old self.new whole
-            (span (F.told fabric.old) (F.told fabric.new) (K.pieces output.old) (K.pieces output.new) (C.moments clock.old) (C.moments clock.new))) }
+            (span (F.told fabric.old) (F.told fabric.new) (K.pieces output.old) (K.pieces output.new) (C.moments clock.old) (C.moments clock.new) board.old board.new)) }
         ensures stops { IfErr result (λ fault. StopsTurns script.now (D.contents files.old) self.old fault
-            (span (F.told fabric.old) (F.told fabric.new) (K.pieces output.old) (K.pieces output.new) (C.moments clock.old) (C.moments clock.new))) }
+            (span (F.told fabric.old) (F.told fabric.new) (K.pieces output.old) (K.pieces output.new) (C.moments clock.old) (C.moments clock.new) board.old board.new)) }
         ensures same { D.contents files.new ≡ D.contents files.old }
         ensures cause { HasCause result (counted (K.fault_count output.old) (F.fault_count fabric.old) (D.fault_count files.old))
             (counted (K.fault_count output.new) (F.fault_count fabric.new) (D.fault_count files.new)) }
     {
-        self.turns(rt, script, arrivals, output, fabric, files, clock, datagram)?;
+        self.turns(
+            rt, script, arrivals, board, output, fabric, files, clock, datagram,
+        )?;
         self.summarize(output)?;
         Ok(self.is_whole(script))
     }

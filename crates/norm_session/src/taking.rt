@@ -6,7 +6,7 @@ ghost use Rattle.norm_base.specs.Told.{Pieces};
 ghost use Rattle.norm_journal.specs.Draws.{next_draw, draws_after};
 ghost use Rattle.norm_journal.specs.Places.{Taking};
 ghost use Rattle.norm_session.specs.Causes.{HasCause, NetworkCause, NeedsMemory, counted};
-ghost use Rattle.norm_session.specs.Context.{Context};
+ghost use Rattle.norm_session.specs.Context.{Context, with_posted};
 ghost use Rattle.norm_session.specs.SoFar.{At, HasTaken, hands_next};
 ghost use Rattle.norm_session.specs.Stopping.{Stopped};
 ghost use Rattle.norm_session.specs.Taking.{Delivers, GoesOn, StopsAfter};
@@ -14,6 +14,7 @@ ghost use Rattle.norm_session.specs.Taking.{Delivers, GoesOn, StopsAfter};
 use crate::fault::SessionFault;
 use crate::run::Run;
 use norm_base::{Datagram, Fabric, NodeId, Sink};
+use producer_gate::Board;
 use rand_core::utils::NextWord;
 use rand_pcg::Lcg64Xsh32;
 
@@ -104,13 +105,14 @@ impl Run {
     pub fn take_all<F: Fabric, K: Sink>(
         &mut self,
         fabric: &mut F,
+        board: &mut Board,
         output: &mut K,
         datagram: &mut Datagram,
     ) -> Result<(), SessionFault>
-        ensures goes { OnOk result ((x : Context) → At x self.old (Taking 0) (F.told fabric.old) (K.pieces output.old)
-            → At x self.new (hands_next x) (F.told fabric.new) (K.pieces output.new)) }
-        ensures stops { IfErr result (λ fault. (x : Context) → At x self.old (Taking 0) (F.told fabric.old) (K.pieces output.old)
-            → Stopped x fault (F.told fabric.new) (K.pieces output.new)) }
+        ensures goes { OnOk result ((x : Context) → At (with_posted x board.old) self.old (Taking 0) (F.told fabric.old) (K.pieces output.old)
+            → At (with_posted x board.new) self.new (hands_next x) (F.told fabric.new) (K.pieces output.new)) }
+        ensures stops { IfErr result (λ fault. (x : Context) → At (with_posted x board.old) self.old (Taking 0) (F.told fabric.old) (K.pieces output.old)
+            → Stopped (with_posted x board.new) fault (F.told fabric.new) (K.pieces output.new)) }
         ensures cause { (files : ℕ) → HasCause result (counted (K.fault_count output.old) (F.fault_count fabric.old) files)
             (counted (K.fault_count output.new) (F.fault_count fabric.new) files) }
     {
@@ -118,7 +120,7 @@ impl Run {
             if !self.take(fabric, datagram)? {
                 return Ok(());
             }
-            self.tell_all(output)?;
+            self.tell_all(board, output)?;
         }
         Ok(())
     }

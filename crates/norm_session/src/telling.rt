@@ -1,6 +1,7 @@
-//! What the sender has to tell: each change joins the journal as it is told, and its line is written.
+//! What the sender has to tell: each change joins the journal as it is told, an outcome is published on the board, and then the line is
+//! written.
 
-ghost use Rattle.std.specs.Prelude.{◌≡◌, ◌∷◌, [], ◌++◌, ℕ, IfOk, IfErr, OnOk};
+ghost use Rattle.std.specs.Prelude.{◌≡◌, ◌∷◌, [], ◌++◌, ℕ, IfOk, IfErr, OnErr, OnOk};
 ghost use Rattle.norm_base.specs.Network.{Network};
 ghost use Rattle.norm_journal.specs.Places.{Place};
 ghost use Rattle.norm_journal.specs.Totals.{with_news};
@@ -8,7 +9,8 @@ ghost use Rattle.norm_journal.specs.declared.event.Event.TheVariants as event;
 ghost use Rattle.norm_send_rules.specs.SenderState.{SenderState};
 ghost use Rattle.norm_sender.specs.SenderKept.{Stands};
 ghost use Rattle.norm_session.specs.Causes.{WriteCause, NeedsMemory};
-ghost use Rattle.norm_session.specs.Context.{Context};
+ghost use Rattle.norm_session.specs.Context.{Context, with_posted};
+ghost use Rattle.norm_session.specs.Posting.{entries_in, posting};
 ghost use Rattle.norm_session.specs.SoFar.{At, IsTelling};
 ghost use Rattle.norm_session.specs.Stopping.{Stopped};
 ghost use Rattle.norm_session.specs.Telling.{HasTold, IsTellingOf, left_by, left_past};
@@ -20,6 +22,7 @@ use norm_base::{Memory, NodeId, Sink};
 use norm_journal::news_line;
 use norm_send_rules::News;
 use norm_sender::Sender;
+use producer_gate::Board;
 use std::alloc::Global;
 
 /// A session has at most so many receivers.
@@ -49,6 +52,20 @@ fn left_by(alloc: Global, sender: &Sender, news: &News) -> Result<Vec<NodeId>, M
     }
 }
 
+/// An outcome is published. Of any other change the board has nothing.
+fn publish(board: &mut Board, news: &News) -> Result<(), Memory>
+    ensures posted { OnOk result (board.new ≡ posting board.old (entries_in (event.News news.now ∷ []))) }
+    ensures same { OnErr result (board.new ≡ board.old) }
+{
+    match news {
+        News::Done { mark, outcome } => {
+            board.publish(*mark, *outcome)?;
+            Ok(())
+        }
+        News::Past { .. } => Ok(()),
+    }
+}
+
 impl Run {
     /// A change is counted, and joins the journal.
     fn note_news(&mut self, news: News) -> Result<(), SessionFault>
@@ -64,16 +81,19 @@ impl Run {
         Ok(())
     }
 
-    /// The sender's next change is told, and its line is written. False where none is left, and then nothing was done.
+    /// The sender's next change is told, on the board too where it is an outcome, and its line is written. False where none is left, and then
+    /// nothing was done.
     ///
     /// # Errors
     ///
-    /// `Write` where the write failed, or `Memory`, also where a count has no room.
-    pub fn tell<K: Sink>(&mut self, output: &mut K) -> Result<bool, SessionFault>
+    /// `Write` where the write failed, or `Memory`, also where a count or the board has no room.
+    pub fn tell<K: Sink>(&mut self, board: &mut Board, output: &mut K) -> Result<bool, SessionFault>
         ensures goes { IfOk result (λ told. (x : Context) (place : Place) (network : Network) (many : ℕ)
-            → IsTellingOf x self.old place network (K.pieces output.old) many → HasTold told x self.new place network (K.pieces output.new) many) }
+            → IsTellingOf (with_posted x board.old) self.old place network (K.pieces output.old) many
+            → HasTold told (with_posted x board.new) self.new place network (K.pieces output.new) many) }
         ensures stops { IfErr result (λ fault. (x : Context) (place : Place) (network : Network) (many : ℕ)
-            → IsTellingOf x self.old place network (K.pieces output.old) many → Stopped x fault network (K.pieces output.new)) }
+            → IsTellingOf (with_posted x board.old) self.old place network (K.pieces output.old) many
+            → Stopped (with_posted x board.new) fault network (K.pieces output.new)) }
         ensures cause { WriteCause result (K.fault_count output.old) (K.fault_count output.new) }
     {
         let Some(news) = self.world.news() else {
@@ -83,6 +103,8 @@ impl Run {
         self.note_news(news)?;
         let instance = self.world.sender().instance();
         let has = news_line(&mut self.line, instance, &left, &news)?;
+        // Nothing but the write can fail once it is published, so that a reader knows of no outcome that the journal lacks.
+        publish(board, &news)?;
         write_line(has, &self.line, output)?;
         Ok(true)
     }
@@ -92,15 +114,21 @@ impl Run {
     /// # Errors
     ///
     /// As of [`tell`](Run::tell).
-    pub fn tell_all<K: Sink>(&mut self, output: &mut K) -> Result<(), SessionFault>
-        ensures goes { OnOk result ((x : Context) (place : Place) (network : Network) → IsTelling x self.old place network (K.pieces output.old)
-            → At x self.new place network (K.pieces output.new)) }
+    pub fn tell_all<K: Sink>(
+        &mut self,
+        board: &mut Board,
+        output: &mut K,
+    ) -> Result<(), SessionFault>
+        ensures goes { OnOk result ((x : Context) (place : Place) (network : Network)
+            → IsTelling (with_posted x board.old) self.old place network (K.pieces output.old)
+            → At (with_posted x board.new) self.new place network (K.pieces output.new)) }
         ensures stops { IfErr result (λ fault. (x : Context) (place : Place) (network : Network)
-            → IsTelling x self.old place network (K.pieces output.old) → Stopped x fault network (K.pieces output.new)) }
+            → IsTelling (with_posted x board.old) self.old place network (K.pieces output.old)
+            → Stopped (with_posted x board.new) fault network (K.pieces output.new)) }
         ensures cause { WriteCause result (K.fault_count output.old) (K.fault_count output.new) }
     {
         for _ in 0..self.world.sender().untold() {
-            if !self.tell(output)? {
+            if !self.tell(board, output)? {
                 return Ok(());
             }
         }

@@ -7,7 +7,7 @@ ghost use Rattle.norm_safety.specs.World.{World as Rules};
 ghost use Rattle.norm_session.specs.Causes.{NeedsMemory, HasCause, counted};
 ghost use Rattle.norm_send_rules.specs.Ticking.{is_idle};
 ghost use Rattle.norm_send_rules.specs.Watermarks.{open_watermarks};
-ghost use Rattle.norm_session.specs.Context.{Context, judged_of};
+ghost use Rattle.norm_session.specs.Context.{Context, judged_of, with_posted};
 ghost use Rattle.norm_session.specs.Left.{lines_at};
 ghost use Rattle.norm_session.specs.SoFar.{HasAll, At};
 ghost use Rattle.norm_session.specs.Stopping.{Stopped};
@@ -19,6 +19,7 @@ use crate::fault::SessionFault;
 use crate::run::{Run, sender_node};
 use norm_base::{Clock, Datagram, Fabric, Files, Moment, Profile, Sink};
 use norm_script::Script;
+use producer_gate::Board;
 use std::sync::Wait;
 
 /// The moment of a turn: its number times the profile's step; where the step is 0 the clock's, which does not fall.
@@ -151,13 +152,14 @@ impl Run {
         rt: &R,
         script: &Script,
         arrivals: &mut A,
+        board: &mut Board,
         output: &mut K,
         files: &mut D,
         clock: &mut C,
     ) -> Result<(), SessionFault>
-        ensures goes { OnOk result (OpensTurn script.now (D.contents files.old) self.old self.new
+        ensures goes { OnOk result (OpensTurn script.now (D.contents files.old) self.old self.new board.old board.new
             (K.pieces output.old) (K.pieces output.new) (C.moments clock.old) (C.moments clock.new)) }
-        ensures stops { IfErr result (λ fault. StopsOpening script.now (D.contents files.old) self.old fault
+        ensures stops { IfErr result (λ fault. StopsOpening script.now (D.contents files.old) self.old fault board.old board.new
             (K.pieces output.old) (K.pieces output.new) (C.moments clock.old) (C.moments clock.new)) }
         ensures same { D.contents files.new ≡ D.contents files.old }
         ensures cause { (network : ℕ) → HasCause result (counted (K.fault_count output.old) network (D.fault_count files.old))
@@ -165,7 +167,7 @@ impl Run {
     {
         self.begin_turn(clock)?;
         self.command(rt, script, arrivals, files, output)?;
-        self.tell_all(output)?;
+        self.tell_all(board, output)?;
         Ok(())
     }
 
@@ -173,19 +175,20 @@ impl Run {
     fn send<F: Fabric, K: Sink>(
         &mut self,
         fabric: &mut F,
+        board: &mut Board,
         output: &mut K,
         datagram: &mut Datagram,
     ) -> Result<(), SessionFault>
-        ensures goes { OnOk result ((x : Context) → At x self.old Sending (F.told fabric.old) (K.pieces output.old)
-            → At x self.new (Taking 0) (F.told fabric.new) (K.pieces output.new)) }
-        ensures stops { IfErr result (λ fault. (x : Context) → At x self.old Sending (F.told fabric.old) (K.pieces output.old)
-            → Stopped x fault (F.told fabric.new) (K.pieces output.new)) }
+        ensures goes { OnOk result ((x : Context) → At (with_posted x board.old) self.old Sending (F.told fabric.old) (K.pieces output.old)
+            → At (with_posted x board.new) self.new (Taking 0) (F.told fabric.new) (K.pieces output.new)) }
+        ensures stops { IfErr result (λ fault. (x : Context) → At (with_posted x board.old) self.old Sending (F.told fabric.old) (K.pieces output.old)
+            → Stopped (with_posted x board.new) fault (F.told fabric.new) (K.pieces output.new)) }
         ensures cause { (files : ℕ) → HasCause result (counted (K.fault_count output.old) (F.fault_count fabric.old) files)
             (counted (K.fault_count output.new) (F.fault_count fabric.new) files) }
     {
         let node = sender_node(&self.profile);
         let sent = self.tick_sender(datagram)?;
-        self.tell_all(output)?;
+        self.tell_all(board, output)?;
         self.offer_sent(fabric, node, sent, datagram)?;
         Ok(())
     }
@@ -194,18 +197,19 @@ impl Run {
     fn exchange<F: Fabric, K: Sink>(
         &mut self,
         fabric: &mut F,
+        board: &mut Board,
         output: &mut K,
         datagram: &mut Datagram,
     ) -> Result<(), SessionFault>
-        ensures goes { OnOk result ((x : Context) → At x self.old Sending (F.told fabric.old) (K.pieces output.old)
-            → At x self.new Between (F.told fabric.new) (K.pieces output.new)) }
-        ensures stops { IfErr result (λ fault. (x : Context) → At x self.old Sending (F.told fabric.old) (K.pieces output.old)
-            → Stopped x fault (F.told fabric.new) (K.pieces output.new)) }
+        ensures goes { OnOk result ((x : Context) → At (with_posted x board.old) self.old Sending (F.told fabric.old) (K.pieces output.old)
+            → At (with_posted x board.new) self.new Between (F.told fabric.new) (K.pieces output.new)) }
+        ensures stops { IfErr result (λ fault. (x : Context) → At (with_posted x board.old) self.old Sending (F.told fabric.old) (K.pieces output.old)
+            → Stopped (with_posted x board.new) fault (F.told fabric.new) (K.pieces output.new)) }
         ensures cause { (files : ℕ) → HasCause result (counted (K.fault_count output.old) (F.fault_count fabric.old) files)
             (counted (K.fault_count output.new) (F.fault_count fabric.new) files) }
     {
-        self.send(fabric, output, datagram)?;
-        self.take_all(fabric, output, datagram)?;
+        self.send(fabric, board, output, datagram)?;
+        self.take_all(fabric, board, output, datagram)?;
         self.serve_all(fabric, output, datagram)?;
         Ok(())
     }
@@ -216,6 +220,7 @@ impl Run {
         rt: &R,
         script: &Script,
         arrivals: &mut A,
+        board: &mut Board,
         output: &mut K,
         fabric: &mut F,
         files: &mut D,
@@ -223,15 +228,15 @@ impl Run {
         datagram: &mut Datagram,
     ) -> Result<(), SessionFault>
         ensures goes { OnOk result (TakesTurn script.now (D.contents files.old) self.old self.new
-            (span (F.told fabric.old) (F.told fabric.new) (K.pieces output.old) (K.pieces output.new) (C.moments clock.old) (C.moments clock.new))) }
+            (span (F.told fabric.old) (F.told fabric.new) (K.pieces output.old) (K.pieces output.new) (C.moments clock.old) (C.moments clock.new) board.old board.new)) }
         ensures stops { IfErr result (λ fault. StopsTurn script.now (D.contents files.old) self.old fault
-            (span (F.told fabric.old) (F.told fabric.new) (K.pieces output.old) (K.pieces output.new) (C.moments clock.old) (C.moments clock.new))) }
+            (span (F.told fabric.old) (F.told fabric.new) (K.pieces output.old) (K.pieces output.new) (C.moments clock.old) (C.moments clock.new) board.old board.new)) }
         ensures same { D.contents files.new ≡ D.contents files.old }
         ensures cause { HasCause result (counted (K.fault_count output.old) (F.fault_count fabric.old) (D.fault_count files.old))
             (counted (K.fault_count output.new) (F.fault_count fabric.new) (D.fault_count files.new)) }
     {
-        self.open_turn(rt, script, arrivals, output, files, clock)?;
-        self.exchange(fabric, output, datagram)?;
+        self.open_turn(rt, script, arrivals, board, output, files, clock)?;
+        self.exchange(fabric, board, output, datagram)?;
         Ok(())
     }
 
@@ -245,6 +250,7 @@ impl Run {
         rt: &R,
         script: &Script,
         arrivals: &mut A,
+        board: &mut Board,
         output: &mut K,
         fabric: &mut F,
         files: &mut D,
@@ -252,9 +258,9 @@ impl Run {
         datagram: &mut Datagram,
     ) -> Result<(), SessionFault>
         ensures goes { OnOk result (TakesTurns script.now (D.contents files.old) self.old self.new
-            (span (F.told fabric.old) (F.told fabric.new) (K.pieces output.old) (K.pieces output.new) (C.moments clock.old) (C.moments clock.new))) }
+            (span (F.told fabric.old) (F.told fabric.new) (K.pieces output.old) (K.pieces output.new) (C.moments clock.old) (C.moments clock.new) board.old board.new)) }
         ensures stops { IfErr result (λ fault. StopsTurns script.now (D.contents files.old) self.old fault
-            (span (F.told fabric.old) (F.told fabric.new) (K.pieces output.old) (K.pieces output.new) (C.moments clock.old) (C.moments clock.new))) }
+            (span (F.told fabric.old) (F.told fabric.new) (K.pieces output.old) (K.pieces output.new) (C.moments clock.old) (C.moments clock.new) board.old board.new)) }
         ensures same { D.contents files.new ≡ D.contents files.old }
         ensures cause { HasCause result (counted (K.fault_count output.old) (F.fault_count fabric.old) (D.fault_count files.old))
             (counted (K.fault_count output.new) (F.fault_count fabric.new) (D.fault_count files.new)) }
@@ -263,7 +269,9 @@ impl Run {
             if self.is_done(script) {
                 return Ok(());
             }
-            self.turn(rt, script, arrivals, output, fabric, files, clock, datagram)?;
+            self.turn(
+                rt, script, arrivals, board, output, fabric, files, clock, datagram,
+            )?;
         }
         Ok(())
     }

@@ -1,29 +1,53 @@
 //! normd: a reliable multicast sender and receiver after NORM (RFC 5740). All that it does stands in `norm_program`.
 #![tactic(auto)]
 
+use norm_base::Memory;
 use norm_host::{FolderFiles, HostClock, HostFabric, StdSink, StdSource};
-use norm_program::{arguments, needed, run, say_cause};
+use norm_program::{WordsFault, arguments, needed, path_asked, run, say_cause};
+use norm_watch::{Tally, WatchedFabric, WatchedSink, asked_in};
+use std::alloc::Global;
 use std::io;
 use std::process::ExitCode;
 
-/// Makes the real objects, and runs the program on them. Its files are those of the folder that it runs in.
+/// Tells the files the path of the profile that the words ask for, where they ask for one.
+fn tell(
+    alloc: Global,
+    words: &Result<Vec<String>, WordsFault>,
+    files: &mut FolderFiles<HostRuntime>,
+) -> Result<(), Memory> {
+    if let Ok(words) = words {
+        if let Some(path) = path_asked(alloc, words)? {
+            files.tell(&path.into_inner())?;
+        }
+    }
+    Ok(())
+}
+
+/// Makes the real objects, and runs the program on them. Its files are those of the folder that it runs in, and the profile that it is
+/// given the path of.
 fn main(rt: HostRuntime) -> ExitCode {
     let alloc = rt.alloc();
+    let says = asked_in(&rt);
+    let tally = Tally::new();
     let mut fabric = match needed(&rt, HostFabric::new(alloc, rt)) {
-        Ok(fabric) => fabric,
+        Ok(fabric) => WatchedFabric::of(rt, fabric, says, &tally),
         Err(code) => return code,
     };
     let mut files = match needed(&rt, FolderFiles::of(alloc, rt, ".")) {
         Ok(files) => files,
         Err(code) => return code,
     };
+    let words = arguments(&rt);
+    if let Err(code) = needed(&rt, tell(alloc, &words, &mut files)) {
+        return code;
+    }
     let mut input = StdSource::of(rt.reader());
-    let mut output = StdSink::of(io::writer(&rt));
+    let mut output = WatchedSink::of(StdSink::of(io::writer(&rt)), says.counted(&tally));
     let mut clock = HostClock::of(rt);
     let code = run(
         &rt,
         alloc,
-        arguments(&rt),
+        words,
         &mut input,
         &mut output,
         &mut fabric,
@@ -31,8 +55,8 @@ fn main(rt: HostRuntime) -> ExitCode {
         &mut clock,
     );
     say_cause(&rt, input.cause());
-    say_cause(&rt, output.cause());
-    say_cause(&rt, fabric.cause());
+    say_cause(&rt, output.watched().cause());
+    say_cause(&rt, fabric.watched().cause());
     say_cause(&rt, files.cause());
     code
 }

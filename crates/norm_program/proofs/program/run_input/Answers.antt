@@ -1,4 +1,5 @@
 use Rattle.std.proofs.Common.{ℕ}
+use Rattle.norm_program.specs.Asked.{Members}
 use Rattle.norm_program.specs.Ends.{called_as}
 use Rattle.norm_program.proofs.EndingLemmas.{last_ends, stopped_ends}
 use Rattle.norm_program.proofs.program.run_input.Goals as goal
@@ -18,7 +19,7 @@ returns-clause-ends g c =
     let ready = c.in-Ok.ensures.ready in
     let stops = rw c.in-Ok.ensures.unwritten at c.in-Err-run_session.ensures.stops in
     let cause = rw c.in-Ok.ensures.quiet.1 at c.in-Err-run_session.ensures.cause in
-    stopped_ends ℕ c.in-Err-run_session.fault c.stop_session.result c.args.options c.in-Ok.script
+    stopped_ends ℕ c.in-Err-run_session.fault c.stop_session.result (Members c.args.options) c.in-Ok.script
     (left c.args.input.now) (left c.prepare.new.input)
     (pieces c.args.output.now) (pieces c.run_session.new.output) (pieces c.stop_session.new.output)
     (reads c.args.input.now) (reads c.prepare.new.input)
@@ -42,7 +43,7 @@ returns-in-Ok-run_session-clause-ends g c =
     let ready = c.in-Ok.ensures.ready in
     let runs = rw c.in-Ok.ensures.unwritten at c.in-Ok-run_session.ensures.run in
     let cause = rw c.in-Ok.ensures.quiet.1 at c.in-Ok-run_session.ensures.cause in
-    last_ends c.end_session.result c.args.options c.in-Ok.script _ _
+    last_ends c.end_session.result (Members c.args.options) c.in-Ok.script _ _
     (left c.args.input.now) (left c.prepare.new.input)
     (pieces c.args.output.now) (pieces c.run_session.new.output) (pieces c.end_session.new.output)
     (reads c.args.input.now) (reads c.prepare.new.input)

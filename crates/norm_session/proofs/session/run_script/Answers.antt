@@ -12,14 +12,14 @@ pub returns-in_err-datagram-clause-stops : goal.returns-in_err-datagram-clause-s
 returns-in_err-datagram-clause-stops g c =
     let exit = err_from_is_err_and c.from_residual.result c.from_residual.ensures.1 in
     at_fault _ c.from_residual.result exit.0 fault.Memory exit.1 exit.2
-    (not_begun c.args.alone c.args.script.now (g.D.Files.contents c.args.files.now) fault.Memory _ (inl refl) refl refl refl)
+    (not_begun c.args.alone c.args.script.now (g.D.Files.contents c.args.files.now) fault.Memory _ (inl refl) refl refl refl refl)
 
 pub returns-in_err-run-clause-stops : goal.returns-in_err-run-clause-stops
 returns-in_err-run-clause-stops g c =
     let exit = err_from_is_err_and c.from_residual-in_err-run.result c.from_residual-in_err-run.ensures.1 in
     let e = c.in_err-run.field-0.0 in
     at_fault _ c.from_residual-in_err-run.result exit.0 e exit.1 exit.2
-    (not_begun c.args.alone c.args.script.now (g.D.Files.contents c.args.files.now) e _ c.in_err-run.ensures.why c.in_err-run.ensures.same refl refl)
+    (not_begun c.args.alone c.args.script.now (g.D.Files.contents c.args.files.now) e _ c.in_err-run.ensures.why c.in_err-run.ensures.same refl refl refl)
 
 pub returns-in_err-whole-clause-stops : goal.returns-in_err-whole-clause-stops
 returns-in_err-whole-clause-stops g c =
@@ -45,7 +45,7 @@ returns-clause-run g c =
     let starts = c.in_ok-run.ensures.starts in
     subst (λ journal. RunsScript c.args.alone c.args.script.now files journal c.in_ok-whole.whole
     (span (g.F.Fabric.told c.args.fabric.now) (g.F.Fabric.told c.finish.new.fabric) unwritten (g.K.Sink.pieces c.finish.new.output)
-    (g.C.Clock.moments c.args.clock.now) (g.C.Clock.moments c.finish.new.clock))) (sym c.into_journal.ensures)
+    (g.C.Clock.moments c.args.clock.now) (g.C.Clock.moments c.finish.new.clock) c.args.board.now c.finish.new.board)) (sym c.into_journal.ensures)
     (script_runs c.args.alone c.args.script.now files started c.in_ok-run.run' c.finish.new.self c.in_ok-whole.whole _ starts c.in_ok-run.ensures.goes
     c.in_ok-whole.ensures.goes c.requires)
 

@@ -1,5 +1,6 @@
 use Rattle.std.proofs.Common.{◌∙◌}
 use Rattle.std.proofs.lemmas.Result.{err_from_is_err_and}
+use Rattle.norm_session.specs.Context.{with_posted}
 use Rattle.norm_session.proofs.CauseLemmas.{cause_exit}
 use Rattle.norm_session.proofs.SoFarLemmas.{at_fault}
 use Rattle.norm_session.proofs.run.Run.exchange.Goals as goal
@@ -14,7 +15,7 @@ pub returns-in_err-serve_all-clause-stops : goal.returns-in_err-serve_all-clause
 returns-in_err-serve_all-clause-stops g c =
     let exit = err_from_is_err_and c.from_residual-in_err-serve_all.result c.from_residual-in_err-serve_all.ensures.1 in
     at_fault _ c.from_residual-in_err-serve_all.result exit.0 c.in_err-serve_all.field-0.0 exit.1 exit.2
-    (λ x here. c.in_err-serve_all.ensures.stops x (c.in_ok-take_all.ensures.goes x (c.in_ok-send.ensures.goes x here)))
+    (λ x here. c.in_err-serve_all.ensures.stops (with_posted x c.take_all.new.board) (c.in_ok-take_all.ensures.goes x (c.in_ok-send.ensures.goes x here)))
 
 pub returns-in_err-serve_all-clause-cause : goal.returns-in_err-serve_all-clause-cause
 returns-in_err-serve_all-clause-cause g c files =

@@ -1,7 +1,7 @@
 use Rattle.std.proofs.Common.{sym, ◌∙◌}
 use Rattle.std.proofs.lemmas.Result.{err_from_is_err_and}
 use Rattle.norm_journal.specs.Places.{Over}
-use Rattle.norm_session.specs.Context.{with_moments}
+use Rattle.norm_session.specs.Context.{with_moments, with_posted}
 use Rattle.norm_session.proofs.CauseLemmas.{cause_exit}
 use Rattle.norm_session.proofs.SoFarLemmas.{at_fault}
 use Rattle.norm_session.proofs.run.Run.finish.Goals as goal
@@ -19,7 +19,7 @@ returns-in_err-summarize-clause-stops g c =
       t.0,
       λ x over none here.
           let l = t.1 x over none here in
-          (l.0, c.in_err-summarize.ensures.stops (with_moments x t.0) (g.F.Fabric.told c.turns.new.fabric) l.1.here l.1.done),
+          (l.0, c.in_err-summarize.ensures.stops (with_moments (with_posted x c.turns.new.board) t.0) (g.F.Fabric.told c.turns.new.fabric) l.1.here l.1.done),
     )
 
 pub returns-in_err-summarize-clause-cause : goal.returns-in_err-summarize-clause-cause
@@ -33,7 +33,7 @@ returns-clause-goes g c =
     let t = c.in_ok-turns.ensures.goes in (
       t.0,
       λ x over none here.
-          let y = with_moments x t.0 in
+          let y = with_moments (with_posted x c.turns.new.board) t.0 in
           let l = t.1 x over none here in
           let e = c.in_ok-summarize.ensures.goes y (g.F.Fabric.told c.turns.new.fabric) l.1.here l.1.done in
           (l.0, record { here = e; whole_is = sym (c.is_whole.ensures y e.world Over e.so_far.all over.script e.so_far.stands) }),

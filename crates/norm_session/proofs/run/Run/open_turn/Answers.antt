@@ -1,7 +1,7 @@
 use Rattle.std.proofs.Common.{◌∷◌, [], ◌∙◌}
 use Rattle.std.proofs.lemmas.Result.{err_from_is_err_and}
 use Rattle.norm_journal.specs.Places.{Sending}
-use Rattle.norm_session.specs.Context.{with_moments}
+use Rattle.norm_session.specs.Context.{with_moments, with_posted}
 use Rattle.norm_session.proofs.CauseLemmas.{cause_exit}
 use Rattle.norm_session.proofs.SoFarLemmas.{at_fault}
 use Rattle.norm_session.proofs.run.Run.open_turn.Goals as goal
@@ -11,7 +11,7 @@ returns-in_err-begin_turn-clause-stops g c =
     let exit = err_from_is_err_and c.from_residual.result c.from_residual.ensures.1 in
     let s = c.in_err-begin_turn.ensures.stops in
     at_fault _ c.from_residual.result exit.0 c.in_err-begin_turn.field-0.0 exit.1 exit.2
-    (s.0, λ x network over here more. s.1 x network (g.K.Sink.pieces c.args.output.now) here more)
+    (s.0, λ x network over here more. s.1 (with_posted x c.args.board.now) network (g.K.Sink.pieces c.args.output.now) here more)
 
 pub returns-in_err-command-clause-stops : goal.returns-in_err-command-clause-stops
 returns-in_err-command-clause-stops g c =
@@ -20,8 +20,8 @@ returns-in_err-command-clause-stops g c =
     at_fault _ c.from_residual-in_err-command.result exit.0 c.in_err-command.field-0.0 exit.1 exit.2 (
       now ∷ [],
       λ x network over here more.
-          let b = c.in_ok-begin_turn.ensures.goes x network (g.K.Sink.pieces c.args.output.now) here more in
-          (b.0, c.in_err-command.ensures.stops (with_moments x (now ∷ [])) network (record { script = over.script; files = over.files }) b.1),
+          let b = c.in_ok-begin_turn.ensures.goes (with_posted x c.args.board.now) network (g.K.Sink.pieces c.args.output.now) here more in
+          (b.0, c.in_err-command.ensures.stops (with_moments (with_posted x c.args.board.now) (now ∷ [])) network (record { script = over.script; files = over.files }) b.1),
     )
 
 pub returns-in_err-tell_all-clause-stops : goal.returns-in_err-tell_all-clause-stops
@@ -32,8 +32,8 @@ returns-in_err-tell_all-clause-stops g c =
       now ∷ [],
       λ x network over here more.
           let y = with_moments x (now ∷ []) in
-          let b = c.in_ok-begin_turn.ensures.goes x network (g.K.Sink.pieces c.args.output.now) here more in
-          (b.0, c.in_err-tell_all.ensures.stops y Sending network (c.in_ok-command.ensures.goes y network (record { script = over.script; files = over.files }) b.1)),
+          let b = c.in_ok-begin_turn.ensures.goes (with_posted x c.args.board.now) network (g.K.Sink.pieces c.args.output.now) here more in
+          (b.0, c.in_err-tell_all.ensures.stops y Sending network (c.in_ok-command.ensures.goes (with_posted y c.args.board.now) network (record { script = over.script; files = over.files }) b.1)),
     )
 
 pub returns-in_err-tell_all-clause-cause : goal.returns-in_err-tell_all-clause-cause
@@ -48,8 +48,8 @@ returns-clause-goes g c =
       now,
       λ x network over here more.
           let y = with_moments x (now ∷ []) in
-          let b = c.in_ok-begin_turn.ensures.goes x network (g.K.Sink.pieces c.args.output.now) here more in
-          (b.0, c.in_ok-tell_all.ensures.goes y Sending network (c.in_ok-command.ensures.goes y network (record { script = over.script; files = over.files }) b.1)),
+          let b = c.in_ok-begin_turn.ensures.goes (with_posted x c.args.board.now) network (g.K.Sink.pieces c.args.output.now) here more in
+          (b.0, c.in_ok-tell_all.ensures.goes y Sending network (c.in_ok-command.ensures.goes (with_posted y c.args.board.now) network (record { script = over.script; files = over.files }) b.1)),
     )
 
 pub returns-clause-cause : goal.returns-clause-cause

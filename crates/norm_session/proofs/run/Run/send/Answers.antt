@@ -1,6 +1,7 @@
 use Rattle.std.proofs.Common.{◌∙◌, ap}
 use Rattle.std.proofs.lemmas.Result.{err_from_is_err_and}
 use Rattle.norm_journal.specs.Places.{Taking}
+use Rattle.norm_session.specs.Context.{with_posted}
 use Rattle.norm_session.specs.RunKept.{RunKept}
 use Rattle.norm_session.proofs.CauseLemmas.{cause_exit}
 use Rattle.norm_session.proofs.SendingLemmas.{sent_by}
@@ -13,18 +14,18 @@ returns-in_err-tell_all-clause-stops g c =
     at_fault _ c.from_residual-in_err-tell_all.result exit.0 c.in_err-tell_all.field-0.0 exit.1 exit.2
     (λ x here.
     c.in_err-tell_all.ensures.stops x _ (g.F.Fabric.told c.args.fabric.now)
-    (c.in_ok-sent.ensures.goes x (g.F.Fabric.told c.args.fabric.now) (g.K.Sink.pieces c.args.output.now) here))
+    (c.in_ok-sent.ensures.goes (with_posted x c.args.board.now) (g.F.Fabric.told c.args.fabric.now) (g.K.Sink.pieces c.args.output.now) here))
 
 pub returns-in_err-offer_sent-clause-stops : goal.returns-in_err-offer_sent-clause-stops
 returns-in_err-offer_sent-clause-stops g c =
     let exit = err_from_is_err_and c.from_residual-in_err-offer_sent.result c.from_residual-in_err-offer_sent.ensures.1 in
     at_fault _ c.from_residual-in_err-offer_sent.result exit.0 c.in_err-offer_sent.field-0.0 exit.1 exit.2
     (λ x here.
-    c.in_err-offer_sent.ensures.stops x (g.K.Sink.pieces c.tell_all.new.output) (Taking 0)
-    (sent_by x c.tell_all.new.self _ _ c.in_ok-sent.sent c.tick_sender.new.out (Taking 0) (g.F.Fabric.told c.args.fabric.now)
+    c.in_err-offer_sent.ensures.stops (with_posted x c.tell_all.new.board) (g.K.Sink.pieces c.tell_all.new.output) (Taking 0)
+    (sent_by (with_posted x c.tell_all.new.board) c.tell_all.new.self _ _ c.in_ok-sent.sent c.tick_sender.new.out (Taking 0) (g.F.Fabric.told c.args.fabric.now)
     (g.K.Sink.pieces c.tell_all.new.output) (c.sender_node-node.ensures ∙ ap (λ (k : RunKept). k.p.sender) c.self.view_is)
     (c.in_ok-tell_all.ensures.goes x _ (g.F.Fabric.told c.args.fabric.now)
-    (c.in_ok-sent.ensures.goes x (g.F.Fabric.told c.args.fabric.now) (g.K.Sink.pieces c.args.output.now) here))))
+    (c.in_ok-sent.ensures.goes (with_posted x c.args.board.now) (g.F.Fabric.told c.args.fabric.now) (g.K.Sink.pieces c.args.output.now) here))))
 
 pub returns-in_err-offer_sent-clause-cause : goal.returns-in_err-offer_sent-clause-cause
 returns-in_err-offer_sent-clause-cause g c files =

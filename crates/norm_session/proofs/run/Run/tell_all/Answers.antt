@@ -1,6 +1,7 @@
 use Rattle.std.proofs.Common.{◌∙◌, ap, subst, ◌-◌, ◌≤◌, rules}
 use Rattle.std.proofs.lemmas.Result.{err_from_is_err_and}
 use Rattle.norm_session.specs.Causes.{Counted, counted}
+use Rattle.norm_session.specs.Context.{with_posted}
 use Rattle.norm_session.specs.Telling.{HasTold}
 use Rattle.norm_session.proofs.SoFarLemmas.{at_fault}
 use Rattle.norm_session.proofs.TellingLemmas.{tells_on, told_all}
@@ -16,7 +17,7 @@ returns-in_err-tell-clause-stops g c =
 pub returns-then-not-branch-clause-goes : goal.returns-then-not-branch-clause-goes
 returns-then-not-branch-clause-goes g c x place network here =
     let many = c.untold-end.result - c.loop.counter in
-    subst (λ b. HasTold b x c.tell.new.self place network (g.K.Sink.pieces c.tell.new.output) (c.untold-end.result - c.loop.counter)) c.if-not-branch.true
+    subst (λ b. HasTold b (with_posted x c.tell.new.board) c.tell.new.self place network (g.K.Sink.pieces c.tell.new.output) (c.untold-end.result - c.loop.counter)) c.if-not-branch.true
     (c.in_ok-tell.ensures.goes x place network many (c.loop.invariant.tells x place network here))
 
 pub returns-then-not-branch-clause-cause : goal.returns-then-not-branch-clause-cause
@@ -26,7 +27,7 @@ returns-then-not-branch-clause-cause g c network files =
 pub loop-preserved : goal.loop-preserved
 loop-preserved g c = record {
   tells = λ x place network here.
-      tells_on x c.tell.new.self place network (g.K.Sink.pieces c.tell.new.output) c.in_ok-tell.field-0 c.untold-end.result c.loop.counter
+      tells_on (with_posted x c.tell.new.board) c.tell.new.self place network (g.K.Sink.pieces c.tell.new.output) c.in_ok-tell.field-0 c.untold-end.result c.loop.counter
       c.if-not-branch.false
       (c.in_ok-tell.ensures.goes x place network (c.untold-end.result - c.loop.counter) (c.loop.invariant.tells x place network here));
   counts = ap (λ (k : Counted). k.output) (c.in_ok-tell.ensures.cause 0 0) ∙ c.loop.invariant.counts;
@@ -35,5 +36,5 @@ loop-preserved g c = record {
 pub returns-clause-goes : goal.returns-clause-goes
 returns-clause-goes g c x place network here =
     let past : c.untold-end.result ≤ c.loop.counter = search rules in
-    told_all x c.loop.self place network (g.K.Sink.pieces c.loop.output) c.untold-end.result c.loop.counter past
+    told_all (with_posted x c.loop.board) c.loop.self place network (g.K.Sink.pieces c.loop.output) c.untold-end.result c.loop.counter past
     (c.loop.invariant.tells x place network here)

@@ -10,7 +10,7 @@ pub loop-init : goal.loop-init
 loop-init g c = record {
   turned = has_not_turned c.args.script.now (g.D.Files.contents c.args.files.now) c.args.self.now
       (span (g.F.Fabric.told c.args.fabric.now) (g.F.Fabric.told c.args.fabric.now) (g.K.Sink.pieces c.args.output.now) (g.K.Sink.pieces c.args.output.now)
-      (g.C.Clock.moments c.args.clock.now) (g.C.Clock.moments c.args.clock.now)) refl refl refl;
+      (g.C.Clock.moments c.args.clock.now) (g.C.Clock.moments c.args.clock.now) c.args.board.now c.args.board.now) refl refl refl refl;
   within = search rules;
   same = refl;
   counts = refl;
@@ -27,18 +27,18 @@ returns-in_err-turn-clause-stops g c =
     let e = c.in_err-turn.field-0.0 in
     at_fault _ c.from_residual.result exit.0 e exit.1 exit.2
     (turns_stop c.args.script.now (g.D.Files.contents c.args.files.now) c.args.self.now c.loop.self _ _ c.loop.counter c.is_done.result e
-    c.loop.invariant.turned c.is_done.ensures c.if-is_done.false refl refl refl
+    c.loop.invariant.turned c.is_done.ensures c.if-is_done.false refl refl refl refl
     (subst (λ f. StopsTurn c.args.script.now f c.loop.self e
     (span (g.F.Fabric.told c.loop.fabric) (g.F.Fabric.told c.turn.new.fabric) (g.K.Sink.pieces c.loop.output) (g.K.Sink.pieces c.turn.new.output)
-    (g.C.Clock.moments c.loop.clock) (g.C.Clock.moments c.turn.new.clock))) c.loop.invariant.same c.in_err-turn.ensures.stops))
+    (g.C.Clock.moments c.loop.clock) (g.C.Clock.moments c.turn.new.clock) c.loop.board c.turn.new.board)) c.loop.invariant.same c.in_err-turn.ensures.stops))
 
 pub loop-preserved : goal.loop-preserved
 loop-preserved g c = record {
   turned = has_turned_on c.args.script.now (g.D.Files.contents c.args.files.now) c.args.self.now c.loop.self c.turn.new.self _ _ c.loop.counter
-      c.is_done.result c.loop.invariant.turned c.is_done.ensures c.if-is_done.false refl refl refl
+      c.is_done.result c.loop.invariant.turned c.is_done.ensures c.if-is_done.false refl refl refl refl
       (subst (λ f. TakesTurn c.args.script.now f c.loop.self c.turn.new.self
       (span (g.F.Fabric.told c.loop.fabric) (g.F.Fabric.told c.turn.new.fabric) (g.K.Sink.pieces c.loop.output) (g.K.Sink.pieces c.turn.new.output)
-      (g.C.Clock.moments c.loop.clock) (g.C.Clock.moments c.turn.new.clock))) c.loop.invariant.same c.in_ok-turn.ensures.goes);
+      (g.C.Clock.moments c.loop.clock) (g.C.Clock.moments c.turn.new.clock) c.loop.board c.turn.new.board)) c.loop.invariant.same c.in_ok-turn.ensures.goes);
   within = search rules;
   same = c.in_ok-turn.ensures.same ∙ c.loop.invariant.same;
   counts = c.in_ok-turn.ensures.cause ∙ c.loop.invariant.counts;

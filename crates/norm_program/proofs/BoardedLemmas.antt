@@ -1,0 +1,35 @@
+-- A session over some board.
+use Rattle.std.proofs.Common.{ℕ, true, false, List, [], Option, Result, Ok, Err, refl, inl}
+use Rattle.std.specs.Prelude.{IfOk}
+use Rattle.norm_base.specs.Network.{Network}
+use Rattle.norm_base.specs.Told.{Pieces}
+use Rattle.norm_journal.specs.Jobs.{Told}
+use Rattle.norm_script.specs.Commands.{Commands}
+use Rattle.norm_session.specs.declared.fault.SessionFault.{SessionFault}
+use Rattle.norm_session.specs.declared.fault.SessionFault.TheVariants as fault
+use Rattle.norm_program.specs.Boarded.{StopsScript, span}
+use Rattle.producer_gate.specs.Boards.{BoardState}
+
+-- what is so of these boards is so of some
+pub ran_over_some : {T : Type 0} (P : T → BoardState → BoardState → Type 0) (result : Result T SessionFault) (b c : BoardState)
+    → IfOk result (λ x. P x b c) → IfOk result (λ x. (unposted : BoardState) × (posted : BoardState) × P x unposted posted)
+ran_over_some P (Ok x) b c h = (b, c, h)
+ran_over_some P (Err e) b c h = h
+
+-- any board
+some_board : BoardState
+some_board = record {
+  id = record { words = 0; slots = 0; views_name = 0; atom = 0; block = 0; offset = 0; slot_names = [] };
+  entries = [];
+}
+
+-- there was no memory for a board
+pub no_board : (script : Commands) (files : Told) (network : Network) (written : Pieces) (asked : Option (List ℕ))
+    → StopsScript false fault.Memory script files (span network network written written asked asked)
+no_board script files network written asked =
+    (some_board, some_board, inl (record { why = inl refl; network = refl; output = refl; clock = refl; board = refl }))
+
+pub no_board_alone : (script : Commands) (files : Told) (network : Network) (written : Pieces) (asked : Option (List ℕ))
+    → StopsScript true fault.Memory script files (span network network written written asked asked)
+no_board_alone script files network written asked =
+    (some_board, some_board, inl (record { why = inl refl; network = refl; output = refl; clock = refl; board = refl }))

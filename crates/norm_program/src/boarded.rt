@@ -1,0 +1,76 @@
+//! Scripts as the program runs them: over a board of its own with one reader, and with producers that nobody holds up.
+
+ghost use Rattle.std.specs.Prelude.{◌≡◌, IfOk, IfErr, true, false};
+ghost use Rattle.norm_program.specs.Boarded.{RunsScript, StopsScript, span};
+ghost use Rattle.norm_session.specs.Causes.{HasCause, counted};
+ghost use Rattle.norm_session.specs.Session.{IsRunnable};
+
+use norm_base::{Clock, Fabric, Files, Memory, Sink};
+use norm_script::Script;
+use norm_session::{Ended, SessionFault};
+use producer_gate::{Board, Through};
+use std::alloc::Global;
+use std::sync::Wait;
+use std::thread::Threads;
+
+/// A board with one reader.
+fn board_of(alloc: Global) -> Result<Board, Memory> {
+    let (board, _readers) = Board::new(alloc, 1)?;
+    Ok(board)
+}
+
+/// Runs a script's session.
+pub(crate) fn run_session<R: Threads + Wait + Sync, K: Sink, F: Fabric, D: Files, C: Clock>(
+    rt: &R,
+    alloc: Global,
+    script: &Script,
+    output: &mut K,
+    fabric: &mut F,
+    files: &mut D,
+    clock: &mut C,
+) -> Result<Ended, SessionFault>
+    requires { IsRunnable script.now }
+    ensures run { IfOk result (λ ended. RunsScript false script.now (D.contents files.old) ended.journal ended.whole
+        (span (F.told fabric.old) (F.told fabric.new) (K.pieces output.old) (K.pieces output.new) (C.moments clock.old) (C.moments clock.new))) }
+    ensures stops { IfErr result (λ fault. StopsScript false fault script.now (D.contents files.old)
+        (span (F.told fabric.old) (F.told fabric.new) (K.pieces output.old) (K.pieces output.new) (C.moments clock.old) (C.moments clock.new))) }
+    ensures files { D.contents files.new ≡ D.contents files.old }
+    ensures cause { HasCause result (counted (K.fault_count output.old) (F.fault_count fabric.old) (D.fault_count files.old))
+        (counted (K.fault_count output.new) (F.fault_count fabric.new) (D.fault_count files.new)) }
+{
+    let mut board = match board_of(alloc) {
+        Ok(board) => board,
+        Err(Memory) => return Err(SessionFault::Memory),
+    };
+    norm_session::run_session(
+        rt, alloc, script, &Through, &mut board, output, fabric, files, clock,
+    )
+}
+
+/// Runs the sender of a script's session alone.
+pub(crate) fn run_send<R: Threads + Wait + Sync, K: Sink, F: Fabric, D: Files, C: Clock>(
+    rt: &R,
+    alloc: Global,
+    script: &Script,
+    output: &mut K,
+    fabric: &mut F,
+    files: &mut D,
+    clock: &mut C,
+) -> Result<Ended, SessionFault>
+    requires { IsRunnable script.now }
+    ensures run { IfOk result (λ ended. RunsScript true script.now (D.contents files.old) ended.journal ended.whole
+        (span (F.told fabric.old) (F.told fabric.new) (K.pieces output.old) (K.pieces output.new) (C.moments clock.old) (C.moments clock.new))) }
+    ensures stops { IfErr result (λ fault. StopsScript true fault script.now (D.contents files.old)
+        (span (F.told fabric.old) (F.told fabric.new) (K.pieces output.old) (K.pieces output.new) (C.moments clock.old) (C.moments clock.new))) }
+    ensures files { D.contents files.new ≡ D.contents files.old }
+    ensures cause { HasCause result (counted (K.fault_count output.old) (F.fault_count fabric.old) (D.fault_count files.old))
+        (counted (K.fault_count output.new) (F.fault_count fabric.new) (D.fault_count files.new)) }
+{
+    let mut board = match board_of(alloc) {
+        Ok(board) => board,
+        Err(Memory) => return Err(SessionFault::Memory),
+    };
+    norm_session::run_send(
+        rt, alloc, script, &Through, &mut board, output, fabric, files, clock,
+    )
+}

@@ -1,0 +1,157 @@
+//! The script of a sender, whose profile is given.
+
+ghost use Rattle.std.specs.Prelude.{◌≡◌, ◌↔◌, string_bytes, IsTrue, Ok, IfOk, IfErr, IfSome, OnOk};
+ghost use Rattle.std.specs.List.{AllByRecursion};
+ghost use Rattle.norm_base.specs.Settings.{InRange};
+ghost use Rattle.norm_journal.specs.Jobs.{opens_no_stream, IsOfObjects};
+ghost use Rattle.norm_program.specs.Asked.{producers_line, under, IsFirstUnbuilt, IsUnsendable, Sender};
+ghost use Rattle.norm_program.specs.Ends.{EndsEarly, IsTextEnding, Prepared};
+ghost use Rattle.norm_script.specs.Reading.{commands_of};
+ghost use Rattle.norm_session.specs.Session.{IsRunnable};
+
+use crate::program::{read_input, refused_line, say};
+use crate::status::Ending;
+use norm_base::{Memory, Profile, Sink, Source};
+use norm_script::{Extent, Line, Refusal, Script, ScriptFault, Verb, Why, read, read_commands};
+use std::alloc::{AllocError, Global};
+
+/// The most lines of a script.
+const MOST_LINES: u32 = 8192;
+
+/// Whether a command opens, writes and closes no stream, as no sender does today.
+fn is_of_objects(line: &Line) -> bool
+    ensures { result ≡ opens_no_stream line.now.verb }
+{
+    !matches!(line.verb, Verb::Open | Verb::Write { .. } | Verb::Close)
+}
+
+/// Whether all commands are of objects.
+fn are_of_objects(lines: &[Line]) -> bool
+    ensures { IsTrue result ↔ AllByRecursion IsOfObjects lines.now }
+{
+    lines.iter().all(is_of_objects)
+}
+
+/// The line of the one key that commands go by.
+#[tactic(auto, unfolding(crate::specs::Asked::producers_line))]
+fn producers_line(alloc: Global, profile: &Profile) -> Result<String, AllocError>
+    ensures { IfOk result (λ line. string_bytes line ≡ producers_line profile.now) }
+{
+    let producers = profile.producers;
+    format!(in alloc; "set producers {producers}\n")
+}
+
+/// A text behind that line.
+fn under(alloc: Global, profile: &Profile, text: &[u8]) -> Result<Vec<u8>, AllocError>
+    ensures { IfOk result (λ all. all.items ≡ under profile.now text.now) }
+{
+    let line = producers_line(alloc, profile)?;
+    let mut all = Vec::from_slice(alloc, line.as_bytes())?;
+    all.extend_from_slice(text)?;
+    Ok(all)
+}
+
+/// Why line `n` has no meaning: as a script of its own says it, where it is not that it sets a key, or is a line too many.
+fn why_of(alloc: Global, profile: &Profile, text: &[u8], n: u32) -> Result<Why, Memory> {
+    if n > MOST_LINES {
+        return Ok(Why::ManyLines);
+    }
+    let all = under(alloc, profile, text)?;
+    match read(alloc, &all, Extent::Whole)? {
+        Err(refusal) if refusal.line.saturating_sub(1) == n => Ok(refusal.why),
+        _ => Ok(Why::AfterCommand),
+    }
+}
+
+/// The first line that is of a stream, of a text of which one is. `None` where none is.
+fn stream_line(alloc: Global, profile: &Profile, text: &[u8]) -> Result<Option<Refusal>, Memory>
+    ensures { IfOk result (λ found. IfSome found (IsFirstUnbuilt profile.now text.now)) }
+{
+    let all = under(alloc, profile, text)?;
+    match read(alloc, &all, Extent::Built)? {
+        Err(refusal) => Ok(Some(Refusal {
+            line: refusal.line.saturating_sub(1),
+            why: refusal.why,
+        })),
+        Ok(_) => Ok(None),
+    }
+}
+
+// Proof: a profile's numbers are in their ranges, once one of them is read.
+fn is_in_range(profile: &Profile)
+    ensures { InRange profile.now }
+{
+    let _producers = profile.producers;
+}
+
+/// The commands that a text is for a sender of this profile, or the line that is refused.
+fn commands_in(
+    alloc: Global,
+    profile: &Profile,
+    text: &[u8],
+) -> Result<Result<Script, Refusal>, Memory>
+    ensures script { IfOk result (λ read. IfOk read (λ script. (commands_of profile.now text.now ≡ Ok script) × IsRunnable script)) }
+    ensures refused { IfOk result (λ read. IfErr read (IsUnsendable profile.now text.now)) }
+{
+    match read_commands(alloc, text, profile) {
+        Ok(script) => {
+            if are_of_objects(&script.lines) {
+                is_in_range(profile);
+                return Ok(Ok(script));
+            }
+            match stream_line(alloc, profile, text)? {
+                Some(refusal) => Ok(Err(refusal)),
+                // What is of a stream is none of what is built.
+                None => Err(Memory),
+            }
+        }
+        Err(ScriptFault::Line { n }) => {
+            let why = why_of(alloc, profile, text, n)?;
+            Ok(Err(Refusal { line: n, why }))
+        }
+        Err(ScriptFault::Memory) => Err(Memory),
+    }
+}
+
+/// Reads the script that the text is for a sender of this profile.
+fn read_commands_in<K: Sink>(
+    alloc: Global,
+    profile: &Profile,
+    text: &[u8],
+    output: &mut K,
+) -> Result<Script, Ending>
+    ensures script { IfOk result (λ script. (commands_of profile.now text.now ≡ Ok script) × IsRunnable script) }
+    ensures unwritten { OnOk result (K.pieces output.new ≡ K.pieces output.old) }
+    ensures quiet { OnOk result (K.fault_count output.new ≡ K.fault_count output.old) }
+    ensures ending { IfErr result (λ ending. IsTextEnding (Sender profile.now) ending text.now (K.pieces output.old) (K.pieces output.new)
+        (K.fault_count output.old) (K.fault_count output.new)) }
+{
+    match commands_in(alloc, profile, text) {
+        Ok(Ok(script)) => Ok(script),
+        Ok(Err(refusal)) => {
+            let line = refused_line(alloc, u64::from(refusal.line))?;
+            say(output, line.as_bytes());
+            Err(Ending::Refused { refusal })
+        }
+        Err(Memory) => Err(Ending::Memory),
+    }
+}
+
+/// What there is to run for a sender of this profile: the script that the input is.
+pub(crate) fn prepare_commands<S: Source, K: Sink>(
+    alloc: Global,
+    profile: &Profile,
+    input: &mut S,
+    output: &mut K,
+) -> Result<Script, Ending>
+    ensures ready { IfOk result (λ script. Prepared (Sender profile.now) script (S.left input.old) (S.left input.new)) }
+    ensures runnable { IfOk result IsRunnable }
+    ensures unwritten { OnOk result (K.pieces output.new ≡ K.pieces output.old) }
+    ensures quiet { OnOk result ((S.fault_count input.new ≡ S.fault_count input.old) × (K.fault_count output.new ≡ K.fault_count output.old)) }
+    ensures ending { IfErr result (λ ending. EndsEarly (Sender profile.now) ending (S.left input.old) (S.left input.new)
+        (K.pieces output.old) (K.pieces output.new) (S.fault_count input.old) (S.fault_count input.new)
+        (K.fault_count output.old) (K.fault_count output.new)) }
+{
+    let text = read_input(alloc, input, output)?;
+    read_commands_in(alloc, profile, &text, output)
+}

@@ -1,0 +1,189 @@
+//! Producers in threads of their own: each submits the places of its lines to a ring, from which the one thread pulls that runs the session.
+
+ghost use Rattle.std.specs.Prelude.{◌≡◌, ◌≤◌, All, IfErr, IfOk, length};
+ghost use Rattle.norm_session.specs.Causes.{HasCause, counted};
+ghost use Rattle.norm_session.specs.Session.{IsRunnable, RunsScript, StopsScript};
+ghost use Rattle.norm_session.specs.Turning.{span};
+
+use crate::arrivals::{Arrivals, Arrived};
+use crate::fault::SessionFault;
+use crate::session::{Ended, run_script};
+use norm_base::{Clock, Fabric, Files, Memory, Sink};
+use norm_script::{Line, Script};
+use producer_gate::{Board, Gate, GateFault, PullSeat, Seat, Turnstile};
+use std::alloc::Global;
+use std::sync::Wait;
+use std::thread;
+use std::thread::{Threads, join_mut};
+
+/// A session has at most so many producers, each in a thread of its own.
+const MOST_PRODUCERS: usize = 4;
+
+/// What comes out of the ring.
+#[derive(Drop)]
+struct Pulled<'g, R: Wait> {
+    rt: &'g R,
+    ring: &'g Gate,
+    pull: &'g mut PullSeat,
+    ghost own: { pull.now.gate ≡ ring.now.id },
+}
+
+impl<R: Wait> Arrivals for Pulled<'_, R> {
+    fn arrive(&mut self) -> Option<Arrived> {
+        let command = self.ring.pull(self.rt, self.pull)?;
+        Some(Arrived {
+            producer: command.producer,
+            place: command.item,
+        })
+    }
+}
+
+/// Submits a place, again as long as the ring is full.
+fn insist<R: Wait>(rt: &R, ring: &Gate, seat: &mut Seat, place: u32)
+    requires { seat.old.gate ≡ ring.now.id }
+    ensures { seat.new.gate ≡ seat.old.gate }
+{
+    // Proof: the label names the loop for its invariant.
+    'tries: for _ in rt.forever() {
+        match ring.submit(rt, seat, place) {
+            Err((_place, GateFault::Full)) => thread::yield_now(),
+            Err((_place, GateFault::TooMany)) => break,
+            Ok(_number) => break,
+        }
+    }
+}
+
+/// A producer submits the places of its lines in their order, and passes the turnstile before each.
+fn produce<R: Wait, G: Turnstile>(
+    rt: &R,
+    lines: &[Line],
+    gate: &G,
+    ring: &Gate,
+    seat: &mut Seat,
+    producer: u64,
+)
+    requires own { seat.old.gate ≡ ring.now.id }
+    requires few { length lines.now ≤ 4096 }
+    ensures { seat.new.gate ≡ seat.old.gate }
+{
+    // Proof: the label names the loop for its invariant.
+    'lines: for place in 0..lines.len() {
+        let line = &lines[place];
+        if u64::from(line.producer) == producer {
+            gate.pass(line.producer, line.number);
+            insist(rt, ring, seat, place as u32);
+        }
+    }
+}
+
+/// All producers, each in a thread of its own. Where a thread cannot be started, its work is done here.
+fn produce_all<R: Threads + Wait + Sync, G: Turnstile + Sync>(
+    rt: &R,
+    lines: &[Line],
+    gate: &G,
+    ring: &Gate,
+    seats: &mut [Seat],
+)
+    requires own { All (λ s. s.gate ≡ ring.now.id) seats.old }
+    requires few { length lines.now ≤ 4096 }
+{
+    thread::for_each_mut(
+        rt,
+        seats,
+        MOST_PRODUCERS,
+        &|at, seat| produce(rt, lines, gate, ring, seat, at as u64 + 1),
+    );
+}
+
+/// The ring has a place for each line, so that producers can end before anything is pulled.
+fn ring_for(alloc: Global, script: &Script) -> Result<(Gate, Vec<Seat>, PullSeat), Memory>
+    requires { IsRunnable script.now }
+    ensures seats { IfOk result (λ made. All (λ s. s.gate ≡ made.0.id) made.1.items) }
+    ensures pull { IfOk result (λ made. made.2.gate ≡ made.0.id) }
+{
+    let places = script.lines.len().max(1) as u32;
+    Gate::new(alloc, u32::from(script.profile.producers), places)
+}
+
+/// A script's run over what comes out of the ring.
+fn run_pulled<R: Wait, K: Sink, F: Fabric, D: Files, C: Clock>(
+    rt: &R,
+    alloc: Global,
+    script: &Script,
+    alone: bool,
+    ring: &Gate,
+    pull: &mut PullSeat,
+    board: &mut Board,
+    output: &mut K,
+    fabric: &mut F,
+    files: &mut D,
+    clock: &mut C,
+) -> Result<Ended, SessionFault>
+    requires script { IsRunnable script.now }
+    requires own { pull.old.gate ≡ ring.now.id }
+    ensures run { IfOk result (λ ended. RunsScript alone script.now (D.contents files.old) ended.journal ended.whole
+        (span (F.told fabric.old) (F.told fabric.new) (K.pieces output.old) (K.pieces output.new) (C.moments clock.old) (C.moments clock.new) board.old board.new)) }
+    ensures stops { IfErr result (λ fault. StopsScript alone fault script.now (D.contents files.old)
+        (span (F.told fabric.old) (F.told fabric.new) (K.pieces output.old) (K.pieces output.new) (C.moments clock.old) (C.moments clock.new) board.old board.new)) }
+    ensures files { D.contents files.new ≡ D.contents files.old }
+    ensures cause { HasCause result (counted (K.fault_count output.old) (F.fault_count fabric.old) (D.fault_count files.old))
+        (counted (K.fault_count output.new) (F.fault_count fabric.new) (D.fault_count files.new)) }
+{
+    let mut arrivals = Pulled { rt, ring, pull };
+    run_script(
+        rt,
+        alloc,
+        script,
+        alone,
+        &mut arrivals,
+        board,
+        output,
+        fabric,
+        files,
+        clock,
+    )
+}
+
+/// A script's run, with its sender alone or with all members: its producers submit in threads of their own what one loop pulls.
+pub(crate) fn run_produced<
+    R: Threads + Wait + Sync,
+    K: Sink,
+    F: Fabric,
+    D: Files,
+    C: Clock,
+    G: Turnstile + Sync,
+>(
+    rt: &R,
+    alloc: Global,
+    script: &Script,
+    alone: bool,
+    gate: &G,
+    board: &mut Board,
+    output: &mut K,
+    fabric: &mut F,
+    files: &mut D,
+    clock: &mut C,
+) -> Result<Ended, SessionFault>
+    requires { IsRunnable script.now }
+    ensures run { IfOk result (λ ended. RunsScript alone script.now (D.contents files.old) ended.journal ended.whole
+        (span (F.told fabric.old) (F.told fabric.new) (K.pieces output.old) (K.pieces output.new) (C.moments clock.old) (C.moments clock.new) board.old board.new)) }
+    ensures stops { IfErr result (λ fault. StopsScript alone fault script.now (D.contents files.old)
+        (span (F.told fabric.old) (F.told fabric.new) (K.pieces output.old) (K.pieces output.new) (C.moments clock.old) (C.moments clock.new) board.old board.new)) }
+    ensures files { D.contents files.new ≡ D.contents files.old }
+    ensures cause { HasCause result (counted (K.fault_count output.old) (F.fault_count fabric.old) (D.fault_count files.old))
+        (counted (K.fault_count output.new) (F.fault_count fabric.new) (D.fault_count files.new)) }
+{
+    let (ring, mut seats, mut pull) = ring_for(alloc, script)?;
+    let (shared, list) = (&ring, seats.as_mut_slice());
+    let lines = script.lines.as_slice();
+    let (_produced, ended) = join_mut(
+        rt,
+        &mut ||
+            requires { All (λ s. s.gate ≡ shared.now.id) list.now × (length lines.now ≤ 4096) }
+        { produce_all(rt, lines, gate, shared, list) },
+        &mut || run_pulled(
+            rt, alloc, script, alone, shared, &mut pull, board, output, fabric, files, clock,
+        ),
+    );
+    ended
+}

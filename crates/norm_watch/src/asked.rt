@@ -1,0 +1,23 @@
+//! What is to be said, as the process is asked to.
+
+use crate::saying::Says;
+use std::io::IsTerminal;
+use std::rt::Env;
+
+/// Whether a variable of the environment has this value.
+fn has_value(rt: &impl Env, name: &str, value: &[u8]) -> bool {
+    let mut buf = [0u8; 16];
+    match rt.var(name, &mut buf) {
+        Ok(n) => n <= buf.len() && &buf[..n] == value,
+        Err(_) => false,
+    }
+}
+
+/// What is to be said: progress where standard error is a terminal or the environment has `NORMD_PROGRESS=1`, and each datagram where it has
+/// `NORMD_LOG=trace`.
+pub fn asked_in(rt: &HostRuntime) -> Says {
+    Says {
+        progress: rt.stderr().is_terminal() || has_value(rt, "NORMD_PROGRESS", b"1"),
+        trace: has_value(rt, "NORMD_LOG", b"trace"),
+    }
+}

@@ -1,0 +1,180 @@
+//! A network that is watched.
+
+ghost use Rattle.std.specs.Prelude.{◌≡◌};
+ghost use Rattle.norm_watch.specs.Watched.{watched_by};
+
+use crate::saying::{Hex, Progress, Says};
+use crate::tally::Tally;
+use norm_base::{Datagram, Fabric, FabricFault, FabricKind, Local, NodeId, Profile};
+use std::time::{Clock, Duration};
+
+/// How many seconds nothing comes until that is said.
+const SILENCE: u64 = 10;
+
+/// How many seconds there are from one line of progress to the next.
+const PAUSE: u64 = 1;
+
+/// The place of a datagram's first octet of a header, and of its flags.
+const FLAGS: usize = 12;
+
+/// A node's own address is at this port, if it has one, and it takes at it alone.
+fn port_of(profile: &Profile, local: &Local) -> Option<u32> {
+    if profile.fabric != FabricKind::Udp {
+        return None;
+    }
+    let hub = u32::from(profile.port);
+    match local {
+        Local::One(node) => {
+            let place = node.number().wrapping_sub(profile.sender);
+            Some(hub.wrapping_add(1).wrapping_add(place))
+        }
+        Local::Hub => Some(hub),
+        Local::All => None,
+    }
+}
+
+/// Whether a datagram is of an object, and repairs: INFO or DATA with the flag of a repair (RFC 5740 section 4.2.1).
+fn is_repair(datagram: &[u8]) -> bool {
+    if datagram.len() <= FLAGS {
+        return false;
+    }
+    let kind = datagram[0] & 15;
+    (kind == 1 || kind == 2) && datagram[FLAGS] & 1 == 1
+}
+
+/// A network around which a person watches.
+#[derive(Drop)]
+pub struct WatchedFabric<'a, R, F> {
+    rt: R,
+    fabric: F,
+    says: Says,
+    tally: &'a Tally,
+    /// The port that this node takes at, over sockets in a process of its own.
+    port: Option<u32>,
+    /// When a datagram was taken last, or the network begun.
+    heard: Duration,
+    /// Whether it was said that nothing came.
+    is_silent: bool,
+    /// When a line of progress was drawn last.
+    drawn: Duration,
+}
+
+impl<'a, R: Eprint + Clock, F: Fabric> WatchedFabric<'a, R, F> {
+    /// A network around this one. It says what it is to say on standard error, and counts repairs there.
+    pub fn of(rt: R, fabric: F, says: Says, tally: &'a Tally) -> WatchedFabric<'a, R, F>
+        ensures { watched_by result ≡ fabric }
+    {
+        WatchedFabric {
+            rt,
+            fabric,
+            says,
+            tally,
+            port: None,
+            heard: Duration::ZERO,
+            is_silent: false,
+            drawn: Duration::ZERO,
+        }
+    }
+
+    /// The network that is watched.
+    pub fn watched(&self) -> &F {
+        &self.fabric
+    }
+
+    /// The moment, as the clock has it.
+    fn now(&self) -> Duration {
+        match self.rt.monotonic() {
+            Ok(now) => now,
+            Err(_) => Duration::ZERO,
+        }
+    }
+
+    /// A node begins: what is said of its profile, and when it heard something last.
+    fn begin(&mut self, profile: &Profile, local: &Local)
+        ensures { watched_by self.new ≡ watched_by self.old }
+    {
+        self.port = port_of(profile, local);
+        self.heard = self.now();
+        self.is_silent = false;
+        if self.port.is_some() && !matches!(local, Local::Hub) && profile.step != 0 {
+            let step = profile.step;
+            let _ = eprintln!(self.rt;
+                "the profile's step is {step}: over sockets it is to be 0, so that the clock gives the moments"
+            );
+        }
+    }
+
+    /// Says that a datagram of a node, or for it, was offered or taken.
+    fn trace(&self, what: &str, node: NodeId, octets: &[u8]) {
+        if self.says.trace {
+            let node = node.number();
+            let datagram = Hex { octets };
+            let _ = eprintln!(self.rt; "{what} {node} {datagram}");
+        }
+        if is_repair(octets) {
+            self.tally.repair();
+        }
+    }
+
+    /// Draws the line of progress, where a second went by.
+    fn draw(&mut self, now: Duration)
+        ensures { watched_by self.new ≡ watched_by self.old }
+    {
+        if self.says.progress && now.saturating_sub(self.drawn) >= Duration::from_secs(PAUSE) {
+            self.drawn = now;
+            let progress = Progress { tally: self.tally };
+            let _ = eprint!(self.rt; "{progress}");
+        }
+    }
+
+    /// A take gave something, or nothing.
+    fn took(&mut self, is_some: bool)
+        ensures { watched_by self.new ≡ watched_by self.old }
+    {
+        let Some(port) = self.port else {
+            return;
+        };
+        let now = self.now();
+        if is_some {
+            self.heard = now;
+            self.is_silent = false;
+        } else if !self.is_silent
+            && now.saturating_sub(self.heard) >= Duration::from_secs(SILENCE)
+        {
+            self.is_silent = true;
+            let _ = eprintln!(self.rt; "nothing came to 127.0.0.1:{port} for ten seconds");
+        }
+        self.draw(now);
+    }
+}
+
+impl<R: Eprint + Clock, F: Fabric> Fabric for WatchedFabric<'_, R, F> {
+    ghost told = { λ w. F.told (watched_by w) };
+
+    ghost fault_count = { λ w. F.fault_count (watched_by w) };
+
+    fn start(&mut self, profile: &Profile, local: Local) -> Result<(), FabricFault> {
+        self.fabric.start(profile, local)?;
+        self.begin(profile, &local);
+        Ok(())
+    }
+
+    fn offer(&mut self, from: NodeId, bytes: &[u8]) -> Result<(), FabricFault> {
+        self.fabric.offer(from, bytes)?;
+        self.trace("offer", from, bytes);
+        Ok(())
+    }
+
+    fn take(&mut self, into: &mut Datagram) -> Result<Option<NodeId>, FabricFault> {
+        let taken = self.fabric.take(into)?;
+        if let Some(node) = taken {
+            self.trace("take", node, into.bytes());
+        }
+        self.took(taken.is_some());
+        Ok(taken)
+    }
+
+    fn faults(&self) -> u64 {
+        self.fabric.faults()
+    }
+}

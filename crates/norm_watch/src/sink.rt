@@ -1,0 +1,118 @@
+//! A sink that is watched.
+
+ghost use Rattle.std.specs.Prelude.{◌≡◌};
+ghost use Rattle.norm_watch.specs.Watched.{watched_in};
+
+use crate::listing::Listing;
+use crate::tally::Tally;
+use norm_base::{Failed, Sink};
+
+/// The most words of a line that are looked at.
+const MOST_WORDS: usize = 8;
+
+/// The most octets of a line that are looked at: the words that are counted stand before contents.
+const MOST_OCTETS: usize = 128;
+
+/// A sink, each line of which is counted once it was written.
+#[derive(Drop)]
+pub struct WatchedSink<'a, K> {
+    sink: K,
+    listing: Listing,
+    tally: Option<&'a Tally>,
+}
+
+/// The number that a word is, as far as it is one.
+fn number_of(word: &[u8]) -> u64 {
+    let mut number = 0u64;
+    for digit in word {
+        number = number
+            .wrapping_mul(10)
+            .wrapping_add(u64::from(digit.wrapping_sub(b'0')));
+    }
+    number
+}
+
+/// The words of a line, or of its beginning.
+fn words_of(line: &[u8]) -> [&[u8]; MOST_WORDS] {
+    let mut words: [&[u8]; MOST_WORDS] = [b"".as_slice(); MOST_WORDS];
+    let line = &line[..line.len().min(MOST_OCTETS)];
+    let mut place = 0usize;
+    for word in line.split(|octet| *octet == b' ' || *octet == b'\n') {
+        if place < MOST_WORDS {
+            words[place] = word;
+            place += 1;
+        }
+    }
+    words
+}
+
+/// Whether a word is `data` or `file`.
+fn is_object(word: &[u8]) -> bool {
+    word == b"data".as_slice() || word == b"file".as_slice()
+}
+
+impl<'a, K: Sink> WatchedSink<'a, K> {
+    /// A sink around this one, which counts there, if it is to count.
+    pub fn of(sink: K, tally: Option<&'a Tally>) -> WatchedSink<'a, K>
+        ensures { watched_in result ≡ sink }
+    {
+        WatchedSink {
+            sink,
+            listing: Listing::new(),
+            tally,
+        }
+    }
+
+    /// The sink that is watched.
+    pub fn watched(&self) -> &K {
+        &self.sink
+    }
+}
+
+/// Counts a line: an object that was enqueued or handed up, a watermark, a member that is listed, an instance that begins.
+fn count(tally: &Tally, listing: &mut Listing, line: &[u8]) {
+    let words = words_of(line);
+    let first = words[0];
+    if first == b"enq".as_slice() && is_object(words[5]) {
+        tally.object(number_of(words[6]));
+    } else if first == b"up".as_slice() && is_object(words[4]) {
+        tally.object(number_of(words[5]));
+    } else if first == b"mark".as_slice() {
+        listing.mark(
+            number_of(words[4]),
+            number_of(words[5]),
+            number_of(words[6]),
+            number_of(words[7]),
+        );
+    } else if first == b"past".as_slice() {
+        listing.past(
+            number_of(words[1]),
+            number_of(words[3]),
+            number_of(words[4]),
+            number_of(words[5]),
+        );
+    } else if first == b"done".as_slice() {
+        listing.done(number_of(words[1]));
+    } else if first == b"restart".as_slice() {
+        listing.restart();
+    }
+    tally.past.set(listing.count());
+}
+
+impl<K: Sink> Sink for WatchedSink<'_, K> {
+    ghost pieces = { λ s. K.pieces (watched_in s) };
+
+    ghost fault_count = { λ s. K.fault_count (watched_in s) };
+
+    fn write(&mut self, bytes: &[u8]) -> Result<(), Failed> {
+        self.sink.write(bytes)?;
+        if let Some(tally) = self.tally {
+            count(tally, &mut self.listing, bytes);
+        }
+        Ok(())
+    }
+
+    fn faults(&self) -> u64 {
+        self.sink.faults()
+    }
+}

@@ -1,0 +1,36 @@
+//! What went by, counted.
+
+use std::cell::Cell;
+
+/// What the sink and the network of a node count together: octets and objects of the lines, repairs of the datagrams, and of the members that are
+/// listed how many are past the oldest open watermark.
+#[derive(Drop)]
+pub struct Tally {
+    pub(crate) octets: Cell<u64>,
+    pub(crate) objects: Cell<u64>,
+    pub(crate) repairs: Cell<u64>,
+    pub(crate) past: Cell<u64>,
+}
+
+impl Tally {
+    /// Nothing went by.
+    pub fn new() -> Tally {
+        Tally {
+            octets: Cell::new(0),
+            objects: Cell::new(0),
+            repairs: Cell::new(0),
+            past: Cell::new(0),
+        }
+    }
+
+    /// An object of so many octets.
+    pub(crate) fn object(&self, octets: u64) {
+        self.objects.set(self.objects.get().saturating_add(1));
+        self.octets.set(self.octets.get().saturating_add(octets));
+    }
+
+    /// A datagram that repairs.
+    pub(crate) fn repair(&self) {
+        self.repairs.set(self.repairs.get().saturating_add(1));
+    }
+}
