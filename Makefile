@@ -29,7 +29,8 @@ install: proved
 	$(INSTALL) -m 644 man/normd.1 $(man)/man1/normd.1
 	$(INSTALL) -m 644 man/norm-script.5 $(man)/man5/norm-script.5
 	$(INSTALL) -m 644 tools/norm.lua $(share)/norm.lua
-	$(INSTALL) -m 644 $$(find examples -maxdepth 1 -type f) $(examples)
+	$(INSTALL) -m 644 $$(find examples -maxdepth 1 -type f ! -name cast) $(examples)
+	$(INSTALL) -m 755 examples/cast $(examples)/cast
 	$(INSTALL) -m 644 examples/profiles/* $(examples)/profiles
 
 uninstall:

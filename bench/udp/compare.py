@@ -1,0 +1,258 @@
+#!/usr/bin/env python3
+"""Transfers by normd and by uftp in turns, and how fast the slowest receiver was.
+
+compare.py [--program NORMD] [--size MIB] [--runs N] [--only RECEIVERS:LOSS ..] [--set KEY=VALUE ..] [--no-uftp]
+
+normd's nodes are processes on 127.0.0.1 with the profiles of examples/profiles, one for each row; --set changes keys of all. The file
+goes as objects of 1 MiB with a watermark behind each eight, half a window, with every line written to nothing. uftp's members have a network namespace
+each, joined by a bridge; its rate is swept once and its best is run. Files lie in memory (/dev/shm). MB/s is of 1,000,000 octets: normd's
+from the sender's start to the slowest receiver's last octet, uftp's by the time that it tells itself. Medians of the runs, with the least
+and greatest. Beside them: what a receiver's memory came to, and which part of a processor an idle node takes."""
+from __future__ import annotations
+
+import argparse
+import hashlib
+import os
+import shutil
+import statistics
+import subprocess
+import sys
+import tempfile
+import time
+from dataclasses import dataclass, field
+from pathlib import Path
+
+HERE = Path(__file__).resolve().parent
+PROFILES = HERE.parent.parent / 'examples/profiles'
+MIB, FROM_WATERMARK = 1 << 20, 8
+ROWS = {(1, 0): 'loopback', (4, 0): 'four', (16, 0): 'many', (1, 5): 'lossy', (4, 5): 'lossy-four', (16, 5): 'lossy-many'}
+WANTED = {(1, 0): 1.4, (4, 0): 1.25, (16, 0): 1.0, (1, 5): 1.6, (4, 5): 1.5, (16, 5): 1.25}
+RATES = ('400000', '700000', '1000000', '2000000', '-1')
+SENDER, INSTANCE = 1, 1
+
+
+@dataclass
+class Bench:
+    """What is sent, and where all of it lies."""
+    program: str
+    size: int
+    runs: int
+    limit: float
+    keys: dict[str, str]
+    room: Path
+    digest: str = ''
+    memory: list[int] = field(default_factory=list)
+
+    @property
+    def source(self) -> Path:
+        return self.room / 'source.bin'
+
+    @property
+    def library(self) -> Path:
+        return self.room / 'rxloss.so'
+
+    def prepare(self) -> None:
+        subprocess.run(['cc', '-O2', '-shared', '-fPIC', '-o', self.library, HERE / 'rxloss.c', '-ldl'], check=True)
+        with self.source.open('wb') as out:
+            for _ in range(self.size):
+                out.write(os.urandom(MIB))
+        self.digest = hashlib.sha256(self.source.read_bytes()).hexdigest()
+
+    def losing(self, loss: float) -> dict[str, str]:
+        return {**os.environ, 'RXLOSS': str(loss), 'LD_PRELOAD': str(self.library)} if loss else dict(os.environ)
+
+
+def profile_of(bench: Bench, name: str, receivers: int) -> str:
+    """The profile's text, with the keys that were asked for in place of its own."""
+    keys = {'receivers': str(receivers), **bench.keys}
+    kept = [it for it in (PROFILES / f'{name}.toml').read_text().splitlines() if it.split(' = ')[0] not in keys]
+    return '\n'.join(kept + [f'{key} = {value}' for key, value in keys.items()]) + '\n'
+
+
+def memory_of(process: subprocess.Popen) -> int:
+    """The most octets of memory that a process had since it began its program."""
+    status = Path(f'/proc/{process.pid}/status').read_text()
+    return 1024 * int(next(line.split()[1] for line in status.splitlines() if line.startswith('VmHWM')))
+
+
+def ended(processes: dict[object, subprocess.Popen]) -> dict[object, tuple[float, int]]:
+    """Ends the processes, and returns the seconds of a processor and the octets of memory that each took."""
+    memory = {name: memory_of(process) for name, process in processes.items()}
+    for process in processes.values():
+        process.terminate()
+    used = {name: os.wait4(process.pid, 0)[2] for name, process in processes.items()}
+    return {name: (it.ru_utime + it.ru_stime, memory[name]) for name, it in used.items()}
+
+
+def normd(bench: Bench, receivers: int, loss: float) -> float | None:
+    """One transfer. Returns MB/s of the slowest receiver, or None where a copy is not the file."""
+    room = Path(tempfile.mkdtemp(prefix='normd-', dir=bench.room))
+    nodes = range(SENDER + 1, SENDER + 1 + receivers)
+    for name in ('hub', 'sender', *nodes):
+        (room / str(name)).mkdir()
+        (room / str(name) / 'profile.toml').write_text(profile_of(bench, ROWS[receivers, 5 if loss else 0], receivers))
+    octets = bench.source.read_bytes()
+    script = ''
+    for at in range(bench.size):
+        (room / 'sender' / f'p{at}').write_bytes(octets[at * MIB:(at + 1) * MIB])
+        script += f'1 file p{at}\n' + ('1 mark\n' if (at + 1) % FROM_WATERMARK == 0 or at + 1 == bench.size else '')
+    running = {}
+
+    def start(name: object, words: list[str], **how) -> subprocess.Popen:
+        with open(room / f'{name}.log', 'wb') as log:
+            running[name] = subprocess.Popen([bench.program, *words], cwd=room / str(name), stderr=log, **{'stdin': subprocess.DEVNULL, 'stdout': subprocess.DEVNULL, **how})
+        return running[name]
+
+    start('hub', ['hub', 'profile.toml'])
+    for node in nodes:
+        start(node, ['recv', 'profile.toml', str(node)], env=bench.losing(loss))
+    time.sleep(0.5)
+    (room / 'script').write_text(script)
+    began = time.time()
+    with (room / 'script').open() as source:
+        sender = start('sender', ['send', 'profile.toml'], stdin=source)
+    try:
+        sender.wait(timeout=bench.limit)
+    except subprocess.TimeoutExpired:
+        pass
+    used = ended({name: it for name, it in running.items() if name != 'sender'})
+    if sender.poll() is None:
+        sender.kill()
+        sender.wait()
+    bench.memory += [used[node][1] for node in nodes]
+    last, same = 0.0, 0
+    for node in nodes:
+        digest = hashlib.sha256()
+        for at in range(bench.size):
+            piece = room / str(node) / f'n{node}-i{INSTANCE}-x{at}'
+            if piece.exists():
+                last = max(last, piece.stat().st_mtime)
+                digest.update(piece.read_bytes())
+        same += digest.hexdigest() == bench.digest
+    if same < receivers or sender.returncode:
+        for name in running:
+            said = (room / f'{name}.log').read_text(errors='replace').strip()
+            print(f'  node {name}: {said[-300:]}' if said else f'  node {name} said nothing', file=sys.stderr)
+    shutil.rmtree(room)
+    return bench.size * MIB / (last - began) / 1e6 if same == receivers else None
+
+
+def sh(line: str, check: bool = True) -> None:
+    subprocess.run(line, shell=True, check=check, stdout=subprocess.DEVNULL, stderr=subprocess.DEVNULL)
+
+
+class Spaces:
+    """A network namespace for each member, joined by a bridge in one more."""
+
+    def __init__(self, members: int):
+        self.mark, self.members = f'bench{os.getpid()}', members
+
+    def name(self, at: object) -> str:
+        return f'{self.mark}n{at}'
+
+    def __enter__(self) -> Spaces:
+        for at in ('b', *range(self.members)):
+            sh(f'ip netns add {self.name(at)}; ip -n {self.name(at)} link set lo up')
+        bridge = self.name('b')
+        sh(f'ip -n {bridge} link add br0 type bridge mcast_snooping 0; ip -n {bridge} link set br0 up')
+        for at in range(self.members):
+            own = self.name(at)
+            sh(f'ip -n {bridge} link add v{at} type veth peer name v0 netns {own}; ip -n {bridge} link set v{at} master br0 up')
+            sh(f'ip -n {own} addr add 10.9.0.{at + 1}/24 broadcast 10.9.0.255 dev v0; ip -n {own} link set v0 up; ip -n {own} route add 224.0.0.0/4 dev v0')
+        time.sleep(0.6)
+        return self
+
+    def __exit__(self, *_) -> None:
+        for at in ('b', *range(self.members)):
+            sh(f'ip netns del {self.name(at)}', False)
+
+
+def uftp(bench: Bench, receivers: int, loss: float, rate: str) -> float | None:
+    """One transfer by uftp at this rate in kilobits a second, -1 for as fast as it goes."""
+    room, running = Path(tempfile.mkdtemp(prefix='uftp-', dir=bench.room)), {}
+    numbers = {at: f'0x{0x100 + at:08x}' for at in range(1, receivers + 1)}
+    with Spaces(receivers + 1) as spaces:
+        for at, number in numbers.items():
+            (room / str(at)).mkdir()
+            words = ['ip', 'netns', 'exec', spaces.name(at), 'uftpd', '-d', '-I', 'v0', '-U', number, '-D', str(room / str(at)), '-B', '4194304']
+            running[at] = subprocess.Popen(words, stdin=subprocess.DEVNULL, stdout=subprocess.DEVNULL, stderr=subprocess.DEVNULL, env=bench.losing(loss))
+        time.sleep(0.7)
+        words = ['ip', 'netns', 'exec', spaces.name(0), 'uftp', '-I', 'v0', '-R', rate, '-b', '1400', '-B', '4194304', '-t', '1', '-r', '0.05:0.01:1',
+                 '-H', ','.join(numbers.values()), str(bench.source)]
+        try:
+            said = subprocess.run(words, stdin=subprocess.DEVNULL, stdout=subprocess.PIPE, stderr=subprocess.STDOUT, text=True, timeout=bench.limit).stdout
+        except subprocess.TimeoutExpired:
+            said = ''
+        time.sleep(0.3)
+        for process in running.values():
+            process.kill()
+            process.wait()
+    copies = [room / str(at) / bench.source.name for at in numbers]
+    same = sum(it.exists() and hashlib.sha256(it.read_bytes()).hexdigest() == bench.digest for it in copies)
+    shutil.rmtree(room)
+    told = [it for it in said.splitlines() if 'elapsed' in it.lower()]
+    return bench.size * MIB / float(told[-1].split(':')[-1].split()[0]) / 1e6 if told and same == receivers else None
+
+
+def best_rate(bench: Bench, receivers: int, loss: float) -> str:
+    return max(RATES, key=lambda rate: uftp(bench, receivers, loss, rate) or 0)
+
+
+def said_of(figures: list[float | None]) -> str:
+    whole = [it for it in figures if it is not None]
+    failed = f', {len(figures) - len(whole)} failed' if len(whole) < len(figures) else ''
+    return f'{statistics.median(whole):.1f} ({min(whole):.1f} to {max(whole):.1f}{failed})' if whole else 'none came through'
+
+
+def row(bench: Bench, receivers: int, loss: float, with_uftp: bool) -> None:
+    rate = best_rate(bench, receivers, loss) if with_uftp else None
+    ours, theirs = [], []
+    for _ in range(bench.runs):
+        ours.append(normd(bench, receivers, loss))
+        if rate:
+            theirs.append(uftp(bench, receivers, loss, rate))
+    line = f'{receivers} receivers, {loss:g} % lost: normd {said_of(ours)}'
+    if rate:
+        whole = [[it for it in part if it is not None] for part in (ours, theirs)]
+        share = statistics.median(whole[0]) / statistics.median(whole[1]) if all(whole) else 0
+        line += f'; uftp at {rate} {said_of(theirs)}; {share:.2f} times, wanted {WANTED[receivers, loss]}'
+    print(line, flush=True)
+
+
+def idle(bench: Bench, seconds: int = 10) -> None:
+    """Which part of a processor the hub and a receiver take where nothing is sent."""
+    room, running = Path(tempfile.mkdtemp(prefix='idle-', dir=bench.room)), {}
+    (room / 'profile.toml').write_text(profile_of(bench, 'loopback', 1))
+    for name, words in {'hub': ['hub', 'profile.toml'], 'receiver': ['recv', 'profile.toml', '2']}.items():
+        running[name] = subprocess.Popen([bench.program, *words], cwd=room, stdin=subprocess.DEVNULL, stdout=subprocess.DEVNULL, stderr=subprocess.DEVNULL)
+    time.sleep(seconds)
+    for name, (took, memory) in ended(running).items():
+        print(f'idle {name}: {100 * took / seconds:.2f} in 100 of a processor, {memory / MIB:.1f} MiB', flush=True)
+
+
+def main() -> int:
+    parser = argparse.ArgumentParser(description=__doc__, formatter_class=argparse.RawDescriptionHelpFormatter)
+    parser.add_argument('--program', default=str(HERE.parent.parent / 'crates/normd/out/normd'))
+    parser.add_argument('--size', type=int, default=64)
+    parser.add_argument('--runs', type=int, default=5)
+    parser.add_argument('--limit', type=float, default=120)
+    parser.add_argument('--only', nargs='*', default=[])
+    parser.add_argument('--set', nargs='*', default=[])
+    parser.add_argument('--no-uftp', action='store_true')
+    given = parser.parse_args()
+    rows = [tuple(int(part) for part in it.split(':')) for it in given.only] or list(ROWS)
+    bench = Bench(given.program, given.size, given.runs, given.limit, dict(it.split('=', 1) for it in given.set), Path(tempfile.mkdtemp(prefix='bench-', dir='/dev/shm')))
+    try:
+        bench.prepare()
+        for receivers, loss in rows:
+            row(bench, receivers, loss, not given.no_uftp and shutil.which('uftp') is not None)
+        most = max(bench.memory, default=0)
+        print(f'the greatest memory of a receiver: {most / MIB:.0f} MiB, {(most - 32 * MIB) / (bench.size * MIB):.2f} times the octets and 32 MiB')
+        idle(bench)
+    finally:
+        shutil.rmtree(bench.room, ignore_errors=True)
+    return 0
+
+
+if __name__ == '__main__':
+    sys.exit(main())

@@ -1,0 +1,126 @@
+"""What the tools that run nodes have in common: the profile of a session, where its members are, the program, and the manifest of what is sent."""
+from __future__ import annotations
+
+import hashlib
+import json
+import os
+import re
+import shutil
+import tomllib
+from dataclasses import asdict, dataclass
+from pathlib import Path, PurePosixPath
+
+import norm_keys
+import norm_wire as wire
+from norm_wire import ToolFault
+
+LOOPBACK, MOST_PROFILE = '127.0.0.1', 65_536
+MANIFEST, PIECE = 'manifest', re.compile(r'p(\d{1,6})')
+NOT_ALL = 4  # the status where not everyone has everything
+
+
+@dataclass(frozen=True)
+class Session:
+    """The keys of a profile that the tools go by, with their defaults."""
+    port: int
+    sender: int
+    receivers: int
+    octets: int
+    window: int
+    grtt: int
+    mode: str
+
+    def nodes(self) -> list[int]:
+        """All members: the sender, then the receivers."""
+        return [self.sender + at for at in range(self.receivers + 1)]
+
+    def address(self, node: int) -> tuple[str, int]:
+        """Where a member is: the hub has the first port, and the members have those behind it."""
+        return LOOPBACK, self.port + 1 + self.nodes().index(node)
+
+
+def session_of(path: str) -> Session:
+    """The session of a profile, as far as a tool reads it: the program itself refuses a profile that is none."""
+    octets = wire.read_file(path)
+    if len(octets) > MOST_PROFILE:
+        raise ToolFault(f'{path} has {len(octets)} octets, and a profile has at most {MOST_PROFILE}.')
+    try:
+        given = tomllib.loads(wire.text_of(path, octets))
+    except tomllib.TOMLDecodeError as error:
+        raise ToolFault(f'{path} is no TOML document: {error}.') from None
+    words = {key.name: key.words for key in norm_keys.keys()}
+    for name, value in given.items():
+        if name not in words:
+            raise ToolFault(f'{path}: {name} is no key.')
+        if words[name] and value not in words[name] or not words[name] and type(value) is not int:
+            raise ToolFault(f'{path}: {name} has a value of another kind.')
+    numbers = {name: words[name].index(value) if words[name] else value for name, value in given.items()}
+    if why := norm_keys.fault_of(numbers):
+        raise ToolFault(f'{path}: {why}.')
+    if given.get('fabric') != 'udp':
+        raise ToolFault(f'{path}: the nodes meet over sockets, so it has to say fabric = "udp".')
+    whole = {**norm_keys.defaults(), **numbers}
+    mode = words['mode'][whole['mode']]
+    return Session(mode=mode, **{name: whole[name] for name in ('port', 'sender', 'receivers', 'octets', 'window', 'grtt')})
+
+
+def program_of(given: str | None) -> str:
+    """The proved program: the one that was asked for, this checkout's, or the one on the PATH."""
+    built = os.path.join(norm_keys.ROOT, 'crates', 'normd', 'out', 'normd')
+    found = given or (built if os.access(built, os.X_OK) else shutil.which('normd'))
+    if not found or not os.access(found, os.X_OK):
+        raise ToolFault("the proved program is not there: './build' proves and builds it.", wire.FAILED)
+    return os.path.abspath(found)
+
+
+@dataclass(frozen=True)
+class Entry:
+    """A file of a manifest: where it goes below the folder, its octets, and their digest."""
+    path: str
+    octets: int
+    sha256: str
+
+    def fault(self) -> str | None:
+        """Why this is no file that a receiver may write, or None."""
+        parts = PurePosixPath(self.path).parts
+        if not parts or self.path.startswith('/') or '..' in parts or '\0' in self.path or parts[0].startswith('.normd-'):
+            return f'{self.path!r} is no path below a folder'
+        if self.octets < 0 or not re.fullmatch('[0-9a-f]{64}', self.sha256):
+            return f'{self.path!r} has no length or no digest'
+        return None
+
+
+@dataclass(frozen=True)
+class Manifest:
+    """What is sent: the files one after the other, cut into pieces of one length, the last of which may be shorter."""
+    piece: int
+    files: tuple[Entry, ...]
+
+    def octets(self) -> int:
+        return sum(it.octets for it in self.files)
+
+    def pieces(self) -> int:
+        return -(-self.octets() // self.piece)
+
+    def text(self) -> bytes:
+        return json.dumps({'piece': self.piece, 'files': [asdict(it) for it in self.files]}, indent=0).encode()
+
+
+def manifest_of(octets: bytes) -> Manifest:
+    """The manifest that these octets are, or the fault that says why they are none."""
+    try:
+        said = json.loads(octets)
+        found = Manifest(int(said['piece']), tuple(Entry(str(it['path']), int(it['octets']), str(it['sha256'])) for it in said['files']))
+    except (ValueError, KeyError, TypeError) as error:
+        raise ToolFault(f'the manifest is none: {error!r}.') from None
+    faults = [why for it in found.files if (why := it.fault())]
+    if found.piece < 1 or len({it.path for it in found.files}) < len(found.files):
+        faults.append('it has no length of pieces, or a path twice')
+    if faults:
+        raise ToolFault(f'the manifest is refused: {faults[0]}.')
+    return found
+
+
+def digest_of(path: Path) -> str:
+    with path.open('rb') as file:
+        return hashlib.file_digest(file, 'sha256').hexdigest()
