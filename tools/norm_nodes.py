@@ -73,6 +73,11 @@ def program_of(given: str | None) -> str:
     return os.path.abspath(found)
 
 
+def quiet() -> dict[str, str]:
+    """The environment of a node whose progress a tool shows."""
+    return {**os.environ, 'NORMD_PROGRESS': '0'}
+
+
 @dataclass(frozen=True)
 class Entry:
     """A file of a manifest: where it goes below the folder, its octets, and their digest."""

@@ -13,11 +13,17 @@ fn has_value(rt: &impl Env, name: &str, value: &[u8]) -> bool {
     }
 }
 
-/// What is to be said: progress where standard error is a terminal or the environment has `NORMD_PROGRESS=1`, and each datagram where it has
-/// `NORMD_LOG=trace`.
+/// What is to be said: progress where standard error is a terminal and the environment has no `NORMD_PROGRESS=0`, or where it has
+/// `NORMD_PROGRESS=1`; and each datagram where it has `NORMD_LOG=trace`.
 pub fn asked_in(rt: &HostRuntime) -> Says {
+    let is_seen = rt.stderr().is_terminal();
     Says {
-        progress: rt.stderr().is_terminal() || has_value(rt, "NORMD_PROGRESS", b"1"),
+        progress: if is_seen {
+            !has_value(rt, "NORMD_PROGRESS", b"0")
+        } else {
+            has_value(rt, "NORMD_PROGRESS", b"1")
+        },
         trace: has_value(rt, "NORMD_LOG", b"trace"),
+        beside: is_seen && rt.stdout().is_terminal(),
     }
 }

@@ -3,7 +3,7 @@
 ghost use Rattle.std.specs.Prelude.{◌≡◌};
 ghost use Rattle.norm_watch.specs.Watched.{watched_by};
 
-use crate::saying::{Hex, Progress, Says};
+use crate::saying::{Hex, Says, draw, wipe};
 use crate::tally::Tally;
 use norm_base::{Datagram, Fabric, FabricFault, FabricKind, Local, NodeId, Profile};
 use std::time::{Clock, Duration};
@@ -98,6 +98,7 @@ impl<'a, R: Eprint + Clock, F: Fabric> WatchedFabric<'a, R, F> {
         self.is_silent = false;
         if self.port.is_some() && !matches!(local, Local::Hub) && profile.step != 0 {
             let step = profile.step;
+            wipe(&self.rt, self.tally);
             let _ = eprintln!(self.rt;
                 "the profile's step is {step}: over sockets it is to be 0, so that the clock gives the moments"
             );
@@ -109,6 +110,7 @@ impl<'a, R: Eprint + Clock, F: Fabric> WatchedFabric<'a, R, F> {
         if self.says.trace {
             let node = node.number();
             let datagram = Hex { octets };
+            wipe(&self.rt, self.tally);
             let _ = eprintln!(self.rt; "{what} {node} {datagram}");
         }
         if is_repair(octets) {
@@ -122,8 +124,7 @@ impl<'a, R: Eprint + Clock, F: Fabric> WatchedFabric<'a, R, F> {
     {
         if self.says.progress && now.saturating_sub(self.drawn) >= Duration::from_secs(PAUSE) {
             self.drawn = now;
-            let progress = Progress { tally: self.tally };
-            let _ = eprint!(self.rt; "{progress}");
+            draw(&self.rt, self.tally);
         }
     }
 
@@ -142,6 +143,7 @@ impl<'a, R: Eprint + Clock, F: Fabric> WatchedFabric<'a, R, F> {
             && now.saturating_sub(self.heard) >= Duration::from_secs(SILENCE)
         {
             self.is_silent = true;
+            wipe(&self.rt, self.tally);
             let _ = eprintln!(self.rt; "nothing came to 127.0.0.1:{port} for ten seconds");
         }
         self.draw(now);

@@ -12,6 +12,6 @@ mod tally;
 
 pub use crate::asked::asked_in;
 pub use crate::fabric::WatchedFabric;
-pub use crate::saying::Says;
+pub use crate::saying::{Says, end_progress};
 pub use crate::sink::WatchedSink;
 pub use crate::tally::Tally;

@@ -10,14 +10,12 @@ pub struct Says {
     pub progress: bool,
     /// Each datagram that is offered or taken.
     pub trace: bool,
+    /// Lines of output go to a terminal too, where the line of progress is wiped before each.
+    pub beside: bool,
 }
 
-impl Says {
-    /// Where lines are counted, if progress is said.
-    pub fn counted<'a>(&self, tally: &'a Tally) -> Option<&'a Tally> {
-        if self.progress { Some(tally) } else { None }
-    }
-}
+/// Goes to the line's beginning, and wipes what stands there (ECMA-48, EL).
+const BEGIN: &str = "\r\u{1b}[K";
 
 /// How far a node is, on one line that is drawn over the one before.
 #[derive(Drop)]
@@ -33,8 +31,31 @@ impl fmt::Display for Progress<'_> {
         let past = self.tally.past.get();
         write!(
             f,
-            "\r{octets} octets, {objects} objects, {repairs} repairs, {past} receivers past the oldest watermark"
+            "{BEGIN}{octets} octets, {objects} objects, {repairs} repairs, {past} receivers past the oldest watermark"
         )
+    }
+}
+
+/// Draws the line of progress over what stands there.
+pub(crate) fn draw<R: Eprint>(rt: &R, tally: &Tally) {
+    let progress = Progress { tally };
+    let _ = eprint!(rt; "{progress}");
+    tally.is_drawn.set(true);
+}
+
+/// Wipes the line of progress, where one stands, so that something else comes in its place.
+pub(crate) fn wipe<R: Eprint>(rt: &R, tally: &Tally) {
+    if tally.is_drawn.get() {
+        let _ = eprint!(rt; "{BEGIN}");
+        tally.is_drawn.set(false);
+    }
+}
+
+/// Ends the line of progress, where one stands: the node is done.
+pub fn end_progress<R: Eprint>(rt: &R, tally: &Tally) {
+    if tally.is_drawn.get() {
+        let _ = eprintln!(rt;);
+        tally.is_drawn.set(false);
     }
 }
 

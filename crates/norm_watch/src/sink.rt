@@ -4,6 +4,7 @@ ghost use Rattle.std.specs.Prelude.{◌≡◌};
 ghost use Rattle.norm_watch.specs.Watched.{watched_in};
 
 use crate::listing::Listing;
+use crate::saying::{Says, wipe};
 use crate::tally::Tally;
 use norm_base::{Failed, Sink};
 
@@ -15,10 +16,12 @@ const MOST_OCTETS: usize = 128;
 
 /// A sink, each line of which is counted once it was written.
 #[derive(Drop)]
-pub struct WatchedSink<'a, K> {
+pub struct WatchedSink<'a, R, K> {
+    rt: R,
     sink: K,
     listing: Listing,
-    tally: Option<&'a Tally>,
+    says: Says,
+    tally: &'a Tally,
 }
 
 /// The number that a word is, as far as it is one.
@@ -51,14 +54,16 @@ fn is_object(word: &[u8]) -> bool {
     word == b"data".as_slice() || word == b"file".as_slice()
 }
 
-impl<'a, K: Sink> WatchedSink<'a, K> {
-    /// A sink around this one, which counts there, if it is to count.
-    pub fn of(sink: K, tally: Option<&'a Tally>) -> WatchedSink<'a, K>
+impl<'a, R: Eprint, K: Sink> WatchedSink<'a, R, K> {
+    /// A sink around this one, which counts there, where progress is said.
+    pub fn of(rt: R, sink: K, says: Says, tally: &'a Tally) -> WatchedSink<'a, R, K>
         ensures { watched_in result ≡ sink }
     {
         WatchedSink {
+            rt,
             sink,
             listing: Listing::new(),
+            says,
             tally,
         }
     }
@@ -99,15 +104,18 @@ fn count(tally: &Tally, listing: &mut Listing, line: &[u8]) {
     tally.past.set(listing.count());
 }
 
-impl<K: Sink> Sink for WatchedSink<'_, K> {
+impl<R: Eprint, K: Sink> Sink for WatchedSink<'_, R, K> {
     ghost pieces = { λ s. K.pieces (watched_in s) };
 
     ghost fault_count = { λ s. K.fault_count (watched_in s) };
 
     fn write(&mut self, bytes: &[u8]) -> Result<(), Failed> {
+        if self.says.beside {
+            wipe(&self.rt, self.tally);
+        }
         self.sink.write(bytes)?;
-        if let Some(tally) = self.tally {
-            count(tally, &mut self.listing, bytes);
+        if self.says.progress {
+            count(self.tally, &mut self.listing, bytes);
         }
         Ok(())
     }

@@ -4,7 +4,7 @@
 use norm_base::Memory;
 use norm_host::{FolderFiles, HostClock, HostFabric, StdSink, StdSource};
 use norm_program::{WordsFault, arguments, needed, path_asked, run, say_cause};
-use norm_watch::{Tally, WatchedFabric, WatchedSink, asked_in};
+use norm_watch::{Tally, WatchedFabric, WatchedSink, asked_in, end_progress};
 use std::alloc::Global;
 use std::io;
 use std::process::ExitCode;
@@ -42,7 +42,7 @@ fn main(rt: HostRuntime) -> ExitCode {
         return code;
     }
     let mut input = StdSource::of(rt.reader());
-    let mut output = WatchedSink::of(StdSink::of(io::writer(&rt)), says.counted(&tally));
+    let mut output = WatchedSink::of(rt, StdSink::of(io::writer(&rt)), says, &tally);
     let mut clock = HostClock::of(rt);
     let code = run(
         &rt,
@@ -54,6 +54,7 @@ fn main(rt: HostRuntime) -> ExitCode {
         &mut files,
         &mut clock,
     );
+    end_progress(&rt, &tally);
     say_cause(&rt, input.cause());
     say_cause(&rt, output.watched().cause());
     say_cause(&rt, fabric.watched().cause());
