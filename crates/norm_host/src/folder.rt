@@ -124,10 +124,33 @@ impl Ahead {
     }
 }
 
+/// How often in a row a file's length is answered as the system said it: while a file's command waits, its length is asked for in each turn.
+const AS_SAID: u32 = 64;
+
+/// A file's length as the system said it, and how often it may be answered once more.
+#[derive(Drop)]
+struct Said {
+    name: String,
+    length: u64,
+    left: u32,
+}
+
+impl Said {
+    /// The length once more, if it is this file's and was not answered too often.
+    fn again(&mut self, name: &str) -> Option<u64> {
+        if self.left == 0 || self.name.as_bytes() != name.as_bytes() {
+            return None;
+        }
+        self.left -= 1;
+        Some(self.length)
+    }
+}
+
 /// The files of one folder, and one path that is read as it stands, where it was told one. Any other name that is none of a file there, also
 /// one with a slash or that begins with a `.`, is absent, and put nowhere. A file that is put is written beside its name and renamed, so that
 /// nobody sees a part of it. A read of 0 octets, and want of memory, are faults. It tells nothing of what the files hold. A read keeps up to
-/// 65,536 octets of the file for the reads behind it, until a length is asked for or a file is put.
+/// 65,536 octets of the file for the reads behind it, until a length is asked for or a file is put. A length that is asked for again and again, with
+/// no other call between, is asked of the system once in 65 times.
 #[derive(Drop)]
 pub struct FolderFiles<F> {
     files: F,
@@ -135,6 +158,7 @@ pub struct FolderFiles<F> {
     folder: String,
     told: Option<String>,
     ahead: Option<Ahead>,
+    said: Option<Said>,
     faults: u64,
     cause: Option<Cause>,
 }
@@ -151,6 +175,7 @@ impl<F: fs::Files + Drop> FolderFiles<F> {
             folder: String::from_str(alloc, folder)?,
             told: None,
             ahead: None,
+            said: None,
             faults: 0,
             cause: None,
         })
@@ -218,6 +243,30 @@ impl<F: fs::Files + Drop> FolderFiles<F> {
         self.plain_length(path.as_str())
     }
 
+    /// A file's length as the system said it, if that may be answered once more.
+    fn said_again(&mut self, name: &str) -> Option<u64>
+        ensures { self.new.faults ≡ self.old.faults }
+    {
+        match &mut self.said {
+            Some(said) => said.again(name),
+            None => None,
+        }
+    }
+
+    /// Keeps what the system said of a file's length; nothing, where there is no memory for it.
+    fn keep_said(&mut self, name: &str, length: u64)
+        ensures { self.new.faults ≡ self.old.faults }
+    {
+        self.said = match String::from_str(self.alloc, name) {
+            Ok(name) => Some(Said {
+                name,
+                length,
+                left: AS_SAID,
+            }),
+            Err(_) => None,
+        };
+    }
+
     /// Reads octets of a file ahead, from an offset on.
     fn ahead_of(&self, name: &str, offset: u64) -> io::Result<Ahead> {
         let path = self.path_read(name)?;
@@ -254,6 +303,7 @@ impl<F: fs::Files + Drop> FolderFiles<F> {
             return Ok(n);
         }
         self.ahead = None;
+        self.said = None;
         self.ahead = Some(self.ahead_of(name, offset)?);
         match self.give_ahead(name, offset, buf) {
             Some(n) => Ok(n),
@@ -326,8 +376,14 @@ impl<F: fs::Files + Drop> Files for FolderFiles<F> {
 
     fn length(&mut self, name: &str) -> Result<u64, FileFault> {
         self.ahead = None;
-        let done = self.length_of(name);
-        self.answer(name, done)
+        if let Some(length) = self.said_again(name) {
+            return Ok(length);
+        }
+        self.said = None;
+        let length = self.length_of(name);
+        let length = self.answer(name, length)?;
+        self.keep_said(name, length);
+        Ok(length)
     }
 
     fn read_at(&mut self, name: &str, offset: u64, buf: &mut [u8]) -> Result<usize, FileFault> {
@@ -337,6 +393,7 @@ impl<F: fs::Files + Drop> Files for FolderFiles<F> {
 
     fn put(&mut self, name: &str, bytes: &[u8]) -> Result<(), Failed> {
         self.ahead = None;
+        self.said = None;
         if let Err(error) = self.write_of(name, bytes) {
             self.keep(name, error);
             return Err(Failed);

@@ -85,7 +85,7 @@ impl<R: Net + Clock + Drop> UdpFabric<R> {
         }
     }
 
-    /// Notes that a datagram was offered; a sender notes the moment too.
+    /// Notes that a datagram is offered; a sender notes the moment too, from which its gap goes.
     fn note_offer(&mut self)
         ensures { self.new.faults ≡ self.old.faults }
     {
@@ -115,11 +115,11 @@ impl<R: Net + Clock + Drop> UdpFabric<R> {
         ensures faults { self.new.faults ≡ self.old.faults }
     {
         for _ in 0..MOST_LOOKS {
-            if let Some(node) = self.look(into)? {
-                return Ok(Some(node));
-            }
             if self.now() >= until {
                 return Ok(None);
+            }
+            if let Some(node) = self.look(into)? {
+                return Ok(Some(node));
             }
         }
         Ok(None)
@@ -186,11 +186,11 @@ impl<R: Net + Clock + Drop> Fabric for UdpFabric<R> {
     }
 
     fn offer(&mut self, from: NodeId, bytes: &[u8]) -> Result<(), FabricFault> {
+        self.note_offer();
         if let Err(cause) = self.open.send(from, bytes) {
             self.keep(cause);
             return Err(FabricFault::Failed);
         }
-        self.note_offer();
         Ok(())
     }
 
