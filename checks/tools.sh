@@ -57,6 +57,13 @@ else
     missing 'the manual pages' 'neither mandoc nor groff is there'
 fi
 
+# Files and folders over sockets, by the tools that run nodes.
+if [ -x "$program" ]; then
+    python3 checks/tools/transfer.py || exit 1
+else
+    missing 'a transfer' "$program is not there"
+fi
+
 # Installing: what is put there is what the program is, and nothing is left when it is taken away.
 if there make && [ -x "$program" ]; then
     make -s install PREFIX="$scratch/installed" || wrong 'make install failed'

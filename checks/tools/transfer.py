@@ -1,0 +1,198 @@
+#!/usr/bin/env python3
+"""tools/send, tools/receive and tools/bridge with the built program: a folder goes to two receivers over sockets of this machine, and where
+network namespaces can be made, to receivers on other machines, behind bridges; and what is refused.
+
+transfer.py [--program NORMD] [--port PORT] [--machines N] [--gap MICROSECONDS]
+
+The bridges are programs in Python, so with many machines on one --gap wants to be larger (400 for sixteen). What a receiver's folder has to hold is what was put into the sender's. Says which part did not run, and why."""
+from __future__ import annotations
+
+import argparse
+import os
+import random
+import shutil
+import subprocess
+import sys
+import tempfile
+import time
+from pathlib import Path
+
+sys.dont_write_bytecode = True
+ROOT = Path(__file__).resolve().parents[2]
+TOOLS = ROOT / 'tools'
+SECONDS, TAKEN = 60, 3
+
+
+class Unmet(Exception):
+    """What does not hold."""
+
+
+def holds(is_so: bool, what: str) -> None:
+    if not is_so:
+        raise Unmet(what)
+
+
+class Nodes:
+    """A profile, and the processes under it, which are ended with the block."""
+
+    def __init__(self, program: str, port: int, receivers: int, room: Path, gap: int = 60):
+        self.program, self.room, self.running = program, room, []
+        self.profile = room / 'profile.toml'
+        self.profile.write_text(f'fabric = "udp"\nport = {port}\nreceivers = {receivers}\nstep = 0\nturns = 4000000\ne = 1400\nb = 100\nmax_n = 255\n'
+                                f'gap = {gap}\ngrtt = 20000\nk = 1\noctets = 1000000\n')
+
+    def __enter__(self) -> Nodes:
+        return self
+
+    def start(self, *words: object) -> subprocess.Popen:
+        self.running.append(subprocess.Popen([str(it) for it in words], stdout=subprocess.PIPE, stderr=subprocess.STDOUT, text=True))
+        return self.running[-1]
+
+    def tool(self, name: str, *words: object, before: tuple = ()) -> subprocess.Popen:
+        given = () if name == 'bridge' else ('--program', self.program)
+        return self.start(*before, sys.executable, TOOLS / name, *words, *given)
+
+    def __exit__(self, *_) -> None:
+        for it in self.running:
+            it.terminate()
+        for it in self.running:
+            it.wait()
+
+
+def ended(process: subprocess.Popen, status: int, what: str) -> str:
+    """What it said, once it ended with this status."""
+    try:
+        said, _ = process.communicate(timeout=SECONDS)
+    except subprocess.TimeoutExpired:
+        raise Unmet(f'{what} did not end in {SECONDS} seconds') from None
+    holds(process.returncode == status, f'{what} ended with status {process.returncode}, not {status}: {said.strip()}')
+    return said
+
+
+def made(folder: Path) -> dict[str, bytes]:
+    """A folder with files of several lengths, one in a folder of its own and an empty one."""
+    draws = random.Random(7)
+    files = {'a': b'one', 'letters/b': draws.randbytes(700_000), 'letters/empty': b'', 'c d': draws.randbytes(1_500_001)}
+    for name, octets in files.items():
+        (folder / name).parent.mkdir(parents=True, exist_ok=True)
+        (folder / name).write_bytes(octets)
+    return files
+
+
+def there(folder: Path) -> dict[str, bytes]:
+    return {it.relative_to(folder).as_posix(): it.read_bytes() for it in folder.rglob('*') if it.is_file()}
+
+
+def to_two(program: str, port: int, room: Path) -> str:
+    files = made(room / 'photos')
+    with Nodes(program, port, 2, room) as nodes:
+        nodes.start(program, 'hub', nodes.profile)
+        receivers = [nodes.tool('receive', nodes.profile, node, room / f'in{node}', '--linger', 5) for node in (2, 3)]
+        ended(nodes.tool('send', room / 'photos', nodes.profile), 0, 'send')
+        for node, receiver in zip((2, 3), receivers):
+            ended(receiver, 0, f'receive {node}')
+            holds(there(room / f'in{node}') == files, f'the folder of {node} has what was sent')
+    return 'a folder of four files to two receivers'
+
+
+def refusals(program: str, port: int, room: Path) -> str:
+    made(room / 'photos')
+    (room / 'in2').mkdir()
+    (room / 'in2' / 'a').write_bytes(b'mine')
+    with Nodes(program, port, 1, room) as nodes:
+        nodes.start(program, 'hub', nodes.profile)
+        receiver = nodes.tool('receive', nodes.profile, 2, room / 'in2')
+        nodes.tool('send', room / 'photos', nodes.profile)
+        said = ended(receiver, TAKEN, 'receive of a file that is there')
+        holds(said.strip().endswith('is in ' + str(room / 'in2') + ' already.'), f'it says which file is there: {said}')
+        holds(there(room / 'in2') == {'a': b'mine'}, 'the file that was there is as it was')
+        ended(nodes.tool('receive', nodes.profile, 9, room / 'in9'), TAKEN, 'receive of no member')
+        holds(not (room / 'in9').exists(), 'nothing is made for no member')
+        ended(nodes.tool('send', room / 'nothing', nodes.profile), 1, 'send of a file that is not there')
+        ended(nodes.tool('bridge', 'hub', nodes.profile, 9, 'localhost'), TAKEN, 'a bridge of no member')
+        nodes.profile.write_text('fabric = "direct"\n')
+        ended(nodes.tool('send', room / 'photos', nodes.profile), TAKEN, 'send over no sockets')
+    return 'a file that is there, no member, no file, no sockets: refused'
+
+
+def ip(*words: str) -> bool:
+    return subprocess.run(['ip', *words], stdout=subprocess.DEVNULL, stderr=subprocess.DEVNULL).returncode == 0
+
+
+class Machines:
+    """Network namespaces that stand for other machines, each at the end of a virtual cable from this one."""
+
+    def __init__(self, number: int):
+        self.spaces = [f'normd-{os.getpid()}-{at}' for at in range(1, number + 1)]
+        self.cables = [f'nd{os.getpid() % 100000}-{at}' for at in range(1, number + 1)]
+
+    def here(self, at: int) -> str:
+        return f'10.203.{at + 1}.1'
+
+    def there(self, at: int) -> str:
+        return f'10.203.{at + 1}.2'
+
+    def make(self) -> bool:
+        """Whether all could be made."""
+        return all(
+            ip('netns', 'add', space) and ip('link', 'add', cable, 'type', 'veth', 'peer', 'name', 'cable', 'netns', space)
+            and ip('addr', 'add', f'{self.here(at)}/30', 'dev', cable) and ip('link', 'set', cable, 'up')
+            and ip('-n', space, 'link', 'set', 'lo', 'up') and ip('-n', space, 'addr', 'add', f'{self.there(at)}/30', 'dev', 'cable')
+            and ip('-n', space, 'link', 'set', 'cable', 'up') for at, (space, cable) in enumerate(zip(self.spaces, self.cables)))
+
+    def __enter__(self) -> Machines:
+        return self
+
+    def __exit__(self, *_) -> None:
+        for space, cable in zip(self.spaces, self.cables):
+            ip('link', 'del', cable)
+            ip('netns', 'del', space)
+
+
+def over_bridges(program: str, port: int, room: Path, number: int, gap: int) -> str | None:
+    """Each receiver is on another machine than the sender and the hub."""
+    if not shutil.which('ip') or os.geteuid() != 0:
+        return None
+    files, members = made(room / 'photos'), range(2, 2 + number)
+    with Machines(number) as machines:
+        if not machines.make():
+            return None
+        with Nodes(program, port, number, room, gap) as nodes:
+            nodes.start(program, 'hub', nodes.profile)
+            receivers = []
+            for at, node in enumerate(members):
+                inside = ('ip', 'netns', 'exec', machines.spaces[at])
+                nodes.tool('bridge', 'hub', nodes.profile, node, machines.there(at))
+                nodes.tool('bridge', 'member', nodes.profile, node, machines.here(at), before=inside)
+                receivers.append(nodes.tool('receive', nodes.profile, node, room / f'in{node}', '--linger', 5, before=inside))
+            time.sleep(1 + number / 4)  # what is sent before the bridges stand is lost, and costs a repair
+            began = time.monotonic()
+            ended(nodes.tool('send', room / 'photos', nodes.profile), 0, 'send over bridges')
+            took = time.monotonic() - began
+            for node, receiver in zip(members, receivers):
+                ended(receiver, 0, f'receive {node} behind a bridge')
+                holds(there(room / f'in{node}') == files, f'the folder of {node} behind a bridge has what was sent')
+    return f'the folder to {number} receivers on other machines, behind bridges, in {took:.1f} seconds'
+
+
+def main() -> int:
+    parser = argparse.ArgumentParser(description=__doc__, formatter_class=argparse.RawDescriptionHelpFormatter)
+    parser.add_argument('--program', default=str(ROOT / 'crates/normd/out/normd'))
+    parser.add_argument('--port', type=int, default=43000 + 20 * (os.getpid() % 100))
+    parser.add_argument('--machines', type=int, default=2)
+    parser.add_argument('--gap', type=int, default=60)
+    given = parser.parse_args()
+    failed = 0
+    for part, more in ((to_two, ()), (refusals, ()), (over_bridges, (given.machines, given.gap))):
+        with tempfile.TemporaryDirectory(prefix='transfer-') as room:
+            try:
+                said = part(given.program, given.port, Path(room), *more)
+                print(f'tools: transfer: {said}' if said else 'tools: bridges did not run: no network namespace can be made here')
+            except Unmet as unmet:
+                failed += 1
+                print(f'tools: transfer: {part.__name__} DOES NOT HOLD: {unmet}')
+    return 1 if failed else 0
+
+
+if __name__ == '__main__':
+    sys.exit(main())
