@@ -1,25 +1,27 @@
 -- Enqueuing, over what a sender keeps.
-use Rattle.std.proofs.Common.{◌≡◌, ◌∙◌, ℕ, suc, ◌+◌, ◌-◌, ◌≤◌, List, [], ◌∷◌, length, Some, None, Result, Ok, Bool, true, false, sym, ap, subst, arith}
+use Rattle.std.proofs.Common.{◌≡◌, ◌∙◌, ℕ, zero, suc, ◌+◌, ◌-◌, ◌≤◌, List, [], ◌∷◌, ◌++◌, length, Option, Some, None, Result, Ok, Err, Bool, true, false, refl, sym, ap, subst, arith}
 use Rattle.std.specs.Prelude.{replicate, not, ◌||◌, is_some}
 use Rattle.std.specs.List.{list_any}
-use Rattle.std.proofs.lemmas.List.{length-drop, length-replicate}
+use Rattle.std.proofs.lemmas.List.{length-drop, length-replicate, reverse-append}
 use Rattle.norm_base.specs.Settings.{Settings}
+use Rattle.norm_base.specs.declared.kinds.Kind.{Kind}
 use Rattle.norm_base.specs.declared.node.Origin.{Origin}
 use Rattle.fec_plan.specs.Partition.{cut_of}
 use Rattle.fec_plan.specs.Points.{Point, point}
-use Rattle.norm_order.specs.Entries.{Entry, Whole}
+use Rattle.norm_order.specs.Entries.{Entry, Part, Whole}
 use Rattle.norm_order.specs.Shapes.{shape_of}
 use Rattle.norm_send_rules.specs.SenderState.{SenderState}
 use Rattle.norm_send_rules.specs.InWindow.{stands_behind, next_index}
 use Rattle.norm_send_rules.specs.Dropping.{dropped_to}
-use Rattle.norm_send_rules.specs.Room.{window, has_room, has_to_go}
-use Rattle.norm_send_rules.specs.Enqueuing.{object_fault, with_entry, joined, enqueued}
+use Rattle.norm_send_rules.specs.Room.{window, has_room, has_to_go, drop_after}
+use Rattle.norm_send_rules.specs.Enqueuing.{object_fault, open_parts, with_entry, joined, enqueued}
 use Rattle.norm_send_rules.specs.declared.job.Receipt.{Receipt}
 use Rattle.norm_send_rules.specs.declared.job.Receipt.TheVariants.{Object}
 use Rattle.norm_send_rules.specs.declared.fault.EnqueueFault.{EnqueueFault}
 use Rattle.tx_window.specs.Taking.{room_made, filled_entry, with_piece}
-use Rattle.tx_window.specs.WindowState.{WindowState, Filling, Stands as WindowStands}
-use Rattle.tx_window.proofs.JoiningLemmas.{drop_is, stands_filling, enqueued_is}
+use Rattle.tx_window.specs.WindowMoves.{WindowMoves}
+use Rattle.tx_window.specs.WindowState.{WindowState, Stands, drop_of, open_of, Filling}
+use Rattle.norm_sender.specs.Unopened.{Stands as WindowStands}
 use Rattle.nack_union.specs.Kept.{Kept, Marked, admitted, with_object, retired, shape_of_marked}
 use Rattle.nack_union.specs.UnionState.{UnionState, Stands as UnionStands}
 use Rattle.nack_union.specs.UnionMoves.{UnionMoves}
@@ -31,6 +33,10 @@ use Rattle.norm_sender.specs.declared.pace.Pace.{Pace}
 use Rattle.norm_sender.proofs.SenderLemmas.{anyone}
 
 -- Where the window begins after room was made.
+
+drop_is : (drop : Point) (d n : ℕ) → drop ≡ point d 0 → drop_after drop n ≡ point (d + n) 0
+drop_is drop d zero is = is ∙ ap (λ i. point i 0) (let e : d ≡ d + 0 = omega arith in e)
+drop_is drop d (suc n) is = ap (λ (x : Point). point (x.index + suc n) 0) is
 
 -- no more objects go than there are
 goes_le : (p : Settings) (size : ℕ) (entries : List Entry) → has_to_go p size entries ≤ length entries
@@ -49,21 +55,19 @@ pub record IsWithin (u : Kept) (drop : Point) : Type 0 where
   pub whole : drop.block ≡ 0
 
 -- before an object is begun no more was dropped than afterwards, and all that is dropped then is in the union
-pub room_within : (k : SenderKept) (w : WindowState) (q : Settings) (len : ℕ) (s : SenderState) → Agrees k s → WindowStands w (room_made q len s)
-    → IsWithin k.union.kept w.drop
+pub room_within : (k : SenderKept) (w : WindowState) (q : Settings) (len : ℕ) (s : SenderState) → Agrees k s → Stands w (room_made q len s)
+    → IsWithin k.union.kept (drop_of w)
 room_within k w q len s h st =
     let n = has_to_go q len (window s) in
-    let d = k.window.drop.index in
-    let begins : s.current.drop ≡ point d 0 = h.window.dropped ∙ ap (point d) h.window.whole in
-    let is : w.drop ≡ point (d + n) 0 = sym st.dropped ∙ drop_is s.current.drop d n begins in
-    let first : k.union.kept.first ≡ d = h.union.holds.first ∙ ap (λ (x : Point). x.index) begins in
+    let d = s.current.drop.index in
+    let is : drop_of w ≡ point (d + n) 0 = sym st.dropped ∙ drop_is s.current.drop d n (ap (point d) h.union.holds.whole) in
+    let first : k.union.kept.first ≡ d = h.union.holds.first in
     let le : n ≤ length s.current.order - s.current.drop.index = omega (arith, goes_le q len (window s), length-drop s.current.drop.index s.current.order) in
     let at = ap (λ (x : Point). x.index) is in
-    let from = ap (λ (x : Point). x.index) begins in
     let next = h.union.holds.next in
     record {
       not_back = omega (arith, first, at);
-      within = omega (arith, first, at, le, from, next);
+      within = omega (arith, first, at, le, next);
       whole = ap (λ (x : Point). x.block) is;
     }
 
@@ -95,11 +99,11 @@ pub record Begins (old new : WindowState) (s : SenderState) (f : Filling) : Type
   pub free : (octets : List ℕ) → length octets ≡ f.len → object_fault old.p s f.info octets ≡ None
 
 pub begun_fills : (k : SenderKept) (s : SenderState) (f : Filling) (w : WindowState) (m : Marked) (u1 u2 : UnionState) (pace : Pace) → Agrees k s
-    → Begins k.window w s f → m ≡ admitted (cut_of f.len k.p.e k.p.b k.p.max_n) (is_some f.info) → TakesIn k m u1 u2 w.drop pace
+    → Begins k.window w s f → m ≡ admitted (cut_of f.len k.p.e k.p.b k.p.max_n) (is_some f.info) → TakesIn k m u1 u2 (drop_of w) pace
     → Fills (record k { window = w; union = u2; pace = pace }) s f
 begun_fills k s f w m u1 u2 pace h begins is takes =
     let st : WindowStands w (room_made k.p f.len s) = subst (λ (q : Settings). WindowStands w (room_made q f.len s)) h.window_profile begins.stands in
-    let in_union = room_within k w k.p f.len s h st in
+    let in_union = room_within k w k.p f.len s h st.stands in
     let shape : (by : Origin) (octets : List ℕ) → length octets ≡ f.len → shape_of k.union.p (Whole f.kind f.info octets) ≡ shape_of_marked m =
     λ by octets long. subst (λ (q : Settings). shape_of q (Whole f.kind f.info octets) ≡ shape_of_marked m) (sym h.union_profile) (shape_is k.p f octets m is long) in
     let one : UnionStands u1 (with_entry (entry_of anyone f (some_octets f.len)) s) =
@@ -110,46 +114,60 @@ begun_fills k s f w m u1 u2 pace h begins is takes =
       filling = begins.filling;
       window = st;
       union = record {
-        before = record (k.union) { kept = retired w.drop.index k.union.kept };
+        before = record (k.union) { kept = retired w.dropped k.union.kept };
         marked = m;
         is =
-            takes.retires ∙ ap (λ (u : UnionState). record u { kept = retired w.drop.index u.kept }) takes.admits
-            ∙ ap (λ (kept : Kept). record (k.union) { kept = kept }) (retired_with w.drop.index m k.union.kept in_union.within);
+            takes.retires ∙ ap (λ (u : UnionState). record u { kept = retired w.dropped u.kept }) takes.admits
+            ∙ ap (λ (kept : Kept). record (k.union) { kept = kept }) (retired_with w.dropped m k.union.kept in_union.within);
         stands =
-            subst (λ (d : Point). UnionStands (record (k.union) { kept = retired w.drop.index k.union.kept }) (dropped_to d s))
-            (ap (point w.drop.index) (sym in_union.whole) ∙ sym st.dropped)
-            (retired_stands k.union s w.drop.index in_union.not_back in_union.within h.union);
+            subst (λ (d : Point). UnionStands (record (k.union) { kept = retired w.dropped k.union.kept }) (dropped_to d s))
+            (ap (point w.dropped) (sym in_union.whole) ∙ sym st.stands.dropped)
+            (retired_stands k.union s w.dropped in_union.not_back in_union.within h.union);
         joins = λ by octets long.
-            subst (λ (d : Point). UnionStands u2 (dropped_to d (with_entry (entry_of by f octets) s))) (sym st.dropped)
+            subst (λ (d : Point). UnionStands u2 (dropped_to d (with_entry (entry_of by f octets) s))) (sym st.stands.dropped)
             (takes.drops (with_entry (entry_of by f octets) s) (takes.joins (entry_of by f octets) (shape by octets long) s h.union));
       };
       book = h.book;
       pace =
           takes.due (with_entry (entry_of anyone f (some_octets f.len)) s) one
-          ∙ ap (λ (q : Pace). record q { squelch_due = q.squelch_due || list_any (λ want. not (stands_behind w.drop want)) s.wants }) h.pace
-          ∙ ap (λ (d : Point). record (pace_of s) { squelch_due = s.squelch_due || list_any (λ want. not (stands_behind d want)) s.wants }) (sym st.dropped);
+          ∙ ap (λ (q : Pace). record q { squelch_due = q.squelch_due || list_any (λ want. not (stands_behind (drop_of w) want)) s.wants }) h.pace
+          ∙ ap (λ (d : Point). record (pace_of s) { squelch_due = s.squelch_due || list_any (λ want. not (stands_behind d want)) s.wants }) (sym st.stands.dropped);
       free = λ octets long. subst (λ (q : Settings). object_fault q s f.info octets ≡ None) h.window_profile (begins.free octets long);
     }
 
 -- one piece more of it
-pub filled_more : (k : SenderKept) (w : WindowState) (s : SenderState) (f : Filling) (piece : List ℕ) → w ≡ record (k.window) { filling = Some (with_piece piece f) }
-    → Fills k s f → Fills (record k { window = w }) s (with_piece piece f)
-filled_more k w s f piece is h = record {
-  window_profile = ap (λ (v : WindowState). v.p) is ∙ h.window_profile;
+pub filled_more : (k : SenderKept) (w : WindowState) (s : SenderState) (f : Filling) (piece : List ℕ) → w.p ≡ k.window.p → w.filling ≡ Some (with_piece piece f)
+    → WindowMoves k.window w (λ t. t) → Fills k s f → Fills (record k { window = w }) s (with_piece piece f)
+filled_more k w s f piece profile filling moves h = record {
+  window_profile = profile ∙ h.window_profile;
   union_profile = h.union_profile;
-  filling = ap (λ (v : WindowState). v.filling) is;
-  window =
-      subst (λ (v : WindowState). WindowStands v (room_made k.p f.len s)) (sym is)
-      (stands_filling k.window (room_made k.p f.len s) (Some (with_piece piece f)) h.window);
+  filling = filling;
+  window = record { stands = moves (room_made k.p f.len s) h.window.stands; unopened = h.window.unopened };
   union = record { before = h.union.before; marked = h.union.marked; is = h.union.is; stands = h.union.stands; joins = h.union.joins };
   book = h.book;
   pace = h.pace;
   free = h.free;
 }
 
+-- behind an object no stream is open
+abbrev first_open : List Entry → Option (List Part)
+first_open entries = elim entries as (λ _. Option (List Part)) [ [] ↦ None | entry ∷ more ↦ open_parts entry.object ]
+
+whole_joined : (order : List Entry) (entry : Entry) → open_parts entry.object ≡ None → open_of (order ++ entry ∷ []) ≡ None
+whole_joined order entry whole = ap first_open (reverse-append order (entry ∷ [])) ∙ whole
+
+-- an object without a fault joins
+enqueued_is : (p : Settings) (s : SenderState) (by : Origin) (kind : Kind) (info : Option (List ℕ)) (octets : List ℕ) → object_fault p s info octets ≡ None
+    → enqueued p s by kind info octets ≡ (joined p by (Whole kind info octets) s, Ok (Object (next_index s) (length octets)))
+enqueued_is p s by kind info octets free =
+    ap (λ (r : Option EnqueueFault). elim r as (λ _. SenderState × Result Receipt EnqueueFault) [
+      | Some fault ↦ (s, Err fault)
+      | None ↦ (joined p by (Whole kind info octets) s, Ok (Object (next_index s) (length octets)))
+    ]) free
+
 -- it joins the order
 pub finished : (k : SenderKept) (w : WindowState) (s : SenderState) (by : Origin) (f : Filling) (index len : ℕ) → Fills k s f → length f.octets ≡ f.len
-    → w.p ≡ k.window.p → w.filling ≡ None → WindowStands w (with_entry (filled_entry by f) (room_made k.p f.len s))
+    → w.p ≡ k.window.p → w.filling ≡ None → Stands w (with_entry (filled_entry by f) (room_made k.p f.len s))
     → index ≡ next_index (room_made k.p f.len s) → len ≡ f.len
     → Agrees (record k { window = w }) (enqueued k.p s by f.kind f.info f.octets).0 × (Ok (Object index len) ≡ (enqueued k.p s by f.kind f.info f.octets).1)
 finished k w s by f index len h long profile filling st at many =
@@ -159,7 +177,7 @@ finished k w s by f index len h long profile filling st at many =
       window_profile = profile ∙ h.window_profile;
       filling = filling;
       union_profile = h.union_profile;
-      window = st;
+      window = record { stands = st; unopened = whole_joined s.current.order (filled_entry by f) refl };
       union = h.union.joins by f.octets long;
       book = h.book;
       pace = h.pace;
@@ -173,15 +191,15 @@ finished k w s by f index len h long profile filling st at many =
 
 -- it is given up
 pub left_agrees : (k : SenderKept) (w : WindowState) (u : UnionState) (s : SenderState) (f : Filling) → Fills k s f → w ≡ record (k.window) { filling = None }
-    → ((m : Marked) (v : UnionState) → k.union ≡ record v { kept = with_object m v.kept } → u ≡ v)
+    → WindowMoves k.window w (λ t. t) → ((m : Marked) (v : UnionState) → k.union ≡ record v { kept = with_object m v.kept } → u ≡ v)
     → Agrees (record k { window = w; union = u }) (room_made k.p f.len s)
-left_agrees k w u s f h is withdrawn =
+left_agrees k w u s f h is moves withdrawn =
     let back = withdrawn h.union.marked h.union.before h.union.is in
     record {
       window_profile = ap (λ (v : WindowState). v.p) is ∙ h.window_profile;
       filling = ap (λ (v : WindowState). v.filling) is;
       union_profile = ap (λ (v : UnionState). v.p) back ∙ sym (ap (λ (v : UnionState). v.p) h.union.is) ∙ h.union_profile;
-      window = subst (λ (v : WindowState). WindowStands v (room_made k.p f.len s)) (sym is) (stands_filling k.window (room_made k.p f.len s) None h.window);
+      window = record { stands = moves (room_made k.p f.len s) h.window.stands; unopened = h.window.unopened };
       union = subst (λ (v : UnionState). UnionStands v (room_made k.p f.len s)) (sym back) h.union.stands;
       book = h.book;
       pace = h.pace;

@@ -1,6 +1,6 @@
 -- Flushes, over what a sender keeps.
 use Rattle.std.proofs.Common.{◌≡◌, ◌∙◌, ℕ, ◌+◌, ◌<◌, List, [], ◌∷◌, ◌++◌, map, Bool, true, false, cond, Option, Some, None, refl, sym, subst, ap, arith}
-use Rattle.std.specs.Prelude.{◌==◌, ◌&&◌, ◌≤◌, is_some, find, nat_lt, if◌then◌else◌}
+use Rattle.std.specs.Prelude.{◌==◌, ◌&&◌, ◌≤◌, is_some, find, nat_lt, if◌then◌else◌, length}
 use Rattle.std.specs.Option.{option_map}
 use Rattle.std.proofs.lemmas.Bool.Decides.{nat_tests}
 use Rattle.norm_base.specs.Settings.{Settings}
@@ -17,8 +17,8 @@ use Rattle.norm_send_rules.specs.Messages.{flush_message}
 use Rattle.norm_send_rules.specs.Flushing.{flushes_for, flushes_no_more, flushed, flushes_oldest, expired}
 use Rattle.norm_send_rules.specs.declared.news.Outcome.{Outcome}
 use Rattle.norm_send_rules.specs.declared.news.Outcome.TheVariants.{Expired}
-use Rattle.std.specs.Prelude.{length}
-use Rattle.tx_window.specs.WindowState.{WindowState, Stands as WindowStands}
+use Rattle.tx_window.specs.WindowState.{WindowState}
+use Rattle.norm_sender.specs.Unopened.{Stands as WindowStands}
 use Rattle.nack_union.specs.UnionState.{UnionState, Stands as UnionStands}
 use Rattle.mark_book.specs.BookState.{BookState, Stands as BookStands}
 use Rattle.mark_book.specs.Answers.{open_watermark}

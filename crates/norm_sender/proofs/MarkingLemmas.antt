@@ -20,7 +20,6 @@ use Rattle.norm_send_rules.specs.declared.fault.MarkFault.TheVariants.{Quorum, N
 use Rattle.norm_send_rules.specs.declared.job.Receipt.{Receipt}
 use Rattle.norm_send_rules.specs.declared.job.Receipt.TheVariants.{Mark}
 use Rattle.mark_book.specs.Answers.{asked_for, numbered, quorum_refused}
-use Rattle.tx_window.proofs.FaultLemmas.{none_open}
 use Rattle.norm_sender.specs.SenderKept.{SenderKept, Agrees}
 
 -- Nothing is cut where no stream is open.
@@ -80,7 +79,7 @@ pub marks_by : (k new : SenderKept) (s : SenderState) (by : Origin) (quorum : Op
 marks_by k new s by quorum end answer h is after =
     let there : end ≡ last_source (current_shapes k.p s) = subst (λ (q : Settings). end ≡ last_source (current_shapes q s)) h.window_profile is in
     subst (λ (step : SenderState × Result Receipt MarkFault). Agrees new step.0 × (answer ≡ step.1))
-    (sym (marked_is k.p s by quorum end (none_open k.window s h.window) there)) after
+    (sym (marked_is k.p s by quorum end h.window.unopened there)) after
 
 -- a mark that is refused before the book is asked
 pub refuses_by : (k : SenderKept) (s : SenderState) (by : Origin) (quorum : Option ℕ) (end : Option Position) (fault : MarkFault)

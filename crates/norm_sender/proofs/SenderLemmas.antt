@@ -15,7 +15,7 @@ use Rattle.norm_send_rules.specs.Hearing.{heard}
 use Rattle.norm_send_rules.specs.Telling.{told}
 use Rattle.norm_send_rules.specs.Reached.{IsReached}
 use Rattle.norm_send_rules.proofs.ReachedLemmas.{reached_laws}
-use Rattle.tx_window.specs.WindowState.{WindowState, Filling, empty_window, Stands as WindowStands}
+use Rattle.tx_window.specs.WindowState.{Stands as StandsAlone, Filling}
 use Rattle.nack_union.specs.UnionState.{UnionState, empty_union, Stands as UnionStands}
 use Rattle.mark_book.specs.BookState.{Stands as BookStands}
 use Rattle.norm_sender.specs.Pacing.{pace_of}
@@ -84,15 +84,15 @@ pub receivers_count : (p : Settings) (n : ℕ) → length (receivers_of p n) ≡
 receivers_count p zero = refl
 receivers_count p (suc n) = omega (arith, length-append (receivers_of p n) ((p.sender + 1 + n) ∷ []), receivers_count p n)
 
-pub begins : (k : SenderKept) (instance : ℕ) → InRange k.p → k.window ≡ empty_window k.p → k.union ≡ empty_union k.p
-    → WindowStands k.window (sender_opening k.p instance) → UnionStands k.union (sender_opening k.p instance)
+pub begins : (k : SenderKept) (instance : ℕ) → InRange k.p → k.window.p ≡ k.p → k.window.filling ≡ None → k.union ≡ empty_union k.p
+    → StandsAlone k.window (sender_opening k.p instance) → UnionStands k.union (sender_opening k.p instance)
     → BookStands k.p k.book (sender_opening k.p instance) → k.pace ≡ pace_of (sender_opening k.p instance) → Stands k (sender_opening k.p instance)
-begins k instance range window_is union_is window union book pace = record {
+begins k instance range profile filling union_is window union book pace = record {
   agrees = record {
-    window_profile = ap (λ (w : WindowState). w.p) window_is;
-    filling = ap (λ (w : WindowState). w.filling) window_is;
+    window_profile = profile;
+    filling = filling;
     union_profile = ap (λ (u : UnionState). u.p) union_is;
-    window = window;
+    window = record { stands = window; unopened = refl };
     union = union;
     book = book;
     pace = pace;

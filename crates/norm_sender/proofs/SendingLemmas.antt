@@ -20,8 +20,9 @@ use Rattle.norm_send_rules.specs.Sending.{object_of, message_of, noted, sends_wa
 use Rattle.norm_send_rules.specs.declared.want.Want.{Want}
 use Rattle.norm_send_rules.specs.declared.want.Want.TheVariants.{Info, Symbol}
 use Rattle.tx_window.specs.Asked.{kept_at}
-use Rattle.tx_window.specs.WindowState.{WindowState, IsInWindow, Stands as WindowStands}
-use Rattle.tx_window.proofs.StandingLemmas.{is_there}
+use Rattle.tx_window.specs.WindowState.{WindowState, IsInWindow}
+use Rattle.norm_sender.specs.Unopened.{Stands as WindowStands}
+use Rattle.tx_window.proofs.LawLemmas.{is_there}
 use Rattle.nack_union.specs.UnionState.{UnionState, Stands as UnionStands}
 use Rattle.mark_book.specs.BookState.{BookState, Stands as BookStands}
 use Rattle.norm_sender.specs.Pacing.{pace_of}
@@ -171,4 +172,4 @@ info_in_window w s index p h v =
     let f = found_where p (λ shape. shape.info) (slice_get s.current.order index)
     (ap (λ (o : Option Shape). elim o as (λ _. Bool) [ Some x ↦ x.info | None ↦ false ])
     (sym (slice_get-map (λ (entry : Entry). shape_of p entry.object) s.current.order index)) ∙ v.of_order) in
-    is_there w s index f.entry h f.is (not_below index s.current.drop.index v.behind)
+    is_there w s index f.entry h.stands f.is (not_below index s.current.drop.index v.behind)

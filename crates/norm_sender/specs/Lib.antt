@@ -1,5 +1,6 @@
 pub mod Pacing
 pub mod Heads
+pub mod Unopened
 pub mod SenderKept
 pub mod Filling
 pub mod SenderSound

@@ -10,7 +10,7 @@ ghost use Rattle.norm_send_rules.specs.InWindow.{stands_behind};
 ghost use Rattle.norm_send_rules.specs.Dropping.{dropped_to};
 ghost use Rattle.norm_send_rules.specs.Enqueuing.{enqueued};
 ghost use Rattle.tx_window.specs.Taking.{room_made, with_piece, GivesBack, IsRefusal};
-ghost use Rattle.tx_window.specs.WindowState.{Filling};
+ghost use Rattle.tx_window.specs.WindowState.{Filling, drop_of};
 ghost use Rattle.nack_union.specs.Kept.{retired};
 ghost use Rattle.nack_union.specs.UnionState.{Stands as UnionStands};
 ghost use Rattle.nack_union.specs.UnionMoves.{UnionMoves};
@@ -27,14 +27,14 @@ use tx_window::{info_len, plan_of};
 impl Parts {
     /// What was asked for of objects that the window dropped is forgotten. Where that takes away a want, a squelch is due.
     fn retire(&mut self)
-        requires not_back { self.old.union.kept.first ≤ self.old.window.drop.index }
-        requires within { self.old.window.drop.index ≤ self.old.union.kept.first + length self.old.union.kept.objects }
-        requires whole { self.old.window.drop.block ≡ 0 }
+        requires not_back { self.old.union.kept.first ≤ (drop_of self.old.window).index }
+        requires within { (drop_of self.old.window).index ≤ self.old.union.kept.first + length self.old.union.kept.objects }
+        requires whole { (drop_of self.old.window).block ≡ 0 }
         ensures rest { (self.new.profile ≡ self.old.profile) × (self.new.window ≡ self.old.window) × (self.new.book ≡ self.old.book) }
-        ensures exact { self.new.union ≡ record self.old.union { kept = retired self.old.window.drop.index self.old.union.kept } }
-        ensures union { UnionMoves self.old.union self.new.union (dropped_to self.old.window.drop) }
+        ensures exact { self.new.union ≡ record self.old.union { kept = retired (drop_of self.old.window).index self.old.union.kept } }
+        ensures union { UnionMoves self.old.union self.new.union (dropped_to (drop_of self.old.window)) }
         ensures pace { (s : SenderState) → UnionStands self.old.union s → self.new.pace ≡ record self.old.pace {
-          squelch_due = self.old.pace.squelch_due || list_any (λ want. not (stands_behind self.old.window.drop want)) s.wants;
+          squelch_due = self.old.pace.squelch_due || list_any (λ want. not (stands_behind (drop_of self.old.window) want)) s.wants;
         } }
     {
         let (index, block) = self.window.first();

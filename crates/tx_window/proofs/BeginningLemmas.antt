@@ -12,9 +12,9 @@ use Rattle.fec_plan.specs.Partition.{Cut, IsSound, cut_of, all_symbols}
 use Rattle.norm_send_rules.specs.Enqueuing.{info_length}
 use Rattle.held_object.specs.Held.{HeldObject, octets_of, begun_at}
 use Rattle.held_object.specs.Round.{IsAround}
-use Rattle.tx_window.specs.WindowSound.{IsFilling, IsRow, LieInRow, all_octets}
+use Rattle.tx_window.specs.Rows.{IsFilling, IsRow, LieInRow, all_octets}
 use Rattle.held_object.specs.Placed.{IsPlaced, taken_by}
-use Rattle.tx_window.proofs.WindowLemmas.{slice_get-drop}
+use Rattle.tx_window.proofs.ListLemmas.{slice_get-drop}
 use Rattle.held_object.proofs.SourcesLemmas.{get_front, get_back}
 use Rattle.tx_window.proofs.RowLemmas.{IsCutBy, AreCutBy, RowFrom, all_taken, taken_append, taken_cons, octets_append, octets_cons, all_fit, row_more, row_last, row_dropped, symbols_taken}
 
@@ -149,14 +149,3 @@ placed_more ring p hs h placed one i k e = go (cases_lt i (length hs))
         let at : i - length hs ≡ 0 = omega (arith, within, length-append hs (h ∷ [])) in
         let first : slice_get (h ∷ []) 0 ≡ Some k = ap (slice_get (h ∷ [])) (sym at) ∙ sym (get_back hs (h ∷ []) i le) ∙ e in
         subst (IsPlaced ring p) (is h k first) one
-
-pub sized_more : (ls : List ℕ) (l : ℕ) → ((i k : ℕ) → slice_get ls i ≡ Some k → (1 ≤ k) × (k ≤ 16777216)) → (1 ≤ l) × (l ≤ 16777216)
-    → (i k : ℕ) → slice_get (ls ++ l ∷ []) i ≡ Some k → (1 ≤ k) × (k ≤ 16777216)
-sized_more [] l sized one zero k e = subst (λ n. (1 ≤ n) × (n ≤ 16777216)) (let z : l ≡ k = cc in z) one
-sized_more [] l sized one (suc i) k e = absurd (cc)
-sized_more (x ∷ xs) l sized one zero k e = sized 0 k e
-sized_more (x ∷ xs) l sized one (suc i) k e = sized_more xs l (λ j m f. sized (suc j) m f) one i k e
-
-pub sized_behind : (n : ℕ) (ls : List ℕ) → ((i k : ℕ) → slice_get ls i ≡ Some k → (1 ≤ k) × (k ≤ 16777216))
-    → (i k : ℕ) → slice_get (drop n ls) i ≡ Some k → (1 ≤ k) × (k ≤ 16777216)
-sized_behind n ls sized i k e = sized (n + i) k (sym (slice_get-drop n ls i) ∙ e)

@@ -1,144 +1,188 @@
--- Why one more object is refused: the first fault that applies.
-use Rattle.std.proofs.Common.{◌≡◌, ℕ, ◌<◌, ◌≤◌, ◌⊎◌, inl, inr, arith, take, drop, Bool, true, false, refl, sym, ap, ◌∙◌, Option, Some, None, List, [], ◌∷◌, ◌++◌, length, map, ◌==◌}
-use Rattle.std.specs.Prelude.{nat_lt, not, reverse, is_some}
-use Rattle.std.proofs.lemmas.Bool.{cases_lt}
-use Rattle.std.proofs.lemmas.List.{reverse-append, map-append, length-drop, length-reverse, take-append-drop}
+-- Why nothing more joins the order, and whether a stream is open.
+use Rattle.std.proofs.Common.{◌≡◌, ℕ, zero, suc, ◌+◌, ◌-◌, ◌*◌, ◌<◌, ◌≤◌, inl, inr, arith, Bool, true, false, refl, sym, ap, ◌∙◌, Option, Some, None, List, [], ◌∷◌, ◌++◌, length, ◌==◌}
+use Rattle.std.specs.Prelude.{nat_lt, not, reverse, is_some, slice_get, Result, Ok, Err}
+use Rattle.std.proofs.lemmas.List.{reverse-append, length-reverse}
 use Rattle.norm_base.specs.Settings.{Settings}
+use Rattle.norm_base.specs.declared.kinds.Kind.{Kind}
+use Rattle.norm_base.specs.declared.node.Origin.{Origin}
 use Rattle.norm_order.specs.First.{first_where}
-use Rattle.norm_order.specs.Entries.{Part, Object, Whole, Stream, Entry}
-use Rattle.norm_order.specs.Shapes.{Shape, shape_of}
+use Rattle.norm_order.specs.Entries.{Part, Whole, Entry}
 use Rattle.norm_send_rules.specs.SenderState.{SenderState}
-use Rattle.norm_send_rules.specs.InWindow.{last_index}
+use Rattle.norm_send_rules.specs.InWindow.{last_index, next_index}
 use Rattle.norm_send_rules.specs.Room.{can_make_room}
-use Rattle.norm_send_rules.specs.Enqueuing.{object_fault, open_stream, open_parts, info_length, ids_spent}
+use Rattle.norm_send_rules.specs.Enqueuing.{object_fault, open_stream, open_parts, info_length, ids_spent, enqueued, joined}
+use Rattle.norm_send_rules.specs.Streaming.{open_fault}
 use Rattle.norm_send_rules.specs.declared.fault.EnqueueFault.{EnqueueFault}
 use Rattle.norm_send_rules.specs.declared.fault.EnqueueFault.TheVariants.{Empty, TooBig, InfoTooBig, StreamOpen, IdsSpent, WindowFull}
+use Rattle.norm_send_rules.specs.declared.job.Receipt.{Receipt}
+use Rattle.norm_send_rules.specs.declared.job.Receipt.TheVariants.{Object as EnqueuedObject}
+use Rattle.held_entry.specs.declared.entry.HeldEntry.{HeldEntry}
 use Rattle.tx_window.specs.Taking.{size_fault}
-use Rattle.tx_window.proofs.RoomLemmas.{map_drop}
-use Rattle.tx_window.specs.WindowState.{WindowState, Stands, without_info, shape_of_length}
+use Rattle.tx_window.specs.WindowState.{WindowState, Stands, open_of}
+use Rattle.tx_window.specs.Asked.{joining_fault, IsOpenAt}
+use Rattle.tx_window.proofs.KeptLemmas.{Found, entry_at_place}
 
--- the rules' table, by what each test says
-abbrev pub table : ℕ → ℕ → ℕ → ℕ → Bool → Bool → Bool → Bool → Bool → Bool → Option EnqueueFault
-table len info last first empty big info_big open_ spent full = first_where (
-    (empty, Empty) ∷ (big, TooBig len) ∷ (info_big, InfoTooBig info) ∷ (open_, StreamOpen last) ∷ (spent, IdsSpent) ∷ (full, WindowFull first) ∷ []
-    )
+-- ---- the open stream
 
--- no entry is a stream where all have the shapes of objects
-no_stream : (entry : Entry) (p : Settings) (l : ℕ) → without_info (shape_of p entry.object) ≡ shape_of_length p l → open_parts entry.object ≡ None
-no_stream entry p l same = go entry.object same
-  where
-    go : (o : Object) → without_info (shape_of p o) ≡ shape_of_length p l → open_parts o ≡ None
-    go (Whole kind info octets) e = refl
-    go (Stream parts) e = absurd (never (ap (λ (s : Shape). s.cut.l) e))
-      where
-        never : ◌≡◌ {A = Option ℕ} None (Some l) → ⊥
-        never f = cc
-
+-- the first entry of a row that is open
 abbrev first_open : List Entry → Option (List Part)
-first_open es = elim es [ [] ↦ None | entry ∷ entries ↦ open_parts entry.object ]
+first_open es = elim es as (λ v. Option (List Part)) [ [] ↦ None | entry ∷ entries ↦ open_parts entry.object ]
 
-map_reverse : {X Y : Type 0} (f : X → Y) (xs : List X) → map f (reverse xs) ≡ reverse (map f xs)
-map_reverse f [] = refl
-map_reverse f (x ∷ xs) =
-    ap (map f) (reverse-append (x ∷ []) xs) ∙ map-append f (reverse xs) (x ∷ []) ∙ ap (λ ys. ys ++ f x ∷ []) (map_reverse f xs) ∙ sym (reverse-append (f x ∷ []) (map f xs))
-
--- behind a front that leaves something the first open one is that of what is left
-open_behind : (front back : List Entry) → 0 < length back → first_open (reverse (front ++ back)) ≡ first_open (reverse back)
-open_behind front back some = ap first_open (reverse-append front back) ∙ go (reverse back) (omega (arith, length-reverse back))
+open_tail : (x y : Entry) (ys : List Entry) → open_of (x ∷ y ∷ ys) ≡ open_of (y ∷ ys)
+open_tail x y ys = ap first_open (reverse-append (x ∷ []) (y ∷ ys)) ∙ go (reverse (y ∷ ys)) (omega (arith, length-reverse (y ∷ ys)))
   where
-    go : (xs : List Entry) → 0 < length xs → first_open (xs ++ reverse front) ≡ first_open xs
-    go [] none = absurd (omega arith)
-    go (x ∷ xs) more = refl
+    go : (zs : List Entry) → 0 < length zs → first_open (zs ++ reverse (x ∷ [])) ≡ first_open zs
+    go [] none = absurd (omega (arith, none))
+    go (z ∷ zs) some = refl
 
-pub none_open : (w : WindowState) (s : SenderState) → Stands w s → open_stream s ≡ None
-none_open w s stands = by (cases_lt 0 (length s.current.order))
+pub open_last : (order : List Entry) (n : ℕ) (entry : Entry) → n + 1 ≡ length order → slice_get order n ≡ Some entry → open_of order ≡ open_parts entry.object
+open_last [] n entry long is = absurd (cc)
+open_last (x ∷ []) zero entry long is = ap (λ (e : Entry). open_parts e.object) (let same : x ≡ entry = cc in same)
+open_last (x ∷ []) (suc n) entry long is = absurd (omega (arith, long))
+open_last (x ∷ y ∷ ys) zero entry long is = absurd (omega (arith, long))
+open_last (x ∷ y ∷ ys) (suc n) entry long is = open_tail x y ys ∙ open_last (y ∷ ys) n entry (omega (arith, long)) is
+
+-- without an entry in the window none is open
+pub none_open : (w : WindowState) (s : SenderState) → Stands w s → length w.entries ≡ 0 → open_stream s ≡ None
+none_open w s stands none = go (open_stream s) refl
   where
-    left : List Entry
-    left = drop w.forgotten s.current.order
+    go : (r : Option (List Part)) → open_stream s ≡ r → r ≡ None
+    go None is = refl
+    go (Some parts) is = absurd (omega (arith, stands.opened parts is, none))
 
-    shape : Entry → Shape
-    shape entry = without_info (shape_of w.p entry.object)
+-- the last entry is the one that may be open
+pub record Last (w : WindowState) (s : SenderState) (e : HeldEntry) : Type 0 where
+  pub found : Found w s (w.dropped + (length w.entries - 1)) e
+  pub index : w.dropped + (length w.entries - 1) ≡ last_index s
+  pub opened : open_stream s ≡ open_parts found.entry.object
 
-    twice : (es : List Entry) → map shape es ≡ map without_info (map (λ (entry : Entry). shape_of w.p entry.object) es)
-    twice [] = refl
-    twice (x ∷ xs) = ap (λ ys. shape x ∷ ys) (twice xs)
+pub last_found : (w : WindowState) (s : SenderState) (e : HeldEntry) → Stands w s → 0 < length w.entries → slice_get w.entries (length w.entries - 1) ≡ Some e → Last w s e
+last_found w s e stands some there =
+    let is = entry_at_place w s (length w.entries - 1) e stands there in
+    let index : w.dropped + (length w.entries - 1) ≡ last_index s = omega (arith, stands.next, some) in
+    record {
+      found = is;
+      index = index;
+      opened = open_last s.current.order (w.dropped + (length w.entries - 1)) is.entry (omega (arith, stands.next, some)) is.there;
+    }
 
-    same : map shape (reverse left) ≡ map (shape_of_length w.p) (reverse w.extents)
-    same =
-        map_reverse shape left
-        ∙ ap reverse (twice left ∙ ap (map without_info) (map_drop (λ (entry : Entry). shape_of w.p entry.object) w.forgotten s.current.order) ∙ stands.shapes)
-        ∙ sym (map_reverse (shape_of_length w.p) w.extents)
+pub open_none : (s : SenderState) → open_stream s ≡ None → IsOpenAt s None
+open_none s is = is
 
-    go : (es : List Entry) (ls : List ℕ) → map shape es ≡ map (shape_of_length w.p) ls → first_open es ≡ None
-    go [] ls e = refl
-    go (x ∷ xs) [] e = absurd (cc)
-    go (x ∷ xs) (l ∷ ls) e = no_stream x w.p l (head e)
-      where
-        head : shape x ∷ map shape xs ≡ shape_of_length w.p l ∷ map (shape_of_length w.p) ls → shape x ≡ shape_of_length w.p l
-        head f = cc
+pub open_some : (s : SenderState) (index : ℕ) → is_some (open_stream s) ≡ true → index ≡ last_index s → IsOpenAt s (Some index)
+open_some s index is same = (is, same)
 
-    by : (0 < length s.current.order) ⊎ (length s.current.order ≤ 0) → open_stream s ≡ None
-    by (inl some) =
-        ap (λ (es : List Entry). first_open (reverse es)) (sym (take-append-drop w.forgotten s.current.order))
-        ∙ open_behind (take w.forgotten s.current.order) left (omega (arith, some, stands.kept, length-drop w.forgotten s.current.order))
-        ∙ go (reverse left) (reverse w.extents) same
-    by (inr none) = empty s.current.order none
-      where
-        empty : (es : List Entry) → length es ≤ 0 → first_open (reverse es) ≡ None
-        empty [] le = refl
-        empty (x ∷ xs) le = absurd (omega arith)
+pub not_some : {X : Type 0} (r : Option X) → is_some r ≡ false → r ≡ None
+not_some None is = refl
+not_some (Some x) is = absurd (cc)
 
--- ---- the table by its tests
+-- ---- the tables
 
-pub table_is : (w : WindowState) (s : SenderState) (info : Option (List ℕ)) (octets : List ℕ) (i n : ℕ) → Stands w s → info_length info ≡ i → length octets ≡ n
-    → object_fault w.p s info octets
-    ≡ table n i (last_index s) s.current.drop.index (n == 0) (nat_lt w.p.octets n) (nat_lt w.p.e i) false (ids_spent s) (not (can_make_room w.p s n))
-table_is w s info octets i n stands i-is n-is =
-    ap (λ k. table k (info_length info) (last_index s) s.current.drop.index (k == 0) (nat_lt w.p.octets k) (nat_lt w.p.e (info_length info)) (is_some (open_stream s)) (ids_spent s) (not (can_make_room w.p s k))) n-is
-    ∙ ap (λ k. table n k (last_index s) s.current.drop.index (n == 0) (nat_lt w.p.octets n) (nat_lt w.p.e k) (is_some (open_stream s)) (ids_spent s) (not (can_make_room w.p s n))) i-is
-    ∙ ap (λ o. table n i (last_index s) s.current.drop.index (n == 0) (nat_lt w.p.octets n) (nat_lt w.p.e i) (is_some o) (ids_spent s) (not (can_make_room w.p s n))) (none_open w s stands)
-
--- the faults of sizes come first
-pub sizes_first : (p : Settings) (n i l f : ℕ) (spent full : Bool) (b c d : Bool)
-    → table n i l f b c d false spent full ≡ (elim (first_where ((b, Empty) ∷ (c, TooBig n) ∷ (d, InfoTooBig i) ∷ [])) as (λ v. Option EnqueueFault) [
-      | Some fault ↦ Some fault
-      | None ↦ elim spent as (λ v. Option EnqueueFault) [ true ↦ Some IdsSpent | false ↦ elim full as (λ v. Option EnqueueFault) [ true ↦ Some (WindowFull f) | false ↦ None ] ]
-    ])
+three : (a b c : Bool) (x y z : EnqueueFault) → first_where ((a, x) ∷ (b, y) ∷ (c, z) ∷ []) ≡ (elim a as (λ v. Option EnqueueFault) [
+  | true ↦ Some x
+  | false ↦ elim b as (λ v. Option EnqueueFault) [ true ↦ Some y | false ↦ elim c as (λ v. Option EnqueueFault) [ true ↦ Some z | false ↦ None ] ]
+])
 unfolding first_where
-sizes_first p n i l f spent full true c d = refl
-sizes_first p n i l f spent full false true d = refl
-sizes_first p n i l f spent full false false true = refl
-sizes_first p n i l f true full false false false = refl
-sizes_first p n i l f false true false false false = refl
-sizes_first p n i l f false false false false false = refl
+three true b c x y z = refl
+three false true c x y z = refl
+three false false true x y z = refl
+three false false false x y z = refl
 
-abbrev after : Option EnqueueFault → Bool → Bool → ℕ → Option EnqueueFault
-after r spent full f = elim r as (λ v. Option EnqueueFault) [
-  | Some fault ↦ Some fault
-  | None ↦ elim spent as (λ v. Option EnqueueFault) [ true ↦ Some IdsSpent | false ↦ elim full as (λ v. Option EnqueueFault) [ true ↦ Some (WindowFull f) | false ↦ None ] ]
+pub joins_open : (p : Settings) (s : SenderState) (len : ℕ) → is_some (open_stream s) ≡ true → joining_fault p s len ≡ Some (StreamOpen (last_index s))
+unfolding first_where
+joins_open p s len is = ap (λ b. first_where ((b, StreamOpen (last_index s)) ∷ (ids_spent s, IdsSpent) ∷ (not (can_make_room p s len), WindowFull s.current.drop.index) ∷ [])) is
+
+pub joins_then : (p : Settings) (s : SenderState) (len : ℕ) (spent full : Bool) → open_stream s ≡ None → ids_spent s ≡ spent → can_make_room p s len ≡ not full
+    → joining_fault p s len ≡ (elim spent as (λ v. Option EnqueueFault) [ true ↦ Some IdsSpent | false ↦ elim full as (λ v. Option EnqueueFault) [ true ↦ Some (WindowFull s.current.drop.index) | false ↦ None ] ])
+joins_then p s len spent full none spent-is full-is =
+    ap (λ (r : Option (List Part)). first_where ((is_some r, StreamOpen (last_index s)) ∷ (ids_spent s, IdsSpent) ∷ (not (can_make_room p s len), WindowFull s.current.drop.index) ∷ [])) none
+    ∙ three false (ids_spent s) (not (can_make_room p s len)) (StreamOpen (last_index s)) IdsSpent (WindowFull s.current.drop.index)
+    ∙ ap (λ (b : Bool). elim b as (λ v. Option EnqueueFault) [ true ↦ Some IdsSpent | false ↦ elim (not (can_make_room p s len)) as (λ v. Option EnqueueFault) [ true ↦ Some (WindowFull s.current.drop.index) | false ↦ None ] ]) spent-is
+    ∙ ap (λ (b : Bool). elim spent as (λ v. Option EnqueueFault) [ true ↦ Some IdsSpent | false ↦ elim (not b) as (λ v. Option EnqueueFault) [ true ↦ Some (WindowFull s.current.drop.index) | false ↦ None ] ]) full-is
+    ∙ ap (λ (b : Bool). elim spent as (λ v. Option EnqueueFault) [ true ↦ Some IdsSpent | false ↦ elim b as (λ v. Option EnqueueFault) [ true ↦ Some (WindowFull s.current.drop.index) | false ↦ None ] ]) (twice full)
+  where
+    twice : (b : Bool) → not (not b) ≡ b
+    twice true = refl
+    twice false = refl
+
+sizes_then : (a b c : Bool) (x y z : EnqueueFault) (rest : List (Bool × EnqueueFault)) → first_where ((a, x) ∷ (b, y) ∷ (c, z) ∷ rest)
+    ≡ (elim (first_where ((a, x) ∷ (b, y) ∷ (c, z) ∷ [])) as (λ v. Option EnqueueFault) [ Some fault ↦ Some fault | None ↦ first_where rest ])
+unfolding first_where
+sizes_then true b c x y z rest = refl
+sizes_then false true c x y z rest = refl
+sizes_then false false true x y z rest = refl
+sizes_then false false false x y z rest = refl
+
+pub object_is : (p : Settings) (s : SenderState) (info : Option (List ℕ)) (octets : List ℕ) (i n : ℕ) → info_length info ≡ i → length octets ≡ n
+    → object_fault p s info octets ≡ (elim (size_fault p i n) as (λ v. Option EnqueueFault) [ Some fault ↦ Some fault | None ↦ joining_fault p s n ])
+object_is p s info octets i n i-is n-is =
+    sizes_then (length octets == 0) (nat_lt p.octets (length octets)) (nat_lt p.e (info_length info)) Empty (TooBig (length octets)) (InfoTooBig (info_length info)) _
+    ∙ ap (λ k. elim (size_fault p (info_length info) k) as (λ v. Option EnqueueFault) [ Some fault ↦ Some fault | None ↦ joining_fault p s k ]) n-is
+    ∙ ap (λ k. elim (size_fault p k n) as (λ v. Option EnqueueFault) [ Some fault ↦ Some fault | None ↦ joining_fault p s n ]) i-is
+
+pub object_by : (p : Settings) (s : SenderState) (info : Option (List ℕ)) (octets : List ℕ) (i n : ℕ) (sizes : Option EnqueueFault) → info_length info ≡ i → length octets ≡ n → sizes ≡ size_fault p i n
+    → object_fault p s info octets ≡ (elim sizes as (λ v. Option EnqueueFault) [ Some fault ↦ Some fault | None ↦ joining_fault p s n ])
+object_by p s info octets i n sizes i-is n-is is =
+    object_is p s info octets i n i-is n-is ∙ ap (λ (r : Option EnqueueFault). elim r as (λ v. Option EnqueueFault) [ Some fault ↦ Some fault | None ↦ joining_fault p s n ]) (sym is)
+
+-- a stream's buffer that is too big, or what else is wrong
+pub open_big : (p : Settings) (s : SenderState) → p.octets < p.blocks * p.b * p.e → open_fault p s ≡ Some (TooBig (p.blocks * p.b * p.e))
+unfolding first_where
+open_big p s big = ap (λ b. first_where ((b, TooBig (p.blocks * p.b * p.e)) ∷ rest)) (Rattle.std.proofs.lemmas.Bool.lt-ltb p.octets (p.blocks * p.b * p.e) big)
+  where
+    rest : List (Bool × EnqueueFault)
+    rest = (is_some (open_stream s), StreamOpen (last_index s)) ∷ (ids_spent s, IdsSpent) ∷ (not (can_make_room p s (p.blocks * p.b * p.e)), WindowFull s.current.drop.index) ∷ []
+
+pub open_then : (p : Settings) (s : SenderState) → p.blocks * p.b * p.e ≤ p.octets → open_fault p s ≡ joining_fault p s (p.blocks * p.b * p.e)
+unfolding first_where
+open_then p s fit = ap (λ b. first_where ((b, TooBig (p.blocks * p.b * p.e)) ∷ rest)) (Rattle.std.proofs.lemmas.Bool.le-ltb p.octets (p.blocks * p.b * p.e) fit)
+  where
+    rest : List (Bool × EnqueueFault)
+    rest = (is_some (open_stream s), StreamOpen (last_index s)) ∷ (ids_spent s, IdsSpent) ∷ (not (can_make_room p s (p.blocks * p.b * p.e)), WindowFull s.current.drop.index) ∷ []
+
+-- where nothing is wrong no stream is open
+pub joins_none : (p : Settings) (s : SenderState) (len : ℕ) → joining_fault p s len ≡ None → open_stream s ≡ None
+joins_none p s len is = go (open_stream s) refl
+  where
+    never : (x : EnqueueFault) → ◌≡◌ {A = Option EnqueueFault} (Some x) None → ⊥
+    never x e = cc
+
+    go : (r : Option (List Part)) → open_stream s ≡ r → r ≡ None
+    go None e = refl
+    go (Some parts) e = absurd (never (StreamOpen (last_index s)) (sym (joins_open p s len (ap is_some e)) ∙ is))
+
+pub object_none : (p : Settings) (s : SenderState) (info : Option (List ℕ)) (octets : List ℕ) → object_fault p s info octets ≡ None → open_stream s ≡ None
+object_none p s info octets is = go (size_fault p (info_length info) (length octets)) (sym (object_is p s info octets (info_length info) (length octets) refl refl) ∙ is)
+  where
+    go : (r : Option EnqueueFault) → (elim r as (λ v. Option EnqueueFault) [ Some fault ↦ Some fault | None ↦ joining_fault p s (length octets) ]) ≡ None → open_stream s ≡ None
+    go (Some fault) e = absurd (cc)
+    go None e = joins_none p s (length octets) e
+
+pub opened_none : (p : Settings) (s : SenderState) → open_fault p s ≡ None → open_stream s ≡ None
+opened_none p s is = elim (Rattle.std.proofs.lemmas.Bool.cases_lt p.octets (p.blocks * p.b * p.e)) [
+  | inl big ↦ absurd (never (sym (open_big p s big) ∙ is))
+  | inr fit ↦ joins_none p s (p.blocks * p.b * p.e) (sym (open_then p s fit) ∙ is)
 ]
+  where
+    never : ◌≡◌ {A = Option EnqueueFault} (Some (TooBig (p.blocks * p.b * p.e))) None → ⊥
+    never e = cc
+
+-- no parts are open
+pub no_parts : (s : SenderState) → open_stream s ≡ None → (parts : List Part) → open_of s.current.order ≡ Some parts → ⊥
+no_parts s none parts is = never (sym none ∙ is)
+  where
+    never : ◌≡◌ {A = Option (List Part)} None (Some parts) → ⊥
+    never e = cc
 
 pub twice : (b : Bool) → not (not b) ≡ b
 twice true = refl
 twice false = refl
 
--- by what was found of the sizes, and then by the two tests
-pub fault_is : (w : WindowState) (s : SenderState) (info : Option (List ℕ)) (octets : List ℕ) (i n : ℕ) (sizes : Option EnqueueFault) (spent full : Bool)
-    → Stands w s → info_length info ≡ i → length octets ≡ n → sizes ≡ size_fault w.p i n → ids_spent s ≡ spent → can_make_room w.p s n ≡ not full
-    → object_fault w.p s info octets ≡ (elim sizes as (λ v. Option EnqueueFault) [
-      | Some fault ↦ Some fault
-      | None ↦ elim spent as (λ v. Option EnqueueFault) [ true ↦ Some IdsSpent | false ↦ elim full as (λ v. Option EnqueueFault) [ true ↦ Some (WindowFull s.current.drop.index) | false ↦ None ] ]
-    ])
-fault_is w s info octets i n sizes spent full stands i-is n-is sizes-is spent-is full-is =
-    table_is w s info octets i n stands i-is n-is
-    ∙ sizes_first w.p n i (last_index s) s.current.drop.index (ids_spent s) (not (can_make_room w.p s n)) (n == 0) (nat_lt w.p.octets n) (nat_lt w.p.e i)
-    ∙ ap (λ (r : Option EnqueueFault). after r (ids_spent s) (not (can_make_room w.p s n)) s.current.drop.index) (sym sizes-is)
-    ∙ ap (λ b. after sizes b (not (can_make_room w.p s n)) s.current.drop.index) spent-is
-    ∙ ap (λ b. after sizes spent (not b) s.current.drop.index) full-is
-    ∙ ap (λ b. after sizes spent b s.current.drop.index) (twice full)
-
--- a fault of the sizes is the first one
-pub found_is : (w : WindowState) (s : SenderState) (info : Option (List ℕ)) (octets : List ℕ) (i n : ℕ) (fault : EnqueueFault)
-    → Stands w s → info_length info ≡ i → length octets ≡ n → Some fault ≡ size_fault w.p i n → object_fault w.p s info octets ≡ Some fault
-found_is w s info octets i n fault stands i-is n-is found =
-    fault_is w s info octets i n (Some fault) (ids_spent s) (not (can_make_room w.p s n)) stands i-is n-is found refl (sym (twice (can_make_room w.p s n)))
+-- an object without a fault joins
+pub enqueued_is : (p : Settings) (s : SenderState) (by : Origin) (kind : Kind) (info : Option (List ℕ)) (octets : List ℕ) → object_fault p s info octets ≡ None
+    → enqueued p s by kind info octets ≡ (joined p by (Whole kind info octets) s, Ok (EnqueuedObject (next_index s) (length octets)))
+enqueued_is p s by kind info octets free =
+    ap (λ (r : Option EnqueueFault). elim r as (λ v. SenderState × Result Receipt EnqueueFault) [
+      | Some fault ↦ (s, Err fault)
+      | None ↦ (joined p by (Whole kind info octets) s, Ok (EnqueuedObject (next_index s) (length octets)))
+    ]) free

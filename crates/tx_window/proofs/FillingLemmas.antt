@@ -1,5 +1,5 @@
 -- A window into whose ring octets of the object that is being filled were written.
-use Rattle.std.proofs.Common.{◌≡◌, ℕ, zero, suc, ◌+◌, ◌-◌, ◌*◌, ◌/◌, ◌%◌, ◌<◌, ◌≤◌, ◌⊎◌, inl, inr, refl, sym, ap, ◌∙◌, subst, arith, Some, List, [], ◌∷◌, ◌++◌, length, length-append, map, take, get_or}
+use Rattle.std.proofs.Common.{◌≡◌, ℕ, zero, suc, ◌+◌, ◌-◌, ◌*◌, ◌/◌, ◌%◌, ◌<◌, ◌≤◌, ◌⊎◌, inl, inr, refl, sym, ap, ◌∙◌, subst, arith, Some, List, [], ◌∷◌, ◌++◌, length, length-append, take, get_or}
 use Rattle.std.specs.Prelude.{slice_get, replicate}
 use Rattle.std.proofs.Math.ListN.{get_or-append}
 use Rattle.std.proofs.lemmas.Bool.{cases_lt}
@@ -9,12 +9,10 @@ use Rattle.fec_plan.specs.Partition.{Cut, cut_of, all_symbols, symbols_in}
 use Rattle.obj_buffer.specs.Pieces.{HoldsObject}
 use Rattle.held_object.specs.Held.{HeldObject, octets_of, octets_in, LiesIn}
 use Rattle.held_object.specs.Round.{round, IsAround, IsClear}
-use Rattle.tx_window.specs.WindowSound.{IsFilling, IsRow, LieInRow, window_object}
+use Rattle.tx_window.specs.Rows.{IsFilling, IsRow, LieInRow}
 use Rattle.held_object.specs.Placed.{IsPlaced, taken_by}
 use Rattle.held_object.proofs.RoundLemmas.{first_lap, second_lap, length-round}
 use Rattle.tx_window.proofs.RowLemmas.{AreCutBy, all_fit, taken_append, taken_cons, clear_behind, row_clear}
-
--- ---- octets in a row
 
 pub round_joined : (ring : List ℕ) (start k n at : ℕ) → start < length ring → k + n ≤ length ring → IsAround (length ring) (start + k) at
     → round ring start (k + n) ≡ round ring start k ++ round ring at n
@@ -56,8 +54,6 @@ round_joined ring start k n at lt le around =
         behind i ge less (cases_lt (start + i) (length ring)) around.1
         ∙ sym (get_or-append_right (round ring start k) (round ring at n) k i 0 front_long ge)
 
--- ---- what a write leaves
-
 -- octets were put behind the first k of the object, and all that is clear of them is as it was
 pub record IsPut (ring new piece : List ℕ) (start k at : ℕ) : Type 0 where
   pub size : length new ≡ length ring
@@ -82,13 +78,6 @@ kept_octets ring new piece p hs h next k at put some long row cut within i o fou
     put.others o.start (taken_by o)
     (row_clear (length ring) row.head row.head hs h next k (length piece) at (omega arith) row.head_within
     (omega (arith, all, long, taken_append hs (h ∷ []), taken_cons h [])) row.in_row within put.around i o found)
-
-pub kept_objects : (ring new : List ℕ) (hs : List HeldObject) → ((i : ℕ) (o : HeldObject) → slice_get hs i ≡ Some o → octets_in new o ≡ octets_in ring o)
-    → map (window_object new) hs ≡ map (window_object ring) hs
-kept_objects ring new [] same = refl
-kept_objects ring new (h ∷ hs) same =
-    ap (λ (xs : List ℕ). record { object = Rattle.norm_order.specs.Entries.Whole h.kind h.info (take (octets_of h.cut) xs); sent = h.sent; info_sent = h.info_sent } ∷ map (window_object new) hs) (same 0 h refl)
-    ∙ ap (λ os. window_object ring h ∷ os) (kept_objects ring new hs (λ i o e. same (suc i) o e))
 
 lies_kept : (ring new : List ℕ) (h : HeldObject) → length new ≡ length ring → LiesIn ring h → LiesIn new h
 lies_kept ring new h size lies = record {
@@ -130,8 +119,6 @@ filling_kept ring new p count more h size le filling = record {
   fresh = filling.fresh;
   within = le;
 }
-
--- ---- a whole object
 
 pub octets_taken : (xs ys : List ℕ) (n : ℕ) → length xs ≡ n → take n (xs ++ ys) ≡ xs
 octets_taken [] ys n is = ap (λ m. take m ys) (sym is)

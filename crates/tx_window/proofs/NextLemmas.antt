@@ -1,24 +1,16 @@
 -- What is new next: the first info or symbol of the order from a place on that was not dropped.
-use Rattle.std.proofs.Common.{◌≡◌, ℕ, zero, suc, ◌+◌, ◌-◌, ◌<◌, ◌≤◌, ◌⊎◌, inl, inr, Bool, true, false, refl, ap, ◌∙◌, arith, Some, None, List, [], ◌∷◌, ◌++◌, length, map, drop}
-use Rattle.std.specs.Prelude.{find, cond, nat_lt, not, ◌&&◌, ◌||◌, ◌==◌, flat_map, if◌then◌else◌}
+use Rattle.std.proofs.Common.{◌≡◌, ℕ, zero, suc, ◌+◌, ◌-◌, ◌<◌, ◌≤◌, ◌⊎◌, inl, inr, Bool, true, false, refl, ap, ◌∙◌, arith, Some, None, List, [], ◌∷◌, ◌++◌, map}
+use Rattle.std.specs.Prelude.{find, cond, flat_map, if◌then◌else◌}
 use Rattle.std.specs.List.{range_with_len}
-use Rattle.std.proofs.lemmas.Bool.{cases_lt, lt-ltb, le-ltb}
+use Rattle.std.proofs.lemmas.Bool.{cases_lt}
 use Rattle.std.proofs.lemmas.List.{map-append}
 use Rattle.norm_base.specs.Settings.{Settings}
-use Rattle.fec_plan.specs.Points.{Point, point_of, position, position_before}
+use Rattle.fec_plan.specs.Points.{position}
 use Rattle.fec_plan.specs.declared.position.Position.{Position}
 use Rattle.norm_order.specs.Shapes.{Shape, symbols_of, closed_blocks}
-use Rattle.norm_send_rules.specs.Wants.{want_before, want_index}
-use Rattle.norm_send_rules.specs.InWindow.{stands_behind}
-use Rattle.norm_send_rules.specs.Sending.{sent_once, new_of, new_from}
+use Rattle.norm_send_rules.specs.Sending.{sent_once, new_from}
 use Rattle.norm_send_rules.specs.declared.want.Want.{Want}
 use Rattle.norm_send_rules.specs.declared.want.Want.TheVariants.{Info, Symbol}
-use Rattle.tx_window.specs.Next.{AllOf, is_next}
-use Rattle.fec_plan.proofs.PointLemmas.{not_before}
-use Rattle.fec_plan.proofs.PositionLemmas.{Before, before_decides}
-use Rattle.tx_window.proofs.RoomLemmas.{le-leb, lt-leb}
-
--- ---- the first that passes a test
 
 passed : {X : Type 0} (b : Bool) (x y : X) → b ≡ true → cond b x y ≡ x
 passed true x y e = refl
@@ -71,8 +63,6 @@ one_of f g a (suc n) s fails passes le lt = go (cases_lt a s) (one_of f g (a + 1
         let same : a ≡ s = omega arith in
         passed (f (g a)) (Some (g a)) (find f (map g (range_with_len (a + 1) n))) (ap (λ k. f (g k)) same ∙ passes) ∙ ap (λ k. Some (g k)) same
 
--- ---- the symbols of blocks
-
 -- the symbols of some blocks from one on, as wants
 abbrev in_blocks : ℕ → (ℕ → ℕ) → ℕ → ℕ → List Want
 in_blocks index size from count = map Symbol (flat_map (λ block. symbols_of index (size block) block) (range_with_len from count))
@@ -116,56 +106,9 @@ block_begins f index size from (suc count) symbol fails passes some more =
     ∙ find_front f (in_block index size from) (in_blocks index size (from + 1) count) (Symbol (position index from symbol))
     (one_of f (λ k. Symbol (position index from k)) 0 (size from) symbol (λ k low high. fails k high) passes (omega arith) (omega arith))
 
--- ---- the objects of an order
-
-none_new : (p : Settings) (f : Want → Bool) (index : ℕ) (s : Shape) → AllOf false f index → find f (new_of p index s) ≡ None
-none_new p f index s fails =
-    find_behind f (if s.info then Info index ∷ [] else []) (in_blocks index (sent_once p s) 0 (closed_blocks s)) (info s.info)
-    ∙ skip_blocks f index (sent_once p s) 0 (closed_blocks s) (closed_blocks s) (λ block symbol low high. fails (Symbol (position index block symbol)) refl) (omega arith)
-    ∙ ap (λ n. find f (in_blocks index (sent_once p s) (0 + closed_blocks s) n)) (let e : closed_blocks s - closed_blocks s ≡ 0 = omega arith in e)
-  where
-    info : (b : Bool) → find f (if b then Info index ∷ [] else []) ≡ None
-    info true = failed (f (Info index)) (Some (Info index)) None (fails (Info index) refl)
-    info false = refl
-
--- the first of an object: its info, or its first symbol
-abbrev pub first_new : ℕ → Shape → Want
-first_new index s = if s.info then Info index else Symbol (position index 0 0)
-
-first_passes : (p : Settings) (f : Want → Bool) (index : ℕ) (s : Shape) → AllOf true f index → 0 < closed_blocks s → 0 < sent_once p s 0
-    → find f (new_of p index s) ≡ Some (first_new index s)
-first_passes p f index s passes blocks once = go s.info
-  where
-    go : (b : Bool) → find f ((if b then Info index ∷ [] else []) ++ in_blocks index (sent_once p s) 0 (closed_blocks s))
-        ≡ Some (if b then Info index else Symbol (position index 0 0))
-    go true = passed (f (Info index)) (Some (Info index)) (find f (in_blocks index (sent_once p s) 0 (closed_blocks s))) (passes (Info index) refl)
-    go false =
-        block_begins f index (sent_once p s) 0 (closed_blocks s) 0 (λ k lt. absurd (omega arith)) (passes (Symbol (position index 0 0)) refl) once blocks
-
--- behind objects of which none passes
-pub skip_objects : (p : Settings) (f : Want → Bool) (index : ℕ) (shapes : List Shape) (n : ℕ)
-    → ((k : ℕ) → index ≤ k → k < index + n → AllOf false f k) → n ≤ length shapes
-    → find f (new_from p index shapes) ≡ find f (new_from p (index + n) (drop n shapes))
-unfolding new_from
-skip_objects p f index shapes zero fails le = ap (λ k. find f (new_from p k shapes)) (let e : index ≡ index + 0 = omega arith in e)
-skip_objects p f index [] (suc n) fails le = absurd (omega arith)
-skip_objects p f index (s ∷ shapes) (suc n) fails le =
-    find_behind f (new_of p index s) (new_from p (index + 1) shapes) (none_new p f index s (fails index (omega arith) (omega arith)))
-    ∙ skip_objects p f (index + 1) shapes n (λ k low high. fails k (omega arith) (omega arith)) (omega arith)
-    ∙ ap (λ k. find f (new_from p k (drop n shapes))) (let e : index + 1 + n ≡ index + suc n = omega arith in e)
-
--- in an object of which all pass
-pub first_of_object : (p : Settings) (f : Want → Bool) (index : ℕ) (s : Shape) (shapes : List Shape) → AllOf true f index → 0 < closed_blocks s → 0 < sent_once p s 0
-    → find f (new_from p index (s ∷ shapes)) ≡ Some (first_new index s)
-unfolding new_from
-first_of_object p f index s shapes passes blocks once =
-    find_front f (new_of p index s) (new_from p (index + 1) shapes) (first_new index s) (first_passes p f index s passes blocks once)
-
 pub none_left : (p : Settings) (f : Want → Bool) (index : ℕ) → find f (new_from p index []) ≡ None
 unfolding new_from
 none_left p f index = refl
-
--- ---- from a symbol on
 
 -- of an object, the symbols before a place fail and those from there on pass, and its info fails
 pub record Splits (f : Want → Bool) (at : Position) : Type 0 where
@@ -241,81 +184,3 @@ object_over p f at s shapes splits last over =
         skip_blocks f at.index (sent_once p s) 0 (closed_blocks s) at.block (λ block symbol low high. splits.blocks block symbol (omega arith)) (omega arith)
         ∙ through_block f at (sent_once p s) (closed_blocks s - at.block) splits past (omega arith)
         ∙ ap (λ n. find f (in_blocks at.index (sent_once p s) (at.block + 1) n)) (let e : closed_blocks s - at.block - 1 ≡ 0 = omega arith in e)
-
--- ---- the test
-
-is_false : (t : Bool) → (t ≡ true → ⊥) → t ≡ false
-is_false true h = absurd (h refl)
-is_false false h = refl
-
-not_first : (b c : Bool) → b ≡ true → (not b && c) ≡ false
-not_first true c e = refl
-not_first false c e = absurd (cc)
-
-not_second : (b c : Bool) → c ≡ false → (not b && c) ≡ false
-not_second true c e = refl
-not_second false c e = e
-
-both : (b c : Bool) → b ≡ false → c ≡ true → (not b && c) ≡ true
-both true c e f = absurd (cc)
-both false c e f = f
-
-behind_drop : (d : Point) (w : Want) → d.block ≡ 0 → d.index ≤ want_index w → stands_behind d w ≡ true
-behind_drop d (Info i) whole le = ap not (le-ltb i d.index le)
-behind_drop d (Symbol at) whole le = ap not (not_before (point_of at) d (go (cases_lt d.index at.index)))
-  where
-    go : (d.index < at.index) ⊎ (at.index ≤ d.index) → (d.index < at.index) ⊎ ((d.index ≡ at.index) × (d.block ≤ at.block))
-    go (inl lt) = inl lt
-    go (inr ge) = inr (omega arith, omega (arith, whole))
-
-before_drop : (d : Point) (w : Want) → want_index w < d.index → stands_behind d w ≡ false
-before_drop d (Info i) lt = ap not (lt-ltb i d.index lt)
-before_drop d (Symbol at) lt = ap not (ap (λ b. b || (at.index == d.index && nat_lt at.block d.block)) (lt-ltb at.index d.index lt))
-
--- a want of a later object is not before
-later : (w next : Want) → want_index next < want_index w → want_before w next ≡ false
-later (Info i) (Info j) lt = le-ltb i j (omega arith)
-later (Info i) (Symbol at) lt = lt-leb i at.index lt
-later (Symbol at) (Info j) lt = le-ltb at.index j (omega arith)
-later (Symbol at) (Symbol other) lt = is_false (position_before at other) (λ e. go ((before_decides at other).0 e))
-  where
-    go : Before at other → ⊥
-    go (inl (inl less)) = omega arith
-    go (inl (inr (same, less))) = omega arith
-    go (inr ((same, block), less)) = omega arith
-
-pub fails_dropped : (next : Want) (d : Point) (index : ℕ) → index < d.index → AllOf false (is_next next d) index
-fails_dropped next d index lt = λ w is. not_second (want_before w next) (stands_behind d w) (before_drop d w (omega (arith, is, lt)))
-
-pub passes_later : (next : Want) (d : Point) (index : ℕ) → d.block ≡ 0 → want_index next < index → d.index ≤ index → AllOf true (is_next next d) index
-passes_later next d index whole lt le = λ w is.
-    both (want_before w next) (stands_behind d w) (later w next (omega (arith, is, lt))) (behind_drop d w whole (omega (arith, is, le)))
-
-pub passes_from_info : (d : Point) (index : ℕ) → d.block ≡ 0 → d.index ≤ index → AllOf true (is_next (Info index) d) index
-passes_from_info d index whole le = λ w is. both (want_before w (Info index)) (stands_behind d w) (go w is) (behind_drop d w whole (omega (arith, is, le)))
-  where
-    go : (w : Want) → want_index w ≡ index → want_before w (Info index) ≡ false
-    go (Info i) is = le-ltb i index (omega (arith, is))
-    go (Symbol at) is = le-ltb at.index index (omega (arith, is))
-
-pub splits_at : (d : Point) (at : Position) → d.block ≡ 0 → d.index ≤ at.index → Splits (is_next (Symbol at) d) at
-splits_at d at whole le = record {
-  info = not_first (want_before (Info at.index) (Symbol at)) (stands_behind d (Info at.index)) (le-leb at.index at.index (omega arith));
-  blocks = λ block symbol lt. not_first (want_before (Symbol (position at.index block symbol)) (Symbol at)) (stands_behind d (Symbol (position at.index block symbol)))
-      ((before_decides (position at.index block symbol) at).1 (inl (inr (refl, lt))));
-  before = λ symbol lt. not_first (want_before (Symbol (position at.index at.block symbol)) (Symbol at)) (stands_behind d (Symbol (position at.index at.block symbol)))
-      ((before_decides (position at.index at.block symbol) at).1 (inr ((refl, refl), lt)));
-  here = both (want_before (Symbol at) (Symbol at)) (stands_behind d (Symbol at)) (is_false (position_before at at) (λ e. itself ((before_decides at at).0 e))) (behind_drop d (Symbol at) whole le);
-  behind = λ block lt. both (want_before (Symbol (position at.index block 0)) (Symbol at)) (stands_behind d (Symbol (position at.index block 0)))
-      (is_false (position_before (position at.index block 0) at) (λ e. back block lt ((before_decides (position at.index block 0) at).0 e))) (behind_drop d (Symbol (position at.index block 0)) whole le);
-}
-  where
-    itself : Before at at → ⊥
-    itself (inl (inl less)) = omega arith
-    itself (inl (inr (same, less))) = omega arith
-    itself (inr ((same, block), less)) = omega arith
-
-    back : (block : ℕ) → at.block < block → Before (position at.index block 0) at → ⊥
-    back block lt (inl (inl less)) = omega arith
-    back block lt (inl (inr (same, less))) = omega arith
-    back block lt (inr ((same, equal), less)) = omega arith

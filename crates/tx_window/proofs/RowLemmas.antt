@@ -10,10 +10,8 @@ use Rattle.norm_base.specs.Settings.{Settings}
 use Rattle.fec_plan.specs.Partition.{Cut, cut_of, all_symbols}
 use Rattle.held_object.specs.Held.{HeldObject, octets_of}
 use Rattle.held_object.specs.Round.{IsAround, IsClear}
-use Rattle.tx_window.specs.WindowSound.{all_octets, LieInRow, IsRow}
+use Rattle.tx_window.specs.Rows.{all_octets, LieInRow, IsRow}
 use Rattle.held_object.specs.Placed.{taken_by}
-
--- ---- how much of the ring objects take
 
 -- the octets of the ring that objects take
 abbrev pub all_taken : List HeldObject → ℕ
@@ -87,8 +85,6 @@ all_fit p hs some cut few fit =
         go (inr le) = le
         go (inl more) = absurd (let step : b + 1 ≤ a = omega arith in let least : (b + 1) * n ≤ a * n = mul-le-mul_right n step in omega arith)
 
--- ---- one more behind them, and some fewer in front
-
 -- going on from a place that was gone round to
 pub around_on : (size counted at more next : ℕ) → counted + more < size + size → IsAround size counted at → IsAround size (at + more) next
     → IsAround size (counted + more) next
@@ -148,8 +144,6 @@ unfolding LieInRow
 row_last size counted [] h next row = row.0
 row_last size counted (k ∷ hs) h next row = (row.0, row_last size (counted + taken_by k) hs h next row.1)
 
--- ---- clear of what lies there
-
 -- octets counted from `first` on, behind others that are counted from `before` on, within one round from `head` on
 pub clear_behind : (size head before len first n start other : ℕ) → head ≤ before → before + len ≤ first → first + n ≤ head + size → head < size
     → IsAround size before other → IsAround size first start → IsClear size start n other len
@@ -178,8 +172,6 @@ row_clear size head counted (g ∷ hs) h next k n start le lt fits row within at
     (around_on size (counted + all_taken (g ∷ hs)) h.start k start (omega (arith, taken_cons g hs)) (last_at size counted (g ∷ hs) h next row) at))
 row_clear size head counted (g ∷ hs) h next k n start le lt fits row within at (suc i) other e =
     row_clear size head (counted + taken_by g) hs h next k n start (omega arith) lt (omega (arith, taken_cons g hs)) row.1 within at i other e
-
--- ---- a row of none
 
 pub row_empty : (ring : List ℕ) (p : Settings) (hs : List HeldObject) → hs ≡ [] → 0 < length ring → IsRow ring p hs 0
 unfolding LieInRow

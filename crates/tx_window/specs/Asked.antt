@@ -1,17 +1,27 @@
 -- What a window is asked, in the words of the sender's rules.
-use Rattle.std.specs.Prelude.{ℕ, ◌≡◌, ◌<◌, ◌^◌, List, true, false, Option, None, Some, MatchOption, slice_get, nat_lt, ◌-◌}
+use Rattle.std.specs.Prelude.{ℕ, ◌≡◌, List, true, false, Option, None, Some, MatchOption, slice_get, nat_lt, ◌-◌, is_some, not, [], ◌∷◌}
 use Rattle.norm_base.specs.Settings.{Settings}
+use Rattle.fec_plan.specs.Points.{position}
 use Rattle.fec_plan.specs.declared.position.Position.{Position}
-use Rattle.fec_plan.specs.Partition.{IsSound, all_symbols}
-use Rattle.norm_order.specs.Entries.{Object}
-use Rattle.norm_order.specs.Shapes.{shape_of, encoded_in}
-use Rattle.norm_send_rules.specs.Messages.{fti_of_object, object_flags, told_length}
+use Rattle.fec_plan.specs.Partition.{all_symbols}
+use Rattle.norm_order.specs.Shapes.{Shape, encoded_in}
 use Rattle.norm_send_rules.specs.SenderState.{SenderState}
-use Rattle.norm_send_rules.specs.InWindow.{stands_behind}
+use Rattle.norm_send_rules.specs.InWindow.{last_index, stands_behind}
+use Rattle.norm_order.specs.First.{first_where}
+use Rattle.norm_send_rules.specs.Room.{first_kept, can_make_room}
+use Rattle.norm_send_rules.specs.Enqueuing.{open_stream, ids_spent}
+use Rattle.norm_send_rules.specs.declared.fault.EnqueueFault.{EnqueueFault}
+use Rattle.norm_send_rules.specs.declared.fault.EnqueueFault.TheVariants.{StreamOpen, IdsSpent, WindowFull}
+use Rattle.stream_buffer.specs.StreamState.{closed_segments}
+use Rattle.held_entry.specs.Asked.{AnswersKept, IsKept}
+use Rattle.held_entry.specs.declared.entry.HeldEntry.{HeldEntry}
+use Rattle.held_entry.specs.declared.entry.HeldEntry.TheVariants as held
+use Rattle.tx_window.specs.WindowState.{WindowState, IsInWindow}
+use Rattle.norm_order.specs.Entries.{Object}
+use Rattle.norm_send_rules.specs.Messages.{fti_of_object, object_flags}
 use Rattle.norm_send_rules.specs.declared.want.Want.TheVariants.{Info}
+use Rattle.held_object.specs.Held.{info_of}
 use Rattle.tx_window.specs.declared.window.About.{About}
-use Rattle.tx_window.specs.WindowState.{WindowState, WindowObject, IsInWindow}
-use Rattle.held_object.specs.Held.{info_of, AnswersSymbol}
 
 -- of a list that begins behind the first n, the one with an index among all
 abbrev pub from_first : {X : Type 0} → ℕ → List X → ℕ → Option X
@@ -28,23 +38,40 @@ kept_at s index = elim (stands_behind s.current.drop (Info index)) [
 abbrev pub info_at : SenderState → ℕ → Option (List ℕ)
 info_at s index = elim (kept_at s index) [ Some object ↦ info_of object | None ↦ None ]
 
--- The answer to a request for a symbol: its octets are appended, or None exactly where its object was dropped or not
--- enqueued, or has no such encoded symbol, and nothing is appended.
-abbrev pub AnswersAt : Settings → SenderState → Position → List ℕ → List ℕ → Option ℕ → Type 0
-AnswersAt p s at old new answer = MatchOption (kept_at s at.index) ((answer ≡ None) × (new ≡ old))
-    (λ object. AnswersSymbol p object at.block at.symbol old new answer)
-
 -- what each message of an object says of it: its transmission information and its flags
 abbrev pub about_of : Settings → Object → About
 about_of p object = record { fti = fti_of_object p object; flags = object_flags object }
 
--- nothing is wrong with how an object is cut, all its source symbols are closed, and its length has 48 bits
-pub record IsWhole (p : Settings) (object : Object) : Type 0 where
-  pub sound : IsSound (shape_of p object).cut
-  pub closed : (shape_of p object).closed ≡ all_symbols (shape_of p object).cut
-  pub long : told_length p object < 2 ^ 48
+-- The answer to a request for a symbol: its octets are appended, or None exactly where it was dropped or not enqueued, or its entry has no
+-- such encoded symbol, and nothing is appended.
+abbrev pub AnswersAt : Settings → SenderState → Position → List ℕ → List ℕ → Option ℕ → Type 0
+AnswersAt p s at old new answer = MatchOption (kept_at s at.index) ((answer ≡ None) × (new ≡ old))
+    (λ object. AnswersKept p object (first_kept s at.index) at.block at.symbol old new answer)
 
--- an encoded symbol of an object of the window
+-- the later of a place and the first one of its entry's kept blocks
+abbrev pub later_of : Position → ℕ → Position
+later_of from block = elim (nat_lt from.block block) [ true ↦ position from.index block 0 | false ↦ from ]
+
+-- the shape of the entry that is kept
+abbrev pub shape_kept : HeldEntry → Shape
+shape_kept (held.Object h) = record { cut = h.cut; closed = all_symbols h.cut; info = is_some h.info }
+shape_kept (held.Stream stream) = record { cut = stream.buffer.cut; closed = closed_segments stream.buffer; info = false }
+
+-- an encoded symbol of a kept block of an entry of the window
 pub record IsEncodedIn (w : WindowState) (at : Position) : Type 0 where
   pub window : IsInWindow w at.index
-  pub symbol : (o : WindowObject) → slice_get w.objects (at.index - w.drop.index) ≡ Some o → at.symbol < encoded_in (shape_of w.p o.object) at.block
+  pub kept : (e : HeldEntry) → slice_get w.entries (at.index - w.dropped) ≡ Some e → IsKept e at.block
+  pub symbol : (e : HeldEntry) → slice_get w.entries (at.index - w.dropped) ≡ Some e → nat_lt at.symbol (encoded_in (shape_kept e) at.block) ≡ true
+
+-- the index of the open stream, where there is one
+abbrev pub IsOpenAt : SenderState → Option ℕ → Type 0
+IsOpenAt s answer = MatchOption answer (open_stream s ≡ None) (λ index. (is_some (open_stream s) ≡ true) × (index ≡ last_index s))
+
+-- Why nothing of so many octets may join the order: the first that applies.
+abbrev pub joining_fault : Settings → SenderState → ℕ → Option EnqueueFault
+joining_fault p s len = first_where (
+    (is_some (open_stream s), StreamOpen (last_index s))
+    ∷ (ids_spent s, IdsSpent)
+    ∷ (not (can_make_room p s len), WindowFull s.current.drop.index)
+    ∷ []
+    )

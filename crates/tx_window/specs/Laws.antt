@@ -9,7 +9,7 @@ use Rattle.norm_send_rules.specs.declared.want.Want.TheVariants.{Symbol}
 use Rattle.tx_window.specs.WindowState.{WindowState, Stands, IsInWindow}
 use Rattle.tx_window.specs.Asked.{IsEncodedIn}
 
--- an encoded symbol of the order that was not dropped may be noted as sent
+-- an encoded symbol of the order whose block was not dropped may be noted as sent
 abbrev pub MayBeNoted : Type 0
 MayBeNoted =
     (w : WindowState) (s : SenderState) (at : Position) → Stands w s → is_encoded (current_shapes w.p s) at ≡ true

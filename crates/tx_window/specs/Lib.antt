@@ -1,8 +1,11 @@
+pub mod Rows
+pub mod Extents
 pub mod WindowState
 pub mod WindowMoves
 pub mod WindowSound
 pub mod Asked
-pub mod Taking
 pub mod Next
+pub mod Taking
+pub mod Streams
 pub mod Standing
 pub mod Laws

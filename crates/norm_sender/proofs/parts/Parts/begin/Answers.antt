@@ -26,8 +26,8 @@ returns-in-Ok-begin-clause-begun c s h =
     (record {
       profile = c.begin.ensures.profile;
       filling = c.in-Ok-begin.ensures.begun;
-      stands = c.in-Ok-begin.ensures.stands s h.window;
-      free = λ octets long. c.in-Ok-begin.ensures.free s octets h.window long;
+      stands = record { stands = c.in-Ok-begin.ensures.stands s h.window.stands; unopened = h.window.unopened };
+      free = λ octets long. c.in-Ok-begin.ensures.free s octets h.window.stands long;
     })
     (ap (λ (cut : Cut). admitted cut c.is_some.result) c.plan_of-plan.ensures ∙ ap (λ (b : Bool). admitted (cut_of c.args.len k.p.e k.p.b k.p.max_n) b) c.is_some.ensures)
     (record {

@@ -1,5 +1,4 @@
-use Rattle.std.proofs.Common.{◌∙◌, ap}
-use Rattle.tx_window.specs.WindowState.{WindowState}
+use Rattle.std.proofs.Common.{◌∙◌, refl}
 use Rattle.norm_sender.specs.Inside.{kept_of}
 use Rattle.norm_sender.proofs.parts.Parts.begin_anew.Goals as goal
 
@@ -7,10 +6,10 @@ pub returns-clause-stands : goal.returns-clause-stands
 returns-clause-stands c s h =
     let k = kept_of c.args.self.now in
     record {
-      window_profile = ap (λ (w : WindowState). w.p) c.clear.ensures.empty ∙ h.window_profile;
-      filling = ap (λ (w : WindowState). w.filling) c.clear.ensures.empty;
+      window_profile = c.clear.ensures.profile ∙ h.window_profile;
+      filling = c.clear.ensures.finished;
       union_profile = c.clear-2.ensures.profile ∙ h.union_profile;
-      window = c.clear.ensures.begun c.args.instance s h.window;
+      window = record { stands = c.clear.ensures.begun c.args.instance s h.window.stands; unopened = refl };
       union = c.clear-2.ensures.begun c.args.instance s h.union;
       book = c.cut_all.ensures k.p s c.args.instance h.book;
       pace = c.begun_anew-self.ensures s h.pace;

@@ -16,11 +16,11 @@ returns-in-Some-clause-stands c s by h some =
 pub returns-in_default-end-clause-stands : goal.returns-in_default-end-clause-stands
 returns-in_default-end-clause-stands c s by h some =
     let k = kept_of c.args.self.now in
-    refuses_by k s by c.args.quorum None NothingEnqueued h (sym c.in_default-end.is ∙ c.end.ensures s h.window)
+    refuses_by k s by c.args.quorum None NothingEnqueued h (sym c.in_default-end.is ∙ c.end.ensures s h.window.stands)
     (asked_nothing k.p s by c.args.quorum c.quorum_fault.result (c.quorum_fault.ensures k.p s h.book) c.in_default.is)
 
 pub returns-clause-stands : goal.returns-clause-stands
 returns-clause-stands c s by h some =
     let k = kept_of c.args.self.now in
-    marks_by k (kept_of c.mark_at.new.self) s by c.args.quorum (Some c.in-Some-end.at) c.mark_at.result h (sym c.in-Some-end.is ∙ c.end.ensures s h.window)
+    marks_by k (kept_of c.mark_at.new.self) s by c.args.quorum (Some c.in-Some-end.at) c.mark_at.result h (sym c.in-Some-end.is ∙ c.end.ensures s h.window.stands)
     (c.mark_at.ensures.stands s by h some)

@@ -5,7 +5,7 @@ use Rattle.norm_order.specs.Shapes.{is_encoded}
 use Rattle.norm_send_rules.specs.InWindow.{current_shapes}
 use Rattle.norm_send_rules.specs.Sending.{sends_want}
 use Rattle.norm_send_rules.specs.declared.want.Want.TheVariants.{Symbol}
-use Rattle.tx_window.proofs.StandingLemmas.{may_note_encoded}
+use Rattle.tx_window.proofs.LawLemmas.{may_be_noted as may_note}
 use Rattle.nack_union.proofs.Heard.{may_be_noted}
 use Rattle.norm_sender.specs.declared.parts.Parts.{Parts}
 use Rattle.norm_sender.specs.Inside.{kept_of}
@@ -22,7 +22,7 @@ returns-then-not-write_symbol-clause-stands c s h v few =
 pub note_symbol-requires-clause-window : goal.note_symbol-requires-clause-window
 note_symbol-requires-clause-window c =
     let r = c.requires in
-    may_note_encoded c.args.self.now.window r.state c.args.at r.stands.window
+    may_note c.args.self.now.window r.state c.args.at r.stands.window.stands
     (subst (λ (q : Settings). is_encoded (current_shapes q r.state) c.args.at ≡ true) (sym r.stands.window_profile) r.valid.of_order) r.valid.behind
 
 pub note_symbol-requires-clause-union : goal.note_symbol-requires-clause-union

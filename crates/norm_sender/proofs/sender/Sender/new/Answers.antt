@@ -21,7 +21,7 @@ invariant_of-result c =
     let p = c.args.profile.now in
     let k : SenderKept = record { p = p; window = c.in_ok-window.window; union = c.new-union.result; book = c.in_ok-book.book; pace = c.begun.result } in
     sound_standing k (sender_opening p c.args.instance)
-    (begins k c.args.instance c.hold_range.ensures c.in_ok-window.ensures.empty c.new-union.ensures.empty
+    (begins k c.args.instance c.hold_range.ensures c.in_ok-window.ensures.profile c.in_ok-window.ensures.finished c.new-union.ensures.empty
     (c.in_ok-window.ensures.begun c.args.instance) (c.new-union.ensures.begun c.args.instance)
     (c.in_ok-book.ensures.stands p c.args.instance (c.deref.ensures.value ∙ c.in_ok-nodes.ensures)) (c.begun.ensures p))
 
@@ -30,6 +30,6 @@ returns-clause-stands c =
     let p = c.args.profile.now in
     begins
     (record { p = p; window = c.in_ok-window.window; union = c.new-union.result; book = c.in_ok-book.book; pace = c.begun.result })
-    c.args.instance c.hold_range.ensures c.in_ok-window.ensures.empty c.new-union.ensures.empty
+    c.args.instance c.hold_range.ensures c.in_ok-window.ensures.profile c.in_ok-window.ensures.finished c.new-union.ensures.empty
     (c.in_ok-window.ensures.begun c.args.instance) (c.new-union.ensures.begun c.args.instance)
     (c.in_ok-book.ensures.stands p c.args.instance (c.deref.ensures.value ∙ c.in_ok-nodes.ensures)) (c.begun.ensures p)

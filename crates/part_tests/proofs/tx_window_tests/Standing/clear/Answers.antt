@@ -1,11 +1,9 @@
-use Rattle.std.proofs.Common.{ap}
 use Rattle.norm_send_rules.specs.Restarting.{begun_anew}
-use Rattle.tx_window.specs.WindowState.{WindowState}
 use Rattle.part_tests.proofs.tx_window_tests.Standing.clear.Goals as goal
 
 pub invariant_of-self : goal.invariant_of-self
 invariant_of-self c = record {
   state = begun_anew 0 c.self.invariant.state;
   stands = c.clear.ensures.begun 0 c.self.invariant.state c.self.invariant.stands;
-  filling = ap (λ (w : WindowState). w.filling) c.clear.ensures.empty;
+  filling = c.clear.ensures.finished;
 }

@@ -1,5 +1,3 @@
-use Rattle.std.proofs.Common.{refl, ap}
-use Rattle.tx_window.specs.WindowState.{WindowState}
 use Rattle.norm_send_rules.specs.SenderState.{sender_opening}
 use Rattle.part_tests.proofs.tx_window_tests.Standing.new.Goals as goal
 
@@ -7,5 +5,5 @@ pub invariant_of-standing : goal.invariant_of-standing
 invariant_of-standing c = record {
   state = sender_opening c.args.profile.now 0;
   stands = c.in_ok-window.ensures.begun 0;
-  filling = ap (λ (w : WindowState). w.filling) c.in_ok-window.ensures.empty;
+  filling = c.in_ok-window.ensures.finished;
 }

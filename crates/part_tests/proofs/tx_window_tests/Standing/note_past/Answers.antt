@@ -1,6 +1,6 @@
 use Rattle.std.proofs.Common.{sym, subst}
 use Rattle.tx_window.specs.Standing.{IsStanding}
-use Rattle.tx_window.proofs.StandingLemmas.{stays_past}
+use Rattle.tx_window.proofs.LawLemmas.{stays_past}
 use Rattle.part_tests.proofs.tx_window_tests.Standing.note_past.Goals as goal
 
 pub invariant_of-self : goal.invariant_of-self

@@ -2,7 +2,7 @@ use Rattle.std.proofs.Common.{ℕ, subst, ◌∙◌, Option}
 use Rattle.norm_send_rules.specs.Sending.{noted}
 use Rattle.norm_send_rules.specs.declared.want.Want.TheVariants.{Symbol}
 use Rattle.tx_window.specs.Asked.{AnswersAt}
-use Rattle.tx_window.proofs.StandingLemmas.{may_note}
+use Rattle.tx_window.proofs.LawLemmas.{may_note}
 use Rattle.part_tests.proofs.tx_window_tests.Standing.send.Goals as goal
 
 pub note_sent-requires : goal.note_sent-requires

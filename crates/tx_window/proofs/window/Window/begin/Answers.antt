@@ -1,20 +1,27 @@
-use Rattle.std.proofs.Common.{◌≡◌, ◌+◌, ◌-◌, ◌<◌, ◌≤◌, ◌++◌, ap, sym, subst, ◌∙◌, refl, arith, None, Some, ℕ, Option, List, [], ◌∷◌, length, length-append, map, drop}
-use Rattle.std.specs.Prelude.{slice_get, option_to_list, option_map}
-use Rattle.std.proofs.lemmas.List.{length-drop, length-map, append-nil}
+use Rattle.std.proofs.Common.{◌≡◌, ◌+◌, ◌-◌, ◌<◌, ◌≤◌, ◌++◌, ap, sym, subst, ◌∙◌, refl, arith, None, Some, ℕ, Option, List, [], ◌∷◌, length, map, drop}
+use Rattle.std.specs.Prelude.{slice_get, option_to_list, option_map, replicate}
+use Rattle.std.proofs.lemmas.List.{length-drop, append-nil, length-replicate}
 use Rattle.norm_base.specs.Settings.{Settings}
-use Rattle.fec_plan.specs.Points.{Point, point}
+use Rattle.fec_plan.specs.Points.{Point}
 use Rattle.norm_send_rules.specs.Dropping.{dropped_to}
 use Rattle.norm_send_rules.specs.Room.{window, has_to_go, drop_after}
 use Rattle.held_object.specs.Held.{HeldObject, octets_of}
-use Rattle.tx_window.specs.WindowState.{WindowState, WindowObject, Filling, Stands}
-use Rattle.tx_window.specs.WindowSound.{window_view, window_object, filling_in, IsRow, IsFilling, all_octets, all_kept}
 use Rattle.held_object.specs.Placed.{IsPlaced}
-use Rattle.tx_window.proofs.RowLemmas.{octets_append, octets_cons}
-use Rattle.tx_window.proofs.RoomLemmas.{map_drop}
-use Rattle.tx_window.proofs.WindowLemmas.{slice_get-drop}
-use Rattle.tx_window.proofs.GoingLemmas.{sizes_held}
-use Rattle.tx_window.proofs.JoiningLemmas.{drop_is, stands_dropped, after_drop}
+use Rattle.held_entry.specs.Places.{held_size}
+use Rattle.held_entry.specs.declared.entry.HeldEntry.{HeldEntry}
+use Rattle.tx_window.specs.WindowState.{Filling, WindowState, Stands}
+use Rattle.tx_window.specs.Rows.{filling_in, IsRow, IsFilling, all_octets}
+use Rattle.tx_window.proofs.RowLemmas.{octets_cons}
+use Rattle.tx_window.proofs.ListLemmas.{slice_get-drop}
 use Rattle.tx_window.proofs.BeginningLemmas.{placed_cut, row_within, row_begun, filling_begun}
+use Rattle.tx_window.specs.Extents.{shape_of_extent, IsSized}
+use Rattle.tx_window.specs.WindowSound.{window_view, all_sizes, objects_in, all_kept}
+use Rattle.tx_window.specs.declared.extent.Extent.{Extent}
+use Rattle.tx_window.proofs.KeptLemmas.{are_entries}
+use Rattle.tx_window.proofs.RoomLemmas.{sizes_are}
+use Rattle.tx_window.proofs.ObjectsLemmas.{gone_of, objects_dropped, objects_fit, objects_left}
+use Rattle.tx_window.proofs.StandingLemmas.{stands_dropped}
+use Rattle.tx_window.proofs.FaultLemmas.{object_none, no_parts}
 use Rattle.tx_window.proofs.window.Window.begin.Goals as goal
 
 -- nothing is being filled
@@ -30,13 +37,15 @@ invariant_of-self c =
     let none = none_begun w.ring w.filled w.begun (ap (λ (v : WindowState). v.filling) c.self.view_is ∙ c.requires) in
     record {
       ring_long = old.ring_long;
-      octets = old.octets ∙ ap (λ hs. all_octets (hs ++ option_to_list w.begun)) (sym same);
-      row = subst (λ hs. IsRow w.ring w.profile (hs ++ option_to_list w.begun) w.free) (sym same) old.row;
-      placed = subst (λ (hs : List HeldObject). (i : ℕ) (h : HeldObject) → slice_get hs i ≡ Some h → IsPlaced w.ring w.profile h) (sym same) old.placed;
+      octets = old.octets ∙ ap (λ (es : List HeldEntry). all_sizes w.profile es + all_octets (option_to_list w.begun)) (sym same);
+      fit = old.fit;
+      few = subst (λ (es : List HeldEntry). length es + length (option_to_list w.begun) ≤ w.profile.window) (sym same) old.few;
+      row = subst (λ (es : List HeldEntry). IsRow w.ring w.profile (objects_in es ++ option_to_list w.begun) w.free) (sym same) old.row;
+      placed = subst (λ (es : List HeldEntry). (i : ℕ) (h : HeldObject) → slice_get (objects_in es) i ≡ Some h → IsPlaced w.ring w.profile h) (sym same) old.placed;
       filling = old.filling;
       room = λ h e. absurd (never h (sym none ∙ e));
-      sized = subst (λ (ls : List ℕ). (i l : ℕ) → slice_get ls i ≡ Some l → (1 ≤ l) × (l ≤ 16777216)) (sym c.reserve.ensures.extents) old.sized;
-      counted = omega (arith, old.counted, ap (λ hs. length (hs ++ option_to_list w.begun)) same);
+      sized = subst (λ (xs : List Extent). (i : ℕ) (x : Extent) → slice_get xs i ≡ Some x → IsSized x) (sym c.reserve.ensures.extents) old.sized;
+      counted = subst (λ (es : List HeldEntry). w.dropped + (length es + length (option_to_list w.begun)) ≤ 4294967295) (sym same) old.counted;
       numbered = omega (arith, old.numbered, ap length same, ap length c.reserve.ensures.extents);
     }
   where
@@ -61,49 +70,49 @@ invariant_of-self-2 c =
     let h = c.in-Ok.begun in
     let p : Settings = w.profile in
     let n = c.room_for-count.result.0 in
-    let hs = w.held.items in
+    let es = w.held.items in
+    let hs = objects_in w.held.items in
     let free = c.object_fault.ensures.free c.in_default.is in
     let none = none_begun w.ring w.filled w.begun (ap (λ (v : WindowState). v.filling) c.self.view_is ∙ c.requires) in
     let all : all_kept w ≡ hs = ap (λ b. hs ++ option_to_list b) none ∙ append-nil hs in
-    let same : c.drop_front.new.held.items ≡ drop n hs = c.drop_front.ensures.items ∙ ap (drop n) c.reserve.ensures.held in
+    let same : c.drop_front.new.held.items ≡ drop n es = c.drop_front.ensures.items ∙ ap (drop n) c.reserve.ensures.held in
+    let objects : objects_in c.drop_front.new.held.items ≡ drop (gone_of n es) hs = ap objects_in same ∙ objects_dropped n es in
     let octets : octets_of h.cut ≡ c.args.len = ap (λ (k : HeldObject). octets_of k.cut) c.in-Ok.ensures in
-    let left : c.room_for-count.result.1 ≡ all_octets (drop n hs) = c.room_for-count.ensures.left ∙ ap (λ ks. all_octets (drop n ks)) c.reserve.ensures.held in
-    let few : length hs - n < p.window = omega (arith, c.room_for-count.ensures.few, ap length c.reserve.ensures.held) in
+    let left : c.room_for-count.result.1 ≡ all_sizes p (drop n es) = c.room_for-count.ensures.left ∙ ap (λ (xs : List HeldEntry). all_sizes p (drop n xs)) c.reserve.ensures.held in
+    let few : length es - n < p.window = omega (arith, c.room_for-count.ensures.few, ap length c.reserve.ensures.held) in
     let row : IsRow w.ring p hs w.free = subst (λ ks. IsRow w.ring p ks w.free) all old.row in
     let filling = filling_begun w.ring p hs h c.args.kind c.args.info c.args.len w.free old.ring_long row c.taken.ensures.sound
     (omega (arith, few)) c.in-Ok.ensures free.0 (omega (arith, free.1, ap (λ (v : WindowState). v.p.octets) c.self.view_is)) free.2 (omega (arith, free.3, c.info_len.ensures, ap (λ (v : WindowState). v.p.e) c.self.view_is)) in
     let e-is : h.cut.e ≡ p.e = ap (λ (k : HeldObject). k.cut.e) c.in-Ok.ensures in
-    let le : n ≤ length hs = omega (arith, c.room_for-count.ensures.count, ap length c.reserve.ensures.held) in
+    let le : n ≤ length es = omega (arith, c.room_for-count.ensures.count, ap length c.reserve.ensures.held) in
+    let fewer : all_octets (drop (gone_of n es) hs) ≤ all_sizes p (drop n es) = omega (arith, objects_fit p (drop n es), ap all_octets (objects_dropped n es)) in
     record {
       ring_long = old.ring_long;
-      octets =
-          ap (λ m. m + c.args.len) left ∙ ap (λ m. all_octets (drop n hs) + m) (sym octets)
-          ∙ (let z : all_octets (drop n hs) + octets_of h.cut ≡ all_octets (drop n hs ++ h ∷ []) = omega (arith, octets_append (drop n hs) (h ∷ []), octets_cons h []) in z)
-          ∙ ap (λ ks. all_octets (ks ++ h ∷ [])) (sym same);
-      row = subst (λ ks. IsRow w.ring p (ks ++ h ∷ []) c.behind-self-inside.result) (sym same)
-          (row_begun w.ring p hs n h w.free c.behind-self-inside.result (omega (arith, e-is, c.taken.ensures.sound.least_e)) old.ring_long row
+      octets = omega (arith, left, octets, ap (all_sizes p) same, octets_cons h []);
+      fit = omega (arith, c.room_for-count.ensures.fit);
+      few = omega (arith, few, ap length same, length-drop n es);
+      row = subst (λ ks. IsRow w.ring p (ks ++ h ∷ []) c.behind-self-inside.result) (sym objects)
+          (row_begun w.ring p hs (gone_of n es) h w.free c.behind-self-inside.result (omega (arith, e-is, c.taken.ensures.sound.least_e)) old.ring_long row
           (λ i k e. placed_cut w.ring p k (old.placed i k e)) filling.cut (ap (λ (k : HeldObject). k.start) c.in-Ok.ensures)
-          (omega (arith, left, octets, c.room_for-count.ensures.fit)) few
+          (omega (arith, fewer, left, octets, c.room_for-count.ensures.fit)) (omega (arith, few, objects_left n es))
           (subst (λ m. Rattle.held_object.specs.Round.IsAround (length w.ring) (w.free + m) c.behind-self-inside.result) c.taken.ensures.exact c.behind-self-inside.ensures));
-      placed = λ i k e. old.placed (n + i) k (sym (slice_get-drop n hs i) ∙ ap (λ ks. slice_get ks i) (sym same) ∙ e);
-      sized = subst (λ (ls : List ℕ). (i l : ℕ) → slice_get ls i ≡ Some l → (1 ≤ l) × (l ≤ 16777216)) (sym c.reserve.ensures.extents) old.sized;
+      placed = λ i k e. old.placed (gone_of n es + i) k (sym (slice_get-drop (gone_of n es) hs i) ∙ ap (λ ks. slice_get ks i) (sym objects) ∙ e);
+      sized = subst (λ (xs : List Extent). (i : ℕ) (x : Extent) → slice_get xs i ≡ Some x → IsSized x) (sym c.reserve.ensures.extents) old.sized;
       filling = λ k e. subst (IsFilling w.ring p 0) (is k e) filling;
       room = λ k e. (
-        omega (arith, c.reserve.ensures.held_room c.if-not-reserve.false, c.drop_front.ensures.capacity, ap length same, length-drop n hs, ap length c.reserve.ensures.held),
+        omega (arith, c.reserve.ensures.held_room c.if-not-reserve.false, c.drop_front.ensures.capacity, ap length same, length-drop n es, ap length c.reserve.ensures.held),
         c.reserve.ensures.extents_room c.if-not-reserve.false,
       );
       counted = omega (
         arith,
-        ap (λ ks. length (ks ++ h ∷ [])) same,
-        length-append (drop n hs) (h ∷ []),
-        length-drop n hs,
+        ap length same,
+        length-drop n es,
         le,
         free.4,
-        ap (λ (v : WindowState). v.drop.index) c.self.view_is,
-        ap (λ (v : WindowState). length v.objects) c.self.view_is,
-        length-map hs (window_object w.ring),
+        ap (λ (v : WindowState). v.dropped) c.self.view_is,
+        ap (λ (v : WindowState). length v.entries) c.self.view_is,
       );
-      numbered = omega (arith, ap length same, length-drop n hs, le, old.numbered, ap length c.reserve.ensures.extents);
+      numbered = omega (arith, ap length same, length-drop n es, le, old.numbered, ap length c.reserve.ensures.extents);
     }
   where
     is : (k : HeldObject) → Some c.in-Ok.begun ≡ Some k → c.in-Ok.begun ≡ k
@@ -112,22 +121,23 @@ invariant_of-self-2 c =
 pub returns-clause-stands : goal.returns-clause-stands
 returns-clause-stands c = λ s stands.
     let w = c.self.inside in
+    let p : Settings = w.profile in
     let n = c.room_for-count.result.0 in
-    let hs = w.held.items in
+    let es = w.held.items in
     let here = subst (λ (v : WindowState). Stands v s) (sym c.self.view_is) stands in
-    let same : c.drop_front.new.held.items ≡ drop n hs = c.drop_front.ensures.items ∙ ap (drop n) c.reserve.ensures.held in
-    let le : n ≤ length (map (window_object w.ring) hs) = omega (arith, c.room_for-count.ensures.count, ap length c.reserve.ensures.held, length-map hs (window_object w.ring)) in
-    let count : n ≡ has_to_go w.profile c.args.len (window s) =
-    c.room_for-count.ensures.exact (window s) (sizes_held (window_view w) s w.ring hs refl c.self.invariant.placed here ∙ ap (map (λ (h : HeldObject). octets_of h.cut)) (sym c.reserve.ensures.held)) in
+    let same : c.drop_front.new.held.items ≡ drop n es = c.drop_front.ensures.items ∙ ap (drop n) c.reserve.ensures.held in
+    let le : n ≤ length es = omega (arith, c.room_for-count.ensures.count, ap length c.reserve.ensures.held) in
+    let count : n ≡ has_to_go p c.args.len (window s) =
+    c.room_for-count.ensures.exact (window s) (sizes_are w.ring p w.dropped (window s) s es (are_entries (window_view w) s here) ∙ ap (map (held_size p)) (sym c.reserve.ensures.held)) in
     let f : Option Filling = Some (filling_in w.ring 0 c.in-Ok.begun) in
-    let dropped = stands_dropped (window_view w) s n f le here in
-    let objects : drop n (map (window_object w.ring) hs) ≡ map (window_object w.ring) c.drop_front.new.held.items =
-    sym (map_drop (window_object w.ring) n hs) ∙ ap (map (window_object w.ring)) (sym same) in
-    let point-is : point (w.dropped + n) 0 ≡ drop_after s.current.drop (has_to_go c.args.self.now.p c.args.len (window s)) =
-    sym (drop_is s.current.drop w.dropped n here.dropped) ∙ ap (drop_after s.current.drop) (count ∙ ap (λ (v : WindowState). has_to_go v.p c.args.len (window s)) c.self.view_is) in
-    subst (λ (d : Point). Stands (record (after_drop (window_view w) n f) { objects = map (window_object w.ring) c.drop_front.new.held.items; extents = c.reserve.new.extents.items }) (dropped_to d s)) point-is
-    (subst (λ (ls : List ℕ). Stands (record (after_drop (window_view w) n f) { objects = map (window_object w.ring) c.drop_front.new.held.items; extents = ls }) (dropped_to (point (w.dropped + n) 0) s)) (sym c.reserve.ensures.extents)
-    (subst (λ (os : List WindowObject). Stands (record (after_drop (window_view w) n f) { objects = os }) (dropped_to (point (w.dropped + n) 0) s)) objects dropped))
+    let none = object_none c.args.self.now.p s c.args.info (replicate c.args.len 0)
+    (sym (c.object_fault.ensures.exact s c.args.info (replicate c.args.len 0) stands (sym c.info_len.ensures) (length-replicate {A = ℕ} c.args.len 0)) ∙ c.in_default.is) in
+    let dropped = stands_dropped (window_view w) s n f le (no_parts s none) here in
+    let point-is : drop_after s.current.drop n ≡ drop_after s.current.drop (has_to_go c.args.self.now.p c.args.len (window s)) =
+    ap (drop_after s.current.drop) (count ∙ ap (λ (v : WindowState). has_to_go v.p c.args.len (window s)) c.self.view_is) in
+    subst (λ (d : Point). Stands (record (window_view w) { dropped = w.dropped + n; entries = c.drop_front.new.held.items; filling = f; shapes = map (shape_of_extent p) c.reserve.new.extents.items }) (dropped_to d s)) point-is
+    (subst (λ (xs : List Extent). Stands (record (window_view w) { dropped = w.dropped + n; entries = c.drop_front.new.held.items; filling = f; shapes = map (shape_of_extent p) xs }) (dropped_to (drop_after s.current.drop n) s)) (sym c.reserve.ensures.extents)
+    (subst (λ (xs : List HeldEntry). Stands (record (window_view w) { dropped = w.dropped + n; entries = xs; filling = f }) (dropped_to (drop_after s.current.drop n) s)) (sym same) dropped))
 
 pub returns-clause-free : goal.returns-clause-free
 returns-clause-free c = λ s octets stands long.

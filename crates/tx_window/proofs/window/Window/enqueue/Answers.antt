@@ -1,4 +1,4 @@
-use Rattle.std.proofs.Common.{◌≡◌, ap, sym, subst, ◌∙◌, Some, ℕ, List, [], length, Ok}
+use Rattle.std.proofs.Common.{◌≡◌, ap, sym, subst, ◌∙◌, Some, ℕ, List, [], length, Ok, Option}
 use Rattle.std.specs.Prelude.{MatchOption, Result}
 use Rattle.norm_order.specs.Entries.{Whole}
 use Rattle.norm_send_rules.specs.SenderState.{SenderState}
@@ -6,24 +6,24 @@ use Rattle.norm_send_rules.specs.Enqueuing.{with_entry}
 use Rattle.norm_send_rules.specs.declared.job.Receipt.{Receipt}
 use Rattle.norm_send_rules.specs.declared.fault.EnqueueFault.{EnqueueFault}
 use Rattle.norm_send_rules.specs.declared.job.Receipt.TheVariants.{Object as EnqueuedObject}
-use Rattle.tx_window.specs.WindowState.{WindowState, Filling, Stands}
+use Rattle.tx_window.specs.WindowState.{Filling, Stands}
 use Rattle.tx_window.specs.Taking.{room_made, with_piece}
-use Rattle.tx_window.proofs.JoiningLemmas.{stands_filling, enqueued_is}
+use Rattle.tx_window.proofs.FaultLemmas.{enqueued_is}
 use Rattle.tx_window.proofs.window.Window.enqueue.Goals as goal
 
 -- the object as it was begun
 abbrev first : goal.After-finish-arg-1 → Filling
 first c = record { kind = c.args.kind; info = c.args.info; len = length c.bytes-2.result.now; octets = [] }
 
-full : (c : goal.After-finish-arg-1) → c.fill.new.self ≡ record c.begin.new.self { filling = Some (with_piece c.bytes-in-Ok.result.now (first c)) }
-full c = c.fill.ensures.exact (first c) c.in-Ok.ensures.begun
+full : (c : goal.After-finish-arg-1) → c.fill.new.self.filling ≡ Some (with_piece c.bytes-in-Ok.result.now (first c))
+full c = c.fill.ensures.filling (first c) c.in-Ok.ensures.begun
 
 same : (c : goal.After-finish-arg-1) → c.bytes-in-Ok.result.now ≡ c.bytes-2.result.now
 same c = c.bytes-in-Ok.ensures ∙ sym c.bytes-2.ensures
 
 pub finish-requires : goal.finish-requires
 finish-requires c =
-    subst (λ (w : WindowState). MatchOption w.filling ⊥ (λ f. length f.octets ≡ f.len)) (sym (full c)) (ap length (same c))
+    subst (λ (r : Option Filling). MatchOption r ⊥ (λ f. length f.octets ≡ f.len)) (sym (full c)) (ap length (same c))
 
 pub returns-in-Ok-clause-enqueued : goal.returns-in-Ok-clause-enqueued
 returns-in-Ok-clause-enqueued c = λ s by stands.
@@ -31,10 +31,11 @@ returns-in-Ok-clause-enqueued c = λ s by stands.
     let bytes = c.args.bytes in
     let len = ap length c.bytes-2.ensures in
     let room : SenderState = room_made p (length c.bytes-2.result.now) s in
-    let filled = c.fill.ensures.exact (record { kind = c.args.kind; info = c.args.info; len = length c.bytes-2.result.now; octets = [] }) c.in-Ok.ensures.begun in
+    let first : Filling = record { kind = c.args.kind; info = c.args.info; len = length c.bytes-2.result.now; octets = [] } in
+    let filled = c.fill.ensures.filling first c.in-Ok.ensures.begun in
     let f : Filling = record { kind = c.args.kind; info = c.args.info; len = length c.bytes-2.result.now; octets = c.bytes-in-Ok.result.now } in
-    let here : Stands c.fill.new.self room = subst (λ (w : WindowState). Stands w room) (sym filled) (stands_filling c.begin.new.self room (Some f) (c.in-Ok.ensures.stands s stands)) in
-    let joined = c.finish.ensures.stands room by f here (ap (λ (w : WindowState). w.filling) filled) in
+    let here : Stands c.fill.new.self room = c.fill.ensures.stands room (c.in-Ok.ensures.stands s stands) in
+    let joined = c.finish.ensures.stands room by f here filled in
     let free = c.in-Ok.ensures.free s bytes stands (sym len) in
     let is = enqueued_is p s by c.args.kind c.args.info bytes free in
     record {
@@ -45,6 +46,4 @@ returns-in-Ok-clause-enqueued c = λ s by stands.
     }
 
 pub returns-in-Ok-clause-profile : goal.returns-in-Ok-clause-profile
-returns-in-Ok-clause-profile c =
-    let filled = c.fill.ensures.exact (record { kind = c.args.kind; info = c.args.info; len = length c.bytes-2.result.now; octets = [] }) c.in-Ok.ensures.begun in
-    c.finish.ensures.profile ∙ ap (λ (w : WindowState). w.p) filled ∙ c.begin.ensures.profile
+returns-in-Ok-clause-profile c = c.finish.ensures.profile ∙ c.fill.ensures.profile ∙ c.begin.ensures.profile

@@ -3,16 +3,17 @@ use Rattle.std.specs.Prelude.{slice_get, option_to_list, option_map, MatchOption
 use Rattle.norm_base.specs.Settings.{Settings}
 use Rattle.fec_plan.specs.Partition.{Cut}
 use Rattle.held_object.specs.Held.{HeldObject, octets_of, octets_in}
-use Rattle.held_object.specs.Round.{round, IsAround}
-use Rattle.tx_window.specs.WindowState.{WindowState, WindowObject, Filling, Stands}
-use Rattle.tx_window.specs.WindowSound.{window_view, filling_in, IsRow, IsFilling, all_kept}
 use Rattle.held_object.specs.Placed.{taken_by}
+use Rattle.held_object.specs.Round.{round, IsAround}
 use Rattle.held_object.proofs.RoundLemmas.{length-round}
+use Rattle.tx_window.specs.WindowState.{Filling, WindowState, Stands}
+use Rattle.tx_window.specs.Rows.{filling_in, IsRow, IsFilling}
 use Rattle.tx_window.proofs.RowLemmas.{symbols_taken}
-use Rattle.tx_window.specs.Taking.{with_piece}
 use Rattle.tx_window.proofs.BeginningLemmas.{placed_cut, cut_more}
-use Rattle.tx_window.proofs.JoiningLemmas.{stands_filling}
-use Rattle.tx_window.proofs.FillingLemmas.{IsPut, filled_more, kept_octets, kept_objects, placed_kept, row_kept, filling_kept}
+use Rattle.tx_window.proofs.FillingLemmas.{IsPut, filled_more, kept_octets, placed_kept, row_kept, filling_kept}
+use Rattle.tx_window.specs.WindowSound.{window_view, objects_in, all_kept}
+use Rattle.tx_window.proofs.ObjectsLemmas.{object_there}
+use Rattle.tx_window.proofs.StandingLemmas.{stands_filling}
 use Rattle.tx_window.proofs.window.Window.fill.Goals as goal
 
 -- the object that is being filled, as the caller knows it
@@ -41,16 +42,17 @@ put c = record {
   others = c.write.ensures.others;
 }
 
-kept : (c : goal.After-self-2-1) (i : ℕ) (o : HeldObject) → slice_get c.self.inside.held.items i ≡ Some o → octets_in c.write.new.self o ≡ octets_in c.self.inside.ring o
+kept : (c : goal.After-self-2-1) (i : ℕ) (o : HeldObject) → slice_get (objects_in c.self.inside.held.items) i ≡ Some o → octets_in c.write.new.self o ≡ octets_in c.self.inside.ring o
 kept c =
     let w = c.self.inside in
     let h = c.in-Some.begun in
+    let hs = objects_in w.held.items in
     let p : Settings = w.profile in
     let e-is : h.cut.e ≡ p.e = ap (λ (k : Cut). k.e) (begun c).cut in
-    let all : all_kept w ≡ w.held.items ++ h ∷ [] = ap (λ b. w.held.items ++ option_to_list b) c.in-Some.is in
-    kept_octets w.ring c.write.new.self c.args.piece.now p w.held.items h w.free w.filled c.behind-at.result (put c) (omega (arith, e-is, (begun c).sound.least_e)) c.self.invariant.ring_long
+    let all : all_kept w ≡ hs ++ h ∷ [] = ap (λ b. hs ++ option_to_list b) c.in-Some.is in
+    kept_octets w.ring c.write.new.self c.args.piece.now p hs h w.free w.filled c.behind-at.result (put c) (omega (arith, e-is, (begun c).sound.least_e)) c.self.invariant.ring_long
     (subst (λ ks. IsRow w.ring p ks w.free) all c.self.invariant.row)
-    (cut_more p w.held.items h (λ i k e. placed_cut w.ring p k (c.self.invariant.placed i k e)) (begun c).cut)
+    (cut_more p hs h (λ i k e. placed_cut w.ring p k (c.self.invariant.placed i k e)) (begun c).cut)
     (omega (arith, (there c).0, (there c).1))
 
 pub invariant_of-self : goal.invariant_of-self
@@ -60,6 +62,8 @@ invariant_of-self c =
     record {
       ring_long = c.write.ensures.size ∙ old.ring_long;
       octets = old.octets;
+      fit = old.fit;
+      few = old.few;
       row = row_kept w.ring c.write.new.self w.profile (all_kept w) w.free c.write.ensures.size old.row;
       placed = λ i o e. placed_kept w.ring c.write.new.self w.profile o c.write.ensures.size (kept c i o e) (old.placed i o e);
       filling = λ k e.
@@ -68,32 +72,34 @@ invariant_of-self c =
           (filling_kept w.ring c.write.new.self w.profile w.filled (w.filled + length c.args.piece.now) c.in-Some.begun c.write.ensures.size (there c).1 (begun c));
       room = old.room;
       counted = old.counted;
-      sized = c.self.invariant.sized;
+      sized = old.sized;
       numbered = old.numbered;
     }
   where
     is : (k : HeldObject) → Some c.in-Some.begun ≡ Some k → c.in-Some.begun ≡ k
     is k e = cc
 
-pub returns-clause-exact : goal.returns-clause-exact
-returns-clause-exact c = λ f f-is.
+pub returns-clause-filling : goal.returns-clause-filling
+returns-clause-filling c = λ f f-is.
     let w = c.self.inside in
     let h = c.in-Some.begun in
     let new = c.write.new.self in
     let same : filling_in w.ring w.filled h ≡ f = is f (sym (seen c) ∙ f-is) in
     let octets : round new h.start (w.filled + length c.args.piece.now) ≡ round w.ring h.start w.filled ++ c.args.piece.now =
     filled_more w.ring new c.args.piece.now h.start w.filled c.behind-at.result (put c) (begun c).lies.start (omega (arith, (there c).0, (there c).1, (begun c).lies.room)) in
-    ap (λ (os : List WindowObject). record (window_view w) { objects = os; filling = option_map (filling_in new (w.filled + length c.args.piece.now)) w.begun })
-    (kept_objects w.ring new w.held.items (kept c))
-    ∙ ap (λ (b : Option HeldObject). record (window_view w) { filling = option_map (filling_in new (w.filled + length c.args.piece.now)) b }) c.in-Some.is
-    ∙ ap (λ (xs : List ℕ). record (window_view w) { filling = Some (record { kind = h.kind; info = h.info; len = octets_of h.cut; octets = xs }) }) octets
-    ∙ ap (λ (g : Filling). record (window_view w) { filling = Some (record g { octets = g.octets ++ c.args.piece.now }) }) same
-    ∙ ap (λ (v : WindowState). record v { filling = Some (record f { octets = f.octets ++ c.args.piece.now }) }) c.self.view_is
+    ap (option_map (filling_in new (w.filled + length c.args.piece.now))) c.in-Some.is
+    ∙ ap (λ (xs : List ℕ). Some (record { kind = h.kind; info = h.info; len = octets_of h.cut; octets = xs })) octets
+    ∙ ap (λ (g : Filling). Some (record g { octets = g.octets ++ c.args.piece.now })) same
   where
     is : (f : Filling) → Some (filling_in c.self.inside.ring c.self.inside.filled c.in-Some.begun) ≡ Some f → filling_in c.self.inside.ring c.self.inside.filled c.in-Some.begun ≡ f
     is f e = cc
 
 pub returns-clause-stands : goal.returns-clause-stands
 returns-clause-stands c = λ s stands.
-    subst (λ (w : WindowState). Stands w s) (sym (returns-clause-exact c (filling_in c.self.inside.ring c.self.inside.filled c.in-Some.begun) (seen c)))
-    (stands_filling c.args.self.now s (Some (with_piece c.args.piece.now (filling_in c.self.inside.ring c.self.inside.filled c.in-Some.begun))) stands)
+    let w = c.self.inside in
+    stands_filling (window_view w) s c.write.new.self (option_map (filling_in c.write.new.self (w.filled + length c.args.piece.now)) w.begun)
+    (λ n h is.
+    let at = object_there w.held.items n h is in
+    let same = kept c at.0 h at.1 in
+    (placed_kept w.ring c.write.new.self w.profile h c.write.ensures.size same (c.self.invariant.placed at.0 h at.1), same))
+    (subst (λ (v : WindowState). Stands v s) (sym c.self.view_is) stands)

@@ -1,16 +1,17 @@
-use Rattle.std.proofs.Common.{◌≡◌, ◌<◌, ◌≤◌, ◌⊎◌, inl, inr, ap, sym, subst, ◌∙◌, arith, drop}
-use Rattle.std.specs.Prelude.{find, slice_get, option_to_list, if◌then◌else◌}
+use Rattle.std.proofs.Common.{◌≡◌, ◌<◌, ◌≤◌, ◌⊎◌, inl, inr, ap, sym, ◌∙◌, arith}
 use Rattle.std.proofs.lemmas.Bool.{cases_lt}
-use Rattle.fec_plan.specs.Points.{Point}
-use Rattle.norm_order.specs.Shapes.{shapes_of}
 use Rattle.norm_send_rules.specs.SenderState.{SenderState}
-use Rattle.norm_send_rules.specs.Sending.{new_from, next_new}
+use Rattle.norm_send_rules.specs.Sending.{next_new}
+use Rattle.norm_send_rules.specs.Laws.{next_at}
+use Rattle.norm_send_rules.specs.Wants.{want_index}
 use Rattle.norm_send_rules.specs.declared.want.Want.TheVariants.{Info}
 use Rattle.tx_window.specs.WindowState.{WindowState, Stands}
-use Rattle.tx_window.specs.Next.{is_next}
-use Rattle.tx_window.proofs.NextLemmas.{passes_later, passes_from_info}
-use Rattle.tx_window.proofs.NewLemmas.{from_drop, from_here}
+use Rattle.tx_window.proofs.KeptLemmas.{dropped_is}
+use Rattle.tx_window.proofs.SearchLemmas.{next_laws, same_next}
 use Rattle.tx_window.proofs.window.Window.next_new.Goals as goal
+
+pub returns-in-Symbol-clause-exact : goal.returns-in-Symbol-clause-exact
+returns-in-Symbol-clause-exact c = λ s stands is. c.next_symbol.ensures.exact s stands (is ∙ c.in-Symbol.is)
 
 pub returns-in-Info-clause-exact : goal.returns-in-Info-clause-exact
 returns-in-Info-clause-exact c = λ s stands is. by s stands (is ∙ c.in-Info.is) (cases_lt c.in-Info.index c.self.inside.dropped)
@@ -19,19 +20,13 @@ returns-in-Info-clause-exact c = λ s stands is. by s stands (is ∙ c.in-Info.i
         → c.first_new.result ≡ next_new c.args.self.now.p s
     by s stands is (inl before) =
         let v = c.args.self.now in
-        let first = ap (λ (x : WindowState). x.drop.index) c.self.view_is in
-        let at : c.max.result ≡ v.drop.index = omega (arith, c.max.ensures, before, first) in
-        c.first_new.ensures.exact s (is_next (Info c.in-Info.index) s.current.drop) stands
-        (passes_later (Info c.in-Info.index) s.current.drop c.max.result (ap (λ (d : Point). d.block) stands.dropped ∙ stands.whole) (omega (arith, at, before, first))
-        (omega (arith, at, ap (λ (d : Point). d.index) stands.dropped)))
-        ∙ ap (λ n. find (is_next (Info c.in-Info.index) s.current.drop) (new_from v.p n (shapes_of v.p (drop n s.current.order)))) at
-        ∙ sym (from_drop v s (Info c.in-Info.index) stands is (omega (arith, before, first)))
+        let first = ap (λ (x : WindowState). x.dropped) c.self.view_is in
+        let low = dropped_is v s stands in
+        let at = ap want_index is in
+        c.first_new.ensures.exact s stands
+        ∙ ap (λ n. next_new v.p (next_at n s)) (let z : c.max.result ≡ s.current.drop.index = omega (arith, c.max.ensures, before, first, low) in z)
+        ∙ sym (next_laws.dropped v.p s (omega (arith, at, before, first, low)))
     by s stands is (inr behind) =
-        let v = c.args.self.now in
-        let first = ap (λ (x : WindowState). x.drop.index) c.self.view_is in
-        let at : c.max.result ≡ c.in-Info.index = omega (arith, c.max.ensures, behind) in
-        c.first_new.ensures.exact s (is_next (Info c.in-Info.index) s.current.drop) stands
-        (subst (λ n. Rattle.tx_window.specs.Next.AllOf Rattle.std.specs.Prelude.true (is_next (Info c.in-Info.index) s.current.drop) n) (sym at)
-        (passes_from_info s.current.drop c.in-Info.index (ap (λ (d : Point). d.block) stands.dropped ∙ stands.whole) (omega (arith, behind, first, ap (λ (d : Point). d.index) stands.dropped))))
-        ∙ ap (λ n. find (is_next (Info c.in-Info.index) s.current.drop) (new_from v.p n (shapes_of v.p (drop n s.current.order)))) at
-        ∙ sym (from_here v s (Info c.in-Info.index) is)
+        c.first_new.ensures.exact s stands
+        ∙ ap (λ n. next_new c.args.self.now.p (next_at n s)) (let z : c.max.result ≡ c.in-Info.index = omega (arith, c.max.ensures, behind) in z)
+        ∙ same_next c.args.self.now.p s c.in-Info.index is

@@ -1,9 +1,0 @@
-pub mod RoomLemmas
-pub mod KeptLemmas
-pub mod SearchLemmas
-pub mod ObjectsLemmas
-pub mod ExtentLemmas
-pub mod FaultLemmas
-pub mod StandingLemmas
-pub mod GrownLemmas
-pub mod StreamLemmas

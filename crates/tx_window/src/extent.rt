@@ -1,0 +1,76 @@
+//! How far an entry of the order reaches, which is kept also once the entry was dropped.
+
+ghost use Rattle.std.specs.Prelude.{ℕ, ◌≡◌, ◌+◌, ◌-◌, ◌<◌, ◌≤◌, ◌++◌, [], ◌∷◌, true, nat_lt, ◌⊎◌, length, drop};
+ghost use Rattle.std.specs.VecDeque.{deque_capacity};
+ghost use Rattle.norm_order.specs.Shapes.{closed_in};
+ghost use Rattle.tx_window.specs.WindowState.{most_kept};
+ghost use Rattle.tx_window.specs.Asked.{from_first};
+ghost use Rattle.tx_window.specs.Extents.{shape_of_extent, IsSized};
+ghost use Rattle.tx_window.specs.declared.extent.Extent.TheVariants.{Object as OfObject, Stream as OfStream};
+
+use held_object::plan_of;
+use norm_base::Profile;
+use std::collections::VecDeque;
+
+/// The extents of so many entries are kept, the last ones: an id names no entry before them.
+const MOST_KEPT: usize = 32_769;
+
+/// How many octets an object has, or how many segments of a stream are closed.
+#[derive(Clone, Copy, Debug, PartialEq, Eq)]
+pub enum Extent {
+    Object { len: u32 },
+    Stream { segments: u32 },
+}
+
+/// Whether a source symbol of an object of so many octets is there.
+fn is_of_object(profile: &Profile, len: u32, block: u32, symbol: u8) -> bool
+    requires { IsSized (OfObject len) }
+    ensures { result ≡ nat_lt symbol (closed_in (shape_of_extent profile.now (OfObject len)) block) }
+{
+    let plan = plan_of(profile, len);
+    block < plan.blocks() && symbol < plan.source_len(block)
+}
+
+/// Whether a source symbol of a stream of so many closed segments is one of them.
+fn is_of_stream(profile: &Profile, segments: u32, block: u32, symbol: u8) -> bool
+    ensures { result ≡ nat_lt symbol (closed_in (shape_of_extent profile.now (OfStream segments)) block) }
+{
+    let number = u64::from(block) * u64::from(profile.b) + u64::from(symbol);
+    symbol < profile.b && number < u64::from(segments)
+}
+
+/// Whether a source symbol of an entry is closed, where it reaches so far.
+pub(crate) fn is_closed(profile: &Profile, extent: Extent, block: u32, symbol: u8) -> bool
+    requires { IsSized extent }
+    ensures { result ≡ nat_lt symbol (closed_in (shape_of_extent profile.now extent) block) }
+{
+    match extent {
+        Extent::Object { len } => is_of_object(profile, len, block, symbol),
+        Extent::Stream { segments } => is_of_stream(profile, segments, block, symbol),
+    }
+}
+
+/// The extent of the entry with an index, where so many were forgotten.
+pub(crate) fn extent_at(extents: &VecDeque<Extent>, forgotten: u32, index: u32) -> Option<Extent>
+    ensures { result ≡ from_first forgotten extents.now.items index }
+{
+    if index < forgotten {
+        return None;
+    }
+    extents.get((index - forgotten) as usize).copied()
+}
+
+/// Keeps one more extent, and forgets the first one where there are more than ids can name. Says how many are forgotten.
+pub(crate) fn keep_extent(extents: &mut VecDeque<Extent>, forgotten: u32, extent: Extent) -> u32
+    requires room { length extents.old.items < deque_capacity extents.old }
+    requires number { forgotten < 4294967295 }
+    ensures items { extents.new.items ≡ drop (result - forgotten) (extents.old.items ++ extent ∷ []) }
+    ensures kept { (result ≡ forgotten) ⊎ ((result ≡ forgotten + 1) × (most_kept ≤ length extents.old.items)) }
+{
+    extents.push_back(extent).unwrap();
+    if extents.len() <= MOST_KEPT {
+        return forgotten;
+    }
+    extents.pop_front();
+    forgotten + 1
+}

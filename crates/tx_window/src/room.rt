@@ -1,0 +1,235 @@
+//! Room in the window: what has to go for one entry more, and whether it may (RFC 5740 section 5.1).
+
+ghost use Rattle.std.specs.Prelude.{ℕ, ⊤, true, false, Option, MatchOption, ◌≡◌, ◌+◌, ◌-◌, ◌<◌, ◌≤◌, ◌*◌, ◌^◌, ◌⊎◌, List, None, Some, length, map, take, drop, filter};
+ghost use Rattle.std.specs.Bool.{MatchBool};
+ghost use Rattle.std.specs.VecDeque.{deque_capacity};
+ghost use Rattle.norm_base.specs.Settings.{Settings, InRange};
+ghost use Rattle.norm_order.specs.Entries.{Entry};
+ghost use Rattle.norm_send_rules.specs.SenderState.{SenderState};
+ghost use Rattle.norm_send_rules.specs.Repairable.{is_stream};
+ghost use Rattle.norm_send_rules.specs.Room.{window, size_of, has_to_go, may_all_go, can_make_room};
+ghost use Rattle.norm_send_rules.specs.Enqueuing.{object_fault, info_length, open_stream};
+ghost use Rattle.norm_send_rules.specs.Streaming.{open_fault};
+ghost use Rattle.norm_send_rules.specs.declared.fault.EnqueueFault.TheVariants.{Memory as EnqueueMemory};
+ghost use Rattle.held_entry.specs.Front.{AreEntries};
+ghost use Rattle.held_entry.specs.Places.{held_size};
+ghost use Rattle.tx_window.specs.Taking.{size_fault};
+ghost use Rattle.tx_window.specs.Asked.{joining_fault};
+ghost use Rattle.tx_window.specs.WindowState.{Stands};
+ghost use Rattle.tx_window.specs.WindowSound.{all_sizes, is_stream_held};
+
+use crate::extent::Extent;
+use crate::window::Window;
+use held_entry::{HeldEntry, may_all_go};
+use norm_base::Profile;
+use norm_ext::LAST_INDEX;
+use norm_send_rules::EnqueueFault;
+use std::collections::VecDeque;
+
+/// Whether an entry is a stream.
+fn is_stream(entry: &HeldEntry) -> bool
+    ensures { result ≡ is_stream_held entry.now }
+{
+    match entry {
+        HeldEntry::Object(_) => false,
+        HeldEntry::Stream(_) => true,
+    }
+}
+
+/// How many of the entries are streams.
+pub(crate) fn count_streams(held: &VecDeque<HeldEntry>) -> u32
+    requires { length held.now.items ≤ 4294967295 }
+    ensures { (ring : List ℕ) (p : Settings) (first : ℕ) (s : SenderState) (entries : List Entry) → AreEntries ring p first entries s held.now.items
+        → result ≡ length (filter is_stream entries) }
+{
+    let mut streams = 0;
+    // Proof: by place, so that the loop's invariant speaks of so many entries.
+    for place in 0..held.len() {
+        if is_stream(&held[place]) {
+            streams += 1;
+        }
+    }
+    streams
+}
+
+// Proof: a profile's values are within their ranges.
+pub(crate) fn hold_range(profile: &Profile)
+    ensures { InRange profile.now }
+{
+    let _value = profile.e;
+}
+
+/// How many octets a stream's buffer has.
+pub(crate) fn buffer_len(profile: &Profile) -> u64
+    ensures exact { result ≡ profile.now.blocks * profile.now.b * profile.now.e }
+    ensures range { InRange profile.now }
+    ensures most { result < 2 ^ 48 }
+{
+    u64::from(profile.blocks) * u64::from(profile.b) * u64::from(profile.e)
+}
+
+/// How many octets a window may have.
+fn most_octets(profile: &Profile) -> u64
+    ensures { result ≡ profile.now.octets }
+{
+    u64::from(profile.octets)
+}
+
+/// How many entries have to go for one of so many octets, and how many octets the others take.
+pub(crate) fn room_for(
+    profile: &Profile,
+    held: &VecDeque<HeldEntry>,
+    octets: u32,
+    len: u32,
+) -> (usize, u32)
+    requires octets { octets ≡ all_sizes profile.now held.now.items }
+    requires most { octets ≤ profile.now.octets }
+    requires len { len ≤ profile.now.octets }
+    ensures count { result.0 ≤ length held.now.items }
+    ensures left { result.1 ≡ all_sizes profile.now (drop result.0 held.now.items) }
+    ensures few { length held.now.items - result.0 < profile.now.window }
+    ensures fit { result.1 + len ≤ profile.now.octets }
+    ensures exact { (entries : List Entry)
+        → map (λ (x : Entry). size_of profile.now x.object) entries ≡ map (held_size profile.now) held.now.items
+        → result.0 ≡ has_to_go profile.now len entries }
+{
+    let mut left = octets;
+    // Proof: by place, so that the loop's invariant speaks of so many entries.
+    for place in 0..held.len() {
+        let few = held.len() - place < usize::from(profile.window);
+        if few && left + len <= profile.octets {
+            return (place, left);
+        }
+        left -= held[place].size(profile) as u32;
+    }
+    (held.len(), left)
+}
+
+/// Whether there is room for one more of so many octets, beside so many entries with so many octets.
+fn has_room(profile: &Profile, entries: usize, octets: u32, len: u32) -> bool
+    requires most { octets ≤ profile.now.octets }
+    requires len { len ≤ profile.now.octets }
+    ensures { MatchBool result ((entries < profile.now.window) × (octets + len ≤ profile.now.octets)) ((profile.now.window ≤ entries) ⊎ (profile.now.octets < octets + len)) }
+{
+    if entries >= usize::from(profile.window) {
+        return false;
+    }
+    octets + len <= profile.octets
+}
+
+/// Makes room for one more, and says whether there was memory for it.
+pub(crate) fn reserve(held: &mut VecDeque<HeldEntry>, extents: &mut VecDeque<Extent>) -> bool
+    ensures held { held.new.items ≡ held.old.items }
+    ensures extents { extents.new.items ≡ extents.old.items }
+    ensures held_room { result ≡ true → length held.new.items < deque_capacity held.new }
+    ensures extents_room { result ≡ true → length extents.new.items < deque_capacity extents.new }
+{
+    held.reserve(1).is_ok() && extents.reserve(1).is_ok()
+}
+
+/// Drops so many entries from the front.
+pub(crate) fn drop_front(held: &mut VecDeque<HeldEntry>, count: usize)
+    requires { count ≤ length held.old.items }
+    ensures items { held.new.items ≡ drop count held.old.items }
+    ensures capacity { deque_capacity held.new ≡ deque_capacity held.old }
+{
+    held.drain(..count);
+}
+
+/// What is wrong with the sizes of an object: the first fault that applies.
+#[tactic(auto, unfolding(norm_order::specs::First::first_where))]
+fn size_fault(profile: &Profile, info: usize, len: u64) -> Option<EnqueueFault>
+    ensures exact { result ≡ size_fault profile.now info len }
+    ensures memory { result ≡ Some EnqueueMemory → ⊥ }
+    ensures free { result ≡ None → (1 ≤ len) × (len ≤ profile.now.octets) × (len ≤ 16777216) × (info ≤ profile.now.e) }
+{
+    if len == 0 {
+        return Some(EnqueueFault::Empty);
+    }
+    if len > u64::from(profile.octets) {
+        return Some(EnqueueFault::TooBig { len });
+    }
+    if info > usize::from(profile.e) {
+        return Some(EnqueueFault::InfoTooBig { len: info as u64 });
+    }
+    None
+}
+
+impl Window {
+    /// Whether there is a first entry, and it may not go.
+    fn is_held_up(&self) -> bool
+        ensures { (s : SenderState) → Stands self.now s → result ≡ true → may_all_go self.now.p s self.now.dropped (take 1 (window s)) ≡ false }
+    {
+        if self.held.is_empty() {
+            return false;
+        }
+        !may_all_go(&self.held, &self.profile, self.dropped, &self.past, 1)
+    }
+
+    /// Whether there is room for one of so many octets, or what has to go for it may go.
+    fn can_make_room(&self, len: u32) -> bool
+        requires begun { self.now.filling ≡ None }
+        requires len { len ≤ self.now.p.octets }
+        ensures { (s : SenderState) → Stands self.now s → result ≡ can_make_room self.now.p s len }
+    {
+        if has_room(&self.profile, self.held.len(), self.octets, len) {
+            return true;
+        }
+        if self.is_held_up() {
+            return false;
+        }
+        let (count, _) = room_for(&self.profile, &self.held, self.octets, len);
+        may_all_go(&self.held, &self.profile, self.dropped, &self.past, count)
+    }
+
+    /// Why nothing of so many octets may join the order now, whatever its sizes: the first fault that applies.
+    fn joining_fault(&self, len: u32) -> Option<EnqueueFault>
+        requires begun { self.now.filling ≡ None }
+        requires len { len ≤ self.now.p.octets }
+        ensures exact { (s : SenderState) → Stands self.now s → result ≡ joining_fault self.now.p s len }
+        ensures memory { result ≡ Some EnqueueMemory → ⊥ }
+        ensures free { result ≡ None → self.now.dropped + length self.now.entries < 4294967295 }
+    {
+        if let Some(index) = self.open_index() {
+            return Some(EnqueueFault::StreamOpen { index });
+        }
+        if self.next_index() > LAST_INDEX {
+            return Some(EnqueueFault::IdsSpent);
+        }
+        if !self.can_make_room(len) {
+            let (first, _) = self.first();
+            return Some(EnqueueFault::WindowFull { first });
+        }
+        None
+    }
+
+    /// Why an object with so many octets, and an info of so many, would be refused now: the first fault that applies, want of
+    /// memory left out. Nothing is done.
+    pub fn object_fault(&self, info: usize, len: u64) -> Option<EnqueueFault>
+        requires begun { self.now.filling ≡ None }
+        ensures exact { (s : SenderState) (name : Option (List ℕ)) (octets : List ℕ) → Stands self.now s → info_length name ≡ info
+            → length octets ≡ len → result ≡ object_fault self.now.p s name octets }
+        ensures memory { result ≡ Some EnqueueMemory → ⊥ }
+        ensures free { result ≡ None → (1 ≤ len) × (len ≤ self.now.p.octets) × (len ≤ 16777216) × (info ≤ self.now.p.e) × (self.now.dropped + length self.now.entries < 4294967295) }
+    {
+        if let Some(fault) = size_fault(&self.profile, info, len) {
+            return Some(fault);
+        }
+        self.joining_fault(len as u32)
+    }
+
+    /// Why a stream would not be opened now: the first fault that applies, want of memory left out. Nothing is done.
+    pub fn open_fault(&self) -> Option<EnqueueFault>
+        requires begun { self.now.filling ≡ None }
+        ensures exact { (s : SenderState) → Stands self.now s → result ≡ open_fault self.now.p s }
+        ensures memory { result ≡ Some EnqueueMemory → ⊥ }
+        ensures free { result ≡ None → (self.now.p.blocks * self.now.p.b * self.now.p.e ≤ self.now.p.octets) × (self.now.dropped + length self.now.entries < 4294967295) }
+    {
+        let len = buffer_len(&self.profile);
+        let most = most_octets(&self.profile);
+        if len > most {
+            return Some(EnqueueFault::TooBig { len });
+        }
+        self.joining_fault(len as u32)
+    }
+}

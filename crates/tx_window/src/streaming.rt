@@ -1,0 +1,193 @@
+//! Streams of the window (RFC 5740 section 5.1 on NORM_OBJECT_STREAM): how one is opened, and how the open one goes on.
+
+ghost use Rattle.std.specs.Prelude.{ℕ, ⊤, ◌≡◌, ◌+◌, ◌-◌, ◌*◌, ◌<◌, ◌≤◌, List, None, Some, IfOk, IsErr, MatchResult, length, slice_get, slice_set};
+ghost use Rattle.std.specs.VecDeque.{deque_capacity};
+ghost use Rattle.norm_base.specs.declared.node.Origin.{Origin};
+ghost use Rattle.norm_order.specs.Entries.{Part, Stream as Streamed};
+ghost use Rattle.norm_order.specs.Shapes.{shape_of};
+ghost use Rattle.norm_send_rules.specs.SenderState.{SenderState};
+ghost use Rattle.norm_send_rules.specs.Streaming.{cut};
+ghost use Rattle.held_entry.specs.EntryState.{EntryReads, StandsFor as StandsForEntry};
+ghost use Rattle.held_entry.specs.declared.entry.HeldEntry.{HeldEntry as Kept};
+ghost use Rattle.tx_window.specs.WindowState.{Stands};
+ghost use Rattle.tx_window.specs.WindowMoves.{WindowMoves};
+ghost use Rattle.tx_window.specs.Taking.{IsOpened, IsUnopened};
+ghost use Rattle.tx_window.specs.Streams.{IsWritten, IsClosed, followed, last_or, write_size_fault};
+
+use crate::extent::{Extent, keep_extent};
+use crate::room::{buffer_len, drop_front, hold_range, reserve, room_for};
+use crate::window::Window;
+use fec_plan::Position;
+use held_entry::{HeldEntry, close_last, cut_last, write_last};
+use held_stream::HeldStream;
+use norm_base::Profile;
+use norm_send_rules::EnqueueFault;
+use std::collections::VecDeque;
+
+/// Puts this extent in place of the last one, where there is one.
+fn set_last(extents: &mut VecDeque<Extent>, extent: Extent)
+    ensures items { extents.new.items ≡ slice_set extents.old.items (length extents.old.items - 1) extent }
+    ensures room { deque_capacity extents.new ≡ deque_capacity extents.old }
+{
+    if extents.is_empty() {
+        return;
+    }
+    let last = extents.len() - 1;
+    extents[last] = extent;
+}
+
+/// What is wrong with a write of so many octets: the first fault that applies.
+#[tactic(auto, unfolding(norm_order::specs::First::first_where))]
+fn write_size_fault(profile: &Profile, len: usize) -> Option<EnqueueFault>
+    ensures exact { result ≡ write_size_fault profile.now len }
+    ensures free { result ≡ None → 1 ≤ len }
+{
+    let most = (u64::from(profile.blocks) - 1) * u64::from(profile.b) * u64::from(profile.e);
+    let len = len as u64;
+    if len == 0 {
+        return Some(EnqueueFault::Empty);
+    }
+    if len > most {
+        return Some(EnqueueFault::TooBig { len });
+    }
+    None
+}
+
+/// The last position of an order, where this is the last entry's.
+fn last_of(at: Option<Position>, found: Option<Position>) -> Option<Position>
+    ensures { result ≡ last_or at found }
+{
+    match at {
+        Some(at) => Some(at),
+        None => found,
+    }
+}
+
+impl Window {
+    /// Opens a stream at the end of the order, after what has to go for its buffer was dropped, and answers its index. It takes all
+    /// the memory that the stream needs, before anything is dropped.
+    ///
+    /// # Errors
+    ///
+    /// The first of `TooBig`, `StreamOpen`, `IdsSpent` and `WindowFull` that applies, or `Memory`. Then the window is as it was.
+    pub fn open_stream(&mut self) -> Result<u32, EnqueueFault>
+        requires { self.old.filling ≡ None }
+        ensures opened { IfOk result (λ index. (s : SenderState) (by : Origin) → Stands self.old s → IsOpened self.old.p s by index self.new) }
+        ensures refused { MatchResult result (λ _. ⊤) (λ fault. (s : SenderState) → Stands self.old s → IsUnopened self.old.p s fault) }
+        ensures same { IsErr result → self.new ≡ self.old }
+        ensures finished { self.new.filling ≡ None }
+        ensures profile { self.new.p ≡ self.old.p }
+    {
+        if let Some(fault) = self.open_fault() {
+            return Err(fault);
+        }
+        let Ok(stream) = HeldStream::new(self.alloc, &self.profile) else {
+            return Err(EnqueueFault::Memory);
+        };
+        let index = self.next_index();
+        let len = buffer_len(&self.profile) as u32;
+        if !reserve(&mut self.held, &mut self.extents) {
+            return Err(EnqueueFault::Memory);
+        }
+        let (count, left) = room_for(&self.profile, &self.held, self.octets, len);
+        drop_front(&mut self.held, count);
+        self.octets = left + len;
+        self.dropped += count as u32;
+        let extent = Extent::Stream { segments: 0 };
+        let forgotten = keep_extent(&mut self.extents, self.forgotten, extent);
+        self.forgotten = forgotten;
+        self.held.push_back(HeldEntry::Stream(stream)).unwrap();
+        Ok(index)
+    }
+
+    /// Takes note of how the last entry went on, and answers its index: how far it reaches, and, where it gave up blocks, that the
+    /// entries before it are dropped.
+    fn follow(&mut self) -> u32
+        requires { self.old.filling ≡ None }
+        ensures index { 0 < length self.old.entries → result ≡ self.old.dropped + (length self.old.entries - 1) }
+        ensures follows { (r : EntryReads) (parts : List Part) (e : Kept) → slice_get self.old.entries (length self.old.entries - 1) ≡ Some e
+            → StandsForEntry r e → r.object ≡ Streamed parts → r.p ≡ self.old.p → self.new ≡ followed e (shape_of r.p r.object) self.old }
+        ensures profile { self.new.p ≡ self.old.p }
+        ensures finished { self.new.filling ≡ None }
+    {
+        if self.held.is_empty() {
+            return self.dropped;
+        }
+        hold_range(&self.profile);
+        let place = self.held.len() - 1;
+        let index = self.dropped + place as u32;
+        let entry = &self.held[place];
+        let segments = entry.segments();
+        let first = entry.first_block();
+        let size = entry.size(&self.profile);
+        let last = last_of(entry.last(index), self.last);
+        self.last = last;
+        set_last(&mut self.extents, Extent::Stream { segments });
+        if first == 0 {
+            return index;
+        }
+        drop_front(&mut self.held, place);
+        self.dropped = index;
+        self.octets = size as u32;
+        index
+    }
+
+    /// Writes octets to the open stream, and answers its index and the offset of the first. Blocks of it go for room where each of
+    /// their segments was sent, and before them all entries before the stream. It takes no memory.
+    ///
+    /// # Errors
+    ///
+    /// The first of `Empty`, `TooBig`, `NoStream` and the stream's `Spent` and `Full` that applies. Then the window is as it was.
+    pub fn write(&mut self, bytes: &[u8]) -> Result<(u32, u32), EnqueueFault>
+        requires { self.old.filling ≡ None }
+        ensures written { (s : SenderState) (by : Origin) → Stands self.old s → IsWritten self.old.p s by bytes.now result self.new }
+        ensures same { IsErr result → self.new ≡ self.old }
+        ensures finished { self.new.filling ≡ None }
+        ensures profile { self.new.p ≡ self.old.p }
+    {
+        if let Some(fault) = write_size_fault(&self.profile, bytes.len()) {
+            return Err(fault);
+        }
+        hold_range(&self.profile);
+        let first = self.dropped;
+        match write_last(&mut self.held, &self.profile, first, &self.past, bytes) {
+            Ok(offset) => Ok((self.follow(), offset)),
+            Err(fault) => Err(fault),
+        }
+    }
+
+    /// Ends the open stream, and answers its index. Blocks go for room as in [`write`](Window::write). It takes no memory.
+    ///
+    /// # Errors
+    ///
+    /// The first of `NoStream` and the stream's `Spent` and `Full` that applies. Then the window is as it was.
+    pub fn close_stream(&mut self) -> Result<u32, EnqueueFault>
+        requires { self.old.filling ≡ None }
+        ensures closed { (s : SenderState) → Stands self.old s → IsClosed self.old.p s result self.new }
+        ensures same { IsErr result → self.new ≡ self.old }
+        ensures finished { self.new.filling ≡ None }
+        ensures profile { self.new.p ≡ self.old.p }
+    {
+        hold_range(&self.profile);
+        let first = self.dropped;
+        match close_last(&mut self.held, &self.profile, first, &self.past) {
+            Ok(()) => Ok(self.follow()),
+            Err(fault) => Err(fault),
+        }
+    }
+
+    /// Closes the segment that fills of the open stream, where it holds octets. Without an open stream nothing changes.
+    pub fn cut(&mut self)
+        requires { self.old.filling ≡ None }
+        ensures stands { WindowMoves self.old self.new (cut self.old.p) }
+        ensures finished { self.new.filling ≡ None }
+        ensures profile { self.new.p ≡ self.old.p }
+    {
+        let Some(_) = self.open_index() else {
+            return;
+        };
+        hold_range(&self.profile);
+        cut_last(&mut self.held);
+        self.follow();
+    }
+}
