@@ -34,7 +34,7 @@ fn is_stream(flags: u8) -> bool
 }
 
 /// How many octets an object takes: its length, and of a stream its buffer.
-fn room_of(profile: &Profile, fti: &Fti, flags: u8) -> u64
+pub fn room_of(profile: &Profile, fti: &Fti, flags: u8) -> u64
     ensures exact { result ≡ room_of profile.now fti.now flags }
     ensures most { result < 2 ^ 48 }
 {

@@ -89,7 +89,7 @@ impl Front {
     /// `Memory` where memory runs out; then nothing changes.
     pub fn reserve(&mut self, more: usize) -> Result<(), Memory>
         requires front { IsFront self.old }
-        requires few { more ≤ 2 }
+        requires few { more ≤ 4294967296 }
         ensures sound { IsFront self.new }
         ensures view { front_view self.new ≡ front_view self.old }
         ensures profile { self.new.profile ≡ self.old.profile }

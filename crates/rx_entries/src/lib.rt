@@ -6,7 +6,9 @@
 
 mod fitting;
 mod front;
+mod handing_up;
 mod hold;
+mod losing;
 mod ring;
 
 pub use crate::hold::{Hold, Place};
