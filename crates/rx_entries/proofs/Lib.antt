@@ -13,3 +13,4 @@ pub mod OnLemmas
 pub mod WholeLemmas
 pub mod LoseLemmas
 pub mod SettledLemmas
+pub mod UntakeLemmas

@@ -113,6 +113,8 @@ impl Front {
         requires within { self.old.taken + octets ≤ self.old.profile.octets }
         ensures sound { IsFront self.new }
         ensures profile { self.new.profile ≡ self.old.profile }
+        ensures point { self.new.point ≡ self.old.point }
+        ensures there { at_place self.new.ring.items place ≡ Some seat }
         ensures view { front_view self.new ≡ view_states self.old (slice_set (states_of self.old.ring.items) place (Some (entry_of seat.entry))) }
     {
         self.waiting += seat.waiting;

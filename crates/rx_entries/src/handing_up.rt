@@ -98,7 +98,7 @@ fn up_at(place: Option<Seat>) -> Up
 }
 
 /// The octets that what is at a place takes.
-fn octets_of(profile: &Profile, place: &Option<Seat>) -> u64
+pub fn octets_of(profile: &Profile, place: &Option<Seat>) -> u64
     ensures { result ≡ octets_at profile.now place.now }
 {
     match place {
@@ -108,7 +108,7 @@ fn octets_of(profile: &Profile, place: &Option<Seat>) -> u64
 }
 
 /// For how many hand-ups of what is at a place there is room.
-fn waiting_of(place: &Option<Seat>) -> usize
+pub fn waiting_of(place: &Option<Seat>) -> usize
     ensures { result ≡ waiting_at place.now }
 {
     match place {

@@ -1,20 +1,22 @@
 //! What a receiver holds of objects that it did not hand up yet.
 
-ghost use Rattle.std.specs.Prelude.{◌≡◌, ◌<◌, ◌≤◌, [], IfOk, IfNone, MatchOption, OnErr, is_some, length, not, false, ⊤};
+ghost use Rattle.std.specs.Prelude.{ℕ, ◌≡◌, ◌<◌, ◌≤◌, [], IfOk, IfNone, MatchOption, OnErr, is_some, length, not, false, ⊤};
 ghost use Rattle.fec_plan.specs.Partition.{blocks};
 ghost use Rattle.fec_plan.specs.Points.{point as point_at, point_of, point_before, position};
+ghost use Rattle.norm_ext.specs.declared.fti.Fti.{Fti as FtiValue};
 ghost use Rattle.norm_receive_rules.specs.Acknowledging.{lost_nothing};
-ghost use Rattle.norm_receive_rules.specs.Fitting.{fit_of, fitted};
+ghost use Rattle.norm_receive_rules.specs.Fitting.{fit_of, fitted, with_plan};
 ghost use Rattle.norm_receive_rules.specs.HandingUp.{handed_up};
 ghost use Rattle.norm_receive_rules.specs.Holding.{Holding, holding_nothing};
 ghost use Rattle.norm_receive_rules.specs.Losing.{squelched};
-ghost use Rattle.norm_receive_rules.specs.Plans.{cut_of_plan, holds, info_of};
+ghost use Rattle.norm_receive_rules.specs.Plans.{cut_of_plan, holds, info_of, plan_of};
 ghost use Rattle.norm_receive_rules.specs.Putting.{put_info_of, put_of, with_info, with_symbol};
 ghost use Rattle.norm_receive_rules.specs.Seeing.{sees_block};
 ghost use Rattle.norm_receive_rules.specs.Taking.{up_taken};
+ghost use Rattle.norm_receive_rules.specs.declared.words.Fit.TheVariants as fit_word;
 ghost use Rattle.rx_hold.specs.EntryHold.{StandsFor};
 ghost use Rattle.rx_hold.specs.HoldState.{flags_at, missing_at, plan_at};
-ghost use Rattle.rx_entries.specs.FrontSound.{object_in};
+ghost use Rattle.rx_entries.specs.FrontSound.{IsUnused, object_in};
 ghost use Rattle.rx_entries.specs.Handing.{IsSettled};
 ghost use Rattle.rx_entries.specs.HoldSound.{empty_hold};
 
@@ -249,9 +251,20 @@ impl Hold {
         ensures profile { self.new.p ≡ self.old.p }
         ensures state { IfOk result (λ word. (s : Holding) → StandsFor self.old s
             → (word ≡ fit_of self.old.p s index fti.now flags) × StandsFor self.new (fitted word index fti.now flags s)) }
+        ensures unused { IfOk result (λ word. word ≡ fit_word.Taken → IsUnused self.new index) }
+        ensures fresh { IfOk result (λ word. word ≡ fit_word.Taken → (s : Holding) → StandsFor self.old s → plan_of s index ≡ None) }
         ensures refused { OnErr result (self.new ≡ self.old) }
     {
         self.front.fti(self.alloc, index, fti, flags)
+    }
+
+    /// Takes back the plan of an object. The last call of `fti` took it up, and nothing was put to it since.
+    pub fn untake(&mut self, index: u32)
+        requires { IsUnused self.old index }
+        ensures profile { self.new.p ≡ self.old.p }
+        ensures state { (s : Holding) (f : FtiValue) (flags : ℕ) → plan_of s index ≡ None → StandsFor self.old (with_plan index f flags s) → StandsFor self.new s }
+    {
+        self.front.untake(index);
     }
 
     /// The info of an object comes: it is kept where it is news.
