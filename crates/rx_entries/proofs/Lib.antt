@@ -6,3 +6,11 @@ pub mod ReadLemmas
 pub mod FitLemmas
 pub mod TakeLemmas
 pub mod InfoLemmas
+pub mod PastLemmas
+pub mod HandingLemmas
+pub mod SegmentLemmas
+pub mod OnLemmas
+pub mod WholeLemmas
+pub mod LoseLemmas
+pub mod SettledLemmas
+pub mod UntakeLemmas

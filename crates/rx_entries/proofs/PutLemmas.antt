@@ -186,7 +186,7 @@ module _ (f : Front) (s : Holding) (index i : ℕ) (front : IsFront f) (stands :
 
 -- ---- what may be offered
 
-sum_least : (g : Option Seat → ℕ) (ring : List (Option Seat)) (i : ℕ) (seat : Seat) → at_place ring i ≡ Some seat → g (Some seat) ≤ sum_by g ring
+pub sum_least : (g : Option Seat → ℕ) (ring : List (Option Seat)) (i : ℕ) (seat : Seat) → at_place ring i ≡ Some seat → g (Some seat) ≤ sum_by g ring
 sum_least g [] i seat e = absurd (cc)
 sum_least g (x ∷ ring) zero seat e = (let same : g x ≡ g (Some seat) = ap g e in omega (arith, same, sum_by-cons g x ring))
 sum_least g (x ∷ ring) (suc i) seat e = (let rest = sum_least g ring i seat e in omega (arith, rest, sum_by-cons g x ring))

@@ -215,7 +215,7 @@ not_taken fit.Taken index g flags s other = absurd (other refl)
 
 -- ---- nothing is held
 
-none_at : (n i : ℕ) (seat : Seat) → at_place {X = Seat} (replicate n None) i ≡ Some seat → ⊥
+pub none_at : (n i : ℕ) (seat : Seat) → at_place {X = Seat} (replicate n None) i ≡ Some seat → ⊥
 none_at zero i seat e = cc e
 none_at (suc n) zero seat e = cc e
 none_at (suc n) (suc i) seat e = none_at n i seat e

@@ -1,5 +1,5 @@
 -- What the front of a hold keeps, and what it is seen as.
-use Rattle.std.specs.Prelude.{ℕ, ◌≡◌, ◌==◌, ◌+◌, ◌≤◌, find, List, Option, length, sum_by}
+use Rattle.std.specs.Prelude.{ℕ, ◌≡◌, ◌==◌, ◌+◌, ◌≤◌, find, List, [], Option, None, MatchOption, length, sum_by}
 use Rattle.std.specs.VecDeque.{deque_capacity}
 use Rattle.fec_plan.specs.declared.position.Position.{Position}
 use Rattle.norm_receive_rules.specs.Fitting.{most_ahead}
@@ -24,6 +24,17 @@ front_view f = record {
 -- the object with an index, where it has a plan
 abbrev pub object_in : EntryHold → ℕ → Option EntryState
 object_in h index = find (λ (o : EntryState). o.plan.index == index) h.objects
+
+-- nothing is held of an object, and nothing was handed up of it
+pub record IsBlank (o : EntryState) : Type 0 where
+  pub held : o.held ≡ []
+  pub info : o.info ≡ None
+  pub block : o.point.block ≡ 0
+  pub symbol : o.point.symbol ≡ 0
+
+-- so it is with the object with an index
+abbrev pub IsUnused : EntryHold → ℕ → Type 0
+IsUnused h index = MatchOption (object_in h index) ⊥ (λ (o : EntryState). (h.point.index ≤ index) × IsBlank o)
 
 -- the same with this at its places
 abbrev pub view_states : Front → List (Option EntryState) → EntryHold

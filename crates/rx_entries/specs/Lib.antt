@@ -1,4 +1,5 @@
 pub mod Seats
 pub mod FrontSound
 pub mod Fits
+pub mod Handing
 pub mod HoldSound

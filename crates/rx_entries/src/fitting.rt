@@ -1,18 +1,20 @@
 //! How transmission information fits what is held, and the object that is taken up with it (RFC 5740 section 5.3 on EXT_FTI).
 
-ghost use Rattle.std.specs.Prelude.{◌≡◌, ◌==◌, ◌&&◌, ◌||◌, ◌<◌, ◌≤◌, ◌+◌, ◌^◌, false, if◌then◌else◌, IfErr, IfOk, OnErr, MatchResult, None, Some, nat_le, nat_lt};
+ghost use Rattle.std.specs.Prelude.{ℕ, ◌≡◌, ◌==◌, ◌&&◌, ◌||◌, ◌<◌, ◌≤◌, ◌+◌, ◌^◌, false, if◌then◌else◌, IfErr, IfOk, OnErr, MatchResult, None, Some, nat_le, nat_lt};
 ghost use Rattle.fec_plan.specs.Partition.{first_fault};
+ghost use Rattle.norm_ext.specs.declared.fti.Fti.{Fti as FtiValue};
 ghost use Rattle.norm_receive_rules.specs.Fitting.{fit_of, fitted, most_ahead, room_of, with_plan};
 ghost use Rattle.norm_receive_rules.specs.Holding.{Holding, new_plan};
-ghost use Rattle.norm_receive_rules.specs.Plans.{cut_by, says_stream};
+ghost use Rattle.norm_receive_rules.specs.Plans.{cut_by, plan_of, says_stream};
 ghost use Rattle.norm_receive_rules.specs.declared.words.Fit.TheVariants as fit_word;
 ghost use Rattle.rx_hold.specs.EntryState.{IsOfKind, entry_of};
 ghost use Rattle.rx_hold.specs.EntryHold.{StandsFor};
 ghost use Rattle.rx_entries.specs.Fits.{MayTake, are_same, empty_entry};
-ghost use Rattle.rx_entries.specs.FrontSound.{IsFront, front_view};
+ghost use Rattle.rx_entries.specs.FrontSound.{IsFront, IsUnused, front_view};
 
 use crate::front::Front;
-use crate::ring::{PLACES, Seat};
+use crate::handing_up::{octets_of, waiting_of};
+use crate::ring::{PLACES, Seat, take_at};
 use fec_plan::{Plan, PlanFault};
 use norm_base::{Memory, Profile};
 use norm_ext::Fti;
@@ -34,7 +36,7 @@ fn is_stream(flags: u8) -> bool
 }
 
 /// How many octets an object takes: its length, and of a stream its buffer.
-fn room_of(profile: &Profile, fti: &Fti, flags: u8) -> u64
+pub fn room_of(profile: &Profile, fti: &Fti, flags: u8) -> u64
     ensures exact { result ≡ room_of profile.now fti.now flags }
     ensures most { result < 2 ^ 48 }
 {
@@ -103,6 +105,7 @@ impl Front {
         ensures other { IfErr result (λ word. word ≡ fit_word.Taken → ⊥) }
         ensures plan { IfOk result (λ plan. plan ≡ cut_by fti.now flags) }
         ensures may { IfOk result (λ plan. MayTake self.now index fti.now flags plan) }
+        ensures fresh { IfOk result (λ _. (s : Holding) → StandsFor (front_view self.now) s → plan_of s index ≡ None) }
     {
         if index < self.point {
             return Err(Fit::Known);
@@ -139,6 +142,7 @@ impl Front {
         ensures profile { self.new.profile ≡ self.old.profile }
         ensures state { IfOk result (λ _. (s : Holding) → StandsFor (front_view self.old) s → fit_of self.old.profile s index fti.now flags ≡ fit_word.Taken
             → StandsFor (front_view self.new) (with_plan index fti.now flags s)) }
+        ensures unused { IfOk result (λ _. IsUnused (front_view self.new) index) }
         ensures refused { OnErr result (front_view self.new ≡ front_view self.old) }
     {
         let profile = self.profile;
@@ -165,6 +169,8 @@ impl Front {
         ensures profile { self.new.profile ≡ self.old.profile }
         ensures state { IfOk result (λ word. (s : Holding) → StandsFor (front_view self.old) s
             → (word ≡ fit_of self.old.profile s index fti.now flags) × StandsFor (front_view self.new) (fitted word index fti.now flags s)) }
+        ensures unused { IfOk result (λ word. word ≡ fit_word.Taken → IsUnused (front_view self.new) index) }
+        ensures fresh { IfOk result (λ word. word ≡ fit_word.Taken → (s : Holding) → StandsFor (front_view self.old) s → plan_of s index ≡ None) }
         ensures refused { OnErr result (front_view self.new ≡ front_view self.old) }
     {
         match self.plan_for(index, fti, flags) {
@@ -174,6 +180,22 @@ impl Front {
             }
             Err(word) => Ok(word),
         }
+    }
+
+    /// Takes back the plan of an object of which nothing is held.
+    pub fn untake(&mut self, index: u32)
+        requires front { IsFront self.old }
+        requires unused { IsUnused (front_view self.old) index }
+        ensures sound { IsFront self.new }
+        ensures profile { self.new.profile ≡ self.old.profile }
+        ensures state { (s : Holding) (f : FtiValue) (flags : ℕ) → plan_of s index ≡ None → StandsFor (front_view self.old) (with_plan index f flags s)
+            → StandsFor (front_view self.new) s }
+    {
+        let profile = self.profile;
+        let place = (index - self.point) as usize;
+        let seat = take_at(&mut self.ring, place);
+        self.taken -= octets_of(&profile, &seat);
+        self.waiting -= waiting_of(&seat);
     }
 }
 

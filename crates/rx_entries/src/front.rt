@@ -89,7 +89,7 @@ impl Front {
     /// `Memory` where memory runs out; then nothing changes.
     pub fn reserve(&mut self, more: usize) -> Result<(), Memory>
         requires front { IsFront self.old }
-        requires few { more ≤ 2 }
+        requires few { more ≤ 4294967296 }
         ensures sound { IsFront self.new }
         ensures view { front_view self.new ≡ front_view self.old }
         ensures profile { self.new.profile ≡ self.old.profile }
@@ -113,6 +113,8 @@ impl Front {
         requires within { self.old.taken + octets ≤ self.old.profile.octets }
         ensures sound { IsFront self.new }
         ensures profile { self.new.profile ≡ self.old.profile }
+        ensures point { self.new.point ≡ self.old.point }
+        ensures there { at_place self.new.ring.items place ≡ Some seat }
         ensures view { front_view self.new ≡ view_states self.old (slice_set (states_of self.old.ring.items) place (Some (entry_of seat.entry))) }
     {
         self.waiting += seat.waiting;

@@ -1,18 +1,23 @@
 //! What a receiver holds of objects that it did not hand up yet.
 
-ghost use Rattle.std.specs.Prelude.{◌≡◌, ◌<◌, ◌≤◌, [], IfOk, IfNone, MatchOption, OnErr, is_some, length, not, false, ⊤};
+ghost use Rattle.std.specs.Prelude.{ℕ, ◌≡◌, ◌<◌, ◌≤◌, [], IfOk, IfNone, MatchOption, OnErr, is_some, length, not, false, ⊤};
 ghost use Rattle.fec_plan.specs.Partition.{blocks};
 ghost use Rattle.fec_plan.specs.Points.{point as point_at, point_of, point_before, position};
+ghost use Rattle.norm_ext.specs.declared.fti.Fti.{Fti as FtiValue};
 ghost use Rattle.norm_receive_rules.specs.Acknowledging.{lost_nothing};
-ghost use Rattle.norm_receive_rules.specs.Fitting.{fit_of, fitted};
+ghost use Rattle.norm_receive_rules.specs.Fitting.{fit_of, fitted, with_plan};
+ghost use Rattle.norm_receive_rules.specs.HandingUp.{handed_up};
 ghost use Rattle.norm_receive_rules.specs.Holding.{Holding, holding_nothing};
-ghost use Rattle.norm_receive_rules.specs.Plans.{cut_of_plan, holds, info_of};
+ghost use Rattle.norm_receive_rules.specs.Losing.{squelched};
+ghost use Rattle.norm_receive_rules.specs.Plans.{cut_of_plan, holds, info_of, plan_of};
 ghost use Rattle.norm_receive_rules.specs.Putting.{put_info_of, put_of, with_info, with_symbol};
 ghost use Rattle.norm_receive_rules.specs.Seeing.{sees_block};
 ghost use Rattle.norm_receive_rules.specs.Taking.{up_taken};
+ghost use Rattle.norm_receive_rules.specs.declared.words.Fit.TheVariants as fit_word;
 ghost use Rattle.rx_hold.specs.EntryHold.{StandsFor};
 ghost use Rattle.rx_hold.specs.HoldState.{flags_at, missing_at, plan_at};
-ghost use Rattle.rx_entries.specs.FrontSound.{object_in};
+ghost use Rattle.rx_entries.specs.FrontSound.{IsUnused, object_in};
+ghost use Rattle.rx_entries.specs.Handing.{IsSettled};
 ghost use Rattle.rx_entries.specs.HoldSound.{empty_hold};
 
 use crate::front::Front;
@@ -55,6 +60,7 @@ impl Model for Hold {
 
     ghost Value = { EntryHold };
 
+    ghost use Rattle.rx_entries.specs.Handing.{IsSettled};
     ghost use Rattle.rx_entries.specs.HoldSound.{hold_view, IsSoundHold};
 
     ghost view = { hold_view };
@@ -71,6 +77,7 @@ impl Hold {
     pub fn new(alloc: Global, profile: &Profile) -> Result<Hold, Memory>
         ensures empty { IfOk result (λ hold. hold ≡ empty_hold profile.now) }
         ensures begun { IfOk result (λ hold. StandsFor hold holding_nothing) }
+        ensures settled { IfOk result (λ hold. IsSettled hold) }
     {
         let mut ring = VecDeque::with_capacity(alloc, PLACES)?;
         fill(&mut ring);
@@ -102,8 +109,24 @@ impl Hold {
     pub fn anew(&self) -> Result<Hold, Memory>
         ensures empty { IfOk result (λ hold. hold ≡ empty_hold self.now.p) }
         ensures begun { IfOk result (λ hold. StandsFor hold holding_nothing) }
+        ensures settled { IfOk result (λ hold. IsSettled hold) }
     {
         Hold::new(self.alloc, &self.front.profile)
+    }
+
+    /// All is forgotten, as the receiver enters another instance. It takes no memory.
+    pub fn clear(&mut self)
+        ensures empty { self.new ≡ empty_hold self.old.p }
+        ensures begun { StandsFor self.new holding_nothing }
+        ensures settled { IsSettled self.new }
+    {
+        self.front.ring.clear();
+        fill(&mut self.front.ring);
+        self.front.ups.clear();
+        self.front.point = 0;
+        self.front.taken = 0;
+        self.front.waiting = 0;
+        self.front.lost = false;
     }
 
     /// The next source symbol that is to be handed up.
@@ -187,6 +210,7 @@ impl Hold {
         ensures profile { self.new.p ≡ self.old.p }
         ensures none { IfNone result ((self.old.ups ≡ []) × (self.new ≡ self.old)) }
         ensures rest { self.new ≡ record self.old { ups = self.new.ups } }
+        ensures settled { IsSettled self.old → IsSettled self.new }
         ensures state { (s : Holding) → StandsFor self.old s → (result ≡ (up_taken s).1) × StandsFor self.new (up_taken s).0 }
     {
         self.front.ups.pop_front()
@@ -227,9 +251,20 @@ impl Hold {
         ensures profile { self.new.p ≡ self.old.p }
         ensures state { IfOk result (λ word. (s : Holding) → StandsFor self.old s
             → (word ≡ fit_of self.old.p s index fti.now flags) × StandsFor self.new (fitted word index fti.now flags s)) }
+        ensures unused { IfOk result (λ word. word ≡ fit_word.Taken → IsUnused self.new index) }
+        ensures fresh { IfOk result (λ word. word ≡ fit_word.Taken → (s : Holding) → StandsFor self.old s → plan_of s index ≡ None) }
         ensures refused { OnErr result (self.new ≡ self.old) }
     {
         self.front.fti(self.alloc, index, fti, flags)
+    }
+
+    /// Takes back the plan of an object. The last call of `fti` took it up, and nothing was put to it since.
+    pub fn untake(&mut self, index: u32)
+        requires { IsUnused self.old index }
+        ensures profile { self.new.p ≡ self.old.p }
+        ensures state { (s : Holding) (f : FtiValue) (flags : ℕ) → plan_of s index ≡ None → StandsFor self.old (with_plan index f flags s) → StandsFor self.new s }
+    {
+        self.front.untake(index);
     }
 
     /// The info of an object comes: it is kept where it is news.
@@ -247,5 +282,32 @@ impl Hold {
         ensures refused { OnErr result (self.new ≡ self.old) }
     {
         self.front.keep_info(self.alloc, index, info)
+    }
+
+    /// Hands up all that can be: objects of data and files that are whole, of a stream its open, each next segment that is there,
+    /// and its end. It takes no memory.
+    pub fn advance(&mut self)
+        ensures profile { self.new.p ≡ self.old.p }
+        ensures state { (s : Holding) → StandsFor self.old s → StandsFor self.new (handed_up self.old.p s) }
+        ensures settled { IsSettled self.new }
+    {
+        self.front.advance();
+    }
+
+    /// The sender's window begins at this block of this object: what is not there before it is lost, of a stream within which it begins
+    /// the rest where the next segment is in a block that was dropped and is not there. It takes first all the memory that the
+    /// hand-ups need.
+    ///
+    /// # Errors
+    ///
+    /// `Memory` where memory runs out; then nothing changes.
+    pub fn lose_before(&mut self, index: u32, block: u32) -> Result<(), Memory>
+        requires { index < 4294967295 }
+        ensures profile { self.new.p ≡ self.old.p }
+        ensures state { IfOk result (λ _. (s : Holding) → StandsFor self.old s → StandsFor self.new (squelched self.old.p (point_at index block) s)) }
+        ensures settled { IfOk result (λ _. IsSettled self.new) }
+        ensures refused { OnErr result (self.new ≡ self.old) }
+    {
+        self.front.squelch(index, block)
     }
 }

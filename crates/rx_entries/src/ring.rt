@@ -1,6 +1,6 @@
 //! The places of the 256 objects from the hand-up point on.
 
-ghost use Rattle.std.specs.Prelude.{◌≡◌, ◌-◌, ◌<◌, ◌≤◌, [], MatchOption, IfOk, OnErr, None, Some, length, option_copied, option_map, replicate, ⊤};
+ghost use Rattle.std.specs.Prelude.{◌≡◌, ◌-◌, ◌<◌, ◌≤◌, [], MatchOption, IfOk, OnErr, None, Some, length, option_copied, option_map, replicate, slice_set, ⊤};
 ghost use Rattle.std.specs.VecDeque.{deque_capacity};
 ghost use Rattle.rx_hold.specs.EntryState.{IsOfKind, entry_of};
 ghost use Rattle.rx_hold.specs.HoldSound.{at_place};
@@ -133,6 +133,16 @@ pub fn see_at(ring: &mut VecDeque<Option<Seat>>, place: usize, block: u32)
     if let Some(seat) = &mut ring[place] {
         seat.see(block);
     }
+}
+
+/// Takes what is at a place.
+pub fn take_at(ring: &mut VecDeque<Option<Seat>>, place: usize) -> Option<Seat>
+    requires { place < length ring.old.items }
+    ensures found { result ≡ at_place ring.old.items place }
+    ensures items { ring.new.items ≡ slice_set ring.old.items place None }
+    ensures capacity { deque_capacity ring.new ≡ deque_capacity ring.old }
+{
+    ring[place].take()
 }
 
 /// Keeps the info of what is at a place, where it is there.

@@ -4,6 +4,7 @@ use Rattle.fec_plan.specs.Partition.{Cut, first_fault}
 use Rattle.norm_ext.specs.declared.fti.Fti.{Fti}
 use Rattle.norm_receive_rules.specs.Plans.{cut_by}
 use Rattle.norm_receive_rules.specs.declared.words.Fit.TheVariants as fit
+use Rattle.norm_receive_rules.proofs.PassedLemmas.{taken_new}
 use Rattle.rx_hold.specs.EntryState.{entry_of}
 use Rattle.rx_entries.specs.Fits.{are_same}
 use Rattle.rx_entries.proofs.FitLemmas.{cut_e, faulty, fit_away, fit_over, fit_taken, fit_there, fit_unfit, none_at, not_away, of_other, of_own, of_profile}
@@ -61,3 +62,6 @@ returns-clause-may c =
       b = own.1;
       sound = c.e.ensures.sound;
     }
+
+pub returns-clause-fresh : goal.returns-clause-fresh
+returns-clause-fresh c = λ s stands. taken_new c.args.self.now.profile s c.args.index c.args.fti.now c.args.flags (returns-clause-word c s stands)

@@ -1,7 +1,7 @@
 use Rattle.std.proofs.Common.{◌+◌, refl, ap, arith}
 use Rattle.std.specs.Prelude.{Some}
 use Rattle.rx_entries.specs.FrontSound.{view_states}
-use Rattle.rx_entries.proofs.SeatLemmas.{states_set}
+use Rattle.rx_entries.proofs.SeatLemmas.{set_here, states_set}
 use Rattle.rx_entries.proofs.TakeLemmas.{taken_sound}
 use Rattle.rx_entries.proofs.front.Front.seat.Goals as goal
 
@@ -12,3 +12,6 @@ returns-clause-sound c =
 
 pub returns-clause-view : goal.returns-clause-view
 returns-clause-view c = ap (view_states c.args.self.now) (states_set c.args.self.now.ring.items c.args.place (Some c.args.seat))
+
+pub returns-clause-there : goal.returns-clause-there
+returns-clause-there c = set_here c.args.self.now.ring.items c.args.place (Some c.args.seat) (omega (arith, c.requires.place, c.requires.front.places))

@@ -1,4 +1,4 @@
-use Rattle.std.proofs.Common.{◌≡◌, ◌+◌, ◌-◌, ◌<◌, List, Option, sym, ap, ◌∙◌, subst, arith, length, None}
+use Rattle.std.proofs.Common.{◌≡◌, ◌+◌, ◌-◌, ◌<◌, ◌≤◌, List, Option, sym, ap, ◌∙◌, subst, arith, length, None}
 use Rattle.norm_base.specs.Settings.{Settings}
 use Rattle.norm_receive_rules.specs.Fitting.{fit_of, with_plan}
 use Rattle.norm_receive_rules.specs.Holding.{new_plan}
@@ -9,6 +9,7 @@ use Rattle.rx_hold.specs.HoldSound.{at_place}
 use Rattle.rx_entries.specs.Fits.{empty_entry}
 use Rattle.rx_entries.specs.declared.ring.Seat.{Seat}
 use Rattle.rx_entries.proofs.TakeLemmas.{taken_stands}
+use Rattle.rx_entries.proofs.UntakeLemmas.{taken_unused}
 use Rattle.rx_entries.proofs.front.Front.take_up.Goals as goal
 
 pub returns-clause-state : goal.returns-clause-state
@@ -26,3 +27,13 @@ returns-clause-state c = λ s stands word.
     (taken_stands g s c.args.index i c.args.fti.now c.args.flags (entry_of c.in_ok-entry.entry) held.sound (subst (λ (h : EntryHold). StandsFor h s) (sym held.view) stands) at lt none
     (c.in_ok-entry.ensures.state ∙ ap (λ (p : Settings). empty_entry (new_plan c.args.index c.args.fti.now c.args.flags) p.blocks) (c.profile.view_is ∙ sym held.profile))
     (subst (λ (p : Settings). fit_of p s c.args.index c.args.fti.now c.args.flags ≡ fit.Taken) (sym held.profile) word))
+
+pub returns-clause-unused : goal.returns-clause-unused
+returns-clause-unused c =
+    let g = c.reserve.new.self in
+    let may = c.requires.may in
+    let held = c.in_ok-reserve.ensures in
+    let h = c.seat.new.self in
+    let reached : h.point ≤ c.args.index = omega (arith, c.seat.ensures.point, held.point, may.reached) in
+    taken_unused h c.args.index _ (new_plan c.args.index c.args.fti.now c.args.flags) _ c.seat.ensures.sound reached
+    (ap (λ n. at_place h.ring.items (c.args.index - n)) c.seat.ensures.point ∙ c.seat.ensures.there) c.in_ok-entry.ensures.state

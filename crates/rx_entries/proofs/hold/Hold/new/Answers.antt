@@ -1,4 +1,5 @@
 use Rattle.std.proofs.Common.{refl, arith, rules}
+use Rattle.rx_entries.proofs.SettledLemmas.{none_settled}
 use Rattle.rx_entries.proofs.TakeLemmas.{empty_sound}
 use Rattle.rx_entries.proofs.hold.Hold.new.Goals as goal
 
@@ -8,3 +9,6 @@ invariant_of-result-2 c = record {
   row = search rules;
   scratch = search rules;
 }
+
+pub returns-clause-settled : goal.returns-clause-settled
+returns-clause-settled c = none_settled _ c.fill.new.ring.items _ c.fill.ensures.items
