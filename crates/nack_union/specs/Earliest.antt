@@ -1,6 +1,6 @@
 -- The least index from which repair requests count (RFC 5740 section 5.4): what was asked for before the window makes a squelch
 -- due.
-use Rattle.std.specs.Prelude.{ℕ, List, fold, map, filter, flat_map, min, Bool, true, false, nat_lt, Option, None, Some}
+use Rattle.std.specs.Prelude.{ℕ, List, fold, map, flat_map, min, Bool, true, false, nat_lt, Option, None, Some}
 use Rattle.norm_base.specs.Settings.{Settings}
 use Rattle.fec_plan.specs.Points.{position_before}
 use Rattle.fec_plan.specs.declared.position.Position.{Position}

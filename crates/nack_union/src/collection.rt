@@ -1,6 +1,6 @@
 //! What a union collects, whatever the profile.
 
-ghost use Rattle.std.specs.Prelude.{◌≡◌, ◌<◌, ◌≤◌, ◌+◌, ◌-◌, ◌∷◌, ◌++◌, [], length, IfOk, IsErr, MatchOption, Some, ℕ, List, nat_lt, position, slice_get, drop, not, map, min, max};
+ghost use Rattle.std.specs.Prelude.{◌≡◌, ◌<◌, ◌≤◌, ◌+◌, ◌-◌, ◌^◌, ◌∷◌, ◌++◌, [], length, IfOk, IsErr, MatchOption, None, Some, ℕ, List, nat_lt, position, slice_get, drop, not, map, min, max};
 ghost use Rattle.norm_base.specs.Settings.{Settings};
 ghost use Rattle.fec_plan.specs.Partition.{blocks};
 ghost use Rattle.norm_order.specs.Entries.{Entry};
@@ -19,7 +19,7 @@ ghost use Rattle.norm_send_rules.specs.declared.want.Want.{Want as Wanted};
 ghost use Rattle.norm_send_rules.specs.declared.want.Want.TheVariants.{Symbol};
 ghost use Rattle.norm_order.specs.Sets.{with_member};
 ghost use Rattle.nack_union.specs.Slots.{symbol_slot};
-ghost use Rattle.nack_union.specs.Kept.{Kept, Marked, Holds, IsEncodedIn, known_of, begun_union, admitted, with_object, shape_of_marked, closed_marks, closed_union, IsCounted, with_marks, retired};
+ghost use Rattle.nack_union.specs.Kept.{Kept, Marked, Holds, IsEncodedIn, known_of, begun_union, admitted, admitted_stream, IsFresh, HasRoom, CanGrow, OfLast, grown_to, with_object, shape_of_marked, closed_marks, closed_union, IsCounted, with_marks, retired};
 ghost use Rattle.nack_union.specs.More.{HasPart, named_part, symbol_part, count_part, part_where, item_part, items_part, ranges_part, counts_part, request_part, requests_part};
 ghost use Rattle.nack_union.specs.Adding.{HasAdded, IsPlanned};
 ghost use Rattle.norm_ext.specs.Requests.{items_named};
@@ -160,14 +160,54 @@ impl Collection {
         requires { index ≡ self.old.first + length self.old.objects }
         ensures exact { IfOk result (λ _. self.new ≡ with_object (admitted plan.now info) self.old) }
         ensures stands { IfOk result (λ _. (p : Settings) (s : SenderState) (entry : Entry) → Holds p self.old s
-            → shape_of p entry.object ≡ shape_of_marked (admitted plan.now info) → Holds p self.new (with_entry entry s)) }
+            → shape_of p entry.object ≡ shape_of_marked (admitted plan.now info) → HasRoom p (admitted plan.now info) → Holds p self.new (with_entry entry s)) }
         ensures collects { IfOk result (λ _. (p : Settings) (s : SenderState) (asked : List Asked) (entry : Entry) → Holds p self.old s
             → Collects p self.old s asked → Collects p self.new (with_entry entry s) asked) }
         ensures memory { IsErr result → self.new ≡ self.old }
     {
-        let marks = Marks::new(self.alloc, plan, info)?;
+        let marks = Marks::of_object(self.alloc, plan, info)?;
+        self.join(marks)
+    }
+
+    /// Takes a stream into the window, of which nothing is closed yet, and makes room for as many of its blocks as the profile says.
+    /// Its index is the one behind the last object's. Want of memory leaves the union as it was.
+    pub fn admit_stream(&mut self, profile: &Profile, index: u32, plan: &Plan) -> Result<(), Memory>
+        requires index { index ≡ self.old.first + length self.old.objects }
+        requires stream { plan.now.l ≡ None }
+        ensures exact { IfOk result (λ _. self.new ≡ with_object (admitted_stream plan.now profile.now.blocks) self.old) }
+        ensures stands { IfOk result (λ _. (p : Settings) (s : SenderState) (entry : Entry) → Holds p self.old s
+            → shape_of p entry.object ≡ shape_of_marked (admitted_stream plan.now profile.now.blocks) → HasRoom p (admitted_stream plan.now profile.now.blocks) → Holds p self.new (with_entry entry s)) }
+        ensures collects { IfOk result (λ _. (p : Settings) (s : SenderState) (asked : List Asked) (entry : Entry) → Holds p self.old s
+            → Collects p self.old s asked → Collects p self.new (with_entry entry s) asked) }
+        ensures memory { IsErr result → self.new ≡ self.old }
+    {
+        let marks = Marks::of_stream(self.alloc, plan, profile.blocks)?;
+        self.join(marks)
+    }
+
+    /// An object of which nothing is wanted, sent or asked for joins the window.
+    fn join(&mut self, marks: Marks) -> Result<(), Memory>
+        requires few { self.old.first + length self.old.objects < 2 ^ 32 }
+        requires fresh { IsFresh marks }
+        ensures exact { IfOk result (λ _. self.new ≡ with_object marks self.old) }
+        ensures stands { IfOk result (λ _. (p : Settings) (s : SenderState) (entry : Entry) → Holds p self.old s
+            → shape_of p entry.object ≡ shape_of_marked marks → HasRoom p marks → Holds p self.new (with_entry entry s)) }
+        ensures collects { IfOk result (λ _. (p : Settings) (s : SenderState) (asked : List Asked) (entry : Entry) → Holds p self.old s
+            → Collects p self.old s asked → Collects p self.new (with_entry entry s) asked) }
+        ensures memory { IsErr result → self.new ≡ self.old }
+    {
         self.objects.push(marks)?;
         Ok(())
+    }
+
+    /// The stream that is the last object has so many closed source symbols, no fewer than it had, and as many as have room.
+    pub fn grow(&mut self, index: u32, closed: u64)
+        requires index { index + 1 ≡ self.old.first + length self.old.objects }
+        requires last { OfLast (CanGrow closed) self.old }
+        ensures { (m : Marked) → slice_get self.old.objects (length self.old.objects - 1) ≡ Some m → self.new ≡ grown_to closed m self.old }
+    {
+        let object = &mut self.objects[(index - self.first) as usize];
+        object.grow(closed);
     }
 
     /// Takes back the last `admit`, where nothing was called since.
