@@ -9,7 +9,7 @@ use Rattle.norm_base.specs.Settings.{Settings}
 use Rattle.fec_plan.specs.Partition.{stream_cut, symbol_number}
 use Rattle.fec_plan.specs.declared.position.Position.{Position}
 use Rattle.norm_order.specs.Entries.{Entry}
-use Rattle.fec_plan.specs.Points.{point}
+use Rattle.fec_plan.specs.Points.{Point, point}
 use Rattle.norm_ext.specs.Asking.{Named, named, asked_counts}
 use Rattle.norm_ext.specs.Requests.{Request}
 use Rattle.norm_order.specs.Sets.{is_member}
@@ -165,7 +165,7 @@ known_added old new requests n (a ∷ asked) h known = (record { next = known.0.
     )
 
 -- the least index of more requests
-later : (p : Settings) (s : SenderState) (found : Option ℕ) (asked : List Asked) (requests : List Named)
+later : (p : Settings) (s : SenderState) (found : Option Point) (asked : List Asked) (requests : List Named)
     → earliest_with found (map (λ (a : Asked). a.request) (asked ++ map (asked_of p s) requests)) ≡ earliest_with (earliest_with found (map (λ (a : Asked). a.request) asked)) requests
 later p s found [] [] = refl
 later p s found [] (r ∷ requests) = later p s (lesser found (earliest r)) [] requests

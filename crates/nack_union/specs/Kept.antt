@@ -28,12 +28,12 @@ pub record Marked : Type 0 where
   pub asked : List ℕ
   pub counts : List ℕ
 
--- A union: the index of the window's first object, its objects in order, and the least index from which the open round
+-- A union: the index of the window's first object, its objects in order, and the first point from which the open round
 -- counts.
 pub record Kept : Type 0 where
   pub first : ℕ
   pub objects : List Marked
-  pub earliest : Option ℕ
+  pub earliest : Option Point
 
 -- the greatest index that the sender of a union knows: that of the window's last object
 abbrev pub known_of : Kept → ℕ

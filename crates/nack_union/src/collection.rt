@@ -27,15 +27,15 @@ ghost use Rattle.norm_ext.specs.RequestView.{request_of};
 ghost use Rattle.norm_ext.specs.Asking.{span, is_proper, named};
 ghost use Rattle.std.specs.Bool.{MatchBool};
 ghost use Rattle.nack_union.specs.Rounds.{new_wants, wants_closed};
-ghost use Rattle.nack_union.specs.Earliest.{is_below_first, earliest_with, items_spans, pairs_spans};
+ghost use Rattle.nack_union.specs.Earliest.{is_before_window, earliest_with, items_spans, pairs_spans};
 ghost use Rattle.nack_union.specs.Collected.{Collects};
 ghost use Rattle.nack_union.specs.CollectionSound.{AreQuiet};
 
 use crate::asking::{ask_range, hold_all};
-use crate::earliest::{earliest_of, is_below, lesser};
+use crate::earliest::{earliest_of, is_early, lesser};
 use crate::marks::{Marks, Named};
 use crate::slots::{slot_of, want_of};
-use fec_plan::{Plan, Position};
+use fec_plan::{Plan, Point, Position};
 use norm_base::{Memory, Profile};
 use norm_ext::flags::{WANT_BLOCK, WANT_SEGMENT};
 use norm_ext::items::{ends_of, has_flag, position_of, split_item, split_pair};
@@ -46,7 +46,7 @@ use std::marker::Model;
 
 /// The wants and the sent symbols of the objects of a window, and what the open round asks for. Objects are admitted at its
 /// end and retired from its front. Outside of the places from `low` up to `high` the round asks for nothing. `earliest` is
-/// the least index from which its requests count. Of the objects before the place `quiet` nothing is wanted.
+/// the first point from which its requests count. Of the objects before the place `quiet` nothing is wanted.
 #[derive(Debug, Drop)]
 pub struct Collection {
     alloc: Global,
@@ -54,7 +54,7 @@ pub struct Collection {
     objects: Vec<Marks>,
     low: usize,
     high: usize,
-    earliest: Option<u32>,
+    earliest: Option<Point>,
     quiet: usize,
 }
 
@@ -406,8 +406,8 @@ impl Collection {
         self.count_from(earliest);
     }
 
-    /// The requests of the open round count from this index.
-    fn count_from(&mut self, earliest: Option<u32>)
+    /// The requests of the open round count from this point.
+    fn count_from(&mut self, earliest: Option<Point>)
         ensures { self.new ≡ record self.old { earliest = earliest } }
     {
         self.earliest = earliest;
@@ -473,7 +473,7 @@ impl Collection {
         ensures closed { (p : Settings) (s : SenderState) → Holds p self.old s → Holds p self.new (record s { wants = wants_closed self.old s }) }
         ensures queued { (p : Settings) (s : SenderState) → Holds p self.old s
             → result.queued ≡ min (length (wants_closed self.old s) - length s.wants) 4294967295 }
-        ensures early { result.early ≡ is_below_first self.old.earliest self.old.first }
+        ensures early { result.early ≡ is_before_window self.old.earliest (point self.old.first 0) }
         ensures rules { (p : Settings) (s : SenderState) (r : Round) → Holds p self.old s → Collects p self.old s r.asked
             → Holds p self.new (round_closed p r s) × (result.queued ≡ min (length (round_closed p r s).wants - length s.wants) 4294967295)
             × (result.early ≡ list_any (λ (a : Asked). asks_early s.current.drop a.request) r.asked) }
@@ -485,7 +485,11 @@ impl Collection {
         self.low = high;
         self.high = high;
         self.quiet = self.quiet.min(low);
-        let early = is_below(self.earliest, self.first);
+        let first = Point {
+            index: self.first,
+            block: 0,
+        };
+        let early = is_early(self.earliest, first);
         self.earliest = None;
         Closed { queued, early }
     }
