@@ -9,7 +9,7 @@ use Rattle.norm_base.specs.Settings.{Settings}
 use Rattle.fec_plan.specs.Partition.{stream_cut, symbol_number}
 use Rattle.fec_plan.specs.declared.position.Position.{Position}
 use Rattle.norm_order.specs.Entries.{Entry}
-use Rattle.fec_plan.specs.Points.{point}
+use Rattle.fec_plan.specs.Points.{Point, point}
 use Rattle.norm_ext.specs.Asking.{Named, named, asked_counts}
 use Rattle.norm_ext.specs.Requests.{Request}
 use Rattle.norm_order.specs.Sets.{is_member}
@@ -29,6 +29,7 @@ use Rattle.nack_union.specs.More.{kept_count}
 use Rattle.nack_union.specs.Earliest.{lesser, earliest, earliest_with}
 use Rattle.nack_union.specs.Collected.{Collects, IsKnownIn, asked_of}
 use Rattle.nack_union.specs.Adding.{IsPlanned, HasAsked, HasAdded, asks_slot, is_asked_slot}
+use Rattle.nack_union.proofs.Rooms.{rooms_by}
 use Rattle.nack_union.proofs.Orders.{want_there}
 use Rattle.nack_union.proofs.Dropped.{behind_start, index_at}
 use Rattle.nack_union.proofs.Members.{member_at}
@@ -40,7 +41,6 @@ use Rattle.nack_union.proofs.Collecting.{window_shape, past_end}
 use Rattle.nack_union.proofs.NamedSymbols.{one_of, of_right}
 use Rattle.nack_union.proofs.AskedSlots.{AsksAt, slot_in, in_slot}
 use Rattle.nack_union.proofs.AskedCounts.{greatest_both, counts_kept, none_kept}
-use Rattle.nack_union.proofs.Wholes.{closed_past}
 use Rattle.nack_union.proofs.Risen.{in_set, set_in, rising_self, found_in, is_found, in_listed}
 
 -- what each place has the same of
@@ -83,6 +83,7 @@ stands_added p s old new requests st h = record {
       ap (λ n. listed (λ m. m.sent) n new.objects) h.first
       ∙ same_listed (λ m. m.sent) old.first new.objects old.objects some_object h.objects (λ k lt. ap (λ (m : Marked). m.sent) (h.each k some_object lt).rest)
       ∙ st.sent;
+  rooms = rooms_by p new.objects old.objects some_object h.objects (λ k lt. (ap (λ (m : Marked). m.cut) (h.each k some_object lt).rest, (h.each k some_object lt).blocks)) st.rooms;
 }
 
 known_all : (u : Kept) (n : ℕ) (xs ys : List Asked) → AllByRecursion (IsKnownIn u n) xs → AllByRecursion (IsKnownIn u n) ys → AllByRecursion (IsKnownIn u n) (xs ++ ys)
@@ -164,7 +165,7 @@ known_added old new requests n (a ∷ asked) h known = (record { next = known.0.
     )
 
 -- the least index of more requests
-later : (p : Settings) (s : SenderState) (found : Option ℕ) (asked : List Asked) (requests : List Named)
+later : (p : Settings) (s : SenderState) (found : Option Point) (asked : List Asked) (requests : List Named)
     → earliest_with found (map (λ (a : Asked). a.request) (asked ++ map (asked_of p s) requests)) ≡ earliest_with (earliest_with found (map (λ (a : Asked). a.request) asked)) requests
 later p s found [] [] = refl
 later p s found [] (r ∷ requests) = later p s (lesser found (earliest r)) [] requests
@@ -301,7 +302,7 @@ module _ (p : Settings) (s : SenderState) (old new : Kept) (asked : List Asked) 
           let here = get_or_past (get_or new.objects k d).counts block 0 (let many = each.blocks in omega (arith, past, many)) in
           let before = get_or_past (get_or old.objects k d).counts block 0 past in
           let was = col.counts k d lt block in
-          let now = none_kept p s old d st planned requests k block lt (empty (closed_past (get_or old.objects k d) block plan (let all = plan.counts in omega (arith, past, all)))) in
+          let now = none_kept p s old d st planned requests k block lt (empty (plan.counts block past)) in
           omega (arith, here, before, was, now)
         where
           empty : closed_in (shape_of_marked (get_or old.objects k d)) block ≡ 0 → nat_lt 0 (closed_in (shape_of_marked (get_or old.objects k d)) block) ≡ false

@@ -4,7 +4,7 @@ use Rattle.std.specs.Prelude.{filter, nat_lt, slice_get, ◌&&◌, ◌||◌}
 use Rattle.std.specs.List.{AllByRecursion, range_with_len}
 use Rattle.std.proofs.lemmas.Bool.{cases_lt, lt-ltb, ltb-true}
 use Rattle.norm_base.specs.Settings.{Settings}
-use Rattle.fec_plan.specs.Partition.{IsSound, blocks, source_symbols, encoding_symbols}
+use Rattle.fec_plan.specs.Partition.{IsSound, blocks, encoding_symbols}
 use Rattle.fec_plan.specs.Points.{position}
 use Rattle.fec_plan.specs.declared.position.Position.{Position}
 use Rattle.norm_ext.specs.Asking.{Named, asks_source, asks_info, asked_symbols}

@@ -165,6 +165,7 @@ stands_by_rules p s r u new st col after = record {
   wants = after.wants ∙ by_rules p s u r.asked st col;
   rise = after.rise;
   sent = after.sent;
+  rooms = after.rooms;
 }
 
 -- where nothing is asked for, no request was collected

@@ -1,22 +1,17 @@
 -- The order as it stands when a request comes has each object of the window as it is.
-use Rattle.std.proofs.Common.{◌≡◌, ℕ, zero, suc, ◌+◌, ◌-◌, ◌<◌, ◌≤◌, List, [], ◌∷◌, length, get_or, take, Bool, true, false, Option, Some, None, refl, sym, ap, ◌∙◌, arith}
-use Rattle.std.specs.Prelude.{slice_get, nat_lt, min, ◌==◌}
+use Rattle.std.proofs.Common.{◌≡◌, ℕ, zero, suc, ◌+◌, ◌<◌, List, [], ◌∷◌, length, get_or, take, Option, Some, None, sym, ap, ◌∙◌, arith}
+use Rattle.std.specs.Prelude.{slice_get}
 use Rattle.std.specs.List.{AllByRecursion}
-use Rattle.std.proofs.lemmas.Bool.{le-ltb}
-use Rattle.std.proofs.lemmas.Bool.Decides.{Decides-eqb}
 use Rattle.std.proofs.lemmas.List.{length-map, take_all}
 use Rattle.norm_base.specs.Settings.{Settings}
-use Rattle.fec_plan.specs.Partition.{IsSound, all_symbols, symbol_number, source_symbols, blocks}
-use Rattle.fec_plan.specs.Points.{position}
 use Rattle.fec_plan.specs.declared.position.Position.{Position}
 use Rattle.norm_ext.specs.Asking.{Named}
 use Rattle.norm_order.specs.Entries.{Entry}
-use Rattle.norm_order.specs.Shapes.{Shape, shape_of, closed_in, closed_blocks, last_in, last_from, last_source}
+use Rattle.norm_order.specs.Shapes.{Shape, shape_of, last_source}
 use Rattle.norm_send_rules.specs.SenderState.{SenderState}
 use Rattle.norm_send_rules.specs.InWindow.{current_shapes, next_index}
 use Rattle.norm_send_rules.specs.Asking.{closed_at, shapes_at, as_it_came}
 use Rattle.nack_union.specs.Collected.{asked_of}
-use Rattle.fec_plan.proofs.PartitionLemmas.{some_sources, number_from_first, some_blocks_of}
 use Rattle.nack_union.specs.Kept.{Marked, Kept, Holds, shape_of_marked}
 use Rattle.nack_union.specs.Adding.{IsPlanned}
 use Rattle.nack_union.proofs.Collecting.{window_shape}

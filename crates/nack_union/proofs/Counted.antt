@@ -3,13 +3,13 @@ use Rattle.std.proofs.Common.{◌≡◌, ℕ, zero, suc, ◌+◌, ◌-◌, ◌*�
 use Rattle.std.specs.Prelude.{nat_lt, nat_le, not, filter, min, ◌&&◌, ◌==◌}
 use Rattle.std.specs.List.{range_with_len, AllByRecursion}
 use Rattle.std.proofs.Math.Nat.{mul-le-mul_right}
-use Rattle.std.proofs.lemmas.Bool.{cases_lt, lt-leb, le-leb, eq-eqb}
+use Rattle.std.proofs.lemmas.Bool.{cases_lt, lt-leb, le-leb}
 use Rattle.std.proofs.lemmas.List.{map-append, length-map, take-map}
 use Rattle.fec_plan.specs.Partition.{Cut, IsSound, blocks, source_symbols, encoding_symbols, all_symbols, symbol_number}
 use Rattle.fec_plan.specs.Points.{Point, point, position, position_before}
 use Rattle.fec_plan.specs.declared.position.Position.{Position}
 use Rattle.norm_order.specs.Sets.{is_member}
-use Rattle.norm_order.specs.Shapes.{Shape, symbols_of, closed_in, encoded_in}
+use Rattle.norm_order.specs.Shapes.{Shape, closed_in, encoded_in}
 use Rattle.norm_send_rules.specs.SenderState.{SenderState}
 use Rattle.norm_send_rules.specs.Closing.{repairs, fresh_parity, block_wants}
 use Rattle.norm_send_rules.specs.declared.want.Want.{Want}
@@ -44,7 +44,7 @@ encoded_fits s block sound = go (closed_in s block == source_symbols s.cut block
     go false = let fit = sources_fit s.cut block sound in omega (arith, fit)
 
 -- a filter of a range, where a test asks for numbers from one on
-same_within : (p q : ℕ → Bool) (a n : ℕ) → ((i : ℕ) → a ≤ i → i < a + n → q i ≡ p i) → filter q (range_with_len a n) ≡ filter p (range_with_len a n)
+pub same_within : (p q : ℕ → Bool) (a n : ℕ) → ((i : ℕ) → a ≤ i → i < a + n → q i ≡ p i) → filter q (range_with_len a n) ≡ filter p (range_with_len a n)
 same_within p q a zero same = refl
 same_within p q a (suc n) same =
     ap (λ b. cond b (a ∷ filter q (range_with_len (a + 1) n)) (filter q (range_with_len (a + 1) n))) (same a (omega arith) (omega arith))

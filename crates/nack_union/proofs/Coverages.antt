@@ -5,8 +5,9 @@ use Rattle.std.specs.List.{range_with_len, AllByRecursion}
 use Rattle.std.proofs.Math.Nat.{div-add-mod}
 use Rattle.std.proofs.lemmas.Bool.{cases_eq, cases_lt, lt-ltb, le-ltb, ltb-true}
 use Rattle.std.proofs.lemmas.Bool.Decides.{nat_tests}
-use Rattle.fec_plan.specs.Partition.{blocks}
-use Rattle.norm_order.specs.Shapes.{Shape, closed_in}
+use Rattle.fec_plan.specs.Partition.{Cut, blocks}
+use Rattle.norm_order.specs.Shapes.{Shape, closed_in, is_full}
+use Rattle.nack_union.specs.Repairs.{shape_closed}
 use Rattle.norm_order.specs.Sets.{is_member, with_member, Rises, IsRising}
 use Rattle.norm_order.proofs.SetLemmas.{same_sets, numbers}
 use Rattle.nack_union.specs.Slots.{slots, symbol_slot}
@@ -15,6 +16,8 @@ use Rattle.nack_union.specs.Coverage.{farthest, lies_in_run, is_run_slot, covere
 use Rattle.nack_union.proofs.Ranges.{filter_member, filter_with, no_filter, no_member}
 use Rattle.nack_union.proofs.Rising.{rises_filter}
 use Rattle.nack_union.proofs.Filled.{none_past}
+use Rattle.nack_union.proofs.Counted.{same_within}
+use Rattle.nack_union.proofs.Wholes.{full_grown}
 use Rattle.nack_union.proofs.Puts.{with_puts, same_is, other_is, or_false}
 
 -- the farthest of one end more
@@ -48,7 +51,7 @@ raised_past (e ∷ ends) i v zero past = refl
 raised_past (e ∷ ends) zero v (suc n) past = absurd (omega arith)
 raised_past (e ∷ ends) (suc i) v (suc n) past = ap (max e) (raised_past ends i v n (omega arith))
 
-lies_raised : (ends : List ℕ) (first behind block : ℕ) → first < length ends
+pub lies_raised : (ends : List ℕ) (first behind block : ℕ) → first < length ends
     → lies_in_run (set ends first (max (get_or ends first 0) behind)) block ≡ (lies_in_run ends block || (not (nat_lt block first) && nat_lt block behind))
 lies_raised ends first behind block lt = go (cases_lt block first)
   where
@@ -63,6 +66,20 @@ lies_raised ends first behind block lt = go (cases_lt block first)
         → lies_in_run (set ends first (max (get_or ends first 0) behind)) block ≡ (lies_in_run ends block || (not (nat_lt block first) && nat_lt block behind))
     go (inl under) = ap (nat_lt block) (raised_past ends first _ (suc block) (omega arith)) ∙ before _ under
     go (inr from) = ap (nat_lt block) (raised_within ends first behind (suc block) lt (omega arith)) ∙ later block (farthest (take (suc block) ends)) behind from
+
+-- where it ends with whole blocks, all that lie in runs are whole
+pub runs_raised : (c : Shape) (ends : List ℕ) (first behind v block : ℕ) → first < length ends → v ≡ max (get_or ends first 0) behind
+    → ((block : ℕ) → lies_in_run ends block ≡ true → is_full c block ≡ true) → ((block : ℕ) → block < behind → is_full c block ≡ true)
+    → lies_in_run (set ends first v) block ≡ true → is_full c block ≡ true
+runs_raised c ends first behind v block lt is runs whole lies =
+    go (lies_in_run ends block) (not (nat_lt block first)) (nat_lt block behind) refl refl
+    (sym (lies_raised ends first behind block lt) ∙ ap (λ n. lies_in_run (set ends first n) block) (sym is) ∙ lies)
+  where
+    go : (a b d : Bool) → lies_in_run ends block ≡ a → nat_lt block behind ≡ d → (a || (b && d)) ≡ true → is_full c block ≡ true
+    go true b d e f h = runs block e
+    go false true true e f h = whole block (ltb-true block behind f)
+    go false true false e f h = absurd (cc)
+    go false false d e f h = absurd (cc)
 
 -- a run of blocks more
 run_slot_more : (c : Shape) (ends : List ℕ) (first behind slot : ℕ) → first < length ends
@@ -182,6 +199,9 @@ no_end zero (suc k) = refl
 no_end (suc n) zero = refl
 no_end (suc n) (suc k) = ap (max 0) (no_end n k)
 
+pub no_lies : (n block : ℕ) → lies_in_run (replicate n 0) block ≡ false
+no_lies n block = ap (nat_lt block) (no_end n (suc block)) ∙ le-ltb block 0 (omega arith)
+
 no_run : (c : Shape) (n slot : ℕ) → is_run_slot c (replicate n 0) slot ≡ false
 no_run c n zero = refl
 no_run c n (suc m) = ap (λ k. is_source_slot c (suc m) && nat_lt (m / 256) k) (no_end n (suc (m / 256))) ∙ by (is_source_slot c (suc m)) _ (le-ltb (m / 256) 0 (omega arith))
@@ -196,6 +216,30 @@ none_covered c ends alone n zeros none =
     no_filter (λ slot. is_member nat_lt slot alone || is_run_slot c ends slot) 0 (slots (blocks c.cut))
     (λ i le lt. ap (λ (xs : List ℕ). is_member nat_lt i xs || is_run_slot c ends i) none ∙ ap (λ b. b || is_run_slot c ends i) (no_member i)
     ∙ ap (λ (es : List ℕ). is_run_slot c es i) zeros ∙ no_run c n i)
+
+-- where blocks that lie in runs are whole, the slots stay as more is closed
+run_grown : (c : Cut) (was now : ℕ) (ends : List ℕ) → was ≤ now → ((block : ℕ) → lies_in_run ends block ≡ true → is_full (shape_closed c was) block ≡ true)
+    → (slot : ℕ) → is_run_slot (shape_closed c now) ends slot ≡ is_run_slot (shape_closed c was) ends slot
+run_grown c was now ends le runs zero = refl
+run_grown c was now ends le runs (suc n) = go (lies_in_run ends (n / 256)) refl
+  where
+    none : (s t l : Bool) → l ≡ false → (s && l) ≡ (t && l)
+    none s t true e = absurd (cc)
+    none true true false e = refl
+    none true false false e = refl
+    none false true false e = refl
+    none false false false e = refl
+
+    go : (l : Bool) → lies_in_run ends (n / 256) ≡ l → is_run_slot (shape_closed c now) ends (suc n) ≡ is_run_slot (shape_closed c was) ends (suc n)
+    go true e = ap (λ k. (nat_lt (n / 256) (blocks c) && nat_lt (n % 256) k) && lies_in_run ends (n / 256)) (full_grown c was now (n / 256) le (runs (n / 256) e)).0
+    go false e = none (is_source_slot (shape_closed c now) (suc n)) (is_source_slot (shape_closed c was) (suc n)) (lies_in_run ends (n / 256)) e
+
+pub covered_grown : (c : Cut) (was now : ℕ) (ends alone : List ℕ) → was ≤ now → ((block : ℕ) → lies_in_run ends block ≡ true → is_full (shape_closed c was) block ≡ true)
+    → covered_slots (shape_closed c now) ends alone ≡ covered_slots (shape_closed c was) ends alone
+unfolding covered_slots
+covered_grown c was now ends alone le runs =
+    same_within (λ slot. is_member nat_lt slot alone || is_run_slot (shape_closed c was) ends slot) (λ slot. is_member nat_lt slot alone || is_run_slot (shape_closed c now) ends slot)
+    0 (slots (blocks c)) (λ slot from to. ap (λ b. is_member nat_lt slot alone || b) (run_grown c was now ends le runs slot))
 
 -- A run of slots is what lies before its first whole block, its whole blocks, and what lies behind them.
 run_parts : (from to first behind n : ℕ) → from ≤ 256 * first + 1 → first < behind → 256 * behind + 1 ≤ to
@@ -263,15 +307,24 @@ no_block c ends (suc n) = by (is_run_slot c ends (suc n)) _ (le-ltb (n / 256) 0 
     by true b e = e
     by false b e = refl
 
-pub all_blocks : (c : Shape) (ends : List ℕ) (slot b : ℕ) → blocks c.cut ≤ b → (is_run_slot c ends slot && is_below b slot) ≡ is_run_slot c ends slot
-all_blocks c ends zero b all = refl
-all_blocks c ends (suc n) b all = by (nat_lt (n / 256) (blocks c.cut)) (nat_lt (n % 256) (closed_in c (n / 256))) (lies_in_run ends (n / 256)) refl
+pub all_blocks : (c : Shape) (ends : List ℕ) (slot b : ℕ) → ((block : ℕ) → b ≤ block → closed_in c block ≡ 0) → (is_run_slot c ends slot && is_below b slot) ≡ is_run_slot c ends slot
+all_blocks c ends zero b none = refl
+all_blocks c ends (suc n) b none = go (cases_lt (n / 256) b)
   where
-    by : (x y l : Bool) → x ≡ nat_lt (n / 256) (blocks c.cut) → (((x && y) && l) && nat_lt (n / 256) b) ≡ ((x && y) && l)
-    by true true true is = grind (arith, nat_tests)
-    by true true false is = refl
-    by true false l is = refl
-    by false y l is = refl
+    all : (r t : Bool) → t ≡ true → (r && t) ≡ r
+    all true t e = e
+    all false t e = refl
+
+    by : (x y l t : Bool) → y ≡ false → (((x && y) && l) && t) ≡ ((x && y) && l)
+    by true true l t e = absurd (cc)
+    by true false l t e = refl
+    by false y l t e = refl
+
+    go : (n / 256 < b) ⊎ (b ≤ n / 256) → (is_run_slot c ends (suc n) && nat_lt (n / 256) b) ≡ is_run_slot c ends (suc n)
+    go (inl lt) = all (is_run_slot c ends (suc n)) (nat_lt (n / 256) b) (lt-ltb (n / 256) b lt)
+    go (inr past) =
+        by (nat_lt (n / 256) (blocks c.cut)) (nat_lt (n % 256) (closed_in c (n / 256))) (lies_in_run ends (n / 256)) (nat_lt (n / 256) b)
+        (ap (nat_lt (n % 256)) (none (n / 256) past) ∙ le-ltb (n % 256) 0 (omega arith))
 
 pub run_step : (c : Shape) (ends : List ℕ) (slot b : ℕ) (wanted : Bool) → closed_in c b ≤ 256 → b < blocks c.cut → wanted ≡ nat_lt b (farthest (take (suc b) ends))
     → ((is_run_slot c ends slot && is_below b slot) || (wanted && in_run (symbol_slot b 0) (symbol_slot b 0 + closed_in c b) slot)) ≡ (is_run_slot c ends slot && is_below (b + 1) slot)

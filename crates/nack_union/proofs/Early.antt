@@ -1,88 +1,69 @@
--- A round asked for what lies before the window exactly where the least index from which it counts lies before it.
-use Rattle.std.proofs.Common.{◌≡◌, ℕ, ◌<◌, ◌≤◌, ◌⊎◌, inl, inr, List, [], ◌∷◌, map, Bool, true, false, Option, Some, None, refl, sym, ap, ◌∙◌, arith}
-use Rattle.std.specs.Prelude.{nat_lt, min, ◌&&◌, ◌||◌, ◌==◌}
+-- A round asked for what lies before the window exactly where the first point from which it counts lies before it.
+use Rattle.std.proofs.Common.{◌≡◌, ℕ, List, [], ◌∷◌, map, Bool, true, false, Option, Some, None, refl, sym, ap, ◌∙◌, arith}
+use Rattle.std.specs.Prelude.{nat_lt, ◌&&◌, ◌||◌, ◌==◌}
 use Rattle.std.specs.List.{list_any}
-use Rattle.std.proofs.lemmas.Bool.{cases_lt, lt-ltb, le-ltb}
 use Rattle.std.proofs.Math.Bool.{or_assoc}
-use Rattle.fec_plan.specs.Points.{Point, point, point_of, point_before}
+use Rattle.std.proofs.lemmas.Bool.Decides.{nat_tests}
+use Rattle.fec_plan.specs.Points.{Point, point_before}
 use Rattle.fec_plan.specs.declared.position.Position.{Position}
-use Rattle.norm_ext.specs.Asking.{Named, has_flag, object_flag, info_flag}
+use Rattle.norm_ext.specs.Asking.{Named}
 use Rattle.norm_send_rules.specs.SenderState.{Asked}
 use Rattle.norm_send_rules.specs.Closing.{asks_early, gives_something, begins_at, counts_from}
-use Rattle.nack_union.specs.Earliest.{lesser, least_with, earliest, earliest_with, is_below_first}
+use Rattle.nack_union.specs.Earliest.{lesser, least_with, earliest, earliest_with, is_before_window}
 
 or_false : (a : Bool) → (a || false) ≡ a
 or_false true = refl
 or_false false = refl
 
-and_false : (a : Bool) → (a && false) ≡ false
-and_false true = refl
-and_false false = refl
+-- the nearer of two is before where one is
+by_numbers : (ai ab bi bb di db : ℕ) (t : Bool) → (nat_lt bi ai || (bi == ai && nat_lt bb ab)) ≡ t
+    → (elim t as (λ _. Bool) [ true ↦ nat_lt bi di || (bi == di && nat_lt bb db) | false ↦ nat_lt ai di || (ai == di && nat_lt ab db) ])
+    ≡ ((nat_lt ai di || (ai == di && nat_lt ab db)) || (nat_lt bi di || (bi == di && nat_lt bb db)))
+by_numbers ai ab bi bb di db true e = grind (arith, nat_tests)
+by_numbers ai ab bi bb di db false e = grind (arith, nat_tests)
 
-or_true : (a : Bool) → (a || true) ≡ true
-or_true true = refl
-or_true false = refl
+nearer_before : (d a b : Point) (t : Bool) → point_before b a ≡ t
+    → point_before (elim t as (λ _. Point) [ true ↦ b | false ↦ a ]) d ≡ (elim t as (λ _. Bool) [ true ↦ point_before b d | false ↦ point_before a d ])
+nearer_before d a b true e = refl
+nearer_before d a b false e = refl
 
--- the lesser of two is below where one is
-lesser_below : (n a b : ℕ) → nat_lt (min a b) n ≡ (nat_lt a n || nat_lt b n)
-lesser_below n a b = go (cases_lt a n) (cases_lt b n)
-  where
-    go : (a < n) ⊎ (n ≤ a) → (b < n) ⊎ (n ≤ b) → nat_lt (min a b) n ≡ (nat_lt a n || nat_lt b n)
-    go (inl h) k = lt-ltb (min a b) n (omega (arith, h)) ∙ sym (ap (λ t. t || nat_lt b n) (lt-ltb a n h))
-    go (inr h) (inl k) = lt-ltb (min a b) n (omega (arith, k)) ∙ sym (ap (λ t. nat_lt a n || t) (lt-ltb b n k) ∙ or_true (nat_lt a n))
-    go (inr h) (inr k) = le-ltb (min a b) n (omega (arith, h, k)) ∙ sym (ap (λ t. t || nat_lt b n) (le-ltb a n h) ∙ le-ltb b n k)
+before_lesser : (d : Point) (a b : Option Point) → is_before_window (lesser a b) d ≡ (is_before_window a d || is_before_window b d)
+before_lesser d None b = refl
+before_lesser d (Some a) None = sym (or_false (point_before a d))
+before_lesser d (Some a) (Some b) =
+    nearer_before d a b (point_before b a) refl ∙ by_numbers a.index a.block b.index b.block d.index d.block (point_before b a) refl
 
-below_lesser : (n : ℕ) (a b : Option ℕ) → is_below_first (lesser a b) n ≡ (is_below_first a n || is_below_first b n)
-below_lesser n None b = refl
-below_lesser n (Some a) None = sym (or_false (nat_lt a n))
-below_lesser n (Some a) (Some b) = lesser_below n a b
+before_least : (d : Point) (found : Option Point) (points : List Point) → is_before_window (least_with found points) d ≡ (is_before_window found d || list_any (λ at. point_before at d) points)
+before_least d found [] = sym (or_false (is_before_window found d))
+before_least d found (at ∷ points) =
+    before_least d (lesser found (Some at)) points
+    ∙ ap (λ t. t || list_any (λ at. point_before at d) points) (before_lesser d found (Some at))
+    ∙ or_assoc (is_before_window found d) (point_before at d) (list_any (λ at. point_before at d) points)
 
-below_least : (n : ℕ) (found : Option ℕ) (indexes : List ℕ) → is_below_first (least_with found indexes) n ≡ (is_below_first found n || list_any (λ i. nat_lt i n) indexes)
-below_least n found [] = sym (or_false (is_below_first found n))
-below_least n found (i ∷ indexes) =
-    below_least n (lesser found (Some i)) indexes
-    ∙ ap (λ t. t || list_any (λ i. nat_lt i n) indexes) (below_lesser n found (Some i))
-    ∙ or_assoc (is_below_first found n) (nat_lt i n) (list_any (λ i. nat_lt i n) indexes)
-
--- before a first block is what is of an earlier object
-by_index : (a d : Point) → d.block ≡ 0 → point_before a d ≡ nat_lt a.index d.index
-by_index a d whole =
-    ap (λ t. nat_lt a.index d.index || (a.index == d.index && t)) (le-ltb a.block d.block (omega (arith, whole)))
-    ∙ ap (λ t. nat_lt a.index d.index || t) (and_false (a.index == d.index)) ∙ or_false (nat_lt a.index d.index)
-
-counts_by_index : (flags : ℕ) (at : Position) (d : Point) → d.block ≡ 0 → point_before (counts_from flags at) d ≡ nat_lt at.index d.index
-counts_by_index flags at d whole = go (has_flag flags object_flag || has_flag flags info_flag)
-  where
-    go : (b : Bool) → point_before (elim b [ true ↦ point at.index 0 | false ↦ point_of at ]) d ≡ nat_lt at.index d.index
-    go true = by_index (point at.index 0) d whole
-    go false = by_index (point_of at) d whole
-
-any_by_index : (flags : ℕ) (places : List Position) (d : Point) → d.block ≡ 0
-    → list_any (λ i. nat_lt i d.index) (map (λ (at : Position). at.index) places) ≡ list_any (λ at. point_before (counts_from flags at) d) places
-any_by_index flags [] d whole = refl
-any_by_index flags (at ∷ places) d whole =
-    ap (λ t. t || list_any (λ i. nat_lt i d.index) (map (λ (at : Position). at.index) places)) (sym (counts_by_index flags at d whole))
-    ∙ ap (λ t. point_before (counts_from flags at) d || t) (any_by_index flags places d whole)
+any_counts : (flags : ℕ) (places : List Position) (d : Point)
+    → list_any (λ at. point_before at d) (map (counts_from flags) places) ≡ list_any (λ at. point_before (counts_from flags at) d) places
+any_counts flags [] d = refl
+any_counts flags (at ∷ places) d = ap (λ t. point_before (counts_from flags at) d || t) (any_counts flags places d)
 
 -- of one request
-below_earliest : (d : Point) (r : Named) → d.block ≡ 0 → is_below_first (earliest r) d.index ≡ asks_early d r
-below_earliest d r whole = go (gives_something r)
+before_earliest : (d : Point) (r : Named) → is_before_window (earliest r) d ≡ asks_early d r
+before_earliest d r = go (gives_something r)
   where
-    go : (b : Bool) → is_below_first (elim b as (λ _. Option ℕ) [ true ↦ least_with None (map (λ (at : Position). at.index) (begins_at r)) | false ↦ None ]) d.index
+    go : (b : Bool) → is_before_window (elim b as (λ _. Option Point) [ true ↦ least_with None (map (counts_from r.flags) (begins_at r)) | false ↦ None ]) d
         ≡ (b && list_any (λ at. point_before (counts_from r.flags at) d) (begins_at r))
-    go true = below_least d.index None (map (λ (at : Position). at.index) (begins_at r)) ∙ any_by_index r.flags (begins_at r) d whole
+    go true = before_least d None (map (counts_from r.flags) (begins_at r)) ∙ any_counts r.flags (begins_at r) d
     go false = refl
 
-below_all : (d : Point) (found : Option ℕ) (asked : List Asked) → d.block ≡ 0
-    → is_below_first (earliest_with found (map (λ (a : Asked). a.request) asked)) d.index ≡ (is_below_first found d.index || list_any (λ (a : Asked). asks_early d a.request) asked)
-below_all d found [] whole = sym (or_false (is_below_first found d.index))
-below_all d found (a ∷ asked) whole =
-    below_all d (lesser found (earliest a.request)) asked whole
+before_all : (d : Point) (found : Option Point) (asked : List Asked)
+    → is_before_window (earliest_with found (map (λ (a : Asked). a.request) asked)) d ≡ (is_before_window found d || list_any (λ (a : Asked). asks_early d a.request) asked)
+before_all d found [] = sym (or_false (is_before_window found d))
+before_all d found (a ∷ asked) =
+    before_all d (lesser found (earliest a.request)) asked
     ∙ ap (λ t. t || list_any (λ (a : Asked). asks_early d a.request) asked)
-    (below_lesser d.index found (earliest a.request) ∙ ap (λ t. is_below_first found d.index || t) (below_earliest d a.request whole))
-    ∙ or_assoc (is_below_first found d.index) (asks_early d a.request) (list_any (λ (a : Asked). asks_early d a.request) asked)
+    (before_lesser d found (earliest a.request) ∙ ap (λ t. is_before_window found d || t) (before_earliest d a.request))
+    ∙ or_assoc (is_before_window found d) (asks_early d a.request) (list_any (λ (a : Asked). asks_early d a.request) asked)
 
 -- of a round
-pub early_is : (d : Point) (asked : List Asked) → d.block ≡ 0
-    → is_below_first (earliest_with None (map (λ (a : Asked). a.request) asked)) d.index ≡ list_any (λ (a : Asked). asks_early d a.request) asked
-early_is d asked whole = below_all d None asked whole
+pub early_is : (d : Point) (asked : List Asked)
+    → is_before_window (earliest_with None (map (λ (a : Asked). a.request) asked)) d ≡ list_any (λ (a : Asked). asks_early d a.request) asked
+early_is d asked = before_all d None asked

@@ -1,10 +1,10 @@
 -- What a union holds and collected as the last object of the order, a stream, grows.
-use Rattle.std.proofs.Common.{◌≡◌, ℕ, zero, suc, ◌+◌, ◌-◌, ◌<◌, ◌≤◌, ◌⊎◌, inl, inr, List, [], ◌∷◌, ◌++◌, map, length, set, get_or, drop, take, Bool, true, false, Option, None, Some, refl, sym, ap, subst, ◌∙◌, arith, flat_map}
-use Rattle.std.specs.Prelude.{⊤, IfSome, min, filter, nat_lt, ◌==◌, slice_get}
+use Rattle.std.proofs.Common.{◌≡◌, ℕ, zero, suc, ◌+◌, ◌-◌, ◌*◌, ◌<◌, ◌≤◌, ◌⊎◌, inl, inr, List, [], ◌∷◌, ◌++◌, length, set, get_or, drop, take, Bool, true, false, Option, None, Some, refl, sym, ap, subst, ◌∙◌, arith, flat_map}
+use Rattle.std.specs.Prelude.{IfSome, min, filter, nat_lt, ◌==◌, slice_get}
 use Rattle.std.specs.List.{AllByRecursion}
-use Rattle.std.proofs.lemmas.Bool.{cases_eq, cases_lt}
+use Rattle.std.proofs.lemmas.Bool.{cases_eq}
 use Rattle.std.proofs.lemmas.Bool.Decides.{Decides-eqb, Decides-ltb}
-use Rattle.std.proofs.lemmas.List.{map-set, drop-set-add, length-set, length-map, length-append, get_or-set_same, get_or-set_other}
+use Rattle.std.proofs.lemmas.List.{map-set, drop-set-add, length-set, get_or-set_same, get_or-set_other}
 use Rattle.norm_base.specs.Settings.{Settings}
 use Rattle.fec_plan.specs.Partition.{Cut, symbol_number}
 use Rattle.fec_plan.specs.Points.{point}
@@ -20,13 +20,14 @@ use Rattle.norm_send_rules.specs.Closing.{greatest}
 use Rattle.norm_send_rules.specs.Streaming.{with_last, with_parts}
 use Rattle.norm_send_rules.specs.Wants.{want_before}
 use Rattle.norm_send_rules.specs.declared.want.Want.{Want}
-use Rattle.nack_union.specs.Kept.{Marked, Kept, Holds, listed, shape_of_marked}
+use Rattle.nack_union.specs.Kept.{Marked, Kept, Holds, CanGrow, MayGrow, OfLast, grown_to, shape_of_marked}
 use Rattle.nack_union.specs.Collected.{Collects, IsKnownIn}
 use Rattle.nack_union.proofs.Orders.{same_at}
+use Rattle.nack_union.proofs.Rooms.{rooms_set}
 use Rattle.nack_union.proofs.Collecting.{window_shape}
 use Rattle.nack_union.proofs.Collections.{collects_kept, any_default}
 use Rattle.std.proofs.lemmas.Option.{slice_get_within, get_or_from_slice_get}
-use Rattle.nack_union.specs.UnionState.{Stands}
+use Rattle.nack_union.specs.UnionState.{UnionState, Stands}
 use Rattle.nack_union.specs.Laws.{StreamsGrow}
 use Rattle.nack_union.specs.Kept.{asked_so_far}
 
@@ -145,6 +146,7 @@ module _ (p : Settings) (s : SenderState) (u : Kept) (asked : List Asked) (parts
     wants = same_at (λ m. m.wants) u.first k u.objects new d lt refl ∙ st.wants;
     rise = st.rise;
     sent = same_at (λ m. m.sent) u.first k u.objects new d lt refl ∙ st.sent;
+    rooms = rooms_set p u.objects k new d refl refl st.rooms;
   }
 
   came_same : (a : Asked) → IsKnownIn u (next_index s) a → as_it_came a (current_shapes p later) ≡ as_it_came a (current_shapes p s)
@@ -217,6 +219,23 @@ module _ (p : Settings) (s : SenderState) (u : Kept) (asked : List Asked) (parts
             ∙ ap (λ (cs : List Count). greatest cs (point (u.first + j) block)) (sym (flat_all (counts_of (current_shapes p later)) (counts_of (current_shapes p s)) asked same_all.1));
       }
 
+-- a place within a list has an element
+pub some_at : (ms : List Marked) (i : ℕ) → i < length ms → (m : Marked) × (slice_get ms i ≡ Some m)
+some_at [] i lt = absurd (omega arith)
+some_at (m ∷ ms) zero lt = (m, refl)
+some_at (m ∷ ms) (suc i) lt = some_at ms i (omega arith)
+
+-- what may grow can
+pub last_can_grow : (closed : ℕ) (u : UnionState) → OfLast (MayGrow u.p closed) u.kept → OfLast (CanGrow closed) u.kept
+last_can_grow closed u may = record { some = may.some; last = λ m is. can m (may.last m is) }
+  where
+    can : (m : Marked) → MayGrow u.p closed m → CanGrow closed m
+    can m may = record {
+      stream = ap (λ (x : Cut). x.l) may.cut;
+      more = may.more;
+      room = subst (λ (x : Cut). closed ≤ length m.counts * x.b) (sym may.cut) may.room;
+    }
+
 -- the law
 pub streams_grow : StreamsGrow
 streams_grow u s parts m stands there cut info more =
@@ -236,3 +255,18 @@ streams_grow u s parts m stands there cut info more =
           (collects_grown u.p s u.kept (asked_so_far s) parts k m stands.holds here of_cut of_info of_closed stands.collects);
       idle = stands.idle;
     }
+
+-- a union whose last object, a stream, grew stands for the state whose stream did
+pub union_grown : (u : UnionState) (s : SenderState) (parts : List Part) (closed : ℕ) → OfLast (MayGrow u.p closed) u.kept → closed ≡ (shape_of u.p (Stream parts)).closed
+    → (new : UnionState) → ((m : Marked) → slice_get u.kept.objects (length u.kept.objects - 1) ≡ Some m → new ≡ record u { kept = grown_to closed m u.kept })
+    → Stands u s → Stands new (with_parts parts s)
+union_grown u s parts closed may is new grew stands =
+    let k : ℕ = length u.kept.objects - 1 in
+    let at = some_at u.kept.objects k (let some = may.some in omega (arith, some)) in
+    let m : Marked = at.0 in
+    let can = may.last m at.1 in
+    subst (λ (v : UnionState). Stands v (with_parts parts s)) (sym (grew m at.1 ∙ ap (λ (n : ℕ). grew_to n m) is))
+    (streams_grow u s parts m stands at.1 can.cut can.info (subst (λ (n : ℕ). m.closed ≤ n) is can.more))
+  where
+    grew_to : ℕ → Marked → UnionState
+    grew_to n m = record u { kept = grown_to n m u.kept }

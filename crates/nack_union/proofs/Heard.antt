@@ -20,7 +20,7 @@ use Rattle.nack_union.specs.UnionState.{Stands}
 
 -- what was asked is no part of what is held
 holds_asked : (p : Settings) (u : Kept) (r : UnionReads) (asked : List Asked) → HoldsFor p u r → HoldsFor p u (record r { asked = asked })
-holds_asked p u r asked h = record { first = h.first; whole = h.whole; next = h.next; shapes = h.shapes; wants = h.wants; rise = h.rise; sent = h.sent }
+holds_asked p u r asked h = record { first = h.first; whole = h.whole; next = h.next; shapes = h.shapes; wants = h.wants; rise = h.rise; sent = h.sent; rooms = h.rooms }
 
 collects_asked : (p : Settings) (u : Kept) (r : UnionReads) (asked more : List Asked) → CollectsFor p u r asked → CollectsFor p u (record r { asked = more }) asked
 collects_asked p u r asked more c = record { known = c.known; named = c.named; counts = c.counts; earliest = c.earliest }

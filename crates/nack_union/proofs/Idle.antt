@@ -1,10 +1,11 @@
 -- Objects of which the open round asks for nothing.
-use Rattle.std.proofs.Common.{◌≡◌, ℕ, zero, suc, ◌+◌, ◌<◌, ◌≤◌, ◌⊎◌, inl, inr, List, [], ◌∷◌, ◌++◌, map, length, get_or, take, drop, replicate, ◌-◌, refl, sym, ap, ◌∙◌, arith, subst}
+use Rattle.std.proofs.Common.{◌≡◌, ℕ, zero, suc, ◌+◌, ◌<◌, ◌≤◌, ◌⊎◌, inl, inr, List, [], ◌∷◌, ◌++◌, map, length, get_or, take, drop, replicate, ◌-◌, Bool, refl, sym, ap, ◌∙◌, arith, subst}
 use Rattle.std.specs.Prelude.{min}
 use Rattle.std.specs.List.{AllByRecursion}
 use Rattle.std.proofs.lemmas.Bool.{cases_lt}
 use Rattle.std.proofs.lemmas.List.{length-append, length-replicate}
-use Rattle.nack_union.specs.Kept.{Marked, closed_marks, IsCounted}
+use Rattle.fec_plan.specs.Partition.{Cut, blocks}
+use Rattle.nack_union.specs.Kept.{Marked, IsFresh, admitted, admitted_stream, closed_marks, IsCounted}
 use Rattle.nack_union.specs.Rounds.{new_wants}
 use Rattle.nack_union.specs.CollectionSound.{IsIdle, AreIdle}
 use Rattle.nack_union.proofs.Closings.{idle_stays}
@@ -28,9 +29,12 @@ idle_pushed low high ms m idle new k d lt out = go (cases_lt k (length ms))
         subst (λ i. IsIdle (get_or (ms ++ m ∷ []) i d)) (let e : length ms ≡ k = omega (arith, lt, more, length-append ms (m ∷ [])) in e)
         (subst IsIdle (sym (at_end ms m d)) new)
 
-pub idle_new : (m : Marked) (n : ℕ) → m.asked ≡ [] → m.counts ≡ replicate n 0 → IsIdle m
-idle_new m n unasked uncounted =
-    (unasked, uncounted ∙ ap (λ k. replicate k 0) (sym (ap length uncounted ∙ length-replicate n 0)))
+-- of an object as it is admitted nothing is wanted, sent or asked for
+pub fresh_object : (cut : Cut) (info : Bool) → IsFresh (admitted cut info)
+fresh_object cut info = record { wants = refl; sent = refl; asked = refl; counts = ap (λ k. replicate k 0) (sym (length-replicate {A = ℕ} (blocks cut) 0)) }
+
+pub fresh_stream : (cut : Cut) (room : ℕ) → IsFresh (admitted_stream cut room)
+fresh_stream cut room = record { wants = refl; sent = refl; asked = refl; counts = ap (λ k. replicate k 0) (sym (length-replicate {A = ℕ} room 0)) }
 
 -- an object of which nothing is asked stays as its round closes
 pub stays_idle : (m : Marked) → IsIdle m → closed_marks m ≡ m

@@ -45,5 +45,7 @@ pub mod Rising
 pub mod Heard
 pub mod Retired
 pub mod Grown
+pub mod Rooms
+pub mod Open
 pub mod Moved
 pub mod Shifted

@@ -1,6 +1,6 @@
 -- Words that were moved down.
-use Rattle.std.proofs.Common.{◌≡◌, ℕ, zero, suc, ◌+◌, ◌-◌, ◌*◌, ◌/◌, ◌%◌, ◌<◌, ◌≤◌, ◌⊎◌, inl, inr, List, length, set, get_or, true, false, refl, sym, ap, ◌∙◌, arith, take}
-use Rattle.std.specs.Prelude.{◌==◌, min, nat_lt, Bool}
+use Rattle.std.proofs.Common.{◌≡◌, ℕ, ◌+◌, ◌-◌, ◌*◌, ◌/◌, ◌%◌, ◌<◌, ◌≤◌, ◌⊎◌, inl, inr, List, length, set, get_or, false, sym, ap, ◌∙◌, arith, take}
+use Rattle.std.specs.Prelude.{◌==◌, min, nat_lt}
 use Rattle.std.specs.Int.{bit_at}
 use Rattle.std.specs.List.{AllByRecursion}
 use Rattle.std.proofs.Math.Nat.{div-add-mod}

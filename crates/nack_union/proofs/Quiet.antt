@@ -8,6 +8,7 @@ use Rattle.std.proofs.lemmas.List.Sums.{position_or_len_is}
 use Rattle.nack_union.specs.Kept.{Marked, closed_marks}
 use Rattle.nack_union.specs.CollectionSound.{IsIdle, AreIdle, AreQuiet}
 use Rattle.nack_union.proofs.Idle.{at_front, stays_idle}
+use Rattle.nack_union.proofs.Collections.{any_default}
 
 -- something is wanted of an object
 abbrev pub wanted : Marked → Bool
@@ -88,6 +89,16 @@ quiet_before ms i is k d lt below = not_wanted _ ((position-Some wanted ms i d i
 pub quiet_set : (ms : List Marked) (i : ℕ) (new : Marked) → AreQuiet i ms → AreQuiet i (set ms i new)
 quiet_set ms i new none k d lt below =
     ap (λ (m : Marked). m.wants) (get_or-set_other ms i k new d (λ e. omega (arith, e, below))) ∙ none k d (omega (arith, lt, length-set {A = Marked})) below
+
+-- an object of which as much is wanted as before
+pub quiet_same : (quiet : ℕ) (ms : List Marked) (i : ℕ) (new d : Marked) → i < length ms → new.wants ≡ (get_or ms i d).wants → AreQuiet quiet ms → AreQuiet quiet (set ms i new)
+quiet_same quiet ms i new d lt wants none = quiet_kept quiet ms (set ms i new) (length-set ms i new) (λ k x within. by k x (cases_eq k i)) none
+  where
+    by : (k : ℕ) (x : Marked) → (k ≡ i) ⊎ (k ≡ i → ⊥) → (get_or (set ms i new) k x).wants ≡ (get_or ms k x).wants
+    by k x (inl e) =
+        ap (λ j. (get_or (set ms i new) j x).wants) e ∙ ap (λ (m : Marked). m.wants) (get_or-set_same ms i new x lt) ∙ wants
+        ∙ ap (λ (m : Marked). m.wants) (any_default ms i d x lt) ∙ ap (λ j. (get_or ms j x).wants) (sym e)
+    by k x (inr ne) = ap (λ (m : Marked). m.wants) (get_or-set_other ms i k new x ne)
 
 -- an object of which the round asks for as much as before
 pub idle_set : (low high i : ℕ) (ms : List Marked) (new d : Marked) → i < length ms → new.asked ≡ (get_or ms i d).asked → new.counts ≡ (get_or ms i d).counts

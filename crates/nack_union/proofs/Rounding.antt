@@ -12,6 +12,7 @@ use Rattle.nack_union.specs.Slots.{want_at}
 use Rattle.nack_union.specs.Repairs.{counted_slots}
 use Rattle.nack_union.specs.Kept.{Marked, Kept, Holds, listed, symbols_of_marked, closed_marks, closed_union, admitted, shape_of_marked, IsCounted}
 use Rattle.nack_union.specs.Rounds.{asked_of, wants_closed, new_wants}
+use Rattle.nack_union.proofs.Rooms.{rooms_closed}
 use Rattle.nack_union.proofs.Closings.{all_closed}
 use Rattle.nack_union.proofs.Counted.{asked_are}
 use Rattle.nack_union.proofs.Counting.{length-with_member, more}
@@ -44,6 +45,7 @@ stands_closed p s u counted st = record {
   wants = closed_wants p s u counted st;
   rise = st.rise;
   sent = same_sent u.first u.objects ∙ st.sent;
+  rooms = rooms_closed p u.objects st.rooms;
 }
 
 -- a set that is joined is no smaller

@@ -2,7 +2,7 @@
 use Rattle.std.proofs.Common.{◌≡◌, ℕ, zero, suc, ◌+◌, ◌-◌, ◌*◌, ◌/◌, ◌%◌, ◌<◌, ◌≤◌, ◌⊎◌, inl, inr, false, refl, sym, ap, ◌∙◌, arith}
 use Rattle.std.specs.Prelude.{◌==◌, ◌&&◌, ◌||◌, nat_lt, min, max}
 use Rattle.std.proofs.lemmas.Bool.Decides.{nat_tests}
-use Rattle.std.proofs.lemmas.Bool.{cases_eq}
+use Rattle.std.proofs.lemmas.Bool.{cases_eq, cases_lt}
 use Rattle.std.proofs.Math.Nat.{div-add-mod}
 use Rattle.fec_plan.specs.Partition.{blocks}
 use Rattle.norm_order.specs.Shapes.{Shape, closed_in}
@@ -52,14 +52,23 @@ pub blocks_none : (c : Shape) (slot from to start : ℕ) → start ≡ from - 1 
 blocks_none c zero from to start is = refl
 blocks_none c (suc n) from to start is = plain_none n (blocks c.cut) (closed_in c (n / 256)) from to start is
 
-plain_end : (n m k from to start i top behind : ℕ) → start ≡ from - 1 → behind ≡ min top m → to - 1 ≤ 256 * top → i ≤ max (start / 256) behind → behind ≤ i
+plain_end : (n m k from to start i top behind room : ℕ) → start ≡ from - 1 → behind ≡ min top room → (room ≤ n / 256 → k ≡ 0) → to - 1 ≤ 256 * top → i ≤ max (start / 256) behind → behind ≤ i
     → (nat_lt (n / 256) m && nat_lt (n % 256) k && in_run from to (suc n) && nat_lt (n / 256) i) ≡ (nat_lt (n / 256) m && nat_lt (n % 256) k && in_run from to (suc n))
-plain_end n m k from to start i top behind is last cover most least = grind (arith, nat_tests, div-add-mod n 256, div-add-mod start 256)
+plain_end n m k from to start i top behind room is last none cover most least = go (cases_lt (n / 256) room)
+  where
+    empty : k ≡ 0
+        → (nat_lt (n / 256) m && nat_lt (n % 256) k && in_run from to (suc n) && nat_lt (n / 256) i) ≡ (nat_lt (n / 256) m && nat_lt (n % 256) k && in_run from to (suc n))
+    empty e = grind (arith, nat_tests)
 
--- and none behind the last
-pub blocks_end : (c : Shape) (slot from to start i top behind : ℕ) → start ≡ from - 1 → behind ≡ min top (blocks c.cut) → to - 1 ≤ 256 * top
-    → i ≤ max (start / 256) behind → behind ≤ i
+    go : (n / 256 < room) ⊎ (room ≤ n / 256)
+        → (nat_lt (n / 256) m && nat_lt (n % 256) k && in_run from to (suc n) && nat_lt (n / 256) i) ≡ (nat_lt (n / 256) m && nat_lt (n % 256) k && in_run from to (suc n))
+    go (inl lt) = grind (arith, nat_tests, div-add-mod n 256, div-add-mod start 256)
+    go (inr past) = empty (none past)
+
+-- and none behind the last of those that have room, behind which nothing is closed
+pub blocks_end : (c : Shape) (slot from to start i top behind room : ℕ) → start ≡ from - 1 → behind ≡ min top room → ((block : ℕ) → room ≤ block → closed_in c block ≡ 0)
+    → to - 1 ≤ 256 * top → i ≤ max (start / 256) behind → behind ≤ i
     → (is_source_slot c slot && in_run from to slot && is_below i slot) ≡ (is_source_slot c slot && in_run from to slot)
-blocks_end c zero from to start i top behind is last cover most least = refl
-blocks_end c (suc n) from to start i top behind is last cover most least =
-    plain_end n (blocks c.cut) (closed_in c (n / 256)) from to start i top behind is last cover most least
+blocks_end c zero from to start i top behind room is last none cover most least = refl
+blocks_end c (suc n) from to start i top behind room is last none cover most least =
+    plain_end n (blocks c.cut) (closed_in c (n / 256)) from to start i top behind room is last (none (n / 256)) cover most least

@@ -11,7 +11,7 @@ use Rattle.fec_plan.specs.Points.{point, position}
 use Rattle.fec_plan.specs.declared.position.Position.{Position}
 use Rattle.norm_order.specs.Entries.{Entry}
 use Rattle.norm_order.specs.Sets.{with_member}
-use Rattle.norm_order.specs.Shapes.{shape_of, shapes_of}
+use Rattle.norm_order.specs.Shapes.{Shape, shape_of, shapes_of}
 use Rattle.norm_send_rules.specs.SenderState.{SenderState}
 use Rattle.norm_send_rules.specs.Wants.{want_before, want_index}
 use Rattle.norm_send_rules.specs.InWindow.{stands_behind, current_shapes}
@@ -23,7 +23,8 @@ use Rattle.norm_send_rules.specs.declared.want.Want.{Want}
 use Rattle.norm_send_rules.specs.declared.want.Want.TheVariants.{Symbol}
 use Rattle.norm_send_rules.proofs.ClosingLemmas.{rise_more}
 use Rattle.nack_union.specs.Slots.{want_at, symbol_slot}
-use Rattle.nack_union.specs.Kept.{Marked, Kept, Holds, with_object, listed, shape_of_marked}
+use Rattle.nack_union.specs.Kept.{Marked, Kept, Holds, HasRoom, with_object, listed, shape_of_marked}
+use Rattle.nack_union.proofs.Rooms.{rooms_set, rooms_joined, rooms_dropped}
 use Rattle.nack_union.proofs.Orders.{put_at, same_at, lowest_at, none_at, joined_at, symbol_at}
 use Rattle.nack_union.proofs.Dropped.{filter_with_want, symbols_with, behind_start, filter_twice, listed_dropped, not_behind_start}
 
@@ -50,6 +51,7 @@ stands_noted p s u k at new d lt index few is st = record {
       ∙ ap (with_member want_before (Symbol at)) st.sent
       ∙ sym (filter_with_want s.current.drop (Symbol at) (map Symbol s.sent) st.whole (behind_start s.current.drop (Symbol at) st.whole here) here st.rise)
       ∙ ap (filter (stands_behind s.current.drop)) (sym (symbols_with at s.sent));
+  rooms = rooms_set p u.objects k new d (ap (λ (m : Marked). m.cut) is) (ap (λ (m : Marked). length m.counts) is) st.rooms;
 }
   where
     here : s.current.drop.index ≤ at.index
@@ -71,6 +73,7 @@ stands_next p s u k slot new d lt none is st = (
     wants = refl;
     rise = st.rise;
     sent = same_at (λ m. m.sent) u.first k u.objects new d lt (sym (ap (λ (m : Marked). m.sent) is)) ∙ st.sent;
+    rooms = rooms_set p u.objects k new d (sym (ap (λ (m : Marked). m.cut) is)) (sym (ap (λ (m : Marked). length m.counts) is)) st.rooms;
   },
 )
 
@@ -81,8 +84,8 @@ stands_idle p s u d none st = sym st.wants ∙ none_at (λ m. m.wants) u.first u
 
 -- one more object
 pub stands_admitted : (p : Settings) (s : SenderState) (u : Kept) (entry : Entry) (m : Marked) → m.wants ≡ [] → m.sent ≡ [] → Holds p u s
-    → shape_of p entry.object ≡ shape_of_marked m → Holds p (with_object m u) (with_entry entry s)
-stands_admitted p s u entry m unwanted unsent st shape = record {
+    → shape_of p entry.object ≡ shape_of_marked m → HasRoom p m → Holds p (with_object m u) (with_entry entry s)
+stands_admitted p s u entry m unwanted unsent st shape room = record {
   first = st.first;
   whole = st.whole;
   next =
@@ -97,6 +100,7 @@ stands_admitted p s u entry m unwanted unsent st shape = record {
   wants = joined_at (λ m. m.wants) u.first u.objects m unwanted ∙ st.wants;
   rise = st.rise;
   sent = joined_at (λ m. m.sent) u.first u.objects m unsent ∙ st.sent;
+  rooms = rooms_joined p u.objects m st.rooms room;
 }
   where
     within : u.first ≤ length (shapes_of p s.current.order)
@@ -119,6 +123,7 @@ stands_retired p s u n le st = record {
       sym (listed_dropped (λ m. m.sent) (point (u.first + n) 0) u.first n u.objects refl refl)
       ∙ ap (filter (stands_behind (point (u.first + n) 0))) st.sent
       ∙ filter_twice s.current.drop (point (u.first + n) 0) (map Symbol s.sent) later;
+  rooms = rooms_dropped p n u.objects st.rooms;
 }
   where
     later : (w : Want) → stands_behind (point (u.first + n) 0) w ≡ true → stands_behind s.current.drop w ≡ true
@@ -131,8 +136,8 @@ stands_retired p s u n le st = record {
 -- what a round asks for changes nothing else
 pub stands_asked : (p : Settings) (s : SenderState) (u : Kept) (k : ℕ) (new d : Marked) → k < length u.objects
     → shape_of_marked new ≡ shape_of_marked (get_or u.objects k d) → new.wants ≡ (get_or u.objects k d).wants → new.sent ≡ (get_or u.objects k d).sent
-    → Holds p u s → Holds p (record u { objects = set u.objects k new }) s
-stands_asked p s u k new d lt shape wants sent st = record {
+    → length new.counts ≡ length (get_or u.objects k d).counts → Holds p u s → Holds p (record u { objects = set u.objects k new }) s
+stands_asked p s u k new d lt shape wants sent many st = record {
   first = st.first;
   whole = st.whole;
   next = ap (λ n. u.first + n) (length-set u.objects k new) ∙ st.next;
@@ -140,6 +145,7 @@ stands_asked p s u k new d lt shape wants sent st = record {
   wants = same_at (λ m. m.wants) u.first k u.objects new d lt wants ∙ st.wants;
   rise = st.rise;
   sent = same_at (λ m. m.sent) u.first k u.objects new d lt sent ∙ st.sent;
+  rooms = rooms_set p u.objects k new d (ap (λ (x : Shape). x.cut) shape) many st.rooms;
 }
 
 -- something is wanted of an object exactly where there is a want

@@ -1,7 +1,6 @@
 -- The numbers of an object: which of its blocks have closed symbols, and how many.
-use Rattle.std.proofs.Common.{◌≡◌, ℕ, ◌+◌, ◌-◌, ◌*◌, ◌/◌, ◌%◌, ◌<◌, ◌≤◌, ◌⊎◌, inl, inr, Bool, true, false, refl, sym, ap, arith, Option, Some, None}
+use Rattle.std.proofs.Common.{◌≡◌, ℕ, ◌+◌, ◌-◌, ◌*◌, ◌/◌, ◌%◌, ◌<◌, ◌≤◌, ◌⊎◌, inl, inr, Bool, true, false, refl, sym, ap, ◌∙◌, length, arith, Option, Some, None}
 use Rattle.std.specs.Prelude.{nat_lt, min, ◌==◌, if◌then◌else◌}
-use Rattle.std.specs.Int.{div_ceil}
 use Rattle.std.proofs.Math.Nat.{mul-le-mul_right, lt_of_mul-lt-mul_right, div-mul-le_self}
 use Rattle.std.proofs.lemmas.Nat.{div-add-mod', le-div}
 use Rattle.std.proofs.lemmas.Bool.{cases_lt, le-ltb}
@@ -9,11 +8,13 @@ use Rattle.std.proofs.lemmas.Bool.Decides.{Decides-eqb, nat_tests}
 use Rattle.std.proofs.lemmas.Grind.{div_ceil_times}
 use Rattle.fec_plan.specs.Partition.{Cut, IsSound, symbols_in, blocks_in, large_block, small_block, larger_blocks, block_size, symbols_before, blocks, source_symbols, encoding_symbols, all_symbols, symbol_number}
 use Rattle.fec_plan.proofs.CutLemmas.{some_blocks, large_most}
-use Rattle.norm_order.specs.Shapes.{closed_in, encoded_in, closed_blocks}
+use Rattle.norm_order.specs.Shapes.{closed_in, encoded_in, is_full, closed_blocks}
+use Rattle.nack_union.specs.Repairs.{shape_closed}
 use Rattle.fec_plan.proofs.PartitionLemmas.{some_sources}
 use Rattle.nack_union.specs.Slots.{slots, symbol_slot}
 use Rattle.nack_union.specs.Kept.{Marked, shape_of_marked}
 use Rattle.nack_union.specs.Adding.{IsPlanned}
+use Rattle.nack_union.proofs.Counted.{block_fits}
 
 -- all blocks together have all symbols
 to_end : (a r n rest t large : ℕ) → a * n + r ≡ t → n ≤ r + rest → large ≡ a + min 1 r → t ≤ r * large + rest * a
@@ -85,26 +86,29 @@ in_closed m block sound lt some = go m.cut.l lt some
         lt_of_mul-lt-mul_right m.cut.b (omega (arith, up, more))
 
 -- a block that the object has not has no symbols
-pub closed_past : (m : Marked) (block : ℕ) → IsPlanned m → blocks m.cut ≤ block → closed_in (shape_of_marked m) block ≡ 0
-closed_past m block plan past =
-    none (source_symbols m.cut block) m.closed (all_symbols m.cut) (symbol_number m.cut block 0) plan.closed (past_all m.cut block plan.sound past)
+pub past_closed : (c : Cut) (closed block : ℕ) → IsSound c → closed ≤ all_symbols c → blocks c ≤ block → closed_in (shape_closed c closed) block ≡ 0
+past_closed c closed block sound few past = none (source_symbols c block) closed (all_symbols c) (symbol_number c block 0) few (past_all c block sound past)
   where
     none : (size closed all first : ℕ) → closed ≤ all → all ≤ first → min size (closed - first) ≡ 0
     none size closed all first few le = omega arith
 
-pub encoded_past : (m : Marked) (block : ℕ) → IsPlanned m → blocks m.cut ≤ block → encoded_in (shape_of_marked m) block ≡ 0
-encoded_past m block plan past = go (closed_in (shape_of_marked m) block == source_symbols m.cut block) refl
-  where
-    none : closed_in (shape_of_marked m) block ≡ 0
-    none = closed_past m block plan past
+pub closed_past : (m : Marked) (block : ℕ) → IsPlanned m → blocks m.cut ≤ block → closed_in (shape_of_marked m) block ≡ 0
+closed_past m block plan past = past_closed m.cut m.closed block plan.sound plan.closed past
 
+-- one of which nothing is closed has no encoded symbols
+pub encoded_none : (m : Marked) (block : ℕ) → IsSound m.cut → closed_in (shape_of_marked m) block ≡ 0 → encoded_in (shape_of_marked m) block ≡ 0
+encoded_none m block sound none = go (closed_in (shape_of_marked m) block == source_symbols m.cut block) refl
+  where
     go : (b : Bool) → (closed_in (shape_of_marked m) block == source_symbols m.cut block) ≡ b
         → (elim b as (λ _. ℕ) [ true ↦ encoding_symbols m.cut block | false ↦ closed_in (shape_of_marked m) block ]) ≡ 0
     go true e =
         let same = (Decides-eqb (closed_in (shape_of_marked m) block) (source_symbols m.cut block)).0 e in
-        let some = some_sources m.cut block plan.sound in
+        let some = some_sources m.cut block sound in
         absurd (omega (arith, none, same, some))
     go false e = none
+
+pub encoded_past : (m : Marked) (block : ℕ) → IsPlanned m → blocks m.cut ≤ block → encoded_in (shape_of_marked m) block ≡ 0
+encoded_past m block plan past = encoded_none m block plan.sound (closed_past m block plan past)
 
 -- no block has more source symbols than it may
 pub sources_most : (c : Cut) (block : ℕ) → IsSound c → source_symbols c block ≤ c.b
@@ -149,10 +153,69 @@ few_encoded c block sound few =
     let most = le-div (encoding_symbols c block) (source_symbols c 0 * c.max_n) c.b some (omega (arith, le, down)) in
     omega (arith, most, few)
 
--- an encoded symbol has a slot
-pub slot_there : (m : Marked) (block symbol : ℕ) → IsPlanned m → symbol < encoded_in (shape_of_marked m) block → symbol < 256 → symbol_slot block symbol < slots (blocks m.cut)
-slot_there m block symbol plan lt named = go (cases_lt block (blocks m.cut))
+-- an encoded symbol has a slot, where blocks of which something is closed have room
+pub room_there : (m : Marked) (block symbol : ℕ) → IsSound m.cut → ((block : ℕ) → length m.counts ≤ block → closed_in (shape_of_marked m) block ≡ 0)
+    → symbol < encoded_in (shape_of_marked m) block → symbol < 256 → symbol_slot block symbol < slots (length m.counts)
+room_there m block symbol sound behind lt named = go (cases_lt block (length m.counts))
   where
-    go : (block < blocks m.cut) ⊎ (blocks m.cut ≤ block) → symbol_slot block symbol < slots (blocks m.cut)
+    go : (block < length m.counts) ⊎ (length m.counts ≤ block) → symbol_slot block symbol < slots (length m.counts)
     go (inl less) = omega arith
-    go (inr past) = absurd (let none = encoded_past m block plan past in omega (arith, none))
+    go (inr past) = absurd (let none = encoded_none m block sound (behind block past) in omega (arith, none))
+
+pub slot_there : (m : Marked) (block symbol : ℕ) → IsPlanned m → symbol < encoded_in (shape_of_marked m) block → symbol < 256 → symbol_slot block symbol < slots (length m.counts)
+slot_there m block symbol plan lt named = room_there m block symbol plan.sound plan.counts lt named
+
+-- the blocks before one have no more symbols than as many of the first
+number_most : (c : Cut) (block : ℕ) → symbol_number c block 0 ≤ block * source_symbols c 0
+number_most c block = go c.l
+  where
+    by : (larger small large : ℕ) (test : Bool) → nat_lt 0 larger ≡ test → small ≤ large
+        → min block larger * large + (block - larger) * small + 0 ≤ block * (if test then large else small)
+    by larger small large true e le =
+        let rest : small * (block - larger) ≤ large * (block - larger) = mul-le-mul_right (block - larger) le in
+        let all = ap (λ x. x * large) (let m : min block larger + (block - larger) ≡ block = omega arith in m) in
+        omega (arith, rest, all)
+    by larger small large false e le =
+        let none : larger ≡ 0 = grind (arith, nat_tests) in
+        let one = ap (λ x. x * large) (let m : min block larger ≡ 0 = omega (arith, none) in m) in
+        let two = ap (λ x. x * small) (let m : block - larger ≡ block = omega (arith, none) in m) in
+        omega (arith, one, two)
+
+    go : (l : Option ℕ) → symbol_number (record c { l = l }) block 0 ≤ block * source_symbols (record c { l = l }) 0
+    go (Some n) =
+        by (larger_blocks (symbols_in n c.e) (blocks_in (symbols_in n c.e) c.b)) (small_block (symbols_in n c.e) (blocks_in (symbols_in n c.e) c.b)) (large_block (symbols_in n c.e) (blocks_in (symbols_in n c.e) c.b))
+        (nat_lt 0 (larger_blocks (symbols_in n c.e) (blocks_in (symbols_in n c.e) c.b))) refl (omega arith)
+    go None = omega arith
+
+full_by : (size closed first : ℕ) → first + size ≤ closed → (min size (closed - first) == size) ≡ true
+full_by size closed first le = (Decides-eqb (min size (closed - first)) size).1 (let m : min size (closed - first) ≡ size = omega (arith, le) in m)
+
+-- where all symbols are closed, each block is whole
+pub all_whole : (c : Cut) (closed block : ℕ) → IsSound c → all_symbols c ≤ closed → block < blocks c → is_full (shape_closed c closed) block ≡ true
+all_whole c closed block sound all lt = full_by (source_symbols c block) closed (symbol_number c block 0) (let fits = block_fits c block sound lt in omega (arith, fits, all))
+
+-- and so are as many first blocks as would be if each were as large as the first
+pub first_whole : (c : Cut) (closed block : ℕ) → 0 < source_symbols c 0 → block < closed / source_symbols c 0 → is_full (shape_closed c closed) block ≡ true
+first_whole c closed block some lt =
+    full_by (source_symbols c block) closed (symbol_number c block 0)
+    (let number = number_most c block in
+    let size = first_sources c block in
+    let up : (block + 1) * source_symbols c 0 ≤ closed / source_symbols c 0 * source_symbols c 0 = mul-le-mul_right (source_symbols c 0) (omega (arith, lt)) in
+    let down = div-mul-le_self closed (source_symbols c 0) in
+    omega (arith, number, size, up, down))
+
+-- a block that is whole stays as it is as more is closed
+pub full_grown : (c : Cut) (was now block : ℕ) → was ≤ now → is_full (shape_closed c was) block ≡ true
+    → (closed_in (shape_closed c now) block ≡ closed_in (shape_closed c was) block) × (is_full (shape_closed c now) block ≡ true)
+full_grown c was now block le full =
+    let e : min (source_symbols c block) (was - symbol_number c block 0) ≡ source_symbols c block = (Decides-eqb (closed_in (shape_closed c was) block) (source_symbols c block)).0 full in
+    let same : min (source_symbols c block) (now - symbol_number c block 0) ≡ min (source_symbols c block) (was - symbol_number c block 0) = omega (arith, e, le) in
+    (same, (Decides-eqb (closed_in (shape_closed c now) block) (source_symbols c block)).1 (same ∙ e))
+
+-- nothing of a stream is closed behind the blocks in which it is closed
+pub stream_room : (c : Cut) (closed room block : ℕ) → c.l ≡ None → closed ≤ room * c.b → room ≤ block → closed_in (shape_closed c closed) block ≡ 0
+stream_room c closed room block is le past = go c.l is
+  where
+    go : (l : Option ℕ) → l ≡ None → min (source_symbols (record c { l = l }) block) (closed - symbol_number (record c { l = l }) block 0) ≡ 0
+    go (Some n) e = absurd (cc)
+    go None e = let up : room * c.b ≤ block * c.b = mul-le-mul_right c.b past in omega (arith, le, up)

@@ -12,7 +12,7 @@ use Rattle.norm_send_rules.specs.Closing.{greatest}
 use Rattle.norm_send_rules.specs.Laws.{Rise}
 use Rattle.nack_union.specs.More.{kept_count}
 use Rattle.nack_union.specs.Earliest.{earliest_with}
-use Rattle.nack_union.specs.Kept.{Marked, Kept, listed, symbols_of_marked}
+use Rattle.nack_union.specs.Kept.{Marked, Kept, listed, shape_of_marked, symbols_of_marked}
 
 -- a request names this encoded symbol, which may be a parity symbol
 abbrev pub names_symbol : Named → Position → Bool
@@ -53,10 +53,10 @@ pub record HasAdded (requests : List Named) (old new : Kept) : Type 0 where
   pub earliest : new.earliest ≡ earliest_with old.earliest requests
 
 -- What holds of each object: nothing is wrong with its cut, no more symbols are closed than it has, and all that it has
--- where it has a length; its symbols' ids have 8 bits, and each block has a count.
+-- where it has a length; its symbols' ids have 8 bits, and each block of which something is closed has a count.
 pub record IsPlanned (m : Marked) : Type 0 where
   pub sound : IsSound m.cut
   pub closed : m.closed ≤ all_symbols m.cut
   pub whole : (l : ℕ) → m.cut.l ≡ Some l → m.closed ≡ all_symbols m.cut
   pub few : (block : ℕ) → encoding_symbols m.cut block ≤ 255
-  pub counts : length m.counts ≡ blocks m.cut
+  pub counts : (block : ℕ) → length m.counts ≤ block → closed_in (shape_of_marked m) block ≡ 0

@@ -27,7 +27,7 @@ pub record IsKnownIn (u : Kept) (n : ℕ) (a : Asked) : Type 0 where
       → symbol_number (get_or u.objects k d).cut at.block at.symbol + 1 ≤ (get_or u.objects k d).closed))
 
 -- A union collected requests as each came, none before the order was as it stood then: the infos and symbols of the window
--- that they ask for by name, and of each block of the window the greatest count that is kept. The least index is the one from which they count.
+-- that they ask for by name, and of each block of the window the greatest count that is kept. The first point is the one from which they count.
 pub record CollectsFor (p : Settings) (u : Kept) (r : UnionReads) (asked : List Asked) : Type 0 where
   pub known : AllByRecursion (IsKnownIn u (length r.order)) asked
   pub named : listed (λ m. m.asked) u.first u.objects

@@ -1,17 +1,18 @@
 -- The slots of an object that a round asks for: some by themselves, and the source symbols of runs of whole blocks.
-use Rattle.std.specs.Prelude.{◌≡◌, ◌≤◌, ℕ, zero, suc, ◌/◌, ◌&&◌, ◌||◌, List, [], ◌∷◌, length, take, filter, max, Bool, false, not, nat_lt}
+use Rattle.std.specs.Prelude.{◌≡◌, ◌<◌, ◌≤◌, ℕ, zero, suc, ◌/◌, ◌&&◌, ◌||◌, List, [], ◌∷◌, length, take, filter, max, Bool, true, false, not, nat_lt}
 use Rattle.std.specs.List.{range_with_len}
 use Rattle.fec_plan.specs.Partition.{blocks, most_blocks}
 use Rattle.norm_order.specs.Sets.{is_member}
-use Rattle.norm_order.specs.Shapes.{Shape}
+use Rattle.norm_order.specs.Shapes.{Shape, closed_in, is_full}
 use Rattle.nack_union.specs.Slots.{slots}
 use Rattle.nack_union.specs.Repairs.{shape_closed}
 use Rattle.nack_union.specs.More.{is_source_slot}
 use Rattle.nack_union.specs.declared.coverage.Coverage.TheInside.{Inside}
 
--- the slots of an object of this shape
+-- the slots of an object of this shape, of which so many blocks have room
 pub record Covered : Type 0 where
   pub shape : Shape
+  pub room : ℕ
   pub members : List ℕ
 
 -- the farthest of some ends
@@ -33,14 +34,19 @@ is_run_slot c ends (suc n) = is_source_slot c (suc n) && lies_in_run ends (n / 2
 unfoldable pub covered_slots : Shape → List ℕ → List ℕ → List ℕ
 covered_slots c ends alone = filter (λ slot. is_member nat_lt slot alone || is_run_slot c ends slot) (range_with_len 0 (slots (blocks c.cut)))
 
--- There is a place for each slot, and an end for each block.
+-- There is a place for each slot of the blocks that have room, which are of the object, and an end for each of them; nothing is closed
+-- behind them. So many first blocks are whole, as are all that lie in a run.
 pub record IsSoundCoverage (m : Inside) : Type 0 where
-  pub most : blocks m.plan ≤ most_blocks
-  pub size : m.alone.size ≡ slots (blocks m.plan)
-  pub ends : length m.ends.items ≡ blocks m.plan
+  pub most : length m.ends.items ≤ most_blocks
+  pub within : length m.ends.items ≤ blocks m.plan
+  pub size : m.alone.size ≡ slots (length m.ends.items)
+  pub behind : (block : ℕ) → length m.ends.items ≤ block → closed_in (shape_closed m.plan m.closed) block ≡ 0
+  pub until : m.whole ≤ length m.ends.items
+  pub whole : (block : ℕ) → block < m.whole → is_full (shape_closed m.plan m.closed) block ≡ true
+  pub runs : (block : ℕ) → lies_in_run m.ends.items block ≡ true → is_full (shape_closed m.plan m.closed) block ≡ true
 
 abbrev pub coverage_view : Inside → Covered
-coverage_view m = record { shape = shape_closed m.plan m.closed; members = covered_slots (shape_closed m.plan m.closed) m.ends.items m.alone.members }
+coverage_view m = record { shape = shape_closed m.plan m.closed; room = length m.ends.items; members = covered_slots (shape_closed m.plan m.closed) m.ends.items m.alone.members }
 
 -- the slot lies in the blocks from one up to another
 abbrev pub is_in_blocks : ℕ → ℕ → ℕ → Bool

@@ -1,39 +1,39 @@
--- The least index from which repair requests count (RFC 5740 section 5.4): what was asked for before the window makes a squelch
+-- The first point from which repair requests count (RFC 5740 section 5.4): what was asked for before the window makes a squelch
 -- due.
-use Rattle.std.specs.Prelude.{ℕ, List, fold, map, filter, flat_map, min, Bool, true, false, nat_lt, Option, None, Some}
+use Rattle.std.specs.Prelude.{ℕ, List, fold, map, flat_map, Bool, true, false, Option, None, Some}
 use Rattle.norm_base.specs.Settings.{Settings}
-use Rattle.fec_plan.specs.Points.{position_before}
+use Rattle.fec_plan.specs.Points.{Point, point_before, position_before}
 use Rattle.fec_plan.specs.declared.position.Position.{Position}
 use Rattle.norm_ext.specs.Asking.{Span, Named, item_named, item_span, pairs}
 use Rattle.norm_ext.specs.declared.head.Item.{Item}
-use Rattle.norm_send_rules.specs.Closing.{gives_something, begins_at}
+use Rattle.norm_send_rules.specs.Closing.{gives_something, begins_at, counts_from}
 
--- the lesser of two indexes, where there are any
-abbrev pub lesser : Option ℕ → Option ℕ → Option ℕ
+-- the nearer of two points, where there are any
+abbrev pub lesser : Option Point → Option Point → Option Point
 lesser None b = b
 lesser (Some a) None = Some a
-lesser (Some a) (Some b) = Some (min a b)
+lesser (Some a) (Some b) = Some (elim (point_before b a) [ true ↦ b | false ↦ a ])
 
--- the least of indexes, and of one that was found before
-abbrev pub least_with : Option ℕ → List ℕ → Option ℕ
-least_with found indexes = fold (λ least i. lesser least (Some i)) found indexes
+-- the first of points, and of one that was found before
+abbrev pub least_with : Option Point → List Point → Option Point
+least_with found points = fold (λ least at. lesser least (Some at)) found points
 
--- the least index from which a request counts, where it gives something
-abbrev pub earliest : Named → Option ℕ
-earliest r = elim (gives_something r) [ true ↦ least_with None (map (λ (at : Position). at.index) (begins_at r)) | false ↦ None ]
+-- the first point from which a request counts, where it gives something
+abbrev pub earliest : Named → Option Point
+earliest r = elim (gives_something r) [ true ↦ least_with None (map (counts_from r.flags) (begins_at r)) | false ↦ None ]
 
--- the least from which some requests count, and of one that was found before
-abbrev pub earliest_with : Option ℕ → List Named → Option ℕ
+-- the first from which some requests count, and of one that was found before
+abbrev pub earliest_with : Option Point → List Named → Option Point
 earliest_with found requests = fold (λ least r. lesser least (earliest r)) found requests
 
--- there is an index, and it is below this one
-abbrev pub is_below_first : Option ℕ → ℕ → Bool
-is_below_first None first = false
-is_below_first (Some index) first = nat_lt index first
+-- there is a point, and it is before this one
+abbrev pub is_before_window : Option Point → Point → Bool
+is_before_window None drop = false
+is_before_window (Some at) drop = point_before at drop
 
--- the indexes that spans begin with
-abbrev pub firsts : List Span → List ℕ
-firsts spans = map (λ (s : Span). s.first.index) spans
+-- the points from which spans count, by flags
+abbrev pub firsts : ℕ → List Span → List Point
+firsts flags spans = map (λ (s : Span). counts_from flags s.first) spans
 
 -- what items name, each by itself, and pair by pair
 abbrev pub items_spans : Settings → ℕ → List Item → List Span
@@ -47,7 +47,7 @@ abbrev pub range_begin : Option Position → Option Position → Option Position
 range_begin (Some first) (Some last) = elim (position_before last first) [ true ↦ None | false ↦ Some first ]
 range_begin _ _ = None
 
--- the lesser of an index and that of a position, where there are any
-abbrev pub lesser_at : Option ℕ → Option Position → Option ℕ
-lesser_at least (Some at) = lesser least (Some at.index)
-lesser_at least None = least
+-- the nearer of a point and that from which a position counts, where there are any
+abbrev pub lesser_at : ℕ → Option Point → Option Position → Option Point
+lesser_at flags least (Some at) = lesser least (Some (counts_from flags at))
+lesser_at flags least None = least

@@ -1,12 +1,14 @@
--- What a union keeps of a sender's state, and which states it stands for: objects of data and files.
-use Rattle.std.specs.Prelude.{◌≡◌, ◌<◌, ◌≤◌, ℕ, suc, ◌+◌, ◌-◌, List, [], ◌∷◌, ◌++◌, length, map, filter, drop, replicate, Bool, nat_lt, slice_index, set, Option, None, Some, slice_get}
+-- What a union keeps of a sender's state, and which states it stands for: objects of data and files, and streams of which nothing was
+-- dropped.
+use Rattle.std.specs.Prelude.{◌≡◌, ◌<◌, ◌≤◌, ℕ, suc, ◌+◌, ◌-◌, ◌*◌, false, List, [], ◌∷◌, ◌++◌, length, map, min, filter, drop, replicate, Bool, nat_lt, slice_index, set, Option, None, Some, slice_get}
+use Rattle.std.specs.List.{AllByRecursion}
 use Rattle.norm_base.specs.Settings.{Settings}
-use Rattle.fec_plan.specs.Partition.{Cut, IsSound, blocks, all_symbols, encoding_symbols}
+use Rattle.fec_plan.specs.Partition.{Cut, IsSound, stream_cut, blocks, most_blocks, all_symbols, encoding_symbols}
 use Rattle.fec_plan.specs.Points.{Point}
 use Rattle.fec_plan.specs.declared.position.Position.{Position}
 use Rattle.norm_order.specs.Entries.{Entry}
 use Rattle.norm_order.specs.Shapes.{Shape, shapes_of, encoded_in}
-use Rattle.norm_send_rules.specs.SenderState.{SenderState, Asked, Round}
+use Rattle.norm_send_rules.specs.SenderState.{SenderState, Asked}
 use Rattle.norm_send_rules.specs.Laws.{Rise}
 use Rattle.norm_send_rules.specs.InWindow.{stands_behind}
 use Rattle.norm_send_rules.specs.declared.want.Want.{Want}
@@ -26,12 +28,12 @@ pub record Marked : Type 0 where
   pub asked : List ℕ
   pub counts : List ℕ
 
--- A union: the index of the window's first object, its objects in order, and the least index from which the open round
+-- A union: the index of the window's first object, its objects in order, and the first point from which the open round
 -- counts.
 pub record Kept : Type 0 where
   pub first : ℕ
   pub objects : List Marked
-  pub earliest : Option ℕ
+  pub earliest : Option Point
 
 -- the greatest index that the sender of a union knows: that of the window's last object
 abbrev pub known_of : Kept → ℕ
@@ -40,6 +42,17 @@ known_of u = u.first + length u.objects - 1
 -- an object as it is admitted: all of its source symbols are closed
 abbrev pub admitted : Cut → Bool → Marked
 admitted cut info = record { cut = cut; closed = all_symbols cut; info = info; wants = []; sent = []; asked = []; counts = replicate (blocks cut) 0 }
+
+-- a stream as it is admitted: none of its source symbols are closed, and so many blocks have room
+abbrev pub admitted_stream : Cut → ℕ → Marked
+admitted_stream cut room = record { cut = cut; closed = 0; info = false; wants = []; sent = []; asked = []; counts = replicate room 0 }
+
+-- of an object nothing is wanted, sent or asked for
+pub record IsFresh (m : Marked) : Type 0 where
+  pub wants : m.wants ≡ []
+  pub sent : m.sent ≡ []
+  pub asked : m.asked ≡ []
+  pub counts : m.counts ≡ replicate (length m.counts) 0
 
 -- the shape of an object
 abbrev pub shape_of_marked : Marked → Shape
@@ -87,6 +100,24 @@ with_marks index m u = record u { objects = set u.objects (index - u.first) m }
 abbrev pub grown_to : ℕ → Marked → Kept → Kept
 grown_to closed m u = record u { objects = set u.objects (length u.objects - 1) (record m { closed = closed }) }
 
+-- The object is a stream, and so many of its source symbols may be closed: no fewer than are, and as many as have room.
+pub record CanGrow (closed : ℕ) (m : Marked) : Type 0 where
+  pub stream : m.cut.l ≡ None
+  pub more : m.closed ≤ closed
+  pub room : closed ≤ length m.counts * m.cut.b
+
+-- and it is cut as streams of a profile are
+pub record MayGrow (p : Settings) (closed : ℕ) (m : Marked) : Type 0 where
+  pub cut : m.cut ≡ stream_cut p.e p.b p.max_n
+  pub info : m.info ≡ false
+  pub more : m.closed ≤ closed
+  pub room : closed ≤ length m.counts * p.b
+
+-- there is a last object, and this holds of it
+pub record OfLast (holds : Marked → Type 0) (u : Kept) : Type 0 where
+  pub some : 0 < length u.objects
+  pub last : (m : Marked) → slice_get u.objects (length u.objects - 1) ≡ Some m → holds m
+
 -- a union as an instance begins
 abbrev pub begun_union : Kept
 begun_union = record { first = 0; objects = []; earliest = None }
@@ -112,8 +143,12 @@ asked_so_far s = elim s.round [ Some round ↦ round.asked | None ↦ [] ]
 abbrev pub reads : SenderState → UnionReads
 reads s = record { order = s.current.order; drop = s.current.drop; wants = s.wants; sent = s.sent; asked = asked_so_far s }
 
+-- a stream has room for as many blocks as the profile says, where numbers name as many
+abbrev pub HasRoom : Settings → Marked → Type 0
+HasRoom p m = m.cut.l ≡ None → min p.blocks most_blocks ≤ length m.counts
+
 -- A collection holds what was read: the objects of the window, the wants, and of the window's symbols those that were sent,
--- which the state has in their order.
+-- which the state has in their order. Streams have room.
 pub record HoldsFor (p : Settings) (u : Kept) (r : UnionReads) : Type 0 where
   pub first : u.first ≡ r.drop.index
   pub whole : r.drop.block ≡ 0
@@ -122,6 +157,7 @@ pub record HoldsFor (p : Settings) (u : Kept) (r : UnionReads) : Type 0 where
   pub wants : listed (λ m. m.wants) u.first u.objects ≡ r.wants
   pub rise : Rise (map Symbol r.sent)
   pub sent : listed (λ m. m.sent) u.first u.objects ≡ filter (stands_behind r.drop) (map Symbol r.sent)
+  pub rooms : AllByRecursion (HasRoom p) u.objects
 
 abbrev pub Holds : Settings → Kept → SenderState → Type 0
 Holds p u s = HoldsFor p u (reads s)

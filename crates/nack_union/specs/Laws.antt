@@ -1,13 +1,15 @@
 -- What is promised of the sets that a union keeps, and of the states for which it stands.
-use Rattle.std.specs.Prelude.{◌≡◌, ◌≤◌, ◌-◌, List, [], length, true, false, slice_get, Some}
+use Rattle.std.specs.Prelude.{◌≡◌, ◌≤◌, ◌-◌, ◌*◌, ℕ, min, List, [], length, true, false, slice_get, Some}
+use Rattle.fec_plan.specs.Partition.{most_blocks}
 use Rattle.fec_plan.specs.declared.position.Position.{Position}
 use Rattle.norm_order.specs.Entries.{Part, Stream}
 use Rattle.norm_order.specs.Shapes.{shape_of, is_encoded}
 use Rattle.norm_send_rules.specs.SenderState.{SenderState}
-use Rattle.norm_send_rules.specs.InWindow.{stands_behind, current_shapes}
+use Rattle.norm_send_rules.specs.InWindow.{stands_behind, current_shapes, last_index}
 use Rattle.norm_send_rules.specs.declared.want.Want.TheVariants.{Symbol}
 use Rattle.norm_send_rules.specs.Streaming.{with_parts}
-use Rattle.nack_union.specs.Kept.{Marked, IsEncodedIn, grown_to}
+use Rattle.norm_send_rules.specs.Enqueuing.{open_stream}
+use Rattle.nack_union.specs.Kept.{Marked, IsEncodedIn, MayGrow, OfLast, grown_to}
 use Rattle.nack_union.specs.UnionState.{UnionState, Stands}
 use Rattle.norm_order.specs.Sets.{with_members}
 use Rattle.norm_send_rules.specs.Wants.{want_before}
@@ -32,3 +34,9 @@ StreamsGrow =
     (u : UnionState) (s : SenderState) (parts : List Part) (m : Marked) → Stands u s → slice_get u.kept.objects (length u.kept.objects - 1) ≡ Some m
     → m.cut ≡ (shape_of u.p (Stream parts)).cut → m.info ≡ false → m.closed ≤ (shape_of u.p (Stream parts)).closed
     → Stands (record u { kept = grown_to (shape_of u.p (Stream parts)).closed m u.kept }) (with_parts parts s)
+
+-- The open stream of the window may grow: no fewer of its segments are closed then, and as many as the profile's blocks have.
+abbrev pub OpenStreamsMayGrow : Type 0
+OpenStreamsMayGrow =
+    (u : UnionState) (s : SenderState) (parts : List Part) (closed : ℕ) → Stands u s → open_stream s ≡ Some parts → s.current.drop.index ≤ last_index s
+    → (shape_of u.p (Stream parts)).closed ≤ closed → closed ≤ min u.p.blocks most_blocks * u.p.b → OfLast (MayGrow u.p closed) u.kept

@@ -1,8 +1,8 @@
 //! How many symbols of a block are closed, and how many it has encoded.
 
-ghost use Rattle.std.specs.Prelude.{◌≡◌, ◌≤◌};
-ghost use Rattle.fec_plan.specs.Partition.{all_symbols, encoding_symbols};
-ghost use Rattle.norm_order.specs.Shapes.{closed_in, encoded_in};
+ghost use Rattle.std.specs.Prelude.{◌≡◌, ◌<◌, ◌≤◌, ℕ, true};
+ghost use Rattle.fec_plan.specs.Partition.{all_symbols, blocks, encoding_symbols, most_blocks};
+ghost use Rattle.norm_order.specs.Shapes.{closed_in, encoded_in, is_full};
 ghost use Rattle.nack_union.specs.Repairs.{shape_closed};
 
 use fec_plan::Plan;
@@ -13,6 +13,19 @@ pub fn all_symbols(plan: &Plan) -> u64
 {
     let last = plan.blocks() - 1;
     plan.symbol_number(last, 0) + u64::from(plan.source_len(last))
+}
+
+/// How many first blocks are whole, of an object of which so many source symbols are closed: each before this one is.
+pub fn whole_blocks(plan: &Plan, closed: u64) -> u32
+    ensures whole { (block : ℕ) → block < result → is_full (shape_closed plan.now closed) block ≡ true }
+    ensures few { blocks plan.now ≤ most_blocks }
+{
+    let blocks = plan.blocks();
+    if all_symbols(plan) <= closed {
+        return blocks;
+    }
+    let largest = u64::from(plan.source_len(0));
+    (closed / largest).min(u64::from(blocks)) as u32
 }
 
 /// How many source symbols of a block are closed, of an object of which so many are.

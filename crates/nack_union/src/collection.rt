@@ -1,6 +1,6 @@
 //! What a union collects, whatever the profile.
 
-ghost use Rattle.std.specs.Prelude.{◌≡◌, ◌<◌, ◌≤◌, ◌+◌, ◌-◌, ◌∷◌, ◌++◌, [], length, IfOk, IsErr, MatchOption, Some, ℕ, List, nat_lt, position, slice_get, drop, not, map, min, max};
+ghost use Rattle.std.specs.Prelude.{◌≡◌, ◌<◌, ◌≤◌, ◌+◌, ◌-◌, ◌^◌, ◌∷◌, ◌++◌, [], length, IfOk, IsErr, MatchOption, None, Some, ℕ, List, nat_lt, position, slice_get, drop, not, map, min, max};
 ghost use Rattle.norm_base.specs.Settings.{Settings};
 ghost use Rattle.fec_plan.specs.Partition.{blocks};
 ghost use Rattle.norm_order.specs.Entries.{Entry};
@@ -19,7 +19,7 @@ ghost use Rattle.norm_send_rules.specs.declared.want.Want.{Want as Wanted};
 ghost use Rattle.norm_send_rules.specs.declared.want.Want.TheVariants.{Symbol};
 ghost use Rattle.norm_order.specs.Sets.{with_member};
 ghost use Rattle.nack_union.specs.Slots.{symbol_slot};
-ghost use Rattle.nack_union.specs.Kept.{Kept, Marked, Holds, IsEncodedIn, known_of, begun_union, admitted, with_object, shape_of_marked, closed_marks, closed_union, IsCounted, with_marks, retired};
+ghost use Rattle.nack_union.specs.Kept.{Kept, Marked, Holds, IsEncodedIn, known_of, begun_union, admitted, admitted_stream, IsFresh, HasRoom, CanGrow, OfLast, grown_to, with_object, shape_of_marked, closed_marks, closed_union, IsCounted, with_marks, retired};
 ghost use Rattle.nack_union.specs.More.{HasPart, named_part, symbol_part, count_part, part_where, item_part, items_part, ranges_part, counts_part, request_part, requests_part};
 ghost use Rattle.nack_union.specs.Adding.{HasAdded, IsPlanned};
 ghost use Rattle.norm_ext.specs.Requests.{items_named};
@@ -27,15 +27,15 @@ ghost use Rattle.norm_ext.specs.RequestView.{request_of};
 ghost use Rattle.norm_ext.specs.Asking.{span, is_proper, named};
 ghost use Rattle.std.specs.Bool.{MatchBool};
 ghost use Rattle.nack_union.specs.Rounds.{new_wants, wants_closed};
-ghost use Rattle.nack_union.specs.Earliest.{is_below_first, earliest_with, items_spans, pairs_spans};
+ghost use Rattle.nack_union.specs.Earliest.{is_before_window, earliest_with, items_spans, pairs_spans};
 ghost use Rattle.nack_union.specs.Collected.{Collects};
 ghost use Rattle.nack_union.specs.CollectionSound.{AreQuiet};
 
 use crate::asking::{ask_range, hold_all};
-use crate::earliest::{earliest_of, is_below, lesser};
+use crate::earliest::{earliest_of, is_early, lesser};
 use crate::marks::{Marks, Named};
 use crate::slots::{slot_of, want_of};
-use fec_plan::{Plan, Position};
+use fec_plan::{Plan, Point, Position};
 use norm_base::{Memory, Profile};
 use norm_ext::flags::{WANT_BLOCK, WANT_SEGMENT};
 use norm_ext::items::{ends_of, has_flag, position_of, split_item, split_pair};
@@ -46,7 +46,7 @@ use std::marker::Model;
 
 /// The wants and the sent symbols of the objects of a window, and what the open round asks for. Objects are admitted at its
 /// end and retired from its front. Outside of the places from `low` up to `high` the round asks for nothing. `earliest` is
-/// the least index from which its requests count. Of the objects before the place `quiet` nothing is wanted.
+/// the first point from which its requests count. Of the objects before the place `quiet` nothing is wanted.
 #[derive(Debug, Drop)]
 pub struct Collection {
     alloc: Global,
@@ -54,7 +54,7 @@ pub struct Collection {
     objects: Vec<Marks>,
     low: usize,
     high: usize,
-    earliest: Option<u32>,
+    earliest: Option<Point>,
     quiet: usize,
 }
 
@@ -160,14 +160,54 @@ impl Collection {
         requires { index ≡ self.old.first + length self.old.objects }
         ensures exact { IfOk result (λ _. self.new ≡ with_object (admitted plan.now info) self.old) }
         ensures stands { IfOk result (λ _. (p : Settings) (s : SenderState) (entry : Entry) → Holds p self.old s
-            → shape_of p entry.object ≡ shape_of_marked (admitted plan.now info) → Holds p self.new (with_entry entry s)) }
+            → shape_of p entry.object ≡ shape_of_marked (admitted plan.now info) → HasRoom p (admitted plan.now info) → Holds p self.new (with_entry entry s)) }
         ensures collects { IfOk result (λ _. (p : Settings) (s : SenderState) (asked : List Asked) (entry : Entry) → Holds p self.old s
             → Collects p self.old s asked → Collects p self.new (with_entry entry s) asked) }
         ensures memory { IsErr result → self.new ≡ self.old }
     {
-        let marks = Marks::new(self.alloc, plan, info)?;
+        let marks = Marks::of_object(self.alloc, plan, info)?;
+        self.join(marks)
+    }
+
+    /// Takes a stream into the window, of which nothing is closed yet, and makes room for as many of its blocks as the profile says.
+    /// Its index is the one behind the last object's. Want of memory leaves the union as it was.
+    pub fn admit_stream(&mut self, profile: &Profile, index: u32, plan: &Plan) -> Result<(), Memory>
+        requires index { index ≡ self.old.first + length self.old.objects }
+        requires stream { plan.now.l ≡ None }
+        ensures exact { IfOk result (λ _. self.new ≡ with_object (admitted_stream plan.now profile.now.blocks) self.old) }
+        ensures stands { IfOk result (λ _. (p : Settings) (s : SenderState) (entry : Entry) → Holds p self.old s
+            → shape_of p entry.object ≡ shape_of_marked (admitted_stream plan.now profile.now.blocks) → HasRoom p (admitted_stream plan.now profile.now.blocks) → Holds p self.new (with_entry entry s)) }
+        ensures collects { IfOk result (λ _. (p : Settings) (s : SenderState) (asked : List Asked) (entry : Entry) → Holds p self.old s
+            → Collects p self.old s asked → Collects p self.new (with_entry entry s) asked) }
+        ensures memory { IsErr result → self.new ≡ self.old }
+    {
+        let marks = Marks::of_stream(self.alloc, plan, profile.blocks)?;
+        self.join(marks)
+    }
+
+    /// An object of which nothing is wanted, sent or asked for joins the window.
+    fn join(&mut self, marks: Marks) -> Result<(), Memory>
+        requires few { self.old.first + length self.old.objects < 2 ^ 32 }
+        requires fresh { IsFresh marks }
+        ensures exact { IfOk result (λ _. self.new ≡ with_object marks self.old) }
+        ensures stands { IfOk result (λ _. (p : Settings) (s : SenderState) (entry : Entry) → Holds p self.old s
+            → shape_of p entry.object ≡ shape_of_marked marks → HasRoom p marks → Holds p self.new (with_entry entry s)) }
+        ensures collects { IfOk result (λ _. (p : Settings) (s : SenderState) (asked : List Asked) (entry : Entry) → Holds p self.old s
+            → Collects p self.old s asked → Collects p self.new (with_entry entry s) asked) }
+        ensures memory { IsErr result → self.new ≡ self.old }
+    {
         self.objects.push(marks)?;
         Ok(())
+    }
+
+    /// The stream that is the last object has so many closed source symbols, no fewer than it had, and as many as have room.
+    pub fn grow(&mut self, index: u32, closed: u64)
+        requires index { index + 1 ≡ self.old.first + length self.old.objects }
+        requires last { OfLast (CanGrow closed) self.old }
+        ensures { (m : Marked) → slice_get self.old.objects (length self.old.objects - 1) ≡ Some m → self.new ≡ grown_to closed m self.old }
+    {
+        let object = &mut self.objects[(index - self.first) as usize];
+        object.grow(closed);
     }
 
     /// Takes back the last `admit`, where nothing was called since.
@@ -366,8 +406,8 @@ impl Collection {
         self.count_from(earliest);
     }
 
-    /// The requests of the open round count from this index.
-    fn count_from(&mut self, earliest: Option<u32>)
+    /// The requests of the open round count from this point.
+    fn count_from(&mut self, earliest: Option<Point>)
         ensures { self.new ≡ record self.old { earliest = earliest } }
     {
         self.earliest = earliest;
@@ -433,7 +473,7 @@ impl Collection {
         ensures closed { (p : Settings) (s : SenderState) → Holds p self.old s → Holds p self.new (record s { wants = wants_closed self.old s }) }
         ensures queued { (p : Settings) (s : SenderState) → Holds p self.old s
             → result.queued ≡ min (length (wants_closed self.old s) - length s.wants) 4294967295 }
-        ensures early { result.early ≡ is_below_first self.old.earliest self.old.first }
+        ensures early { result.early ≡ is_before_window self.old.earliest (point self.old.first 0) }
         ensures rules { (p : Settings) (s : SenderState) (r : Round) → Holds p self.old s → Collects p self.old s r.asked
             → Holds p self.new (round_closed p r s) × (result.queued ≡ min (length (round_closed p r s).wants - length s.wants) 4294967295)
             × (result.early ≡ list_any (λ (a : Asked). asks_early s.current.drop a.request) r.asked) }
@@ -445,7 +485,11 @@ impl Collection {
         self.low = high;
         self.high = high;
         self.quiet = self.quiet.min(low);
-        let early = is_below(self.earliest, self.first);
+        let first = Point {
+            index: self.first,
+            block: 0,
+        };
+        let early = is_early(self.earliest, first);
         self.earliest = None;
         Closed { queued, early }
     }

@@ -1,8 +1,8 @@
 //! What the open round asks for of an object.
 
-ghost use Rattle.std.specs.Prelude.{◌≡◌, ◌+◌, ◌*◌, ◌^◌, ◌<◌, ◌≤◌, [], nat_lt, IfOk, ℕ, List, length, slice_index, ◌&&◌, ◌||◌};
+ghost use Rattle.std.specs.Prelude.{◌≡◌, ◌+◌, ◌*◌, ◌^◌, ◌<◌, ◌≤◌, [], nat_lt, true, IfOk, ℕ, List, length, slice_index, ◌&&◌, ◌||◌};
 ghost use Rattle.fec_plan.specs.Partition.{blocks, most_blocks};
-ghost use Rattle.norm_order.specs.Shapes.{closed_in};
+ghost use Rattle.norm_order.specs.Shapes.{closed_in, is_full};
 ghost use Rattle.norm_order.specs.Sets.{with_member, with_members, is_member, Rises};
 ghost use Rattle.nack_union.specs.Slots.{slots, symbol_slot};
 ghost use Rattle.nack_union.specs.More.{is_source_slot, in_run};
@@ -10,7 +10,7 @@ ghost use Rattle.nack_union.specs.Kept.{IsRepairable};
 ghost use Rattle.nack_union.specs.Repairs.{shape_closed, counted_slots};
 ghost use Rattle.nack_union.specs.Coverage.{Covered, is_in_blocks, is_run_slot};
 
-use crate::closed::closed_len;
+use crate::closed::{closed_len, whole_blocks};
 use crate::mask::Mask;
 use crate::repairs::ask_counted;
 use crate::slots::{BLOCK, slot_of};
@@ -20,11 +20,12 @@ use std::alloc::Global;
 use std::marker::Model;
 
 /// The slots of an object, of which so many source symbols are closed, that the open round asks for. A run of whole blocks is kept as its end alone, at the block with which
-/// it begins, and filled as the round closes; all other slots are kept in a set.
+/// it begins, and filled as the round closes; all other slots are kept in a set. The first `whole` blocks are whole.
 #[derive(Debug, Drop)]
 pub struct Coverage {
     plan: Plan,
     closed: u64,
+    whole: u32,
     alone: Mask,
     ends: Vec<u32>,
 }
@@ -41,18 +42,18 @@ impl Model for Coverage {
     ghost invariant = { IsSoundCoverage };
 }
 
-/// Puts the slots of an object's closed source symbols, from one slot up to another, into a set.
-fn insert_sources(set: &mut Mask, plan: &Plan, closed: u64, from: usize, to: usize)
-    requires { slots (blocks plan.now) ≤ set.old.size }
+/// Puts the slots of an object's closed source symbols, from one slot up to another, into a set. None are closed behind so many blocks.
+fn insert_sources(set: &mut Mask, plan: &Plan, closed: u64, room: usize, from: usize, to: usize)
+    requires size { slots room ≤ set.old.size }
+    requires few { room ≤ most_blocks }
+    requires within { room ≤ blocks plan.now }
+    requires behind { (block : ℕ) → room ≤ block → closed_in (shape_closed plan.now closed) block ≡ 0 }
     ensures members { (slot : ℕ) → is_member nat_lt slot set.new.members
         ≡ (is_member nat_lt slot set.old.members || (is_source_slot (shape_closed plan.now closed) slot && in_run from to slot)) }
     ensures size { set.new.size ≡ set.old.size }
 {
     let first = from.saturating_sub(1) / BLOCK;
-    let behind = to
-        .saturating_sub(1)
-        .div_ceil(BLOCK)
-        .min(plan.blocks() as usize);
+    let behind = to.saturating_sub(1).div_ceil(BLOCK).min(room);
     // Proof: the label names the loop for its invariant.
     'runs: for block in first..behind {
         let start = slot_of(block as u32, 0);
@@ -63,8 +64,7 @@ fn insert_sources(set: &mut Mask, plan: &Plan, closed: u64, from: usize, to: usi
 
 /// Puts the closed source symbols of a block into a set, where that is wanted.
 fn insert_block(set: &mut Mask, plan: &Plan, closed: u64, block: u32, wanted: bool)
-    requires within { block < blocks plan.now }
-    requires room { slots (blocks plan.now) ≤ set.old.size }
+    requires room { slots (block + 1) ≤ set.old.size }
     ensures members { (slot : ℕ) → is_member nat_lt slot set.new.members ≡ (is_member nat_lt slot set.old.members
         || (wanted && in_run (symbol_slot block 0) (symbol_slot block 0 + closed_in (shape_closed plan.now closed) block) slot)) }
     ensures size { set.new.size ≡ set.old.size }
@@ -75,35 +75,56 @@ fn insert_block(set: &mut Mask, plan: &Plan, closed: u64, block: u32, wanted: bo
     }
 }
 
-/// Puts the closed source symbols of the blocks that lie in a run into a set.
+/// Puts the closed source symbols of the blocks that lie in a run into a set. None are closed behind the blocks that have an end.
 fn insert_runs(set: &mut Mask, plan: &Plan, closed: u64, ends: &[u32])
-    requires room { slots (blocks plan.now) ≤ set.old.size }
-    requires ends { length ends.now ≡ blocks plan.now }
+    requires size { slots (length ends.now) ≤ set.old.size }
+    requires within { length ends.now ≤ blocks plan.now }
+    requires behind { (block : ℕ) → length ends.now ≤ block → closed_in (shape_closed plan.now closed) block ≡ 0 }
     ensures members { (slot : ℕ) → is_member nat_lt slot set.new.members ≡ (is_member nat_lt slot set.old.members || is_run_slot (shape_closed plan.now closed) ends.now slot) }
     ensures size { set.new.size ≡ set.old.size }
 {
+    let behind = (plan.blocks() as usize).min(ends.len()) as u32;
     let mut farthest = 0u32;
     // Proof: the label names the loop for its invariant.
-    'covered: for block in 0..plan.blocks() {
+    'covered: for block in 0..behind {
         farthest = farthest.max(ends[block as usize]);
         insert_block(set, plan, closed, block, block < farthest);
     }
 }
 
 impl Coverage {
-    /// No slot of an object of which so many source symbols are closed, with room for all that ever can be.
-    pub fn new(alloc: Global, plan: &Plan, closed: u64) -> Result<Coverage, Memory>
-        ensures { IfOk result (λ coverage. coverage ≡ record { shape = shape_closed plan.now closed; members = [] }) }
+    /// No slot of an object of which so many source symbols are closed, with room for all of so many blocks. None are closed behind them.
+    pub fn with_room(
+        alloc: Global,
+        plan: &Plan,
+        closed: u64,
+        room: usize,
+    ) -> Result<Coverage, Memory>
+        requires within { room ≤ blocks plan.now }
+        requires behind { (block : ℕ) → room ≤ block → closed_in (shape_closed plan.now closed) block ≡ 0 }
+        ensures { IfOk result (λ coverage. coverage ≡ record { shape = shape_closed plan.now closed; room = room; members = [] }) }
     {
-        let blocks = plan.blocks() as usize;
-        let alone = Mask::with_room(alloc, BLOCK * blocks + 1)?;
-        let ends = vec![in alloc; 0; blocks]?;
+        let whole = whole_blocks(plan, closed);
+        let alone = Mask::with_room(alloc, BLOCK * room + 1)?;
+        let ends = vec![in alloc; 0; room]?;
         Ok(Coverage {
             plan: *plan,
             closed,
+            whole: whole.min(room as u32),
             alone,
             ends,
         })
+    }
+
+    /// More of the object's source symbols are closed, none behind the blocks that have room. What the round asks for stays.
+    pub fn grow(&mut self, closed: u64)
+        requires more { self.old.shape.closed ≤ closed }
+        requires room { (block : ℕ) → self.old.room ≤ block → closed_in (shape_closed self.old.shape.cut closed) block ≡ 0 }
+        ensures { self.new ≡ record self.old { shape = shape_closed self.old.shape.cut closed } }
+    {
+        let whole = whole_blocks(&self.plan, closed).min(self.ends.len() as u32);
+        self.whole = whole;
+        self.closed = closed;
     }
 
     /// The slots rise. Nothing is done.
@@ -116,7 +137,7 @@ impl Coverage {
 
     /// Puts a slot into them.
     pub fn insert(&mut self, slot: usize)
-        requires { slot < slots (blocks self.old.shape.cut) }
+        requires { slot < slots self.old.room }
         ensures { self.new ≡ record self.old { members = with_member nat_lt slot self.old.members } }
     {
         self.alone.insert(slot);
@@ -126,16 +147,20 @@ impl Coverage {
     fn insert_part(&mut self, from: usize, to: usize)
         ensures members { (slot : ℕ) → is_member nat_lt slot self.new.members ≡ (is_member nat_lt slot self.old.members || (is_source_slot self.old.shape slot && in_run from to slot)) }
         ensures shape { self.new.shape ≡ self.old.shape }
+        ensures room { self.new.room ≡ self.old.room }
     {
-        insert_sources(&mut self.alone, &self.plan, self.closed, from, to);
+        let room = self.ends.len();
+        insert_sources(&mut self.alone, &self.plan, self.closed, room, from, to);
     }
 
-    /// Puts the closed source symbols of the blocks from one up to another into them, as a run.
+    /// Puts the source symbols of the blocks from one up to another, which are whole, into them, as a run.
     fn insert_blocks(&mut self, first: usize, behind: usize)
         requires some { first < behind }
-        requires within { behind ≤ blocks self.old.shape.cut }
+        requires within { behind ≤ self.old.room }
+        requires whole { (block : ℕ) → block < behind → is_full self.old.shape block ≡ true }
         ensures members { (slot : ℕ) → is_member nat_lt slot self.new.members ≡ (is_member nat_lt slot self.old.members || (is_source_slot self.old.shape slot && is_in_blocks first behind slot)) }
         ensures shape { self.new.shape ≡ self.old.shape }
+        ensures room { self.new.room ≡ self.old.room }
     {
         let end = self.ends[first].max(behind as u32);
         self.ends[first] = end;
@@ -145,9 +170,10 @@ impl Coverage {
     pub fn insert_sources(&mut self, from: usize, to: usize)
         ensures members { (slot : ℕ) → is_member nat_lt slot self.new.members ≡ (is_member nat_lt slot self.old.members || (is_source_slot self.old.shape slot && in_run from to slot)) }
         ensures shape { self.new.shape ≡ self.old.shape }
+        ensures room { self.new.room ≡ self.old.room }
     {
         let first = from.saturating_sub(1).div_ceil(BLOCK);
-        let behind = (to.saturating_sub(1) / BLOCK).min(self.ends.len());
+        let behind = (to.saturating_sub(1) / BLOCK).min(self.whole as usize);
         if behind <= first {
             self.insert_part(from, to);
             return;
@@ -160,15 +186,16 @@ impl Coverage {
     /// Closes the round: they join the wants of the object, with what the counts of its blocks ask for, and none is left. Says how
     /// many wants are new.
     pub fn close_into(&mut self, wants: &mut Mask, sent: &Mask, counts: &[u8]) -> usize
-        requires wants { wants.old.size ≡ slots (blocks self.old.shape.cut) }
-        requires sent { slots (blocks self.old.shape.cut) ≤ sent.now.size }
-        requires counts { length counts.now ≡ blocks self.old.shape.cut }
+        requires wants { wants.old.size ≡ slots self.old.room }
+        requires sent { slots self.old.room ≤ sent.now.size }
+        requires counts { length counts.now ≡ self.old.room }
         ensures members { wants.new.members ≡ with_members nat_lt (with_members nat_lt (counted_slots self.old.shape sent.now.members 0 counts.now) self.old.members) wants.old.members }
         ensures new { length wants.new.members ≡ length wants.old.members + result }
         ensures few { length wants.new.members ≤ wants.old.size }
         ensures size { wants.new.size ≡ wants.old.size }
         ensures emptied { self.new.members ≡ [] }
         ensures shape { self.new.shape ≡ self.old.shape }
+        ensures room { self.new.room ≡ self.old.room }
         ensures repairable { (block : ℕ) → 0 < slice_index counts.now block → IsRepairable self.old.shape.cut block }
     {
         insert_runs(&mut self.alone, &self.plan, self.closed, &self.ends);

@@ -1,36 +1,54 @@
-//! The least index from which repair requests count.
+//! The first point from which repair requests count.
 
-ghost use Rattle.std.specs.Prelude.{◌≡◌, ◌<◌, [], filter, None};
+ghost use Rattle.std.specs.Prelude.{◌≡◌, [], filter, None, Some};
 ghost use Rattle.norm_ext.specs.Requests.{items_named};
 ghost use Rattle.norm_ext.specs.RequestView.{request_of};
 ghost use Rattle.norm_ext.specs.Asking.{is_proper, item_named, named};
-ghost use Rattle.norm_send_rules.specs.Closing.{gives_something};
-ghost use Rattle.nack_union.specs.Earliest.{lesser, least_with, earliest, is_below_first, firsts, items_spans, pairs_spans, range_begin, lesser_at};
+ghost use Rattle.norm_send_rules.specs.Closing.{gives_something, counts_from};
+ghost use Rattle.nack_union.specs.Earliest.{lesser, least_with, earliest, is_before_window, firsts, items_spans, pairs_spans, range_begin, lesser_at};
 
-use fec_plan::Position;
+use fec_plan::{Point, Position};
 use norm_base::Profile;
 use norm_ext::flags::{WANT_BLOCK, WANT_INFO, WANT_OBJECT, WANT_SEGMENT};
 use norm_ext::items::{ends_of, has_flag, position_of, split_item, split_pair};
 use norm_ext::{Form, Item, Request};
 
-/// The lesser of two indexes, where there are any.
-pub fn lesser(a: Option<u32>, b: Option<u32>) -> Option<u32>
+/// The nearer of two points.
+fn nearer(a: Point, b: Point) -> Point
+    ensures { lesser (Some a) (Some b) ≡ Some result }
+{
+    if b.is_before(&a) { b } else { a }
+}
+
+/// The nearer of two points, where there are any.
+pub fn lesser(a: Option<Point>, b: Option<Point>) -> Option<Point>
     ensures { result ≡ lesser a b }
 {
     match (a, b) {
         (None, other) => other,
-        (Some(index), None) => Some(index),
-        (Some(index), Some(other)) => Some(index.min(other)),
+        (Some(at), None) => Some(at),
+        (Some(at), Some(other)) => Some(nearer(at, other)),
     }
 }
 
-/// Whether there is an index, and it is below this one.
-pub fn is_below(index: Option<u32>, first: u32) -> bool
-    ensures { result ≡ is_below_first index first }
+/// Whether there is a point, and it is before that with which a window begins.
+pub fn is_early(at: Option<Point>, first: Point) -> bool
+    ensures { result ≡ is_before_window at first }
 {
-    match index {
+    match at {
         None => false,
-        Some(index) => index < first,
+        Some(at) => at.is_before(&first),
+    }
+}
+
+/// The point from which what begins at a position counts: with OBJECT or INFO among the flags the object's first block.
+fn counts_from(flags: u8, at: Position) -> Point
+    ensures { result ≡ counts_from flags at }
+{
+    let whole = has_flag(flags, WANT_OBJECT) || has_flag(flags, WANT_INFO);
+    Point {
+        index: at.index,
+        block: if whole { 0 } else { at.block },
     }
 }
 
@@ -49,27 +67,27 @@ fn gives_something(request: &Request<'_>) -> bool
     }
 }
 
-/// The least index that some items name.
-fn least_of_items(profile: &Profile, known: u32, items: &[u8]) -> Option<u32>
-    ensures { result ≡ least_with None (firsts (items_spans profile.now known (items_named items.now))) }
+/// The first point that some items name, by flags.
+fn least_of_items(profile: &Profile, known: u32, flags: u8, items: &[u8]) -> Option<Point>
+    ensures { result ≡ least_with None (firsts flags (items_spans profile.now known (items_named items.now))) }
 {
     let mut least = None;
     let mut rest = items;
     // Proof: the label names the loop for its invariant.
     'items: while let Some((item, behind)) = split_item(rest) {
-        least = lesser_at(least, position_of(profile, known, item));
+        least = lesser_at(flags, least, position_of(profile, known, item));
         rest = behind;
     }
     least
 }
 
-/// The lesser of an index and that of a position, where there are any.
-fn lesser_at(least: Option<u32>, at: Option<Position>) -> Option<u32>
-    ensures { result ≡ lesser_at least at }
+/// The nearer of a point and that from which a position counts, where there are any.
+fn lesser_at(flags: u8, least: Option<Point>, at: Option<Position>) -> Option<Point>
+    ensures { result ≡ lesser_at flags least at }
 {
     match at {
         None => least,
-        Some(at) => lesser(least, Some(at.index)),
+        Some(at) => lesser(least, Some(counts_from(flags, at))),
     }
 }
 
@@ -89,31 +107,31 @@ fn begin_of(profile: &Profile, known: u32, first: Item, last: Item) -> Option<Po
     }
 }
 
-/// The least index that a range begins with, of some pairs of items. Empty ranges do not count.
-fn least_of_ranges(profile: &Profile, known: u32, items: &[u8]) -> Option<u32>
-    ensures { result ≡ least_with None (firsts (filter is_proper (pairs_spans profile.now known (items_named items.now)))) }
+/// The first point that a range begins with, by flags, of some pairs of items. Empty ranges do not count.
+fn least_of_ranges(profile: &Profile, known: u32, flags: u8, items: &[u8]) -> Option<Point>
+    ensures { result ≡ least_with None (firsts flags (filter is_proper (pairs_spans profile.now known (items_named items.now)))) }
 {
     let mut least = None;
     let mut rest = items;
     // Proof: the label names the loop for its invariant.
     'pairs: while let Some((first, last, behind)) = split_pair(rest) {
-        least = lesser_at(least, begin_of(profile, known, first, last));
+        least = lesser_at(flags, least, begin_of(profile, known, first, last));
         rest = behind;
     }
     least
 }
 
-/// The least index from which a request counts, to a node that knows indices up to this one. `None` where it asks for
+/// The first point from which a request counts, to a node that knows indices up to this one. `None` where it asks for
 /// nothing.
-pub fn earliest_of(profile: &Profile, known: u32, request: &Request<'_>) -> Option<u32>
+pub fn earliest_of(profile: &Profile, known: u32, request: &Request<'_>) -> Option<Point>
     ensures { result ≡ earliest (named profile.now known (request_of request.now)) }
 {
     if !gives_something(request) {
         return None;
     }
     match request.form {
-        Form::Items => least_of_items(profile, known, request.items),
-        Form::Ranges => least_of_ranges(profile, known, request.items),
-        Form::Erasures => least_of_items(profile, known, request.items),
+        Form::Items => least_of_items(profile, known, request.flags, request.items),
+        Form::Ranges => least_of_ranges(profile, known, request.flags, request.items),
+        Form::Erasures => least_of_items(profile, known, request.flags, request.items),
     }
 }

@@ -1,13 +1,15 @@
 //! What a union keeps of one object.
 
-ghost use Rattle.std.specs.Prelude.{◌≡◌, ◌+◌, ◌^◌, ◌<◌, ◌≤◌, ◌∷◌, [], nat_lt, IfOk, MatchOption, true, false, ◌==◌, ℕ, length, max, set, slice_index, ◌&&◌, ◌||◌};
-ghost use Rattle.fec_plan.specs.Partition.{blocks, most_blocks};
+ghost use Rattle.std.specs.Prelude.{◌≡◌, ◌+◌, ◌^◌, ◌<◌, ◌≤◌, ◌∷◌, [], nat_lt, IfOk, MatchOption, true, false, ◌==◌, ℕ, length, max, replicate, set, slice_index, ◌&&◌, ◌||◌, None, Some};
+ghost use Rattle.fec_plan.specs.Partition.{all_symbols, blocks, most_blocks};
+ghost use Rattle.norm_order.specs.Shapes.{closed_in};
 ghost use Rattle.norm_order.specs.Sets.{with_member, is_member, Rises};
 ghost use Rattle.nack_union.specs.Slots.{slots, symbol_slot, want_at};
 ghost use Rattle.nack_union.specs.More.{HasMore, is_source_slot, is_encoded_slot, in_run, slot_in, slot_from, slot_behind, is_slot_of, count_at, kept_count, MoreOf, named_part};
 ghost use Rattle.nack_union.specs.Adding.{IsPlanned};
 ghost use Rattle.norm_ext.specs.Asking.{span, block_span, object_span, has_flag};
-ghost use Rattle.nack_union.specs.Kept.{admitted, closed_marks, IsCounted, symbols_of_marked};
+ghost use Rattle.nack_union.specs.Repairs.{shape_closed};
+ghost use Rattle.nack_union.specs.Kept.{admitted, admitted_stream, CanGrow, closed_marks, IsCounted, symbols_of_marked};
 ghost use Rattle.norm_send_rules.specs.declared.want.Want.TheVariants.{Symbol};
 ghost use Rattle.fec_plan.specs.Points.{position};
 
@@ -112,16 +114,27 @@ pub struct Named {
 }
 
 impl Marks {
-    /// An object of which nothing is wanted and nothing was sent, with room for all that ever can be.
-    pub fn new(alloc: Global, plan: &Plan, info: bool) -> Result<Marks, Memory>
-        ensures { IfOk result (λ marks. marks ≡ admitted plan.now info) }
+    /// An object of which nothing is wanted and nothing was sent, so many source symbols are closed, and so many blocks have room.
+    fn with_room(
+        alloc: Global,
+        plan: &Plan,
+        closed: u64,
+        room: usize,
+        info: bool,
+    ) -> Result<Marks, Memory>
+        requires within { room ≤ blocks plan.now }
+        requires few { closed ≤ all_symbols plan.now }
+        requires whole { (l : ℕ) → plan.now.l ≡ Some l → closed ≡ all_symbols plan.now }
+        requires behind { (block : ℕ) → room ≤ block → closed_in (shape_closed plan.now closed) block ≡ 0 }
+        ensures { IfOk result (λ marks. marks ≡ record { cut = plan.now; closed = closed; info = info; wants = []; sent = []; asked = []; counts = replicate room 0 }) }
     {
-        let places = BLOCK * plan.blocks() as usize + 1;
+        // Proof: no object has more blocks than numbers name.
+        let room = room.min(plan.blocks() as usize);
+        let places = BLOCK * room + 1;
         let wants = Mask::with_room(alloc, places)?;
         let sent = Mask::with_room(alloc, places)?;
-        let closed = all_symbols(plan);
-        let asked = Coverage::new(alloc, plan, closed)?;
-        let counts = vec![in alloc; 0; plan.blocks() as usize]?;
+        let asked = Coverage::with_room(alloc, plan, closed, room)?;
+        let counts = vec![in alloc; 0; room]?;
         Ok(Marks {
             plan: *plan,
             closed,
@@ -133,6 +146,30 @@ impl Marks {
             counts,
             is_asked: false,
         })
+    }
+
+    /// An object of data or a file, with room for all that ever can be.
+    pub fn of_object(alloc: Global, plan: &Plan, info: bool) -> Result<Marks, Memory>
+        ensures { IfOk result (λ marks. marks ≡ admitted plan.now info) }
+    {
+        Marks::with_room(alloc, plan, all_symbols(plan), plan.blocks() as usize, info)
+    }
+
+    /// A stream of which nothing is closed, with room for so many blocks.
+    pub fn of_stream(alloc: Global, plan: &Plan, room: u16) -> Result<Marks, Memory>
+        requires { plan.now.l ≡ None }
+        ensures { IfOk result (λ marks. marks ≡ admitted_stream plan.now room) }
+    {
+        Marks::with_room(alloc, plan, 0, usize::from(room), false)
+    }
+
+    /// More source symbols of the stream are closed, as many as have room.
+    pub fn grow(&mut self, closed: u64)
+        requires { CanGrow closed self.old }
+        ensures { self.new ≡ record self.old { closed = closed } }
+    {
+        self.asked.grow(closed);
+        self.closed = closed;
     }
 
     /// What holds of each object. Nothing is done.
@@ -154,7 +191,7 @@ impl Marks {
 
     /// Notes that what stands at a slot was sent.
     pub fn note_sent(&mut self, slot: usize)
-        requires { slot < slots (blocks self.old.cut) }
+        requires { slot < slots (length self.old.counts) }
         ensures { self.new ≡ record self.old { sent = with_member nat_lt slot self.old.sent } }
     {
         self.sent.insert(slot);
@@ -172,7 +209,7 @@ impl Marks {
 
     /// Puts a slot into what the round asks for.
     pub fn ask(&mut self, slot: usize)
-        requires { slot < slots (blocks self.old.cut) }
+        requires { slot < slots (length self.old.counts) }
         ensures { self.new ≡ record self.old { asked = with_member nat_lt slot self.old.asked } }
     {
         self.asked.insert(slot);
@@ -255,14 +292,14 @@ impl Marks {
     pub fn count_block(&mut self, block: u32, lacking: u8)
         ensures { HasMore (λ slot. false) (λ other. kept_count (symbols_of_marked self.old) other (count_at block lacking other)) self.old self.new }
     {
-        if block < self.plan.blocks() && closed_len(&self.plan, self.closed, block) > 0 {
+        if (block as usize) < self.counts.len() && closed_len(&self.plan, self.closed, block) > 0 {
             self.count(block, lacking);
         }
     }
 
     /// The round asks for so many symbols of a block. The greatest count stands.
     pub fn count(&mut self, block: u32, lacking: u8)
-        requires { block < blocks self.old.cut }
+        requires { block < length self.old.counts }
         ensures { self.new ≡ record self.old { counts = set self.old.counts block (max (slice_index self.old.counts block) lacking) } }
     {
         let most = self.counts[block as usize].max(lacking);

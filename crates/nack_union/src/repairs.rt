@@ -65,8 +65,8 @@ fn ask_below(asked: &mut Mask, block: u32, to: u8)
 /// symbols.
 fn ask_repairs(asked: &mut Mask, sent: &Mask, plan: &Plan, closed: u64, block: u32, lacking: u8)
     requires block { block < blocks plan.now }
-    requires asked { slots (blocks plan.now) ≤ asked.old.size }
-    requires sent { slots (blocks plan.now) ≤ sent.now.size }
+    requires asked { slots (block + 1) ≤ asked.old.size }
+    requires sent { slots (block + 1) ≤ sent.now.size }
     ensures members { asked.new.members ≡ with_members nat_lt (repair_slots (shape_closed plan.now closed) sent.now.members block (min lacking (source_symbols plan.now block))) asked.old.members }
     ensures size { asked.new.size ≡ asked.old.size }
     ensures repairable { IsRepairable plan.now block }
@@ -81,17 +81,18 @@ fn ask_repairs(asked: &mut Mask, sent: &Mask, plan: &Plan, closed: u64, block: u
     }
 }
 
-/// Asks for what the counts of all blocks ask for.
+/// Asks for what the counts of the first blocks ask for.
 pub fn ask_counted(asked: &mut Mask, sent: &Mask, plan: &Plan, closed: u64, counts: &[u8])
-    requires counts { length counts.now ≡ blocks plan.now }
-    requires asked { slots (blocks plan.now) ≤ asked.old.size }
-    requires sent { slots (blocks plan.now) ≤ sent.now.size }
+    requires counts { length counts.now ≤ blocks plan.now }
+    requires asked { slots (length counts.now) ≤ asked.old.size }
+    requires sent { slots (length counts.now) ≤ sent.now.size }
     ensures members { asked.new.members ≡ with_members nat_lt (counted_slots (shape_closed plan.now closed) sent.now.members 0 counts.now) asked.old.members }
     ensures size { asked.new.size ≡ asked.old.size }
     ensures repairable { (block : ℕ) → 0 < slice_index counts.now block → IsRepairable plan.now block }
 {
+    let behind = (plan.blocks() as usize).min(counts.len()) as u32;
     // Proof: the label names the loop for its invariant.
-    'counted: for block in 0..plan.blocks() {
+    'counted: for block in 0..behind {
         let lacking = counts[block as usize];
         if lacking > 0 {
             ask_repairs(asked, sent, plan, closed, block, lacking);

@@ -1,13 +1,14 @@
 //! What is wanted of a sender's window, and what was sent of it, by the sender's rules.
 
-ghost use Rattle.std.specs.Prelude.{◌≡◌, ◌<◌, ◌≤◌, ◌+◌, ◌-◌, ◌∷◌, [], length, IfOk, IsErr, MatchOption, Some, ℕ, List, slice_get, not, min, nat_lt};
+ghost use Rattle.std.specs.Prelude.{◌≡◌, ◌<◌, ◌≤◌, ◌+◌, ◌-◌, ◌∷◌, [], length, IfOk, IsErr, MatchOption, None, Some, ℕ, List, slice_get, not, min, nat_lt};
 ghost use Rattle.std.specs.List.{list_any};
 ghost use Rattle.fec_plan.specs.Points.{point};
-ghost use Rattle.norm_order.specs.Entries.{Entry};
+ghost use Rattle.norm_order.specs.Entries.{Entry, Part, Stream};
 ghost use Rattle.norm_order.specs.Shapes.{shape_of};
 ghost use Rattle.norm_send_rules.specs.SenderState.{SenderState, Round, sender_opening};
 ghost use Rattle.norm_send_rules.specs.InWindow.{stands_behind, last_index};
 ghost use Rattle.norm_send_rules.specs.Enqueuing.{with_entry};
+ghost use Rattle.norm_send_rules.specs.Streaming.{with_parts};
 ghost use Rattle.norm_send_rules.specs.Restarting.{begun_anew};
 ghost use Rattle.norm_send_rules.specs.Hearing.{joined_round};
 ghost use Rattle.norm_send_rules.specs.Sending.{noted};
@@ -15,7 +16,7 @@ ghost use Rattle.norm_send_rules.specs.Dropping.{dropped_to};
 ghost use Rattle.norm_send_rules.specs.Closing.{round_closed, asks_early};
 ghost use Rattle.norm_send_rules.specs.declared.want.Want.{Want as Wanted};
 ghost use Rattle.norm_send_rules.specs.declared.want.Want.TheVariants.{Symbol};
-ghost use Rattle.nack_union.specs.Kept.{Marked, IsEncodedIn, admitted, retired, with_object, shape_of_marked};
+ghost use Rattle.nack_union.specs.Kept.{Marked, IsEncodedIn, OfLast, MayGrow, grown_to, admitted, admitted_stream, retired, with_object, shape_of_marked};
 ghost use Rattle.nack_union.specs.UnionState.{UnionState, Stands, empty_union};
 ghost use Rattle.nack_union.specs.UnionMoves.{UnionMoves};
 
@@ -70,6 +71,31 @@ impl Union {
     {
         self.collection.admit(index, plan, info)?;
         Ok(())
+    }
+
+    /// Takes a stream into the window, of which nothing is closed yet, and makes all the room that it needs: that of as many
+    /// blocks as the profile says. Its index is the one behind the last object's. Want of memory leaves the union as it was.
+    pub fn admit_stream(&mut self, index: u32, plan: &Plan) -> Result<(), Memory>
+        requires index { index ≡ self.old.kept.first + length self.old.kept.objects }
+        requires stream { plan.now.l ≡ None }
+        ensures exact { IfOk result (λ _. self.new ≡ record self.old { kept = with_object (admitted_stream plan.now self.old.p.blocks) self.old.kept }) }
+        ensures stands { IfOk result (λ _. (entry : Entry) → shape_of self.old.p entry.object ≡ shape_of_marked (admitted_stream plan.now self.old.p.blocks)
+            → UnionMoves self.old self.new (with_entry entry)) }
+        ensures memory { IsErr result → self.new ≡ self.old }
+    {
+        self.collection.admit_stream(&self.profile, index, plan)?;
+        Ok(())
+    }
+
+    /// The last object, a stream, has so many closed segments. The parts that it has then are those of `with_parts`.
+    pub fn grow(&mut self, index: u32, segments: u32)
+        requires index { index + 1 ≡ self.old.kept.first + length self.old.kept.objects }
+        requires last { OfLast (MayGrow self.old.p segments) self.old.kept }
+        ensures exact { (m : Marked) → slice_get self.old.kept.objects (length self.old.kept.objects - 1) ≡ Some m
+            → self.new ≡ record self.old { kept = grown_to segments m self.old.kept } }
+        ensures stands { (parts : List Part) → segments ≡ (shape_of self.old.p (Stream parts)).closed → UnionMoves self.old self.new (with_parts parts) }
+    {
+        self.collection.grow(index, u64::from(segments));
     }
 
     /// Takes back the last `admit`, where nothing was called since.

@@ -24,9 +24,9 @@ pub covered-preserved : goal.covered-preserved
 covered-preserved c =
     let far : c.max-farthest.result ≡ farthest (take (suc c.covered.block) c.args.ends.now) =
     c.max-farthest.ensures ∙ ap (λ n. max n (get_or c.args.ends.now c.covered.block 0)) c.covered.invariant.farthest ∙ sym (farthest_more c.args.ends.now c.covered.block) in
-    let within : c.covered.block < blocks c.args.plan.now = let lt = c.covered-test.true in let many = c.blocks-block-end.ensures.exact in omega (arith, lt, many) in
+    let within : c.covered.block < blocks c.args.plan.now = let lt = c.covered-test.true in let few = c.min-behind.ensures in let many = c.blocks-2.ensures.exact in omega (arith, lt, few, many) in
     let few : closed_in (shape_closed c.args.plan.now c.args.closed) c.covered.block ≤ 256 =
-    let most = sources_most c.args.plan.now c.covered.block c.blocks-block-end.ensures.sound in let b = c.blocks-block-end.ensures.sound.most_b in omega (arith, most, b) in
+    let most = sources_most c.args.plan.now c.covered.block c.blocks-2.ensures.sound in let b = c.blocks-2.ensures.sound.most_b in omega (arith, most, b) in
     record {
       members = λ slot.
           c.insert_block.ensures.members slot
@@ -42,7 +42,8 @@ pub returns-clause-members : goal.returns-clause-members
 returns-clause-members c = λ slot.
     c.covered.invariant.members slot
     ∙ ap (λ b. is_member nat_lt slot c.args.set.now.members || b)
-    (all_blocks (shape_closed c.args.plan.now c.args.closed) c.args.ends.now slot c.covered.block (let many = c.blocks-block-end.ensures.exact in let done = c.covered-test.false in omega (arith, many, done)))
+    (all_blocks (shape_closed c.args.plan.now c.args.closed) c.args.ends.now slot c.covered.block
+    (λ block le. c.requires.behind block (let many = c.blocks-2.ensures.exact in let few = c.min-behind.ensures in let done = c.covered-test.false in let fits = c.requires.within in omega (arith, many, few, done, fits, le))))
 
 pub returns-clause-size : goal.returns-clause-size
 returns-clause-size c = c.covered.invariant.size

@@ -6,8 +6,8 @@ use Rattle.nack_union.specs.Earliest.{least_with, firsts, pairs_spans}
 use Rattle.nack_union.proofs.earliest.least_of_ranges.Given as goal
 
 abbrev pub invariant-pairs : goal.invariant-pairs
-invariant-pairs l = least_with l.least (firsts (filter is_proper (pairs_spans l.profile l.known (items_named l.rest))))
-    ≡ least_with None (firsts (filter is_proper (pairs_spans l.profile l.known (items_named l.items))))
+invariant-pairs l = least_with l.least (firsts l.flags (filter is_proper (pairs_spans l.profile l.known (items_named l.rest))))
+    ≡ least_with None (firsts l.flags (filter is_proper (pairs_spans l.profile l.known (items_named l.items))))
 
 abbrev pub decreases-pairs : goal.decreases-pairs
 decreases-pairs l = length (items_named l.rest)

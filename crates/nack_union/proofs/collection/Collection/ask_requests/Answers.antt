@@ -2,6 +2,7 @@ use Rattle.std.proofs.Common.{List, Option, ℕ, map, sym, ap, subst, ◌∙◌}
 use Rattle.norm_ext.specs.Asking.{named}
 use Rattle.norm_ext.specs.Requests.{Request}
 use Rattle.norm_ext.specs.RequestView.{request_of}
+use Rattle.fec_plan.specs.Points.{Point}
 use Rattle.nack_union.specs.Earliest.{earliest_with, lesser}
 use Rattle.nack_union.specs.Kept.{Kept}
 use Rattle.nack_union.specs.More.{HasPart, requests_part}
@@ -17,7 +18,7 @@ requests-preserved c = record {
       (sym (request_front c.requests.request-iterator (request_of c.in-Some.request) c.next.new.self c.in-Some.ensures.steps.0 c.in-Some.ensures.steps.1))
       (part_then _ _ c.requests.self c.ask_request.new.self u c.ask_request.ensures more));
   least =
-      ap (λ (o : Option ℕ). earliest_with o (map (named c.args.profile.now c.args.known) c.next.new.self)) (c.lesser-earliest.ensures ∙ ap (lesser c.requests.earliest) c.earliest_of.ensures)
+      ap (λ (o : Option Point). earliest_with o (map (named c.args.profile.now c.args.known) c.next.new.self)) (c.lesser-earliest.ensures ∙ ap (lesser c.requests.earliest) c.earliest_of.ensures)
       ∙ ap (λ (rs : List Request). earliest_with c.requests.earliest (map (named c.args.profile.now c.args.known) rs))
       (sym (request_front c.requests.request-iterator (request_of c.in-Some.request) c.next.new.self c.in-Some.ensures.steps.0 c.in-Some.ensures.steps.1))
       ∙ c.requests.invariant.least;

@@ -4,6 +4,7 @@ use Rattle.std.specs.List.{AllByRecursion}
 use Rattle.std.specs.Vec.{with_items}
 use Rattle.std.proofs.lemmas.List.{with_items_is, length-map}
 use borrow.Rule.Slice.PartMut.{mid_of, post_of}
+use Rattle.fec_plan.specs.Points.{Point, point}
 use Rattle.nack_union.specs.Kept.{Kept, Marked, Holds, IsCounted, closed_marks, closed_union}
 use Rattle.nack_union.specs.Rounds.{wants_closed, new_wants}
 use Rattle.nack_union.specs.CollectionSound.{AreIdle, AreQuiet}
@@ -12,7 +13,7 @@ use Rattle.nack_union.proofs.Quiet.{quiet_closed}
 use Rattle.nack_union.proofs.Rounding.{stands_closed, all_queued}
 use Rattle.norm_send_rules.specs.declared.want.Want.{Want}
 use Rattle.norm_send_rules.specs.SenderState.{Asked}
-use Rattle.nack_union.specs.Earliest.{is_below_first, earliest_with}
+use Rattle.nack_union.specs.Earliest.{is_before_window, earliest_with}
 use Rattle.nack_union.proofs.Early.{early_is}
 use Rattle.nack_union.proofs.ByRules.{by_rules, stands_by_rules, nothing_collected}
 use Rattle.std.proofs.lemmas.Bool.{cases_lt as in_or_out}
@@ -77,11 +78,12 @@ pub returns-clause-rules : goal.returns-clause-rules
 returns-clause-rules c = λ p s r st col. (
   stands_by_rules p s r c.args.self.now (record { first = c.self.inside.first; objects = items c; earliest = None }) st col (returns-clause-closed c p s st),
   returns-clause-queued c p s st ∙ ap (λ (ws : List Want). min (length ws - length s.wants) 4294967295) (by_rules p s c.args.self.now r.asked st col),
-  c.is_below-early.ensures
-      ∙ ap (λ (u : Kept). is_below_first u.earliest u.first) c.self.view_is
-      ∙ ap (λ (o : Option ℕ). is_below_first o c.args.self.now.first) col.earliest
-      ∙ ap (is_below_first (earliest_with None (map (λ (a : Asked). a.request) r.asked))) st.first
-      ∙ early_is s.current.drop r.asked st.whole,
+  c.is_early-early.ensures
+      ∙ ap (λ (u : Kept). is_before_window u.earliest (point u.first 0)) c.self.view_is
+      ∙ ap (λ (o : Option Point). is_before_window o (point c.args.self.now.first 0)) col.earliest
+      ∙ ap (λ (n : ℕ). is_before_window (earliest_with None (map (λ (a : Asked). a.request) r.asked)) (point n 0)) st.first
+      ∙ ap (λ (n : ℕ). is_before_window (earliest_with None (map (λ (a : Asked). a.request) r.asked)) (point s.current.drop.index n)) (sym st.whole)
+      ∙ early_is s.current.drop r.asked,
 )
 
 pub returns-clause-begun : goal.returns-clause-begun

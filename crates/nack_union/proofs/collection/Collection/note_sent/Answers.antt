@@ -1,7 +1,6 @@
 use Rattle.std.proofs.Common.{◌≡◌, ◌-◌, ◌<◌, length, Some, subst, sym, ap, ◌∙◌, arith, ℕ}
 use Rattle.std.specs.Prelude.{nat_lt, slice_get}
 use Rattle.norm_order.specs.Sets.{with_member}
-use Rattle.fec_plan.specs.Partition.{blocks}
 use Rattle.fec_plan.specs.Points.{Position}
 use Rattle.nack_union.specs.Slots.{slots, symbol_slot}
 use Rattle.nack_union.specs.Kept.{Kept, Marked, Holds, IsEncodedIn}
@@ -59,7 +58,7 @@ note_sent-requires c =
     let at = ap (λ (x : Position). x.index) c.at.view_is in
     let encoded = subst (λ (u : Kept). IsEncodedIn u c.args.at) (sym view) c.requires in
     let there = there_at items (c.at.inside.index - c.self.inside.first) m (omega (arith, first, many, encoded.first, encoded.object, at)) c.index_mut-object.ensures.value in
-    subst (λ n. n < slots (blocks m.cut)) (sym (c.slot_of.ensures.slot ∙ ap (λ (x : Position). symbol_slot x.block x.symbol) c.at.view_is))
+    subst (λ n. n < slots (length m.counts)) (sym (c.slot_of.ensures.slot ∙ ap (λ (x : Position). symbol_slot x.block x.symbol) c.at.view_is))
     (slot_there m c.args.at.block c.args.at.symbol c.hold.ensures.planned
     (encoded.symbol m (subst (λ (x : Position). slice_get items (x.index - c.self.inside.first) ≡ Some m) c.at.view_is there))
     (subst (λ (x : Position). x.symbol < 256) c.at.view_is c.slot_of.ensures.named))

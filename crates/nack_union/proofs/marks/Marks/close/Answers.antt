@@ -1,8 +1,7 @@
-use Rattle.std.proofs.Common.{◌∙◌, ap, sym, arith}
+use Rattle.std.proofs.Common.{length, ◌∙◌, ap, sym, arith}
 use Rattle.nack_union.specs.Kept.{closed_marks}
 use Rattle.nack_union.specs.Sound.{marks_view}
 use Rattle.nack_union.proofs.Closings.{idle_stays}
-use Rattle.fec_plan.specs.Partition.{blocks}
 use Rattle.nack_union.proofs.marks.Marks.close.Goals as goal
 
 pub overflow_add-self : goal.overflow_add-self
@@ -16,4 +15,4 @@ overflow_add-self c =
 pub returns-then-not-self-clause-marks : goal.returns-then-not-self-clause-marks
 returns-then-not-self-clause-marks c =
     let idle = c.self.invariant.idle c.if-not-self.true in
-    sym c.self.view_is ∙ idle_stays (marks_view c.self.inside) (blocks c.self.inside.plan) idle.0 idle.1 ∙ ap closed_marks c.self.view_is
+    sym c.self.view_is ∙ idle_stays (marks_view c.self.inside) (length c.self.inside.counts.items) idle.0 idle.1 ∙ ap closed_marks c.self.view_is

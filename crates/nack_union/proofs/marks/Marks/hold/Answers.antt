@@ -9,8 +9,8 @@ returns-clause-planned c =
     let few : encoding_symbols c.self.inside.plan 0 ≤ 255 = let top = c.encoded_len.type_inv in let is = c.encoded_len.ensures in omega (arith, top, is) in
     subst IsPlanned c.self.view_is (record {
       sound = c.blocks-2.ensures.sound;
-      closed = let all = c.self.invariant.closed in omega (arith, all);
-      whole = λ l is. c.self.invariant.closed;
+      closed = c.self.invariant.closed;
+      whole = c.self.invariant.whole;
       few = λ block. few_encoded c.self.inside.plan block c.blocks-2.ensures.sound few;
-      counts = c.self.invariant.counts;
+      counts = c.self.invariant.behind;
     })
