@@ -14,3 +14,4 @@ pub mod WholeLemmas
 pub mod LoseLemmas
 pub mod SettledLemmas
 pub mod UntakeLemmas
+pub mod NeedLemmas

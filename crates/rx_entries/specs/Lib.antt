@@ -2,4 +2,5 @@ pub mod Seats
 pub mod FrontSound
 pub mod Fits
 pub mod Handing
+pub mod Asked
 pub mod HoldSound

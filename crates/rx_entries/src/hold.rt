@@ -1,6 +1,6 @@
 //! What a receiver holds of objects that it did not hand up yet.
 
-ghost use Rattle.std.specs.Prelude.{ℕ, ◌≡◌, ◌<◌, ◌≤◌, [], IfOk, IfNone, MatchOption, OnErr, is_some, length, not, false, ⊤};
+ghost use Rattle.std.specs.Prelude.{ℕ, ◌≡◌, ◌<◌, ◌≤◌, [], IfOk, IfNone, IfSome, MatchOption, OnErr, is_some, length, not, false, ⊤};
 ghost use Rattle.fec_plan.specs.Partition.{blocks};
 ghost use Rattle.fec_plan.specs.Points.{point as point_at, point_of, point_before, position};
 ghost use Rattle.norm_ext.specs.declared.fti.Fti.{Fti as FtiValue};
@@ -15,7 +15,8 @@ ghost use Rattle.norm_receive_rules.specs.Seeing.{sees_block};
 ghost use Rattle.norm_receive_rules.specs.Taking.{up_taken};
 ghost use Rattle.norm_receive_rules.specs.declared.words.Fit.TheVariants as fit_word;
 ghost use Rattle.rx_hold.specs.EntryHold.{StandsFor};
-ghost use Rattle.rx_hold.specs.HoldState.{flags_at, missing_at, plan_at};
+ghost use Rattle.rx_hold.specs.HoldState.{IsFirstShort, first_short_at, flags_at, missing_at, plan_at};
+ghost use Rattle.rx_entries.specs.Asked.{seen_at};
 ghost use Rattle.rx_entries.specs.FrontSound.{IsUnused, object_in};
 ghost use Rattle.rx_entries.specs.Handing.{IsSettled};
 ghost use Rattle.rx_entries.specs.HoldSound.{empty_hold};
@@ -180,6 +181,24 @@ impl Hold {
         ensures { (s : Holding) → StandsFor self.now s → result ≡ missing_at s index block }
     {
         self.front.missing(index, block)
+    }
+
+    /// The first block of an object that lacks symbols. `None` where it has no plan, or all its blocks are done. Of data and files it takes
+    /// constant time, and of a stream it looks at one block more than there is room for, at most.
+    pub fn first_short(&self, index: u32) -> Option<u32>
+        requires { self.now.point.index ≤ index }
+        ensures exact { (s : Holding) → StandsFor self.now s → result ≡ first_short_at s index }
+        ensures first { (s : Holding) → StandsFor self.now s → IfSome (plan_of s index) (λ plan. IsFirstShort s plan result) }
+    {
+        self.front.first_short(index)
+    }
+
+    /// The greatest block that was seen of a stream. `None` exactly where no stream has the index.
+    pub fn seen(&self, index: u32) -> Option<u32>
+        requires { self.now.point.index ≤ index }
+        ensures { (s : Holding) → StandsFor self.now s → result ≡ seen_at s index }
+    {
+        self.front.seen(index)
     }
 
     /// Whether an object was lost in this instance.

@@ -10,6 +10,7 @@ mod front;
 mod handing_up;
 mod hold;
 mod losing;
+mod needs;
 mod ring;
 
 pub use crate::hold::{Hold, Place};

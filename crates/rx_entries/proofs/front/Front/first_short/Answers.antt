@@ -1,0 +1,18 @@
+use Rattle.std.proofs.Common.{sym}
+use Rattle.rx_hold.specs.EntryState.{entry_of}
+use Rattle.rx_hold.proofs.FirstLemmas.{first_says}
+use Rattle.rx_entries.proofs.NeedLemmas.{read_first, read_no_first}
+use Rattle.rx_entries.proofs.front.Front.first_short.Goals as goal
+
+pub returns-in-Some-clause-exact : goal.returns-in-Some-clause-exact
+returns-in-Some-clause-exact c = λ s stands.
+    read_first c.args.self.now s c.args.index c.requires.front stands c.requires.reached (entry_of c.in-Some.entry.now) c.first_short_in.result (sym c.in-Some.ensures) c.first_short_in.ensures
+
+pub returns-in-None-clause-exact : goal.returns-in-None-clause-exact
+returns-in-None-clause-exact c = λ s stands. read_no_first c.args.self.now s c.args.index c.requires.front stands c.requires.reached (sym c.in-None.ensures)
+
+pub returns-in-Some-clause-first : goal.returns-in-Some-clause-first
+returns-in-Some-clause-first c = λ s stands. first_says s c.args.index _ (returns-in-Some-clause-exact c s stands)
+
+pub returns-in-None-clause-first : goal.returns-in-None-clause-first
+returns-in-None-clause-first c = λ s stands. first_says s c.args.index _ (returns-in-None-clause-exact c s stands)
