@@ -205,11 +205,7 @@ fn read_all<D: Files>(
 }
 
 /// The job of a file, where its octets are kept.
-fn job_of_file(
-    alloc: Global,
-    name: &str,
-    octets: Option<Octets>,
-) -> Result<Option<Job>, Memory>
+fn job_of_file(alloc: Global, name: &str, octets: Option<Octets>) -> Result<Option<Job>, Memory>
     ensures { IfOk result (λ job. job ≡ option_map (λ (bytes : List ℕ). Job.File name.now bytes) octets) }
 {
     match octets {
