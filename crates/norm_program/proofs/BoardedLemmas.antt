@@ -16,6 +16,12 @@ pub ran_over_some : {T : Type 0} (P : T → BoardState → BoardState → Type 0
 ran_over_some P (Ok x) b c h = (b, c, h)
 ran_over_some P (Err e) b c h = h
 
+-- the same of one that ran with some journal
+pub ran_over_some_with : {T X : Type 0} (P : X → T → BoardState → BoardState → Type 0) (result : Result T SessionFault) (b c : BoardState)
+    → IfOk result (λ t. (x : X) × P x t b c) → IfOk result (λ t. (x : X) × (unposted : BoardState) × (posted : BoardState) × P x t unposted posted)
+ran_over_some_with P (Ok t) b c h = (h.0, b, c, h.1)
+ran_over_some_with P (Err e) b c h = h
+
 -- any board
 some_board : BoardState
 some_board = record {

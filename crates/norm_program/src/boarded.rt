@@ -1,6 +1,7 @@
 //! Scripts as the program runs them: over a board of its own with one reader, and with producers that nobody holds up.
 
-ghost use Rattle.std.specs.Prelude.{◌≡◌, IfOk, IfErr, true, false};
+ghost use Rattle.std.specs.Prelude.{◌≡◌, List, IfOk, IfErr, true, false};
+ghost use Rattle.norm_journal.specs.declared.event.Event.{Event};
 ghost use Rattle.norm_program.specs.Boarded.{RunsScript, StopsScript, span};
 ghost use Rattle.norm_session.specs.Causes.{HasCause, counted};
 ghost use Rattle.norm_session.specs.Session.{IsRunnable};
@@ -47,7 +48,7 @@ pub(crate) fn run_session<R: Threads + Wait + Sync, K: Sink, F: Fabric, D: Files
     )
 }
 
-/// Runs the sender of a script's session alone.
+/// Runs the sender of a script's session alone. Answers whether all was done.
 pub(crate) fn run_send<R: Threads + Wait + Sync, K: Sink, F: Fabric, D: Files, C: Clock>(
     rt: &R,
     alloc: Global,
@@ -56,9 +57,9 @@ pub(crate) fn run_send<R: Threads + Wait + Sync, K: Sink, F: Fabric, D: Files, C
     fabric: &mut F,
     files: &mut D,
     clock: &mut C,
-) -> Result<Ended, SessionFault>
+) -> Result<bool, SessionFault>
     requires { IsRunnable script.now }
-    ensures run { IfOk result (λ ended. RunsScript true script.now (D.contents files.old) ended.journal ended.whole
+    ensures run { IfOk result (λ whole. (journal : List Event) × RunsScript true script.now (D.contents files.old) journal whole
         (span (F.told fabric.old) (F.told fabric.new) (K.pieces output.old) (K.pieces output.new) (C.moments clock.old) (C.moments clock.new))) }
     ensures stops { IfErr result (λ fault. StopsScript true fault script.now (D.contents files.old)
         (span (F.told fabric.old) (F.told fabric.new) (K.pieces output.old) (K.pieces output.new) (C.moments clock.old) (C.moments clock.new))) }

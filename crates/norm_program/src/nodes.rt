@@ -42,7 +42,7 @@ fn send<R: Threads + Wait + Sync, S: Source, K: Sink, F: Fabric, D: Files, C: Cl
         Err(ending) => return ending,
     };
     match run_send(rt, alloc, &script, output, fabric, files, clock) {
-        Ok(ended) => end_session(&ended, output),
+        Ok(whole) => end_session(whole, output),
         Err(fault) => stop_session(alloc, fault, output),
     }
 }

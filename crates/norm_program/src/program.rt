@@ -20,7 +20,7 @@ use crate::status::{Ending, Status};
 use crate::words::WordsFault;
 use norm_base::{Clock, Fabric, Failed, Files, Memory, Sink, Source, Text};
 use norm_script::{Extent, Script, read};
-use norm_session::{Ended, SessionFault};
+use norm_session::SessionFault;
 use norm_words::{NodeTask, Options, Task, node_task_of, task_of};
 use std::alloc::{AllocError, Global};
 use std::process::ExitCode;
@@ -102,11 +102,11 @@ fn read_text<K: Sink>(
 }
 
 /// How a session that ran ended: one that spent its turns says so.
-pub(crate) fn end_session<K: Sink>(ended: &Ended, output: &mut K) -> Ending
-    ensures { IsLastEnding result ended.now.whole (K.pieces output.old) (K.pieces output.new)
+pub(crate) fn end_session<K: Sink>(whole: bool, output: &mut K) -> Ending
+    ensures { IsLastEnding result whole (K.pieces output.old) (K.pieces output.new)
         (K.fault_count output.old) (K.fault_count output.new) }
 {
-    if ended.whole {
+    if whole {
         return Ending::Done;
     }
     match output.write(b"turns spent\n") {
@@ -197,7 +197,7 @@ fn run_input<R: Threads + Wait + Sync, S: Source, K: Sink, F: Fabric, D: Files, 
         Err(ending) => return ending,
     };
     match run_session(rt, alloc, &script, output, fabric, files, clock) {
-        Ok(ended) => end_session(&ended, output),
+        Ok(ended) => end_session(ended.whole, output),
         Err(fault) => stop_session(alloc, fault, output),
     }
 }

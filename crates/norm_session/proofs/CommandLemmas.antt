@@ -1,6 +1,6 @@
 -- Commands of a turn: a pull, and offers of a command's job.
 use Rattle.std.proofs.Common.{◌≡◌, ℕ, suc, ◌<◌, ◌≤◌, inl, inr, List, length, [], ◌∷◌, ◌++◌, Option, None, Some, Bool, true, false, refl, sym, ap, ◌∙◌, subst, get_or, arith}
-use Rattle.std.specs.Prelude.{◌==◌, ◌≢◌, ◌⊎◌, Result, Ok, Err, OnOk, IfErr, nat_lt, slice_get, option_and_then}
+use Rattle.std.specs.Prelude.{◌==◌, ◌≢◌, ◌⊎◌, ◌&&◌, is_some, Result, Ok, Err, OnOk, IfErr, nat_lt, slice_get, option_and_then}
 use Rattle.std.proofs.lemmas.Bool.Decides.{Decides-eqb, Decides-ltb}
 use Rattle.std.proofs.lemmas.Option.{get_or_from_slice_get, slice_get_past, slice_get_read}
 use Rattle.std.proofs.lemmas.Bool.{cases_lt}
@@ -45,6 +45,7 @@ use Rattle.norm_session.specs.Commanding.{IsDue, IsAtLine, IsAnswered, given, of
 use Rattle.norm_session.specs.Turning.{IsOver, command_next}
 use Rattle.norm_session.specs.Context.{Context, judged_of}
 use Rattle.norm_session.specs.Left.{IsTaken, lines_at}
+use Rattle.norm_session.specs.Noting.{IsAtHand, kept_of, noted}
 use Rattle.norm_session.specs.Posting.{entries_in}
 use Rattle.norm_session.specs.RunKept.{RunKept}
 use Rattle.norm_session.specs.SoFar.{HasAll, IsOffered, IsTelling, At, Leads}
@@ -52,16 +53,16 @@ use Rattle.norm_session.specs.Stopping.{IsUnwritten, Stopped}
 use Rattle.norm_session.specs.declared.fault.SessionFault.{SessionFault}
 use Rattle.norm_session.specs.declared.fault.SessionFault.TheVariants as fault
 use Rattle.norm_session.proofs.LeftLemmas.{some_there}
-use Rattle.norm_session.proofs.SoFarLemmas.{more, leads_on, untold, gained-nil, stops_for_memory, line_stops}
+use Rattle.norm_session.proofs.SoFarLemmas.{more, kept_more, leads_on, untold, gained-nil, stops_for_memory, line_stops}
 
 -- ---- a pull
 
 -- the run after a pull
-abbrev pub pulled_on : RunKept → List Event → List ℕ → RunKept
+abbrev pub pulled_on : RunKept → Option (List Event) → List ℕ → RunKept
 pulled_on k journal left = record k { journal = journal; left = left }
 
-pub pulls : (x : Context) (k : RunKept) (journal : List Event) (left : List ℕ) (producer place : ℕ) (network : Network) (written : Pieces)
-    → (taken : IsTaken x.script.lines k.left left producer place) → journal ≡ k.journal ++ event.Pull (origin_of taken.line) ∷ [] → At x k Pulling network written
+pub pulls : (x : Context) (k : RunKept) (journal : Option (List Event)) (left : List ℕ) (producer place : ℕ) (network : Network) (written : Pieces)
+    → (taken : IsTaken x.script.lines k.left left producer place) → journal ≡ noted k.journal (event.Pull (origin_of taken.line)) → At x k Pulling network written
     → IsAtLine x (pulled_on k journal left) place true network written
 pulls x k journal left producer place network written taken joined here =
     let s = here.so_far in
@@ -95,26 +96,26 @@ pulls x k journal left producer place network written taken joined here =
     }
 
 -- by the script as it is read
-pub pulls_read : (x : Context) (commands : Commands) (k v : RunKept) (journal : List Event) (left : List ℕ) (producer place : ℕ) (line : Line) (by : Origin)
+pub pulls_read : (x : Context) (commands : Commands) (k v : RunKept) (journal : Option (List Event)) (left : List ℕ) (producer place : ℕ) (line : Line) (by : Origin)
     (network : Network) (written : Pieces) → x.script ≡ commands → k ≡ v → IsTaken commands.lines k.left left producer place
-    → line ≡ get_or commands.lines place line → by ≡ origin_of line → journal ≡ k.journal ++ event.Pull by ∷ []
+    → line ≡ get_or commands.lines place line → by ≡ origin_of line → journal ≡ noted k.journal (event.Pull by)
     → At x v Pulling network written → IsAtLine x (pulled_on k journal left) place true network written
 pulls_read x commands k v journal left producer place line by network written same is taken read named joined here =
     pulls x k journal left producer place network written
     (subst (λ (c : Commands). IsTaken c.lines k.left left producer place) (sym same) taken)
-    (subst_line (sym same) taken (joined ∙ ap (λ o. k.journal ++ event.Pull o ∷ [])
+    (subst_line (sym same) taken (joined ∙ ap (λ o. noted k.journal (event.Pull o))
     (named ∙ ap origin_of (read ∙ get_or_from_slice_get commands.lines place taken.line line taken.line_is))))
     (subst (λ (u : RunKept). At x u Pulling network written) (sym is) here)
   where
-    subst_line : {c d : Commands} (e : c ≡ d) (t : IsTaken c.lines k.left left producer place) → journal ≡ k.journal ++ event.Pull (origin_of t.line) ∷ []
-        → journal ≡ k.journal ++ event.Pull (origin_of (subst (λ (u : Commands). IsTaken u.lines k.left left producer place) e t).line) ∷ []
+    subst_line : {c d : Commands} (e : c ≡ d) (t : IsTaken c.lines k.left left producer place) → journal ≡ noted k.journal (event.Pull (origin_of t.line))
+        → journal ≡ noted k.journal (event.Pull (origin_of (subst (λ (u : Commands). IsTaken u.lines k.left left producer place) e t).line))
     subst_line _ t j = j
 
 -- a run that stops for want of memory, wherever it is
 pub memory_at : (x : Context) (k : RunKept) (place : Place) (network : Network) (written : Pieces) → At x k place network written
     → Stopped x fault.Memory network written
 memory_at x k place network written here =
-    stops_for_memory x k.journal (judged_of x k here.world place) network written here.so_far.leads
+    stops_for_memory x here.so_far.journal (judged_of x k here.world place) network written here.so_far.leads
 
 -- ---- what a command gave is noted
 
@@ -134,11 +135,11 @@ abbrev sending : Context → RunKept → World → Option Line → Totals → Ju
 sending x k w waiting totals = record (judged_of x k w Sending) { waiting = waiting; totals = totals }
 
 -- the run with what a command gave
-abbrev pub noted_gave : RunKept → List Event → Totals → Option ℕ → RunKept
+abbrev pub noted_gave : RunKept → Option (List Event) → Totals → Option ℕ → RunKept
 noted_gave k journal totals waiting = record k { journal = journal; totals = totals; waiting = waiting }
 
 given_state : (x : Context) (k : RunKept) (before after : World) (first : Bool) (place : ℕ) (line : Line) (gave : Result Receipt SendFault)
-    (journal : List Event) (totals : Totals) (waiting : Option ℕ) → slice_get x.script.lines place ≡ Some line → totals ≡ with_gave gave k.totals
+    (journal : Option (List Event)) (totals : Totals) (waiting : Option ℕ) → slice_get x.script.lines place ≡ Some line → totals ≡ with_gave gave k.totals
     → waiting ≡ waits_at place gave → given x k before after first line gave ≡ judged_of x (noted_gave k journal totals waiting) after Sending
 given_state x k before after first place line gave journal totals waiting there counts waits =
     ap (λ o. sending x k after o (with_gave gave k.totals))
@@ -156,9 +157,9 @@ pub record IsQuietEvent (e : Event) : Type 0 where
 pub job_quiet : (by : Origin) (told : Option Job) (gave : Result Receipt SendFault) → IsQuietEvent (event.Job by told gave)
 job_quiet by told gave = record { no_offer = refl; no_answer = refl; no_turn = refl; no_outcome = refl; no_take = λ past. tt }
 
-pub notes : (x : Context) (k v : RunKept) (e : Event) (journal : List Event) (totals : Totals) (waiting : Option ℕ) (place : ℕ) (line : Line)
+pub notes : (x : Context) (k v : RunKept) (e : Event) (journal : Option (List Event)) (totals : Totals) (waiting : Option ℕ) (place : ℕ) (line : Line)
     (gave : Result Receipt SendFault) (text : Option (List ℕ)) (network : Network) (unwritten written : Pieces) → IsQuietEvent e → k ≡ v
-    → journal ≡ k.journal ++ e ∷ [] → totals ≡ with_gave gave k.totals → waiting ≡ waits_at place gave
+    → journal ≡ noted k.journal e → totals ≡ with_gave gave k.totals → waiting ≡ waits_at place gave
     → written ≡ gained unwritten (option_to_list text) → IsAnswered x v place line e gave text network unwritten
     → IsTelling x (noted_gave k journal totals waiting) Sending network written
 notes x k v e journal totals waiting place line gave text network unwritten written quiet is joined counts waits out there =
@@ -171,11 +172,12 @@ notes x k v e journal totals waiting place line gave text network unwritten writ
     record {
       world = g.after;
       so_far = record {
-        all = record { script = g.all.script; world = g.all.world; receivers = g.all.receivers; objects = g.all.objects };
+        all = record { script = g.all.script; world = g.all.world; alone = g.all.alone; receivers = g.all.receivers; objects = g.all.objects };
         stands = g.stands;
-        leads = subst (λ js. Leads x js next network written) (sym joined)
-            (leads_on x k.journal e j next network network unwritten written g.leads accepted (untold network e quiet.no_offer quiet.no_answer)
-            (out ∙ ap (λ o. gained unwritten (option_to_list o)) (sym g.text_is)) (λ honest told. quiet.no_take k.journal) quiet.no_turn quiet.no_outcome g.octets);
+        journal = g.journal ++ e ∷ [];
+        kept = joined ∙ kept_more k.alone k.journal g.journal e g.kept;
+        leads = leads_on x g.journal e j next network network unwritten written g.leads accepted (untold network e quiet.no_offer quiet.no_answer)
+            (out ∙ ap (λ o. gained unwritten (option_to_list o)) (sym g.text_is)) (λ honest told. quiet.no_take g.journal) quiet.no_turn quiet.no_outcome g.octets;
       };
     }
 
@@ -183,16 +185,26 @@ pub notes_stop : (x : Context) (failed : SessionFault) (k : RunKept) (e : Event)
     (text : Option (List ℕ)) (network : Network) (unwritten written : Pieces) → IsQuietEvent e → IsUnwritten failed unwritten written text
     → IsAnswered x k place line e gave text network unwritten → Stopped x failed network written
 notes_stop x failed k e place line gave text network unwritten written quiet un g =
-    line_stops x failed k.journal e (judged_of x k g.before (offering g.first line)) (given x k g.before g.after g.first line gave) network unwritten written
-    g.leads g.accepted quiet.no_offer quiet.no_answer quiet.no_turn quiet.no_outcome (λ honest told. quiet.no_take k.journal) g.octets
+    line_stops x failed g.journal e (judged_of x k g.before (offering g.first line)) (given x k g.before g.after g.first line gave) network unwritten written
+    g.leads g.accepted quiet.no_offer quiet.no_answer quiet.no_turn quiet.no_outcome (λ honest told. quiet.no_take g.journal) g.octets
     (subst (IsUnwritten failed unwritten written) (sym g.text_is) un)
 
 pub notes_memory : (x : Context) (k : RunKept) (e : Event) (place : ℕ) (line : Line) (gave : Result Receipt SendFault)
     (text : Option (List ℕ)) (network : Network) (written : Pieces) → IsAnswered x k place line e gave text network written → Stopped x fault.Memory network written
 notes_memory x k e place line gave text network written g =
-    stops_for_memory x k.journal (judged_of x k g.before (offering g.first line)) network written g.leads
+    stops_for_memory x g.journal (judged_of x k g.before (offering g.first line)) network written g.leads
 
 -- ---- an offer of a job
+
+-- the job of a first offer is at hand, where a journal is kept
+pub job_at_hand : (kept : Option (List Event)) (first tells : Bool) (its : Job) (at_hand : Option Job) → at_hand ≡ told_at tells its
+    → tells ≡ (first && is_some kept) → IsAtHand kept at_hand (told_at first its)
+job_at_hand None first tells its at_hand is by = tt
+job_at_hand (Some journal) first tells its at_hand is by = is ∙ ap (λ b. told_at b its) (by ∙ both first)
+  where
+    both : (b : Bool) → (b && true) ≡ b
+    both true = refl
+    both false = refl
 
 -- a command that has its octets with it, and its job
 record IsCarried (files : Told) (v : Verb) (j : Job) : Type 0 where
@@ -247,7 +259,7 @@ abbrev pub moved_to : RunKept → WorldKept → RunKept
 moved_to k world = record k { world = world }
 
 pub has_all : (x : Context) (k : RunKept) (world : WorldKept) → world.p ≡ k.world.p → HasAll x k → HasAll x (moved_to k world)
-has_all x k world same all = record { script = all.script; world = same ∙ all.world; receivers = all.receivers; objects = all.objects }
+has_all x k world same all = record { script = all.script; world = same ∙ all.world; alone = all.alone; receivers = all.receivers; objects = all.objects }
 
 -- the line of a job
 pub gave_text : (x : Context) (k : RunKept) (w : World) (first : Bool) (line : Line) (by : Origin) (told : Option Job) (gave : Result Receipt SendFault) (instance : ℕ)
@@ -290,6 +302,8 @@ gives_job x k world place line first its gave instance network written is same m
       all = has_all x k world same s.all;
       stands = stepped.0;
       line_is = due.line_is;
+      journal = s.journal;
+      kept = s.kept;
       leads = s.leads;
       accepted = (judges_what_follows j next e).1 (here.quiet, follows);
       octets = c.octets by first gave;

@@ -36,6 +36,7 @@ use Rattle.norm_world.specs.WorldMoves.{IsEvent, IsSent}
 use Rattle.norm_world.proofs.ReceiverEvents.{behind_sender, no_sender}
 use Rattle.norm_session.specs.Context.{Context, judged_of}
 use Rattle.norm_session.specs.Handing.{HasTakenAll}
+use Rattle.norm_session.specs.Noting.{noted}
 use Rattle.norm_session.specs.RunKept.{RunKept}
 use Rattle.norm_session.specs.SoFar.{At, after_sent}
 use Rattle.norm_session.specs.Stopping.{IsUnwritten, Stopped}
@@ -54,7 +55,7 @@ stays_quiet v w same quiet = ap (λ (s : SenderState). (told s).1) same ∙ quie
 -- the run after it
 abbrev pub having_handed : RunKept → WorldKept → ℕ → ℕ → Up → RunKept
 having_handed k world node instance up =
-    record k { world = world; journal = k.journal ++ event.Up node instance up ∷ []; totals = with_up up k.totals }
+    record k { world = world; journal = noted k.journal (event.Up node instance up); totals = with_up up k.totals }
 
 -- the receiver handed this up, in this instance
 pub record IsHandedUp (k : RunKept) (world : WorldKept) (node instance : ℕ) (up : Up) : Type 0 where
@@ -114,7 +115,7 @@ hand_stops x failed k v world node instance nodes up network unwritten written s
     let here = subst (λ (u : RunKept). At x u (Handing node nodes) network unwritten) (sym seen) there in
     let s = here.so_far in
     let w = here.world in
-    line_stops x failed k.journal (event.Up node instance up) (judged_of x k w (Handing node nodes))
+    line_stops x failed s.journal (event.Up node instance up) (judged_of x k w (Handing node nodes))
     (judged_of x (having_handed k world node instance up) (world_step k.p w (UpTaken node)).0 (Handing node nodes)) network unwritten written s.leads
     (up_accepted x k world w node instance nodes up s.all.world here.quiet s.stands is) refl refl refl refl (λ honest told. tt) tt un
 
@@ -150,9 +151,9 @@ given node sent.Datagram out (Some w) next e = record { said_is = refl; after = 
     same : (a b : List ℕ) → Some a ≡ Some b → a ≡ b
     same a b e = cc
 
-pub receiver_ticks : (x : Context) (k v : RunKept) (world : WorldKept) (journal : List Event) (node : ℕ) (nodes : List ℕ) (said : Sent) (out : List ℕ)
+pub receiver_ticks : (x : Context) (k v : RunKept) (world : WorldKept) (journal : Option (List Event)) (node : ℕ) (nodes : List ℕ) (said : Sent) (out : List ℕ)
     (network : Network) (written : Pieces) → k ≡ v → is_receiver v.world.p node ≡ true → HasTakenAll v.world node
-    → journal ≡ k.journal ++ event.Tick node said ∷ [] → world.p ≡ k.world.p → IsEvent k.world world (Ticked node k.now) (IsSent said out)
+    → journal ≡ noted k.journal (event.Tick node said) → world.p ≡ k.world.p → IsEvent k.world world (Ticked node k.now) (IsSent said out)
     → At x v (Handing node nodes) network written → At x (moved k world journal) (after_sent node said out (handing nodes)) network written
 receiver_ticks x k v world journal node nodes said out network written seen is_one taken joined same ticks there =
     let receiver : is_receiver k.world.p node ≡ true = subst (λ (u : RunKept). is_receiver u.world.p node ≡ true) (sym seen) is_one in
@@ -198,17 +199,17 @@ receiver_ticks x k v world journal node nodes said out network written seen is_o
 -- ---- as calls leave it
 
 -- by what was counted and noted
-pub hands_on : (x : Context) (k v : RunKept) (world : WorldKept) (journal : List Event) (totals : Totals) (node instance : ℕ) (nodes : List ℕ) (up : Up)
+pub hands_on : (x : Context) (k v : RunKept) (world : WorldKept) (journal : Option (List Event)) (totals : Totals) (node instance : ℕ) (nodes : List ℕ) (up : Up)
     (network : Network) (unwritten written : Pieces) → k ≡ v → IsHandedUp k world node instance up
-    → journal ≡ k.journal ++ event.Up node instance up ∷ [] → totals ≡ with_up up k.totals → written ≡ gained unwritten (up_line node instance up ∷ [])
+    → journal ≡ noted k.journal (event.Up node instance up) → totals ≡ with_up up k.totals → written ≡ gained unwritten (up_line node instance up ∷ [])
     → At x v (Handing node nodes) network unwritten
     → At x (record k { world = world; journal = journal; totals = totals }) (Handing node nodes) network written
 hands_on x k v world journal totals node instance nodes up network unwritten written seen is joined counts out here =
     subst (λ (t : Totals). At x (record k { world = world; journal = journal; totals = t }) (Handing node nodes) network written) (sym counts)
-    (subst (λ (es : List Event). At x (record k { world = world; journal = es; totals = with_up up k.totals }) (Handing node nodes) network written) (sym joined)
+    (subst (λ (es : Option (List Event)). At x (record k { world = world; journal = es; totals = with_up up k.totals }) (Handing node nodes) network written) (sym joined)
     (hands x k v world node instance nodes up network unwritten written seen is out here))
 
 -- want of memory stops a run where it is
 pub stops_at : (x : Context) (k : RunKept) (place : Place) (network : Network) (written : Pieces) → At x k place network written
     → Stopped x fault.Memory network written
-stops_at x k place network written here = stops_for_memory x k.journal (judged_of x k here.world place) network written here.so_far.leads
+stops_at x k place network written here = stops_for_memory x here.so_far.journal (judged_of x k here.world place) network written here.so_far.leads

@@ -1,11 +1,12 @@
 -- Files that commands name: reading them, and what the sender gives to one.
-use Rattle.std.proofs.Common.{◌≡◌, ℕ, ◌+◌, ◌<◌, ◌≤◌, inl, inr, List, [], ◌++◌, length, replicate, take, drop, Option, None, Some, Bool, true, false, refl, sym, ap, ◌∙◌, subst, arith}
-use Rattle.std.specs.Prelude.{◌≢◌, ◌↔◌, Result, Ok, Err, IfOk, IfErr, IfSome, IsNone, IsErrOf, is_none}
+use Rattle.std.proofs.Common.{◌≡◌, ℕ, zero, suc, ◌+◌, ◌<◌, ◌≤◌, inl, inr, List, [], ◌∷◌, ◌++◌, length, replicate, take, drop, Option, None, Some, Bool, true, false, refl, sym, ap, ◌∙◌, subst, arith}
+use Rattle.std.specs.Prelude.{◌≢◌, ◌↔◌, Result, Ok, Err, IfOk, IfErr, IfSome, IsNone, IsSome, IsErrOf, is_none, is_some}
 use Rattle.std.specs.Option.{option_map}
 use Rattle.std.proofs.Math.Seq.{take-add}
 use Rattle.std.proofs.lemmas.List.{length-append, length-replicate, take_all}
 use Rattle.norm_base.specs.Contents.{content_of}
 use Rattle.norm_base.specs.Network.{Network}
+use Rattle.norm_base.specs.Octets.{AreOctets}
 use Rattle.norm_base.specs.Settings.{Settings}
 use Rattle.norm_base.specs.Told.{Pieces}
 use Rattle.norm_base.specs.declared.fault.FileFault.{FileFault}
@@ -34,14 +35,15 @@ use Rattle.norm_journal.specs.Lines.{gave_line, no_line, reason_of}
 use Rattle.norm_journal.specs.Pulling.{origin_of}
 use Rattle.norm_journal.specs.SessionRun.{Absent, Ending, absent_of, ends_in}
 use Rattle.norm_journal.proofs.FollowLemmas.{judges_what_follows}
-use Rattle.norm_world.specs.WorldKept.{WorldKept, StandsFor, IsFilling, HasBegun}
+use Rattle.norm_world.specs.WorldKept.{WorldKept, StandsFor, IsBegun, IsFilling, HasBegun}
 use Rattle.norm_world.specs.WorldMoves.{IsEvent, IsRefused}
 use Rattle.norm_world.proofs.WorldLemmas.{is_event}
 use Rattle.norm_sender.specs.Commands.{GivesBack}
 use Rattle.norm_session.specs.Causes.{FilesCause, WriteCause, HasCause, counted, counts_after}
-use Rattle.norm_session.specs.Commanding.{IsDue, IsAnswered, CommandCause, given, offering}
+use Rattle.norm_session.specs.Commanding.{IsDue, IsAnswered, CommandCause, given, offering, told_at}
 use Rattle.norm_session.specs.Context.{Context, judged_of}
-use Rattle.norm_session.specs.Reading.{IsOfFile, IsFaultOf, IsFront, IsReading, HasRead, ReadsOn, IsTaken, AcceptsFile, IsFileGave, refusal_of}
+use Rattle.norm_session.specs.Noting.{IsAtHand}
+use Rattle.norm_session.specs.Reading.{IsOfFile, IsFaultOf, IsFront, HasPart, IsReading, HasRead, ReadsOn, IsTaken, AcceptsFile, IsFileGave, octets_at, octets_there, refusal_of}
 use Rattle.norm_session.specs.RunKept.{RunKept}
 use Rattle.norm_session.specs.Stopping.{Stopped}
 use Rattle.norm_session.specs.declared.reading.FileGave.{FileGave}
@@ -126,6 +128,60 @@ reads_on old new files name octets more piece buf len done n same at is piece_is
       };
     })
 
+-- what is there of the file that is begun
+pub is_there : (k : WorldKept) (name : List ℕ) (len : ℕ) (octets : List ℕ) → IsFilling k name len octets → octets_there k ≡ octets
+is_there k name len octets is = ap (λ o. elim o [ Some f ↦ f.octets | None ↦ [] ]) is
+
+octets_both : (xs ys : List ℕ) → AreOctets xs → AreOctets ys → AreOctets (xs ++ ys)
+octets_both [] ys front back i = back i
+octets_both (x ∷ xs) ys front back zero = front zero
+octets_both (x ∷ xs) ys front back (suc i) = octets_both xs ys (λ n. front (suc n)) back i
+
+pub no_octets : AreOctets []
+no_octets i = omega arith
+
+-- a piece came to the file that is begun
+abbrev pub ComesTo : (old new : WorldKept) (piece : List ℕ) → Type 0
+ComesTo old new piece = (name octets : List ℕ) (len : ℕ) → IsFilling old name len octets → IsFilling new name len (octets ++ piece)
+
+-- it is there then
+pub there_on : (old new : WorldKept) (name piece : List ℕ) (len : ℕ) → IsFilling old name len (octets_there old) → ComesTo old new piece
+    → octets_there new ≡ octets_there old ++ piece
+there_on old new name piece len filling comes = is_there new name len (octets_there old ++ piece) (comes name (octets_there old) len filling)
+
+pub begun_on : (old new : WorldKept) (name piece : List ℕ) (len : ℕ) → IsFilling old name len (octets_there old) → ComesTo old new piece → IsBegun new
+begun_on old new name piece len filling comes = subst IsSome (sym (comes name (octets_there old) len filling)) refl
+
+pub part_on : (old new : WorldKept) (name piece : List ℕ) (len done n : ℕ) → HasPart old name len done → ComesTo old new piece → length piece ≡ n
+    → AreOctets piece → HasPart new name len (done + n)
+part_on old new name piece len done n part comes long octets =
+    let there = there_on old new name piece len part.filling comes in
+    let count = part.count in
+    let sum : length (octets_there old ++ piece) ≡ length (octets_there old) + length piece = length-append (octets_there old) piece in
+    record {
+      filling = subst (IsFilling new name len) (sym there) (comes name (octets_there old) len part.filling);
+      count = omega (arith, count, sum, long) ∙ ap length (sym there);
+      are_octets = subst AreOctets (sym there) (octets_both (octets_there old) piece part.are_octets octets);
+    }
+
+-- and among those that are kept
+pub copied_on : (old new : WorldKept) (name piece : List ℕ) (len : ℕ) (before after : Option (List ℕ)) (keeps : Bool)
+    → IsFilling old name len (octets_there old) → ComesTo old new piece → after ≡ option_map (λ (octets : List ℕ). octets ++ piece) before
+    → before ≡ octets_at keeps (octets_there old) → after ≡ octets_at keeps (octets_there new)
+copied_on old new name piece len before after keeps filling comes joined is =
+    joined ∙ ap (option_map (λ (octets : List ℕ). octets ++ piece)) is ∙ one keeps (octets_there old)
+    ∙ ap (octets_at keeps) (sym (there_on old new name piece len filling comes))
+  where
+    one : (keeps : Bool) (octets : List ℕ) → option_map (λ (xs : List ℕ). xs ++ piece) (octets_at keeps octets) ≡ octets_at keeps (octets ++ piece)
+    one true octets = refl
+    one false octets = refl
+
+-- the job of the octets that are kept
+pub job_kept : (keeps : Bool) (name octets : List ℕ) (copy : Option (List ℕ)) (at_hand : Option Job)
+    → at_hand ≡ option_map (λ (bytes : List ℕ). job.File name bytes) copy → copy ≡ octets_at keeps octets → at_hand ≡ told_at keeps (job.File name octets)
+job_kept true name octets copy at_hand is kept = is ∙ ap (option_map (λ (bytes : List ℕ). job.File name bytes)) kept
+job_kept false name octets copy at_hand is kept = is ∙ ap (option_map (λ (bytes : List ℕ). job.File name bytes)) kept
+
 -- a file of which all was read
 front_whole : (files : Told) (name octets : List ℕ) (len : ℕ) → IsLength files name len → length octets ≡ len → IsFront files name octets
     → IsContent files name octets
@@ -167,13 +223,13 @@ refused_event old new by name copy len now failed same some refused =
     (refused by (replicate len 0) now (length-replicate len 0) some)
 
 -- A file that was begun and accepted, from the world as it was before it was begun.
-pub taken_event : (old begun new : WorldKept) (files : Told) (by : Origin) (name copy : List ℕ) (len now : ℕ) (gave : FileGave) → copy ≡ name
+pub taken_event : (old begun new : WorldKept) (files : Told) (by : Origin) (name copy : List ℕ) (len now : ℕ) (keeps : Bool) (gave : FileGave) → copy ≡ name
     → begun.p ≡ old.p → new.p ≡ begun.p → ((w : World) → StandsFor old w → HasBegun begun w copy len [])
-    → AcceptsFile begun new files by name len now gave → IsFileGave old new files by name len now gave
-taken_event old begun new files by name copy len now (Refused back failed) same p q start a = absurd a
-taken_event old begun new files by name copy len now (Accepted told receipt) same p q start a = record {
+    → AcceptsFile begun new files by name len now keeps gave → IsFileGave old new files by name len now keeps gave
+taken_event old begun new files by name copy len now keeps (Refused back failed) same p q start a = absurd a
+taken_event old begun new files by name copy len now keeps (Accepted at_hand receipt) same p q start a = record {
   octets = a.octets;
-  told_is = a.told_is;
+  at_hand_is = a.at_hand_is;
   are_octets = a.are_octets;
   content = a.content;
   event = is_event old new (Commanded by (job.File name a.octets) now) (λ answer. answer ≡ Gave (Ok receipt)) (q ∙ p)
@@ -183,19 +239,19 @@ taken_event old begun new files by name copy len now (Accepted told receipt) sam
       (a.stands w (subst (λ n. HasBegun begun w n len []) same (start w st))));
 }
 
-pub taken_ok : (old begun new : WorldKept) (files : Told) (by : Origin) (name copy : List ℕ) (len now : ℕ) (r : Result FileGave SessionFault) → copy ≡ name
+pub taken_ok : (old begun new : WorldKept) (files : Told) (by : Origin) (name copy : List ℕ) (len now : ℕ) (keeps : Bool) (r : Result FileGave SessionFault) → copy ≡ name
     → begun.p ≡ old.p → ((w : World) → StandsFor old w → HasBegun begun w copy len []) → IfOk r (λ _. new.p ≡ begun.p)
-    → IfOk r (λ gave. AcceptsFile begun new files by name len now gave) → IfOk r (λ gave. IsFileGave old new files by name len now gave)
-taken_ok old begun new files by name copy len now (Ok gave) same p start q a = taken_event old begun new files by name copy len now gave same p q start a
-taken_ok old begun new files by name copy len now (Err e) same p start q a = tt
+    → IfOk r (λ gave. AcceptsFile begun new files by name len now keeps gave) → IfOk r (λ gave. IsFileGave old new files by name len now keeps gave)
+taken_ok old begun new files by name copy len now keeps (Ok gave) same p start q a = taken_event old begun new files by name copy len now keeps gave same p q start a
+taken_ok old begun new files by name copy len now keeps (Err e) same p start q a = tt
 
-pub refused_gave : (old new : WorldKept) (files : Told) (by : Origin) (name copy : List ℕ) (len now : ℕ) (refusal : Option (List ℕ) × SendFault)
+pub refused_gave : (old new : WorldKept) (files : Told) (by : Origin) (name copy : List ℕ) (len now : ℕ) (keeps : Bool) (refusal : Option (List ℕ) × SendFault)
     → copy ≡ name → IsRefused old new copy len refusal.1 → GivesBack copy refusal
-    → IfOk (refusal_of refusal.0 refusal.1) (λ gave. IsFileGave old new files by name len now gave)
-refused_gave old new files by name copy len now refusal same refused (inl none) =
-    subst (λ (o : Option (List ℕ)). IfOk (refusal_of o refusal.1) (λ gave. IsFileGave old new files by name len now gave)) (sym none.1) tt
-refused_gave old new files by name copy len now refusal same refused (inr some) =
-    subst (λ (o : Option (List ℕ)). IfOk (refusal_of o refusal.1) (λ gave. IsFileGave old new files by name len now gave)) (sym some.1)
+    → IfOk (refusal_of refusal.0 refusal.1) (λ gave. IsFileGave old new files by name len now keeps gave)
+refused_gave old new files by name copy len now keeps refusal same refused (inl none) =
+    subst (λ (o : Option (List ℕ)). IfOk (refusal_of o refusal.1) (λ gave. IsFileGave old new files by name len now keeps gave)) (sym none.1) tt
+refused_gave old new files by name copy len now keeps refusal same refused (inr some) =
+    subst (λ (o : Option (List ℕ)). IfOk (refusal_of o refusal.1) (λ gave. IsFileGave old new files by name len now keeps gave)) (sym some.1)
     (same, refused_event old new by name copy len now refusal.1 same some.0 refused)
 
 pub refused_stops : (files : Told) (name : List ℕ) (back : Option (List ℕ)) (failed : SendFault) → IfErr (refusal_of back failed) (λ stop. IsOfFile files name stop)
@@ -216,33 +272,33 @@ told_there : (first : Bool) (line : Line) (name : List ℕ) → line.verb ≡ ve
 told_there true line name is = refl
 told_there false line name is = ap (λ v. elim (job_of v) [ Some j ↦ None | None ↦ Some line ]) is
 
-pub gives_file : (x : Context) (k : RunKept) (world : WorldKept) (place : ℕ) (line : Line) (first : Bool) (name : List ℕ) (told : Job) (receipt : Receipt)
-    (instance : ℕ) (network : Network) (written : Pieces) → line.verb ≡ verb.File name → world.p ≡ k.world.p
-    → IsTaken k.world world x.files (origin_of line) name k.now told receipt
+pub gives_file : (x : Context) (k : RunKept) (world : WorldKept) (place : ℕ) (line : Line) (first : Bool) (name octets : List ℕ) (receipt : Receipt)
+    (instance : ℕ) (network : Network) (written : Pieces) → line.verb ≡ verb.File name → world.p ≡ k.world.p → AreOctets octets → IsContent x.files name octets
+    → IsEvent k.world world (Commanded (origin_of line) (job.File name octets) k.now) (λ answer. answer ≡ Gave (Ok receipt))
     → ((w : World) → StandsFor k.world w → instance ≡ w.sender.current.id) → IsDue x k place line first network written
-    → IsAnswered x (moved_to k world) place line (event.Job (origin_of line) (Some told) (Ok receipt)) (Ok receipt)
+    → IsAnswered x (moved_to k world) place line (event.Job (origin_of line) (Some (job.File name octets)) (Ok receipt)) (Ok receipt)
     (gave_line (origin_of line) instance line.verb (Ok receipt)) network written
-gives_file x k world place line first name told receipt instance network written is same taken in_instance due =
+gives_file x k world place line first name octets receipt instance network written is same are content moves in_instance due =
     let here = due.here in
     let s = here.so_far in
     let w = here.world in
     let by = origin_of line in
-    let its = job.File name taken.octets in
+    let its = job.File name octets in
     let j = judged_of x k w (offering first line) in
-    let e : Event = event.Job by (Some told) (Ok receipt) in
+    let e : Event = event.Job by (Some its) (Ok receipt) in
     let step = world_step k.p w (Commanded by its k.now) in
     let stepped : StandsFor world step.0 × (step.1 ≡ Gave (Ok receipt)) =
     subst (λ (q : Settings). StandsFor world (world_step q w (Commanded by its k.now)).0 × ((world_step q w (Commanded by its k.now)).1 ≡ Gave (Ok receipt)))
-    s.all.world (taken.event.steps w s.stands) in
+    s.all.world (moves.steps w s.stands) in
     let next = given x k w step.0 first line (Ok receipt) in
-    let follows : CommandOffered j by (Some told) (Ok receipt) next = record {
+    let follows : CommandOffered j by (Some its) (Ok receipt) next = record {
       line = line;
       job = its;
       named = refl;
       due = inl (record {
         place = told_there first line name is;
-        told_is = ap Some taken.told_is;
-        its_job = subst (λ v. IsJobOf x.files v its) (sym is) (refl, taken.content);
+        told_is = refl;
+        its_job = subst (λ v. IsJobOf x.files v its) (sym is) (refl, content);
         read = refl;
       });
       gives = stepped.1;
@@ -255,10 +311,12 @@ gives_file x k world place line first name told receipt instance network written
       all = has_all x k world same s.all;
       stands = stepped.0;
       line_is = due.line_is;
+      journal = s.journal;
+      kept = s.kept;
       leads = s.leads;
       accepted = (judges_what_follows j next e).1 (here.quiet, follows);
-      octets = subst (λ t. HasOctets (event.Job by (Some t) (Ok receipt))) (sym taken.told_is) taken.are_octets;
-      text_is = gave_text x k w first line by (Some told) (Ok receipt) instance (sym (in_instance w s.stands));
+      octets = are;
+      text_is = gave_text x k w first line by (Some its) (Ok receipt) instance (sym (in_instance w s.stands));
     }
 
 pub refuses_file : (x : Context) (k : RunKept) (world : WorldKept) (place : ℕ) (line : Line) (first : Bool) (name back : List ℕ) (len : ℕ) (failed : SendFault)
@@ -298,6 +356,8 @@ refuses_file x k world place line first name back len failed network written is 
       all = has_all x k world same s.all;
       stands = stepped.0;
       line_is = due.line_is;
+      journal = s.journal;
+      kept = s.kept;
       leads = s.leads;
       accepted = (judges_what_follows j next e).1 (here.quiet, follows);
       octets = tt;
@@ -327,7 +387,7 @@ file_stops x k fault.Files place line first name network written is of due =
     let s = due.here.so_far.leads in
     let j = judged_of x k due.here.world (offering first line) in
     record {
-      journal = k.journal;
+      journal = due.here.so_far.journal;
       last = j;
       begun = s.judged;
       told = s.told;
@@ -348,7 +408,7 @@ file_stops x k (fault.Absent other) place line first name network written is of 
     let s = due.here.so_far.leads in
     let j = judged_of x k due.here.world (offering first line) in
     record {
-      journal = k.journal;
+      journal = due.here.so_far.journal;
       last = j;
       begun = s.judged;
       told = s.told;
@@ -363,28 +423,42 @@ file_stops x k fault.Fabric place line first name network written is of due = ab
 
 -- by what the run is seen as, by the name as a string, and by the files as they are told
 
-pub gives_file_at : (x : Context) (k v : RunKept) (world : WorldKept) (place : ℕ) (line : Line) (first : Bool) (name named : List ℕ) (len : ℕ) (told : Job)
-    (receipt : Receipt) (gave : FileGave) (files : Told) (by : Origin) (instance : ℕ) (network : Network) (written : Pieces) → k ≡ v → line.verb ≡ verb.File name
-    → named ≡ name → by ≡ origin_of line → x.files ≡ files → world.p ≡ k.world.p → gave ≡ Accepted told receipt
-    → IsFileGave k.world world files by named len k.now gave → ((w : World) → StandsFor k.world w → instance ≡ w.sender.current.id)
+-- what was read of the file that was accepted
+pub accepted_as : (old new : WorldKept) (files : Told) (by : Origin) (named : List ℕ) (len now : ℕ) (keeps : Bool) (at_hand : Option Job)
+    (receipt : Receipt) (gave : FileGave) → gave ≡ Accepted at_hand receipt → IsFileGave old new files by named len now keeps gave
+    → IsTaken old new files by named now keeps at_hand receipt
+accepted_as old new files by named len now keeps at_hand receipt gave accepted was =
+    subst (λ g. IsFileGave old new files by named len now keeps g) accepted was
+
+-- its job is at hand, where a journal is kept
+pub file_at_hand : (kept : Option (List Event)) (keeps : Bool) (name named octets : List ℕ) (at_hand : Option Job) → named ≡ name → keeps ≡ is_some kept
+    → at_hand ≡ told_at keeps (job.File named octets) → IsAtHand kept at_hand (Some (job.File name octets))
+file_at_hand None keeps name named octets at_hand one by is = tt
+file_at_hand (Some journal) keeps name named octets at_hand one by is =
+    is ∙ ap (λ b. told_at b (job.File named octets)) by ∙ ap (λ n. Some (job.File n octets)) one
+
+pub gives_file_at : (x : Context) (k v : RunKept) (world : WorldKept) (place : ℕ) (line : Line) (first : Bool) (name named : List ℕ) (keeps : Bool)
+    (at_hand : Option Job) (receipt : Receipt) (files : Told) (by : Origin) (instance : ℕ) (network : Network) (written : Pieces)
+    → k ≡ v → (t : IsTaken k.world world files by named k.now keeps at_hand receipt) → line.verb ≡ verb.File name → named ≡ name → by ≡ origin_of line
+    → x.files ≡ files → world.p ≡ k.world.p → ((w : World) → StandsFor k.world w → instance ≡ w.sender.current.id)
     → IsDue x v place line first network written
-    → IsAnswered x (moved_to k world) place line (event.Job (origin_of line) (Some told) (Ok receipt)) (Ok receipt)
+    → IsAnswered x (moved_to k world) place line (event.Job (origin_of line) (Some (job.File name t.octets)) (Ok receipt)) (Ok receipt)
     (gave_line (origin_of line) instance line.verb (Ok receipt)) network written
-gives_file_at x k v world place line first name named len told receipt gave files by instance network written seen is one own same moved accepted taken in_instance due =
-    let t : IsTaken k.world world files by named k.now told receipt = subst (λ g. IsFileGave k.world world files by named len k.now g) accepted taken in
-    gives_file x k world place line first name told receipt instance network written is moved
-    (subst (λ fs. IsTaken k.world world fs (origin_of line) name k.now told receipt) (sym same)
-    (subst (λ o. IsTaken k.world world files o name k.now told receipt) own (subst (λ n. IsTaken k.world world files by n k.now told receipt) one t)))
+gives_file_at x k v world place line first name named keeps at_hand receipt files by instance network written seen t is one own same moved in_instance due =
+    gives_file x k world place line first name t.octets receipt instance network written is moved t.are_octets
+    (subst (λ fs. IsContent fs name t.octets) (sym same) (subst (λ n. IsContent files n t.octets) one t.content))
+    (subst (λ o. IsEvent k.world world (Commanded o (job.File name t.octets) k.now) (λ answer. answer ≡ Gave (Ok receipt))) own
+    (subst (λ n. IsEvent k.world world (Commanded by (job.File n t.octets) k.now) (λ answer. answer ≡ Gave (Ok receipt))) one t.event))
     in_instance (subst (λ (u : RunKept). IsDue x u place line first network written) (sym seen) due)
 
 pub refuses_file_at : (x : Context) (k v : RunKept) (world : WorldKept) (place : ℕ) (line : Line) (first : Bool) (name named back : List ℕ) (len : ℕ)
-    (failed : SendFault) (gave : FileGave) (files : Told) (by : Origin) (network : Network) (written : Pieces) → k ≡ v → line.verb ≡ verb.File name
+    (failed : SendFault) (keeps : Bool) (gave : FileGave) (files : Told) (by : Origin) (network : Network) (written : Pieces) → k ≡ v → line.verb ≡ verb.File name
     → named ≡ name → by ≡ origin_of line → x.files ≡ files → world.p ≡ k.world.p → gave ≡ Refused back failed → IsLength files named len
-    → IsFileGave k.world world files by named len k.now gave → IsDue x v place line first network written
+    → IsFileGave k.world world files by named len k.now keeps gave → IsDue x v place line first network written
     → IsAnswered x (moved_to k world) place line (event.Length by back len failed) (Err failed) (option_map (no_line by) (reason_of failed)) network written
-refuses_file_at x k v world place line first name named back len failed gave files by network written seen is one own same moved refused long was due =
+refuses_file_at x k v world place line first name named back len failed keeps gave files by network written seen is one own same moved refused long was due =
     let t : (back ≡ named) × IsEvent k.world world (Commanded by (file_of_length named len) k.now) (λ answer. answer ≡ Gave (Err failed)) =
-    subst (λ g. IsFileGave k.world world files by named len k.now g) refused was in
+    subst (λ g. IsFileGave k.world world files by named len k.now keeps g) refused was in
     subst (λ o. IsAnswered x (moved_to k world) place line (event.Length o back len failed) (Err failed) (option_map (no_line o) (reason_of failed)) network written)
     (sym own)
     (refuses_file x k world place line first name back len failed network written is (t.0 ∙ one) moved

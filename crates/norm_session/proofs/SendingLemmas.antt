@@ -37,6 +37,7 @@ use Rattle.norm_world.proofs.WorldLemmas.{an_offer}
 use Rattle.norm_world.specs.WorldKept.{WorldKept, StandsFor}
 use Rattle.norm_world.specs.WorldMoves.{IsEvent, IsSent}
 use Rattle.norm_session.specs.Context.{Context, opening, judged_of}
+use Rattle.norm_session.specs.Noting.{noted}
 use Rattle.norm_session.specs.RunKept.{RunKept}
 use Rattle.norm_session.specs.SoFar.{SoFar, IsTelling, At, after_sent}
 use Rattle.norm_session.specs.Causes.{session_fault}
@@ -68,8 +69,8 @@ sender_is_none p = go (nat_lt p.sender p.sender) refl
 run_nodes : (x : Context) (k : RunKept) (w : World) (place : Place) (network : Network) (written : Pieces) → SoFar x k w place network written
     → nodes_of w ≡ receivers_of x.script.profile x.script.profile.receivers
 run_nodes x k w place network written s =
-    let events = world_events (opening x) k.journal in
-    ap nodes_of (sym (moves_world (opening x) (judged_of x k w place) k.journal s.leads.judged)) ∙ world_laws.nodes x.script.profile events
+    let events = world_events (opening x) s.journal in
+    ap nodes_of (sym (moves_world (opening x) (judged_of x k w place) s.journal s.leads.judged)) ∙ world_laws.nodes x.script.profile events
 
 all_taken : (found : Option ReceiverState) → found ≡ None → AllTaken found
 all_taken None e = tt
@@ -102,11 +103,11 @@ given node sent.Datagram out (Some w) next e = record { said_is = refl; after = 
     same a b e = cc
 
 -- the run after an event of the nodes
-abbrev pub moved : RunKept → WorldKept → List Event → RunKept
+abbrev pub moved : RunKept → WorldKept → Option (List Event) → RunKept
 moved k world journal = record k { world = world; journal = journal }
 
-tick_accepted : (x : Context) (k : RunKept) (world : WorldKept) (journal : List Event) (said : Sent) (out : List ℕ) (network : Network) (written : Pieces)
-    → journal ≡ k.journal ++ event.Tick k.p.sender said ∷ [] → world.p ≡ k.world.p
+tick_accepted : (x : Context) (k : RunKept) (world : WorldKept) (journal : Option (List Event)) (said : Sent) (out : List ℕ) (network : Network) (written : Pieces)
+    → journal ≡ noted k.journal (event.Tick k.p.sender said) → world.p ≡ k.world.p
     → IsEvent k.world world (Ticked k.world.p.sender k.now) (IsSent said out) → At x k Sending network written
     → IsTelling x (moved k world journal) (after_sent k.p.sender said out (Taking 0)) network written
 tick_accepted x k world journal said out network written joined same ticks here =
@@ -146,13 +147,13 @@ tick_accepted x k world journal said out network written joined same ticks here 
     }
 
 -- by what the run is seen as, and by the node that ticked
-pub sender_ticks : (x : Context) (k v : RunKept) (world : WorldKept) (journal : List Event) (node : ℕ) (said : Sent) (out : List ℕ) (network : Network) (written : Pieces)
-    → k ≡ v → node ≡ k.p.sender → journal ≡ k.journal ++ event.Tick node said ∷ [] → world.p ≡ k.world.p
+pub sender_ticks : (x : Context) (k v : RunKept) (world : WorldKept) (journal : Option (List Event)) (node : ℕ) (said : Sent) (out : List ℕ) (network : Network) (written : Pieces)
+    → k ≡ v → node ≡ k.p.sender → journal ≡ noted k.journal (event.Tick node said) → world.p ≡ k.world.p
     → IsEvent k.world world (Ticked k.world.p.sender k.now) (IsSent said out) → At x v Sending network written
     → IsTelling x (moved k world journal) (after_sent v.p.sender said out (Taking 0)) network written
 sender_ticks x k v world journal node said out network written is own joined same ticks here =
     subst (λ (u : RunKept). At x u Sending network written → IsTelling x (moved k world journal) (after_sent u.p.sender said out (Taking 0)) network written) is
-    (tick_accepted x k world journal said out network written (subst (λ n. journal ≡ k.journal ++ event.Tick n said ∷ []) own joined) same ticks) here
+    (tick_accepted x k world journal said out network written (subst (λ n. journal ≡ noted k.journal (event.Tick n said)) own joined) same ticks) here
 
 -- ---- an offer
 
@@ -160,8 +161,8 @@ sender_ticks x k v world journal node said out network written is own joined sam
 still_quiet : (v w : World) → v.sender ≡ w.sender → (told w.sender).1 ≡ None → (told v.sender).1 ≡ None
 still_quiet v w same quiet = ap (λ (s : SenderState). (told s).1) same ∙ quiet
 
-pub offers : (x : Context) (k : RunKept) (journal : List Event) (node : ℕ) (octets : List ℕ) (after : Place) (network : Network) (written : Pieces)
-    → journal ≡ k.journal ++ event.Offer node octets ∷ [] → At x k (Offering node octets after) network written
+pub offers : (x : Context) (k : RunKept) (journal : Option (List Event)) (node : ℕ) (octets : List ℕ) (after : Place) (network : Network) (written : Pieces)
+    → journal ≡ noted k.journal (event.Offer node octets) → At x k (Offering node octets after) network written
     → At x (moved k k.world journal) after (with_offer network node octets) written
 offers x k journal node octets after network written joined here =
     let s = here.so_far in
@@ -195,7 +196,7 @@ offer_failed x k node octets after network written here =
     let s = here.so_far in
     let j = judged_of x k here.world (Offering node octets after) in
     record {
-      journal = k.journal;
+      journal = s.journal;
       last = j;
       begun = s.leads.judged;
       told = s.leads.told;
@@ -218,19 +219,19 @@ pub offer_stops : (x : Context) (k : RunKept) (failed : FabricFault) (node : ℕ
     → At x k (Offering node octets after) network written → Stopped x (session_fault failed) network written
 offer_stops x k network_fault.Failed node octets after network written here = offer_failed x k node octets after network written here
 offer_stops x k network_fault.Memory node octets after network written here =
-    stops_for_memory x k.journal (judged_of x k here.world (Offering node octets after)) network written here.so_far.leads
+    stops_for_memory x here.so_far.journal (judged_of x k here.world (Offering node octets after)) network written here.so_far.leads
 
 -- the offer was made, and there was no memory to note it
 pub offer_unnoted : (x : Context) (k : RunKept) (node : ℕ) (octets : List ℕ) (after : Place) (network : Network) (written : Pieces)
     → At x k (Offering node octets after) network written → Stopped x fault.Memory (with_offer network node octets) written
 offer_unnoted x k node octets after network written here =
-    let journal = k.journal ++ event.Offer node octets ∷ [] in
+    let journal = noted k.journal (event.Offer node octets) in
     let there = offers x k journal node octets after network written refl here in
-    stops_for_memory x journal (judged_of x (moved k k.world journal) there.world after) (with_offer network node octets) written there.so_far.leads
+    stops_for_memory x there.so_far.journal (judged_of x (moved k k.world journal) there.world after) (with_offer network node octets) written there.so_far.leads
 
 -- by what the run is seen as, and by what the network tells
-pub offers_on : (x : Context) (k v : RunKept) (journal : List Event) (node : ℕ) (octets : List ℕ) (after : Place) (network now : Network) (written : Pieces)
-    → k ≡ v → journal ≡ k.journal ++ event.Offer node octets ∷ [] → now ≡ with_offer network node octets
+pub offers_on : (x : Context) (k v : RunKept) (journal : Option (List Event)) (node : ℕ) (octets : List ℕ) (after : Place) (network now : Network) (written : Pieces)
+    → k ≡ v → journal ≡ noted k.journal (event.Offer node octets) → now ≡ with_offer network node octets
     → At x v (Offering node octets after) network written → At x (moved k k.world journal) after now written
 offers_on x k v journal node octets after network now written is joined told here =
     subst (λ (n : Network). At x (moved k k.world journal) after n written) (sym told)

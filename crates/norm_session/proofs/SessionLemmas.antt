@@ -1,5 +1,5 @@
 -- A whole session.
-use Rattle.std.proofs.Common.{◌≡◌, ℕ, List, Bool, true, false, Some, refl, sym, subst, inl, inr}
+use Rattle.std.proofs.Common.{◌≡◌, ◌∙◌, ℕ, List, Bool, true, false, Some, refl, sym, ap, subst, inl, inr}
 use Rattle.std.specs.Prelude.{◌⊎◌}
 use Rattle.norm_base.specs.Network.{Network, Starts}
 use Rattle.norm_base.specs.Told.{Pieces}
@@ -13,10 +13,11 @@ use Rattle.norm_journal.specs.SessionRun.{Whole, Spent, ending_of}
 use Rattle.norm_session.specs.Context.{Context, with_moments, with_posted, judged_of}
 use Rattle.norm_session.specs.Finishing.{HasEnded, Finishes}
 use Rattle.norm_session.specs.Moments.{HaveMoments}
+use Rattle.norm_session.specs.Noting.{kept_of}
 use Rattle.norm_session.specs.RunKept.{RunKept}
 use Rattle.norm_session.specs.SoFar.{Leads, At}
 use Rattle.norm_session.specs.Starting.{IsBegun, local_of}
-use Rattle.norm_session.specs.Session.{IsRunnable, OverHonest, IsSafe, RunsSession, RunsSender, RunsScript, StopsSession, StopsSender, StopsScript, context_of, end_of}
+use Rattle.norm_session.specs.Session.{IsRunnable, OverHonest, IsSafe, RunsSession, RunsSender, RunsKept, StopsSession, StopsSender, StopsScript, context_of, end_of}
 use Rattle.norm_session.specs.Turning.{Span, span, StopsTurns}
 use Rattle.norm_session.specs.declared.fault.SessionFault.{SessionFault}
 use Rattle.norm_session.specs.declared.fault.SessionFault.TheVariants as fault
@@ -49,6 +50,11 @@ pub stops_safely : (script : Commands) (files : Told) (before started : Network)
 stops_safely script files before started unwritten unposted posted is starts ms failed network written s =
     safe_stopped (with_moments (with_posted (context_of false script files started unwritten unposted) posted) ms) failed network written s refl is starts.offered
 
+-- what was kept of its journal, where the sender was alone and where not
+kept_by : (x : Context) (k : RunKept) (alone : Bool) (network : Network) (written : Pieces) (here : At x k Over network written) → x.alone ≡ alone
+    → k.journal ≡ kept_of alone here.so_far.journal
+kept_by x k alone network written here is = here.so_far.kept ∙ ap (λ b. kept_of b here.so_far.journal) (here.so_far.all.alone ∙ is)
+
 how_it_ended : (x : Context) (k : RunKept) (whole : Bool) (network : Network) (written : Pieces) (e : HasEnded x k whole network written)
     → ending_of (judged_of x k e.here.world Over) ≡ Some (end_of whole)
 how_it_ended x k whole network written e = go whole (is_whole (judged_of x k e.here.world Over)) e.whole_is
@@ -63,49 +69,58 @@ how_it_ended x k whole network written e = go whole (is_whole (judged_of x k e.h
 session_runs : (script : Commands) (files : Told) (started : Network) (begun k : RunKept) (whole : Bool) (o : Span)
     → Starts o.before started script.profile All → Begins false script begun started
     → Finishes script files begun k whole (span started o.after o.unwritten o.written o.unasked o.asked o.unposted o.posted)
-    → IsRunnable script → RunsSession script files k.journal whole o
+    → IsRunnable script → RunsKept false script files k.journal whole o
 session_runs script files started begun k whole o starts begins finishes is =
     let x = context_of false script files started o.unwritten o.unposted in
-    let f = finishes.1 x (record { script = refl; files = refl }) refl (begins x (record { script = refl; nodes = refl; network = refl; moments = refl; board = refl })) in
+    let f = finishes.1 x (record { script = refl; files = refl }) refl (begins x (record { script = refl; is_alone = refl; nodes = refl; network = refl; moments = refl; board = refl })) in
     let y = with_moments (with_posted x o.posted) finishes.0 in
     let e = f.1 in
+    let journal = e.here.so_far.journal in
     let l = e.here.so_far.leads in
     record {
-      started = started;
-      starts = starts;
-      run = record { last = judged_of y k e.here.world Over; begun = l.judged; ended = how_it_ended y k whole o.after o.written e };
-      told = l.told;
-      lines = l.lines;
-      board = l.board;
-      moments = subst (λ ms. HaveMoments script.profile.step 0 o.unasked o.asked ms) (sym l.moments) f.0;
-      safe = leads_safely script files o.before started o.unwritten o.unposted o.posted is starts finishes.0 k.journal (judged_of y k e.here.world Over) o.after o.written l;
+      journal = journal;
+      kept_is = kept_by y k false o.after o.written e.here refl;
+      run = record {
+        started = started;
+        starts = starts;
+        run = record { last = judged_of y k e.here.world Over; begun = l.judged; ended = how_it_ended y k whole o.after o.written e };
+        told = l.told;
+        lines = l.lines;
+        board = l.board;
+        moments = subst (λ ms. HaveMoments script.profile.step 0 o.unasked o.asked ms) (sym l.moments) f.0;
+        safe = leads_safely script files o.before started o.unwritten o.unposted o.posted is starts finishes.0 journal (judged_of y k e.here.world Over) o.after o.written l;
+      };
     }
 
 -- the same of a sender alone
 sender_runs : (script : Commands) (files : Told) (started : Network) (begun k : RunKept) (whole : Bool) (o : Span)
     → Starts o.before started script.profile (One script.profile.sender) → Begins true script begun started
-    → Finishes script files begun k whole (span started o.after o.unwritten o.written o.unasked o.asked o.unposted o.posted) → RunsSender script files k.journal whole o
+    → Finishes script files begun k whole (span started o.after o.unwritten o.written o.unasked o.asked o.unposted o.posted) → RunsKept true script files k.journal whole o
 sender_runs script files started begun k whole o starts begins finishes =
     let x = context_of true script files started o.unwritten o.unposted in
-    let f = finishes.1 x (record { script = refl; files = refl }) refl (begins x (record { script = refl; nodes = refl; network = refl; moments = refl; board = refl })) in
+    let f = finishes.1 x (record { script = refl; files = refl }) refl (begins x (record { script = refl; is_alone = refl; nodes = refl; network = refl; moments = refl; board = refl })) in
     let y = with_moments (with_posted x o.posted) finishes.0 in
     let e = f.1 in
     let l = e.here.so_far.leads in
     record {
-      started = started;
-      starts = starts;
-      run = record { last = judged_of y k e.here.world Over; begun = l.judged; ended = how_it_ended y k whole o.after o.written e };
-      told = l.told;
-      lines = l.lines;
-      board = l.board;
-      moments = subst (λ ms. HaveMoments script.profile.step 0 o.unasked o.asked ms) (sym l.moments) f.0;
+      journal = e.here.so_far.journal;
+      kept_is = kept_by y k true o.after o.written e.here refl;
+      run = record {
+        started = started;
+        starts = starts;
+        run = record { last = judged_of y k e.here.world Over; begun = l.judged; ended = how_it_ended y k whole o.after o.written e };
+        told = l.told;
+        lines = l.lines;
+        board = l.board;
+        moments = subst (λ ms. HaveMoments script.profile.step 0 o.unasked o.asked ms) (sym l.moments) f.0;
+      };
     }
 
 -- a run of a script that ran to its end
 pub script_runs : (alone : Bool) (script : Commands) (files : Told) (started : Network) (begun k : RunKept) (whole : Bool) (o : Span)
     → Starts o.before started script.profile (local_of alone script.profile) → Begins alone script begun started
     → Finishes script files begun k whole (span started o.after o.unwritten o.written o.unasked o.asked o.unposted o.posted) → IsRunnable script
-    → RunsScript alone script files k.journal whole o
+    → RunsKept alone script files k.journal whole o
 script_runs true script files started begun k whole o starts begins finishes is = sender_runs script files started begun k whole o starts begins finishes
 script_runs false script files started begun k whole o starts begins finishes is = session_runs script files started begun k whole o starts begins finishes is
 
@@ -116,7 +131,7 @@ session_stops : (script : Commands) (files : Told) (started : Network) (begun : 
     → IsRunnable script → StopsSession failed script files o
 session_stops script files started begun failed o starts begins stops is =
     let x = context_of false script files started o.unwritten o.unposted in
-    let f = stops.1 x (record { script = refl; files = refl }) refl (begins x (record { script = refl; nodes = refl; network = refl; moments = refl; board = refl })) in
+    let f = stops.1 x (record { script = refl; files = refl }) refl (begins x (record { script = refl; is_alone = refl; nodes = refl; network = refl; moments = refl; board = refl })) in
     inr (record {
       started = started;
       starts = starts;
@@ -132,7 +147,7 @@ sender_stops : (script : Commands) (files : Told) (started : Network) (begun : R
     → StopsTurns script files begun failed (span started o.after o.unwritten o.written o.unasked o.asked o.unposted o.posted) → StopsSender failed script files o
 sender_stops script files started begun failed o starts begins stops =
     let x = context_of true script files started o.unwritten o.unposted in
-    let f = stops.1 x (record { script = refl; files = refl }) refl (begins x (record { script = refl; nodes = refl; network = refl; moments = refl; board = refl })) in
+    let f = stops.1 x (record { script = refl; files = refl }) refl (begins x (record { script = refl; is_alone = refl; nodes = refl; network = refl; moments = refl; board = refl })) in
     inr (record { started = started; starts = starts; moments = stops.0; by_clock = f.0; stopped = f.1 })
 
 -- a run of a script that a fault broke off

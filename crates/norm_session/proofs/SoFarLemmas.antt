@@ -1,5 +1,5 @@
 -- A run with one event more, and what stops one.
-use Rattle.std.proofs.Common.{◌≡◌, ℕ, List, [], ◌∷◌, ◌++◌, Option, None, Some, refl, sym, ap, ◌∙◌, subst, append_assoc}
+use Rattle.std.proofs.Common.{◌≡◌, ℕ, List, [], ◌∷◌, ◌++◌, Bool, true, false, Option, None, Some, refl, sym, ap, ◌∙◌, subst, append_assoc}
 use Rattle.std.specs.Prelude.{IsTrue, option_and_then, map, Result, Ok, Err, OnOk, IfErr}
 use Rattle.std.specs.List.{AllByRecursion}
 use Rattle.std.specs.Option.{option_to_list}
@@ -19,6 +19,7 @@ use Rattle.norm_journal.proofs.FrontLemmas.{judged_from-append, fronts_printed}
 use Rattle.norm_safety.specs.World.{World}
 use Rattle.norm_world.specs.WorldKept.{StandsFor}
 use Rattle.norm_session.specs.Context.{Context, with_moments, with_posted, opening, judged_of}
+use Rattle.norm_session.specs.Noting.{kept_of, noted}
 use Rattle.norm_session.specs.Posting.{entry_of, entries_in, posting}
 use Rattle.norm_session.specs.RunKept.{RunKept, nodes_in}
 use Rattle.norm_session.specs.SoFar.{Leads, SoFar, IsOffered, AreOffered}
@@ -153,49 +154,58 @@ leads_on x journal e j next before now unwritten written s accepted net out offe
     subst (λ ms. Leads (record x { moments = ms }) (journal ++ e ∷ []) next now written) (ap (λ ms. x.moments ++ ms) no_turn ∙ append-nil x.moments)
     (leads_by x journal e j next before now unwritten written s accepted net out offered no_outcome octets)
 
--- A run moves by an event: it joins the journal, the judge accepts it with the new state, and the world stands for the nodes.
+-- what is kept of a journal with one event more
+pub kept_more : (alone : Bool) (kept : Option (List Event)) (journal : List Event) (e : Event) → kept ≡ kept_of alone journal
+    → noted kept e ≡ kept_of alone (journal ++ e ∷ [])
+kept_more true kept journal e is = ap (λ k. noted k e) is
+kept_more false kept journal e is = ap (λ k. noted k e) is
+
+-- A run moves by an event: it is noted, the judge accepts it with the new state, and the world stands for the nodes.
 pub record Moves (x : Context) (k new : RunKept) (e : Event) (w v : World) (place next : Place) : Type 0 where
   pub profile : new.p ≡ k.p
   pub alone : new.alone ≡ k.alone
   pub nodes : new.world.p ≡ k.world.p
-  pub journal : new.journal ≡ k.journal ++ e ∷ []
+  pub journal : new.journal ≡ noted k.journal e
   pub stands : StandsFor new.world v
   pub accepted : accepts (judged_of x k w place) e ≡ Some (judged_of x new v next)
 
 -- the run with that event, and with the board as it is then
 moved : (x : Context) (board : BoardState) (k new : RunKept) (e : Event) (w v : World) (place next : Place) (before now : Network)
-    (unwritten written : Pieces) → SoFar x k w place before unwritten → Moves x k new e w v place next
-    → Leads (with_posted x board) (k.journal ++ e ∷ []) (judged_of x new v next) now written → SoFar (with_posted x board) new v next now written
+    (unwritten written : Pieces) (s : SoFar x k w place before unwritten) → Moves x k new e w v place next
+    → Leads (with_posted x board) (s.journal ++ e ∷ []) (judged_of x new v next) now written → SoFar (with_posted x board) new v next now written
 moved x board k new e w v place next before now unwritten written s m leads = record {
   all = record {
     script = m.profile ∙ s.all.script;
     world = m.nodes ∙ s.all.world ∙ sym m.profile;
+    alone = m.alone ∙ s.all.alone;
     receivers = s.all.receivers ∙ ap (nodes_in k.alone) (sym m.profile) ∙ ap (λ b. nodes_in b new.p) (sym m.alone);
     objects = s.all.objects;
   };
   stands = m.stands;
-  leads = subst (λ js. Leads (with_posted x board) js (judged_of x new v next) now written) (sym m.journal) leads;
+  journal = s.journal ++ e ∷ [];
+  kept = m.journal ∙ kept_more k.alone k.journal s.journal e s.kept ∙ ap (λ b. kept_of b (s.journal ++ e ∷ [])) (sym m.alone);
+  leads = leads;
 }
 
 pub more : (x : Context) (k new : RunKept) (e : Event) (w v : World) (place next : Place) (before now : Network) (unwritten written : Pieces)
-    → SoFar x k w place before unwritten → Moves x k new e w v place next → now ≡ network_after before (e ∷ [])
+    (s : SoFar x k w place before unwritten) → Moves x k new e w v place next → now ≡ network_after before (e ∷ [])
     → written ≡ gained unwritten (option_to_list (line_of (judged_of x k w place) e))
-    → (IsTrue x.network.honest → x.network.offered ≡ Some [] → IsOffered k.journal e) → moments_in (e ∷ []) ≡ [] → entries_in (e ∷ []) ≡ []
+    → (IsTrue x.network.honest → x.network.offered ≡ Some [] → IsOffered s.journal e) → moments_in (e ∷ []) ≡ [] → entries_in (e ∷ []) ≡ []
     → HasOctets e → SoFar x new v next now written
 more x k new e w v place next before now unwritten written s m net out offered no_turn no_outcome octets =
     moved x x.posted k new e w v place next before now unwritten written s m
-    (leads_on x k.journal e (judged_of x k w place) (judged_of x new v next) before now unwritten written s.leads m.accepted net out offered no_turn
+    (leads_on x s.journal e (judged_of x k w place) (judged_of x new v next) before now unwritten written s.leads m.accepted net out offered no_turn
     no_outcome octets)
 
 -- the same of an event that may tell an outcome
 pub more_told : (x : Context) (k new : RunKept) (e : Event) (w v : World) (place next : Place) (before now : Network) (unwritten written : Pieces)
-    → SoFar x k w place before unwritten → Moves x k new e w v place next → now ≡ network_after before (e ∷ [])
+    (s : SoFar x k w place before unwritten) → Moves x k new e w v place next → now ≡ network_after before (e ∷ [])
     → written ≡ gained unwritten (option_to_list (line_of (judged_of x k w place) e))
-    → (IsTrue x.network.honest → x.network.offered ≡ Some [] → IsOffered k.journal e) → moments_in (e ∷ []) ≡ [] → HasOctets e
+    → (IsTrue x.network.honest → x.network.offered ≡ Some [] → IsOffered s.journal e) → moments_in (e ∷ []) ≡ [] → HasOctets e
     → SoFar (with_posted x (posted_by x e)) new v next now written
 more_told x k new e w v place next before now unwritten written s m net out offered no_turn octets =
     moved x (posted_by x e) k new e w v place next before now unwritten written s m
-    (leads_told x k.journal e (judged_of x k w place) (judged_of x new v next) before now unwritten written s.leads m.accepted net out offered no_turn
+    (leads_told x s.journal e (judged_of x k w place) (judged_of x new v next) before now unwritten written s.leads m.accepted net out offered no_turn
     octets)
 
 -- ---- where a run stops

@@ -1,5 +1,5 @@
 -- The beginning of a run.
-use Rattle.std.proofs.Common.{◌≡◌, ℕ, List, [], ◌∷◌, Bool, None, refl, sym, ap, ◌∙◌, subst, inl, inr}
+use Rattle.std.proofs.Common.{◌≡◌, ℕ, List, [], ◌∷◌, Bool, Option, None, refl, sym, ap, ◌∙◌, subst, inl, inr}
 use Rattle.std.specs.Prelude.{◌⊎◌}
 use Rattle.std.specs.List.{AllByRecursion}
 use Rattle.rand_pcg.specs.Lcg.{Lcg}
@@ -27,6 +27,7 @@ use Rattle.norm_world.specs.WorldKept.{WorldKept, StandsFor}
 use Rattle.norm_session.specs.Causes.{session_fault}
 use Rattle.norm_session.specs.Context.{Context, opening, judged_of}
 use Rattle.norm_session.specs.Left.{lines_at}
+use Rattle.norm_session.specs.Noting.{kept_of}
 use Rattle.norm_session.specs.RunKept.{RunKept, nodes_in}
 use Rattle.norm_session.specs.SoFar.{AreOffered, Leads, At}
 use Rattle.norm_session.specs.Starting.{IsBegun}
@@ -50,7 +51,7 @@ unbegun x script alone network b = record {
 }
 
 -- a run as it begins
-abbrev pub begun_with : Bool → Settings → WorldKept → List Event → Totals → Lcg → List ℕ → RunKept
+abbrev pub begun_with : Bool → Settings → WorldKept → Option (List Event) → Totals → Lcg → List ℕ → RunKept
 begun_with alone p world journal totals draws left = record {
   p = p;
   alone = alone;
@@ -66,9 +67,9 @@ begun_with alone p world journal totals draws left = record {
 
 begins : (x : Context) (script : Commands) (alone : Bool) (network : Network) (world : WorldKept) (left : List ℕ) → lines_at x.script.lines left ≡ x.script.lines → IsBegun x script alone network → AllByRecursion IsOfObjects x.script.lines
     → world.p ≡ x.script.profile → StandsFor world (world_opening x.script.profile)
-    → At x (begun_with alone x.script.profile world (event.Start ∷ []) nothing_counted (first_draws x.script.profile) left) Between network x.written
+    → At x (begun_with alone x.script.profile world (kept_of alone (event.Start ∷ [])) nothing_counted (first_draws x.script.profile) left) Between network x.written
 begins x script alone network world left all b objects same stands =
-    let k = begun_with alone x.script.profile world (event.Start ∷ []) nothing_counted (first_draws x.script.profile) left in
+    let k = begun_with alone x.script.profile world (kept_of alone (event.Start ∷ [])) nothing_counted (first_draws x.script.profile) left in
     let w = world_opening x.script.profile in
     let follows : NetworkStarts (opening x) (judged_of x k w Between) = record { place = refl; then = ap (λ (ls : List Line). record (judged_of x k w Between) { left = ls }) all } in
     record {
@@ -77,10 +78,13 @@ begins x script alone network world left all b objects same stands =
         all = record {
           script = refl;
           world = same;
+          alone = sym b.is_alone;
           receivers = subst (λ (s : Commands). x.nodes ≡ nodes_in alone s.profile) (sym b.script) b.nodes;
           objects = objects;
         };
         stands = stands;
+        journal = event.Start ∷ [];
+        kept = refl;
         leads = leads_on x [] event.Start (opening x) (judged_of x k w Between) network network x.written x.written (unbegun x script alone network b)
             ((judges_what_follows (opening x) (judged_of x k w Between) event.Start).1 (refl, follows)) (untold network event.Start refl refl)
             (sym (gained-nil x.written)) (λ honest told. tt) refl refl tt;
@@ -89,17 +93,17 @@ begins x script alone network world left all b objects same stands =
     }
 
 -- by what it keeps
-pub run_begins : (x : Context) (script : Commands) (alone : Bool) (network : Network) (p : Settings) (world : WorldKept) (journal : List Event) (totals : Totals) (draws : Lcg)
-    (left : List ℕ) → lines_at script.lines left ≡ script.lines → AllByRecursion IsOfObjects script.lines → p ≡ script.profile → world.p ≡ p → StandsFor world (world_opening p) → journal ≡ event.Start ∷ []
+pub run_begins : (x : Context) (script : Commands) (alone : Bool) (network : Network) (p : Settings) (world : WorldKept) (journal : Option (List Event)) (totals : Totals) (draws : Lcg)
+    (left : List ℕ) → lines_at script.lines left ≡ script.lines → AllByRecursion IsOfObjects script.lines → p ≡ script.profile → world.p ≡ p → StandsFor world (world_opening p) → journal ≡ kept_of alone (event.Start ∷ [])
     → totals ≡ nothing_counted → draws ≡ first_draws p → IsBegun x script alone network → At x (begun_with alone p world journal totals draws left) Between network x.written
 run_begins x script alone network p world journal totals draws left all objects p_is same stands journal_is totals_is draws_is b =
     let own : p ≡ x.script.profile = p_is ∙ ap (λ (s : Commands). s.profile) (sym b.script) in
     let here = begins x script alone network world left (subst (λ (s : Commands). lines_at s.lines left ≡ s.lines) (sym b.script) all) b (subst (λ (s : Commands). AllByRecursion IsOfObjects s.lines) (sym b.script) objects) (same ∙ own)
     (subst (λ (q : Settings). StandsFor world (world_opening q)) own stands) in
     subst (λ js. At x (begun_with alone p world js totals draws left) Between network x.written) (sym journal_is)
-    (subst (λ (t : Totals). At x (begun_with alone p world (event.Start ∷ []) t draws left) Between network x.written) (sym totals_is)
-    (subst (λ (d : Lcg). At x (begun_with alone p world (event.Start ∷ []) nothing_counted d left) Between network x.written) (sym draws_is)
-    (subst (λ (q : Settings). At x (begun_with alone q world (event.Start ∷ []) nothing_counted (first_draws q) left) Between network x.written) (sym own) here)))
+    (subst (λ (t : Totals). At x (begun_with alone p world (kept_of alone (event.Start ∷ [])) t draws left) Between network x.written) (sym totals_is)
+    (subst (λ (d : Lcg). At x (begun_with alone p world (kept_of alone (event.Start ∷ [])) nothing_counted d left) Between network x.written) (sym draws_is)
+    (subst (λ (q : Settings). At x (begun_with alone q world (kept_of alone (event.Start ∷ [])) nothing_counted (first_draws q) left) Between network x.written) (sym own) here)))
 
 -- why the network was not started
 pub start_fault : (failed : FabricFault) → (session_fault failed ≡ fault.Memory) ⊎ (session_fault failed ≡ fault.Fabric)

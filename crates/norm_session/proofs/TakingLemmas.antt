@@ -31,6 +31,7 @@ use Rattle.norm_world.specs.WorldMoves.{IsEvent}
 use Rattle.norm_world.proofs.ReceiverEvents.{no_sender, is_sender}
 use Rattle.norm_session.specs.Causes.{session_fault}
 use Rattle.norm_session.specs.Context.{Context, judged_of}
+use Rattle.norm_session.specs.Noting.{noted}
 use Rattle.norm_session.specs.RunKept.{RunKept, nodes_in}
 use Rattle.norm_session.specs.SoFar.{Leads, HasAll, IsTelling, At, HasTaken, hands_next, takes_next}
 use Rattle.norm_session.specs.Stopping.{Stopped}
@@ -140,8 +141,8 @@ to_receiver k world draws draw node octets receiver present word rest same comes
 -- ---- a take
 
 -- the run with another journal
-abbrev pub noted : RunKept → List Event → RunKept
-noted k journal = record k { journal = journal }
+abbrev pub keeping : RunKept → Option (List Event) → RunKept
+keeping k journal = record k { journal = journal }
 
 -- what an honest network gave was offered before
 was_offered : (x : Context) (journal : List Event) (j : Judged) (network : Network) (written : Pieces) (node : ℕ) (octets : List ℕ)
@@ -160,31 +161,31 @@ take_accepted x k w count node octets quiet =
     let follows : DatagramTaken j node octets next = record { count = count; place = refl; then = refl } in
     (judges_what_follows j next (event.Took node octets)).1 (quiet, follows)
 
-pub takes : (x : Context) (k new : RunKept) (journal : List Event) (count node : ℕ) (octets : List ℕ) (before now : Network) (written : Pieces)
-    → Delivers k new node octets → journal ≡ new.journal ++ event.Took node octets ∷ []
+pub takes : (x : Context) (k new : RunKept) (journal : Option (List Event)) (count node : ℕ) (octets : List ℕ) (before now : Network) (written : Pieces)
+    → Delivers k new node octets → journal ≡ noted new.journal (event.Took node octets)
     → now ≡ with_answer before (Some (node, octets)) → IsHonestAnswer before (Some (node, octets)) → At x k (Taking count) before written
-    → IsTelling x (noted new journal) (takes_next x count) now written
+    → IsTelling x (keeping new journal) (takes_next x count) now written
 takes x k new journal count node octets before now written delivers joined told honest here =
     let s = here.so_far in
     let w = here.world in
     let j = judged_of x k w (Taking count) in
     let e : Event = event.Took node octets in
     let did = delivers x w (Taking count) s.all s.stands in
-    let accepted : accepts j e ≡ Some (judged_of x (noted new journal) (delivered node octets j).world (takes_next x count)) =
+    let accepted : accepts j e ≡ Some (judged_of x (keeping new journal) (delivered node octets j).world (takes_next x count)) =
     take_accepted x k w count node octets here.quiet ∙ ap (λ (j : Judged). Some (at (takes_next x count) j)) (sym did.state) in
     record {
       world = (delivered node octets j).world;
-      so_far = more x k (noted new journal) e w (delivered node octets j).world (Taking count) (takes_next x count) before now written written s
+      so_far = more x k (keeping new journal) e w (delivered node octets j).world (Taking count) (takes_next x count) before now written written s
           (record {
             profile = did.profile;
             alone = did.alone;
             nodes = did.nodes;
-            journal = joined ∙ ap (λ js. js ++ e ∷ []) did.journal;
+            journal = joined ∙ ap (λ js. noted js e) did.journal;
             stands = did.stands;
             accepted = accepted;
           })
           (told ∙ answer_told before e refl) (sym (gained-nil written))
-          (λ is told. was_offered x k.journal j before written node octets s.leads honest is told) refl refl tt;
+          (λ is told. was_offered x s.journal j before written node octets s.leads honest is told) refl refl tt;
     }
 
 -- the datagram was taken, and there was no memory to deliver or to note it
@@ -196,32 +197,32 @@ take_unnoted x k count node octets before now written told honest here =
     let j = judged_of x k here.world (Taking count) in
     let e : Event = event.Took node octets in
     let next = at (after_take count j) (delivered node octets j) in
-    stops_for_memory x (k.journal ++ e ∷ []) next now written
-    (leads_on x k.journal e j next before now written written s.leads (take_accepted x k here.world count node octets here.quiet)
+    stops_for_memory x (s.journal ++ e ∷ []) next now written
+    (leads_on x s.journal e j next before now written written s.leads (take_accepted x k here.world count node octets here.quiet)
     (told ∙ answer_told before e refl) (sym (gained-nil written))
-    (λ is told. was_offered x k.journal j before written node octets s.leads honest is told) refl refl tt)
+    (λ is told. was_offered x s.journal j before written node octets s.leads honest is told) refl refl tt)
 
 -- the network had none ready
-pub finds_none : (x : Context) (k v : RunKept) (journal : List Event) (count : ℕ) (before now : Network) (written : Pieces) → k ≡ v
-    → journal ≡ k.journal ++ event.Empty ∷ [] → now ≡ with_answer before None → At x v (Taking count) before written
-    → At x (noted k journal) (hands_next x) now written
+pub finds_none : (x : Context) (k v : RunKept) (journal : Option (List Event)) (count : ℕ) (before now : Network) (written : Pieces) → k ≡ v
+    → journal ≡ noted k.journal event.Empty → now ≡ with_answer before None → At x v (Taking count) before written
+    → At x (keeping k journal) (hands_next x) now written
 finds_none x k v journal count before now written is joined told there =
     let here = subst (λ (u : RunKept). At x u (Taking count) before written) (sym is) there in
     let s = here.so_far in
     let w = here.world in
     let j = judged_of x k w (Taking count) in
     let e : Event = event.Empty in
-    let follows : NoneReady j (judged_of x (noted k journal) w (hands_next x)) = record { count = count; place = refl; then = refl } in
+    let follows : NoneReady j (judged_of x (keeping k journal) w (hands_next x)) = record { count = count; place = refl; then = refl } in
     record {
       world = w;
-      so_far = more x k (noted k journal) e w w (Taking count) (hands_next x) before now written written s
+      so_far = more x k (keeping k journal) e w w (Taking count) (hands_next x) before now written written s
           (record {
             profile = refl;
             alone = refl;
             nodes = refl;
             journal = joined;
             stands = s.stands;
-            accepted = (judges_what_follows j (judged_of x (noted k journal) w (hands_next x)) e).1 (here.quiet, follows);
+            accepted = (judges_what_follows j (judged_of x (keeping k journal) w (hands_next x)) e).1 (here.quiet, follows);
           })
           (told ∙ answer_told before e refl) (sym (gained-nil written)) (λ is told. tt) refl refl tt;
       quiet = here.quiet;
@@ -231,9 +232,9 @@ finds_none x k v journal count before now written is joined told there =
 pub none_unnoted : (x : Context) (k : RunKept) (count : ℕ) (before now : Network) (written : Pieces) → now ≡ with_answer before None
     → At x k (Taking count) before written → Stopped x fault.Memory now written
 none_unnoted x k count before now written told here =
-    let journal = k.journal ++ event.Empty ∷ [] in
+    let journal = noted k.journal event.Empty in
     let there = finds_none x k k journal count before now written refl refl told here in
-    stops_for_memory x journal (judged_of x (noted k journal) there.world (hands_next x)) now written there.so_far.leads
+    stops_for_memory x there.so_far.journal (judged_of x (keeping k journal) there.world (hands_next x)) now written there.so_far.leads
 
 -- the take failed, or found no memory
 pub take_stops : (x : Context) (k : RunKept) (failed : FabricFault) (count : ℕ) (network : Network) (written : Pieces)
@@ -242,7 +243,7 @@ take_stops x k network_fault.Failed count network written here =
     let s = here.so_far.leads in
     let j = judged_of x k here.world (Taking count) in
     record {
-      journal = k.journal;
+      journal = here.so_far.journal;
       last = j;
       begun = s.judged;
       told = s.told;
@@ -260,7 +261,7 @@ take_stops x k network_fault.Failed count network written here =
       );
     }
 take_stops x k network_fault.Memory count network written here =
-    stops_for_memory x k.journal (judged_of x k here.world (Taking count)) network written here.so_far.leads
+    stops_for_memory x here.so_far.journal (judged_of x k here.world (Taking count)) network written here.so_far.leads
 
 -- ---- what came of a take, by what the network answered
 

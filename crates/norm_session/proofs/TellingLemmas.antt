@@ -28,6 +28,7 @@ use Rattle.norm_sender.specs.SenderKept.{SenderKept, Stands}
 use Rattle.norm_world.specs.WorldKept.{WorldKept, StandsFor}
 use Rattle.norm_world.specs.WorldMoves.{IsEvent}
 use Rattle.norm_session.specs.Context.{Context, with_posted, judged_of}
+use Rattle.norm_session.specs.Noting.{noted}
 use Rattle.norm_session.specs.RunKept.{RunKept}
 use Rattle.norm_session.specs.SoFar.{SoFar, At}
 use Rattle.norm_session.specs.Stopping.{IsUnwritten, Stopped}
@@ -148,7 +149,7 @@ none_due s = go s.untold_nodes s.untold_marks refl refl
 
 -- the run after it
 abbrev pub having_told : RunKept → WorldKept → News → RunKept
-having_told k world n = record k { world = world; journal = k.journal ++ event.News n ∷ []; totals = with_news n k.totals }
+having_told k world n = record k { world = world; journal = noted k.journal (event.News n); totals = with_news n k.totals }
 
 -- the world's answer is the change that was due
 record IsTold (k : RunKept) (world : WorldKept) (w : World) (n : News) : Type 0 where
@@ -235,7 +236,7 @@ tell_stops x board k v world n place network unwritten written instance left man
     let w = here.world in
     let is = is_told x k world w n place network unwritten s asked in
     subst (λ (b : BoardState). Stopped (with_posted x b) fault.Write network written) (sym posted)
-    (told_line_stops x k.journal (event.News n) (judged_of x k w place) (judged_of x (having_told k world n) (world_step k.p w NewsAsked).0 place)
+    (told_line_stops x s.journal (event.News n) (judged_of x k w place) (judged_of x (having_told k world n) (world_step k.p w NewsAsked).0 place)
     network unwritten written s.leads (news_accepted x k world w n place is) refl refl refl (λ honest told. tt) tt
     (subst (λ l. IsUnwritten fault.Write unwritten written l) (sym (line_said x k world w n place instance left says is)) un))
 

@@ -18,29 +18,31 @@ use Rattle.norm_journal.specs.declared.event.Event.TheVariants as event
 use Rattle.norm_safety.specs.World.{World}
 use Rattle.norm_session.specs.Context.{Context, with_moments, opening, judged_of}
 use Rattle.norm_session.specs.Moments.{Either, count_of, ByClock, HaveMoments, last_moment}
+use Rattle.norm_session.specs.Noting.{kept_of, noted}
 use Rattle.norm_session.specs.RunKept.{RunKept}
 use Rattle.norm_session.specs.SoFar.{Leads, At}
 use Rattle.norm_session.specs.Stopping.{Stopped}
 use Rattle.norm_session.specs.Turning.{command_next, IsGiven, IsStepped, IsNextMoment, FollowMoments, GoesOn}
 use Rattle.norm_session.specs.declared.fault.SessionFault.TheVariants as fault
 use Rattle.norm_session.proofs.MomentLemmas.{moves_all, no_moments}
-use Rattle.norm_session.proofs.SoFarLemmas.{gained-nil, leads_by, untold, stops_for_memory}
+use Rattle.norm_session.proofs.SoFarLemmas.{gained-nil, kept_more, leads_by, untold, stops_for_memory}
 
 -- ---- moments of a run
 
 -- how many turns there were, and the moment of the last
 pub turns_so_far : (x : Context) (k : RunKept) (network : Network) (written : Pieces) (here : At x k Between network written) → k.turn ≡ count_of x.moments
 turns_so_far x k network written here =
-    let s = here.so_far.leads in
-    (moves_all (opening x) (judged_of x k here.world Between) k.journal s.judged).turn ∙ none (count_of (moments_in k.journal)) ∙ ap count_of s.moments
+    let s = here.so_far in
+    (moves_all (opening x) (judged_of x k here.world Between) s.journal s.leads.judged).turn ∙ none (count_of (moments_in s.journal))
+    ∙ ap count_of s.leads.moments
   where
     none : (n : ℕ) → n + 0 ≡ n
     none n = omega arith
 
 pub moment_so_far : (x : Context) (k : RunKept) (network : Network) (written : Pieces) (here : At x k Between network written) → k.now ≡ last_moment 0 x.moments
 moment_so_far x k network written here =
-    let s = here.so_far.leads in
-    (moves_all (opening x) (judged_of x k here.world Between) k.journal s.judged).now ∙ ap (last_moment 0) s.moments
+    let s = here.so_far in
+    (moves_all (opening x) (judged_of x k here.world Between) s.journal s.leads.judged).now ∙ ap (last_moment 0) s.leads.moments
 
 -- ---- a turn begins
 
@@ -81,7 +83,7 @@ turn_accepted x k w turn now before after quiet more number moment =
     three true true true _ _ c = absurd (cc)
 
 -- the run in its next turn
-abbrev pub turned : RunKept → List Event → ℕ → ℕ → RunKept
+abbrev pub turned : RunKept → Option (List Event) → ℕ → ℕ → RunKept
 turned k journal turn now = record k { journal = journal; turn = turn; now = now }
 
 follow_one : (x : Context) (k : RunKept) (turn now : ℕ) (before after : Option (List ℕ)) (network : Network) (written : Pieces) → At x k Between network written
@@ -91,8 +93,8 @@ follow_one x k turn now before after network written here moment =
     (subst (λ so_far. HaveMoments k.p.step so_far before after (now ∷ [])) (moment_so_far x k network written here)
     (one_moment turn k.p.step k.now now before after moment))
 
-begins_turn : (x : Context) (k : RunKept) (journal : List Event) (turn now : ℕ) (before after : Option (List ℕ)) (network : Network) (written : Pieces)
-    → turn ≡ k.turn + 1 → IsNextMoment turn k.p.step k.now now before after → journal ≡ k.journal ++ event.Turn turn now ∷ []
+begins_turn : (x : Context) (k : RunKept) (journal : Option (List Event)) (turn now : ℕ) (before after : Option (List ℕ)) (network : Network) (written : Pieces)
+    → turn ≡ k.turn + 1 → IsNextMoment turn k.p.step k.now now before after → journal ≡ noted k.journal (event.Turn turn now)
     → (here : At x k Between network written) → GoesOn x k network written here
     → At (with_moments x (now ∷ [])) (turned k journal turn now) (command_next x (turned k journal turn now)) network written
 begins_turn x k journal turn now before after network written number moment joined here more =
@@ -104,18 +106,19 @@ begins_turn x k journal turn now before after network written number moment join
     record {
       world = w;
       so_far = record {
-        all = record { script = s.all.script; world = s.all.world; receivers = s.all.receivers; objects = s.all.objects };
+        all = record { script = s.all.script; world = s.all.world; alone = s.all.alone; receivers = s.all.receivers; objects = s.all.objects };
         stands = s.stands;
-        leads = subst (λ js. Leads y js (judged_of y new w (command_next x new)) network written) (sym joined)
-            (leads_by x k.journal e (judged_of x k w Between) (judged_of y new w (command_next x new)) network network written written s.leads
-            (turn_accepted x k w turn now before after here.quiet more number moment) (untold network e refl refl) (sym (gained-nil written)) (λ honest told. tt) refl tt);
+        journal = s.journal ++ e ∷ [];
+        kept = joined ∙ kept_more k.alone k.journal s.journal e s.kept;
+        leads = leads_by x s.journal e (judged_of x k w Between) (judged_of y new w (command_next x new)) network network written written s.leads
+            (turn_accepted x k w turn now before after here.quiet more number moment) (untold network e refl refl) (sym (gained-nil written)) (λ honest told. tt) refl tt;
       };
       quiet = here.quiet;
     }
 
 -- by what the run is seen as
-pub turn_begins : (x : Context) (k v : RunKept) (journal : List Event) (turn now : ℕ) (before after : Option (List ℕ)) (network : Network) (written : Pieces)
-    → k ≡ v → turn ≡ k.turn + 1 → IsNextMoment turn k.p.step k.now now before after → journal ≡ k.journal ++ event.Turn turn now ∷ []
+pub turn_begins : (x : Context) (k v : RunKept) (journal : Option (List Event)) (turn now : ℕ) (before after : Option (List ℕ)) (network : Network) (written : Pieces)
+    → k ≡ v → turn ≡ k.turn + 1 → IsNextMoment turn k.p.step k.now now before after → journal ≡ noted k.journal (event.Turn turn now)
     → (here : At x v Between network written) → GoesOn x v network written here
     → FollowMoments x before after (now ∷ [])
     × At (with_moments x (now ∷ [])) (turned k journal turn now) (command_next x (turned k journal turn now)) network written
@@ -133,11 +136,11 @@ pub turn_unnoted : (x : Context) (k v : RunKept) (turn now : ℕ) (before after 
     → k ≡ v → turn ≡ k.turn + 1 → IsNextMoment turn k.p.step k.now now before after → (here : At x v Between network written) → GoesOn x v network written here
     → FollowMoments x before after (now ∷ []) × Stopped (with_moments x (now ∷ [])) fault.Memory network written
 turn_unnoted x k v turn now before after network written is number moment here more =
-    let journal = k.journal ++ event.Turn turn now ∷ [] in
+    let journal = noted k.journal (event.Turn turn now) in
     let there = turn_begins x k v journal turn now before after network written is number moment refl here more in
     let new = turned k journal turn now in
     let y = with_moments x (now ∷ []) in
-    (there.0, stops_for_memory y journal (judged_of y new there.1.world (command_next x new)) network written there.1.so_far.leads)
+    (there.0, stops_for_memory y there.1.so_far.journal (judged_of y new there.1.world (command_next x new)) network written there.1.so_far.leads)
 
 -- no turn began
 pub no_turn : (x : Context) (k : RunKept) (asked : Option (List ℕ)) (network : Network) (written : Pieces) → At x k Between network written
@@ -146,7 +149,7 @@ no_turn x k asked network written here =
     let none : with_moments x [] ≡ x = ap (λ ms. record x { moments = ms }) (append-nil x.moments) in (
       no_moments x.script.profile.step (last_moment 0 x.moments) asked,
       subst (λ (y : Context). Stopped y fault.Memory network written) (sym none)
-          (stops_for_memory x k.journal (judged_of x k here.world Between) network written here.so_far.leads),
+          (stops_for_memory x here.so_far.journal (judged_of x k here.world Between) network written here.so_far.leads),
     )
 
 -- by the step as it was read

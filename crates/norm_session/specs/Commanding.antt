@@ -18,6 +18,7 @@ use Rattle.norm_journal.specs.declared.event.Event.{Event}
 use Rattle.norm_world.specs.WorldKept.{StandsFor}
 use Rattle.norm_session.specs.Causes.{HasCause, counted}
 use Rattle.norm_session.specs.Context.{Context, judged_of}
+use Rattle.norm_session.specs.Noting.{kept_of}
 use Rattle.norm_session.specs.RunKept.{RunKept}
 use Rattle.norm_session.specs.SoFar.{HasAll, Leads, At, IsTelling}
 use Rattle.norm_session.specs.Stopping.{Stopped}
@@ -67,7 +68,9 @@ pub record IsAnswered (x : Context) (k : RunKept) (place : ℕ) (line : Line) (e
   pub all : HasAll x k
   pub stands : StandsFor k.world after
   pub line_is : slice_get x.script.lines place ≡ Some line
-  pub leads : Leads x k.journal (judged_of x k before (offering first line)) network written
+  pub journal : List Event
+  pub kept : k.journal ≡ kept_of k.alone journal
+  pub leads : Leads x journal (judged_of x k before (offering first line)) network written
   pub accepted : accepts (judged_of x k before (offering first line)) e ≡ Some (given x k before after first line gave)
   pub octets : HasOctets e
   pub text_is : line_of (judged_of x k before (offering first line)) e ≡ text

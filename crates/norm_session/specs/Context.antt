@@ -1,5 +1,5 @@
 -- What a run is over: all that it does not keep.
-use Rattle.std.specs.Prelude.{ℕ, List, ◌++◌, slice_get, option_and_then}
+use Rattle.std.specs.Prelude.{ℕ, List, ◌++◌, Bool, slice_get, option_and_then}
 use Rattle.norm_base.specs.Network.{Network}
 use Rattle.norm_base.specs.Told.{Pieces}
 use Rattle.norm_script.specs.Commands.{Commands}
@@ -11,11 +11,12 @@ use Rattle.norm_session.specs.Left.{lines_at}
 use Rattle.norm_session.specs.RunKept.{RunKept}
 use Rattle.producer_gate.specs.Boards.{BoardState}
 
--- The script; the files that are there, where they are told; the receivers that the run has; what the network told once it was
--- started, and the output before; the moments of the turns so far; the board before, and as it is now.
+-- The script; the files that are there, where they are told; whether the sender is alone, and the receivers that the run has; what the
+-- network told once it was started, and the output before; the moments of the turns so far; the board before, and as it is now.
 pub record Context : Type 0 where
   pub script : Commands
   pub files : Told
+  pub alone : Bool
   pub nodes : List ℕ
   pub network : Network
   pub written : Pieces

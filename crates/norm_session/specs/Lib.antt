@@ -1,6 +1,7 @@
 pub mod RunKept
 pub mod Left
 pub mod Posting
+pub mod Noting
 pub mod Context
 pub mod SoFar
 pub mod Stopping

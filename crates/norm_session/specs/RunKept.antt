@@ -12,13 +12,13 @@ abbrev pub nodes_in : Bool → Settings → List ℕ
 nodes_in true p = []
 nodes_in false p = receivers_of p p.receivers
 
--- The profile, whether the sender is alone, the nodes and the journal; the counts and the draws; the turn and its moment; the places of the script's lines that
+-- The profile, whether the sender is alone, the nodes, and the journal where it is kept; the counts and the draws; the turn and its moment; the places of the script's lines that
 -- were not pulled, and of the one whose command waits.
 pub record RunKept : Type 0 where
   pub p : Settings
   pub alone : Bool
   pub world : WorldKept
-  pub journal : List Event
+  pub journal : Option (List Event)
   pub totals : Totals
   pub draws : Lcg
   pub turn : ℕ

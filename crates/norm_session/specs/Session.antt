@@ -1,5 +1,5 @@
 -- A whole session, or the run of its sender alone: what it did, and what a fault leaves of it.
-use Rattle.std.specs.Prelude.{◌≡◌, ◌⊎◌, ℕ, List, [], Bool, true, false, IfSome, IsTrue}
+use Rattle.std.specs.Prelude.{◌≡◌, ◌⊎◌, ℕ, List, [], Bool, true, false, Option, IfSome, IsTrue}
 use Rattle.std.specs.List.{AllByRecursion}
 use Rattle.norm_base.specs.Members.{receivers_of}
 use Rattle.norm_base.specs.Network.{Network, Starts}
@@ -26,6 +26,7 @@ use Rattle.norm_safety.specs.LosesNothing.{LosesNothing}
 use Rattle.norm_safety.specs.Safe.{Safe}
 use Rattle.norm_session.specs.Context.{Context, with_moments, with_posted}
 use Rattle.norm_session.specs.Moments.{HaveMoments}
+use Rattle.norm_session.specs.Noting.{kept_of}
 use Rattle.norm_session.specs.Posting.{entries_in, posting}
 use Rattle.norm_session.specs.RunKept.{nodes_in}
 use Rattle.norm_session.specs.Stopping.{Stopped}
@@ -113,6 +114,12 @@ abbrev pub RunsScript : Bool → Commands → Told → List Event → Bool → S
 RunsScript true = RunsSender
 RunsScript false = RunsSession
 
+-- Such a run was made, and this is kept of its journal.
+pub record RunsKept (alone : Bool) (script : Commands) (files : Told) (kept : Option (List Event)) (whole : Bool) (o : Span) : Type 0 where
+  pub journal : List Event
+  pub kept_is : kept ≡ kept_of alone journal
+  pub run : RunsScript alone script files journal whole o
+
 -- Nothing was done: there was no memory, or the network was not started.
 pub record NotBegun (failed : SessionFault) (o : Span) : Type 0 where
   pub why : (failed ≡ fault.Memory) ⊎ (failed ≡ fault.Fabric)
@@ -126,6 +133,7 @@ abbrev pub context_of : Bool → Commands → Told → Network → Pieces → Bo
 context_of alone script files started unwritten board = record {
   script = script;
   files = files;
+  alone = alone;
   nodes = nodes_in alone script.profile;
   network = started;
   written = unwritten;

@@ -20,6 +20,7 @@ use Rattle.norm_safety.specs.World.{World}
 use Rattle.norm_world.specs.WorldKept.{StandsFor}
 use Rattle.norm_session.specs.Context.{Context, opening, judged_of}
 use Rattle.norm_session.specs.Posting.{entries_in, posting}
+use Rattle.norm_session.specs.Noting.{kept_of}
 use Rattle.norm_session.specs.RunKept.{RunKept, nodes_in}
 
 -- an event's take, if it is one, gives what another member had offered before
@@ -47,14 +48,18 @@ pub record Leads (x : Context) (journal : List Event) (j : Judged) (network : Ne
 pub record HasAll (x : Context) (k : RunKept) : Type 0 where
   pub script : k.p ≡ x.script.profile
   pub world : k.world.p ≡ k.p
+  pub alone : k.alone ≡ x.alone
   pub receivers : x.nodes ≡ nodes_in k.alone k.p
   pub objects : AllByRecursion IsOfObjects x.script.lines
 
--- A run with these nodes of the rules, at a place: its world stands for them, and its journal leads there.
+-- A run with these nodes of the rules, at a place: its world stands for them, and there is a journal that leads there, which it keeps
+-- unless its sender is alone.
 pub record SoFar (x : Context) (k : RunKept) (w : World) (place : Place) (network : Network) (written : Pieces) : Type 0 where
   pub all : HasAll x k
   pub stands : StandsFor k.world w
-  pub leads : Leads x k.journal (judged_of x k w place) network written
+  pub journal : List Event
+  pub kept : k.journal ≡ kept_of k.alone journal
+  pub leads : Leads x journal (judged_of x k w place) network written
 
 -- A run is at a place, where changes may be due to be told.
 pub record IsTelling (x : Context) (k : RunKept) (place : Place) (network : Network) (written : Pieces) : Type 0 where

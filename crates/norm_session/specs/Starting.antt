@@ -13,10 +13,11 @@ abbrev pub local_of : Bool → Settings → Local
 local_of true p = local.One p.sender
 local_of false p = local.All
 
--- A context as a run of a script begins over it: with the script, the receivers that it has, and this network; no turn began, and the
--- board is as it was.
+-- A context as a run of a script begins over it: with the script, whether the sender is alone, the receivers that it has, and this
+-- network; no turn began, and the board is as it was.
 pub record IsBegun (x : Context) (commands : Commands) (alone : Bool) (told : Network) : Type 0 where
   pub script : x.script ≡ commands
+  pub is_alone : x.alone ≡ alone
   pub nodes : x.nodes ≡ nodes_in alone commands.profile
   pub network : x.network ≡ told
   pub moments : x.moments ≡ []

@@ -1,6 +1,6 @@
 //! Commands of a turn: a pull gives the next one, and it is offered to the sender, again in each turn while it has to wait.
 
-ghost use Rattle.std.specs.Prelude.{◌≡◌, ◌≢◌, ◌<◌, true, false, None, Some, Err, length, IfOk, IfErr, IfNone, IfSome, OnOk};
+ghost use Rattle.std.specs.Prelude.{◌≡◌, ◌≢◌, ◌<◌, true, false, None, Some, Err, Option, length, IfOk, IfErr, IfNone, IfSome, OnOk};
 ghost use Rattle.norm_base.specs.Network.{Network};
 ghost use Rattle.norm_base.specs.Told.{Pieces};
 ghost use Rattle.norm_journal.specs.Jobs.{job_of};
@@ -17,6 +17,7 @@ ghost use Rattle.norm_session.specs.Causes.{WriteCause, NeedsMemory};
 ghost use Rattle.norm_session.specs.Commanding.{IsDue, IsAtLine, CommandCause, Notes, StopsNoting, told_at, waits_at, within_lines};
 ghost use Rattle.norm_session.specs.Context.{Context};
 ghost use Rattle.norm_session.specs.Left.{lines_at};
+ghost use Rattle.norm_session.specs.Noting.{IsAtHand};
 ghost use Rattle.norm_session.specs.SoFar.{At, IsTelling};
 ghost use Rattle.norm_session.specs.Stopping.{Stopped};
 ghost use Rattle.norm_session.specs.Turning.{IsOver, command_next};
@@ -115,11 +116,11 @@ fn job_of(verb: &Verb) -> Result<Option<Job>, Memory>
     }
 }
 
-/// The job as an offer tells it: the first does.
-fn told_of(first: bool, job: &Job) -> Result<Option<Job>, Memory>
-    ensures { IfOk result (λ told. told ≡ told_at first job.now) }
+/// A job as it is noted, in memory of its own, where it is.
+fn told_of(tells: bool, job: &Job) -> Result<Option<Job>, Memory>
+    ensures { IfOk result (λ told. told ≡ told_at tells job.now) }
 {
-    if !first {
+    if !tells {
         return Ok(None);
     }
     let copy = copy_of_job(job)?;
@@ -257,20 +258,22 @@ impl Run {
         unreachable!()
     }
 
-    /// What the sender gave to a command is counted and noted with the job that is told, and its line is written. The command waits where
-    /// there was only no room for it.
+    /// What the sender gave to a command is counted and noted, with the job that is told where a journal is kept, and its line is written.
+    /// The command waits where there was only no room for it.
     pub(crate) fn note_job<K: Sink>(
         &mut self,
         line: &Line,
         place: usize,
         instance: InstanceId,
-        told: Option<Job>,
+        job: Option<Job>,
         gave: Gives,
         output: &mut K,
     ) -> Result<(), SessionFault>
-        ensures goes { OnOk result (Notes self.old self.new place line.now (event.Job (origin_of line.now) told gave) gave
+        ensures goes { OnOk result ((told : Option Job) → IsAtHand self.old.journal job told
+            → Notes self.old self.new place line.now (event.Job (origin_of line.now) told gave) gave
             (gave_line (origin_of line.now) instance line.now.verb gave) (K.pieces output.old) (K.pieces output.new)) }
-        ensures stops { IfErr result (λ fault. StopsNoting self.old fault place line.now (event.Job (origin_of line.now) told gave) gave
+        ensures stops { IfErr result (λ fault. (told : Option Job)
+            → StopsNoting self.old fault place line.now (event.Job (origin_of line.now) told gave) gave
             (gave_line (origin_of line.now) instance line.now.verb gave) (K.pieces output.old) (K.pieces output.new)) }
         ensures cause { WriteCause result (K.fault_count output.old) (K.fault_count output.new) }
     {
@@ -278,7 +281,7 @@ impl Run {
         let has = gave_line(&mut self.line, by, instance, &line.verb, &gave)?;
         count(&mut self.totals, &gave)?;
         self.waiting = waits_at(place, &gave);
-        self.journal.push_job(by, told, gave)?;
+        self.journal.push_job(by, job, gave)?;
         write_line(has, &self.line, output)
     }
 
@@ -299,7 +302,7 @@ impl Run {
             → Stopped x fault network (K.pieces output.new)) }
         ensures cause { WriteCause result (K.fault_count output.old) (K.fault_count output.new) }
     {
-        let told = told_of(first, &job)?;
+        let told = told_of(self.journal.tells(first), &job)?;
         let instance = self.world.sender().instance();
         let gave = offer_job(&mut self.world, origin_of(line), job, self.now)?;
         self.note_job(line, place, instance, told, gave, output)

@@ -1,6 +1,6 @@
 //! Hand-ups of a receiver, and its tick.
 
-ghost use Rattle.std.specs.Prelude.{◌≡◌, ◌∷◌, [], ◌++◌, ℕ, List, true, false, IfOk, IfErr, OnOk};
+ghost use Rattle.std.specs.Prelude.{◌≡◌, ℕ, List, true, false, IfOk, IfErr, OnOk};
 ghost use Rattle.norm_base.specs.Members.{is_receiver};
 ghost use Rattle.norm_base.specs.Network.{Network};
 ghost use Rattle.norm_base.specs.Told.{Pieces};
@@ -10,28 +10,29 @@ ghost use Rattle.norm_journal.specs.declared.event.Event.TheVariants as event;
 ghost use Rattle.norm_session.specs.Causes.{WriteCause, NeedsMemory};
 ghost use Rattle.norm_session.specs.Context.{Context};
 ghost use Rattle.norm_session.specs.Handing.{HasTakenAll};
+ghost use Rattle.norm_session.specs.Noting.{noted};
 ghost use Rattle.norm_session.specs.SoFar.{At, after_sent};
 ghost use Rattle.norm_session.specs.Stopping.{Stopped};
 ghost use Rattle.norm_world.specs.WorldMoves.{AreTaken, receiver_of};
 
 use crate::fault::SessionFault;
+use crate::noting::KeptJournal;
 use crate::printing::write_line;
 use crate::run::Run;
 use norm_base::{Datagram, InstanceId, NodeId, Sent, Sink};
 use norm_journal::{Totals, up_line};
 use norm_order::Up;
-use norm_record::Journal;
 
-/// A hand-up is counted, and joins the journal.
+/// A hand-up is counted, and noted.
 fn note_up(
     totals: &mut Totals,
-    journal: &mut Journal,
+    journal: &mut KeptJournal,
     node: NodeId,
     instance: InstanceId,
     up: Up,
 ) -> Result<(), SessionFault>
     ensures counted { OnOk result (totals.new ≡ with_up up totals.old) }
-    ensures noted { OnOk result (journal.new ≡ journal.old ++ event.Up node instance up ∷ []) }
+    ensures noted { OnOk result (journal.new ≡ noted journal.old (event.Up node instance up)) }
     ensures cause { NeedsMemory result }
 {
     if !totals.has_room_for_up(&up) {

@@ -7,6 +7,7 @@ mod ending;
 mod fault;
 mod handing;
 mod left;
+mod noting;
 mod printing;
 mod producing;
 mod reading;

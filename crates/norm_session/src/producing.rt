@@ -2,12 +2,12 @@
 
 ghost use Rattle.std.specs.Prelude.{◌≡◌, ◌≤◌, All, IfErr, IfOk, length};
 ghost use Rattle.norm_session.specs.Causes.{HasCause, counted};
-ghost use Rattle.norm_session.specs.Session.{IsRunnable, RunsScript, StopsScript};
+ghost use Rattle.norm_session.specs.Session.{IsRunnable, RunsKept, StopsScript};
 ghost use Rattle.norm_session.specs.Turning.{span};
 
 use crate::arrivals::{Arrivals, Arrived};
 use crate::fault::SessionFault;
-use crate::session::{Ended, run_script};
+use crate::session::{Made, run_script};
 use norm_base::{Clock, Fabric, Files, Memory, Sink};
 use norm_script::{Line, Script};
 use producer_gate::{Board, Gate, GateFault, PullSeat, Seat, Turnstile};
@@ -118,10 +118,10 @@ fn run_pulled<R: Wait, K: Sink, F: Fabric, D: Files, C: Clock>(
     fabric: &mut F,
     files: &mut D,
     clock: &mut C,
-) -> Result<Ended, SessionFault>
+) -> Result<Made, SessionFault>
     requires script { IsRunnable script.now }
     requires own { pull.old.gate ≡ ring.now.id }
-    ensures run { IfOk result (λ ended. RunsScript alone script.now (D.contents files.old) ended.journal ended.whole
+    ensures run { IfOk result (λ made. RunsKept alone script.now (D.contents files.old) made.journal made.whole
         (span (F.told fabric.old) (F.told fabric.new) (K.pieces output.old) (K.pieces output.new) (C.moments clock.old) (C.moments clock.new) board.old board.new)) }
     ensures stops { IfErr result (λ fault. StopsScript alone fault script.now (D.contents files.old)
         (span (F.told fabric.old) (F.told fabric.new) (K.pieces output.old) (K.pieces output.new) (C.moments clock.old) (C.moments clock.new) board.old board.new)) }
@@ -163,9 +163,9 @@ pub(crate) fn run_produced<
     fabric: &mut F,
     files: &mut D,
     clock: &mut C,
-) -> Result<Ended, SessionFault>
+) -> Result<Made, SessionFault>
     requires { IsRunnable script.now }
-    ensures run { IfOk result (λ ended. RunsScript alone script.now (D.contents files.old) ended.journal ended.whole
+    ensures run { IfOk result (λ made. RunsKept alone script.now (D.contents files.old) made.journal made.whole
         (span (F.told fabric.old) (F.told fabric.new) (K.pieces output.old) (K.pieces output.new) (C.moments clock.old) (C.moments clock.new) board.old board.new)) }
     ensures stops { IfErr result (λ fault. StopsScript alone fault script.now (D.contents files.old)
         (span (F.told fabric.old) (F.told fabric.new) (K.pieces output.old) (K.pieces output.new) (C.moments clock.old) (C.moments clock.new) board.old board.new)) }
@@ -176,7 +176,7 @@ pub(crate) fn run_produced<
     let (ring, mut seats, mut pull) = ring_for(alloc, script)?;
     let (shared, list) = (&ring, seats.as_mut_slice());
     let lines = script.lines.as_slice();
-    let (_produced, ended) = join_mut(
+    let (_produced, made) = join_mut(
         rt,
         &mut ||
             requires { All (λ s. s.gate ≡ shared.now.id) list.now × (length lines.now ≤ 4096) }
@@ -185,5 +185,5 @@ pub(crate) fn run_produced<
             rt, alloc, script, alone, shared, &mut pull, board, output, fabric, files, clock,
         ),
     );
-    ended
+    made
 }

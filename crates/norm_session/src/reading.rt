@@ -1,6 +1,6 @@
 //! Files that commands name: their lengths, and their octets in pieces.
 
-ghost use Rattle.std.specs.Prelude.{◌≡◌, ◌<◌, [], ℕ, Bool, Err, length, string_bytes, IfOk, IfErr, OnOk};
+ghost use Rattle.std.specs.Prelude.{◌≡◌, ◌<◌, ◌++◌, [], ℕ, List, Bool, Err, length, string_bytes, IfOk, IfErr, OnOk};
 ghost use Rattle.std.specs.Option.{option_map};
 ghost use Rattle.norm_base.specs.Network.{Network};
 ghost use Rattle.norm_base.specs.Octets.{AreOctets};
@@ -15,7 +15,7 @@ ghost use Rattle.norm_world.specs.WorldKept.{WorldKept, IsReady, IsBegun, IsFill
 ghost use Rattle.norm_session.specs.Causes.{FilesCause, WriteCause};
 ghost use Rattle.norm_session.specs.Commanding.{IsDue, CommandCause, Notes, StopsNoting};
 ghost use Rattle.norm_session.specs.Context.{Context};
-ghost use Rattle.norm_session.specs.Reading.{IsOfFile, IsFaultOf, HasRead, ReadsOn, ReadsJob, AcceptsFile, IsFileGave, refusal_of};
+ghost use Rattle.norm_session.specs.Reading.{IsOfFile, IsFaultOf, HasPart, HasRead, ReadsOn, ReadsJob, AcceptsFile, IsFileGave, octets_at, octets_there, refusal_of};
 ghost use Rattle.norm_session.specs.SoFar.{IsTelling};
 ghost use Rattle.norm_session.specs.Stopping.{Stopped};
 
@@ -29,14 +29,69 @@ use norm_script::Line;
 use norm_send_rules::{Job, Receipt, SendFault};
 use norm_world::World;
 use std::alloc::Global;
+use std::marker::Model;
 
 /// What the sender gives to a file.
 #[derive(Drop)]
 pub(crate) enum FileGave {
-    /// It was accepted, with the octets that were read.
-    Accepted { job: Job, receipt: Receipt },
+    /// It was accepted; with its job and the octets that were read, where these are kept.
+    Accepted { job: Option<Job>, receipt: Receipt },
     /// It was refused by its name and its length.
     Refused { name: Octets, fault: SendFault },
+}
+
+/// The octets of a file that were read so far, where they are kept for its job; else the sender alone has them.
+#[derive(Drop)]
+struct Copied {
+    octets: Option<Vec<u8>>,
+}
+
+impl Model for Copied {
+    ghost use Rattle.std.specs.Prelude.{ℕ, List, Option};
+    ghost use Rattle.std.specs.Option.{option_map};
+
+    ghost Value = { Option (List ℕ) };
+
+    ghost view = { λ copied. option_map (λ v. v.items) copied.octets };
+}
+
+impl Copied {
+    /// None yet, with room for so many where they are kept.
+    fn of(alloc: Global, keeps: bool, len: u64) -> Result<Copied, Memory>
+        ensures { IfOk result (λ copied. copied ≡ octets_at keeps []) }
+    {
+        if !keeps {
+            return Ok(Copied { octets: None });
+        }
+        let mut octets = Vec::new(alloc);
+        octets.reserve(len as usize)?;
+        Ok(Copied {
+            octets: Some(octets),
+        })
+    }
+
+    /// The next ones were read.
+    fn add(&mut self, piece: &[u8]) -> Result<(), Memory>
+        ensures { OnOk result (self.new ≡ option_map (λ (octets : List ℕ). octets ++ piece.now) self.old) }
+    {
+        match &mut self.octets {
+            Some(octets) => {
+                octets.extend_from_slice(piece)?;
+                Ok(())
+            }
+            None => Ok(()),
+        }
+    }
+
+    /// All of them.
+    fn into_octets(self) -> Option<Octets>
+        ensures { result ≡ self }
+    {
+        match self.octets {
+            Some(octets) => Some(Octets::of(octets)),
+            None => None,
+        }
+    }
 }
 
 /// A name as a string of its own.
@@ -80,40 +135,46 @@ fn hold_octets(bytes: &[u8])
     ensures { AreOctets bytes.now }
 {}
 
-/// Reads the next octets of the file that was begun, at most so many as the buffer has, and hands them to the world.
+/// Reads the next octets of the file that was begun, at most so many as the buffer has, and hands them to the world. Answers how many were
+/// read then.
 fn read_piece<D: Files>(
     alloc: Global,
     world: &mut World,
     files: &mut D,
     name: &str,
     len: u64,
+    done: u64,
     buf: &mut [u8],
-    octets: &mut Vec<u8>,
-) -> Result<(), SessionFault>
+    copied: &mut Copied,
+) -> Result<u64, SessionFault>
     requires room { 0 < length buf.old }
-    requires more { length octets.old.items < len }
+    requires more { done < len }
     requires told { IsLength (D.contents files.old) name.now len }
-    requires filling { IsFilling world.old name.now len octets.old.items }
+    requires part { HasPart world.old name.now len done }
     ensures same { D.contents files.new ≡ D.contents files.old }
     ensures begun { IsBegun world.new }
-    ensures goes { OnOk result (ReadsOn world.old world.new (D.contents files.old) name.now len octets.old.items octets.new.items) }
+    ensures part { IfOk result (λ done. HasPart world.new name.now len done) }
+    ensures goes { OnOk result (ReadsOn world.old world.new (D.contents files.old) name.now len (octets_there world.old) (octets_there world.new)) }
+    ensures copies { OnOk result ((keeps : Bool) → copied.old ≡ octets_at keeps (octets_there world.old)
+        → copied.new ≡ octets_at keeps (octets_there world.new)) }
     ensures stops { IfErr result (λ fault. IsOfFile (D.contents files.old) name.now fault) }
     ensures cause { FilesCause result (D.fault_count files.old) (D.fault_count files.new) }
 {
-    let done = octets.len() as u64;
     let room = buf.len().min((len - done) as usize);
     let buf = &mut buf[..room];
     match files.read_at(name, done, buf) {
         Ok(n) => {
-            octets.extend_from_slice(&buf[..n])?;
+            hold_octets(&buf[..n]);
+            copied.add(&buf[..n])?;
             world.file_piece(&buf[..n]);
-            Ok(())
+            Ok(done + n as u64)
         }
         Err(fault) => Err(fault_of(alloc, fault, name)),
     }
 }
 
-/// Reads the octets of the file that was begun, in pieces as long as the buffer, and hands them to the world.
+/// Reads the octets of the file that was begun, in pieces as long as the buffer, and hands them to the world. Answers them where they are
+/// kept.
 fn read_all<D: Files>(
     alloc: Global,
     world: &mut World,
@@ -121,27 +182,42 @@ fn read_all<D: Files>(
     name: &str,
     len: u64,
     buf: &mut [u8],
-) -> Result<Octets, SessionFault>
+    keeps: bool,
+) -> Result<Option<Octets>, SessionFault>
     requires room { 0 < length buf.old }
     requires told { IsLength (D.contents files.old) name.now len }
     requires filling { IsFilling world.old name.now len [] }
     ensures same { D.contents files.new ≡ D.contents files.old }
     ensures begun { IsBegun world.new }
-    ensures read { IfOk result (λ octets. HasRead world.old world.new (D.contents files.old) name.now len octets) }
-    ensures octets { IfOk result (λ octets. AreOctets octets) }
+    ensures read { OnOk result (HasRead world.old world.new (D.contents files.old) name.now len (octets_there world.new)) }
+    ensures octets { OnOk result (AreOctets (octets_there world.new)) }
+    ensures copy { IfOk result (λ copy. copy ≡ octets_at keeps (octets_there world.new)) }
     ensures stops { IfErr result (λ fault. IsOfFile (D.contents files.old) name.now fault) }
     ensures cause { FilesCause result (D.fault_count files.old) (D.fault_count files.new) }
 {
-    let mut octets = Vec::new(alloc);
-    octets.reserve(len as usize)?;
-    while (octets.len() as u64) < len {
-        read_piece(alloc, world, files, name, len, buf, &mut octets)?;
+    let mut copied = Copied::of(alloc, keeps, len)?;
+    let mut done = 0;
+    // Proof: the label names the loop for its invariant.
+    'pieces: while done < len {
+        done = read_piece(alloc, world, files, name, len, done, buf, &mut copied)?;
     }
-    hold_octets(&octets);
-    Ok(Octets::of(octets))
+    Ok(copied.into_octets())
 }
 
-/// Reads a file that was begun, in pieces of a symbol, as the job that is told of it.
+/// The job of a file, where its octets are kept.
+fn job_of_file(alloc: Global, name: &str, octets: Option<Octets>) -> Result<Option<Job>, Memory>
+    ensures { IfOk result (λ job. job ≡ option_map (λ (bytes : List ℕ). Job.File name.now bytes) octets) }
+{
+    match octets {
+        Some(bytes) => {
+            let name = Octets::of(Vec::from_slice(alloc, name.as_bytes())?);
+            Ok(Some(Job::File { name, bytes }))
+        }
+        None => Ok(None),
+    }
+}
+
+/// Reads a file that was begun, in pieces of a symbol. Answers the job that is told of it, where that is kept.
 fn read_job<D: Files>(
     alloc: Global,
     world: &mut World,
@@ -149,20 +225,21 @@ fn read_job<D: Files>(
     name: &str,
     len: u64,
     e: u16,
-) -> Result<Job, SessionFault>
+    keeps: bool,
+) -> Result<Option<Job>, SessionFault>
     requires symbol { 0 < e }
     requires told { IsLength (D.contents files.old) name.now len }
     requires filling { IsFilling world.old name.now len [] }
     ensures same { D.contents files.new ≡ D.contents files.old }
     ensures begun { IsBegun world.new }
-    ensures read { IfOk result (λ job. ReadsJob world.old world.new (D.contents files.old) name.now len job) }
+    ensures read { IfOk result (λ job. ReadsJob world.old world.new (D.contents files.old) name.now len keeps job) }
     ensures stops { IfErr result (λ fault. IsOfFile (D.contents files.old) name.now fault) }
     ensures cause { FilesCause result (D.fault_count files.old) (D.fault_count files.new) }
 {
-    let told = Octets::of(Vec::from_slice(alloc, name.as_bytes())?);
     let mut buf = vec![in alloc; 0u8; usize::from(e)]?;
-    let bytes = read_all(alloc, world, files, name, len, &mut buf)?;
-    Ok(Job::File { name: told, bytes })
+    let octets = read_all(alloc, world, files, name, len, &mut buf, keeps)?;
+    let job = job_of_file(alloc, name, octets)?;
+    Ok(job)
 }
 
 /// Reads a file that was begun, and lets it join the order; where it is not read it is given up.
@@ -175,6 +252,7 @@ fn accept_file<D: Files>(
     len: u64,
     now: Moment,
     e: u16,
+    keeps: bool,
 ) -> Result<FileGave, SessionFault>
     requires symbol { 0 < e }
     requires told { IsLength (D.contents files.old) name.now len }
@@ -182,11 +260,11 @@ fn accept_file<D: Files>(
     ensures ready { IsReady world.new }
     ensures profile { IfOk result (λ _. world.new.p ≡ world.old.p) }
     ensures same { D.contents files.new ≡ D.contents files.old }
-    ensures gave { IfOk result (λ gave. AcceptsFile world.old world.new (D.contents files.old) by name.now len now gave) }
+    ensures gave { IfOk result (λ gave. AcceptsFile world.old world.new (D.contents files.old) by name.now len now keeps gave) }
     ensures stops { IfErr result (λ fault. IsOfFile (D.contents files.old) name.now fault) }
     ensures cause { FilesCause result (D.fault_count files.old) (D.fault_count files.new) }
 {
-    match read_job(alloc, world, files, name, len, e) {
+    match read_job(alloc, world, files, name, len, e, keeps) {
         Ok(job) => {
             let receipt = world.end_file(by, now);
             Ok(FileGave::Accepted { job, receipt })
@@ -208,7 +286,8 @@ fn refusal_of(back: Option<Octets>, fault: SendFault) -> Result<FileGave, Sessio
     }
 }
 
-/// Offers a file to the sender, and reads it where it is not refused by its name and its length.
+/// Offers a file to the sender, and reads it where it is not refused by its name and its length. Its octets are kept for its job where that
+/// is to be noted.
 fn offer_file<D: Files>(
     alloc: Global,
     world: &mut World,
@@ -218,6 +297,7 @@ fn offer_file<D: Files>(
     len: u64,
     now: Moment,
     e: u16,
+    keeps: bool,
 ) -> Result<FileGave, SessionFault>
     requires ready { IsReady world.old }
     requires symbol { 0 < e }
@@ -225,13 +305,13 @@ fn offer_file<D: Files>(
     ensures ready { IsReady world.new }
     ensures profile { IfOk result (λ _. world.new.p ≡ world.old.p) }
     ensures same { D.contents files.new ≡ D.contents files.old }
-    ensures gave { IfOk result (λ gave. IsFileGave world.old world.new (D.contents files.old) by name.now len now gave) }
+    ensures gave { IfOk result (λ gave. IsFileGave world.old world.new (D.contents files.old) by name.now len now keeps gave) }
     ensures stops { IfErr result (λ fault. IsOfFile (D.contents files.old) name.now fault) }
     ensures cause { FilesCause result (D.fault_count files.old) (D.fault_count files.new) }
 {
     let copy = Octets::of(Vec::from_slice(alloc, name.as_bytes())?);
     match world.begin_file(copy, len) {
-        Ok(()) => accept_file(alloc, world, files, by, name, len, now, e),
+        Ok(()) => accept_file(alloc, world, files, by, name, len, now, e, keeps),
         Err((back, fault)) => refusal_of(back, fault),
     }
 }
@@ -289,6 +369,7 @@ impl Run {
         let by = origin_of(line);
         let instance = self.world.sender().instance();
         let e = symbol_len(&self.profile);
+        let keeps = self.journal.is_kept();
         let len = length_of(self.alloc, files, name.as_str())?;
         match offer_file(
             self.alloc,
@@ -299,9 +380,10 @@ impl Run {
             len,
             self.now,
             e,
+            keeps,
         )? {
             FileGave::Accepted { job, receipt } => {
-                self.note_job(line, place, instance, Some(job), Ok(receipt), output)
+                self.note_job(line, place, instance, job, Ok(receipt), output)
             }
             FileGave::Refused { name, fault } => {
                 self.note_length(by, place, name, len, fault, output)

@@ -3,16 +3,16 @@
 ghost use Rattle.std.specs.Prelude.{◌≡◌};
 
 use crate::left::Left;
+use crate::noting::KeptJournal;
 use norm_base::{Moment, NodeId, Profile};
 use norm_journal::Totals;
-use norm_record::Journal;
 use norm_text::Line;
 use norm_world::World;
 use rand_pcg::Lcg64Xsh32;
 use std::alloc::Global;
 use std::marker::Model;
 
-/// A run of a script so far: its nodes and its journal.
+/// A run of a script so far: its nodes, and its journal unless its sender is alone.
 #[derive(Drop)]
 pub struct Run {
     pub(crate) alloc: Global,
@@ -20,7 +20,7 @@ pub struct Run {
     /// Whether the sender is alone, and the receivers are elsewhere.
     pub(crate) alone: bool,
     pub(crate) world: World,
-    pub(crate) journal: Journal,
+    pub(crate) journal: KeptJournal,
     /// The line that is printed, in memory that is kept from one to the next.
     pub(crate) line: Line,
     pub(crate) totals: Totals,

@@ -1,9 +1,10 @@
 //! A whole session (RFC 5740 section 5).
 
-ghost use Rattle.std.specs.Prelude.{◌≡◌, IfOk, IfErr};
+ghost use Rattle.std.specs.Prelude.{◌≡◌, List, IfOk, IfErr};
+ghost use Rattle.norm_journal.specs.declared.event.Event.{Event};
 ghost use Rattle.norm_session.specs.Causes.{HasCause, counted};
 ghost use Rattle.norm_session.specs.Finishing.{Finishes};
-ghost use Rattle.norm_session.specs.Session.{IsRunnable, RunsSession, RunsSender, RunsScript, StopsSession, StopsSender, StopsScript};
+ghost use Rattle.norm_session.specs.Session.{IsRunnable, RunsSession, RunsSender, RunsKept, StopsSession, StopsSender, StopsScript};
 ghost use Rattle.norm_session.specs.Turning.{StopsTurns, span};
 
 use crate::arrivals::Arrivals;
@@ -18,11 +19,18 @@ use std::alloc::Global;
 use std::sync::Wait;
 use std::thread::Threads;
 
-/// How a run of a script ended: its journal, and whether all was done. If not, the turns were spent.
+/// How a session ended: its journal, and whether all was done. If not, the turns were spent.
 #[derive(Drop)]
 pub struct Ended {
     pub journal: Journal,
     pub whole: bool,
+}
+
+/// How a run of a script ended: its journal where that was kept, and whether all was done.
+#[derive(Drop)]
+pub(crate) struct Made {
+    pub(crate) journal: Option<Journal>,
+    pub(crate) whole: bool,
 }
 
 /// Runs a script's session: turn by turn, until all its commands were pulled and none waits, no watermark is open and the sender is
@@ -59,14 +67,21 @@ pub fn run_session<
     ensures cause { HasCause result (counted (K.fault_count output.old) (F.fault_count fabric.old) (D.fault_count files.old))
         (counted (K.fault_count output.new) (F.fault_count fabric.new) (D.fault_count files.new)) }
 {
-    run_produced(
+    match run_produced(
         rt, alloc, script, false, gate, board, output, fabric, files, clock,
-    )
+    ) {
+        Ok(Made { journal, whole }) => Ok(Ended {
+            journal: journal.unwrap(),
+            whole,
+        }),
+        Err(fault) => Err(fault),
+    }
 }
 
 /// Runs the sender of a script's session alone, its receivers elsewhere: the network is started for its node. Turn by turn it offers what
 /// the sender sends and takes what comes to it, up to the same end as [`run_session`]. A datagram that comes to any other node is passed
-/// over, and the summary counts no hand-up. Each line is one write of the output, the summary is the last.
+/// over, and the summary counts no hand-up. Each line is one write of the output, the summary is the last. No journal is kept, so that its
+/// memory does not grow with what it offers and takes. Answers whether all was done; if not, the turns were spent.
 ///
 /// # Errors
 ///
@@ -89,9 +104,9 @@ pub fn run_send<
     fabric: &mut F,
     files: &mut D,
     clock: &mut C,
-) -> Result<Ended, SessionFault>
+) -> Result<bool, SessionFault>
     requires { IsRunnable script.now }
-    ensures run { IfOk result (λ ended. RunsSender script.now (D.contents files.old) ended.journal ended.whole
+    ensures run { IfOk result (λ whole. (journal : List Event) × RunsSender script.now (D.contents files.old) journal whole
         (span (F.told fabric.old) (F.told fabric.new) (K.pieces output.old) (K.pieces output.new) (C.moments clock.old) (C.moments clock.new) board.old board.new)) }
     ensures stops { IfErr result (λ fault. StopsSender fault script.now (D.contents files.old)
         (span (F.told fabric.old) (F.told fabric.new) (K.pieces output.old) (K.pieces output.new) (C.moments clock.old) (C.moments clock.new) board.old board.new)) }
@@ -99,9 +114,12 @@ pub fn run_send<
     ensures cause { HasCause result (counted (K.fault_count output.old) (F.fault_count fabric.old) (D.fault_count files.old))
         (counted (K.fault_count output.new) (F.fault_count fabric.new) (D.fault_count files.new)) }
 {
-    run_produced(
+    match run_produced(
         rt, alloc, script, true, gate, board, output, fabric, files, clock,
-    )
+    ) {
+        Ok(made) => Ok(made.whole),
+        Err(fault) => Err(fault),
+    }
 }
 
 /// A script's run, with its sender alone or with all members, over what its producers hand over.
@@ -116,9 +134,9 @@ pub(crate) fn run_script<R: Wait, A: Arrivals, K: Sink, F: Fabric, D: Files, C: 
     fabric: &mut F,
     files: &mut D,
     clock: &mut C,
-) -> Result<Ended, SessionFault>
+) -> Result<Made, SessionFault>
     requires { IsRunnable script.now }
-    ensures run { IfOk result (λ ended. RunsScript alone script.now (D.contents files.old) ended.journal ended.whole
+    ensures run { IfOk result (λ made. RunsKept alone script.now (D.contents files.old) made.journal made.whole
         (span (F.told fabric.old) (F.told fabric.new) (K.pieces output.old) (K.pieces output.new) (C.moments clock.old) (C.moments clock.new) board.old board.new)) }
     ensures stops { IfErr result (λ fault. StopsScript alone fault script.now (D.contents files.old)
         (span (F.told fabric.old) (F.told fabric.new) (K.pieces output.old) (K.pieces output.new) (C.moments clock.old) (C.moments clock.new) board.old board.new)) }
@@ -139,18 +157,18 @@ pub(crate) fn run_script<R: Wait, A: Arrivals, K: Sink, F: Fabric, D: Files, C: 
         clock,
         &mut datagram,
     )?;
-    Ok(Ended {
+    Ok(Made {
         journal: run.into_journal(),
         whole,
     })
 }
 
 impl Run {
-    /// The journal of the run.
-    fn into_journal(self) -> Journal
+    /// The journal of the run, where it was kept.
+    fn into_journal(self) -> Option<Journal>
         ensures { result ≡ self.journal }
     {
-        self.journal
+        self.journal.into_journal()
     }
 
     /// All turns, and the summary. Whether all was done.

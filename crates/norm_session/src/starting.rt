@@ -13,10 +13,10 @@ ghost use Rattle.norm_session.specs.Starting.{IsBegun, local_of};
 
 use crate::fault::SessionFault;
 use crate::left::Left;
+use crate::noting::KeptJournal;
 use crate::run::{Run, sender_node};
 use norm_base::{Fabric, Local, Memory, Moment, Profile};
 use norm_journal::Totals;
-use norm_record::Journal;
 use norm_script::Script;
 use norm_text::Line;
 use norm_world::World;
@@ -51,7 +51,7 @@ impl Run {
     {
         let profile = script.profile;
         let world = World::new(alloc, &profile)?;
-        let mut journal = Journal::new(alloc);
+        let mut journal = KeptJournal::new(alloc, alone);
         journal.push_start()?;
         let draws = first_draws(&profile);
         let left = Left::all(alloc, &script.lines)?;

@@ -1,7 +1,6 @@
-//! What the sender has to tell: each change joins the journal as it is told, an outcome is published on the board, and then the line is
-//! written.
+//! What the sender has to tell: each change is noted as it is told, an outcome is published on the board, and then the line is written.
 
-ghost use Rattle.std.specs.Prelude.{◌≡◌, ◌∷◌, [], ◌++◌, ℕ, IfOk, IfErr, OnErr, OnOk};
+ghost use Rattle.std.specs.Prelude.{◌≡◌, ◌∷◌, [], ℕ, IfOk, IfErr, OnErr, OnOk};
 ghost use Rattle.norm_base.specs.Network.{Network};
 ghost use Rattle.norm_journal.specs.Places.{Place};
 ghost use Rattle.norm_journal.specs.Totals.{with_news};
@@ -10,6 +9,7 @@ ghost use Rattle.norm_send_rules.specs.SenderState.{SenderState};
 ghost use Rattle.norm_sender.specs.SenderKept.{Stands};
 ghost use Rattle.norm_session.specs.Causes.{WriteCause, NeedsMemory};
 ghost use Rattle.norm_session.specs.Context.{Context, with_posted};
+ghost use Rattle.norm_session.specs.Noting.{noted};
 ghost use Rattle.norm_session.specs.Posting.{entries_in, posting};
 ghost use Rattle.norm_session.specs.SoFar.{At, IsTelling};
 ghost use Rattle.norm_session.specs.Stopping.{Stopped};
@@ -67,10 +67,10 @@ fn publish(board: &mut Board, news: &News) -> Result<(), Memory>
 }
 
 impl Run {
-    /// A change is counted, and joins the journal.
+    /// A change is counted, and noted.
     fn note_news(&mut self, news: News) -> Result<(), SessionFault>
         ensures noted { OnOk result (self.new
-            ≡ record self.old { journal = self.old.journal ++ event.News news ∷ []; totals = with_news news self.old.totals }) }
+            ≡ record self.old { journal = noted self.old.journal (event.News news); totals = with_news news self.old.totals }) }
         ensures cause { NeedsMemory result }
     {
         if !self.totals.has_room_for_news(&news) {

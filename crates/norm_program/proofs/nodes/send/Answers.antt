@@ -41,9 +41,10 @@ returns-in-Ok-run_send-clause-ends g c =
     let failed = g.D.Files.fault_count in
     let moments = g.C.Clock.moments in
     let ready = c.in-Ok.ensures.ready in
-    let runs = rw c.in-Ok.ensures.unwritten at c.in-Ok-run_send.ensures.run in
+    let ran = c.in-Ok-run_send.ensures.run in
+    let runs = rw c.in-Ok.ensures.unwritten at ran.1 in
     let cause = rw c.in-Ok.ensures.quiet.1 at c.in-Ok-run_send.ensures.cause in
-    last_ends c.end_session.result (Sender c.args.profile.now) c.in-Ok.script _ _
+    last_ends c.end_session.result (Sender c.args.profile.now) c.in-Ok.script ran.0 _
     (left c.args.input.now) (left c.prepare_commands.new.input)
     (pieces c.args.output.now) (pieces c.run_send.new.output) (pieces c.end_session.new.output)
     (reads c.args.input.now) (reads c.prepare_commands.new.input)

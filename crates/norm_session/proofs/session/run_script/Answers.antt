@@ -1,6 +1,6 @@
 use Rattle.std.proofs.Common.{◌∙◌, refl, sym, subst, inl}
 use Rattle.std.proofs.lemmas.Result.{err_from_is_err_and}
-use Rattle.norm_session.specs.Session.{RunsScript}
+use Rattle.norm_session.specs.Session.{RunsKept}
 use Rattle.norm_session.specs.Turning.{span}
 use Rattle.norm_session.specs.declared.fault.SessionFault.TheVariants as fault
 use Rattle.norm_session.proofs.CauseLemmas.{cause_exit}
@@ -43,7 +43,7 @@ returns-clause-run g c =
     let started = g.F.Fabric.told c.start.new.fabric in
     let unwritten = g.K.Sink.pieces c.args.output.now in
     let starts = c.in_ok-run.ensures.starts in
-    subst (λ journal. RunsScript c.args.alone c.args.script.now files journal c.in_ok-whole.whole
+    subst (λ kept. RunsKept c.args.alone c.args.script.now files kept c.in_ok-whole.whole
     (span (g.F.Fabric.told c.args.fabric.now) (g.F.Fabric.told c.finish.new.fabric) unwritten (g.K.Sink.pieces c.finish.new.output)
     (g.C.Clock.moments c.args.clock.now) (g.C.Clock.moments c.finish.new.clock) c.args.board.now c.finish.new.board)) (sym c.into_journal.ensures)
     (script_runs c.args.alone c.args.script.now files started c.in_ok-run.run' c.finish.new.self c.in_ok-whole.whole _ starts c.in_ok-run.ensures.goes
