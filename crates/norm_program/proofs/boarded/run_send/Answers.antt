@@ -1,6 +1,4 @@
-use Rattle.norm_session.specs.Session as session
-use Rattle.norm_session.specs.Turning as turning
-use Rattle.norm_program.proofs.BoardedLemmas.{no_board_alone, ran_over_some_with}
+use Rattle.norm_program.proofs.BoardedLemmas.{no_board_alone, ran_alone_over_some}
 use Rattle.norm_program.proofs.boarded.run_send.Goals as goal
 
 pub returns-in-Err-clause-stops : goal.returns-in-Err-clause-stops
@@ -10,8 +8,6 @@ returns-in-Err-clause-stops g c =
 
 pub returns-clause-run : goal.returns-clause-run
 returns-clause-run g c =
-    ran_over_some_with
-    (λ journal whole unposted posted. session.RunsSender c.args.script.now (g.D.Files.contents c.args.files.now) journal whole
-    (turning.span (g.F.Fabric.told c.args.fabric.now) (g.F.Fabric.told c.run_send.new.fabric) (g.K.Sink.pieces c.args.output.now)
-    (g.K.Sink.pieces c.run_send.new.output) (g.C.Clock.moments c.args.clock.now) (g.C.Clock.moments c.run_send.new.clock) unposted posted))
+    ran_alone_over_some c.args.script.now (g.D.Files.contents c.args.files.now) (g.F.Fabric.told c.args.fabric.now) (g.F.Fabric.told c.run_send.new.fabric)
+    (g.K.Sink.pieces c.args.output.now) (g.K.Sink.pieces c.run_send.new.output) (g.C.Clock.moments c.args.clock.now) (g.C.Clock.moments c.run_send.new.clock)
     c.run_send.result _ c.run_send.new.board c.run_send.ensures.run
