@@ -6,6 +6,8 @@ import json
 import os
 import re
 import shutil
+import signal
+import sys
 import tomllib
 from dataclasses import asdict, dataclass
 from pathlib import Path, PurePosixPath
@@ -71,6 +73,11 @@ def program_of(given: str | None) -> str:
     if not found or not os.access(found, os.X_OK):
         raise ToolFault("the proved program is not there: './build' proves and builds it.", wire.FAILED)
     return os.path.abspath(found)
+
+
+def end_by_signal() -> None:
+    """A tool that is ended by a signal ends as by an exception, so that the node that it runs is ended too."""
+    signal.signal(signal.SIGTERM, lambda *_: sys.exit(128 + signal.SIGTERM))
 
 
 def quiet() -> dict[str, str]:

@@ -39,7 +39,7 @@ class Nodes:
         self.program, self.room, self.running = program, room, []
         self.profile = room / 'profile.toml'
         self.profile.write_text(f'fabric = "udp"\nport = {port}\nreceivers = {receivers}\nstep = 0\nturns = 4000000\ne = 1400\nb = 100\nmax_n = 255\n'
-                                f'gap = {gap}\ngrtt = 20000\nk = 1\noctets = 1000000\n')
+                                f'gap = {gap}\ngrtt = {20000 if receivers < 4 else 100000}\nk = 1\noctets = 1000000\n')
 
     def __enter__(self) -> Nodes:
         return self
