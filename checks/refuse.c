@@ -5,6 +5,7 @@
 #include <fcntl.h>
 #include <stdio.h>
 #include <stdlib.h>
+#include <sys/syscall.h>
 #include <unistd.h>
 
 extern void *__libc_malloc(size_t);
@@ -23,9 +24,15 @@ __attribute__((destructor)) static void end(void) {
     char text[32];
     int file = name ? open(name, O_WRONLY | O_CREAT | O_TRUNC, 0600) : -1;
     if (file >= 0) {
-        if (write(file, text, snprintf(text, sizeof text, "%ld", requests)) < 0) _exit(125);
+        if (write(file, text, snprintf(text, sizeof text, "%ld", requests)) < 0) syscall(SYS_exit_group, 125);
         close(file);
     }
+}
+
+/* A program that ends without the C library's ending is counted too. */
+void _exit(int status) {
+    end();
+    for (;;) syscall(SYS_exit_group, status);
 }
 
 static int is_refused(void) {
