@@ -82,8 +82,31 @@ def after_the_instance_was_left(run):
             return 'with_happened (again_at %d)' % mine[0][0], 1
 
 
+def writes(run):
+    """(place, receipt) of each write that was accepted, where no instance begins behind it."""
+    events = run['events']
+    return [(i, e['gave']['wrote']) for i, e in enumerate(events) if 'wrote' in e.get('gave', {})
+            and not any('job' in x and x['job']['verb'] == 'restart' for x in events)]
+
+
+def written_elsewhere(run):
+    for i, w in writes(run):
+        return 'with_happened (answered_at %d (Gave (Ok (receipt.Wrote %d %d %d))))' % (i, w['index'], w['offset'] + 1, w['len']), 0
+
+
+def a_write_lost(run):
+    return ('with_sender streams_emptied', 0) if writes(run) else None
+
+
+def a_segment_left_out(run):
+    for node in sorted({n for _, n, _ in taken(run)}):
+        mine = [i for i, _, u in taken(run, node) if 'bytes' in u]
+        if len(mine) > 2:
+            return 'with_happened (changed_at %d (λ h. []))' % mine[1], 1
+
+
 DAMAGES = [repeated, swapped, of_another_entry, padded, lost_above_the_drop_point, listed_too_early, satisfied_by_the_first,
-           used_id, origin_twice, after_the_instance_was_left]
+           used_id, origin_twice, after_the_instance_was_left, written_elsewhere, a_write_lost, a_segment_left_out]
 
 
 def cases(runs):

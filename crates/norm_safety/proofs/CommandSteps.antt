@@ -57,7 +57,7 @@ total_is : (s : SenderState) → origins s ≡ total s.earlier (origins_in s.cur
 total_is s = ap (λ (xs : List Origin). xs ++ bys s.watermarks) (origins_last s.earlier s.current)
 
 pub kept_all : (all : List Instance) → AllKept all all
-kept_all all id index by job h = h
+kept_all all id index test stays h = h
 
 pub same_instances : (s new : SenderState) → Keeps s new → instances new ≡ instances s
 same_instances s new h =
@@ -148,7 +148,7 @@ parts_goes by part accepted parts s new ends earlier id same order adds = go add
     places =
         let P : List Entry → Type 0 = λ before. PlacesKept before (with_last (Stream (parts ++ part ∷ [])) before) in
         let Q : List Entry → Type 0 = λ after. PlacesKept s.current.order after in
-        subst Q (sym order) (subst P (sym ends.is) (with_last_places parts (parts ++ part ∷ []) ends.front ends.by))
+        subst Q (sym order) (subst P (sym ends.is) (with_last_places parts (part ∷ []) ends.front ends.by))
 
     goes_on : OrderGoes s new
     goes_on = record { earlier = earlier; id = id; by = same; places = places }
@@ -192,7 +192,7 @@ some_of None e = absurd (cc)
 some_of (Some x) e = (x, refl)
 
 -- the parts of an open stream that is there
-open_parts_now : (s : SenderState) → is_none (open_stream s) ≡ false → EndsOpen s.current.order (parts_now s)
+pub open_parts_now : (s : SenderState) → is_none (open_stream s) ≡ false → EndsOpen s.current.order (parts_now s)
 open_parts_now s e =
     let found = some_of (open_stream s) e in
     ends_open s.current.order (parts_now s) (found.1 ∙ ap (λ (o : Option (List Part)). Some (unwrap_or o [])) (sym found.1))
@@ -243,7 +243,7 @@ goes_after : (by : Origin) (s between new : SenderState) (accepted : Bool) → G
 goes_after by s between new accepted h g f = record {
   origins = both h.origins g.origins;
   ids = more h.ids;
-  places = λ id index by' job was. g.places id index by' job (h.places id index by' job was);
+  places = λ id index test stays was. g.places id index test stays (h.places id index test stays was);
 }
   where
     both : Adds by false (origins s) (origins between) → Adds by accepted (origins between) (origins new) → Adds by accepted (origins s) (origins new)

@@ -1,6 +1,6 @@
 -- Entries keep their places while orders grow at their ends, and a command adds its origin to all origins at most.
 use Rattle.std.proofs.Common.{◌≡◌, ℕ, zero, suc, cond, List, [], ◌∷◌, ◌++◌, Bool, true, false, Option, None, Some, refl, sym, ap, ◌∙◌, subst, append_assoc, ◌⊎◌, inl, inr}
-use Rattle.std.specs.Prelude.{find, flat_map, reverse, slice_get, ◌==◌, ◌&&◌}
+use Rattle.std.specs.Prelude.{find, flat_map, reverse, slice_get, ◌==◌}
 use Rattle.std.proofs.lemmas.List.{append-nil, reverse-append}
 use Rattle.std.proofs.lemmas.Grind.{flat_map-append}
 use Rattle.norm_base.specs.declared.node.Origin.{Origin}
@@ -10,26 +10,28 @@ use Rattle.norm_order.specs.Segments.{has_end}
 use Rattle.norm_send_rules.specs.SenderState.{Instance, begun}
 use Rattle.norm_send_rules.specs.Enqueuing.{open_parts}
 use Rattle.norm_send_rules.specs.Streaming.{with_last}
-use Rattle.norm_send_rules.specs.declared.job.Job.{Job}
-use Rattle.norm_send_rules.specs.declared.job.Job.TheVariants as job
-use Rattle.norm_safety.specs.Lawful.{same_origin}
-use Rattle.norm_safety.specs.OnceEach.{origin_of_part, origins_of, brings}
+use Rattle.norm_safety.specs.OnceEach.{origin_of_part, origins_of}
 
 pub clash : false ≡ true → ⊥
 clash e = cc
 
--- the entry of an order at an index is this command's
-abbrev pub by_at : List Entry → ℕ → Origin → Job → Bool
-by_at order index by job = elim (slice_get order index) [ Some entry ↦ same_origin entry.by by && brings job entry.object | None ↦ false ]
+-- a test of an entry that stays true as a stream gets more parts
+abbrev pub Stays : (Entry → Bool) → Type 0
+Stays test = (own : Origin) (parts more : List Part) → test (record { by = own; object = Stream parts }) ≡ true
+    → test (record { by = own; object = Stream (parts ++ more) }) ≡ true
 
--- each entry of an order has its place in another
+-- this is true of the entry of an order at an index
+abbrev pub true_at : List Entry → ℕ → (Entry → Bool) → Bool
+true_at order index test = elim (slice_get order index) [ Some entry ↦ test entry | None ↦ false ]
+
+-- each entry of an order has its place in another, where a stream may have more parts
 abbrev pub PlacesKept : List Entry → List Entry → Type 0
-PlacesKept order later = (index : ℕ) (by : Origin) (job : Job) → by_at order index by job ≡ true → by_at later index by job ≡ true
+PlacesKept order later = (index : ℕ) (test : Entry → Bool) → Stays test → true_at order index test ≡ true → true_at later index test ≡ true
 
 pub append_places : (order more : List Entry) → PlacesKept order (order ++ more)
-append_places [] more index by job h = absurd (clash h)
-append_places (entry ∷ order) more zero by job h = h
-append_places (entry ∷ order) more (suc index) by job h = append_places order more index by job h
+append_places [] more index test stays h = absurd (clash h)
+append_places (entry ∷ order) more zero test stays h = h
+append_places (entry ∷ order) more (suc index) test stays h = append_places order more index test stays h
 
 pub with_last_is : (object : Object) (front : List Entry) (last : Entry)
     → with_last object (front ++ last ∷ []) ≡ front ++ (record last { object = object }) ∷ []
@@ -37,33 +39,23 @@ with_last_is object [] last = refl
 with_last_is object (entry ∷ []) last = refl
 with_last_is object (entry ∷ next ∷ front) last = ap (λ (xs : List Entry). entry ∷ xs) (with_last_is object (next ∷ front) last)
 
--- a command brings a stream whatever its parts
-brings_stream : (job : Job) (parts more : List Part) → brings job (Stream parts) ≡ brings job (Stream more)
-brings_stream (job.Data info bytes) parts more = refl
-brings_stream (job.File name bytes) parts more = refl
-brings_stream job.Open parts more = refl
-brings_stream (job.Write bytes) parts more = refl
-brings_stream job.Close parts more = refl
-brings_stream (job.Mark quorum) parts more = refl
-brings_stream (job.Restart instance) parts more = refl
-brings_stream (job.Strike node) parts more = refl
-
 -- an entry that is a stream
 abbrev stream_entry : Origin → List Part → Entry
 stream_entry by parts = record { by = by; object = Stream parts }
 
 last_places : (parts more : List Part) (front : List Entry) (own : Origin)
-    → PlacesKept (front ++ stream_entry own parts ∷ []) (front ++ stream_entry own more ∷ [])
-last_places parts more [] own zero by job h = ap (λ (b : Bool). same_origin own by && b) (sym (brings_stream job parts more)) ∙ h
-last_places parts more [] own (suc index) by job h = h
-last_places parts more (entry ∷ front) own zero by job h = h
-last_places parts more (entry ∷ front) own (suc index) by job h = last_places parts more front own index by job h
+    → PlacesKept (front ++ stream_entry own parts ∷ []) (front ++ stream_entry own (parts ++ more) ∷ [])
+last_places parts more [] own zero test stays h = stays own parts more h
+last_places parts more [] own (suc index) test stays h = h
+last_places parts more (entry ∷ front) own zero test stays h = h
+last_places parts more (entry ∷ front) own (suc index) test stays h = last_places parts more front own index test stays h
 
 pub with_last_places : (parts more : List Part) (front : List Entry) (own : Origin)
-    → PlacesKept (front ++ record { by = own; object = Stream parts } ∷ []) (with_last (Stream more) (front ++ record { by = own; object = Stream parts } ∷ []))
-with_last_places parts more front own index by job h =
-    let P : List Entry → Type 0 = λ order. by_at order index by job ≡ true in
-    subst P (sym (with_last_is (Stream more) front (stream_entry own parts))) (last_places parts more front own index by job h)
+    → PlacesKept (front ++ record { by = own; object = Stream parts } ∷ [])
+    (with_last (Stream (parts ++ more)) (front ++ record { by = own; object = Stream parts } ∷ []))
+with_last_places parts more front own index test stays h =
+    let P : List Entry → Type 0 = λ order. true_at order index test ≡ true in
+    subst P (sym (with_last_is (Stream (parts ++ more)) front (stream_entry own parts))) (last_places parts more front own index test stays h)
 
 -- the order of an instance among others
 abbrev pub order_in : List Instance → ℕ → List Entry
@@ -84,26 +76,26 @@ current_kept [] id order later drop point kept of = go (id == of)
     go : (b : Bool) → PlacesKept
         (elim (cond b (Some (now_of id order drop)) None) [ Some i ↦ i.order | None ↦ [] ])
         (elim (cond b (Some (now_of id later point)) None) [ Some i ↦ i.order | None ↦ [] ])
-    go true index by job h = kept index by job h
-    go false index by job h = h
+    go true index test stays h = kept index test stays h
+    go false index test stays h = h
 current_kept (i ∷ earlier) id order later drop point kept of =
     go (i.id == of) (earlier ++ now_of id order drop ∷ []) (earlier ++ now_of id later point ∷ []) (current_kept earlier id order later drop point kept of)
   where
     go : (b : Bool) (xs ys : List Instance) → PlacesKept (order_in xs of) (order_in ys of)
         → PlacesKept (elim (cond b (Some i) (find (λ (i : Instance). i.id == of) xs)) [ Some i ↦ i.order | None ↦ [] ])
         (elim (cond b (Some i) (find (λ (i : Instance). i.id == of) ys)) [ Some i ↦ i.order | None ↦ [] ])
-    go true xs ys more index by job h = h
-    go false xs ys more index by job h = more index by job h
+    go true xs ys more index test stays h = h
+    go false xs ys more index test stays h = more index test stays h
 
 pub begun_kept : (all : List Instance) (id : ℕ) → AllKept all (all ++ begun id ∷ [])
-begun_kept [] id of index by job h = absurd (clash h)
-begun_kept (i ∷ all) id of index by job h = go (i.id == of) (begun_kept all id of) index by job h
+begun_kept [] id of index test stays h = absurd (clash h)
+begun_kept (i ∷ all) id of index test stays h = go (i.id == of) (begun_kept all id of) index test stays h
   where
     go : (b : Bool) → PlacesKept (order_in all of) (order_in (all ++ begun id ∷ []) of)
         → PlacesKept (elim (cond b (Some i) (find (λ (i : Instance). i.id == of) all)) [ Some i ↦ i.order | None ↦ [] ])
         (elim (cond b (Some i) (find (λ (i : Instance). i.id == of) (all ++ begun id ∷ []))) [ Some i ↦ i.order | None ↦ [] ])
-    go true more index by job h = h
-    go false more index by job h = more index by job h
+    go true more index test stays h = h
+    go false more index test stays h = more index test stays h
 
 -- Origins: an order that grows at its end adds them behind its own.
 abbrev pub origins_in : List Entry → List Origin

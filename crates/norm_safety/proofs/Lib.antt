@@ -10,6 +10,7 @@ pub mod SenderKeeps
 pub mod EntryLemmas
 pub mod CommandSteps
 pub mod OnceLemmas
+pub mod WrittenLemmas
 pub mod PlaceLemmas
 pub mod OnceRun
 pub mod WholeOrders

@@ -46,8 +46,10 @@ placed_later w later h by job now (Ok (receipt.Object index len)) e placed =
     ap (λ (v : World). has_place v.sender.current.id later by job (Ok (receipt.Object index len))) e ∙ placed
 placed_later w later h by job now (Ok (receipt.Opened index)) e placed =
     ap (λ (v : World). has_place v.sender.current.id later by job (Ok (receipt.Opened index))) e ∙ placed
-placed_later w later h by job now (Ok (receipt.Wrote index offset len)) e placed = refl
-placed_later w later h by job now (Ok (receipt.Closed index)) e placed = refl
+placed_later w later h by job now (Ok (receipt.Wrote index offset len)) e placed =
+    ap (λ (v : World). has_place v.sender.current.id later by job (Ok (receipt.Wrote index offset len))) e ∙ placed
+placed_later w later h by job now (Ok (receipt.Closed index)) e placed =
+    ap (λ (v : World). has_place v.sender.current.id later by job (Ok (receipt.Closed index))) e ∙ placed
 placed_later w later h by job now (Ok (receipt.Mark mark at)) e placed = refl
 placed_later w later h by job now (Ok (receipt.Restarted instance)) e placed = refl
 placed_later w later h by job now (Ok (receipt.Struck node)) e placed = refl
@@ -172,7 +174,7 @@ run_ends p w accepted (e ∷ events) honest h =
     let rest = run_ends p step.0 (accepted_with accepted e step.1) events honest.1 first.once in
     record {
       once = rest.once;
-      kept = λ id index by job was. rest.kept id index by job (first.kept id index by job was);
+      kept = λ id index test stays was. rest.kept id index test stays (first.kept id index test stays was);
       places = (first.own (last_world step.0 (happens p step.0 events)).sender rest.kept, rest.places);
     }
 
@@ -200,7 +202,11 @@ opening_once p = record { differ = tt; ids = (tt, tt); low = (omega arith, tt); 
 pub once_in : (p : Settings) (events : List Event) → Honest p events → OnceSoFar (history p events).now.sender (accepted_in p events)
 once_in p events honest = (run_ends p (world_opening p) [] events honest (opening_once p)).once
 
-pub once_each_run : (p : Settings) (events : List Event) → Lawful p events → OnceEach (history p events)
-once_each_run p events lawful =
-    let end = run_ends p (world_opening p) [] events (lawful_too p (world_opening p) [] events lawful) (opening_once p) in
+pub once_each_run : (p : Settings) (events : List Event) → Honest p events → OnceEach (history p events)
+once_each_run p events honest =
+    let end = run_ends p (world_opening p) [] events honest (opening_once p) in
     record { origins = end.once.differ; ids = end.once.ids; places = end.places }
+
+-- lawful runs are honest
+pub lawful_honest : (p : Settings) (events : List Event) → Lawful p events → Honest p events
+lawful_honest p events lawful = lawful_too p (world_opening p) [] events lawful

@@ -1,20 +1,22 @@
 -- An accepted object stands at the index that it was answered, and stays there.
-use Rattle.std.proofs.Common.{◌≡◌, ℕ, ◌+◌, cond, List, [], ◌∷◌, ◌++◌, length, Bool, true, false, Option, None, Some, Result, Ok, Err, refl, sym, ap, ◌∙◌}
-use Rattle.std.specs.Prelude.{map, find, ◌==◌, ◌&&◌, nat_eq, nat_le}
+use Rattle.std.proofs.Common.{◌≡◌, ℕ, ◌+◌, cond, List, [], ◌∷◌, ◌++◌, length, Bool, true, false, Option, None, Some, Result, Ok, Err, refl, sym, ap, ◌∙◌, arith}
+use Rattle.std.specs.Prelude.{map, find, ◌-◌, ◌==◌, ◌&&◌, is_none, nat_eq, nat_le}
 use Rattle.std.specs.Cmp.Lexicographic.{pointwise}
 use Rattle.std.specs.List.{IsDistinct, AllByRecursion}
 use Rattle.std.proofs.lemmas.Bool.Decides.{Decides-eqb}
+use Rattle.std.proofs.lemmas.List.{length-append}
 use Rattle.norm_base.specs.Settings.{Settings}
 use Rattle.norm_base.specs.declared.kinds.Kind.TheVariants as kind
 use Rattle.norm_base.specs.declared.node.Origin.{Origin}
 use Rattle.fec_plan.specs.declared.position.Position.{Position}
-use Rattle.norm_order.specs.Entries.{Write, End, Object, Whole, Stream, Entry}
+use Rattle.norm_order.specs.Entries.{Part, Write, End, Object, Whole, Stream, Entry}
+use Rattle.norm_order.specs.Segments.{written}
 use Rattle.norm_order.specs.Shapes.{last_source}
 use Rattle.norm_send_rules.specs.SenderState.{SenderState, Instance}
-use Rattle.norm_send_rules.specs.InWindow.{next_index, current_shapes}
+use Rattle.norm_send_rules.specs.InWindow.{next_index, last_index, current_shapes}
 use Rattle.norm_send_rules.specs.Restarting.{instances, is_used, begun_anew}
-use Rattle.norm_send_rules.specs.Enqueuing.{object_fault, joined}
-use Rattle.norm_send_rules.specs.Streaming.{open_fault, write_fault, close_fault, grown, parts_now, cut}
+use Rattle.norm_send_rules.specs.Enqueuing.{open_stream, object_fault, joined}
+use Rattle.norm_send_rules.specs.Streaming.{open_fault, write_fault, close_fault, grown, parts_now, with_last, cut}
 use Rattle.norm_send_rules.specs.Marking.{is_no_quorum, most_open, with_watermark, watermark_at, cut_and_marked}
 use Rattle.norm_send_rules.specs.Striking.{strike_fault, struck_off}
 use Rattle.norm_send_rules.specs.Watermarks.{open_watermarks}
@@ -28,28 +30,47 @@ use Rattle.norm_send_rules.specs.declared.job.Job.{Job}
 use Rattle.norm_send_rules.specs.declared.job.Job.TheVariants as job
 use Rattle.norm_send_rules.specs.declared.job.Receipt.{Receipt}
 use Rattle.norm_send_rules.specs.declared.job.Receipt.TheVariants as receipt
-use Rattle.norm_safety.specs.OnceEach.{instance_ids, brings, is_entry_by}
-use Rattle.norm_safety.proofs.EntryLemmas.{clash, by_at, AllKept}
+use Rattle.norm_safety.specs.Lawful.{same_origin}
+use Rattle.norm_safety.specs.OnceEach.{instance_ids, brings, is_by, has_written, is_closed, holds_at}
+use Rattle.norm_safety.proofs.EntryLemmas.{clash, Stays, true_at, with_last_is, AllKept}
 use Rattle.norm_safety.proofs.FrontLemmas.{list_itself}
 use Rattle.norm_safety.proofs.OnceLemmas.{same_self}
-use Rattle.norm_safety.proofs.CommandSteps.{where_free}
+use Rattle.norm_safety.proofs.CommandSteps.{where_free, first_none, open_parts_now}
+use Rattle.norm_safety.proofs.WrittenLemmas.{written_stays, has_last, closed_stays, ends_last}
 
--- the entry at an answered index of this instance is the command's
+-- at an answered index of this instance stands what the command brought there
 abbrev pub has_place : ℕ → SenderState → Origin → Job → Result Receipt SendFault → Bool
-has_place id s by job (Ok (receipt.Object index len)) = is_entry_by s id index by job
-has_place id s by job (Ok (receipt.Opened index)) = is_entry_by s id index by job
+has_place id s by job (Ok (receipt.Object index len)) = holds_at s id index (is_by by job)
+has_place id s by job (Ok (receipt.Opened index)) = holds_at s id index (is_by by job)
+has_place id s by job (Ok (receipt.Wrote index offset len)) = holds_at s id index (λ entry. has_written by job offset entry.object)
+has_place id s by job (Ok (receipt.Closed index)) = holds_at s id index (λ entry. is_closed entry.object)
 has_place id s by job _ = true
 
 -- a step's answer has its place
 abbrev pub IsPlaced : ℕ → Origin → Job → SenderState × Result Receipt SendFault → Type 0
 IsPlaced id by job step = has_place id step.0 by job step.1 ≡ true
 
+-- a command brings a stream whatever its parts
+brings_stream : (job : Job) (parts more : List Part) → brings job (Stream parts) ≡ brings job (Stream more)
+brings_stream (job.Data info bytes) parts more = refl
+brings_stream (job.File name bytes) parts more = refl
+brings_stream job.Open parts more = refl
+brings_stream (job.Write bytes) parts more = refl
+brings_stream job.Close parts more = refl
+brings_stream (job.Mark quorum) parts more = refl
+brings_stream (job.Restart instance) parts more = refl
+brings_stream (job.Strike node) parts more = refl
+
+brought_stays : (by : Origin) (job : Job) → Stays (is_by by job)
+brought_stays by job own parts more h = ap (λ (b : Bool). same_origin own by && b) (sym (brings_stream job parts (parts ++ more))) ∙ h
+
 pub stays_placed : (id : ℕ) (s later : SenderState) (by : Origin) (job : Job) (r : Result Receipt SendFault) → AllKept (instances s) (instances later)
     → has_place id s by job r ≡ true → has_place id later by job r ≡ true
-stays_placed id s later by job (Ok (receipt.Object index len)) kept h = kept id index by job h
-stays_placed id s later by job (Ok (receipt.Opened index)) kept h = kept id index by job h
-stays_placed id s later by job (Ok (receipt.Wrote index offset len)) kept h = h
-stays_placed id s later by job (Ok (receipt.Closed index)) kept h = h
+stays_placed id s later by job (Ok (receipt.Object index len)) kept h = kept id index (is_by by job) (brought_stays by job) h
+stays_placed id s later by job (Ok (receipt.Opened index)) kept h = kept id index (is_by by job) (brought_stays by job) h
+stays_placed id s later by job (Ok (receipt.Wrote index offset len)) kept h =
+    kept id index (λ entry. has_written by job offset entry.object) (written_stays by job offset) h
+stays_placed id s later by job (Ok (receipt.Closed index)) kept h = kept id index (λ entry. is_closed entry.object) closed_stays h
 stays_placed id s later by job (Ok (receipt.Mark mark at)) kept h = h
 stays_placed id s later by job (Ok (receipt.Restarted instance)) kept h = h
 stays_placed id s later by job (Ok (receipt.Struck node)) kept h = h
@@ -78,9 +99,13 @@ current_found (i ∷ earlier) current new e all =
     go true e found = absurd (clash (sym e))
     go false e found = found
 
-last_by : (order : List Entry) (entry : Entry) (job : Job) → brings job entry.object ≡ true → by_at (order ++ entry ∷ []) (length order) entry.by job ≡ true
-last_by [] entry job is = ap (λ (b : Bool). b && brings job entry.object) (same_self entry.by) ∙ is
-last_by (x ∷ order) entry job is = last_by order entry job is
+last_at : (order : List Entry) (entry : Entry) (test : Entry → Bool) → test entry ≡ true → true_at (order ++ entry ∷ []) (length order) test ≡ true
+last_at [] entry test is = is
+last_at (x ∷ order) entry test is = last_at order entry test is
+
+-- a command's own entry
+own_entry : (by : Origin) (job : Job) (object : Object) → brings job object ≡ true → is_by by job (record { by = by; object = object }) ≡ true
+own_entry by job object is = ap (λ (b : Bool). b && brings job object) (same_self by) ∙ is
 
 -- octets are themselves, and so is an info
 brings_data : (info : Option (List ℕ)) (bytes : List ℕ) → brings (job.Data info bytes) (Whole kind.Data info bytes) ≡ true
@@ -92,18 +117,40 @@ brings_file name bytes = ap (λ (b : Bool). b && pointwise nat_eq bytes bytes) (
 
 -- what joins the order stands at its end
 joined_placed : (p : Settings) (by : Origin) (job : Job) (object : Object) (s : SenderState) → brings job object ≡ true → IsDistinct nat_eq (instance_ids s)
-    → is_entry_by (joined p by object s) s.current.id (next_index s) by job ≡ true
+    → holds_at (joined p by object s) s.current.id (next_index s) (is_by by job) ≡ true
 joined_placed p by job object s is differ =
     let after = joined p by object s in
-    ap (λ (found : Option Instance). by_at (elim found [ Some i ↦ i.order | None ↦ [] ]) (next_index s) by job)
+    ap (λ (found : Option Instance). true_at (elim found [ Some i ↦ i.order | None ↦ [] ]) (next_index s) (is_by by job))
     (current_found s.earlier s.current after.current refl differ)
-    ∙ last_by s.current.order (record { by = by; object = object }) job is
+    ∙ last_at s.current.order (record { by = by; object = object }) (is_by by job) (own_entry by job object is)
 
 free_placed : (by : Origin) (job : Job) (found : Option EnqueueFault) (s after : SenderState) (receipt : Receipt)
-    → has_place s.current.id after by job (Ok receipt) ≡ true
+    → (found ≡ None → has_place s.current.id after by job (Ok receipt) ≡ true)
     → IsPlaced s.current.id by job (where_free found s after receipt)
-free_placed by job None s after receipt h = h
+free_placed by job None s after receipt h = h refl
 free_placed by job (Some fault) s after receipt h = refl
+
+-- the open stream with one part more stands at the end of the order
+grown_placed : (p : Settings) (s : SenderState) (part : Part) (test : Entry → Bool) → is_none (open_stream s) ≡ false → IsDistinct nat_eq (instance_ids s)
+    → ((own : Origin) → test (record { by = own; object = Stream (parts_now s ++ part ∷ []) }) ≡ true)
+    → holds_at (grown p s (parts_now s ++ part ∷ [])) s.current.id (last_index s) test ≡ true
+grown_placed p s part test is differ holds =
+    let parts = parts_now s ++ part ∷ [] in
+    let after = grown p s parts in
+    let ends = open_parts_now s is in
+    let last : Entry = record { by = ends.by; object = Stream parts } in
+    let order : after.current.order ≡ ends.front ++ last ∷ [] =
+    ap (λ (xs : List Entry). with_last (Stream parts) xs) ends.is ∙ with_last_is (Stream parts) ends.front (record { by = ends.by; object = Stream (parts_now s) }) in
+    let index : last_index s ≡ length ends.front =
+    ap (λ (xs : List Entry). length xs - 1) ends.is ∙ ends_length ends.front (record { by = ends.by; object = Stream (parts_now s) }) in
+    ap (λ (found : Option Instance). true_at (elim found [ Some i ↦ i.order | None ↦ [] ]) (last_index s) test)
+    (current_found s.earlier s.current after.current refl differ)
+    ∙ ap (λ (n : ℕ). true_at after.current.order n test) index
+    ∙ ap (λ (xs : List Entry). true_at xs (length ends.front) test) order
+    ∙ last_at ends.front last test (holds ends.by)
+  where
+    ends_length : (front : List Entry) (last : Entry) → length (front ++ last ∷ []) - 1 ≡ length front
+    ends_length front last = (let all = length-append front (last ∷ []) in omega (arith, all))
 
 mark_placed : (p : Settings) (s : SenderState) (by : Origin) (job : Job) (quorum : Option ℕ) (found : Option Position)
     → IsPlaced s.current.id by job (answered Mark (watermark_at (cut p s) by quorum found))
@@ -122,16 +169,24 @@ pub command_placed : (p : Settings) (s : SenderState) (by : Origin) (job : Job) 
     → IsPlaced s.current.id by job (commanded p s by job)
 command_placed p s by (job.Data info bytes) differ =
     free_placed by (job.Data info bytes) (object_fault p s info bytes) s (joined p by (Whole kind.Data info bytes) s) _
-    (joined_placed p by (job.Data info bytes) (Whole kind.Data info bytes) s (brings_data info bytes) differ)
+    (λ none. joined_placed p by (job.Data info bytes) (Whole kind.Data info bytes) s (brings_data info bytes) differ)
 command_placed p s by (job.File name bytes) differ =
     free_placed by (job.File name bytes) (object_fault p s (Some name) bytes) s (joined p by (Whole kind.File (Some name) bytes) s) _
-    (joined_placed p by (job.File name bytes) (Whole kind.File (Some name) bytes) s (brings_file name bytes) differ)
+    (λ none. joined_placed p by (job.File name bytes) (Whole kind.File (Some name) bytes) s (brings_file name bytes) differ)
 command_placed p s by job.Open differ =
-    free_placed by job.Open (open_fault p s) s (joined p by (Stream []) s) _ (joined_placed p by job.Open (Stream []) s refl differ)
+    free_placed by job.Open (open_fault p s) s (joined p by (Stream []) s) _ (λ none. joined_placed p by job.Open (Stream []) s refl differ)
 command_placed p s by (job.Write bytes) differ =
-    let parts = parts_now s ++ Write by bytes ∷ [] in free_placed by (job.Write bytes) (write_fault p s bytes parts) s (grown p s parts) _ refl
+    let parts = parts_now s ++ Write by bytes ∷ [] in
+    free_placed by (job.Write bytes) (write_fault p s bytes parts) s (grown p s parts) _ (λ none.
+    let first = first_none _ _ _ none in
+    let second = first_none _ _ _ first.1 in
+    let third = first_none _ _ _ second.1 in
+    grown_placed p s (Write by bytes) (λ entry. has_written by (job.Write bytes) (length (written (parts_now s))) entry.object) third.0 differ
+    (λ own. has_last by bytes (parts_now s)))
 command_placed p s by job.Close differ =
-    let parts = parts_now s ++ End ∷ [] in free_placed by job.Close (close_fault p s parts) s (grown p s parts) _ refl
+    let parts = parts_now s ++ End ∷ [] in
+    free_placed by job.Close (close_fault p s parts) s (grown p s parts) _ (λ none.
+    grown_placed p s End (λ entry. is_closed entry.object) (first_none _ _ _ none).0 differ (λ own. ends_last (parts_now s)))
 command_placed p s by (job.Mark None) differ = mark_placed p s by (job.Mark None) None (last_source (current_shapes p (cut p s)))
 command_placed p s by (job.Mark (Some q)) differ = go (is_no_quorum p q)
   where

@@ -13,6 +13,7 @@ use Rattle.norm_safety.specs.OnceEach.{OnceEach, is_once_each}
 use Rattle.norm_safety.specs.InOrder.{InOrder, is_in_order}
 use Rattle.norm_safety.specs.ListedAfter.{ListedAfter, is_listed_after}
 use Rattle.norm_safety.specs.SatisfiedExactly.{SatisfiedExactly, is_satisfied_exactly}
+use Rattle.norm_safety.specs.InTime.{Honest}
 use Rattle.norm_safety.specs.Lawful.{Lawful, is_lawful}
 use Rattle.norm_safety.specs.Jobs.{AreEvents, AreOfObjects}
 use Rattle.norm_safety.specs.Safe.{IsSafe, Safe, is_safe}
@@ -63,10 +64,11 @@ SatisfiedRun = (p : Settings) → InRange p → (events : List Event) → Satisf
 
 -- Safety. Every lawful run of data and files is safe: accepted objects enter the transport order once each; each receiver hands up
 -- that order, with a loss only below the drop point; a receiver is listed past a watermark only after it handed up everything
--- before; and a watermark is satisfied exactly where its quorum is listed. The first part holds of every lawful run.
+-- before; and a watermark is satisfied exactly where its quorum is listed. The first part holds of every honest run, streams included,
+-- however late a datagram comes.
 pub record SafeRun : Type 0 where
   pub safe : OfRunsOfObjects IsSafe
-  pub once : (p : Settings) (events : List Event) → Lawful p events → OnceEach (history p events)
+  pub once : (p : Settings) (events : List Event) → Honest p events → OnceEach (history p events)
   pub order : OfRunsOfObjects InOrder
   pub listed : OfRunsOfObjects ListedAfter
 

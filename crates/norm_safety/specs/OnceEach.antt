@@ -1,11 +1,12 @@
 -- The first part of safety: accepted objects enter the transport order once each.
-use Rattle.std.specs.Prelude.{ℕ, ◌==◌, ◌&&◌, List, [], ◌∷◌, ◌++◌, map, flat_map, find, slice_get, nat_eq, Bool, true, false, not, None, Some, Ok, IsTrue}
+use Rattle.std.specs.Prelude.{ℕ, ◌==◌, ◌&&◌, List, [], ◌∷◌, ◌++◌, length, take, drop, map, flat_map, find, slice_get, nat_eq, Bool, true, false, not, None, Some, Ok, IsTrue}
 use Rattle.std.specs.List.{list_all, list_any, IsDistinct, AllByRecursion}
 use Rattle.std.specs.Cmp.Lexicographic.{pointwise}
 use Rattle.std.specs.Option.{option_eq}
 use Rattle.norm_base.specs.declared.kinds.Kind.TheVariants as kind
 use Rattle.norm_base.specs.declared.node.Origin.{Origin}
 use Rattle.norm_order.specs.Entries.{Part, Write, Object, Whole, Stream, Entry}
+use Rattle.norm_order.specs.Segments.{written, has_end}
 use Rattle.norm_send_rules.specs.SenderState.{SenderState, Instance, Watermark}
 use Rattle.norm_send_rules.specs.Restarting.{instances}
 use Rattle.norm_send_rules.specs.declared.job.Job.{Job}
@@ -47,18 +48,43 @@ brings (job.File name bytes) (Whole own_kind own octets) =
 brings job.Open (Stream parts) = true
 brings _ _ = false
 
--- the entry of an instance at an index came by this command, and is the object that it brings
-abbrev pub is_entry_by : SenderState → ℕ → ℕ → Origin → Job → Bool
-is_entry_by s id index by job = elim (slice_get (order_of s id) index) [ Some entry ↦ same_origin entry.by by && brings job entry.object | None ↦ false ]
+-- an entry came by this command, and is the object that it brings
+abbrev pub is_by : Origin → Job → Entry → Bool
+is_by by job entry = same_origin entry.by by && brings job entry.object
 
--- an accepted object has its answered index in the order
+-- a part of a stream is what this command wrote
+abbrev pub is_write_by : Origin → List ℕ → Part → Bool
+is_write_by by bytes (Write own octets) = same_origin own by && pointwise nat_eq bytes octets
+is_write_by by bytes _ = false
+
+-- the octets of a stream from an offset on are those that this command wrote, and one of its parts came by it
+abbrev pub has_written : Origin → Job → ℕ → Object → Bool
+has_written by (job.Write bytes) offset (Stream parts) =
+    pointwise nat_eq bytes (take (length bytes) (drop offset (written parts))) && list_any (is_write_by by bytes) parts
+has_written _ _ _ _ = false
+
+-- a stream that was closed
+abbrev pub is_closed : Object → Bool
+is_closed (Stream parts) = has_end parts
+is_closed (Whole kind info octets) = false
+
+-- this is true of the entry of an instance at an index
+abbrev pub holds_at : SenderState → ℕ → ℕ → (Entry → Bool) → Bool
+holds_at s id index test = elim (slice_get (order_of s id) index) [ Some entry ↦ test entry | None ↦ false ]
+
+-- At the answered index of the order stands an accepted object; a stream that has what was accepted for it from the answered offset on; or
+-- one that was closed.
 abbrev pub has_its_place : SenderState → Happening → Event → Answer → Bool
-has_its_place s h (Commanded by job now) (Gave (Ok (receipt.Object index len))) = is_entry_by s h.before.sender.current.id index by job
-has_its_place s h (Commanded by job now) (Gave (Ok (receipt.Opened index))) = is_entry_by s h.before.sender.current.id index by job
+has_its_place s h (Commanded by job now) (Gave (Ok (receipt.Object index len))) = holds_at s h.before.sender.current.id index (is_by by job)
+has_its_place s h (Commanded by job now) (Gave (Ok (receipt.Opened index))) = holds_at s h.before.sender.current.id index (is_by by job)
+has_its_place s h (Commanded by job now) (Gave (Ok (receipt.Wrote index offset len))) =
+    holds_at s h.before.sender.current.id index (λ entry. has_written by job offset entry.object)
+has_its_place s h (Commanded by job now) (Gave (Ok (receipt.Closed index))) =
+    holds_at s h.before.sender.current.id index (λ entry. is_closed entry.object)
 has_its_place s h _ _ = true
 
 -- Each command stands at most once among all orders and watermarks, instances have different ids, and at the index that an accepted
--- object was answered stands that object, octet for octet.
+-- object was answered stands that object, octet for octet, as in a stream from the answered offset on what was written to it.
 pub record OnceEach (h : History) : Type 0 where
   pub origins : IsDistinct same_origin (origins h.now.sender)
   pub ids : IsDistinct nat_eq (instance_ids h.now.sender)

@@ -9,7 +9,7 @@ ghost use Rattle.norm_safety.specs.LosesNothing.{LosesNothing};
 ghost use Rattle.norm_safety.specs.WorldLaws.{WorldLaws};
 
 /// Every lawful run of data and files is safe, whatever the network loses, repeats, reorders or delays and however often the
-/// sender restarts. Accepted objects enter the transport order once each, which holds of every lawful run. Each receiver
+/// sender restarts. Accepted objects enter the transport order once each, which holds of every honest run, streams included. Each receiver
 /// hands up an instance's order from its beginning, without a gap and octet for octet, with a loss only below the drop point,
 /// and is in each instance once. A receiver is listed past a watermark only after it handed up everything before. And a
 /// watermark is satisfied exactly where its quorum is listed past it.
