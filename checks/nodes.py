@@ -6,8 +6,7 @@
 For each recorded run (checks/README.md says what one is) and each of its nodes a new node is handed the events that were its own, in
 their order: commands, datagrams, ticks, takes of hand-ups and of news. Each answer has to be the recorded one, a datagram octet for
 octet, and at the end what the node tells of itself has to be as recorded. Each difference is printed with its event, and their number
-is printed last. Streams are not built yet: a node is driven up to the first event of a stream, and how many nodes are left there, and how many
-events that leaves out, is printed.
+is printed last.
 
 NAME is a part of a run's name. The program is crates/replay/out/replay, which `rt ci` leaves there, or FILE; with `--unproved` the tool `rt`
 runs it before anything is proved. Exit status: 0 where nothing differs, 1 where something does, 2 where the program failed."""
@@ -125,12 +124,8 @@ def is_wanted(line, want, gave):
 
 
 def compare(tally, name, node, events, came):
-    """Compares one node's answers with the record, up to its first event of a stream, and prints where they differ."""
-    for i, ((line, want, place), gave) in enumerate(zip(events, came)):
-        if gave == 'stream':
-            tally['left'] += 1
-            tally['unmet'] += sum(p is not None for _, _, p in events[i:])
-            return
+    """Compares one node's answers with the record, and prints where they differ."""
+    for (line, want, place), gave in zip(events, came):
         tally['events'] += place is not None
         if not is_wanted(line, want, gave):
             tally['differ'] += 1
@@ -168,8 +163,7 @@ def main():
     except (Failed, OSError) as e:
         print('nodes: ' + str(e))
         return 2
-    print('nodes: %d runs; %d nodes at their end and %d left at their first event of a stream, as streams are not built; %d events driven and %d left out; %d differ'
-          % (runs, tally['nodes'], tally['left'], tally['events'], tally['unmet'], tally['differ']))
+    print('nodes: %d runs; %d nodes at their end; %d events driven; %d differ' % (runs, tally['nodes'], tally['events'], tally['differ']))
     return 1 if tally['differ'] else 0
 
 

@@ -147,6 +147,8 @@ recorded direct
 recorded many-commands
 recorded file-over-loss
 recorded drop-over-loss
+recorded stream
+recorded streams
 
 # Options stand in place of the script's keys: the last turn, and the seed of what the network and the session draw.
 printf '1 data 61\n1 data 62\n' >"$scratch/in"
@@ -183,13 +185,13 @@ fails 7 '' "${set}1 data 01\n1 file none.txt\n1 data 02\n" 'enq 1 1 7 0 data 1\n
 fails 7 'cannot use the file ./folder: is a directory\n' '1 file folder\n' 'fault files\n'
 fails 0 '' "set fabric udp\nset port $((20000 + $$ % 20000))\n1 data 61\n1 mark\n" 'enq 1 1 1 0 data 1\nup 2 1 0 data 1 - 61\nmark 1 2 1 1 0 0 0\npast 2 1 0 0 0\ndone 1 satisfied\nend objects 1 octets 1 handed 1 lost 0 satisfied 1 expired 0 cut 0\n'
 
+# Commands of streams that are refused.
+fails 0 '' '1 mark\n1 open\n1 data 01\n' 'no 1 1 nothing-enqueued\nenq 1 2 1 0 open\nno 1 3 stream-open 0\nend objects 1 octets 0 handed 0 lost 0 satisfied 0 expired 0 cut 0\n'
+fails 0 '' '1 write 41\n1 close\n' 'no 1 1 no-stream\nno 1 2 no-stream\nend objects 0 octets 0 handed 0 lost 0 satisfied 0 expired 0 cut 0\n'
+
 # Lines of a script without a meaning, and why.
 contents='contents are an even number of hexadecimal digits, 2 to 16384'
 form='it is neither `set KEY VALUE` nor `P VERB ..`, P a producer'"'"'s number from 1 on'
-streams='a session does not run open, write and close yet'
-refused 1 "$streams" '1 open\n'
-refused 2 "$streams" '1 data 61\n1 write 62\n'
-refused 1 "$streams" '1 close\n'
 refused 1 'a quorum is a number from 1 to 16' '1 mark 0\n'
 refused 1 'a quorum is a number from 1 to 16' '1 mark 17\n'
 refused 1 '63 is below 64, the least e' 'set e 63\n'
@@ -320,7 +322,6 @@ unsent() {
 }
 
 unsent 1 'no key is set here: keys are set before every command' 'set e 64\n1 data 61\n'
-unsent 2 "$streams" '1 data 61\n1 open\n'
 unsent 3 "$contents" '1 data 61\n1 open\n1 data 6\n'
 unsent 2 'the producer is 2, and there are 1' '\n2 data 61\n'
 

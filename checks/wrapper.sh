@@ -45,7 +45,7 @@ run / "$scratch/again" sessions
 row 'the proved program at other words' 2 "$usage" 2
 grep -q '^the word sessions is unknown$' "$scratch/err" || wrong 'why words are refused is lost'
 grep -q '^normd [0-9.]*$' "$scratch/err" || wrong 'the version is lost'
-echo '1 open' >"$scratch/in"
+echo '1 data 6' >"$scratch/in"
 run / "$scratch/again" session
 row 'the proved program at a refused line' 3 'refused line 1' 1
 cp examples/hello.norm "$scratch/in"

@@ -11,7 +11,6 @@ ENDINGS = {'whole': 1, 'spent': 2, 'absent': 3}
 # what journals bring in beside the definitions of the world
 USES = '''use Rattle.norm_script.specs.Commands.{Commands}
 use Rattle.norm_script.specs.Reading.{script_of as read_script}
-use Rattle.norm_script.specs.declared.refusal.Extent.TheVariants as extent
 use Rattle.norm_base.specs.Members.{receivers_of}
 use Rattle.norm_base.specs.declared.kinds.Sent.TheVariants as sent
 use Rattle.norm_journal.specs.declared.event.Event.{Event as JournalEvent}

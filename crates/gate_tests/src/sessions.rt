@@ -1,11 +1,11 @@
 //! What a session does with its gate and its board.
 ghost use Rattle.std.specs.Prelude.{◌≡◌, IfOk, IfSome};
-ghost use Rattle.norm_session.specs.Session.{IsRunnable};
+ghost use Rattle.norm_script.specs.Scripts.{IsScript};
 
 use mark_book::Outcome;
 use norm_base::Memory;
 use norm_memory::{DirectFabric, MemClock, MemFiles, MemSink};
-use norm_script::{Extent, Script, read};
+use norm_script::{Script, read};
 use norm_session::{SessionFault, run_session};
 use producer_gate::{Board, Seen, Through, Turnstile};
 use std::alloc::Global;
@@ -17,9 +17,9 @@ use std::thread::Threads;
 
 /// The script that a text is, if it can be run.
 fn script_of(alloc: Global, text: &[u8]) -> Result<Option<Script>, Memory>
-    ensures { IfOk result (λ found. IfSome found IsRunnable) }
+    ensures { IfOk result (λ found. IfSome found IsScript) }
 {
-    match read(alloc, text, Extent::Built) {
+    match read(alloc, text) {
         Ok(Ok(script)) => Ok(Some(script)),
         Ok(Err(_)) => Ok(None),
         Err(_) => Err(Memory),
@@ -34,7 +34,7 @@ fn ran<R: Threads + Wait + Sync, G: Turnstile + Sync>(
     gate: &G,
     board: &mut Board,
 ) -> Result<bool, SessionFault>
-    requires { IsRunnable script.now }
+    requires { IsScript script.now }
     ensures { board.new.id ≡ board.old.id }
 {
     let mut output = MemSink::of(Vec::new(alloc), Vec::new(alloc));

@@ -1,7 +1,8 @@
 -- What an entry stands for stays so as another one is sent.
-use Rattle.std.proofs.Common.{◌≡◌, ℕ, sym, ap, ◌∙◌}
+use Rattle.std.proofs.Common.{◌≡◌, ℕ, List, sym, ap, ◌∙◌}
 use Rattle.std.specs.Prelude.{nat_lt}
 use Rattle.fec_plan.specs.Points.{Position, position_before}
+use Rattle.norm_order.specs.Entries.{Part, Object, Stream}
 use Rattle.norm_order.specs.Sets.{is_member, with_member}
 use Rattle.norm_order.specs.Shapes.{shape_of, sources_in}
 use Rattle.norm_order.proofs.SetLemmas.{others_in, positions, numbers}
@@ -12,6 +13,10 @@ use Rattle.held_entry.specs.EntryState.{EntryReads, StandsFor}
 use Rattle.held_entry.specs.Laws.{OthersStay}
 use Rattle.held_entry.specs.declared.entry.HeldEntry.{HeldEntry}
 use Rattle.held_entry.specs.declared.entry.HeldEntry.TheVariants as held
+
+-- a stream has its own parts
+pub same_parts : (parts more : List Part) → ◌≡◌ {A = Object} (Stream parts) (Stream more) → parts ≡ more
+same_parts parts more e = cc
 
 symbol_stays : (r : EntryReads) (e : HeldEntry) (at : Position) → StandsFor r e → (at.index ≡ r.index → ⊥)
     → StandsFor (record r { sent = with_member position_before at r.sent }) e

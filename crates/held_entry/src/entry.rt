@@ -13,7 +13,7 @@ ghost use Rattle.norm_send_rules.specs.SenderState.{SenderState};
 ghost use Rattle.norm_send_rules.specs.Watermarks.{all_past};
 ghost use Rattle.norm_send_rules.specs.Room.{size_of, may_go, is_released};
 ghost use Rattle.norm_send_rules.specs.Sending.{sent_once};
-ghost use Rattle.stream_buffer.specs.StreamState.{StandsFor as KeepsStream};
+ghost use Rattle.stream_buffer.specs.StreamState.{StandsFor as KeepsStream, with_cut};
 ghost use Rattle.held_object.specs.Held.{info_of};
 ghost use Rattle.held_entry.specs.EntryState.{EntryReads, reads_of, StandsFor, first_of};
 ghost use Rattle.held_entry.specs.Asked.{is_sent, Lies, IsKept, AnswersKept, IsNext};
@@ -241,6 +241,29 @@ impl HeldEntry {
         match self {
             HeldEntry::Object(held) => Some(held.last(index)),
             HeldEntry::Stream(stream) => stream.last(index),
+        }
+    }
+
+    /// The last closed source symbol once the segment that fills of a stream is cut, where the entry has this index.
+    pub fn last_cut(&self, index: u32) -> Option<Position>
+        ensures { (r : EntryReads) (parts : List Part) → StandsFor r self.now → r.object ≡ Stream parts
+            → result ≡ last_in index (shape_of r.p (Stream (with_cut r.p.e parts))) }
+    {
+        match self {
+            HeldEntry::Object(held) => Some(held.last(index)),
+            HeldEntry::Stream(stream) => stream.last_cut(index),
+        }
+    }
+
+    /// The segments of a stream have room, and 24 bits number its blocks. Nothing is done.
+    pub fn fits(&self)
+        ensures segments { (r : EntryReads) (parts : List Part) → StandsFor r self.now → r.object ≡ Stream parts
+            → ((shape_of r.p (Stream parts)).closed ≤ (first_of self.now + r.p.blocks) * r.p.b) × ((shape_of r.p (Stream parts)).closed ≤ 16777216 * r.p.b) }
+        ensures first { first_of self.now ≤ 16777216 }
+    {
+        match self {
+            HeldEntry::Object(_) => (),
+            HeldEntry::Stream(stream) => stream.fits(),
         }
     }
 

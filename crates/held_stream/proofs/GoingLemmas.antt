@@ -94,6 +94,18 @@ block_below block g segments b le few same some = go (cases_lt block 16777216)
     go (inl lt) = lt
     go (inr past) = absurd (let many : 16777216 * g ≤ block * g = mul-le-mul_right g past in omega (arith, many, le, few, same, some))
 
+-- of so many segments, in blocks of b, those that are kept have room
+pub room_is : (first blocks b rows : ℕ) → rows ≤ blocks * b → first * b + rows ≤ (first + blocks) * b
+room_is first blocks b rows le = let both : (first + blocks) * b ≡ first * b + blocks * b = omega arith in omega (arith, both, le)
+
+-- the number of the first block that is kept has 24 bits, or is the one behind
+pub first_below : (first b rows : ℕ) → 1 ≤ b → first * b + rows ≤ 16777216 * b → first ≤ 16777216
+first_below first b rows some few = go (cases_lt 16777216 first)
+  where
+    go : (16777216 < first) ⊎ (first ≤ 16777216) → first ≤ 16777216
+    go (inr le) = le
+    go (inl past) = absurd (let many : 16777217 * b ≤ first * b = mul-le-mul_right b (let z : 16777217 ≤ first = omega (arith, past) in z) in omega (arith, many, few, some))
+
 pub last_below : (n g b : ℕ) → 1 ≤ g → g ≡ b → n ≤ 16777216 * b → (n ≡ 0 → ⊥) → (n - 1) / g < 16777216
 last_below n g b some same few more = go (cases_lt ((n - 1) / g) 16777216)
   where

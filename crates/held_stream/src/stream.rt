@@ -104,6 +104,16 @@ impl HeldStream {
         self.buffer.segments()
     }
 
+    /// Its segments have room, and 24 bits number its blocks. Nothing is done.
+    pub fn fits(&self)
+        ensures room { closed_segments self.now.buffer ≤ (self.now.buffer.first + self.now.buffer.blocks) * self.now.buffer.cut.b }
+        ensures few { closed_segments self.now.buffer ≤ 16777216 * self.now.buffer.cut.b }
+        ensures first { self.now.buffer.first ≤ 16777216 }
+    {
+        let _kept = self.buffer.kept();
+        let _closed = self.buffer.segments();
+    }
+
     /// How many octets were written so far.
     pub fn octets(&self) -> u32
         ensures { result ≡ self.now.buffer.octets }
@@ -344,11 +354,12 @@ impl HeldStream {
         are_sent(&self.sent, 0, self.sent.len())
     }
 
-    /// The last closed segment, where the stream has this index. `None` exactly where no segment is closed.
-    pub fn last(&self, index: u32) -> Option<Position>
-        ensures { (p : Settings) (parts : List Part) → StandsFor p parts self.now.buffer → result ≡ last_in index (shape_of p (Stream parts)) }
+    /// The last of so many segments, where the stream has this index. `None` exactly where there is none.
+    fn last_of(&self, index: u32, segments: u32) -> Option<Position>
+        requires { segments ≤ 16777216 * self.now.buffer.cut.b }
+        ensures { (p : Settings) (parts more : List Part) → StandsFor p parts self.now.buffer → segments ≡ (shape_of p (Stream more)).closed
+            → result ≡ last_in index (shape_of p (Stream more)) }
     {
-        let segments = self.buffer.segments();
         if segments == 0 {
             return None;
         }
@@ -359,5 +370,20 @@ impl HeldStream {
             block: last / b,
             symbol: (last % b) as u8,
         })
+    }
+
+    /// The last closed segment, where the stream has this index. `None` exactly where no segment is closed.
+    pub fn last(&self, index: u32) -> Option<Position>
+        ensures { (p : Settings) (parts : List Part) → StandsFor p parts self.now.buffer → result ≡ last_in index (shape_of p (Stream parts)) }
+    {
+        self.last_of(index, self.buffer.segments())
+    }
+
+    /// The last closed segment once the one that fills is cut, where the stream has this index.
+    pub fn last_cut(&self, index: u32) -> Option<Position>
+        ensures { (p : Settings) (parts : List Part) → StandsFor p parts self.now.buffer
+            → result ≡ last_in index (shape_of p (Stream (with_cut p.e parts))) }
+    {
+        self.last_of(index, self.buffer.segments_cut())
     }
 }

@@ -23,15 +23,15 @@ use Rattle.norm_send_rules.specs.Laws.{Rise}
 use Rattle.norm_send_rules.specs.Wants.{want_before}
 use Rattle.norm_send_rules.specs.declared.want.Want.{Want}
 use Rattle.norm_send_rules.proofs.ClosingLemmas.{rise_more}
-use Rattle.nack_union.specs.Slots.{want_at, slot_of_want}
-use Rattle.nack_union.specs.Kept.{Marked, Kept, Holds, listed, shape_of_marked, symbols_of_marked, admitted}
+use Rattle.nack_union.specs.Slots.{want_at, slot_of_want, stands_from}
+use Rattle.nack_union.specs.Kept.{Marked, Kept, Holds, FrontsAre, listed, shape_of_marked, symbols_of_marked, admitted}
 use Rattle.nack_union.specs.More.{kept_count}
 use Rattle.nack_union.specs.Earliest.{lesser, earliest, earliest_with}
 use Rattle.nack_union.specs.Collected.{Collects, IsKnownIn, asked_of}
 use Rattle.nack_union.specs.Adding.{IsPlanned, HasAsked, HasAdded, asks_slot, is_asked_slot}
 use Rattle.nack_union.proofs.Rooms.{rooms_by}
 use Rattle.nack_union.proofs.Orders.{want_there}
-use Rattle.nack_union.proofs.Dropped.{behind_start, index_at}
+use Rattle.nack_union.proofs.Fronts.{slot_behind, slot_kept}
 use Rattle.nack_union.proofs.Members.{member_at}
 use Rattle.nack_union.proofs.Lists.{In, in_left, in_right, in_either, flat_in, in_flat, filter_in, in_filter, same_set}
 use Rattle.nack_union.proofs.Sources.{any_in, in_any, map_in, in_map}
@@ -62,6 +62,15 @@ same_shapes (n ∷ new) (o ∷ old) d many same =
     ap (λ (x : Shape). x ∷ map shape_of_marked new) (same 0 (omega arith))
     ∙ ap (λ xs. shape_of_marked o ∷ xs) (same_shapes new old d (omega (arith, many)) (λ k lt. same (suc k) (omega arith)))
 
+same_fronts : (new old : List Marked) (d : Marked) → length new ≡ length old → ((k : ℕ) → k < length old → (get_or new k d).first ≡ (get_or old k d).first)
+    → map (λ m. m.first) new ≡ map (λ m. m.first) old
+same_fronts [] [] d many same = refl
+same_fronts [] (o ∷ old) d many same = absurd (omega (arith, many))
+same_fronts (n ∷ new) [] d many same = absurd (omega (arith, many))
+same_fronts (n ∷ new) (o ∷ old) d many same =
+    ap (λ x. x ∷ map (λ (m : Marked). m.first) new) (same 0 (omega arith))
+    ∙ ap (λ xs. o.first ∷ xs) (same_fronts new old d (omega (arith, many)) (λ k lt. same (suc k) (omega arith)))
+
 some_object : Marked
 some_object = admitted (stream_cut 0 0 0) false
 
@@ -69,7 +78,7 @@ some_object = admitted (stream_cut 0 0 0) false
 pub stands_added : (p : Settings) (s : SenderState) (old new : Kept) (requests : List Named) → Holds p old s → HasAdded requests old new → Holds p new s
 stands_added p s old new requests st h = record {
   first = h.first ∙ st.first;
-  whole = st.whole;
+  fronts = subst (FrontsAre s.current.drop.block) (sym (same_fronts new.objects old.objects some_object h.objects (λ k lt. ap (λ (m : Marked). m.first) (h.each k some_object lt).rest))) st.fronts;
   next = let next = st.next in let first = h.first in let many = h.objects in omega (arith, next, first, many);
   shapes =
       same_shapes new.objects old.objects some_object h.objects (λ k lt. ap shape_of_marked (h.each k some_object lt).rest)
@@ -83,7 +92,7 @@ stands_added p s old new requests st h = record {
       ap (λ n. listed (λ m. m.sent) n new.objects) h.first
       ∙ same_listed (λ m. m.sent) old.first new.objects old.objects some_object h.objects (λ k lt. ap (λ (m : Marked). m.sent) (h.each k some_object lt).rest)
       ∙ st.sent;
-  rooms = rooms_by p new.objects old.objects some_object h.objects (λ k lt. (ap (λ (m : Marked). m.cut) (h.each k some_object lt).rest, (h.each k some_object lt).blocks)) st.rooms;
+  rooms = rooms_by p new.objects old.objects some_object h.objects (λ k lt. (ap (λ (m : Marked). m.cut) (h.each k some_object lt).rest, ap (λ (m : Marked). m.first) (h.each k some_object lt).rest, (h.each k some_object lt).blocks)) st.rooms;
 }
 
 known_all : (u : Kept) (n : ℕ) (xs ys : List Asked) → AllByRecursion (IsKnownIn u n) xs → AllByRecursion (IsKnownIn u n) ys → AllByRecursion (IsKnownIn u n) (xs ++ ys)
@@ -173,7 +182,7 @@ later p s found (a ∷ asked) requests = later p s (lesser found (earliest a.req
 
 -- A union that collected what was asked, to which requests were added.
 module _ (p : Settings) (s : SenderState) (old new : Kept) (asked : List Asked) (requests : List Named)
-    (st : Holds p old s) (planned : AllByRecursion IsPlanned old.objects) (col : Collects p old s asked) (h : HasAdded requests old new) where
+    (st : Holds p old s) (planned : AllByRecursion IsPlanned old.objects) (now_planned : AllByRecursion IsPlanned new.objects) (col : Collects p old s asked) (h : HasAdded requests old new) where
   abbrev more : List Asked
   more = map (asked_of p s) requests
 
@@ -192,13 +201,13 @@ module _ (p : Settings) (s : SenderState) (old new : Kept) (asked : List Asked) 
   old_at : (k a : ℕ) (d : Marked) → k < length old.objects → is_member want_before (want_at (old.first + k) a) (collected old) ≡ is_member nat_lt a (get_or old.objects k d).asked
   old_at k a d lt = member_at (λ m. m.asked) old.first k a old.objects d lt
 
-  new_at : (k a : ℕ) (d : Marked) → k < length old.objects
+  new_at : (k a : ℕ) (d : Marked) → k < length old.objects → stands_from (get_or old.objects k d).first a ≡ true
       → is_member want_before (want_at (old.first + k) a) (collected new)
       ≡ (is_member nat_lt a (get_or old.objects k d).asked || is_asked_slot requests (old.first + k) (get_or old.objects k d) a)
-  new_at k a d lt =
+  new_at k a d lt kept =
       ap (λ i. is_member want_before (want_at (i + k) a) (collected new)) (sym h.first)
       ∙ member_at (λ m. m.asked) new.first k a new.objects d (let many = h.objects in omega (arith, many, lt))
-      ∙ (h.each k d lt).asked a
+      ∙ (h.each k d lt).asked a kept
 
   -- what was collected before
   from_old : (w : Want) → In w (collected old) → In w (filter behind (flat_map wants (asked ++ more)))
@@ -212,21 +221,21 @@ module _ (p : Settings) (s : SenderState) (old new : Kept) (asked : List Asked) 
       go (inr none) = absurd none
 
   -- what a request adds
-  from_request : (k a : ℕ) → k < length old.objects → (r : Named) → In r requests → asks_slot r (old.first + k) (get_or old.objects k some_object) a ≡ true
+  from_request : (k a : ℕ) → k < length old.objects → stands_from (get_or old.objects k some_object).first a ≡ true → (r : Named) → In r requests → asks_slot r (old.first + k) (get_or old.objects k some_object) a ≡ true
       → In (want_at (old.first + k) a) (filter behind (flat_map wants (asked ++ more)))
-  from_request k a lt r here asks =
+  from_request k a lt kept r here asks =
       filter_in behind (want_at (old.first + k) a) (flat_map wants (asked ++ more))
       (subst (In (want_at (old.first + k) a)) (sym (flat_map-append wants asked more))
       (in_right (want_at (old.first + k) a) (flat_map wants asked) (flat_map wants more)
       (flat_in wants (want_at (old.first + k) a) (asked_of p s r) more (map_in (asked_of p s) r requests here)
       (slot_in p s old r some_object st planned k a lt asks))))
-      (behind_start s.current.drop (want_at (old.first + k) a) st.whole (let f = st.first in let g = index_at (old.first + k) a in omega (arith, f, g)))
+      (slot_behind s.current.drop old.first k a old.objects some_object st.fronts st.first lt kept)
 
   there : (w : Want) → In w (collected new) → In w (filter behind (flat_map wants (asked ++ more)))
   there w here = go (in_listed (λ m. m.asked) new.first new.objects w here)
     where
       go : (k : ℕ) × (a : ℕ) × (k < length new.objects) × (w ≡ want_at (new.first + k) a) → In w (filter behind (flat_map wants (asked ++ more)))
-      go (k, a, less, same) = subst (λ v. In v (filter behind (flat_map wants (asked ++ more)))) (sym is) (by (one_of _ _ (sym (new_at k a some_object lt) ∙ is_found (want_at (old.first + k) a) (collected new) h.rise (subst (λ v. In v (collected new)) is here))))
+      go (k, a, less, same) = subst (λ v. In v (filter behind (flat_map wants (asked ++ more)))) (sym is) (by (one_of _ _ (sym (new_at k a some_object lt kept) ∙ is_found (want_at (old.first + k) a) (collected new) h.rise (subst (λ v. In v (collected new)) is here))))
         where
           is : w ≡ want_at (old.first + k) a
           is = same ∙ ap (λ i. want_at (i + k) a) h.first
@@ -234,18 +243,28 @@ module _ (p : Settings) (s : SenderState) (old new : Kept) (asked : List Asked) 
           lt : k < length old.objects
           lt = let many = h.objects in omega (arith, less, many)
 
+          member : is_member nat_lt a (get_or new.objects k some_object).asked ≡ true
+          member =
+              sym (member_at (λ m. m.asked) new.first k a new.objects some_object less)
+              ∙ is_found (want_at (new.first + k) a) (collected new) h.rise (subst (λ v. In v (collected new)) same here)
+
+          kept : stands_from (get_or old.objects k some_object).first a ≡ true
+          kept =
+              ap (λ n. stands_from n a) (sym (ap (λ (m : Marked). m.first) (h.each k some_object lt).rest))
+              ∙ (all_at new.objects k some_object now_planned less).kept a member
+
           by : (is_member nat_lt a (get_or old.objects k some_object).asked ≡ true) ⊎ (is_asked_slot requests (old.first + k) (get_or old.objects k some_object) a ≡ true)
               → In (want_at (old.first + k) a) (filter behind (flat_map wants (asked ++ more)))
           by (inl before) = from_old (want_at (old.first + k) a) (found_in (want_at (old.first + k) a) (collected old) (old_at k a some_object lt ∙ before))
           by (inr now) =
               let r = any_in (λ r. asks_slot r (old.first + k) (get_or old.objects k some_object) a) requests now in
-              from_request k a lt r.0 r.1 r.2
+              from_request k a lt kept r.0 r.1 r.2
 
   -- what stands at a slot that was collected, or that is asked for now
-  found_at : (k a : ℕ) → k < length old.objects
+  found_at : (k a : ℕ) → k < length old.objects → stands_from (get_or old.objects k some_object).first a ≡ true
       → (is_member nat_lt a (get_or old.objects k some_object).asked || is_asked_slot requests (old.first + k) (get_or old.objects k some_object) a) ≡ true
       → In (want_at (old.first + k) a) (collected new)
-  found_at k a lt e = found_in (want_at (old.first + k) a) (collected new) (new_at k a some_object lt ∙ e)
+  found_at k a lt kept e = found_in (want_at (old.first + k) a) (collected new) (new_at k a some_object lt kept ∙ e)
 
   back_old : (w : Want) → In w (collected old) → In w (collected new)
   back_old w here = go (in_listed (λ m. m.asked) old.first old.objects w here)
@@ -253,13 +272,16 @@ module _ (p : Settings) (s : SenderState) (old new : Kept) (asked : List Asked) 
       go : (k : ℕ) × (a : ℕ) × (k < length old.objects) × (w ≡ want_at (old.first + k) a) → In w (collected new)
       go (k, a, lt, same) =
           subst (λ v. In v (collected new)) (sym same)
-          (found_at k a lt (ap (λ b. b || is_asked_slot requests (old.first + k) (get_or old.objects k some_object) a)
+          (found_at k a lt ((all_at old.objects k some_object planned lt).kept a
+          (sym (old_at k a some_object lt) ∙ is_found (want_at (old.first + k) a) (collected old) rise_old (subst (λ v. In v (collected old)) same here)))
+          (ap (λ b. b || is_asked_slot requests (old.first + k) (get_or old.objects k some_object) a)
           (sym (old_at k a some_object lt) ∙ is_found (want_at (old.first + k) a) (collected old) rise_old (subst (λ v. In v (collected old)) same here))))
 
-  back_request : (w : Want) (r : Named) → In r requests → AsksAt old r some_object w → In w (collected new)
-  back_request w r here at =
+  back_request : (w : Want) (r : Named) → In r requests → behind w ≡ true → AsksAt old r some_object w → In w (collected new)
+  back_request w r here passes at =
       subst (λ v. In v (collected new)) (want_there (old.first + at.place) w at.named at.index)
       (found_at at.place (slot_of_want w) at.within
+      (slot_kept s.current.drop old.first at.place (slot_of_want w) old.objects some_object st.fronts st.first at.within (ap behind (want_there (old.first + at.place) w at.named at.index) ∙ passes))
       (of_right (is_member nat_lt (slot_of_want w) (get_or old.objects at.place some_object).asked) _
       (in_any (λ r. asks_slot r (old.first + at.place) (get_or old.objects at.place some_object) (slot_of_want w)) requests r here at.asks)))
 
@@ -272,14 +294,14 @@ module _ (p : Settings) (s : SenderState) (old new : Kept) (asked : List Asked) 
       go passes (inr now) =
           let a = in_flat wants w more now in
           let r = in_map (asked_of p s) a.0 requests a.1 in
-          back_request w r.0 r.1 (in_slot p s old r.0 some_object st planned w (subst (λ (x : Asked). In w (wants x)) r.2 a.2) passes)
+          back_request w r.0 r.1 passes (in_slot p s old r.0 some_object st planned w (subst (λ (x : Asked). In w (wants x)) r.2 a.2) passes)
 
       by : In w (flat_map wants (asked ++ more)) × (behind w ≡ true) → In w (collected new)
       by (all, passes) = go passes (in_either w (flat_map wants asked) (flat_map wants more) (subst (In w) (flat_map-append wants asked more) all))
 
-  count_is : (k : ℕ) (d : Marked) → k < length old.objects → (block : ℕ)
+  count_is : (k : ℕ) (d : Marked) → k < length old.objects → (block : ℕ) → (get_or old.objects k d).first ≤ block
       → get_or (get_or new.objects k d).counts block 0 ≡ greatest (flat_map (counts_of (current_shapes p s)) (asked ++ more)) (point (old.first + k) block)
-  count_is k d lt block =
+  count_is k d lt block from =
       go (cases_lt block (length (get_or old.objects k d).counts))
       ∙ sym (greatest_both (flat_map (counts_of (current_shapes p s)) asked) (flat_map (counts_of (current_shapes p s)) more) (point (old.first + k) block))
       ∙ ap (λ cs. greatest cs (point (old.first + k) block)) (sym (flat_map-append (counts_of (current_shapes p s)) asked more))
@@ -294,14 +316,14 @@ module _ (p : Settings) (s : SenderState) (old new : Kept) (asked : List Asked) 
           → get_or (get_or new.objects k d).counts block 0
           ≡ max (greatest (flat_map (counts_of (current_shapes p s)) asked) (point (old.first + k) block)) (greatest (flat_map (counts_of (current_shapes p s)) more) (point (old.first + k) block))
       go (inl less) =
-          each.counts block less
-          ∙ ap (λ n. max n (kept_count (symbols_of_marked (get_or old.objects k d)) block (greatest (flat_map asked_counts requests) (point (old.first + k) block)))) (col.counts k d lt block)
+          each.counts block from less
+          ∙ ap (λ n. max n (kept_count (symbols_of_marked (get_or old.objects k d)) block (greatest (flat_map asked_counts requests) (point (old.first + k) block)))) (col.counts k d lt block from)
           ∙ ap (max (greatest (flat_map (counts_of (current_shapes p s)) asked) (point (old.first + k) block)))
-          (counts_kept p s old d st planned requests k block lt)
+          (counts_kept p s old d st planned requests k block lt from)
       go (inr past) =
           let here = get_or_past (get_or new.objects k d).counts block 0 (let many = each.blocks in omega (arith, past, many)) in
           let before = get_or_past (get_or old.objects k d).counts block 0 past in
-          let was = col.counts k d lt block in
+          let was = col.counts k d lt block from in
           let now = none_kept p s old d st planned requests k block lt (empty (plan.counts block past)) in
           omega (arith, here, before, was, now)
         where
@@ -314,8 +336,9 @@ module _ (p : Settings) (s : SenderState) (old new : Kept) (asked : List Asked) 
     earliest = h.earliest ∙ ap (λ found. earliest_with found requests) col.earliest ∙ sym (later p s None asked requests);
     known = known_added old new requests (next_index s) (asked ++ more) h (known_all old (next_index s) asked more col.known (known_now p s old st planned requests));
     named = sym (rising_self (collected new) h.rise) ∙ same_set (collected new) (filter behind (flat_map wants (asked ++ more))) [] there back;
-    counts = λ k d lt block.
-        count_is k d (let many = h.objects in omega (arith, lt, many)) block
+    counts = λ k d lt block from.
+        let within : k < length old.objects = let many = h.objects in omega (arith, lt, many) in
+        count_is k d within block (subst (λ n. n ≤ block) (ap (λ (m : Marked). m.first) (h.each k d within).rest) from)
         ∙ ap (λ i. greatest (flat_map (counts_of (current_shapes p s)) (asked ++ more)) (point (i + k) block)) (sym h.first);
   }
 

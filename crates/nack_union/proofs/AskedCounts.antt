@@ -13,13 +13,12 @@ use Rattle.norm_send_rules.specs.InWindow.{current_shapes}
 use Rattle.norm_send_rules.specs.Asking.{as_it_came, counts_of, is_kept}
 use Rattle.norm_send_rules.specs.Closing.{greatest}
 use Rattle.nack_union.specs.Collected.{asked_of}
-use Rattle.norm_send_rules.specs.declared.want.Want.TheVariants.{Symbol}
 use Rattle.nack_union.specs.Kept.{Marked, Kept, Holds, shape_of_marked, symbols_of_marked}
 use Rattle.nack_union.specs.More.{kept_count}
 use Rattle.nack_union.specs.Adding.{IsPlanned}
 use Rattle.nack_union.proofs.AskedSlots.{test_at}
 use Rattle.nack_union.proofs.Collecting.{some_greatest}
-use Rattle.nack_union.proofs.Dropped.{behind_start}
+use Rattle.nack_union.proofs.Fronts.{symbol_behind}
 use Rattle.nack_union.proofs.Lists.{In, in_flat, in_filter}
 use Rattle.nack_union.proofs.Sources.{in_map}
 
@@ -73,10 +72,10 @@ module _ (p : Settings) (s : SenderState) (u : Kept) (d : Marked) (st : Holds p 
   abbrev kept_at : Named → Point → Bool
   kept_at r at = is_kept (as_it_came (asked_of p s r) (current_shapes p s)) s.current.drop at
 
-  -- a block of the window of which something is closed is kept
-  block_kept : (r : Named) (k block : ℕ) → k < length u.objects → nat_lt 0 (closed_in (shape_of_marked (get_or u.objects k d)) block) ≡ true → kept_at r (point (u.first + k) block) ≡ true
-  block_kept r k block lt some =
-      go _ _ (behind_start s.current.drop (Symbol (position (u.first + k) block 0)) st.whole (let f = st.first in omega (arith, f)))
+  -- a kept block of the window of which something is closed is counted
+  block_kept : (r : Named) (k block : ℕ) → k < length u.objects → (get_or u.objects k d).first ≤ block → nat_lt 0 (closed_in (shape_of_marked (get_or u.objects k d)) block) ≡ true → kept_at r (point (u.first + k) block) ≡ true
+  block_kept r k block lt from some =
+      go _ _ (symbol_behind s.current.drop u.first k (position (u.first + k) block 0) u.objects d st.fronts st.first lt refl from)
       (test_at p s u r d st planned k lt (λ x. nat_lt 0 (closed_in x block)) ∙ some)
     where
       go : (b c : Bool) → b ≡ true → c ≡ true → (b && c) ≡ true
@@ -84,15 +83,15 @@ module _ (p : Settings) (s : SenderState) (u : Kept) (d : Marked) (st : Holds p 
       go false c e f = absurd (cc)
 
   -- so that of such a block the rules keep all counts
-  pub all_kept : (requests : List Named) (k block : ℕ) → k < length u.objects → nat_lt 0 (closed_in (shape_of_marked (get_or u.objects k d)) block) ≡ true
+  pub all_kept : (requests : List Named) (k block : ℕ) → k < length u.objects → (get_or u.objects k d).first ≤ block → nat_lt 0 (closed_in (shape_of_marked (get_or u.objects k d)) block) ≡ true
       → greatest (flat_map (counts_of (current_shapes p s)) (map (asked_of p s) requests)) (point (u.first + k) block)
       ≡ greatest (flat_map asked_counts requests) (point (u.first + k) block)
-  all_kept [] k block lt less = refl
-  all_kept (r ∷ requests) k block lt less =
+  all_kept [] k block lt from less = refl
+  all_kept (r ∷ requests) k block lt from less =
       greatest_both (counts_of (current_shapes p s) (asked_of p s r)) (flat_map (counts_of (current_shapes p s)) (map (asked_of p s) requests)) (point (u.first + k) block)
       ∙ ap (λ cs. max (most cs) (greatest (flat_map (counts_of (current_shapes p s)) (map (asked_of p s) requests)) (point (u.first + k) block)))
-      (kept_there (kept_at r) (point (u.first + k) block) (asked_counts r) (block_kept r k block lt less))
-      ∙ ap (max (greatest (asked_counts r) (point (u.first + k) block))) (all_kept requests k block lt less)
+      (kept_there (kept_at r) (point (u.first + k) block) (asked_counts r) (block_kept r k block lt from less))
+      ∙ ap (max (greatest (asked_counts r) (point (u.first + k) block))) (all_kept requests k block lt from less)
       ∙ sym (greatest_both (asked_counts r) (flat_map asked_counts requests) (point (u.first + k) block))
 
   -- and of one of which nothing is closed, none
@@ -125,13 +124,13 @@ module _ (p : Settings) (s : SenderState) (u : Kept) (d : Marked) (st : Holds p 
       go (inr none) = omega (arith, none)
 
   -- what the rules keep of the counts of a block
-  pub counts_kept : (requests : List Named) (k block : ℕ) → k < length u.objects
+  pub counts_kept : (requests : List Named) (k block : ℕ) → k < length u.objects → (get_or u.objects k d).first ≤ block
       → kept_count (symbols_of_marked (get_or u.objects k d)) block (greatest (flat_map asked_counts requests) (point (u.first + k) block))
       ≡ greatest (flat_map (counts_of (current_shapes p s)) (map (asked_of p s) requests)) (point (u.first + k) block)
-  counts_kept requests k block lt = by (nat_lt 0 (closed_in (symbols_of_marked (get_or u.objects k d)) block)) refl
+  counts_kept requests k block lt from = by (nat_lt 0 (closed_in (symbols_of_marked (get_or u.objects k d)) block)) refl
     where
       by : (b : Bool) → nat_lt 0 (closed_in (symbols_of_marked (get_or u.objects k d)) block) ≡ b
           → (elim b as (λ _. ℕ) [ true ↦ greatest (flat_map asked_counts requests) (point (u.first + k) block) | false ↦ 0 ])
           ≡ greatest (flat_map (counts_of (current_shapes p s)) (map (asked_of p s) requests)) (point (u.first + k) block)
-      by true e = sym (all_kept requests k block lt e)
+      by true e = sym (all_kept requests k block lt from e)
       by false e = sym (none_kept requests k block lt e)

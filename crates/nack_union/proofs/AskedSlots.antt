@@ -22,7 +22,7 @@ use Rattle.nack_union.specs.Kept.{Marked, Kept, Holds, shape_of_marked, symbols_
 use Rattle.nack_union.specs.Adding.{IsPlanned, names_symbol, asks_symbol, asks_slot}
 use Rattle.nack_union.proofs.Collecting.{past_end}
 use Rattle.nack_union.proofs.Counted.{encoded_fits}
-use Rattle.nack_union.proofs.Dropped.{not_behind_start}
+use Rattle.nack_union.proofs.Dropped.{not_behind}
 use Rattle.nack_union.proofs.Lists.{In, in_left, in_right, in_either, filter_in, in_filter}
 use Rattle.nack_union.proofs.Sources.{map_in, in_map, range_in, in_all_sources, all_sources_have}
 use Rattle.nack_union.proofs.Wholes.{in_closed, closed_past, encoded_past}
@@ -114,7 +114,7 @@ module _ (p : Settings) (s : SenderState) (u : Kept) (r : Named) (d : Marked) (s
   place_of w lt behind = go (cases_lt (want_index w) u.first)
     where
       go : (want_index w < u.first) ⊎ (u.first ≤ want_index w) → (k : ℕ) × (k < length u.objects) × (want_index w ≡ u.first + k)
-      go (inl before) = absurd (clash (sym (not_behind_start s.current.drop w st.whole (let f = st.first in omega (arith, f, before))) ∙ behind))
+      go (inl before) = absurd (clash (sym (not_behind s.current.drop w (let f = st.first in omega (arith, f, before))) ∙ behind))
       go (inr le) = (
         want_index w - u.first,
         (let many = length_came p s r in let next = st.next in omega (arith, many, next, lt, le)),

@@ -5,7 +5,7 @@ use Rattle.std.specs.List.{range_with_len}
 use Rattle.std.proofs.lemmas.Bool.Decides.{Decides-eqb, Decides-and}
 use Rattle.norm_base.specs.Settings.{Settings}
 use Rattle.fec_plan.specs.Partition.{source_symbols}
-use Rattle.fec_plan.specs.Points.{Point, point, position, position_before, same_point}
+use Rattle.fec_plan.specs.Points.{Point, point, point_of, position, position_before, same_point}
 use Rattle.fec_plan.specs.declared.position.Position.{Position}
 use Rattle.norm_ext.specs.Asking.{Count}
 use Rattle.norm_order.specs.Sets.{is_member, with_members}
@@ -146,6 +146,31 @@ repairs_of_index s at shape count w here = go (nat_le count (length (fresh_parit
     go false there =
         symbols_of_index at w (symbols_of at.index (closed_in shape at.block) at.block)
         (λ x closed. of_index at.index at.block (range_with_len 0 (closed_in shape at.block)) x closed) there
+
+-- a repair is a symbol of its block
+symbols_of_point : (of : Point) (w : Want) (all : List Position) → ((x : Position) → In x all → point_of x ≡ of) → In w (map Symbol all)
+    → (at : Position) × (w ≡ Symbol at) × (point_of at ≡ of)
+symbols_of_point of w [] each here = absurd here
+symbols_of_point of w (x ∷ all) each (inl same) = (x, same, each x (inl refl))
+symbols_of_point of w (x ∷ all) each (inr later) = symbols_of_point of w all (λ y there. each y (inr there)) later
+
+of_point : (of : Point) (ids : List ℕ) (x : Position) → In x (map (position of.index of.block) ids) → point_of x ≡ of
+of_point of [] x here = absurd here
+of_point of (i ∷ ids) x (inl same) = ap point_of same
+of_point of (i ∷ ids) x (inr later) = of_point of ids x later
+
+pub repair_symbol : (s : SenderState) (at : Point) (shape : Shape) (count : ℕ) (w : Want) → In w (repairs s at shape count)
+    → (x : Position) × (w ≡ Symbol x) × (point_of x ≡ at)
+repair_symbol s at shape count w here = go (nat_le count (length (fresh_parity s at shape))) here
+  where
+    go : (b : Bool) → In w (elim b as (λ _. List Want) [ true ↦ map Symbol (take count (fresh_parity s at shape)) | false ↦ block_wants at shape ])
+        → (x : Position) × (w ≡ Symbol x) × (point_of x ≡ at)
+    go true there =
+        symbols_of_point at w (take count (fresh_parity s at shape))
+        (λ x taken. of_point at (range_with_len 0 (encoded_in shape at.block)) x (in_filter (λ symbol. nat_le (source_symbols shape.cut at.block) symbol.symbol && not (is_member position_before symbol s.sent)) x (symbols_of at.index (encoded_in shape at.block) at.block) (in_taken x count (fresh_parity s at shape) taken)).0) there
+    go false there =
+        symbols_of_point at w (symbols_of at.index (closed_in shape at.block) at.block)
+        (λ x closed. of_point at (range_with_len 0 (closed_in shape at.block)) x closed) there
 
 -- a count that is kept
 pub some_greatest : (counts : List Count) (at : Point) → 0 < greatest counts at → (c : Count) × In c counts × (c.of ≡ at)

@@ -53,16 +53,27 @@ known_kept u k n new d [] lt cut closed known = tt
 known_kept u k n new d (a ∷ asked) lt cut closed known = (known_one u k n new d a lt cut closed known.0, known_kept u k n new d asked lt cut closed known.1)
 
 pub collects_kept : (p : Settings) (s : SenderState) (u : Kept) (asked : List Asked) (k : ℕ) (new d : Marked) → k < length u.objects
-    → new.asked ≡ (get_or u.objects k d).asked → new.counts ≡ (get_or u.objects k d).counts
+    → new.asked ≡ (get_or u.objects k d).asked → new.counts ≡ (get_or u.objects k d).counts → new.first ≡ (get_or u.objects k d).first
     → AllByRecursion (IsKnownIn (record u { objects = set u.objects k new }) (next_index s)) asked → Collects p u s asked
     → Collects p (record u { objects = set u.objects k new }) s asked
-collects_kept p s u asked k new d lt same_asked same_counts known col = record {
+collects_kept p s u asked k new d lt same_asked same_counts same_first known col = record {
   earliest = col.earliest;
   known = known;
   named = same_at (λ m. m.asked) u.first k u.objects new d lt same_asked ∙ col.named;
-  counts = λ j e less block. at j e (let many = length-set u.objects k new in omega (arith, less, many)) block (cases_eq j k) ∙ col.counts j e (let many = length-set u.objects k new in omega (arith, less, many)) block;
+  counts = λ j e less block from.
+      let within : j < length u.objects = let many = length-set u.objects k new in omega (arith, less, many) in
+      at j e within block (cases_eq j k) ∙ col.counts j e within block (subst (λ n. n ≤ block) (front j e within (cases_eq j k)) from);
 }
   where
+    front : (j : ℕ) (e : Marked) → j < length u.objects → (j ≡ k) ⊎ (j ≡ k → ⊥) → (get_or (set u.objects k new) j e).first ≡ (get_or u.objects j e).first
+    front j e less (inl same) =
+        ap (λ i. (get_or (set u.objects k new) i e).first) same
+        ∙ ap (λ (m : Marked). m.first) (get_or-set_same u.objects k new e lt)
+        ∙ same_first
+        ∙ ap (λ (m : Marked). m.first) (any_default u.objects k d e lt)
+        ∙ ap (λ i. (get_or u.objects i e).first) (sym same)
+    front j e less (inr other) = ap (λ (m : Marked). m.first) (get_or-set_other u.objects k j new e other)
+
     at : (j : ℕ) (e : Marked) → j < length u.objects → (block : ℕ) → (j ≡ k) ⊎ (j ≡ k → ⊥)
         → get_or (get_or (set u.objects k new) j e).counts block 0 ≡ get_or (get_or u.objects j e).counts block 0
     at j e less block (inl same) =

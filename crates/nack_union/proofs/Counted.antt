@@ -24,7 +24,7 @@ use Rattle.nack_union.proofs.Closings.{asked_slots}
 
 -- the slots of an object hold what a state has sent of it
 abbrev pub HasSent : SenderState → ℕ → Marked → Type 0
-HasSent s index m = (block symbol : ℕ) → symbol < 256 → is_member nat_lt (symbol_slot block symbol) m.sent ≡ is_member position_before (position index block symbol) s.sent
+HasSent s index m = (block symbol : ℕ) → m.first ≤ block → symbol < 256 → is_member nat_lt (symbol_slot block symbol) m.sent ≡ is_member position_before (position index block symbol) s.sent
 
 -- a block's source symbols lie within the object
 pub block_fits : (c : Cut) (block : ℕ) → IsSound c → block < blocks c → symbol_number c block 0 + source_symbols c block ≤ all_symbols c
@@ -84,16 +84,16 @@ filter_over f q (x ∷ xs) = go (q (f x)) (filter_over f q xs)
     go false rest = rest
 
 -- the fresh parity symbols of a block are those that its slots say
-fresh_are : (s : SenderState) (index : ℕ) (m : Marked) (block : ℕ) → HasSent s index m → encoded_in (symbols_of_marked m) block ≤ 255
+fresh_are : (s : SenderState) (index : ℕ) (m : Marked) (block : ℕ) → m.first ≤ block → HasSent s index m → encoded_in (symbols_of_marked m) block ≤ 255
     → fresh_parity s (point index block) (shape_of_marked m) ≡ map (position index block) (fresh_parities (symbols_of_marked m) m.sent block)
-fresh_are s index m block has few =
+fresh_are s index m block from has few =
     filter_over (position index block) (λ symbol. nat_le (source_symbols m.cut block) symbol.symbol && not (is_member position_before symbol s.sent)) (range_with_len 0 (encoded_in (symbols_of_marked m) block))
     ∙ ap (map (position index block))
     (from_on (λ x. not (is_member position_before (position index block x) s.sent)) (source_symbols m.cut block) 0 (encoded_in (symbols_of_marked m) block) (omega arith)
     ∙ ap (λ c. filter (λ x. not (is_member position_before (position index block x) s.sent)) (range_with_len (source_symbols m.cut block) c))
     (less (encoded_in (symbols_of_marked m) block) (source_symbols m.cut block))
     ∙ sym (same_within (λ x. not (is_member position_before (position index block x) s.sent)) (λ x. not (is_member nat_lt (symbol_slot block x) m.sent)) (source_symbols m.cut block) (encoded_in (symbols_of_marked m) block - source_symbols m.cut block)
-    (λ i above under. ap not (has block i (id_fits i (source_symbols m.cut block) (encoded_in (symbols_of_marked m) block) few above under)))))
+    (λ i above under. ap not (has block i from (id_fits i (source_symbols m.cut block) (encoded_in (symbols_of_marked m) block) few above under)))))
   where
     less : (n k : ℕ) → (0 + n) - k ≡ n - k
     less n k = omega arith
@@ -103,12 +103,12 @@ fresh_are s index m block has few =
 
 -- Ids of 8 bits.
 
-ids_take : (n : ℕ) (xs : List ℕ) → AllByRecursion (λ x. x < 256) xs → AllByRecursion (λ x. x < 256) (take n xs)
+pub ids_take : (n : ℕ) (xs : List ℕ) → AllByRecursion (λ x. x < 256) xs → AllByRecursion (λ x. x < 256) (take n xs)
 ids_take zero xs all = tt
 ids_take (suc n) [] all = tt
 ids_take (suc n) (x ∷ xs) all = (all.0, ids_take n xs all.1)
 
-ids_filter : (t : ℕ → Bool) (a n : ℕ) → a + n ≤ 256 → AllByRecursion (λ x. x < 256) (filter t (range_with_len a n))
+pub ids_filter : (t : ℕ → Bool) (a n : ℕ) → a + n ≤ 256 → AllByRecursion (λ x. x < 256) (filter t (range_with_len a n))
 ids_filter t a zero le = tt
 ids_filter t a (suc n) le = go (t a) (ids_filter t (a + 1) n (omega arith))
   where
@@ -117,7 +117,7 @@ ids_filter t a (suc n) le = go (t a) (ids_filter t (a + 1) n (omega arith))
     go true rest = (omega arith, rest)
     go false rest = rest
 
-ids_range : (a n : ℕ) → a + n ≤ 256 → AllByRecursion (λ x. x < 256) (range_with_len a n)
+pub ids_range : (a n : ℕ) → a + n ≤ 256 → AllByRecursion (λ x. x < 256) (range_with_len a n)
 ids_range a zero le = tt
 ids_range a (suc n) le = (omega arith, ids_range (a + 1) n (omega arith))
 
@@ -130,12 +130,12 @@ symbols_are index block (x ∷ xs) all =
     ∙ ap (λ ws. Symbol (position index block x) ∷ ws) (symbols_are index block xs all.1)
 
 -- the repairs of a counted block are those that its slots say
-repairs_are : (s : SenderState) (index : ℕ) (m : Marked) (block count : ℕ) → HasSent s index m → IsSound m.cut → encoding_symbols m.cut block ≤ 255
+repairs_are : (s : SenderState) (index : ℕ) (m : Marked) (block count : ℕ) → m.first ≤ block → HasSent s index m → IsSound m.cut → encoding_symbols m.cut block ≤ 255
     → map (want_at index) (repair_slots (symbols_of_marked m) m.sent block count) ≡ repairs s (point index block) (shape_of_marked m) count
-repairs_are s index m block count has sound few =
+repairs_are s index m block count from has sound few =
     go (nat_le count (length fresh))
     ∙ ap (λ n. elim (nat_le count n) as (λ _. List Want) [ true ↦ map Symbol (take count (map (position index block) fresh)) | false ↦ block_wants (point index block) (shape_of_marked m) ]) (sym (length-map fresh (position index block)))
-    ∙ ap (λ xs. elim (nat_le count (length xs)) as (λ _. List Want) [ true ↦ map Symbol (take count xs) | false ↦ block_wants (point index block) (shape_of_marked m) ]) (sym (fresh_are s index m block has most))
+    ∙ ap (λ xs. elim (nat_le count (length xs)) as (λ _. List Want) [ true ↦ map Symbol (take count xs) | false ↦ block_wants (point index block) (shape_of_marked m) ]) (sym (fresh_are s index m block from has most))
   where
     fresh : List ℕ
     fresh = fresh_parities (symbols_of_marked m) m.sent block
@@ -192,19 +192,19 @@ none_repaired s index m block count e =
 
 -- those of the counted blocks from one on
 counted_are : (s : SenderState) (index : ℕ) (m : Marked) → HasSent s index m → (block : ℕ) (counts : List ℕ)
-    → ((j : ℕ) → 0 < get_or counts j 0 → IsRepairable m.cut (block + j))
+    → ((j : ℕ) → 0 < get_or counts j 0 → (m.first ≤ block + j) × IsRepairable m.cut (block + j))
     → map (want_at index) (counted_slots (symbols_of_marked m) m.sent block counts) ≡ counted_of s index m block counts
 counted_are s index m has block [] repairable = refl
 counted_are s index m has block (c ∷ counts) repairable =
     map-append (want_at index) (repair_slots (symbols_of_marked m) m.sent block (min c (source_symbols m.cut block))) (counted_slots (symbols_of_marked m) m.sent (suc block) counts)
     ∙ ap (λ ws. ws ++ map (want_at index) (counted_slots (symbols_of_marked m) m.sent (suc block) counts)) (go (cases_lt 0 c))
     ∙ ap (λ ws. repairs s (point index block) (shape_of_marked m) (min c (source_symbols m.cut block)) ++ ws)
-    (counted_are s index m has (suc block) counts (λ j some. subst (IsRepairable m.cut) (let e : block + suc j ≡ suc block + j = omega arith in e) (repairable (suc j) some)))
+    (counted_are s index m has (suc block) counts (λ j some. subst (λ n. (m.first ≤ n) × IsRepairable m.cut n) (let e : block + suc j ≡ suc block + j = omega arith in e) (repairable (suc j) some)))
   where
     go : (0 < c) ⊎ (c ≤ 0) → map (want_at index) (repair_slots (symbols_of_marked m) m.sent block (min c (source_symbols m.cut block))) ≡ repairs s (point index block) (shape_of_marked m) (min c (source_symbols m.cut block))
     go (inl some) =
-        let this : IsRepairable m.cut block = subst (IsRepairable m.cut) (let e : block + 0 ≡ block = omega arith in e) (repairable 0 some) in
-        repairs_are s index m block (min c (source_symbols m.cut block)) has this.sound this.named
+        let this : (m.first ≤ block) × IsRepairable m.cut block = subst (λ n. (m.first ≤ n) × IsRepairable m.cut n) (let e : block + 0 ≡ block = omega arith in e) (repairable 0 some) in
+        repairs_are s index m block (min c (source_symbols m.cut block)) this.0 has this.1.sound this.1.named
     go (inr none) = none_repaired s index m block (min c (source_symbols m.cut block)) (omega (arith, none))
 
 -- what the slots of all objects ask for is what the round asks for
@@ -214,6 +214,6 @@ asked_are s index [] d has all = refl
 asked_are s index (m ∷ ms) d has all =
     ap (λ ws. ws ++ listed asked_slots (suc index) ms)
     (map-append (want_at index) m.asked (counted_slots (symbols_of_marked m) m.sent 0 m.counts)
-    ∙ ap (λ ws. map (want_at index) m.asked ++ ws) (counted_are s index m (subst (λ i. HasSent s i m) (let e : index + 0 ≡ index = omega arith in e) (has 0 (omega arith))) 0 m.counts (λ j some. subst (IsRepairable m.cut) (let e : j ≡ 0 + j = omega arith in e) (all.0 j some))))
+    ∙ ap (λ ws. map (want_at index) m.asked ++ ws) (counted_are s index m (subst (λ i. HasSent s i m) (let e : index + 0 ≡ index = omega arith in e) (has 0 (omega arith))) 0 m.counts (λ j some. subst (λ n. (m.first ≤ n) × IsRepairable m.cut n) (let e : j ≡ 0 + j = omega arith in e) (all.0 j some))))
     ∙ ap (λ ws. (map (want_at index) m.asked ++ counted_of s index m 0 m.counts) ++ ws)
     (asked_are s (suc index) ms d (λ k lt. subst (λ i. HasSent s i (get_or ms k d)) (let e : index + suc k ≡ suc index + k = omega arith in e) (has (suc k) (omega arith))) all.1)

@@ -174,7 +174,7 @@ by_tests : (n : ℕ) (ns : List ℕ) → AllByRecursion (λ m. n < m) ns → All
 by_tests n [] all = tt
 by_tests n (m ∷ ns) all = (lt-ltb n m all.0, by_tests n ns all.1)
 
-rising : (ns : List ℕ) → Rises ns → IsRising nat_lt ns
+pub rising : (ns : List ℕ) → Rises ns → IsRising nat_lt ns
 rising [] rises = tt
 rising (n ∷ ns) rises = (by_tests n ns rises.0, rising ns rises.1)
 
@@ -334,3 +334,31 @@ run_step c ends slot b false few lt is = or_false _ false refl ∙ no_run_block 
     not_below : (b < farthest (take (suc b) ends)) ⊎ (farthest (take (suc b) ends) ≤ b) → farthest (take (suc b) ends) ≤ b
     not_below (inl less) = let e = is ∙ lt-ltb b _ less in absurd (cc)
     not_below (inr le) = le
+
+-- where runs were filled and what is alone was moved down, less is covered by as much
+pub covered_moved : (c new : Shape) (ends none alone moved : List ℕ) (n count : ℕ) → new.cut ≡ c.cut → none ≡ replicate n 0
+    → ((place : ℕ) → is_member nat_lt place moved ≡ (is_member nat_lt (place + 64 * (4 * count)) (covered_slots c ends alone) && nat_lt 0 place))
+    → (slot : ℕ) → is_member nat_lt slot (covered_slots new none moved) ≡ (is_member nat_lt (slot + 256 * count) (covered_slots c ends alone) && nat_lt 0 slot)
+covered_moved c new ends none alone moved n count cut zeros down slot =
+    covered_is new none moved slot
+    ∙ ap (λ b. nat_lt slot (slots (blocks new.cut)) && (is_member nat_lt slot moved || b)) (ap (λ (es : List ℕ). is_run_slot new es slot) zeros ∙ no_run new n slot)
+    ∙ ap (λ b. nat_lt slot (slots (blocks new.cut)) && (b || false))
+    (down slot ∙ ap (λ m. is_member nat_lt m (covered_slots c ends alone) && nat_lt 0 slot) (let e : slot + 64 * (4 * count) ≡ slot + 256 * count = omega arith in e))
+    ∙ ap (λ (k : Cut). nat_lt slot (slots (blocks k)) && ((is_member nat_lt (slot + 256 * count) (covered_slots c ends alone) && nat_lt 0 slot) || false)) cut
+    ∙ go (nat_lt slot (slots (blocks c.cut))) (is_member nat_lt (slot + 256 * count) (covered_slots c ends alone)) (nat_lt 0 slot) within
+  where
+    first : (a b : Bool) → (a && b) ≡ true → a ≡ true
+    first true b e = refl
+    first false b e = absurd (cc)
+
+    within : is_member nat_lt (slot + 256 * count) (covered_slots c ends alone) ≡ true → nat_lt slot (slots (blocks c.cut)) ≡ true
+    within e =
+        let there = ltb-true (slot + 256 * count) (slots (blocks c.cut)) (first _ _ (sym (covered_is c ends alone (slot + 256 * count)) ∙ e)) in
+        lt-ltb slot (slots (blocks c.cut)) (omega (arith, there))
+
+    go : (l m z : Bool) → (m ≡ true → l ≡ true) → (l && ((m && z) || false)) ≡ (m && z)
+    go true true true within = refl
+    go true true false within = refl
+    go true false z within = refl
+    go false true z within = absurd (let e = within refl in cc)
+    go false false z within = refl

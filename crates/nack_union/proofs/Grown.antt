@@ -6,7 +6,7 @@ use Rattle.std.proofs.lemmas.Bool.{cases_eq}
 use Rattle.std.proofs.lemmas.Bool.Decides.{Decides-eqb, Decides-ltb}
 use Rattle.std.proofs.lemmas.List.{map-set, drop-set-add, length-set, get_or-set_same, get_or-set_other}
 use Rattle.norm_base.specs.Settings.{Settings}
-use Rattle.fec_plan.specs.Partition.{Cut, symbol_number}
+use Rattle.fec_plan.specs.Partition.{Cut, most_blocks, symbol_number}
 use Rattle.fec_plan.specs.Points.{point}
 use Rattle.fec_plan.specs.declared.position.Position.{Position}
 use Rattle.norm_ext.specs.Asking.{Count, asked_counts}
@@ -24,6 +24,7 @@ use Rattle.nack_union.specs.Kept.{Marked, Kept, Holds, CanGrow, MayGrow, OfLast,
 use Rattle.nack_union.specs.Collected.{Collects, IsKnownIn}
 use Rattle.nack_union.proofs.Orders.{same_at}
 use Rattle.nack_union.proofs.Rooms.{rooms_set}
+use Rattle.nack_union.proofs.Fronts.{fronts_set}
 use Rattle.nack_union.proofs.Collecting.{window_shape}
 use Rattle.nack_union.proofs.Collections.{collects_kept, any_default}
 use Rattle.std.proofs.lemmas.Option.{slice_get_within, get_or_from_slice_get}
@@ -138,7 +139,7 @@ module _ (p : Settings) (s : SenderState) (u : Kept) (asked : List Asked) (parts
   pub holds_grown : Holds p grown later
   holds_grown = record {
     first = st.first;
-    whole = st.whole;
+    fronts = fronts_set s.current.drop.block u.objects k new d refl st.fronts;
     next = ap (λ n. u.first + n) (length-set u.objects k new) ∙ st.next ∙ sym (length-with_last (Stream parts) s.current.order);
     shapes =
         map-set shape_of_marked u.objects k new ∙ ap (λ xs. set xs k (shape_of_marked new)) st.shapes
@@ -146,7 +147,7 @@ module _ (p : Settings) (s : SenderState) (u : Kept) (asked : List Asked) (parts
     wants = same_at (λ m. m.wants) u.first k u.objects new d lt refl ∙ st.wants;
     rise = st.rise;
     sent = same_at (λ m. m.sent) u.first k u.objects new d lt refl ∙ st.sent;
-    rooms = rooms_set p u.objects k new d refl refl st.rooms;
+    rooms = rooms_set p u.objects k new d refl refl refl st.rooms;
   }
 
   came_same : (a : Asked) → IsKnownIn u (next_index s) a → as_it_came a (current_shapes p later) ≡ as_it_came a (current_shapes p s)
@@ -208,14 +209,14 @@ module _ (p : Settings) (s : SenderState) (u : Kept) (asked : List Asked) (parts
   pub collects_grown : Collects p u s asked → Collects p grown later asked
   collects_grown col =
       let still = all_known asked col.known in
-      let kept = collects_kept p s u asked k new d lt refl refl still col in
+      let kept = collects_kept p s u asked k new d lt refl refl refl still col in
       let same_all = all_came asked col.known in
       record {
         earliest = kept.earliest;
         known = subst (λ n. AllByRecursion (IsKnownIn grown n) asked) (sym (length-with_last (Stream parts) s.current.order)) still;
         named = kept.named ∙ ap (λ (ws : List Want). with_members want_before (filter (stands_behind s.current.drop) ws) []) (sym (flat_all (wants_of (current_shapes p later)) (wants_of (current_shapes p s)) asked same_all.0));
-        counts = λ j e less block.
-            kept.counts j e less block
+        counts = λ j e less block from.
+            kept.counts j e less block from
             ∙ ap (λ (cs : List Count). greatest cs (point (u.first + j) block)) (sym (flat_all (counts_of (current_shapes p later)) (counts_of (current_shapes p s)) asked same_all.1));
       }
 
@@ -233,7 +234,7 @@ last_can_grow closed u may = record { some = may.some; last = λ m is. can m (ma
     can m may = record {
       stream = ap (λ (x : Cut). x.l) may.cut;
       more = may.more;
-      room = subst (λ (x : Cut). closed ≤ length m.counts * x.b) (sym may.cut) may.room;
+      room = subst (λ (x : Cut). closed ≤ min (length m.counts) most_blocks * x.b) (sym may.cut) may.room;
     }
 
 -- the law

@@ -2,13 +2,14 @@
 use Rattle.std.proofs.Common.{◌≡◌, ℕ, zero, suc, ◌+◌, ◌-◌, ◌*◌, ◌<◌, ◌≤◌, ◌⊎◌, inl, inr, Bool, true, false, ◌∙◌, arith, drop, length, get_or, List, [], ◌∷◌, ◌++◌, map, Option, Some, None, refl, sym, ap, subst}
 use Rattle.std.specs.Prelude.{slice_get, nat_lt, option_map}
 use Rattle.std.proofs.lemmas.Bool.{cases_lt, ltb-true}
-use Rattle.std.proofs.lemmas.Option.{slice_get-map, slice_get_within}
+use Rattle.std.proofs.lemmas.Option.{slice_get-map, slice_get_within, get_or_from_slice_get}
 use Rattle.std.proofs.lemmas.List.{append-nil}
 use Rattle.norm_order.specs.Shapes.{Shape, encoded_in}
 use Rattle.norm_send_rules.specs.InWindow.{current_shapes}
 use Rattle.norm_send_rules.specs.declared.want.Want.TheVariants.{Symbol}
 use Rattle.nack_union.specs.Laws.{MayBeNoted}
-use Rattle.nack_union.proofs.Dropped.{not_behind_start}
+use Rattle.nack_union.proofs.Dropped.{not_behind}
+use Rattle.nack_union.proofs.Fronts.{block_kept}
 use Rattle.norm_base.specs.Settings.{Settings}
 use Rattle.norm_ext.specs.Requests.{Request}
 use Rattle.norm_order.specs.Moments.{moment_after}
@@ -20,7 +21,7 @@ use Rattle.nack_union.specs.UnionState.{Stands}
 
 -- what was asked is no part of what is held
 holds_asked : (p : Settings) (u : Kept) (r : UnionReads) (asked : List Asked) → HoldsFor p u r → HoldsFor p u (record r { asked = asked })
-holds_asked p u r asked h = record { first = h.first; whole = h.whole; next = h.next; shapes = h.shapes; wants = h.wants; rise = h.rise; sent = h.sent; rooms = h.rooms }
+holds_asked p u r asked h = record { first = h.first; fronts = h.fronts; next = h.next; shapes = h.shapes; wants = h.wants; rise = h.rise; sent = h.sent; rooms = h.rooms }
 
 collects_asked : (p : Settings) (u : Kept) (r : UnionReads) (asked more : List Asked) → CollectsFor p u r asked → CollectsFor p u (record r { asked = more }) asked
 collects_asked p u r asked more c = record { known = c.known; named = c.named; counts = c.counts; earliest = c.earliest }
@@ -49,7 +50,7 @@ stands_heard p u s now (r ∷ requests) h c idle none =
 pub asked_by_round : (p : Settings) (u : Kept) (s : SenderState) (r : Round) → s.round ≡ Some r → Collects p u s (asked_so_far s) → Collects p u s r.asked
 asked_by_round p u s r is c = subst (λ (asked : List Asked). Collects p u s asked) (ap (λ (o : Option Round). elim o as (λ v. List Asked) [ Some round ↦ round.asked | None ↦ [] ]) is) c
 
-get_dropped : {X : Type 0} (d : ℕ) (xs : List X) (n : ℕ) → slice_get (drop d xs) n ≡ slice_get xs (d + n)
+pub get_dropped : {X : Type 0} (d : ℕ) (xs : List X) (n : ℕ) → slice_get (drop d xs) n ≡ slice_get xs (d + n)
 get_dropped zero xs n = ap (slice_get xs) (let e : n ≡ 0 + n = omega arith in e)
 get_dropped (suc d) [] n = refl
 get_dropped (suc d) (x ∷ xs) n = get_dropped d xs n ∙ ap (slice_get (x ∷ xs)) (let e : suc (d + n) ≡ suc d + n = omega arith in e)
@@ -67,7 +68,7 @@ may_be_noted u s at stands encoded behind = go (slice_get u.kept.objects (at.ind
         clash e = cc
 
         by : (at.index < s.current.drop.index) ⊎ (s.current.drop.index ≤ at.index) → u.kept.first ≤ at.index
-        by (inl lt) = absurd (clash (sym (not_behind_start s.current.drop (Symbol at) stands.holds.whole lt) ∙ behind))
+        by (inl lt) = absurd (clash (sym (not_behind s.current.drop (Symbol at) lt) ∙ behind))
         by (inr le) = let first = stands.holds.first in omega (arith, first, le)
 
     shape : slice_get (current_shapes u.p s) at.index ≡ option_map shape_of_marked (slice_get u.kept.objects (at.index - u.kept.first))
@@ -83,6 +84,11 @@ may_be_noted u s at stands encoded behind = go (slice_get u.kept.objects (at.ind
       first = low;
       object = let within = slice_get_within u.kept.objects (at.index - u.kept.first) m is in omega (arith, within, low);
       symbol = λ n there. ltb-true at.symbol (encoded_in (shape_of_marked n) at.block) (ap (λ (k : Marked). nat_lt at.symbol (encoded_in (shape_of_marked k) at.block)) (same n there) ∙ e);
+      kept = λ n there.
+          let within = slice_get_within u.kept.objects (at.index - u.kept.first) n there in
+          let here = get_or_from_slice_get u.kept.objects (at.index - u.kept.first) n n there in
+          subst (λ (k : Marked). k.first ≤ at.block) here
+          (block_kept s.current.drop u.kept.first (at.index - u.kept.first) at u.kept.objects n stands.holds.fronts stands.holds.first within (omega (arith, low)) behind);
     }
       where
         same : (n : Marked) → slice_get u.kept.objects (at.index - u.kept.first) ≡ Some n → n ≡ m

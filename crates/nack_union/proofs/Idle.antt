@@ -31,10 +31,10 @@ idle_pushed low high ms m idle new k d lt out = go (cases_lt k (length ms))
 
 -- of an object as it is admitted nothing is wanted, sent or asked for
 pub fresh_object : (cut : Cut) (info : Bool) → IsFresh (admitted cut info)
-fresh_object cut info = record { wants = refl; sent = refl; asked = refl; counts = ap (λ k. replicate k 0) (sym (length-replicate {A = ℕ} (blocks cut) 0)) }
+fresh_object cut info = record { first = refl; wants = refl; sent = refl; asked = refl; counts = ap (λ k. replicate k 0) (sym (length-replicate {A = ℕ} (blocks cut) 0)) }
 
 pub fresh_stream : (cut : Cut) (room : ℕ) → IsFresh (admitted_stream cut room)
-fresh_stream cut room = record { wants = refl; sent = refl; asked = refl; counts = ap (λ k. replicate k 0) (sym (length-replicate {A = ℕ} room 0)) }
+fresh_stream cut room = record { first = refl; wants = refl; sent = refl; asked = refl; counts = ap (λ k. replicate k 0) (sym (length-replicate {A = ℕ} room 0)) }
 
 -- an object of which nothing is asked stays as its round closes
 pub stays_idle : (m : Marked) → IsIdle m → closed_marks m ≡ m
@@ -101,7 +101,7 @@ zeros (suc n) zero = refl
 zeros (suc n) (suc k) = zeros n k
 
 -- an object of which nothing is asked has no counted block
-idle_counted : (m : Marked) → IsIdle m → IsCounted m
+pub idle_counted : (m : Marked) → IsIdle m → IsCounted m
 idle_counted m idle block some =
     let none : get_or m.counts block 0 ≡ 0 = ap (λ (cs : List ℕ). get_or cs block 0) idle.1 ∙ zeros (length m.counts) block in
     absurd (omega (arith, none, some))

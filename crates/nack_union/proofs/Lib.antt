@@ -49,3 +49,9 @@ pub mod Rooms
 pub mod Open
 pub mod Moved
 pub mod Shifted
+pub mod Below
+pub mod Fronts
+pub mod Streams
+pub mod Numbered
+pub mod Fronting
+pub mod Bounds

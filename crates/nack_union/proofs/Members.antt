@@ -1,5 +1,5 @@
 -- Whether something is a member of what is listed of objects, and of what a state has.
-use Rattle.std.proofs.Common.{◌≡◌, ℕ, zero, suc, ◌+◌, ◌<◌, inl, inr, List, [], ◌∷◌, ◌++◌, map, length, get_or, Bool, true, false, refl, sym, ap, ◌∙◌, cond, arith}
+use Rattle.std.proofs.Common.{◌≡◌, ℕ, zero, suc, ◌+◌, ◌<◌, ◌≤◌, inl, inr, List, [], ◌∷◌, ◌++◌, map, length, get_or, Bool, true, false, refl, sym, ap, ◌∙◌, cond, arith}
 use Rattle.std.specs.Prelude.{nat_lt, not, filter}
 use Rattle.norm_base.specs.Settings.{Settings}
 use Rattle.fec_plan.specs.Points.{position, position_before}
@@ -16,7 +16,8 @@ use Rattle.nack_union.specs.Slots.{want_at, symbol_slot}
 use Rattle.nack_union.specs.Kept.{Marked, Kept, Holds, listed}
 use Rattle.nack_union.proofs.Orders.{same_order, earlier, later, symbol_at}
 use Rattle.nack_union.proofs.Unions.{Side, side, not_itself}
-use Rattle.nack_union.proofs.Dropped.{first_of, behind_start}
+use Rattle.nack_union.proofs.Dropped.{first_of}
+use Rattle.nack_union.proofs.Fronts.{symbol_behind}
 
 -- whether a member is one, by its comparisons with the first
 by_first : (b c d e f g : Bool) → d ≡ b → e ≡ c → f ≡ g → elim d as (λ _. Bool) [ true ↦ f | false ↦ not e ] ≡ elim b as (λ _. Bool) [ true ↦ g | false ↦ not c ]
@@ -103,12 +104,12 @@ member_symbols at [] = refl
 member_symbols at (x ∷ all) = by_first (position_before x at) (position_before at x) _ _ _ _ refl refl (member_symbols at all)
 
 -- the slot of a symbol is among those that were sent where the symbol is
-pub sent_is : (p : Settings) (s : SenderState) (u : Kept) (k block symbol : ℕ) (d : Marked) → k < length u.objects → symbol < 256 → Holds p u s
+pub sent_is : (p : Settings) (s : SenderState) (u : Kept) (k block symbol : ℕ) (d : Marked) → k < length u.objects → (get_or u.objects k d).first ≤ block → symbol < 256 → Holds p u s
     → is_member nat_lt (symbol_slot block symbol) (get_or u.objects k d).sent ≡ is_member position_before (position (u.first + k) block symbol) s.sent
-sent_is p s u k block symbol d lt few st =
+sent_is p s u k block symbol d lt from few st =
     sym (member_at (λ m. m.sent) u.first k (symbol_slot block symbol) u.objects d lt)
     ∙ ap (is_member want_before (want_at (u.first + k) (symbol_slot block symbol))) st.sent
     ∙ ap (λ w. is_member want_before w (filter (stands_behind s.current.drop) (map Symbol s.sent))) (symbol_at (u.first + k) block symbol few)
     ∙ member_filter (stands_behind s.current.drop) (Symbol (position (u.first + k) block symbol)) (map Symbol s.sent) st.rise
-    (behind_start s.current.drop (Symbol (position (u.first + k) block symbol)) st.whole (let f = st.first in omega (arith, f)))
+    (symbol_behind s.current.drop u.first k (position (u.first + k) block symbol) u.objects d st.fronts st.first lt refl from)
     ∙ member_symbols (position (u.first + k) block symbol) s.sent

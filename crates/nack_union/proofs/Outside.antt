@@ -63,7 +63,7 @@ named_in_all flags s first from to old new starts ends each rest k d lt = go (ca
     other : (k < from) ⊎ (to ≤ k) → (first + k < s.first.index) ⊎ (s.last.index < first + k) → MoreOf (named_part flags s) (first + k) (get_or old k d) (get_or new k d)
     other out away =
         subst (MoreOf (named_part flags s) (first + k) (get_or old k d)) (sym (rest k d out))
-        (none_more _ (λ block. 0) (get_or old k d) (λ slot. nothing_by flags s (first + k) (symbols_of_marked (get_or old k d)) (get_or old k d).info slot away) (λ block. refl))
+        (none_more _ (λ block. 0) (get_or old k d) (λ slot kept. nothing_by flags s (first + k) (symbols_of_marked (get_or old k d)) (get_or old k d).info slot away) (λ block low. refl))
 
     go : (k < from) ⊎ (from ≤ k) → (k < to) ⊎ (to ≤ k) → MoreOf (named_part flags s) (first + k) (get_or old k d) (get_or new k d)
     go (inl before) at = other (inl before) (inl (omega (arith, before, starts)))

@@ -9,7 +9,7 @@ pub part_none : (u : Kept) → HasPart no_part u u
 part_none u = record {
   first = refl;
   objects = refl;
-  each = λ k d lt. none_more (λ slot. false) (λ block. 0) (get_or u.objects k d) (λ slot. refl) (λ block. refl);
+  each = λ k d lt. none_more (λ slot. false) (λ block. 0) (get_or u.objects k d) (λ slot kept. refl) (λ block from. refl);
 }
 
 pub part_then : (a b : Part) (old mid new : Kept) → HasPart a old mid → HasPart b mid new → HasPart (and_part a b) old new

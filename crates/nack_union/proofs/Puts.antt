@@ -17,7 +17,7 @@ pub or_false : (a b : Bool) → b ≡ false → (a || b) ≡ a
 or_false true b e = refl
 or_false false b e = e
 
-by_tests : (x y : ℕ) (ys : List ℕ) (b c : Bool) → nat_lt y x ≡ b → nat_lt x y ≡ c
+pub by_tests : (x y : ℕ) (ys : List ℕ) (b c : Bool) → nat_lt y x ≡ b → nat_lt x y ≡ c
     → is_member nat_lt x (y ∷ ys) ≡ elim b as (λ _. Bool) [ true ↦ is_member nat_lt x ys | false ↦ not c ]
 unfolding is_member
 by_tests x y ys b c e f =

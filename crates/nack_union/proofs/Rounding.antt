@@ -1,5 +1,5 @@
 -- What a union stands for as its round closes.
-use Rattle.std.proofs.Common.{◌≡◌, ℕ, suc, ◌+◌, ◌-◌, ◌≤◌, List, [], ◌∷◌, ◌++◌, map, length, Bool, true, false, refl, ap, ◌∙◌, arith}
+use Rattle.std.proofs.Common.{◌≡◌, ℕ, suc, ◌+◌, ◌-◌, ◌≤◌, List, [], ◌∷◌, ◌++◌, map, length, Bool, true, false, refl, sym, ap, subst, ◌∙◌, arith}
 use Rattle.std.specs.Prelude.{nat_lt}
 use Rattle.std.specs.List.{AllByRecursion}
 use Rattle.std.proofs.lemmas.List.{length-append, length-map}
@@ -10,7 +10,7 @@ use Rattle.norm_send_rules.specs.SenderState.{SenderState}
 use Rattle.norm_send_rules.specs.Wants.{want_before}
 use Rattle.nack_union.specs.Slots.{want_at}
 use Rattle.nack_union.specs.Repairs.{counted_slots}
-use Rattle.nack_union.specs.Kept.{Marked, Kept, Holds, listed, symbols_of_marked, closed_marks, closed_union, admitted, shape_of_marked, IsCounted}
+use Rattle.nack_union.specs.Kept.{Marked, Kept, Holds, listed, symbols_of_marked, closed_marks, closed_union, admitted, shape_of_marked, IsCounted, FrontsAre}
 use Rattle.nack_union.specs.Rounds.{asked_of, wants_closed, new_wants}
 use Rattle.nack_union.proofs.Rooms.{rooms_closed}
 use Rattle.nack_union.proofs.Closings.{all_closed}
@@ -22,6 +22,10 @@ same_shapes : (ms : List Marked) → map shape_of_marked (map closed_marks ms) �
 same_shapes [] = refl
 same_shapes (m ∷ ms) = ap (λ xs. shape_of_marked m ∷ xs) (same_shapes ms)
 
+same_fronts : (ms : List Marked) → map (λ m. m.first) (map closed_marks ms) ≡ map (λ m. m.first) ms
+same_fronts [] = refl
+same_fronts (m ∷ ms) = ap (λ xs. m.first ∷ xs) (same_fronts ms)
+
 same_sent : (index : ℕ) (ms : List Marked) → listed (λ m. m.sent) index (map closed_marks ms) ≡ listed (λ m. m.sent) index ms
 same_sent index [] = refl
 same_sent index (m ∷ ms) = ap (λ ws. map (want_at index) m.sent ++ ws) (same_sent (suc index) ms)
@@ -32,14 +36,14 @@ pub closed_wants : (p : Settings) (s : SenderState) (u : Kept) → AllByRecursio
 closed_wants p s u counted st =
     all_closed u.first u.objects
     ∙ ap (λ ws. with_members want_before ws (listed (λ m. m.wants) u.first u.objects))
-    (asked_are s u.first u.objects (admitted (stream_cut 0 0 0) false) (λ k lt block symbol few. sent_is p s u k block symbol (admitted (stream_cut 0 0 0) false) lt few st) counted)
+    (asked_are s u.first u.objects (admitted (stream_cut 0 0 0) false) (λ k lt block symbol from few. sent_is p s u k block symbol (admitted (stream_cut 0 0 0) false) lt from few st) counted)
     ∙ ap (with_members want_before (asked_of s u)) st.wants
 
 pub stands_closed : (p : Settings) (s : SenderState) (u : Kept) → AllByRecursion IsCounted u.objects → Holds p u s
     → Holds p (closed_union u) (record s { wants = wants_closed u s })
 stands_closed p s u counted st = record {
   first = st.first;
-  whole = st.whole;
+  fronts = subst (FrontsAre s.current.drop.block) (sym (same_fronts u.objects)) st.fronts;
   next = ap (λ n. u.first + n) (length-map u.objects closed_marks) ∙ st.next;
   shapes = same_shapes u.objects ∙ st.shapes;
   wants = closed_wants p s u counted st;

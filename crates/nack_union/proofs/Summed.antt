@@ -179,7 +179,7 @@ added_parts rs old new part rise least = record {
     go : (k : ℕ) (m n : Marked) → MoreOf (requests_part rs) (old.first + k) m n → HasAsked rs (old.first + k) m n
     go k m n more = record {
       rest = more.rest;
-      asked = λ slot. more.asked slot ∙ ap (λ b. is_member nat_lt slot m.asked || b) (all_slots rs (old.first + k) m slot);
+      asked = λ slot kept. more.asked slot kept ∙ ap (λ b. is_member nat_lt slot m.asked || b) (all_slots rs (old.first + k) m slot);
       blocks = more.blocks;
-      counts = λ block lt. more.counted block lt ∙ ap (max (slice_index m.counts block)) (all_counts rs (old.first + k) (symbols_of_marked m) block);
+      counts = λ block low lt. more.counted block low lt ∙ ap (max (slice_index m.counts block)) (all_counts rs (old.first + k) (symbols_of_marked m) block);
     }

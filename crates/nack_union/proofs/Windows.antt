@@ -1,9 +1,10 @@
 -- What a union collected stays as objects enter and leave the window.
-use Rattle.std.proofs.Common.{◌≡◌, ℕ, zero, suc, ◌+◌, ◌<◌, ◌≤◌, ◌⊎◌, inl, inr, List, [], ◌∷◌, ◌++◌, length, get_or, take, drop, replicate, Bool, true, false, Option, Some, None, refl, sym, ap, subst, ◌∙◌, cond, arith, flat_map}
+use Rattle.std.proofs.Common.{◌≡◌, ℕ, zero, suc, ◌+◌, ◌-◌, ◌<◌, ◌≤◌, ◌⊎◌, inl, inr, List, [], ◌∷◌, ◌++◌, map, length, get_or, take, drop, replicate, Bool, true, false, Option, Some, None, refl, sym, ap, subst, ◌∙◌, cond, arith, flat_map}
 use Rattle.std.specs.Prelude.{IfSome, not, ◌&&◌, nat_lt, filter, slice_get}
-use Rattle.std.specs.List.{AllByRecursion}
-use Rattle.std.proofs.lemmas.Bool.{cases_lt}
-use Rattle.std.proofs.lemmas.List.{length-drop, length-take, take-append-le, length-append, length-map, map-append}
+use Rattle.std.specs.List.{AllByRecursion, range_with_len}
+use Rattle.std.proofs.lemmas.Bool.{cases_lt, le-ltb}
+use Rattle.std.proofs.lemmas.List.{length-drop, length-take, take-append-le, length-append, length-map, map-append, get_or-map, get_or_past}
+use Rattle.std.proofs.lemmas.List.FromFn.{length-range_with_len, get_or-range_with_len}
 use Rattle.norm_base.specs.Settings.{Settings}
 use Rattle.fec_plan.specs.Partition.{symbol_number}
 use Rattle.fec_plan.specs.Points.{Point, point, point_before}
@@ -19,13 +20,15 @@ use Rattle.norm_send_rules.specs.Closing.{greatest}
 use Rattle.norm_send_rules.specs.Dropping.{dropped_to}
 use Rattle.norm_send_rules.specs.Enqueuing.{with_entry}
 use Rattle.norm_send_rules.specs.Laws.{Rise}
-use Rattle.norm_send_rules.specs.Wants.{want_before, want_index}
+use Rattle.norm_send_rules.specs.Wants.{want_before}
 use Rattle.norm_send_rules.specs.declared.want.Want.{Want}
 use Rattle.norm_send_rules.proofs.ClosingLemmas.{rise_more}
-use Rattle.nack_union.specs.Kept.{Marked, Kept, Holds, with_object}
+use Rattle.nack_union.specs.Kept.{Marked, Kept, Holds, with_object, moved_on, moved_front, from_block}
 use Rattle.nack_union.specs.Collected.{Collects, IsKnownIn}
 use Rattle.nack_union.proofs.Collecting.{some_greatest, past_end}
-use Rattle.nack_union.proofs.Dropped.{behind_start, not_behind_start, filter_with_want, filter_twice, listed_dropped}
+use Rattle.nack_union.proofs.Dropped.{filter_twice}
+use Rattle.nack_union.proofs.Fronts.{filter_with_want, listed_front, behind_both, some_first}
+use Rattle.nack_union.proofs.Standing.{drop_onward, length-moved_front}
 use Rattle.nack_union.proofs.Idle.{at_front, at_end, zeros}
 use Rattle.nack_union.proofs.Lists.{In, in_flat, in_filter}
 use Rattle.nack_union.proofs.Orders.{joined_at}
@@ -43,33 +46,16 @@ passes_not test x (w ∷ ws) e = go (side x w) (passes_not test x ws e)
     go (inr (inr h)) rest = ap (filter test) (further x w ws h.0 h.1) ∙ ap (λ zs. cond (test w) (w ∷ zs) zs) rest
 
 -- what stands behind a drop point of a set
-filter_set : (d : Point) (xs ws : List Want) → d.block ≡ 0 → Rise ws
+filter_set : (d : Point) (xs ws : List Want) → Rise ws
     → filter (stands_behind d) (with_members want_before xs ws) ≡ with_members want_before (filter (stands_behind d) xs) (filter (stands_behind d) ws)
-filter_set d [] ws whole rise = refl
-filter_set d (x ∷ xs) ws whole rise = filter_set d xs (with_member want_before x ws) whole (rise_more (x ∷ []) ws rise) ∙ go (stands_behind d x) refl
+filter_set d [] ws rise = refl
+filter_set d (x ∷ xs) ws rise = filter_set d xs (with_member want_before x ws) (rise_more (x ∷ []) ws rise) ∙ go (stands_behind d x) refl
   where
-    after : stands_behind d x ≡ true → (want_index x < d.index) ⊎ (d.index ≤ want_index x) → d.index ≤ want_index x
-    after e (inl lt) = absurd (clash (sym (not_behind_start d x whole lt) ∙ e))
-      where
-        clash : false ≡ true → ⊥
-        clash h = cc
-    after e (inr le) = le
-
     go : (b : Bool) → stands_behind d x ≡ b
         → with_members want_before (filter (stands_behind d) xs) (filter (stands_behind d) (with_member want_before x ws))
         ≡ with_members want_before (cond b (x ∷ filter (stands_behind d) xs) (filter (stands_behind d) xs)) (filter (stands_behind d) ws)
-    go true e = ap (with_members want_before (filter (stands_behind d) xs)) (filter_with_want d x ws whole e (after e (cases_lt (want_index x) d.index)) rise)
+    go true e = ap (with_members want_before (filter (stands_behind d) xs)) (filter_with_want d x ws e rise)
     go false e = ap (with_members want_before (filter (stands_behind d) xs)) (passes_not (stands_behind d) x ws e)
-
-behind_both : (d e : Point) → d.block ≡ 0 → e.block ≡ 0 → d.index ≤ e.index → (w : Want) → stands_behind e w ≡ true → stands_behind d w ≡ true
-behind_both d e whole start le w h = go (cases_lt (want_index w) e.index)
-  where
-    clash : false ≡ true → ⊥
-    clash h = cc
-
-    go : (want_index w < e.index) ⊎ (e.index ≤ want_index w) → stands_behind d w ≡ true
-    go (inl lt) = absurd (clash (sym (not_behind_start e w start lt) ∙ h))
-    go (inr more) = behind_start d w whole (omega (arith, le, more))
 
 get_drop : (n : ℕ) (ms : List Marked) (k : ℕ) (d : Marked) → n + k < length ms → get_or (drop n ms) k d ≡ get_or ms (n + k) d
 get_drop zero ms k d lt = ap (λ i. get_or ms i d) (let e : k ≡ 0 + k = omega arith in e)
@@ -120,22 +106,79 @@ nexts : (u : Kept) (many : ℕ) (asked : List Asked) → AllByRecursion (IsKnown
 nexts u many [] known = tt
 nexts u many (a ∷ asked) known = (known.0.next, nexts u many asked known.1)
 
--- the first n objects are dropped
-pub collects_retired : (p : Settings) (s : SenderState) (u : Kept) (asked : List Asked) (n : ℕ) → n ≤ length u.objects → Holds p u s → Collects p u s asked
-    → Collects p (record u { first = u.first + n; objects = drop n u.objects }) (dropped_to (point (u.first + n) 0) s) asked
-collects_retired p s u asked n le st col = record {
+-- and where what lies before a block of the first goes
+known_moved : (first : ℕ) (ms : List Marked) (e : Option Point) (block many : ℕ) (asked : List Asked) → AllByRecursion (IsKnownIn (record { first = first; objects = ms; earliest = e }) many) asked
+    → AllByRecursion (IsKnownIn (record { first = first; objects = moved_front block ms; earliest = e }) many) asked
+known_moved first ms e zero many asked known = known
+known_moved first [] e (suc block) many asked known = known
+known_moved first (m ∷ ms) e (suc block) many [] known = tt
+known_moved first (m ∷ ms) e (suc block) many (a ∷ asked) known =
+    (record { next = known.0.next; last = by a.last known.0.last }, known_moved first (m ∷ ms) e (suc block) many asked known.1)
+  where
+    still : (at : Position) (j : ℕ) (d : Marked) → symbol_number (get_or (m ∷ ms) j d).cut at.block at.symbol + 1 ≤ (get_or (m ∷ ms) j d).closed
+        → symbol_number (get_or (moved_on (suc block) m ∷ ms) j d).cut at.block at.symbol + 1 ≤ (get_or (moved_on (suc block) m ∷ ms) j d).closed
+    still at zero d le = le
+    still at (suc j) d le = le
+
+    by : (last : Option Position)
+        → IfSome last (λ at. (at.index < many) × ((j : ℕ) (d : Marked) → j < length (m ∷ ms) → at.index ≡ first + j
+        → symbol_number (get_or (m ∷ ms) j d).cut at.block at.symbol + 1 ≤ (get_or (m ∷ ms) j d).closed))
+        → IfSome last (λ at. (at.index < many) × ((j : ℕ) (d : Marked) → j < length (moved_on (suc block) m ∷ ms) → at.index ≡ first + j
+        → symbol_number (get_or (moved_on (suc block) m ∷ ms) j d).cut at.block at.symbol + 1 ≤ (get_or (moved_on (suc block) m ∷ ms) j d).closed))
+    by None h = h
+    by (Some at) h = (h.0, λ j d less is. still at j d (h.1 j d less is))
+
+-- the count of a block that is kept stays
+count_on : (block at : ℕ) (m : Marked) → m.first ≤ block → block ≤ at → get_or (moved_on block m).counts at 0 ≡ get_or m.counts at 0
+count_on block at m onward from = go (cases_lt at (length m.counts + (block - m.first)))
+  where
+    test : ℕ → ℕ
+    test i = from_block block i (get_or m.counts i 0)
+
+    many : length (range_with_len 0 (length m.counts + (block - m.first))) ≡ length m.counts + (block - m.first)
+    many = length-range_with_len 0 (length m.counts + (block - m.first))
+
+    go : (at < length m.counts + (block - m.first)) ⊎ (length m.counts + (block - m.first) ≤ at) → get_or (map test (range_with_len 0 (length m.counts + (block - m.first)))) at 0 ≡ get_or m.counts at 0
+    go (inl lt) =
+        get_or-map test (range_with_len 0 (length m.counts + (block - m.first))) at 0 0 (omega (arith, lt, many))
+        ∙ ap test (get_or-range_with_len 0 (length m.counts + (block - m.first)) at 0 lt ∙ (let e : 0 + at ≡ at = omega arith in e))
+        ∙ ap (λ b. elim b as (λ _. ℕ) [ true ↦ 0 | false ↦ get_or m.counts at 0 ]) (le-ltb at block from)
+    go (inr past) =
+        get_or_past (map test (range_with_len 0 (length m.counts + (block - m.first)))) at 0
+        (let same = length-map (range_with_len 0 (length m.counts + (block - m.first))) test in omega (arith, past, many, same))
+        ∙ sym (get_or_past m.counts at 0 (omega (arith, past)))
+
+counts_on : (block : ℕ) (ms : List Marked) (k : ℕ) (d : Marked) (at : ℕ) → ((m : Marked) (rest : List Marked) → ms ≡ m ∷ rest → m.first ≤ block)
+    → (get_or (moved_front block ms) k d).first ≤ at
+    → (get_or (get_or (moved_front block ms) k d).counts at 0 ≡ get_or (get_or ms k d).counts at 0) × ((get_or ms k d).first ≤ at)
+counts_on zero ms k d at onward from = (refl, from)
+counts_on (suc block) [] k d at onward from = (refl, from)
+counts_on (suc block) (m ∷ ms) zero d at onward from =
+    let low = onward m ms refl in
+    (count_on (suc block) at m low from, omega (arith, low, from))
+counts_on (suc block) (m ∷ ms) (suc k) d at onward from = (refl, from)
+
+-- the first n objects are dropped, and what lies before a block of the next
+pub collects_retired : (p : Settings) (s : SenderState) (u : Kept) (asked : List Asked) (n block : ℕ) → n ≤ length u.objects → (0 < block → n < length u.objects)
+    → ((m : Marked) → slice_get u.objects n ≡ Some m → m.first ≤ block) → Holds p u s → Collects p u s asked
+    → Collects p (record u { first = u.first + n; objects = moved_front block (drop n u.objects) }) (dropped_to (point (u.first + n) block) s) asked
+collects_retired p s u asked n block le some onward st col = record {
   earliest = col.earliest;
-  known = known_dropped u n (next_index s) asked col.known;
+  known = known_moved (u.first + n) (drop n u.objects) u.earliest block (next_index s) asked (known_dropped u n (next_index s) asked col.known);
   named =
-      sym (listed_dropped (λ m. m.asked) (point (u.first + n) 0) u.first n u.objects refl refl)
-      ∙ ap (filter (stands_behind (point (u.first + n) 0))) col.named
-      ∙ filter_set (point (u.first + n) 0) (filter (stands_behind s.current.drop) all) [] refl tt
-      ∙ ap (λ ws. with_members want_before ws []) (filter_twice s.current.drop (point (u.first + n) 0) all
-      (behind_both s.current.drop (point (u.first + n) 0) st.whole refl (let f = st.first in omega (arith, f))));
-  counts = λ k d lt block.
-      ap (λ (m : Marked). get_or m.counts block 0) (get_drop n u.objects k d (omega (arith, lt, length-drop n u.objects)))
-      ∙ col.counts (n + k) d (omega (arith, lt, length-drop n u.objects)) block
-      ∙ ap (λ i. greatest (flat_map (counts_of (current_shapes p s)) asked) (point i block)) (let e : u.first + (n + k) ≡ u.first + n + k = omega arith in e);
+      sym (listed_front (λ m. m.asked) (point (u.first + n) block) u.first n u.objects (λ k x. refl) refl)
+      ∙ ap (filter (stands_behind (point (u.first + n) block))) col.named
+      ∙ filter_set (point (u.first + n) block) (filter (stands_behind s.current.drop) all) [] tt
+      ∙ ap (λ ws. with_members want_before ws []) (filter_twice s.current.drop (point (u.first + n) block) all
+      (behind_both s.current.drop (point (u.first + n) block) (drop_onward p s u n block le some onward st)));
+  counts = λ k d lt at from.
+      let within : k < length (drop n u.objects) = omega (arith, lt, length-moved_front block (drop n u.objects)) in
+      let same = counts_on block (drop n u.objects) k d at (λ m rest e. onward m (some_first u.objects n m rest e)) from in
+      let there = get_drop n u.objects k d (omega (arith, within, length-drop n u.objects)) in
+      same.0
+      ∙ ap (λ (m : Marked). get_or m.counts at 0) there
+      ∙ col.counts (n + k) d (omega (arith, within, length-drop n u.objects)) at (subst (λ (m : Marked). m.first ≤ at) there same.1)
+      ∙ ap (λ i. greatest (flat_map (counts_of (current_shapes p s)) asked) (point i at)) (let e : u.first + (n + k) ≡ u.first + n + k = omega arith in e);
 }
   where
     all : List Want
@@ -200,7 +243,7 @@ collects_admitted p s u asked entry m n unasked uncounted st col = record {
       subst (λ n. AllByRecursion (IsKnownIn (with_object m u) n) asked) (sym (length-append s.current.order (entry ∷ [])))
       (known_joined u m (next_index s) asked st.next col.known);
   named = joined_at (λ m. m.asked) u.first u.objects m unasked ∙ col.named ∙ ap (λ ws. with_members want_before (filter (stands_behind s.current.drop) ws) []) (sym wants_same);
-  counts = λ k d lt block. at k d lt block (cases_lt k (length u.objects)) ∙ ap (λ cs. greatest cs (point (u.first + k) block)) (sym counts_same);
+  counts = λ k d lt block from. at k d lt block (cases_lt k (length u.objects)) from ∙ ap (λ cs. greatest cs (point (u.first + k) block)) (sym counts_same);
 }
   where
     x : Shape
@@ -224,9 +267,11 @@ collects_admitted p s u asked entry m n unasked uncounted st col = record {
         ∙ ap (λ shapes. filter (λ (c : Count). is_kept shapes a.first c.of) (asked_counts a.request)) (came_same a (current_shapes p s) x (omega (arith, le, many)))) (nexts u (next_index s) asked col.known)
 
     at : (k : ℕ) (d : Marked) → k < length (u.objects ++ m ∷ []) → (block : ℕ) → (k < length u.objects) ⊎ (length u.objects ≤ k)
-        → get_or (get_or (u.objects ++ m ∷ []) k d).counts block 0 ≡ greatest (flat_map (counts_of (current_shapes p s)) asked) (point (u.first + k) block)
-    at k d lt block (inl less) = ap (λ (z : Marked). get_or z.counts block 0) (at_front u.objects m k d less) ∙ col.counts k d less block
-    at k d lt block (inr past) =
+        → (get_or (u.objects ++ m ∷ []) k d).first ≤ block → get_or (get_or (u.objects ++ m ∷ []) k d).counts block 0 ≡ greatest (flat_map (counts_of (current_shapes p s)) asked) (point (u.first + k) block)
+    at k d lt block (inl less) from =
+        ap (λ (z : Marked). get_or z.counts block 0) (at_front u.objects m k d less)
+        ∙ col.counts k d less block (subst (λ (z : Marked). z.first ≤ block) (at_front u.objects m k d less) from)
+    at k d lt block (inr past) from =
         ap (λ i. get_or (get_or (u.objects ++ m ∷ []) i d).counts block 0) (let e : k ≡ length u.objects = omega (arith, lt, past, length-append u.objects (m ∷ [])) in e)
         ∙ ap (λ (z : Marked). get_or z.counts block 0) (at_end u.objects m d)
         ∙ ap (λ (cs : List ℕ). get_or cs block 0) uncounted ∙ zeros n block

@@ -1,6 +1,6 @@
 -- What requests add to what a union collected (RFC 5740 sections 4.3.1 and 5.4): of each object of the window the slots that
 -- they ask for by name, and of each block the greatest count.
-use Rattle.std.specs.Prelude.{ℕ, zero, suc, Some, ◌≡◌, ◌+◌, ◌<◌, ◌≤◌, ◌/◌, ◌%◌, ◌==◌, ◌&&◌, ◌||◌, List, length, max, Bool, nat_lt, get_or, slice_index, flat_map}
+use Rattle.std.specs.Prelude.{ℕ, zero, suc, true, Some, ◌≡◌, ◌+◌, ◌<◌, ◌≤◌, ◌/◌, ◌%◌, ◌==◌, ◌&&◌, ◌||◌, List, length, max, Bool, nat_lt, get_or, slice_index, flat_map}
 use Rattle.std.specs.List.{list_any}
 use Rattle.fec_plan.specs.Partition.{IsSound, blocks, all_symbols, encoding_symbols}
 use Rattle.fec_plan.specs.Points.{point, position}
@@ -10,6 +10,7 @@ use Rattle.norm_order.specs.Sets.{is_member}
 use Rattle.norm_order.specs.Shapes.{Shape, closed_in, encoded_in}
 use Rattle.norm_send_rules.specs.Closing.{greatest}
 use Rattle.norm_send_rules.specs.Laws.{Rise}
+use Rattle.nack_union.specs.Slots.{stands_from}
 use Rattle.nack_union.specs.More.{kept_count}
 use Rattle.nack_union.specs.Earliest.{earliest_with}
 use Rattle.nack_union.specs.Kept.{Marked, Kept, listed, shape_of_marked, symbols_of_marked}
@@ -34,12 +35,12 @@ asks_slot r index m (suc n) = asks_symbol r (symbols_of_marked m) (position inde
 abbrev pub is_asked_slot : List Named → ℕ → Marked → ℕ → Bool
 is_asked_slot requests index m slot = list_any (λ r. asks_slot r index m slot) requests
 
--- requests were added to what was collected of the object with this index
+-- requests were added to what was collected of what is kept of the object with this index
 pub record HasAsked (requests : List Named) (index : ℕ) (old new : Marked) : Type 0 where
   pub rest : new ≡ record old { asked = new.asked; counts = new.counts }
-  pub asked : (slot : ℕ) → is_member nat_lt slot new.asked ≡ (is_member nat_lt slot old.asked || is_asked_slot requests index old slot)
+  pub asked : (slot : ℕ) → stands_from old.first slot ≡ true → is_member nat_lt slot new.asked ≡ (is_member nat_lt slot old.asked || is_asked_slot requests index old slot)
   pub blocks : length new.counts ≡ length old.counts
-  pub counts : (block : ℕ) → block < length old.counts
+  pub counts : (block : ℕ) → old.first ≤ block → block < length old.counts
       → slice_index new.counts block
       ≡ max (slice_index old.counts block) (kept_count (symbols_of_marked old) block (greatest (flat_map asked_counts requests) (point index block)))
 
@@ -53,10 +54,12 @@ pub record HasAdded (requests : List Named) (old new : Kept) : Type 0 where
   pub earliest : new.earliest ≡ earliest_with old.earliest requests
 
 -- What holds of each object: nothing is wrong with its cut, no more symbols are closed than it has, and all that it has
--- where it has a length; its symbols' ids have 8 bits, and each block of which something is closed has a count.
+-- where it has a length; its symbols' ids have 8 bits, each block of which something is closed has a count, and what is asked for is of
+-- what is kept.
 pub record IsPlanned (m : Marked) : Type 0 where
   pub sound : IsSound m.cut
   pub closed : m.closed ≤ all_symbols m.cut
   pub whole : (l : ℕ) → m.cut.l ≡ Some l → m.closed ≡ all_symbols m.cut
   pub few : (block : ℕ) → encoding_symbols m.cut block ≤ 255
   pub counts : (block : ℕ) → length m.counts ≤ block → closed_in (shape_of_marked m) block ≡ 0
+  pub kept : (slot : ℕ) → is_member nat_lt slot m.asked ≡ true → stands_from m.first slot ≡ true

@@ -27,12 +27,12 @@ pub record IsKnownIn (u : Kept) (n : ℕ) (a : Asked) : Type 0 where
       → symbol_number (get_or u.objects k d).cut at.block at.symbol + 1 ≤ (get_or u.objects k d).closed))
 
 -- A union collected requests as each came, none before the order was as it stood then: the infos and symbols of the window
--- that they ask for by name, and of each block of the window the greatest count that is kept. The first point is the one from which they count.
+-- that they ask for by name, and of each kept block of the window the greatest count that is kept. The first point is the one from which they count.
 pub record CollectsFor (p : Settings) (u : Kept) (r : UnionReads) (asked : List Asked) : Type 0 where
   pub known : AllByRecursion (IsKnownIn u (length r.order)) asked
   pub named : listed (λ m. m.asked) u.first u.objects
       ≡ with_members want_before (filter (stands_behind r.drop) (flat_map (wants_of (shapes_of p r.order)) asked)) []
-  pub counts : (k : ℕ) (d : Marked) → k < length u.objects → (block : ℕ)
+  pub counts : (k : ℕ) (d : Marked) → k < length u.objects → (block : ℕ) → (get_or u.objects k d).first ≤ block
       → slice_index (get_or u.objects k d).counts block ≡ greatest (flat_map (counts_of (shapes_of p r.order)) asked) (point (u.first + k) block)
   pub earliest : u.earliest ≡ earliest_with None (map (λ (a : Asked). a.request) asked)
 

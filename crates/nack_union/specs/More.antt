@@ -1,9 +1,9 @@
 -- What calls add to what the open round asks for, slot by slot and block by block.
-use Rattle.std.specs.Prelude.{ℕ, zero, suc, ◌≡◌, ◌+◌, ◌<◌, ◌/◌, ◌%◌, ◌==◌, ◌&&◌, ◌||◌, length, max, Bool, true, false, nat_lt, not, get_or, slice_index, List, [], ◌∷◌}
+use Rattle.std.specs.Prelude.{ℕ, zero, suc, ◌≡◌, ◌+◌, ◌<◌, ◌≤◌, ◌/◌, ◌%◌, ◌==◌, ◌&&◌, ◌||◌, length, max, Bool, true, false, nat_lt, not, get_or, slice_index, List, [], ◌∷◌}
 use Rattle.fec_plan.specs.Partition.{blocks}
 use Rattle.fec_plan.specs.Points.{position}
 use Rattle.fec_plan.specs.declared.position.Position.{Position}
-use Rattle.nack_union.specs.Slots.{symbol_slot}
+use Rattle.nack_union.specs.Slots.{symbol_slot, stands_from}
 use Rattle.norm_ext.specs.declared.kinds.Form.TheVariants as form
 use Rattle.norm_ext.specs.Asking.{Span, Named, is_proper, lies_in, block_span, object_span, has_flag, segment_flag, block_flag, object_flag, info_flag}
 use Rattle.norm_order.specs.Sets.{is_member}
@@ -24,12 +24,12 @@ abbrev pub slot_in : ℕ → Span → ℕ → Bool
 slot_in index s zero = false
 slot_in index s (suc n) = lies_in (position index (n / 256) (n % 256)) s
 
--- of an object these slots are asked for too, and each block is counted as much as this says
+-- of what is kept of an object these slots are asked for too, and each block is counted as much as this says
 pub record HasMore (slots : ℕ → Bool) (counts : ℕ → ℕ) (old new : Marked) : Type 0 where
   pub rest : new ≡ record old { asked = new.asked; counts = new.counts }
-  pub asked : (slot : ℕ) → is_member nat_lt slot new.asked ≡ (is_member nat_lt slot old.asked || slots slot)
+  pub asked : (slot : ℕ) → stands_from old.first slot ≡ true → is_member nat_lt slot new.asked ≡ (is_member nat_lt slot old.asked || slots slot)
   pub blocks : length new.counts ≡ length old.counts
-  pub counted : (block : ℕ) → block < length old.counts → slice_index new.counts block ≡ max (slice_index old.counts block) (counts block)
+  pub counted : (block : ℕ) → old.first ≤ block → block < length old.counts → slice_index new.counts block ≡ max (slice_index old.counts block) (counts block)
 
 -- what is asked for of objects: slots, by their index, shape and whether they have info, and counts, by index, shape and block
 pub record Part : Type 0 where

@@ -1,6 +1,6 @@
 -- The slots of an object: its info first, and then block by block 256 symbols, in the order in which repairs are sent
 -- (RFC 5740 section 5.2).
-use Rattle.std.specs.Prelude.{ℕ, zero, suc, ◌+◌, ◌*◌, ◌/◌, ◌%◌, ◌<◌}
+use Rattle.std.specs.Prelude.{ℕ, zero, suc, ◌+◌, ◌*◌, ◌/◌, ◌%◌, ◌<◌, Bool, true, not, nat_lt}
 use Rattle.fec_plan.specs.Points.{position}
 use Rattle.norm_send_rules.specs.declared.want.Want.{Want}
 use Rattle.norm_send_rules.specs.declared.want.Want.TheVariants.{Info, Symbol}
@@ -27,3 +27,8 @@ slot_of_want (Symbol at) = symbol_slot at.block at.symbol
 abbrev pub IsNamed : Want → Type 0
 IsNamed (Info index) = Unit {0}
 IsNamed (Symbol at) = at.symbol < 256
+
+-- what stands at a slot stays where an object is kept from a block on: an info, or a symbol of a block that is not before it
+abbrev pub stands_from : ℕ → ℕ → Bool
+stands_from block zero = true
+stands_from block (suc n) = not (nat_lt (n / 256) block)

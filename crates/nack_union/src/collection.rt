@@ -1,6 +1,6 @@
 //! What a union collects, whatever the profile.
 
-ghost use Rattle.std.specs.Prelude.{◌≡◌, ◌<◌, ◌≤◌, ◌+◌, ◌-◌, ◌^◌, ◌∷◌, ◌++◌, [], length, IfOk, IsErr, MatchOption, None, Some, ℕ, List, nat_lt, position, slice_get, drop, not, map, min, max};
+ghost use Rattle.std.specs.Prelude.{◌≡◌, ◌<◌, ◌≤◌, ◌+◌, ◌-◌, ◌^◌, ◌∷◌, ◌++◌, [], length, IfOk, IsErr, MatchOption, None, Some, false, ℕ, List, nat_lt, position, slice_get, drop, take, not, map, min, max};
 ghost use Rattle.norm_base.specs.Settings.{Settings};
 ghost use Rattle.fec_plan.specs.Partition.{blocks};
 ghost use Rattle.norm_order.specs.Entries.{Entry};
@@ -19,7 +19,7 @@ ghost use Rattle.norm_send_rules.specs.declared.want.Want.{Want as Wanted};
 ghost use Rattle.norm_send_rules.specs.declared.want.Want.TheVariants.{Symbol};
 ghost use Rattle.norm_order.specs.Sets.{with_member};
 ghost use Rattle.nack_union.specs.Slots.{symbol_slot};
-ghost use Rattle.nack_union.specs.Kept.{Kept, Marked, Holds, IsEncodedIn, known_of, begun_union, admitted, admitted_stream, IsFresh, HasRoom, CanGrow, OfLast, grown_to, with_object, shape_of_marked, closed_marks, closed_union, IsCounted, with_marks, retired};
+ghost use Rattle.nack_union.specs.Kept.{Kept, Marked, Holds, IsEncodedIn, known_of, begun_union, admitted, admitted_stream, IsFresh, HasRoom, CanGrow, OfLast, grown_to, with_object, shape_of_marked, closed_marks, closed_union, IsCounted, with_marks, retired, moved_front, any_gone, first_block, MayRetire, MayMoveOn};
 ghost use Rattle.nack_union.specs.More.{HasPart, named_part, symbol_part, count_part, part_where, item_part, items_part, ranges_part, counts_part, request_part, requests_part};
 ghost use Rattle.nack_union.specs.Adding.{HasAdded, IsPlanned};
 ghost use Rattle.norm_ext.specs.Requests.{items_named};
@@ -120,6 +120,16 @@ fn close_all(objects: &mut [Marks]) -> u32
         queued = queued.saturating_add(object.close() as u64);
     }
     queued.min(u32::MAX as u64) as u32
+}
+
+/// The first block that is kept of the first object.
+fn first_block(objects: &[Marks]) -> u32
+    ensures { result ≡ first_block objects.now }
+{
+    if objects.is_empty() {
+        return 0;
+    }
+    objects[0].first_block()
 }
 
 /// The place in a window that begins with this index at which what is named begins, or 0 where that is before it.
@@ -232,16 +242,12 @@ impl Collection {
         self.quiet = 0;
     }
 
-    /// Drops all objects before an index, and says whether that took away a want.
-    pub fn retire(&mut self, index: u32) -> bool
+    /// Drops all objects before an index, and says whether one of them was wanted.
+    fn drop_objects(&mut self, index: u32) -> bool
         requires not_back { self.old.first ≤ index }
         requires within { index ≤ self.old.first + length self.old.objects }
-        ensures exact { self.new ≡ retired index self.old }
-        ensures collects { (p : Settings) (s : SenderState) (asked : List Asked) → Holds p self.old s → Collects p self.old s asked
-            → Collects p self.new (dropped_to (point index 0) s) asked }
-        ensures stands { (p : Settings) (s : SenderState) → Holds p self.old s
-            → Holds p self.new (dropped_to (point index 0) s)
-            × (result ≡ list_any (λ want. not (stands_behind (point index 0) want)) s.wants) }
+        ensures exact { self.new ≡ retired index 0 self.old }
+        ensures dropped { result ≡ list_any (λ m. nat_lt 0 (length m.wants)) (take (index - self.old.first) self.old.objects) }
     {
         let count = (index - self.first) as usize;
         let dropped = is_some_wanted(&self.objects[..count]);
@@ -251,6 +257,46 @@ impl Collection {
         self.high = self.high.saturating_sub(count);
         self.quiet = self.quiet.saturating_sub(count);
         dropped
+    }
+
+    /// Keeps the first object, a stream, from a block on, and says whether something was wanted before.
+    fn move_first(&mut self, block: u32) -> bool
+        requires some { 0 < length self.old.objects }
+        requires later { 0 < block }
+        requires first { (m : Marked) → slice_get self.old.objects 0 ≡ Some m → (m.first ≤ block) × MayMoveOn block m }
+        ensures exact { self.new ≡ record self.old { objects = moved_front block self.old.objects } }
+        ensures gone { result ≡ any_gone block self.old.objects }
+    {
+        let object = &mut self.objects[0];
+        object.move_on(block)
+    }
+
+    /// Keeps the first object from a block on, and says whether something was wanted before.
+    fn move_to(&mut self, block: u32) -> bool
+        requires some { 0 < block → 0 < length self.old.objects }
+        requires first { 0 < block → (m : Marked) → slice_get self.old.objects 0 ≡ Some m → (m.first ≤ block) × MayMoveOn block m }
+        ensures exact { self.new ≡ record self.old { objects = moved_front block self.old.objects } }
+        ensures gone { result ≡ any_gone block self.old.objects }
+    {
+        if block == 0 {
+            return false;
+        }
+        self.move_first(block)
+    }
+
+    /// Drops all before a point, and says whether that took away a want.
+    pub fn retire(&mut self, index: u32, block: u32) -> bool
+        requires { MayRetire index block self.old }
+        ensures exact { self.new ≡ retired index block self.old }
+        ensures collects { (p : Settings) (s : SenderState) (asked : List Asked) → Holds p self.old s → Collects p self.old s asked
+            → Collects p self.new (dropped_to (point index block) s) asked }
+        ensures stands { (p : Settings) (s : SenderState) → Holds p self.old s
+            → Holds p self.new (dropped_to (point index block) s)
+            × (result ≡ list_any (λ want. not (stands_behind (point index block) want)) s.wants) }
+    {
+        let dropped = self.drop_objects(index);
+        let gone = self.move_to(block);
+        dropped || gone
     }
 
     /// Notes that an encoded symbol of an object of the window was sent.
@@ -473,7 +519,7 @@ impl Collection {
         ensures closed { (p : Settings) (s : SenderState) → Holds p self.old s → Holds p self.new (record s { wants = wants_closed self.old s }) }
         ensures queued { (p : Settings) (s : SenderState) → Holds p self.old s
             → result.queued ≡ min (length (wants_closed self.old s) - length s.wants) 4294967295 }
-        ensures early { result.early ≡ is_before_window self.old.earliest (point self.old.first 0) }
+        ensures early { result.early ≡ is_before_window self.old.earliest (point self.old.first (first_block self.old.objects)) }
         ensures rules { (p : Settings) (s : SenderState) (r : Round) → Holds p self.old s → Collects p self.old s r.asked
             → Holds p self.new (round_closed p r s) × (result.queued ≡ min (length (round_closed p r s).wants - length s.wants) 4294967295)
             × (result.early ≡ list_any (λ (a : Asked). asks_early s.current.drop a.request) r.asked) }
@@ -485,9 +531,10 @@ impl Collection {
         self.low = high;
         self.high = high;
         self.quiet = self.quiet.min(low);
+        let block = first_block(&self.objects);
         let first = Point {
             index: self.first,
-            block: 0,
+            block,
         };
         let early = is_early(self.earliest, first);
         self.earliest = None;

@@ -1,7 +1,7 @@
 //! What the open round asks for of an object.
 
-ghost use Rattle.std.specs.Prelude.{◌≡◌, ◌+◌, ◌*◌, ◌^◌, ◌<◌, ◌≤◌, [], nat_lt, true, IfOk, ℕ, List, length, slice_index, ◌&&◌, ◌||◌};
-ghost use Rattle.fec_plan.specs.Partition.{blocks, most_blocks};
+ghost use Rattle.std.specs.Prelude.{◌≡◌, ◌+◌, ◌*◌, ◌^◌, ◌<◌, ◌≤◌, [], nat_lt, true, IfOk, None, ℕ, List, ◌-◌, length, slice_index, ◌&&◌, ◌||◌};
+ghost use Rattle.fec_plan.specs.Partition.{blocks, most_blocks, symbol_number};
 ghost use Rattle.norm_order.specs.Shapes.{closed_in, is_full};
 ghost use Rattle.norm_order.specs.Sets.{with_member, with_members, is_member, Rises};
 ghost use Rattle.nack_union.specs.Slots.{slots, symbol_slot};
@@ -203,5 +203,22 @@ impl Coverage {
         self.alone.rises();
         ask_counted(&mut self.alone, sent, &self.plan, self.closed, counts);
         wants.take_all(&mut self.alone)
+    }
+
+    /// The stream's first blocks go, so many of them, and what is kept is numbered from the next one on. What was asked for of these is no
+    /// more, and as many blocks have room behind.
+    pub fn move_on(&mut self, count: u32)
+        requires { self.old.shape.cut.l ≡ None }
+        ensures members { (slot : ℕ) → is_member nat_lt slot self.new.members ≡ (is_member nat_lt (slot + 256 * count) self.old.members && nat_lt 0 slot) }
+        ensures shape { self.new.shape ≡ shape_closed self.old.shape.cut (self.old.shape.closed - symbol_number self.old.shape.cut count 0) }
+        ensures room { self.new.room ≡ self.old.room }
+    {
+        insert_runs(&mut self.alone, &self.plan, self.closed, &self.ends);
+        self.ends.fill(0);
+        self.alone.rises();
+        self.alone.move_on(4 * count as usize);
+        let gone = self.plan.symbol_number(count, 0);
+        self.closed = self.closed.saturating_sub(gone);
+        self.whole = self.whole.saturating_sub(count);
     }
 }

@@ -1,7 +1,7 @@
 //! What is promised of the sets that a union keeps, and of the states for which it stands. Each law is the contract of a
 //! function that does nothing.
 
-ghost use Rattle.nack_union.specs.Laws.{MayBeNoted, OpenStreamsMayGrow, RoundsAreCollected, StreamsGrow};
+ghost use Rattle.nack_union.specs.Laws.{MayBeNoted, MayBeRetired, OpenStreamsMayGrow, RoundsAreCollected, StreamsGrow};
 
 /// What the requests of a round ask for may be kept as a set until the round closes: the wants are then the same as if
 /// each had been put in as the round closes, in the order in which it was asked for.
@@ -25,4 +25,9 @@ pub fn streams_grow()
 /// An open stream that is in the window, and has room for as many segments, may grow.
 pub fn open_streams_may_grow()
     ensures { OpenStreamsMayGrow }
+{}
+
+/// A union may retire to a point of the order that does not lie before the drop point.
+pub fn may_be_retired()
+    ensures { MayBeRetired }
 {}

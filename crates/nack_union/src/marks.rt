@@ -1,15 +1,16 @@
 //! What a union keeps of one object.
 
-ghost use Rattle.std.specs.Prelude.{◌≡◌, ◌+◌, ◌^◌, ◌<◌, ◌≤◌, ◌∷◌, [], nat_lt, IfOk, MatchOption, true, false, ◌==◌, ℕ, length, max, replicate, set, slice_index, ◌&&◌, ◌||◌, None, Some};
+ghost use Rattle.std.specs.Prelude.{◌≡◌, ◌+◌, ◌-◌, ◌*◌, ◌^◌, ◌<◌, ◌≤◌, ◌∷◌, [], nat_lt, IfOk, MatchOption, true, false, ◌==◌, ℕ, length, max, replicate, set, slice_index, ◌&&◌, ◌||◌, not, None, Some};
 ghost use Rattle.fec_plan.specs.Partition.{all_symbols, blocks, most_blocks};
 ghost use Rattle.norm_order.specs.Shapes.{closed_in};
 ghost use Rattle.norm_order.specs.Sets.{with_member, is_member, Rises};
-ghost use Rattle.nack_union.specs.Slots.{slots, symbol_slot, want_at};
-ghost use Rattle.nack_union.specs.More.{HasMore, is_source_slot, is_encoded_slot, in_run, slot_in, slot_from, slot_behind, is_slot_of, count_at, kept_count, MoreOf, named_part};
+ghost use Rattle.nack_union.specs.Slots.{slots, symbol_slot, want_at, stands_from};
+ghost use Rattle.nack_union.specs.More.{HasMore, is_source_slot, is_encoded_slot, in_run, slot_in, slot_from, slot_behind, is_slot_of, count_at as counted_at, kept_count, MoreOf, named_part};
 ghost use Rattle.nack_union.specs.Adding.{IsPlanned};
 ghost use Rattle.norm_ext.specs.Asking.{span, block_span, object_span, has_flag};
 ghost use Rattle.nack_union.specs.Repairs.{shape_closed};
-ghost use Rattle.nack_union.specs.Kept.{admitted, admitted_stream, CanGrow, closed_marks, IsCounted, symbols_of_marked};
+ghost use Rattle.nack_union.specs.Kept.{admitted, admitted_stream, CanGrow, closed_marks, moved_on, IsCounted, symbols_of_marked};
+ghost use Rattle.std.specs.List.{list_any};
 ghost use Rattle.norm_send_rules.specs.declared.want.Want.TheVariants.{Symbol};
 ghost use Rattle.fec_plan.specs.Points.{position};
 
@@ -27,13 +28,15 @@ use std::marker::Model;
 /// The greatest number of a block.
 const LAST_BLOCK: u32 = 16_777_215;
 
-/// An object of the window: how many of its source symbols are closed, which of its slots are wanted, and how many, and which were sent. Of the open round the slots
-/// that it asks for, of each block the greatest count, and whether it asks for anything.
+/// An object of the window: how many of its source symbols are closed, the first block that is kept, which of its slots are wanted, and how
+/// many, and which were sent. Of the open round the slots that it asks for, of each block the greatest count, and whether it asks for
+/// anything. All sets, the counts and what is asked for are numbered from the first kept block on.
 #[derive(Debug, Drop)]
 pub struct Marks {
     plan: Plan,
     closed: u64,
     info: bool,
+    first: u32,
     wants: Mask,
     wanted: usize,
     sent: Mask,
@@ -105,6 +108,36 @@ fn whole_objects(first: Position, last: Position) -> (Position, Position)
     (start, end)
 }
 
+/// The greater of two counts.
+fn greater(count: u8, other: u8) -> u8
+    ensures { result ≡ max count other }
+{
+    count.max(other)
+}
+
+/// The count at a place, or 0 behind the last one.
+fn count_at(counts: &[u8], place: usize) -> u8
+    ensures { result ≡ slice_index counts.now place }
+{
+    if place < counts.len() {
+        counts[place]
+    } else {
+        0
+    }
+}
+
+/// Moves counts down by so many places. Those that would fall below the first go, and 0 comes behind.
+fn move_counts(counts: &mut [u8], count: usize)
+    requires small { length counts.old ≤ 2 ^ 58 }
+    ensures { (k : ℕ) → slice_index counts.new k ≡ slice_index counts.old (k + count) }
+{
+    let gone = count.min(counts.len());
+    // Proof: the label names the loop for its invariant.
+    'moved: for place in 0..counts.len() {
+        counts[place] = count_at(counts, place + gone);
+    }
+}
+
 /// What a request names: from one position to another, both included, and its flags.
 #[derive(Clone, Copy, Debug)]
 pub struct Named {
@@ -126,7 +159,7 @@ impl Marks {
         requires few { closed ≤ all_symbols plan.now }
         requires whole { (l : ℕ) → plan.now.l ≡ Some l → closed ≡ all_symbols plan.now }
         requires behind { (block : ℕ) → room ≤ block → closed_in (shape_closed plan.now closed) block ≡ 0 }
-        ensures { IfOk result (λ marks. marks ≡ record { cut = plan.now; closed = closed; info = info; wants = []; sent = []; asked = []; counts = replicate room 0 }) }
+        ensures { IfOk result (λ marks. marks ≡ record { cut = plan.now; closed = closed; info = info; first = 0; wants = []; sent = []; asked = []; counts = replicate room 0 }) }
     {
         // Proof: no object has more blocks than numbers name.
         let room = room.min(plan.blocks() as usize);
@@ -139,6 +172,7 @@ impl Marks {
             plan: *plan,
             closed,
             info,
+            first: 0,
             wants,
             wanted: 0,
             sent,
@@ -168,8 +202,51 @@ impl Marks {
         requires { CanGrow closed self.old }
         ensures { self.new ≡ record self.old { closed = closed } }
     {
-        self.asked.grow(closed);
+        let gone = self.plan.symbol_number(self.first, 0);
+        self.asked.grow(closed.saturating_sub(gone));
         self.closed = closed;
+    }
+
+    /// The stream is kept from a later block on. What was wanted, sent and asked for before it is forgotten, and as many blocks have room
+    /// behind. Says whether something was wanted there.
+    pub fn move_on(&mut self, block: u32) -> bool
+        requires stream { self.old.cut.l ≡ None }
+        requires plain { self.old.info ≡ false }
+        requires onward { self.old.first ≤ block }
+        requires most { block ≤ most_blocks }
+        ensures exact { self.new ≡ moved_on block self.old }
+        ensures gone { result ≡ list_any (λ slot. not (stands_from block slot)) self.old.wants }
+    {
+        self.wants.rises();
+        self.sent.rises();
+        self.asked.rises();
+        let count = block - self.first;
+        let words = 4 * count as usize;
+        let gone = self.wants.take_below(BLOCK * count as usize + 1);
+        self.wants.move_on(words);
+        self.sent.move_on(words);
+        self.asked.move_on(count);
+        move_counts(&mut self.counts, count as usize);
+        self.wants.rises();
+        self.sent.rises();
+        self.asked.rises();
+        self.first = block;
+        self.wanted -= gone;
+        gone > 0
+    }
+
+    /// The first block that is kept.
+    pub fn first_block(&self) -> u32
+        ensures { result ≡ self.now.first }
+    {
+        self.first
+    }
+
+    /// Where the slots of the first kept block begin.
+    fn start(&self) -> usize
+        ensures { result ≡ 256 * self.now.first }
+    {
+        BLOCK * self.first as usize
     }
 
     /// What holds of each object. Nothing is done.
@@ -191,10 +268,13 @@ impl Marks {
 
     /// Notes that what stands at a slot was sent.
     pub fn note_sent(&mut self, slot: usize)
-        requires { slot < slots (length self.old.counts) }
+        requires within { slot < slots (length self.old.counts) }
+        requires kept { stands_from self.old.first slot ≡ true }
+        requires symbol { 0 < slot }
         ensures { self.new ≡ record self.old { sent = with_member nat_lt slot self.old.sent } }
     {
-        self.sent.insert(slot);
+        let start = self.start();
+        self.sent.insert(slot - start);
     }
 
     /// Takes out the lowest slot that is wanted. `None` exactly where none is.
@@ -202,17 +282,22 @@ impl Marks {
         ensures { MatchOption result ((self.old.wants ≡ []) × (self.new ≡ self.old))
             (λ slot. (self.old ≡ record self.new { wants = slot ∷ self.new.wants }) × (slot < slots most_blocks)) }
     {
+        self.wants.rises();
         let slot = self.wants.take_lowest()?;
         self.wanted -= 1;
-        Some(slot)
+        Some(BLOCK * self.first as usize + slot)
     }
 
     /// Puts a slot into what the round asks for.
     pub fn ask(&mut self, slot: usize)
-        requires { slot < slots (length self.old.counts) }
+        requires within { slot < slots (length self.old.counts) }
+        requires kept { stands_from self.old.first slot ≡ true }
+        requires info { slot ≡ 0 → self.old.info ≡ true }
+        requires number { slot < slots most_blocks }
         ensures { self.new ≡ record self.old { asked = with_member nat_lt slot self.old.asked } }
     {
-        self.asked.insert(slot);
+        let start = self.start();
+        self.asked.insert(slot - start);
         self.is_asked = true;
     }
 
@@ -220,7 +305,12 @@ impl Marks {
     fn ask_sources(&mut self, from: usize, to: usize)
         ensures { HasMore (λ slot. is_source_slot (symbols_of_marked self.old) slot && in_run from to slot) (λ block. 0) self.old self.new }
     {
-        self.asked.insert_sources(from, to);
+        // Proof: nothing is wrong with the cut.
+        self.plan.blocks();
+        let start = self.start();
+        self.asked
+            .insert_sources(from.saturating_sub(start), to.saturating_sub(start));
+        self.asked.rises();
         self.is_asked = true;
     }
 
@@ -283,6 +373,9 @@ impl Marks {
     pub fn ask_symbol(&mut self, block: u32, symbol: u8)
         ensures { HasMore (λ slot. is_encoded_slot (symbols_of_marked self.old) slot && is_slot_of block symbol slot) (λ block. 0) self.old self.new }
     {
+        if block < self.first {
+            return;
+        }
         if block < self.plan.blocks() && symbol < encoded_len(&self.plan, self.closed, block) {
             self.ask(slot_of(block, symbol));
         }
@@ -290,20 +383,29 @@ impl Marks {
 
     /// The round counts a block of the object, where something of it is closed.
     pub fn count_block(&mut self, block: u32, lacking: u8)
-        ensures { HasMore (λ slot. false) (λ other. kept_count (symbols_of_marked self.old) other (count_at block lacking other)) self.old self.new }
+        ensures { HasMore (λ slot. false) (λ other. kept_count (symbols_of_marked self.old) other (counted_at block lacking other)) self.old self.new }
     {
-        if (block as usize) < self.counts.len() && closed_len(&self.plan, self.closed, block) > 0 {
+        if block < self.first {
+            return;
+        }
+        // Proof: nothing is wrong with the cut.
+        self.plan.blocks();
+        let place = (block - self.first) as usize;
+        if place < self.counts.len() && closed_len(&self.plan, self.closed, block) > 0 {
             self.count(block, lacking);
         }
     }
 
     /// The round asks for so many symbols of a block. The greatest count stands.
     pub fn count(&mut self, block: u32, lacking: u8)
-        requires { block < length self.old.counts }
+        requires within { block < length self.old.counts }
+        requires kept { self.old.first ≤ block }
+        requires number { block < most_blocks }
         ensures { self.new ≡ record self.old { counts = set self.old.counts block (max (slice_index self.old.counts block) lacking) } }
     {
-        let most = self.counts[block as usize].max(lacking);
-        self.counts[block as usize] = most;
+        let place = (block - self.first) as usize;
+        let most = greater(self.counts[place], lacking);
+        self.counts[place] = most;
         self.is_asked = true;
     }
 
@@ -316,6 +418,7 @@ impl Marks {
         if !self.is_asked {
             return 0;
         }
+        self.asked.rises();
         self.is_asked = false;
         let new = self
             .asked

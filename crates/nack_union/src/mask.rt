@@ -1,6 +1,6 @@
 //! A set of places as words of 64 bits.
 
-ghost use Rattle.std.specs.Prelude.{◌≡◌, ◌+◌, ◌-◌, ◌*◌, ◌/◌, ◌^◌, ◌<◌, ◌≤◌, ◌∷◌, [], not, nat_lt, false, length, IfOk, MatchOption, slice_index, ◌≢◌, ℕ, IfSome, ◌||◌};
+ghost use Rattle.std.specs.Prelude.{◌≡◌, ◌+◌, ◌-◌, ◌*◌, ◌/◌, ◌^◌, ◌<◌, ◌≤◌, ◌∷◌, [], not, nat_lt, false, length, IfOk, MatchOption, slice_index, ◌≢◌, ℕ, IfSome, ◌||◌, ◌&&◌, filter};
 ghost use Rattle.norm_order.specs.Sets.{with_member, with_members, is_member, Rises};
 ghost use Rattle.nack_union.specs.More.{in_run};
 ghost use Rattle.nack_union.specs.Words.{has_bit};
@@ -163,6 +163,41 @@ impl Mask {
     {
         move_words(&mut self.words, count);
         self.lowest = self.lowest.saturating_sub(count);
+    }
+
+    /// Moves all members down by so many words of places. Those that would come to lie at 0 or below go.
+    pub fn move_on(&mut self, count: usize)
+        requires some { 0 < self.old.size }
+        ensures members { (place : ℕ) → is_member nat_lt place self.new.members ≡ (is_member nat_lt (place + 64 * count) self.old.members && nat_lt 0 place) }
+        ensures size { self.new.size ≡ self.old.size }
+    {
+        self.move_down(count);
+        self.rises();
+        if self.contains(0) {
+            self.take_lowest();
+        }
+    }
+
+    /// Takes out all members below a place, and says how many these were.
+    pub fn take_below(&mut self, limit: usize) -> usize
+        requires few { self.old.size < 2 ^ 64 }
+        ensures members { self.new.members ≡ filter (λ place. not (nat_lt place limit)) self.old.members }
+        ensures taken { length self.old.members ≡ length self.new.members + result }
+        ensures size { self.new.size ≡ self.old.size }
+    {
+        // Proof: what is kept is looked at, and with it that it is sound.
+        let _ = &self.words;
+        self.rises();
+        let mut taken = 0usize;
+        // Proof: the label names the loop for its invariant.
+        'places: while let Some(place) = self.take_lowest() {
+            if place >= limit {
+                self.insert(place);
+                return taken;
+            }
+            taken += 1;
+        }
+        taken
     }
 
     /// Leaves the set without members.

@@ -16,7 +16,7 @@ ghost use Rattle.norm_send_rules.specs.Dropping.{dropped_to};
 ghost use Rattle.norm_send_rules.specs.Closing.{round_closed, asks_early};
 ghost use Rattle.norm_send_rules.specs.declared.want.Want.{Want as Wanted};
 ghost use Rattle.norm_send_rules.specs.declared.want.Want.TheVariants.{Symbol};
-ghost use Rattle.nack_union.specs.Kept.{Marked, IsEncodedIn, OfLast, MayGrow, grown_to, admitted, admitted_stream, retired, with_object, shape_of_marked};
+ghost use Rattle.nack_union.specs.Kept.{Marked, IsEncodedIn, OfLast, MayGrow, MayRetire, grown_to, admitted, admitted_stream, retired, with_object, shape_of_marked};
 ghost use Rattle.nack_union.specs.UnionState.{UnionState, Stands, empty_union};
 ghost use Rattle.nack_union.specs.UnionMoves.{UnionMoves};
 
@@ -117,15 +117,13 @@ impl Union {
 
     /// Drops all before a point, and says whether that took away a want.
     pub fn retire(&mut self, index: u32, block: u32) -> bool
-        requires not_back { self.old.kept.first ≤ index }
-        requires within { index ≤ self.old.kept.first + length self.old.kept.objects }
-        requires whole { block ≡ 0 }
-        ensures exact { self.new ≡ record self.old { kept = retired index self.old.kept } }
+        requires { MayRetire index block self.old.kept }
+        ensures exact { self.new ≡ record self.old { kept = retired index block self.old.kept } }
         ensures stands { UnionMoves self.old self.new (dropped_to (point index block)) }
         ensures wanted { (s : SenderState) → Stands self.old s → result ≡ list_any (λ want. not (stands_behind (point index block) want)) s.wants }
         ensures profile { self.new.p ≡ self.old.p }
     {
-        self.collection.retire(index)
+        self.collection.retire(index, block)
     }
 
     /// Notes that an encoded symbol of an object of the window was sent.

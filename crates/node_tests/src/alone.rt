@@ -1,7 +1,7 @@
 //! Nodes that run alone, over a list of datagrams: what they print, put and offer.
 
 ghost use Rattle.std.specs.Prelude.{IfOk, IfSome};
-ghost use Rattle.norm_session.specs.Session.{IsRunnable};
+ghost use Rattle.norm_script.specs.Scripts.{IsScript};
 
 use crate::fed::FedFabric;
 use crate::pair::profile_of;
@@ -9,7 +9,7 @@ use crate::pair_tests::octets_of;
 use norm_base::{Key, NodeId, Octets};
 use norm_memory::{MemClock, MemFiles, MemSink};
 use norm_node::{run_hub, run_receiver};
-use norm_script::{Extent, Script, read};
+use norm_script::{Script, read};
 use norm_session::run_send;
 use producer_gate::{Board, Through};
 use std::alloc::Global;
@@ -82,9 +82,9 @@ fn passed(alloc: Global, feed: &[(u32, &str)]) -> Result<Option<FedFabric>, Fail
 
 /// The script that a text is, if it can be run.
 fn script_of(alloc: Global, text: &[u8]) -> Result<Option<Script>, Fail>
-    ensures { IfOk result (λ found. IfSome found IsRunnable) }
+    ensures { IfOk result (λ found. IfSome found IsScript) }
 {
-    match read(alloc, text, Extent::Built) {
+    match read(alloc, text) {
         Ok(Ok(script)) => Ok(Some(script)),
         Ok(Err(_)) => Ok(None),
         Err(_) => Err("no memory")?,

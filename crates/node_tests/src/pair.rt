@@ -5,7 +5,7 @@ use norm_base::{
     Datagram, Given, InstanceId, Key, Memory, Moment, NodeId, Octets, Origin, Profile, Sent,
 };
 use norm_order::Up;
-use norm_receiver::{Receiver, is_of_no_stream};
+use norm_receiver::Receiver;
 use norm_send_rules::{Job, News, Outcome, Receipt, SendFault};
 use std::alloc::Global;
 
@@ -181,10 +181,10 @@ impl Pair {
             return Ok(false);
         };
         match self.sender.command(by, job, now) {
-            Some(Ok(receipt)) => self.told.push(receipt_of(receipt))?,
-            Some(Err(SendFault::Memory)) => return Err(Memory),
-            Some(Err(fault)) if fault.may_wait() => return Ok(true),
-            _ => self.told.push(Told::Refused)?,
+            Ok(receipt) => self.told.push(receipt_of(receipt))?,
+            Err(SendFault::Memory) => return Err(Memory),
+            Err(fault) if fault.may_wait() => return Ok(true),
+            Err(_) => self.told.push(Told::Refused)?,
         }
         Ok(false)
     }
@@ -238,7 +238,7 @@ impl Pair {
         if !copy.is_of_sender {
             self.sender.deliver(copy.octets.bytes(), now);
             self.take_news()?;
-        } else if is_of_no_stream(copy.octets.bytes()) {
+        } else {
             self.receiver.deliver(copy.octets.bytes(), now, 0)?;
         }
         Ok(true)

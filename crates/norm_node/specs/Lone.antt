@@ -1,13 +1,10 @@
 -- A receiver that runs alone (RFC 5740 section 5.3), as it goes through its turns, event by event.
-use Rattle.std.specs.Prelude.{ℕ, ⊤, ◌≡◌, ◌<◌, ◌+◌, ◌==◌, ◌&&◌, not, List, [], Bool, true, false, Option, None, Some, IsSome, Result, Ok, Err, option_and_then}
+use Rattle.std.specs.Prelude.{ℕ, ⊤, ◌≡◌, ◌<◌, ◌+◌, ◌==◌, List, [], Bool, true, false, Option, None, Some, IsSome, option_and_then}
 use Rattle.std.specs.Option.{option_map}
 use Rattle.rand_pcg.specs.Lcg.{Lcg}
 use Rattle.norm_base.specs.Settings.{Settings}
-use Rattle.norm_ext.specs.Message.{Message, Info, Data}
-use Rattle.norm_ext.specs.Reading.{decoded}
 use Rattle.norm_ext.specs.Written.{Written}
 use Rattle.norm_order.specs.declared.up.Up.{Up}
-use Rattle.norm_receive_rules.specs.Plans.{says_stream}
 use Rattle.norm_receive_rules.specs.ReceiverState.{ReceiverState, receiver_opening}
 use Rattle.norm_receive_rules.specs.Receiving.{received}
 use Rattle.norm_receive_rules.specs.Taking.{took}
@@ -74,19 +71,13 @@ IsDue s Offers = IsOffering s.place
 
 -- ---- what it leads to
 
--- octets spell an INFO or a DATA of a stream
-abbrev pub is_of_stream : {E : Type 0} → Result Message E → Bool
-is_of_stream (Ok (Info m)) = says_stream m.head.flags
-is_of_stream (Ok (Data m)) = says_stream m.head.flags
-is_of_stream _ = false
-
--- A datagram reaches the receiver, if it is for its node. One of a stream passes by, since no receiver takes streams in yet.
-abbrev pub reaches : ℕ → List ℕ → ℕ → Bool
-reaches to octets node = (to == node) && not (is_of_stream (decoded octets))
+-- a datagram reaches the receiver, if it is for its node
+abbrev pub reaches : ℕ → ℕ → Bool
+reaches to node = to == node
 
 -- a datagram that reaches it is delivered with the next draw
 abbrev pub delivered : ℕ → List ℕ → Lone → Lone
-delivered to octets s = elim (reaches to octets s.node) [
+delivered to octets s = elim (reaches to s.node) [
   | true ↦ record s { receiver = received s.profile s.receiver octets s.now (next_draw s.draws); draws = draws_after s.draws }
   | false ↦ s
 ]

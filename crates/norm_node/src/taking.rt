@@ -10,30 +10,26 @@ ghost use Rattle.norm_node.specs.Taking.{Delivers, HasTaken};
 
 use crate::run::ReceiverRun;
 use norm_base::{Datagram, Fabric, NodeId};
-use norm_receiver::is_of_no_stream;
 use norm_session::{SessionFault, next_draw};
 
 /// A turn takes at most so many datagrams.
 const MOST_TAKES: u32 = 512;
 
-/// Whether a datagram for a node is one for this node, and of no stream.
-fn reaches(to: NodeId, bytes: &[u8], node: NodeId) -> bool
-    ensures { result ≡ reaches to bytes.now node }
+/// Whether a datagram for a node is one for this node.
+fn reaches(to: NodeId, node: NodeId) -> bool
+    ensures { result ≡ reaches to node }
 {
-    if to.number() != node.number() {
-        return false;
-    }
-    is_of_no_stream(bytes)
+    to.number() == node.number()
 }
 
 impl ReceiverRun {
-    /// A datagram comes to a node. If it is this one, its receiver gets it with the next draw, unless it is of a stream.
+    /// A datagram comes to a node. If it is this one, its receiver gets it with the next draw.
     fn deliver(&mut self, to: NodeId, bytes: &[u8]) -> Result<(), SessionFault>
         ensures goes { OnOk result (Delivers self.old self.new to bytes.now) }
         ensures turn { OnOk result (IsSameTurn self.old self.new) }
         ensures cause { NeedsMemory result }
     {
-        if !reaches(to, bytes, self.node) {
+        if !reaches(to, self.node) {
             return Ok(());
         }
         let draw = next_draw(&mut self.draws);

@@ -8,11 +8,10 @@ use Rattle.norm_base.specs.declared.key.Key.{Key}
 use Rattle.norm_base.specs.declared.key.Key.TheVariants as key
 use Rattle.norm_script.specs.Commands.{Commands}
 use Rattle.norm_script.specs.Reading.{script_of}
-use Rattle.norm_script.specs.declared.refusal.Extent.TheVariants.{Built}
-use Rattle.norm_session.specs.Session.{IsRunnable}
+use Rattle.norm_script.specs.Scripts.{IsScript}
 use Rattle.norm_words.specs.Fits.{FitsOptions}
 use Rattle.norm_words.specs.declared.tasks.Options.{Options}
-use Rattle.norm_program.proofs.ScriptLemmas.{runnable}
+use Rattle.norm_session.proofs.ScriptLemmas.{runnable}
 use Rattle.norm_program.specs.Asked.{profile_with, script_with, script_asked}
 
 -- a value that is given, or else that of the profile
@@ -51,19 +50,16 @@ in_range_with o p fits r = record {
 }
 
 -- what can be run can be run with options
-pub runnable_with : (o : Options) (script : Commands) → FitsOptions o → IsRunnable script → IsRunnable (script_with o script)
+pub runnable_with : (o : Options) (script : Commands) → FitsOptions o → IsScript script → IsScript (script_with o script)
 runnable_with o script fits r = record {
-  is_script = record {
-    range = in_range_with o script.profile fits r.is_script.range;
-    few = r.is_script.few;
-    each = r.is_script.each;
-    numbered = r.is_script.numbered;
-  };
-  objects = r.objects;
+  range = in_range_with o script.profile fits r.range;
+  few = r.few;
+  each = r.each;
+  numbered = r.numbered;
 }
 
 -- a text that is a script is one with the options, and can be run
-pub asked_is : (o : Options) (text : List ℕ) (script result : Commands) → FitsOptions o → script_of Built text ≡ Ok script → result ≡ script_with o script
-    → (script_asked o text ≡ Ok result) × IsRunnable result
+pub asked_is : (o : Options) (text : List ℕ) (script result : Commands) → FitsOptions o → script_of text ≡ Ok script → result ≡ script_with o script
+    → (script_asked o text ≡ Ok result) × IsScript result
 asked_is o text script result fits read is =
     rw is (ap (result_map_both (script_with o) (λ refusal. refusal)) read, runnable_with o script fits (runnable text script read))

@@ -1,7 +1,6 @@
 pub mod SayLemmas
 pub mod BoardedLemmas
 pub mod EndingLemmas
-pub mod ScriptLemmas
 pub mod AskedLemmas
 pub mod NodeLemmas
 pub mod CommandLemmas

@@ -4,7 +4,6 @@ use Rattle.norm_base.specs.Faults.{one_more}
 use Rattle.norm_base.specs.Told.{gained, written_of}
 use Rattle.norm_script.specs.Generated.{generated_pieces, generate_text, generated_script, StopsWithin}
 use Rattle.norm_script.specs.Reading.{script_of}
-use Rattle.norm_script.specs.declared.refusal.Extent.TheVariants.{Whole}
 use Rattle.norm_program.specs.Ends.{Outside, Undisturbed}
 use Rattle.norm_program.specs.declared.status.Ending.{Ending}
 use Rattle.norm_program.specs.declared.status.Ending.TheVariants.{Done, Write}
@@ -19,7 +18,7 @@ pub record Untold (before after : Outside) : Type 0 where
 pub record WroteScript (n : ℕ) (before after : Outside) : Type 0 where
   pub output : after.written ≡ gained before.written (generated_pieces n)
   pub text : written_of after.written ≡ gained (written_of before.written) (generate_text n)
-  pub meaning : script_of Whole (generate_text n) ≡ Ok (generated_script n)
+  pub meaning : script_of (generate_text n) ≡ Ok (generated_script n)
   pub untold : Untold before after
   pub writes : after.write_faults ≡ before.write_faults
 

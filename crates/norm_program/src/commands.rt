@@ -1,36 +1,20 @@
 //! The script of a sender, whose profile is given.
 
-ghost use Rattle.std.specs.Prelude.{◌≡◌, ◌↔◌, string_bytes, IsTrue, Ok, IfOk, IfErr, IfSome, OnOk};
-ghost use Rattle.std.specs.List.{AllByRecursion};
+ghost use Rattle.std.specs.Prelude.{◌≡◌, string_bytes, Ok, IfOk, IfErr, OnOk};
 ghost use Rattle.norm_base.specs.Settings.{InRange};
-ghost use Rattle.norm_journal.specs.Jobs.{opens_no_stream, IsOfObjects};
-ghost use Rattle.norm_program.specs.Asked.{producers_line, under, IsFirstUnbuilt, IsUnsendable, Sender};
+ghost use Rattle.norm_program.specs.Asked.{producers_line, under, IsUnsendable, Sender};
 ghost use Rattle.norm_program.specs.Ends.{EndsEarly, IsTextEnding, Prepared};
 ghost use Rattle.norm_script.specs.Reading.{commands_of};
-ghost use Rattle.norm_session.specs.Session.{IsRunnable};
+ghost use Rattle.norm_script.specs.Scripts.{IsScript};
 
 use crate::program::{read_input, refused_line, say};
 use crate::status::Ending;
 use norm_base::{Memory, Profile, Sink, Source};
-use norm_script::{Extent, Line, Refusal, Script, ScriptFault, Verb, Why, read, read_commands};
+use norm_script::{Refusal, Script, ScriptFault, Why, read, read_commands};
 use std::alloc::{AllocError, Global};
 
 /// The most lines of a script.
 const MOST_LINES: u32 = 8192;
-
-/// Whether a command opens, writes and closes no stream, as no sender does today.
-fn is_of_objects(line: &Line) -> bool
-    ensures { result ≡ opens_no_stream line.now.verb }
-{
-    !matches!(line.verb, Verb::Open | Verb::Write { .. } | Verb::Close)
-}
-
-/// Whether all commands are of objects.
-fn are_of_objects(lines: &[Line]) -> bool
-    ensures { IsTrue result ↔ AllByRecursion IsOfObjects lines.now }
-{
-    lines.iter().all(is_of_objects)
-}
 
 /// The line of the one key that commands go by.
 #[tactic(auto, unfolding(crate::specs::Asked::producers_line))]
@@ -57,23 +41,9 @@ fn why_of(alloc: Global, profile: &Profile, text: &[u8], n: u32) -> Result<Why, 
         return Ok(Why::ManyLines);
     }
     let all = under(alloc, profile, text)?;
-    match read(alloc, &all, Extent::Whole)? {
+    match read(alloc, &all)? {
         Err(refusal) if refusal.line.saturating_sub(1) == n => Ok(refusal.why),
         _ => Ok(Why::AfterCommand),
-    }
-}
-
-/// The first line that is of a stream, of a text of which one is. `None` where none is.
-fn stream_line(alloc: Global, profile: &Profile, text: &[u8]) -> Result<Option<Refusal>, Memory>
-    ensures { IfOk result (λ found. IfSome found (IsFirstUnbuilt profile.now text.now)) }
-{
-    let all = under(alloc, profile, text)?;
-    match read(alloc, &all, Extent::Built)? {
-        Err(refusal) => Ok(Some(Refusal {
-            line: refusal.line.saturating_sub(1),
-            why: refusal.why,
-        })),
-        Ok(_) => Ok(None),
     }
 }
 
@@ -90,20 +60,13 @@ fn commands_in(
     profile: &Profile,
     text: &[u8],
 ) -> Result<Result<Script, Refusal>, Memory>
-    ensures script { IfOk result (λ read. IfOk read (λ script. (commands_of profile.now text.now ≡ Ok script) × IsRunnable script)) }
+    ensures script { IfOk result (λ read. IfOk read (λ script. (commands_of profile.now text.now ≡ Ok script) × IsScript script)) }
     ensures refused { IfOk result (λ read. IfErr read (IsUnsendable profile.now text.now)) }
 {
     match read_commands(alloc, text, profile) {
         Ok(script) => {
-            if are_of_objects(&script.lines) {
-                is_in_range(profile);
-                return Ok(Ok(script));
-            }
-            match stream_line(alloc, profile, text)? {
-                Some(refusal) => Ok(Err(refusal)),
-                // What is of a stream is none of what is built.
-                None => Err(Memory),
-            }
+            is_in_range(profile);
+            Ok(Ok(script))
         }
         Err(ScriptFault::Line { n }) => {
             let why = why_of(alloc, profile, text, n)?;
@@ -120,7 +83,7 @@ fn read_commands_in<K: Sink>(
     text: &[u8],
     output: &mut K,
 ) -> Result<Script, Ending>
-    ensures script { IfOk result (λ script. (commands_of profile.now text.now ≡ Ok script) × IsRunnable script) }
+    ensures script { IfOk result (λ script. (commands_of profile.now text.now ≡ Ok script) × IsScript script) }
     ensures unwritten { OnOk result (K.pieces output.new ≡ K.pieces output.old) }
     ensures quiet { OnOk result (K.fault_count output.new ≡ K.fault_count output.old) }
     ensures ending { IfErr result (λ ending. IsTextEnding (Sender profile.now) ending text.now (K.pieces output.old) (K.pieces output.new)
@@ -145,7 +108,7 @@ pub(crate) fn prepare_commands<S: Source, K: Sink>(
     output: &mut K,
 ) -> Result<Script, Ending>
     ensures ready { IfOk result (λ script. Prepared (Sender profile.now) script (S.left input.old) (S.left input.new)) }
-    ensures runnable { IfOk result IsRunnable }
+    ensures runnable { IfOk result IsScript }
     ensures unwritten { OnOk result (K.pieces output.new ≡ K.pieces output.old) }
     ensures quiet { OnOk result ((S.fault_count input.new ≡ S.fault_count input.old) × (K.fault_count output.new ≡ K.fault_count output.old)) }
     ensures ending { IfErr result (λ ending. EndsEarly (Sender profile.now) ending (S.left input.old) (S.left input.new)

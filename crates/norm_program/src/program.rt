@@ -5,7 +5,7 @@ ghost use Rattle.std.specs.Process.{exit_status};
 ghost use Rattle.norm_program.specs.Asked.{Members, script_asked};
 ghost use Rattle.norm_program.specs.Commands.{EndsNode, EndsTask, EndsOther, EndsBy, EndsWith, EndsUnread, KeepsFiles};
 ghost use Rattle.norm_program.specs.Ends.{usage_line, refused_line, absent_line, outside, called_as, Says, IsInput, Prepared, IsReadEnding, IsTextEnding, IsLastEnding, IsAbsentEnding, IsStoppedEnding, EndsEarly, EndsScript};
-ghost use Rattle.norm_session.specs.Session.{IsRunnable};
+ghost use Rattle.norm_script.specs.Scripts.{IsScript};
 ghost use Rattle.norm_words.specs.Fits.{FitsOptions, FitsTask};
 ghost use Rattle.norm_words.specs.NodeTasks.{node_task_of};
 
@@ -19,7 +19,7 @@ use crate::show::show;
 use crate::status::{Ending, Status};
 use crate::words::WordsFault;
 use norm_base::{Clock, Fabric, Failed, Files, Memory, Sink, Source, Text};
-use norm_script::{Extent, Script, read};
+use norm_script::{Script, read};
 use norm_session::SessionFault;
 use norm_words::{NodeTask, Options, Task, node_task_of, task_of};
 use std::alloc::{AllocError, Global};
@@ -84,13 +84,13 @@ fn read_text<K: Sink>(
     output: &mut K,
 ) -> Result<Script, Ending>
     requires { FitsOptions options }
-    ensures script { IfOk result (λ script. (script_asked options text.now ≡ Ok script) × IsRunnable script) }
+    ensures script { IfOk result (λ script. (script_asked options text.now ≡ Ok script) × IsScript script) }
     ensures unwritten { OnOk result (K.pieces output.new ≡ K.pieces output.old) }
     ensures quiet { OnOk result (K.fault_count output.new ≡ K.fault_count output.old) }
     ensures ending { IfErr result (λ ending. IsTextEnding (Members options) ending text.now (K.pieces output.old) (K.pieces output.new)
         (K.fault_count output.old) (K.fault_count output.new)) }
 {
-    match read(alloc, text, Extent::Built) {
+    match read(alloc, text) {
         Ok(Ok(script)) => Ok(script_with(script, options)),
         Ok(Err(refusal)) => {
             let line = refused_line(alloc, u64::from(refusal.line))?;
@@ -161,7 +161,7 @@ fn prepare<S: Source, K: Sink>(
 ) -> Result<Script, Ending>
     requires { FitsOptions options }
     ensures ready { IfOk result (λ script. Prepared (Members options) script (S.left input.old) (S.left input.new)) }
-    ensures runnable { IfOk result IsRunnable }
+    ensures runnable { IfOk result IsScript }
     ensures unwritten { OnOk result (K.pieces output.new ≡ K.pieces output.old) }
     ensures quiet { OnOk result ((S.fault_count input.new ≡ S.fault_count input.old) × (K.fault_count output.new ≡ K.fault_count output.old)) }
     ensures ending { IfErr result (λ ending. EndsEarly (Members options) ending (S.left input.old) (S.left input.new)

@@ -1,10 +1,10 @@
 -- What is needed of an object, and of all objects, as a NACK goes through it.
 use Rattle.std.proofs.Common.{◌≡◌, ℕ, zero, suc, ◌+◌, ◌-◌, ◌<◌, ◌≤◌, ◌⊎◌, inl, inr, List, [], ◌∷◌, Bool, true, false, not, Option, Some, None, refl, sym, ap, subst, ◌∙◌, arith}
-use Rattle.std.specs.Prelude.{◌&&◌, ◌||◌, is_some, IfSome, option_map}
-use Rattle.std.proofs.lemmas.Bool.{cases_lt, eqb-true}
+use Rattle.std.specs.Prelude.{◌==◌, ◌&&◌, ◌||◌, nat_lt, is_some, IfSome, option_map}
+use Rattle.std.proofs.lemmas.Bool.{cases_lt, eqb-true, le-ltb, ltb-false}
 use Rattle.norm_base.specs.Settings.{Settings}
 use Rattle.fec_plan.specs.Partition.{Cut, blocks, source_symbols}
-use Rattle.fec_plan.specs.Points.{Point, point}
+use Rattle.fec_plan.specs.Points.{Point, point, point_before}
 use Rattle.fec_plan.specs.declared.position.Position.{Position}
 use Rattle.norm_receive_rules.specs.Holding.{Holding, Plan}
 use Rattle.norm_receive_rules.specs.Plans.{cut_of_plan, says_stream, says_info, plan_of, lacking, is_done, has_its_info, info_of}
@@ -18,7 +18,7 @@ use Rattle.norm_receive_rules.specs.declared.words.Missing.{Missing}
 use Rattle.norm_receive_rules.specs.declared.words.Missing.TheVariants as missing
 use Rattle.rx_hold.specs.HoldState.{IsFirstShort, flags_at, plan_at, missing_at, missing_by}
 use Rattle.norm_receiver.specs.Walking.{Walked, walk_need, walk_where, walk_lacking, walk_on}
-use Rattle.norm_receiver.proofs.NeedLemmas.{index_of_found, its_info, no_plan}
+use Rattle.norm_receiver.proofs.NeedLemmas.{cut_same, index_of_found, its_info, no_plan, rest_by}
 use Rattle.norm_receiver.proofs.WalkLemmas.{walk_both, walk_next, walk_none}
 
 -- ---- where there is a plan
@@ -48,7 +48,7 @@ counts_next p s plan n block v = go (lacking s plan block)
     go zero = refl
     go (suc k) = walk_next p (Symbols plan.index block (suc k)) (λ u. counts_from s plan n (suc block)) v
 
-counts_end : (s : Holding) (plan : Plan) (n block : ℕ) → n ≡ 0 → counts_from s plan n block ≡ Nil
+pub counts_end : (s : Holding) (plan : Plan) (n block : ℕ) → n ≡ 0 → counts_from s plan n block ≡ Nil
 unfolding counts_from
 counts_end s plan zero block e = refl
 counts_end s plan (suc n) block e = absurd (omega arith)
@@ -99,6 +99,15 @@ counts_over s plan due block le = counts_end s plan (due - block) block (omega a
 
 -- ---- a block
 
+-- the block behind one that was not handed up whole was not either
+pub further_ahead : (index block : ℕ) (at : Point) → point_before (point index block) at ≡ false → point_before (point index (block + 1)) at ≡ false
+further_ahead index block at = go (nat_lt index at.index) (index == at.index)
+  where
+    go : (earlier here : Bool) → (earlier || (here && nat_lt block at.block)) ≡ false → (earlier || (here && nat_lt (block + 1) at.block)) ≡ false
+    go true here h = h
+    go false false h = h
+    go false true h = (let le = ltb-false block at.block h in le-ltb (block + 1) at.block (omega (arith, le)))
+
 abbrev missing_of : Holding → ℕ → Option Plan → Missing
 missing_of s block found = elim found [ Some plan ↦ missing_by (lacking s plan block) | None ↦ missing.Unseen ]
 
@@ -127,13 +136,10 @@ block_not_short p s index block plan v word found never e = lacking_not p plan b
 abbrev width_by : ℕ → Option Plan → ℕ
 width_by block found = elim found [ Some plan ↦ source_symbols (cut_of_plan plan) block | None ↦ 256 ]
 
-pub cut_is : (cut : Cut) (found : Option Plan) (plan : Plan) → found ≡ Some plan → Some cut ≡ option_map cut_of_plan found → cut ≡ cut_of_plan plan
-cut_is cut found plan is e = let h : Some cut ≡ Some (cut_of_plan plan) = e ∙ ap (option_map cut_of_plan) is in cc
-
 pub width_is : (s : Holding) (index block width : ℕ) (cut : Cut) (plan : Plan) → plan_of s index ≡ Some plan → Some cut ≡ plan_at s index
     → width ≡ source_symbols cut block → width ≡ width_of s (point index block)
 width_is s index block width cut plan found e w =
-    w ∙ ap (λ (c : Cut). source_symbols c block) (cut_is cut (plan_of s index) plan found e) ∙ sym (ap (width_by block) found)
+    w ∙ ap (λ (c : Cut). source_symbols c block) (cut_same cut (plan_of s index) plan found e) ∙ sym (ap (width_by block) found)
 
 -- that all of a block was heard, by what is kept of it
 pub symbols_heard : (heard own : Heard) (s : Holding) (index block width wanted : ℕ) (result : Bool)
@@ -178,21 +184,15 @@ object_unknown p farthest flush s index covered w is none =
     ∙ walk_one p (is_covered farthest flush index) (Object index) w
     ∙ ap (λ b. walk_where p b w (Object index)) (sym is)
 
--- what is needed of an object behind its info, by whether it is a stream
-abbrev rest_by : Settings → Option Point → Option Position → Holding → Plan → Bool → Lazy Need
-rest_by p farthest flush s plan stream = elim stream [ true ↦ stream_needs p farthest flush s plan | false ↦ object_needs farthest flush s plan ]
-
-pub object_planned : (p : Settings) (farthest : Option Point) (flush : Option Position) (s : Holding) (index flags due : ℕ) (cut : Cut) (covered lacks : Bool) (plan : Plan) (w : Walked)
-    → plan_of s index ≡ Some plan → covered ≡ is_covered farthest flush index → Some flags ≡ flags_at s index → says_stream flags ≡ false
+pub object_planned : (p : Settings) (farthest : Option Point) (flush : Option Position) (s : Holding) (index flags : ℕ) (covered lacks stream : Bool) (plan : Plan) (w : Walked)
+    → plan_of s index ≡ Some plan → covered ≡ is_covered farthest flush index → Some flags ≡ flags_at s index → stream ≡ says_stream flags
     → lacks ≡ (covered && (says_info flags && not (is_some (info_of s index))))
-    → Some cut ≡ plan_at s index → due ≡ blocks_due farthest flush index (blocks cut)
-    → walk_on p (needs_of p farthest flush s index) w ≡ walk_on p (counts_from s plan due 0) (walk_where p lacks w (ObjectInfo index))
-object_planned p farthest flush s index flags due cut covered lacks plan w found is known no_stream lacking_is known_cut due_is =
+    → walk_on p (needs_of p farthest flush s index) w ≡ walk_on p (rest_by p farthest flush s plan stream) (walk_where p lacks w (ObjectInfo index))
+object_planned p farthest flush s index flags covered lacks stream plan w found is known kind lacking_is =
     ap (λ (o : Option Plan). walk_on p (needs_by_plan p farthest flush s index o) w) found
     ∙ walk_both p (lazily (info_needs s plan (is_covered farthest flush plan.index))) (λ u. rest_by p farthest flush s plan (says_stream plan.flags)) w
-    ∙ ap (λ b. walk_on p (rest_by p farthest flush s plan b) (walk_on p (lazily (info_needs s plan (is_covered farthest flush plan.index))) w)) (ap says_stream same ∙ no_stream)
-    ∙ ap (λ v. walk_on p (object_needs farthest flush s plan) v) info
-    ∙ ap (λ n. walk_on p (counts_from s plan n 0) (walk_where p lacks w (ObjectInfo index))) blocks_are
+    ∙ ap (λ b. walk_on p (rest_by p farthest flush s plan b) (walk_on p (lazily (info_needs s plan (is_covered farthest flush plan.index))) w)) (ap says_stream same ∙ sym kind)
+    ∙ ap (λ v. walk_on p (rest_by p farthest flush s plan stream) v) info
   where
     own : plan.index ≡ index
     own = index_of_found index s.plans plan found
@@ -207,12 +207,6 @@ object_planned p farthest flush s index flags due cut covered lacks plan w found
         ∙ ap (λ n. walk_where p (is_covered farthest flush n && (says_info flags && not (is_some (info_of s n)))) w (ObjectInfo n)) own
         ∙ ap (λ b. walk_where p (b && (says_info flags && not (is_some (info_of s index)))) w (ObjectInfo index)) (sym is)
         ∙ ap (λ b. walk_where p b w (ObjectInfo index)) (sym lacking_is)
-
-    blocks_are : blocks_due farthest flush plan.index (blocks (cut_of_plan plan)) ≡ due
-    blocks_are =
-        ap (λ n. blocks_due farthest flush n (blocks (cut_of_plan plan))) own
-        ∙ ap (λ (c : Cut). blocks_due farthest flush index (blocks c)) (sym (cut_is cut (plan_of s index) plan found known_cut))
-        ∙ sym due_is
 
 -- ---- all objects
 

@@ -10,3 +10,6 @@ pub mod SearchLemmas
 pub mod WalkLemmas
 pub mod AskLemmas
 pub mod TickingLemmas
+pub mod BlockLemmas
+pub mod StreamLemmas
+pub mod SeenLemmas

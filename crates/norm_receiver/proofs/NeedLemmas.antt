@@ -118,18 +118,16 @@ info_quiet s plan true = go (has_its_info s plan)
     go false = refl
 
 -- what is needed of an object behind its info, by whether it is a stream
-abbrev rest_by : Settings → Option Point → Option Position → Holding → Plan → Bool → Lazy Need
+abbrev pub rest_by : Settings → Option Point → Option Position → Holding → Plan → Bool → Lazy Need
 rest_by p farthest flush s plan stream = elim stream [ true ↦ stream_needs p farthest flush s plan | false ↦ object_needs farthest flush s plan ]
 
--- an object's counts follow its info, where it is no stream
-planned_quiet : (p : Settings) (farthest : Option Point) (flush : Option Position) (s : Holding) (plan : Plan) → says_stream plan.flags ≡ false
+-- the rest of an object follows its info
+planned_quiet : (p : Settings) (farthest : Option Point) (flush : Option Position) (s : Holding) (plan : Plan)
     → is_nil (planned_needs p farthest flush s plan)
-    ≡ (not (is_covered farthest flush plan.index && not (has_its_info s plan))
-    && is_nil (counts_from s plan (blocks_due farthest flush plan.index (blocks (cut_of_plan plan))) 0))
-planned_quiet p farthest flush s plan e =
+    ≡ (not (is_covered farthest flush plan.index && not (has_its_info s plan)) && is_nil (rest_by p farthest flush s plan (says_stream plan.flags)))
+planned_quiet p farthest flush s plan =
     nil_both (lazily (info_needs s plan (is_covered farthest flush plan.index))) (λ u. rest_by p farthest flush s plan (says_stream plan.flags))
     ∙ ap (λ b. b && is_nil (rest_by p farthest flush s plan (says_stream plan.flags))) (info_quiet s plan (is_covered farthest flush plan.index))
-    ∙ ap (λ b. not (is_covered farthest flush plan.index && not (has_its_info s plan)) && is_nil (rest_by p farthest flush s plan b)) e
 
 -- ---- the answers of the code
 
@@ -182,50 +180,39 @@ flags_found flags (Some plan) e Q h = h plan refl (same (sym e))
 
 -- what an object with a plan needs, in the numbers of the code
 planned_at : (p : Settings) (farthest : Option Point) (flush : Option Position) (s : Holding) (index flags : ℕ) (plan : Plan)
-    → plan_of s index ≡ Some plan → plan.flags ≡ flags → says_stream flags ≡ false
+    → plan_of s index ≡ Some plan → plan.flags ≡ flags
     → is_nil (planned_needs p farthest flush s plan)
-    ≡ (not (is_covered farthest flush index && (says_info flags && not (is_some (info_of s index))))
-    && is_nil (counts_from s plan (blocks_due farthest flush index (blocks (cut_of_plan plan))) 0))
-planned_at p farthest flush s index flags plan found is no_stream =
-    planned_quiet p farthest flush s plan (ap says_stream is ∙ no_stream)
-    ∙ ap (λ b. not (is_covered farthest flush plan.index && b) && is_nil (counts_from s plan (blocks_due farthest flush plan.index (blocks (cut_of_plan plan))) 0))
-    (its_info s plan (says_info flags) (ap says_info is))
-    ∙ ap (λ n. not (is_covered farthest flush n && (says_info flags && not (is_some (info_of s n)))) && is_nil (counts_from s plan (blocks_due farthest flush n (blocks (cut_of_plan plan))) 0))
+    ≡ (not (is_covered farthest flush index && (says_info flags && not (is_some (info_of s index)))) && is_nil (rest_by p farthest flush s plan (says_stream flags)))
+planned_at p farthest flush s index flags plan found is =
+    planned_quiet p farthest flush s plan
+    ∙ ap (λ b. not (is_covered farthest flush plan.index && b) && is_nil (rest_by p farthest flush s plan (says_stream plan.flags))) (its_info s plan (says_info flags) (ap says_info is))
+    ∙ ap (λ n. not (is_covered farthest flush n && (says_info flags && not (is_some (info_of s n)))) && is_nil (rest_by p farthest flush s plan (says_stream plan.flags)))
     (index_of_found index s.plans plan found)
+    ∙ ap (λ f. not (is_covered farthest flush index && (says_info flags && not (is_some (info_of s index)))) && is_nil (rest_by p farthest flush s plan (says_stream f))) is
 
 -- an object whose info is missing
 pub quiet_no_info : (p : Settings) (farthest : Option Point) (flush : Option Position) (s : Holding) (index flags : ℕ) (covered lacks : Bool)
-    → covered ≡ is_covered farthest flush index → Some flags ≡ flags_at s index → says_stream flags ≡ false
+    → covered ≡ is_covered farthest flush index → Some flags ≡ flags_at s index
     → lacks ≡ (covered && (says_info flags && not (is_some (info_of s index)))) → lacks ≡ true → false ≡ is_nil (needs_of p farthest flush s index)
-quiet_no_info p farthest flush s index flags covered lacks is known no_stream lacking needed =
+quiet_no_info p farthest flush s index flags covered lacks is known lacking needed =
     flags_found flags (plan_of s index) known (λ (found : Option Plan). false ≡ is_nil (needs_by_plan p farthest flush s index found))
-    (λ plan found same. sym (planned_at p farthest flush s index flags plan found same no_stream
-    ∙ ap (λ b. not b && is_nil (counts_from s plan (blocks_due farthest flush index (blocks (cut_of_plan plan))) 0))
+    (λ plan found same. sym (planned_at p farthest flush s index flags plan found same
+    ∙ ap (λ b. not b && is_nil (rest_by p farthest flush s plan (says_stream flags)))
     (ap (λ c. c && (says_info flags && not (is_some (info_of s index)))) (sym is) ∙ sym lacking ∙ needed)))
 
--- an object whose info is not needed, by its blocks
-pub quiet_blocks : (p : Settings) (farthest : Option Point) (flush : Option Position) (s : Holding) (index flags due : ℕ) (cut : Cut) (covered lacks quiet : Bool)
-    → covered ≡ is_covered farthest flush index → Some flags ≡ flags_at s index → says_stream flags ≡ false
+-- an object whose info is not needed, by its rest
+pub quiet_rest : (p : Settings) (farthest : Option Point) (flush : Option Position) (s : Holding) (index flags : ℕ) (covered lacks stream quiet : Bool)
+    → covered ≡ is_covered farthest flush index → Some flags ≡ flags_at s index → stream ≡ says_stream flags
     → lacks ≡ (covered && (says_info flags && not (is_some (info_of s index)))) → lacks ≡ false
-    → Some cut ≡ plan_at s index → due ≡ blocks_due farthest flush index (blocks cut) → due ≤ blocks cut
-    → IfSome (plan_of s index) (λ plan. due ≤ blocks (cut_of_plan plan) → quiet ≡ is_nil (counts_from s plan due 0))
+    → IfSome (plan_of s index) (λ plan. quiet ≡ is_nil (rest_by p farthest flush s plan stream))
     → quiet ≡ is_nil (needs_of p farthest flush s index)
-quiet_blocks p farthest flush s index flags due cut covered lacks quiet is known no_stream lacking needless known_cut due_is few blocks_are =
+quiet_rest p farthest flush s index flags covered lacks stream quiet is known kind lacking needless rest =
     flags_found flags (plan_of s index) known
-    (λ (found : Option Plan). Some cut ≡ option_map cut_of_plan found → IfSome found (λ plan. due ≤ blocks (cut_of_plan plan) → quiet ≡ is_nil (counts_from s plan due 0)) → quiet ≡ is_nil (needs_by_plan p farthest flush s index found))
-    (λ plan found same cut_is are. go plan found same (cut_same plan (sym cut_is)) are) known_cut blocks_are
-  where
-    cut_same : (plan : Plan) → Some (cut_of_plan plan) ≡ Some cut → cut_of_plan plan ≡ cut
-    cut_same plan e = ap (λ (c : Option Cut). elim c as (λ _. Cut) [ Some c ↦ c | None ↦ cut ]) e
-
-    go : (plan : Plan) → plan_of s index ≡ Some plan → plan.flags ≡ flags → cut_of_plan plan ≡ cut
-        → (due ≤ blocks (cut_of_plan plan) → quiet ≡ is_nil (counts_from s plan due 0)) → quiet ≡ is_nil (planned_needs p farthest flush s plan)
-    go plan found same cuts are =
-        are (subst (λ (c : Cut). due ≤ blocks c) (sym cuts) few)
-        ∙ ap (λ n. is_nil (counts_from s plan n 0)) (due_is ∙ ap (λ (c : Cut). blocks_due farthest flush index (blocks c)) (sym cuts))
-        ∙ ap (λ b. not b && is_nil (counts_from s plan (blocks_due farthest flush index (blocks (cut_of_plan plan))) 0))
-        (sym (ap (λ c. c && (says_info flags && not (is_some (info_of s index)))) (sym is) ∙ sym lacking ∙ needless))
-        ∙ sym (planned_at p farthest flush s index flags plan found same no_stream)
+    (λ (found : Option Plan). IfSome found (λ plan. quiet ≡ is_nil (rest_by p farthest flush s plan stream)) → quiet ≡ is_nil (needs_by_plan p farthest flush s index found))
+    (λ plan found same of_rest. of_rest ∙ ap (λ b. is_nil (rest_by p farthest flush s plan b)) kind
+    ∙ ap (λ b. not b && is_nil (rest_by p farthest flush s plan (says_stream flags)))
+    (sym (ap (λ c. c && (says_info flags && not (is_some (info_of s index)))) (sym is) ∙ sym lacking ∙ needless))
+    ∙ sym (planned_at p farthest flush s index flags plan found same)) rest
 
 -- no block that is due lacks symbols, by the first one that does
 pub quiet_before : (s : Holding) (index due : ℕ) (first : Option ℕ) → IfSome (plan_of s index) (λ plan. IsFirstShort s plan first)
@@ -237,16 +224,33 @@ quiet_before s index due first = go (plan_of s index)
     go None h = h
     go (Some plan) h = λ few. sym (blocks_quiet s plan due first h few)
 
--- the same, where the blocks were counted before
-pub quiet_by_blocks : (p : Settings) (farthest : Option Point) (flush : Option Position) (s : Holding) (index flags due all : ℕ) (cut : Cut) (covered lacks quiet : Bool)
-    → covered ≡ is_covered farthest flush index → Some flags ≡ flags_at s index → says_stream flags ≡ false
-    → lacks ≡ (covered && (says_info flags && not (is_some (info_of s index)))) → lacks ≡ false
+-- the cut that is told of an object is its plan's
+pub cut_same : (cut : Cut) (found : Option Plan) (plan : Plan) → found ≡ Some plan → Some cut ≡ option_map cut_of_plan found → cut ≡ cut_of_plan plan
+cut_same cut found plan is e = let h : Some cut ≡ Some (cut_of_plan plan) = e ∙ ap (option_map cut_of_plan) is in cc
+
+-- the blocks of an object that are due, as they were counted
+pub due_needs : (farthest : Option Point) (flush : Option Position) (s : Holding) (index due all : ℕ) (cut : Cut) (plan : Plan)
+    → plan_of s index ≡ Some plan → Some cut ≡ plan_at s index → all ≡ blocks cut → due ≡ blocks_due farthest flush index all
+    → counts_from s plan due 0 ≡ object_needs farthest flush s plan
+due_needs farthest flush s index due all cut plan found known all_is due_is =
+    ap (λ n. counts_from s plan n 0)
+    (due_is ∙ ap (λ n. blocks_due farthest flush index n) all_is ∙ ap (λ (c : Cut). blocks_due farthest flush index (blocks c)) (cut_same cut (plan_of s index) plan found known)
+    ∙ ap (λ n. blocks_due farthest flush n (blocks (cut_of_plan plan))) (sym (index_of_found index s.plans plan found)))
+
+-- of data or a file nothing is needed by its blocks
+pub object_quiet : (farthest : Option Point) (flush : Option Position) (s : Holding) (index due all : ℕ) (cut : Cut) (quiet : Bool)
     → Some cut ≡ plan_at s index → all ≡ blocks cut → due ≡ blocks_due farthest flush index all → due ≤ all
     → IfSome (plan_of s index) (λ plan. due ≤ blocks (cut_of_plan plan) → quiet ≡ is_nil (counts_from s plan due 0))
-    → quiet ≡ is_nil (needs_of p farthest flush s index)
-quiet_by_blocks p farthest flush s index flags due all cut covered lacks quiet is known no_stream lacking needless known_cut all_is due_is few blocks_are =
-    quiet_blocks p farthest flush s index flags due cut covered lacks quiet is known no_stream lacking needless known_cut
-    (due_is ∙ ap (λ n. blocks_due farthest flush index n) all_is) (subst (λ n. due ≤ n) all_is few) blocks_are
+    → IfSome (plan_of s index) (λ plan. quiet ≡ is_nil (object_needs farthest flush s plan))
+object_quiet farthest flush s index due all cut quiet known all_is due_is few are =
+    go (plan_of s index) refl are
+  where
+    go : (found : Option Plan) → plan_of s index ≡ found → IfSome found (λ plan. due ≤ blocks (cut_of_plan plan) → quiet ≡ is_nil (counts_from s plan due 0))
+        → IfSome found (λ plan. quiet ≡ is_nil (object_needs farthest flush s plan))
+    go None is h = tt
+    go (Some plan) is h =
+        h (subst (λ (c : Cut). due ≤ blocks c) (cut_same cut (plan_of s index) plan is known) (subst (λ n. due ≤ n) all_is few))
+        ∙ ap is_nil (due_needs farthest flush s index due all cut plan is known all_is due_is)
 
 -- ---- all objects
 

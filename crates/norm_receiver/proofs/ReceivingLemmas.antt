@@ -15,7 +15,7 @@ use Rattle.norm_receive_rules.specs.Holding.{Holding}
 use Rattle.norm_receive_rules.specs.HandingUp.{handed_up}
 use Rattle.norm_receive_rules.specs.Seeing.{sees_block}
 use Rattle.norm_receive_rules.specs.Receiving.{object_held}
-use Rattle.rx_hold.specs.HoldState.{HoldState, Stands as HoldStands}
+use Rattle.rx_hold.specs.EntryHold.{EntryHold, StandsFor as HoldStands}
 use Rattle.norm_receiver.specs.Receiving.{puts, place_of, object_told}
 use Rattle.norm_receiver.specs.declared.receiving.Brought.{Brought}
 use Rattle.norm_receiver.specs.declared.receiving.Brought.TheVariants as brought
@@ -32,7 +32,7 @@ told_as : (p : Settings) (index flags : ℕ) (b : Brought) (s : Holding) (exts :
 told_as p index flags (brought.Info info) s exts = refl
 told_as p index flags (brought.Symbol id payload) s exts = refl
 
-pub told_leaves : {A E : Type 0} → (r : Result A E) (p : Settings) (index flags : ℕ) (b : Brought) (exts : List Extension) (f : Fti) (old new : HoldState)
+pub told_leaves : {A E : Type 0} → (r : Result A E) (p : Settings) (index flags : ℕ) (b : Brought) (exts : List Extension) (f : Fti) (old new : EntryHold)
     → Some f ≡ fti_of exts → IfOk r (λ _. (s : Holding) → HoldStands old s → HoldStands new (object_told p index f flags b s))
     → IfOk r (λ _. (s : Holding) → HoldStands old s → HoldStands new (object_held p (place_of index b) exts flags (puts p index b) s))
 told_leaves (Ok x) p index flags b exts f old new e h = λ s stands.

@@ -22,7 +22,7 @@ ended s = record s { knows = record (s.knows) { backoff = None } }
 pub backed_off : (k : ReceiverKept) (n : Numbers) (s : ReceiverState) → Stands k s → n ≡ record (k.numbers) { backoff = None }
     → Stands (record k { numbers = n }) (ended s)
 backed_off k n s h is =
-    record { profile = h.profile; hold = h.hold; heard = h.heard; numbers = is ∙ ap (λ (m : Numbers). record m { backoff = None }) h.numbers }
+    record { profile = h.profile; hold = h.hold; seen = h.seen; heard = h.heard; numbers = is ∙ ap (λ (m : Numbers). record m { backoff = None }) h.numbers }
 
 -- the end of a back-off by its moment, and by whether that is reached
 abbrev ends_by : Settings → ℕ → ReceiverState → Option ℕ → ReceiverState × Option Written

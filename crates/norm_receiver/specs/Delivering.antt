@@ -1,21 +1,13 @@
--- What a datagram is to say, and what is heard of what others ask for.
-use Rattle.std.specs.Prelude.{◌==◌, ◌≡◌, ⊤, List, true, false, Result, Ok}
+-- What is heard of what others ask for.
+use Rattle.std.specs.Prelude.{◌==◌, List, true, false}
 use Rattle.norm_base.specs.Settings.{Settings}
-use Rattle.norm_ext.specs.Message.{Message, Info, Data}
 use Rattle.norm_ext.specs.Extensions.{extensions_of}
 use Rattle.norm_ext.specs.Requests.{Request, requests_of}
 use Rattle.norm_ext.specs.declared.head.CmdHead.{CmdHead}
 use Rattle.norm_fbmsg.specs.declared.message.NackMsg.{NackMsg}
 use Rattle.norm_receive_rules.specs.Leaving.{is_in}
 use Rattle.norm_receive_rules.specs.Overhearing.{overheard, nack_overheard}
-use Rattle.norm_receive_rules.specs.Plans.{says_stream}
 use Rattle.norm_receive_rules.specs.ReceiverState.{ReceiverState}
-
--- what octets spell is of no stream
-abbrev pub IsOfNoStream : {E : Type 0} → Result Message E → Type 0
-IsOfNoStream (Ok (Info m)) = says_stream m.head.flags ≡ false
-IsOfNoStream (Ok (Data m)) = says_stream m.head.flags ≡ false
-IsOfNoStream _ = ⊤
 
 -- a NACK that is lent is heard
 abbrev pub nack_heard : Settings → NackMsg → ReceiverState → ReceiverState

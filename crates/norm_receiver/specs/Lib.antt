@@ -11,4 +11,5 @@ pub mod Overhearing
 pub mod Orderly
 pub mod Walking
 pub mod PlanOf
+pub mod Streams
 pub mod Asking

@@ -8,7 +8,6 @@ use Rattle.norm_ext.specs.Lists.{nodes_of}
 use Rattle.norm_ext.specs.declared.fti.Fti.{Fti}
 use Rattle.norm_receive_rules.specs.Holding.{Holding}
 use Rattle.norm_receive_rules.specs.ReceiverState.{ReceiverState}
-use Rattle.norm_receive_rules.specs.Plans.{says_stream}
 use Rattle.norm_receive_rules.specs.Putting.{put_symbol, put_info}
 use Rattle.norm_receive_rules.specs.Fitting.{fit_of, fitted, lets_put}
 use Rattle.norm_receive_rules.specs.HandingUp.{handed_up}
@@ -56,9 +55,9 @@ said_received p (said.Data flags exts id payload) index s =
 said_received p (said.Flush id nodes) index s = flush_at (position index id.block id.symbol) (nodes_of nodes.now) s
 said_received p (said.Squelch block) index s = squelch_at p (point index block) s
 
--- what a message lends is whole, and its object is no stream
+-- what a message lends is whole
 abbrev pub IsSaid : Said → Type 0
-IsSaid (said.Info flags exts info) = IsChecked exts.now × (says_stream flags ≡ false)
-IsSaid (said.Data flags exts id payload) = IsChecked exts.now × (says_stream flags ≡ false)
+IsSaid (said.Info flags exts info) = IsChecked exts.now
+IsSaid (said.Data flags exts id payload) = IsChecked exts.now
 IsSaid (said.Flush id nodes) = length nodes.now % 4 ≡ 0
 IsSaid (said.Squelch block) = ⊤

@@ -1,18 +1,15 @@
 //! The datagrams that a receiver takes in, message by message (RFC 5740 section 5.3).
 
-ghost use Rattle.std.specs.Prelude.{◌≡◌, Ok, IfOk, OnErr, IsTrue, ◌↔◌, false, not};
+ghost use Rattle.std.specs.Prelude.{◌≡◌, Ok, IfOk, OnErr};
 ghost use Rattle.norm_ext.specs.Extensions.{IsChecked};
 ghost use Rattle.norm_cmdmsg.specs.View.{command_of};
 ghost use Rattle.norm_cmdmsg.specs.Whole.{IsWhole};
 ghost use Rattle.norm_ext.specs.declared.refusal.Refusal.{Refusal as Refused};
 ghost use Rattle.norm_objmsg.specs.MessageView.{info_of, data_of};
 ghost use Rattle.norm_receive_rules.specs.ReceiverState.{ReceiverState};
-ghost use Rattle.norm_receive_rules.specs.Plans.{says_stream};
 ghost use Rattle.norm_receive_rules.specs.Receiving.{message_received, received};
 ghost use Rattle.norm_codec.specs.View.{message_of};
 ghost use Rattle.norm_codec.specs.Whole.{IsWhole as IsWholeMessage};
-ghost use Rattle.norm_ext.specs.Reading.{decoded};
-ghost use Rattle.norm_receiver.specs.Delivering.{IsOfNoStream};
 ghost use Rattle.norm_receiver.specs.ReceiverKept.{Stands};
 ghost use Rattle.norm_receiver.specs.Inside.{kept_of};
 
@@ -23,8 +20,6 @@ use fec_plan::PayloadId;
 use norm_base::{Memory, Moment};
 use norm_cmdmsg::CommandMsg;
 use norm_codec::{Message, decode};
-use norm_ext::flags::STREAM;
-use norm_ext::items::has_flag;
 use norm_ext::{CmdHead, ObjHead};
 use norm_objmsg::grammar::{DataMsg, InfoMsg};
 
@@ -57,42 +52,10 @@ fn block_of(id: PayloadId) -> u32
     id.block
 }
 
-/// Whether flags are not a stream's.
-fn is_no_stream(flags: u8) -> bool
-    ensures { says_stream flags ≡ not result }
-{
-    !has_flag(flags, STREAM)
-}
-
-/// Whether a message is no INFO or DATA of a stream.
-fn says_no_stream(msg: &Message<'_>) -> bool
-    ensures { IsTrue result ↔ IsOfNoStream {E = Refused} (Ok (message_of msg.now)) }
-{
-    match msg {
-        Message::Info(msg) => is_no_stream(msg.head.flags),
-        Message::Data(msg) => is_no_stream(msg.head.flags),
-        Message::Command(_) => true,
-        Message::Nack(_) => true,
-        Message::Ack(_) => true,
-        Message::Report { .. } => true,
-    }
-}
-
-/// Whether a datagram is no INFO or DATA of a stream, so that a receiver can take it in.
-pub fn is_of_no_stream(bytes: &[u8]) -> bool
-    ensures { IsTrue result ↔ IsOfNoStream (decoded bytes.now) }
-{
-    match decode(bytes) {
-        Ok(msg) => says_no_stream(&msg),
-        Err(_) => true,
-    }
-}
-
 impl Parts {
-    /// An INFO of an object that is no stream.
+    /// An INFO.
     fn deliver_info(&mut self, msg: &InfoMsg<'_>, now: Moment, draw: u32) -> Result<(), Memory>
         requires whole { IsChecked msg.now.exts.now }
-        requires object { says_stream msg.now.head.flags ≡ false }
         ensures profile { self.new.profile ≡ self.old.profile }
         ensures state { IfOk result (λ _. (s : ReceiverState) → Stands (kept_of self.old) s
             → Stands (kept_of self.new) (message_received {E = Refused} self.old.profile now draw (Ok (info_of msg.now)) s)) }
@@ -106,10 +69,9 @@ impl Parts {
         self.deliver_said(&object_naming(&msg.head), &said, now, draw)
     }
 
-    /// A DATA of an object that is no stream.
+    /// A DATA.
     fn deliver_data(&mut self, msg: &DataMsg<'_>, now: Moment, draw: u32) -> Result<(), Memory>
         requires whole { IsChecked msg.now.exts.now }
-        requires object { says_stream msg.now.head.flags ≡ false }
         ensures profile { self.new.profile ≡ self.old.profile }
         ensures state { IfOk result (λ _. (s : ReceiverState) → Stands (kept_of self.old) s
             → Stands (kept_of self.new) (message_received {E = Refused} self.old.profile now draw (Ok (data_of msg.now)) s)) }
@@ -168,7 +130,6 @@ impl Parts {
     /// A message: an acknowledgement and a report change nothing.
     fn deliver_message(&mut self, msg: &Message<'_>, now: Moment, draw: u32) -> Result<(), Memory>
         requires whole { IsWholeMessage msg.now }
-        requires object { IsOfNoStream {E = Refused} (Ok (message_of msg.now)) }
         ensures profile { self.new.profile ≡ self.old.profile }
         ensures state { IfOk result (λ _. (s : ReceiverState) → Stands (kept_of self.old) s
             → Stands (kept_of self.new) (message_received {E = Refused} self.old.profile now draw (Ok (message_of msg.now)) s)) }
@@ -184,9 +145,8 @@ impl Parts {
         }
     }
 
-    /// A datagram, which is of no stream. Octets that spell no message change nothing.
+    /// A datagram. Octets that spell no message change nothing.
     pub(crate) fn deliver(&mut self, bytes: &[u8], now: Moment, draw: u32) -> Result<(), Memory>
-        requires { IsOfNoStream (decoded bytes.now) }
         ensures profile { self.new.profile ≡ self.old.profile }
         ensures state { IfOk result (λ _. (s : ReceiverState) → Stands (kept_of self.old) s
             → Stands (kept_of self.new) (received self.old.profile s bytes.now now draw)) }

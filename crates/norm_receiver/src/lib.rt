@@ -17,10 +17,11 @@ mod receiver;
 mod receiving;
 mod requesting;
 mod searching;
+mod stream_nacking;
+mod stream_needs;
 mod taking;
 mod ticking;
 
-pub use crate::delivering::is_of_no_stream;
 pub use crate::numbers::{FlushPlace, Numbers};
 pub use crate::receiver::Receiver;
 pub use crate::requesting::Need;

@@ -1,10 +1,11 @@
 //! The NACK of a receiver (RFC 5740 section 5.3): what it needs, as far as that fits.
 
-ghost use Rattle.std.specs.Prelude.{◌≡◌, ◌≤◌, ◌<◌, ℕ, List, None, IfSome};
+ghost use Rattle.std.specs.Prelude.{◌≡◌, ◌≤◌, ◌<◌, ℕ, List, None, IfSome, false};
 ghost use Rattle.fec_plan.specs.Partition.{blocks};
+ghost use Rattle.fec_plan.specs.Points.{point as point_at, point_before, point_of};
 ghost use Rattle.norm_receive_rules.specs.ReceiverState.{ReceiverState};
 ghost use Rattle.norm_receive_rules.specs.Plans.{lacking, plan_of};
-ghost use Rattle.norm_receive_rules.specs.Needs.{Object, ObjectInfo, counts_from};
+ghost use Rattle.norm_receive_rules.specs.Needs.{Object, ObjectInfo, counts_from, object_needs};
 ghost use Rattle.norm_receive_rules.specs.AllNeeds.{needs, needs_of};
 ghost use Rattle.norm_receive_rules.specs.HeardNeeds.{is_heard};
 ghost use Rattle.norm_receiver.specs.ReceiverKept.{Stands};
@@ -15,7 +16,7 @@ ghost use Rattle.norm_receiver.specs.Inside.{kept_of};
 
 use crate::asking::Asking;
 use crate::feedback::write_nack_front;
-use crate::needs::{blocks_due, is_covered, lacks_info, last_known};
+use crate::needs::{blocks_due, is_covered, is_stream, lacks_info, last_known};
 use crate::parts::Parts;
 use crate::requesting::Need;
 use fec_plan::{Plan, Point};
@@ -64,7 +65,7 @@ impl Parts {
         asking.add(&self.profile, Need::ObjectInfo { index }, heard, out);
     }
 
-    /// Asks for what is lacking of a block.
+    /// Asks for what is lacking of a block that was not handed up whole.
     fn ask_block(
         &self,
         index: u32,
@@ -73,7 +74,7 @@ impl Parts {
         asking: &mut Asking,
         out: &mut Datagram,
     )
-        requires reached { self.now.hold.point.index ≤ index }
+        requires ahead { point_before (point_at index block) (point_of self.now.hold.point) ≡ false }
         requires plan { IsPlanOf self.now.hold index plan.now }
         requires block { block < blocks plan.now }
         requires room { HasRoom asking.old.writer out.old }
@@ -101,7 +102,14 @@ impl Parts {
     }
 
     /// Asks for what is lacking of the blocks of an object before this one.
-    fn ask_blocks(&self, index: u32, plan: &Plan, due: u32, asking: &mut Asking, out: &mut Datagram)
+    pub(crate) fn ask_blocks(
+        &self,
+        index: u32,
+        plan: &Plan,
+        due: u32,
+        asking: &mut Asking,
+        out: &mut Datagram,
+    )
         requires reached { self.now.hold.point.index ≤ index }
         requires plan { IsPlanOf self.now.hold index plan.now }
         requires due { due ≤ blocks plan.now }
@@ -125,6 +133,21 @@ impl Parts {
         }
     }
 
+    /// Asks for what is needed of data or a file behind its info.
+    fn ask_counts(&self, index: u32, plan: &Plan, asking: &mut Asking, out: &mut Datagram)
+        requires reached { self.now.hold.point.index ≤ index }
+        requires plan { IsPlanOf self.now.hold index plan.now }
+        requires room { HasRoom asking.old.writer out.old }
+        ensures room { HasRoom asking.new.writer out.new }
+        ensures walked { (s : ReceiverState) (front : List ℕ) (w : Walked) → Stands (kept_of self.now) s
+            → IsAt self.now.profile (is_heard s.knows.heard s.holding) asking.old out.old front w
+            → IfSome (plan_of s.holding index) (λ found. IsAt self.now.profile (is_heard s.knows.heard s.holding) asking.new out.new front
+            (walk_on self.now.profile (object_needs s.knows.farthest s.knows.flush s.holding found) w)) }
+    {
+        let due = blocks_due(&self.numbers, index, plan.blocks());
+        self.ask_blocks(index, plan, due, asking, out);
+    }
+
     /// Asks for what is needed of the object with this index.
     fn ask_object(&self, index: u32, asking: &mut Asking, out: &mut Datagram)
         requires reached { self.now.hold.point.index ≤ index }
@@ -145,8 +168,11 @@ impl Parts {
         };
         let lacks = lacks_info(&self.hold, index, flags, covered);
         self.ask_info(index, lacks, asking, out);
-        let due = blocks_due(&self.numbers, index, plan.blocks());
-        self.ask_blocks(index, &plan, due, asking, out);
+        if is_stream(flags) {
+            self.ask_stream(index, &plan, asking, out);
+            return;
+        }
+        self.ask_counts(index, &plan, asking, out);
     }
 
     /// Asks for all that is needed.

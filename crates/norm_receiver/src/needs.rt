@@ -1,18 +1,22 @@
 //! What a receiver needs (RFC 5740 section 5.3, RFC 5401 section 3.2.2), from what it saw of the sender.
 
 ghost use Rattle.std.specs.Prelude.{◌≡◌, ◌+◌, ◌≤◌, ◌&&◌, not, ℕ, Some, None, is_some, IfSome};
-ghost use Rattle.norm_base.specs.Settings.{Settings};
 ghost use Rattle.norm_receive_rules.specs.Holding.{Holding};
 ghost use Rattle.fec_plan.specs.Partition.{blocks};
-ghost use Rattle.norm_receive_rules.specs.Plans.{says_info, info_of, plan_of, cut_of_plan};
-ghost use Rattle.norm_receive_rules.specs.Needs.{is_covered, blocks_before, blocks_due, counts_from};
+ghost use Rattle.norm_receive_rules.specs.Plans.{says_info, says_stream, info_of, plan_of, cut_of_plan};
+ghost use Rattle.norm_receive_rules.specs.Needs.{is_covered, blocks_before, blocks_due, counts_from, object_needs};
 ghost use Rattle.norm_receive_rules.specs.AllNeeds.{needs_of, needs_by, last_known};
-ghost use Rattle.rx_hold.specs.HoldState.{Stands as HoldStands};
+ghost use Rattle.rx_hold.specs.EntryHold.{StandsFor as HoldStands};
 ghost use Rattle.norm_receiver.specs.Quiet.{is_nil};
+ghost use Rattle.norm_receiver.specs.PlanOf.{IsPlanOf};
+ghost use Rattle.norm_receiver.specs.ReceiverKept.{HasSeenBlocks};
 
 use crate::numbers::Numbers;
-use fec_plan::{Point, Position};
-use rx_hold::Hold;
+use crate::stream_needs::is_stream_quiet;
+use fec_plan::{Plan, Point, Position};
+use norm_ext::flags::STREAM;
+use norm_ext::items::has_flag;
+use rx_entries::Hold;
 
 /// The flag of an object that has an info (RFC 5740 section 4.2.1).
 const HAS_INFO: u8 = 4;
@@ -92,8 +96,15 @@ pub(crate) fn lacks_info(hold: &Hold, index: u32, flags: u8, covered: bool) -> b
     !hold.has_info(index)
 }
 
+/// Whether an object's flags are a stream's.
+pub(crate) fn is_stream(flags: u8) -> bool
+    ensures { result ≡ says_stream flags }
+{
+    has_flag(flags, STREAM)
+}
+
 /// Whether no block before this one of an object lacks symbols.
-fn is_done_before(hold: &Hold, index: u32, due: u32) -> bool
+pub(crate) fn is_done_before(hold: &Hold, index: u32, due: u32) -> bool
     requires { hold.now.point.index ≤ index }
     ensures { (s : Holding) → HoldStands hold.now s → IfSome (plan_of s index) (λ plan. due ≤ blocks (cut_of_plan plan) → result ≡ is_nil (counts_from s plan due 0)) }
 {
@@ -103,10 +114,20 @@ fn is_done_before(hold: &Hold, index: u32, due: u32) -> bool
     }
 }
 
+/// Whether nothing is needed of data or a file behind its info.
+fn is_object_quiet(hold: &Hold, numbers: &Numbers, index: u32, plan: &Plan) -> bool
+    requires reached { hold.now.point.index ≤ index }
+    requires plan { IsPlanOf hold.now index plan.now }
+    ensures { (s : Holding) → HoldStands hold.now s → IfSome (plan_of s index) (λ found. result ≡ is_nil (object_needs numbers.now.farthest numbers.now.flush s found)) }
+{
+    let due = blocks_due(numbers, index, plan.blocks());
+    is_done_before(hold, index, due)
+}
+
 /// Whether nothing is needed of the object with this index.
 fn is_quiet(hold: &Hold, numbers: &Numbers, index: u32) -> bool
     requires { hold.now.point.index ≤ index }
-    ensures { (p : Settings) (s : Holding) → HoldStands hold.now s → result ≡ is_nil (needs_of p numbers.now.farthest numbers.now.flush s index) }
+    ensures { (s : Holding) → HoldStands hold.now s → HasSeenBlocks s → result ≡ is_nil (needs_of hold.now.p numbers.now.farthest numbers.now.flush s index) }
 {
     let covered = is_covered(&numbers.farthest, &numbers.flush, index);
     let Some(flags) = hold.flags(index) else {
@@ -118,7 +139,10 @@ fn is_quiet(hold: &Hold, numbers: &Numbers, index: u32) -> bool
     let Some(plan) = hold.plan(index) else {
         return !covered;
     };
-    is_done_before(hold, index, blocks_due(numbers, index, plan.blocks()))
+    if is_stream(flags) {
+        return is_stream_quiet(hold, numbers, index, &plan);
+    }
+    is_object_quiet(hold, numbers, index, &plan)
 }
 
 /// One more than the last index that was seen or flushed.
@@ -139,7 +163,7 @@ pub(crate) fn last_known(numbers: &Numbers) -> u64
 
 /// Whether nothing is needed of what is held, by these numbers.
 pub(crate) fn is_all_quiet(hold: &Hold, numbers: &Numbers) -> bool
-    ensures { (p : Settings) (s : Holding) → HoldStands hold.now s → result ≡ is_nil (needs_by p numbers.now.farthest numbers.now.flush s) }
+    ensures { (s : Holding) → HoldStands hold.now s → HasSeenBlocks s → result ≡ is_nil (needs_by hold.now.p numbers.now.farthest numbers.now.flush s) }
 {
     let last = last_known(numbers);
     let mut index = u64::from(hold.hand_up().index);

@@ -3,7 +3,7 @@
 use crate::heard::Heard;
 use crate::numbers::Numbers;
 use norm_base::Profile;
-use rx_hold::Hold;
+use rx_entries::Hold;
 
 /// The parts of a receiver, under one profile: what it holds, what it heard others ask for, and its numbers.
 #[derive(Debug, Drop)]

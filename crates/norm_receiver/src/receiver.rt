@@ -1,13 +1,11 @@
 //! The receiver of a session.
 
 ghost use Rattle.std.specs.Prelude.{◌≡◌, [], not, length, IfOk, OnErr, IfNone, IfSome, IsSome};
-ghost use Rattle.norm_ext.specs.Reading.{decoded};
 ghost use Rattle.norm_receive_rules.specs.ReceiverState.{ReceiverState, receiver_opening};
 ghost use Rattle.norm_receive_rules.specs.Acknowledging.{lost_nothing};
 ghost use Rattle.norm_receive_rules.specs.Receiving.{received};
 ghost use Rattle.norm_receive_rules.specs.Taking.{took};
 ghost use Rattle.norm_receive_rules.specs.Ticking.{ticked};
-ghost use Rattle.norm_receiver.specs.Delivering.{IsOfNoStream};
 ghost use Rattle.norm_receiver.specs.ReceiverSound.{StandsFor, IsTick};
 
 use crate::parts::Parts;
@@ -20,8 +18,8 @@ use std::marker::Model;
 ///
 /// What drives it hands it each datagram as it comes ([`deliver`](Receiver::deliver)), with a draw for the back-off that
 /// may begin, and after each takes what was handed up by [`take_up`](Receiver::take_up) until that is `None`. Datagrams
-/// may come in any order, and may hold any octets but those of a stream, which `is_of_no_stream` tells. At each moment it
-/// is asked for the datagram to send ([`tick`](Receiver::tick)), by which it acknowledges and asks for repair.
+/// may come in any order, and may hold any octets. At each moment it is asked for the datagram to send
+/// ([`tick`](Receiver::tick)), by which it acknowledges and asks for repair.
 #[derive(Debug, Drop)]
 pub struct Receiver {
     parts: Parts,
@@ -53,15 +51,13 @@ impl Receiver {
         Ok(Receiver { parts })
     }
 
-    /// Takes in a datagram, which is of no stream: a message of the sender, or what another node asks for. Any other
-    /// octets change nothing.
+    /// Takes in a datagram: a message of the sender, or what another node asks for. Any other octets change nothing.
     ///
     /// # Errors
     ///
     /// `Memory` where memory runs out, or more was heard of others than is kept; all is then as if the datagram had been
     /// lost.
     pub fn deliver(&mut self, bytes: &[u8], now: Moment, draw: u32) -> Result<(), Memory>
-        requires { IsOfNoStream (decoded bytes.now) }
         ensures profile { self.new.p ≡ self.old.p }
         ensures stands { IfOk result (λ _. (s : ReceiverState) → StandsFor self.old s → StandsFor self.new (received self.old.p s bytes.now now draw)) }
         ensures refused { OnErr result ((s : ReceiverState) → StandsFor self.old s → StandsFor self.new s) }

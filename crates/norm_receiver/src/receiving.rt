@@ -1,19 +1,18 @@
 //! What a receiver does with a message of the sender (RFC 5740 section 5.3).
 
 ghost use Rattle.std.specs.Prelude.{◌≡◌, ◌^◌, ◌<◌, ◌%◌, ◌&&◌, IfOk, OnErr, IfSome, false, length};
-ghost use Rattle.fec_plan.specs.Points.{position, point as point_at, point_of};
+ghost use Rattle.fec_plan.specs.Points.{IsBlock, position, point as point_at, point_of};
 ghost use Rattle.norm_ext.specs.Extensions.{extensions_of, fti_of, IsChecked};
 ghost use Rattle.norm_ext.specs.Lists.{nodes_of};
 ghost use Rattle.norm_receive_rules.specs.Holding.{Holding};
 ghost use Rattle.norm_receive_rules.specs.ReceiverState.{ReceiverState};
-ghost use Rattle.norm_receive_rules.specs.Plans.{says_stream};
 ghost use Rattle.norm_receive_rules.specs.Fitting.{lets_put};
 ghost use Rattle.norm_receive_rules.specs.HandingUp.{handed_up};
 ghost use Rattle.norm_receive_rules.specs.Putting.{put_info, put_symbol};
 ghost use Rattle.norm_receive_rules.specs.Seeing.{sees_block};
 ghost use Rattle.norm_receive_rules.specs.Acknowledging.{acknowledges};
 ghost use Rattle.norm_receive_rules.specs.Receiving.{object_held, object_received, learns};
-ghost use Rattle.rx_hold.specs.HoldState.{Stands as HoldStands};
+ghost use Rattle.rx_hold.specs.EntryHold.{StandsFor as HoldStands};
 ghost use Rattle.norm_receiver.specs.Receiving.{puts, place_of, object_told, flush_at, squelch_at, said_received, IsSaid};
 ghost use Rattle.norm_receiver.specs.ReceiverKept.{Stands};
 ghost use Rattle.norm_receiver.specs.Inside.{kept_of};
@@ -25,7 +24,7 @@ use norm_base::Memory;
 use norm_cmdmsg::names;
 use norm_ext::{Extensions, Fti, read_fti};
 use norm_receive_rules::Fit;
-use rx_hold::Hold;
+use rx_entries::Hold;
 
 /// What an INFO or DATA brings its object.
 #[derive(Clone, Copy, Debug)]
@@ -62,7 +61,8 @@ pub(crate) enum Said<'a> {
 
 /// Where what is brought is: an INFO counts as block 0, symbol 0.
 fn place_of(index: u32, brought: &Brought<'_>) -> Position
-    ensures { result ≡ place_of index brought.now }
+    ensures exact { result ≡ place_of index brought.now }
+    ensures block { IsBlock result.block }
 {
     match brought {
         Brought::Info(_) => Position {
@@ -99,39 +99,59 @@ fn lets_put(word: Fit) -> bool
     }
 }
 
-/// The info of an object comes, and all that is whole is handed up.
+/// The info of an object comes.
 fn keep_info(hold: &mut Hold, index: u32, info: &[u8]) -> Result<(), Memory>
     ensures profile { hold.new.p ≡ hold.old.p }
-    ensures state { IfOk result (λ _. (s : Holding) → HoldStands hold.old s → HoldStands hold.new (handed_up hold.old.p (put_info hold.old.p index info.now s))) }
+    ensures state { IfOk result (λ _. (s : Holding) → HoldStands hold.old s → HoldStands hold.new (put_info hold.old.p index info.now s)) }
     ensures refused { OnErr result (hold.new ≡ hold.old) }
 {
     hold.put_info(index, info)?;
-    hold.advance();
     Ok(())
 }
 
-/// A symbol of an object comes, and all that is whole is handed up.
+/// A symbol of an object comes.
 fn keep_symbol(hold: &mut Hold, index: u32, id: PayloadId, payload: &[u8]) -> Result<(), Memory>
     ensures profile { hold.new.p ≡ hold.old.p }
     ensures state { IfOk result (λ _. (s : Holding) → HoldStands hold.old s
-        → HoldStands hold.new (handed_up hold.old.p (put_symbol hold.old.p (position index id.block id.symbol) payload.now s))) }
+        → HoldStands hold.new (put_symbol hold.old.p (position index id.block id.symbol) payload.now s)) }
     ensures refused { OnErr result (hold.new ≡ hold.old) }
 {
     hold.put(index, id, payload)?;
-    hold.advance();
     Ok(())
 }
 
-/// What is brought is put, and all that is whole is handed up.
-fn keep(hold: &mut Hold, index: u32, brought: &Brought<'_>) -> Result<(), Memory>
+/// What is brought is put.
+fn put_brought(hold: &mut Hold, index: u32, brought: &Brought<'_>) -> Result<(), Memory>
     ensures profile { hold.new.p ≡ hold.old.p }
-    ensures state { IfOk result (λ _. (s : Holding) → HoldStands hold.old s → HoldStands hold.new (handed_up hold.old.p (puts hold.old.p index brought.now s))) }
+    ensures state { IfOk result (λ _. (s : Holding) → HoldStands hold.old s → HoldStands hold.new (puts hold.old.p index brought.now s)) }
     ensures refused { OnErr result (hold.new ≡ hold.old) }
 {
     match brought {
         Brought::Info(info) => keep_info(hold, index, info),
         Brought::Symbol { id, payload } => keep_symbol(hold, index, *id, payload),
     }
+}
+
+/// The block of what is brought is seen, whether that is kept or not.
+fn see_brought(hold: &mut Hold, index: u32, brought: &Brought<'_>)
+    ensures profile { hold.new.p ≡ hold.old.p }
+    ensures state { (s : Holding) → HoldStands hold.old s → HoldStands hold.new (sees_block (point_of (place_of index brought.now)) s) }
+{
+    hold.see(place_of(index, brought).point());
+}
+
+/// What is brought is put, its block is seen, and all that can be is handed up.
+fn keep(hold: &mut Hold, index: u32, brought: &Brought<'_>) -> Result<(), Memory>
+    ensures profile { hold.new.p ≡ hold.old.p }
+    ensures state { IfOk result (λ _. (s : Holding) → HoldStands hold.old s
+        → HoldStands hold.new (handed_up hold.old.p (puts hold.old.p index brought.now (sees_block (point_of (place_of index brought.now)) s)))) }
+    ensures refused { OnErr result (hold.new ≡ hold.old) }
+{
+    // The block is seen once nothing can fail any more, which is the same: no word looks at what was seen.
+    put_brought(hold, index, brought)?;
+    see_brought(hold, index, brought);
+    hold.advance();
+    Ok(())
 }
 
 /// An INFO or DATA with transmission information: what it brings is kept where that fits.
@@ -142,15 +162,14 @@ fn keep_told(
     flags: u8,
     brought: &Brought<'_>,
 ) -> Result<(), Memory>
-    requires last { index < 4294967295 }
-    requires object { says_stream flags ≡ false }
+    requires { index < 4294967295 }
     ensures profile { hold.new.p ≡ hold.old.p }
     ensures state { IfOk result (λ _. (s : Holding) → HoldStands hold.old s → HoldStands hold.new (object_told hold.old.p index fti.now flags brought.now s)) }
     ensures refused { OnErr result ((s : Holding) → HoldStands hold.old s → HoldStands hold.new s) }
 {
     let word = hold.fti(index, fti, flags)?;
-    hold.see(place_of(index, brought).point());
     if !lets_put(word) {
+        see_brought(hold, index, brought);
         return Ok(());
     }
     let Err(fault) = keep(hold, index, brought) else {
@@ -160,17 +179,6 @@ fn keep_told(
         hold.untake(index);
     }
     Err(fault)
-}
-
-/// An INFO or DATA without transmission information.
-fn keep_untold(hold: &mut Hold, index: u32, brought: &Brought<'_>) -> Result<(), Memory>
-    ensures profile { hold.new.p ≡ hold.old.p }
-    ensures state { IfOk result (λ _. (s : Holding) → HoldStands hold.old s
-        → HoldStands hold.new (handed_up hold.old.p (puts hold.old.p index brought.now (sees_block (point_of (place_of index brought.now)) s)))) }
-    ensures refused { OnErr result (hold.new ≡ hold.old) }
-{
-    hold.see(place_of(index, brought).point());
-    keep(hold, index, brought)
 }
 
 /// An INFO or DATA of an object.
@@ -183,7 +191,6 @@ fn keep_object(
 ) -> Result<(), Memory>
     requires whole { IsChecked exts.now }
     requires last { index < 4294967295 }
-    requires object { says_stream flags ≡ false }
     ensures profile { hold.new.p ≡ hold.old.p }
     ensures state { IfOk result (λ _. (s : Holding) → HoldStands hold.old s
         → HoldStands hold.new (object_held hold.old.p (place_of index brought.now) (extensions_of exts.now) flags (puts hold.old.p index brought.now) s)) }
@@ -191,7 +198,7 @@ fn keep_object(
 {
     match fti_among(exts) {
         Some(fti) => keep_told(hold, index, &fti, flags, brought),
-        None => keep_untold(hold, index, brought),
+        None => keep(hold, index, brought),
     }
 }
 
@@ -204,13 +211,14 @@ impl Parts {
         if !names(nodes, self.numbers.node) {
             return false;
         }
-        if !at.is_before(&self.hold.hand_up()) {
+        if !self.hold.hand_up().is_behind(&at) {
             return false;
         }
         !self.hold.has_lost()
     }
 
     /// An INFO or DATA of the object with this index, which is known then.
+    #[tactic(auto, using(crate::proofs::BlockLemmas::held_blocks))]
     fn receive_object(
         &mut self,
         index: u32,
@@ -220,7 +228,6 @@ impl Parts {
     ) -> Result<(), Memory>
         requires whole { IsChecked exts.now }
         requires last { index < 4294967295 }
-        requires object { says_stream flags ≡ false }
         ensures profile { self.new.profile ≡ self.old.profile }
         ensures state { IfOk result (λ _. (s : ReceiverState) → Stands (kept_of self.old) s
             → Stands (kept_of self.new) (object_received self.old.profile (place_of index brought.now) (extensions_of exts.now) flags (puts self.old.profile index brought.now) (record s { knows = learns index s.knows }))) }

@@ -2,15 +2,16 @@
 
 ghost use Rattle.std.specs.Prelude.{◌≡◌, ◌+◌, ◌≤◌, ◌<◌, ◌++◌, ℕ, List, [], ◌∷◌, false, length, map};
 ghost use Rattle.std.specs.Bool.{MatchBool};
-ghost use Rattle.fec_plan.specs.Points.{position};
+ghost use Rattle.fec_plan.specs.Points.{IsBlock, position};
 ghost use Rattle.norm_ext.specs.Asked.{asked_octets};
 ghost use Rattle.norm_receive_rules.specs.Needs.{Need as Meaning};
 ghost use Rattle.norm_receive_rules.specs.Nack.{asked_of};
 ghost use Rattle.norm_receiver.specs.Requesting.{need_of, IsNeed, HasAsked};
 
+use crate::searching::LAST_BLOCK;
 use fec_plan::Position;
 use norm_base::{Datagram, Profile};
-use norm_ext::flags::{WANT_INFO, WANT_OBJECT, WANT_SEGMENT};
+use norm_ext::flags::{WANT_BLOCK, WANT_INFO, WANT_OBJECT, WANT_SEGMENT};
 use norm_ext::items::item_of;
 use norm_ext::{Form, RequestWriter};
 
@@ -23,6 +24,10 @@ pub enum Need {
     ObjectInfo { index: u32 },
     /// So many symbols of a block.
     Symbols { index: u32, block: u32, wanted: u8 },
+    /// A source symbol of a stream.
+    Source { at: Position },
+    /// All of a stream from a block on.
+    Rest { index: u32, block: u32 },
 }
 
 /// The place of an object's first symbol, by which the object is named.
@@ -32,6 +37,18 @@ fn first_of(index: u32) -> Position
     Position {
         index,
         block: 0,
+        symbol: 0,
+    }
+}
+
+/// The place of a block's first symbol, by which an end of a range of blocks is named.
+fn first_in(index: u32, block: u32) -> Position
+    requires { IsBlock block }
+    ensures { result ≡ position index block 0 }
+{
+    Position {
+        index,
+        block,
         symbol: 0,
     }
 }
@@ -82,6 +99,15 @@ pub(crate) fn ask(
                 item_of(profile, at),
                 None,
             )
+        }
+        Need::Source { at } => {
+            let item = item_of(profile, at);
+            writer.push_item(out, Form::Items, WANT_SEGMENT, item, None)
+        }
+        Need::Rest { index, block } => {
+            let first = item_of(profile, first_in(index, block));
+            let last = item_of(profile, first_in(index, LAST_BLOCK));
+            writer.push_item(out, Form::Ranges, WANT_BLOCK, first, Some(last))
         }
     }
 }

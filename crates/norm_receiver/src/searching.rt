@@ -12,7 +12,7 @@ use crate::heard::{Count, Heard, Span};
 use fec_plan::{Point, Position};
 
 /// The last block that a message names.
-const LAST_BLOCK: u32 = 16_777_215;
+pub(crate) const LAST_BLOCK: u32 = 16_777_215;
 
 /// A block of an object of which nothing is known may have so many symbols.
 const WIDEST: u16 = 256;
@@ -128,6 +128,13 @@ impl Heard {
         self.infos.has(at)
     }
 
+    /// Whether a source symbol was asked for.
+    pub fn has_symbol(&self, at: Position) -> bool
+        ensures { result ≡ is_asked self.now.symbols at }
+    {
+        self.symbols.has(at)
+    }
+
     /// Whether all source symbols from a block of an object to another were asked for, where the blocks have so many.
     fn has_blocks(&self, width: u16, index: u32, first: u32, last: u32) -> bool
         requires few { width ≤ 256 }
@@ -162,5 +169,13 @@ impl Heard {
     {
         self.counts.ask_as_many(at, wanted)
             || self.has_blocks(u16::from(width), at.index, at.block, at.block)
+    }
+
+    /// Whether all of a stream from a block on was asked for, where its blocks have so many source symbols.
+    pub fn has_rest(&self, width: u8, index: u32, block: u32) -> bool
+        requires { IsBlock block }
+        ensures { result ≡ blocks_heard self.now width index block last_block }
+    {
+        self.has_blocks(u16::from(width), index, block, LAST_BLOCK)
     }
 }

@@ -12,7 +12,7 @@ use crate::numbers::Numbers;
 use crate::parts::Parts;
 use norm_base::{InstanceId, Memory, NodeId, Profile};
 use norm_order::Up;
-use rx_hold::Hold;
+use rx_entries::Hold;
 use std::alloc::Global;
 
 impl Parts {
@@ -31,6 +31,7 @@ impl Parts {
     }
 
     /// Takes the next hand-up. `None` exactly where all that was handed up was taken. It takes no memory.
+    #[tactic(auto, using(crate::proofs::BlockLemmas::taken_blocks))]
     pub(crate) fn take_up(&mut self) -> Option<Up>
         ensures profile { self.new.profile ≡ self.old.profile }
         ensures none { IfNone result ((self.old.hold.ups ≡ []) × (kept_of self.new ≡ kept_of self.old)) }

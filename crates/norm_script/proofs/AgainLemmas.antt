@@ -17,7 +17,6 @@ use Rattle.norm_script.specs.Reading.{next_line, take_lines, script_of}
 use Rattle.norm_script.specs.Scripts.{IsLine, AreNumbered, IsScript}
 use Rattle.norm_script.specs.Text.{text_lines}
 use Rattle.norm_script.specs.Written.{setting_line, command_line, ended, written, mode_value, fabric_value, value_of_key, script_octets}
-use Rattle.norm_script.specs.declared.refusal.Extent.TheVariants.{Whole}
 use Rattle.norm_script.specs.declared.script.Line.{Line}
 use Rattle.norm_script.specs.declared.setting.Setting.{Setting}
 use Rattle.norm_script.proofs.SpellLemmas.{is_plain, setting-means, setting-plain, command-means, command-plain}
@@ -110,7 +109,7 @@ same_line before l e = ap (λ n. record l { number = n }) (sym e)
 
 commands-read : (profile : Settings) (before : List Line) (n : ℕ) (lines : List Line) → profile.producers ≤ 4 → length before + length lines ≤ 4096
     → n + length lines ≤ 8193 → AllByRecursion (IsLine profile.producers) lines → AreNumbered before lines
-    → take_lines Whole profile before n (command_lines lines) ≡ Ok (before ++ lines)
+    → take_lines profile before n (command_lines lines) ≡ Ok (before ++ lines)
 commands-read profile before n [] few room rows each numbers = rw (append-nil before) refl
 commands-read profile before n (l ∷ lines) few room rows each numbers =
     let all : (before ++ l ∷ []) ++ lines ≡ before ++ l ∷ lines = append_assoc before (l ∷ []) lines in
@@ -128,7 +127,7 @@ commands-read profile before n (l ∷ lines) few room rows each numbers =
 
 pub written-read : (settings : List (Key × ℕ)) (profile : Settings) (lines : List Line) → AreFresh [] 1 settings → length settings ≤ 26
     → profile_given (given_by (numbered 1 settings)) ≡ Some profile → IsScript (record { profile = profile; lines = lines })
-    → script_of Whole (written settings lines) ≡ Ok (record { profile = profile; lines = lines })
+    → script_of (written settings lines) ≡ Ok (record { profile = profile; lines = lines })
 written-read settings profile lines fresh few given script =
     let producers : profile.producers ≤ 4 = script.range.producers.1 in
     let plain = all_append (λ line. is_plain line ≡ true) (setting_lines settings) (command_lines lines) (settings-plain [] 1 settings fresh)
@@ -219,7 +218,7 @@ all-fresh s r =
     let v = value-in_range s r in
     (v key.Instance, refl, (v key.First, refl, (v key.Sender, refl, (v key.Receivers, refl, (v key.Producers, refl, (v key.E, refl, (v key.B, refl, (v key.MaxN, refl, (v key.Auto, refl, (v key.Window, refl, (v key.Octets, refl, (v key.Blocks, refl, (v key.Mode, refl, (v key.Gap, refl, (v key.Grtt, refl, (v key.GrttCode, refl, (v key.GsizeCode, refl, (v key.K, refl, (v key.Step, refl, (v key.Turns, refl, (v key.Fabric, refl, (v key.Chance, refl, (v key.Loss, refl, (v key.Repeat, refl, (v key.Late, refl, (v key.Port, refl, tt))))))))))))))))))))))))))
 
-pub script-again : (c : Commands) → IsScript c → script_of Whole (script_octets c) ≡ Ok c
+pub script-again : (c : Commands) → IsScript c → script_of (script_octets c) ≡ Ok c
 script-again c is = written-read (all_settings c.profile) c.profile c.lines (all-fresh c.profile is.range) (omega arith) (all-given c.profile is.range) is
 
 pub ruleset again_laws = (script-again)

@@ -10,7 +10,6 @@ use Rattle.norm_script.specs.Reading.{script_of}
 use Rattle.norm_script.specs.Scripts.{IsContents, IsVerb, IsLine, AreNumbered, IsScript}
 use Rattle.norm_base.specs.declared.key.Key.{Key}
 use Rattle.norm_script.specs.Written.{setting_line, command_line, ended}
-use Rattle.norm_script.specs.declared.refusal.Extent.TheVariants.{Whole}
 use Rattle.norm_script.specs.declared.script.Line.{Line}
 use Rattle.norm_script.proofs.AgainLemmas.{AreFresh, numbered, written-read}
 use Rattle.norm_script.proofs.TakingLemmas.{given-range}
@@ -132,7 +131,7 @@ script-generated n h = record {
   numbered = numbered-generated n;
 }
 
-pub generated-read : (n : ℕ) → n ≤ 4294967295 → script_of Whole (generate_text n) ≡ Ok (generated_script n)
+pub generated-read : (n : ℕ) → n ≤ 4294967295 → script_of (generate_text n) ≡ Ok (generated_script n)
 unfolding generate_text
 generated-read n h =
     written-read (generated_settings n) (generated_profile n) (generated_lines n) (fresh-generated n h) (lit≤ tt) (given-generated n h) (script-generated n h)

@@ -6,23 +6,19 @@ use Rattle.norm_base.proofs.RangeLemmas.{range_of}
 use Rattle.norm_base.specs.Given.{value_in, are_in_range, are_values, meets_rules, profile_given}
 use Rattle.norm_base.specs.Keys.{keys}
 use Rattle.norm_base.specs.Settings.{Settings, InRange, settings_with}
-use Rattle.norm_script.specs.Built.{is_built_verb, unbuilt_command, counts}
 use Rattle.norm_script.specs.Head.{head_from, nothing_set, profile_of, settled, given_by, rule_refusal}
 use Rattle.norm_script.specs.Meaning.{meaning_of}
 use Rattle.norm_script.specs.Reading.{next_line, command_refused, take_in, take_line, take_lines, or_refuses, commands_with, commands_from, script_of}
-use Rattle.norm_script.specs.Scripts.{IsMeaning, IsLine, AreNumbered, IsBuiltLine, IsOf}
+use Rattle.norm_script.specs.Scripts.{IsMeaning, IsLine, AreNumbered, IsScript}
 use Rattle.norm_script.specs.Steps.{◌>>=◌, unless}
 use Rattle.norm_script.specs.Text.{text_lines}
 use Rattle.norm_script.specs.declared.meaning.Meaning.{Meaning}
 use Rattle.norm_script.specs.declared.meaning.Meaning.TheVariants.{Nothing, Set, Command}
-use Rattle.norm_script.specs.declared.refusal.Extent.{Extent}
-use Rattle.norm_script.specs.declared.refusal.Extent.TheVariants.{Whole, Built}
 use Rattle.norm_script.specs.declared.refusal.Refusal.{Refusal}
 use Rattle.norm_script.specs.declared.refusal.Why.{Why}
 use Rattle.norm_script.specs.declared.refusal.Why.TheVariants as why
 use Rattle.norm_script.specs.declared.script.Line.{Line}
 use Rattle.norm_script.specs.declared.script.Verb.{Verb}
-use Rattle.norm_script.specs.declared.script.Verb.TheVariants as verb
 use Rattle.norm_script.proofs.ChainLemmas.{IfOk-bind}
 use Rattle.norm_script.proofs.SoundLemmas.{meaning-ok}
 
@@ -37,78 +33,55 @@ numbered-on : (before xs : List Line) (y : Line) → AreNumbered before xs → y
 numbered-on before [] y h e = (rw (append-nil before) at e, tt)
 numbered-on before (x ∷ xs) y h e = (h.0, numbered-on (before ++ x ∷ []) xs y h.1 (rw (sym (append_assoc before (x ∷ []) xs)) at e))
 
--- of what a session can run today
-abbrev AreOf : Extent → Settings → List Line → Type 0
-AreOf Whole profile lines = Unit {0}
-AreOf Built profile lines = AllByRecursion IsBuiltLine lines
-
-record Taken (extent : Extent) (profile : Settings) (lines : List Line) : Type 0 where
+-- the lines taken in so far
+record Taken (profile : Settings) (lines : List Line) : Type 0 where
   few : length lines ≤ 4096
   each : AllByRecursion (IsLine profile.producers) lines
   numbered : AreNumbered [] lines
-  of : AreOf extent profile lines
 
 -- a command that is not refused
-record Allowed (extent : Extent) (profile : Settings) (n producer : ℕ) (verb : Verb) : Type 0 where
+record Allowed (profile : Settings) (n producer : ℕ) : Type 0 where
   room : n < 4096
   known : producer ≤ profile.producers
-  built : counts extent (unbuilt_command verb) ≡ None
 
-allowed : (extent : Extent) (profile : Settings) (n producer : ℕ) (verb : Verb) → command_refused extent profile n producer verb ≡ None
-    → Allowed extent profile n producer verb
-allowed extent profile n producer verb is =
-    elim (nat_le 4096 n) as (λ a. nat_le 4096 n ≡ a → cond a (Some why.ManyCommands) (cond (nat_lt profile.producers producer) (Some (why.Producer producer profile.producers)) (counts extent (unbuilt_command verb))) ≡ None → Allowed extent profile n producer verb) [
+allowed : (profile : Settings) (n producer : ℕ) → command_refused profile n producer ≡ None → Allowed profile n producer
+allowed profile n producer is =
+    elim (nat_le 4096 n) as (λ a. nat_le 4096 n ≡ a → cond a (Some why.ManyCommands) (cond (nat_lt profile.producers producer) (Some (why.Producer producer profile.producers)) None) ≡ None → Allowed profile n producer) [
       | true ↦ λ e f. absurd (cc)
       | false ↦ λ e f.
-          elim (nat_lt profile.producers producer) as (λ b. nat_lt profile.producers producer ≡ b → cond b (Some (why.Producer producer profile.producers)) (counts extent (unbuilt_command verb)) ≡ None → Allowed extent profile n producer verb) [
+          elim (nat_lt profile.producers producer) as (λ b. nat_lt profile.producers producer ≡ b → cond b (Some (why.Producer producer profile.producers)) None ≡ None → Allowed profile n producer) [
             | true ↦ λ g h. absurd (cc)
-            | false ↦ λ g h. record { room = grind arith; known = grind arith; built = h }
+            | false ↦ λ g h. record { room = grind arith; known = grind arith }
           ] refl f
     ] refl is
-
-built : (v : Verb) → unbuilt_command v ≡ None → is_built_verb v ≡ true
-built (verb.Data info bytes) e = refl
-built (verb.File name) e = refl
-built verb.Open e = absurd (cc)
-built (verb.Write bytes) e = absurd (cc)
-built verb.Close e = absurd (cc)
-built (verb.Mark quorum) e = refl
-built (verb.Restart instance) e = refl
-built (verb.Strike node) e = refl
-
-of-on : (extent : Extent) (profile : Settings) (before : List Line) (producer : ℕ) (v : Verb) → AreOf extent profile before
-    → counts extent (unbuilt_command v) ≡ None → AreOf extent profile (before ++ next_line before producer v ∷ [])
-of-on Whole profile before producer v h e = tt
-of-on Built profile before producer v h e = each-on IsBuiltLine before (next_line before producer v) h (built v e)
 
 IfOk-unless : {X E : Type 0} (P : X → Type 0) (o : Option E) (x : X) → (o ≡ None → P x) → IfOk (unless o x) P
 IfOk-unless P None x h = h refl
 IfOk-unless P (Some e) x h = tt
 
-taken-in : (extent : Extent) (profile : Settings) (before : List Line) (m : Meaning) → IsMeaning m → Taken extent profile before
-    → IfOk (take_in extent profile before m) (Taken extent profile)
-taken-in extent profile before Nothing is t = t
-taken-in extent profile before (Set key value) is t = tt
-taken-in extent profile before (Command producer v) is t =
+taken-in : (profile : Settings) (before : List Line) (m : Meaning) → IsMeaning m → Taken profile before
+    → IfOk (take_in profile before m) (Taken profile)
+taken-in profile before Nothing is t = t
+taken-in profile before (Set key value) is t = tt
+taken-in profile before (Command producer v) is t =
     let line = next_line before producer v in
-    IfOk-unless (Taken extent profile) (command_refused extent profile (length before) producer v) (before ++ line ∷ [])
+    IfOk-unless (Taken profile) (command_refused profile (length before) producer) (before ++ line ∷ [])
     (λ e.
-    let a = allowed extent profile (length before) producer v e in
+    let a = allowed profile (length before) producer e in
     record {
       few = omega (arith, length-append before (line ∷ []), a.room);
       each = each-on (IsLine profile.producers) before line t.each (record { first = is.0; last = a.known; verb = is.1 });
       numbered = numbered-on [] before line t.numbered refl;
-      of = of-on extent profile before producer v t.of a.built;
     })
 
-line-taken : (extent : Extent) (profile : Settings) (before : List Line) (n : ℕ) (line : List ℕ) → Taken extent profile before
-    → IfOk (take_line extent profile before n line) (Taken extent profile)
-line-taken extent profile before n line t =
-    elim (nat_lt 8192 n) as (λ b. IfOk (cond b (Err why.ManyLines) (meaning_of line >>= λ meaning. take_in extent profile before meaning)) (Taken extent profile)) [
+line-taken : (profile : Settings) (before : List Line) (n : ℕ) (line : List ℕ) → Taken profile before
+    → IfOk (take_line profile before n line) (Taken profile)
+line-taken profile before n line t =
+    elim (nat_lt 8192 n) as (λ b. IfOk (cond b (Err why.ManyLines) (meaning_of line >>= λ meaning. take_in profile before meaning)) (Taken profile)) [
       | true ↦ tt
       | false ↦
-          IfOk-bind IsMeaning (Taken extent profile) (meaning_of line) (take_in extent profile before) (meaning-ok line)
-          (λ m is. taken-in extent profile before m is t)
+          IfOk-bind IsMeaning (Taken profile) (meaning_of line) (take_in profile before) (meaning-ok line)
+          (λ m is. taken-in profile before m is t)
     ]
 
 IfOk-or_refuses : (P : List Line → Type 0) (n : ℕ) (r : Result (List Line) Why) (go_on : List Line → Result (List Line) Refusal) → IfOk r P
@@ -116,33 +89,30 @@ IfOk-or_refuses : (P : List Line → Type 0) (n : ℕ) (r : Result (List Line) W
 IfOk-or_refuses P n (Ok lines) go_on h k = k lines h
 IfOk-or_refuses P n (Err reason) go_on h k = tt
 
-lines-taken : (extent : Extent) (profile : Settings) (before : List Line) (n : ℕ) (lines : List (List ℕ)) → Taken extent profile before
-    → IfOk (take_lines extent profile before n lines) (Taken extent profile)
-lines-taken extent profile before n [] t = t
-lines-taken extent profile before n (line ∷ lines) t =
-    IfOk-or_refuses (Taken extent profile) n (take_line extent profile before n line) (λ after. take_lines extent profile after (n + 1) lines)
-    (line-taken extent profile before n line t) (λ after u. lines-taken extent profile after (n + 1) lines u)
+lines-taken : (profile : Settings) (before : List Line) (n : ℕ) (lines : List (List ℕ)) → Taken profile before
+    → IfOk (take_lines profile before n lines) (Taken profile)
+lines-taken profile before n [] t = t
+lines-taken profile before n (line ∷ lines) t =
+    IfOk-or_refuses (Taken profile) n (take_line profile before n line) (λ after. take_lines profile after (n + 1) lines)
+    (line-taken profile before n line t) (λ after u. lines-taken profile after (n + 1) lines u)
 
-nothing-taken : (extent : Extent) (profile : Settings) → Taken extent profile []
-nothing-taken Whole profile = record { few = omega arith; each = tt; numbered = tt; of = tt }
-nothing-taken Built profile = record { few = omega arith; each = tt; numbered = tt; of = tt }
+nothing-taken : (profile : Settings) → Taken profile []
+nothing-taken profile = record { few = omega arith; each = tt; numbered = tt }
 
-script-of-taken : (extent : Extent) (profile : Settings) (lines : List Line) → InRange profile → Taken extent profile lines
-    → IsOf extent (record { profile = profile; lines = lines })
-script-of-taken Whole profile lines range t = record { range = range; few = t.few; each = t.each; numbered = t.numbered }
-script-of-taken Built profile lines range t =
-    (record { range = range; few = t.few; each = t.each; numbered = t.numbered }, t.of)
+script-of-taken : (profile : Settings) (lines : List Line) → InRange profile → Taken profile lines
+    → IsScript (record { profile = profile; lines = lines })
+script-of-taken profile lines range t = record { range = range; few = t.few; each = t.each; numbered = t.numbered }
 
-commands-are : (extent : Extent) (profile : Settings) → InRange profile → (r : Result (List Line) Refusal) → IfOk r (Taken extent profile)
-    → IfOk (commands_with profile r) (IsOf extent)
-commands-are extent profile range (Ok lines) t = script-of-taken extent profile lines range t
-commands-are extent profile range (Err refusal) t = tt
+commands-are : (profile : Settings) → InRange profile → (r : Result (List Line) Refusal) → IfOk r (Taken profile)
+    → IfOk (commands_with profile r) (IsScript)
+commands-are profile range (Ok lines) t = script-of-taken profile lines range t
+commands-are profile range (Err refusal) t = tt
 
 -- the commands under a profile in its ranges make a script
-pub commands-sound : (extent : Extent) (profile : Settings) (n : ℕ) (lines : List (List ℕ)) → InRange profile
-    → IfOk (commands_from extent profile n lines) (IsOf extent)
-commands-sound extent profile n lines range =
-    commands-are extent profile range (take_lines extent profile [] n lines) (lines-taken extent profile [] n lines (nothing-taken extent profile))
+pub commands-sound : (profile : Settings) (n : ℕ) (lines : List (List ℕ)) → InRange profile
+    → IfOk (commands_from profile n lines) (IsScript)
+commands-sound profile n lines range =
+    commands-are profile range (take_lines profile [] n lines) (lines-taken profile [] n lines (nothing-taken profile))
 
 both : (a b : Bool) → (a && b) ≡ true → (a ≡ true) × (b ≡ true)
 both true b h = (refl, cc)
@@ -163,11 +133,11 @@ settled-range (Some refused) (Some profile) rule h = tt
 settled-range (Some refused) None rule h = tt
 
 -- what is read is a script
-pub script-sound : (extent : Extent) (text : List ℕ) → IfOk (script_of extent text) (IsOf extent)
-script-sound extent text =
+pub script-sound : (text : List ℕ) → IfOk (script_of text) (IsScript)
+script-sound text =
     let begun = head_from nothing_set 1 (text_lines text) in
-    IfOk-bind InRange (IsOf extent) (profile_of begun.head) (λ profile. commands_from extent profile begun.next begun.rest)
+    IfOk-bind InRange (IsScript) (profile_of begun.head) (λ profile. commands_from profile begun.next begun.rest)
     (settled-range begun.head.refused (profile_given (given_by begun.head.settings)) (rule_refusal begun.head.settings) (given-range (given_by begun.head.settings)))
-    (λ profile range. commands-sound extent profile begun.next begun.rest range)
+    (λ profile range. commands-sound profile begun.next begun.rest range)
 
 pub ruleset script_laws = (script-sound)

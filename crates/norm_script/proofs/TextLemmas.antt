@@ -17,7 +17,6 @@ use Rattle.norm_script.specs.Text.{text_lines}
 use Rattle.norm_script.specs.Written.{setting_line, command_line}
 use Rattle.norm_script.specs.declared.meaning.Meaning.{Meaning}
 use Rattle.norm_script.specs.declared.meaning.Meaning.TheVariants.{Nothing, Set, Command}
-use Rattle.norm_script.specs.declared.refusal.Extent.TheVariants.{Whole}
 use Rattle.norm_script.specs.declared.refusal.Refusal.{Refusal}
 use Rattle.norm_script.specs.declared.refusal.Why.{Why}
 use Rattle.norm_script.specs.declared.refusal.Why.TheVariants as why
@@ -185,27 +184,27 @@ abbrev TakenLine : List Line → List ℕ → List Line → Type 0
 TakenLine before line after = (new : List Line) × (after ≡ before ++ new)
     × ((rest : List (List ℕ)) → plain_lines (line ∷ rest) ≡ map command_of_line new ++ plain_lines rest)
 
-line_taken : (profile : Settings) (before : List Line) (n : ℕ) (line : List ℕ) → IfOk (take_line Whole profile before n line) (TakenLine before line)
+line_taken : (profile : Settings) (before : List Line) (n : ℕ) (line : List ℕ) → IfOk (take_line profile before n line) (TakenLine before line)
 line_taken profile before n line = within (nat_lt 8192 n)
   where
     command : (p : ℕ) (v : Verb) → Says line (Command p v) → (o : Option Why) → IfOk (unless o (before ++ next_line before p v ∷ [])) (TakenLine before line)
     command p v says None = (next_line before p v ∷ [], refl, λ rest. counted line rest says.0 ∙ ap (λ l. l ∷ plain_lines rest) says.1)
     command p v says (Some reason) = tt
 
-    by : (r : Result Meaning Why) → IfOk r (Says line) → IfOk (r >>= λ meaning. take_in Whole profile before meaning) (TakenLine before line)
+    by : (r : Result Meaning Why) → IfOk r (Says line) → IfOk (r >>= λ meaning. take_in profile before meaning) (TakenLine before line)
     by (Ok Nothing) says = ([], sym (append-nil before), λ rest. passed_over line rest says)
     by (Ok (Set k v)) says = tt
-    by (Ok (Command p v)) says = command p v says (command_refused Whole profile (length before) p v)
+    by (Ok (Command p v)) says = command p v says (command_refused profile (length before) p)
     by (Err reason) says = tt
 
-    within : (b : Bool) → IfOk (cond b (Err why.ManyLines) (meaning_of line >>= λ meaning. take_in Whole profile before meaning)) (TakenLine before line)
+    within : (b : Bool) → IfOk (cond b (Err why.ManyLines) (meaning_of line >>= λ meaning. take_in profile before meaning)) (TakenLine before line)
     within true = tt
     within false = by (meaning_of line) (line_says line)
 
-lines_taken : (profile : Settings) (before : List Line) (n : ℕ) (lines : List (List ℕ)) → IfOk (take_lines Whole profile before n lines) (Taken before lines)
+lines_taken : (profile : Settings) (before : List Line) (n : ℕ) (lines : List (List ℕ)) → IfOk (take_lines profile before n lines) (Taken before lines)
 lines_taken profile before n [] = ([], sym (append-nil before), refl)
 lines_taken profile before n (line ∷ lines) =
-    go (take_line Whole profile before n line) (line_taken profile before n line) (λ after. lines_taken profile after (n + 1) lines)
+    go (take_line profile before n line) (line_taken profile before n line) (λ after. lines_taken profile after (n + 1) lines)
   where
     rest_of : (after : List Line) → TakenLine before line after → (r : Result (List Line) Refusal) → IfOk r (Taken after lines) → IfOk r (Taken before (line ∷ lines))
     rest_of after first (Err refusal) rest = tt
@@ -216,10 +215,10 @@ lines_taken profile before n (line ∷ lines) =
     )
 
     go : (r : Result (List Line) Why) → IfOk r (TakenLine before line)
-        → ((after : List Line) → IfOk (take_lines Whole profile after (n + 1) lines) (Taken after lines))
-        → IfOk (or_refuses n r (λ after. take_lines Whole profile after (n + 1) lines)) (Taken before (line ∷ lines))
+        → ((after : List Line) → IfOk (take_lines profile after (n + 1) lines) (Taken after lines))
+        → IfOk (or_refuses n r (λ after. take_lines profile after (n + 1) lines)) (Taken before (line ∷ lines))
     go (Err reason) first later = tt
-    go (Ok after) first later = rest_of after first (take_lines Whole profile after (n + 1) lines) (later after)
+    go (Ok after) first later = rest_of after first (take_lines profile after (n + 1) lines) (later after)
 
 -- The whole text.
 
@@ -261,12 +260,12 @@ nothing_once : IsOnce []
 unfolding IsDistinct
 nothing_once = tt
 
-pub text_of : (text : List ℕ) (script : Commands) → script_of Whole text ≡ Ok script → Text text script
+pub text_of : (text : List ℕ) (script : Commands) → script_of text ≡ Ok script → Text text script
 text_of text script e =
     let begun = head_from nothing_set 1 (text_lines text) in
-    let first = bound (profile_of begun.head) (λ profile. commands_with profile (take_lines Whole profile [] begun.next begun.rest)) script e in
+    let first = bound (profile_of begun.head) (λ profile. commands_with profile (take_lines profile [] begun.next begun.rest)) script e in
     let settled_is = was_settled begun.head.refused (profile_given (given_by begun.head.settings)) (rule_refusal begun.head.settings) first.0 first.1 in
-    let second = with_commands first.0 (take_lines Whole first.0 [] begun.next begun.rest) script first.2 in
+    let second = with_commands first.0 (take_lines first.0 [] begun.next begun.rest) script first.2 in
     let taken = subst (λ (r : Result (List Line) Refusal). IfOk r (Taken [] begun.rest)) second.0 (lines_taken first.0 [] begun.next begun.rest) in
     let head = head_says nothing_set 1 (text_lines text) settled_is.0 in
     record {

@@ -15,7 +15,6 @@ use Rattle.norm_script.specs.Head.{given_by}
 use Rattle.norm_script.specs.OneScript.{same_key, value_set, value_where, Makes, IsTextOf, AreAlike, OneScriptLaws}
 use Rattle.norm_script.specs.Reading.{script_of}
 use Rattle.norm_script.specs.Written.{setting_line, ended, mode_value, fabric_value, value_of_key}
-use Rattle.norm_script.specs.declared.refusal.Extent.TheVariants.{Whole}
 use Rattle.norm_script.specs.declared.setting.Setting.{Setting}
 use Rattle.norm_script.proofs.TextLemmas.{line_of, same_set, IsOnce, command_of_line, text_of}
 use Rattle.norm_script.proofs.WordLemmas.{both}
@@ -178,14 +177,14 @@ lines_again : (settings : List Setting) → map line_of settings ≡ map (λ (s 
 lines_again [] = refl
 lines_again (s ∷ settings) = ap (λ lines. setting_line s.key s.value ∷ lines) (lines_again settings)
 
-of_one : (text : List ℕ) (script : Commands) → script_of Whole text ≡ Ok script → IsTextOf script text
+of_one : (text : List ℕ) (script : Commands) → script_of text ≡ Ok script → IsTextOf script text
 of_one text script e = let is = text_of text script e in (
   pairs is.settings,
   ap ended (is.lines ∙ ap (λ lines. lines ++ map command_of_line script.lines) (lines_again is.settings)),
   makes is.settings script.profile is.once is.given,
 )
 
-of_two : (one other : List ℕ) (script : Commands) → script_of Whole one ≡ Ok script → script_of Whole other ≡ Ok script → AreAlike one other
+of_two : (one other : List ℕ) (script : Commands) → script_of one ≡ Ok script → script_of other ≡ Ok script → AreAlike one other
 of_two one other script e f = let a = of_one one script e in let b = of_one other script f in record {
   lines = script.lines;
   settings = a.0;

@@ -4,7 +4,6 @@ pub mod Sentences
 pub mod Words
 pub mod Steps
 pub mod Meaning
-pub mod Built
 pub mod Head
 pub mod Commands
 pub mod Scripts

@@ -10,7 +10,6 @@ use Rattle.norm_script.specs.Commands.{Commands}
 use Rattle.norm_script.specs.Plain.{plain}
 use Rattle.norm_script.specs.Reading.{script_of}
 use Rattle.norm_script.specs.Written.{written, value_of_key}
-use Rattle.norm_script.specs.declared.refusal.Extent.TheVariants.{Whole}
 use Rattle.norm_script.specs.declared.script.Line.{Line}
 
 -- two settings of one key
@@ -50,5 +49,5 @@ pub record AreAlike (one other : List ℕ) : Type 0 where
 
 -- what a text of a script is, and what two texts of one script have in common
 pub record OneScriptLaws : Type 0 where
-  pub of_one : (text : List ℕ) (script : Commands) → script_of Whole text ≡ Ok script → IsTextOf script text
-  pub of_two : (one other : List ℕ) (script : Commands) → script_of Whole one ≡ Ok script → script_of Whole other ≡ Ok script → AreAlike one other
+  pub of_one : (text : List ℕ) (script : Commands) → script_of text ≡ Ok script → IsTextOf script text
+  pub of_two : (one other : List ℕ) (script : Commands) → script_of one ≡ Ok script → script_of other ≡ Ok script → AreAlike one other

@@ -2,13 +2,10 @@ use Rattle.std.specs.Prelude.{◌≡◌, ℕ, ◌+◌, ◌≤◌, ◌==◌, true
 use Rattle.std.specs.List.{AllByRecursion}
 use Rattle.norm_base.specs.Octets.{AreOctets}
 use Rattle.norm_base.specs.Settings.{InRange}
-use Rattle.norm_script.specs.Built.{is_built_verb}
 use Rattle.norm_script.specs.Commands.{Commands}
 use Rattle.norm_script.specs.Words.{is_name}
 use Rattle.norm_script.specs.declared.meaning.Meaning.{Meaning}
 use Rattle.norm_script.specs.declared.meaning.Meaning.TheVariants.{Command}
-use Rattle.norm_script.specs.declared.refusal.Extent.{Extent}
-use Rattle.norm_script.specs.declared.refusal.Extent.TheVariants.{Whole, Built}
 use Rattle.norm_script.specs.declared.script.Line.{Line}
 use Rattle.norm_script.specs.declared.script.Verb.{Verb}
 use Rattle.norm_script.specs.declared.script.Verb.TheVariants as verb
@@ -60,12 +57,3 @@ pub record IsScript (script : Commands) : Type 0 where
   pub few : length script.lines ≤ 4096
   pub each : AllByRecursion (IsLine script.profile.producers) script.lines
   pub numbered : AreNumbered [] script.lines
-
--- a command that a session can run today: it opens, writes and closes no stream
-abbrev pub IsBuiltLine : Line → Type 0
-IsBuiltLine line = is_built_verb line.verb ≡ true
-
--- what is read of this extent of the grammar
-abbrev pub IsOf : Extent → Commands → Type 0
-IsOf Whole script = IsScript script
-IsOf Built script = IsScript script × AllByRecursion IsBuiltLine script.lines

@@ -41,7 +41,6 @@ plain_sentence why.NoInstance = codes "an instance is a number from 0 to 65535"
 plain_sentence why.NoQuorum = codes "a quorum is a number from 1 to 16"
 plain_sentence why.NoNode = codes "a node is a number from 1 to 4294967294"
 plain_sentence why.ManyCommands = codes "a script has at most 4096 commands"
-plain_sentence why.VerbUnbuilt = codes "a session does not run open, write and close yet"
 plain_sentence _ = []
 
 abbrev pub sentence_of : Why → List ℕ

@@ -5,29 +5,25 @@ ghost use Rattle.norm_script.specs.Commands.{Commands};
 ghost use Rattle.norm_script.specs.Generated.{generate_text, generated_script};
 ghost use Rattle.norm_script.specs.OneScript.{OneScriptLaws};
 ghost use Rattle.norm_script.specs.Reading.{script_of};
-ghost use Rattle.norm_script.specs.Scripts.{IsScript, IsOf};
+ghost use Rattle.norm_script.specs.Scripts.{IsScript};
 ghost use Rattle.norm_script.specs.Written.{script_octets};
-ghost use Rattle.norm_script.specs.declared.refusal.Extent.{Extent};
 
-use crate::refusal::Extent;
-
-/// What is read is a script: a profile within its ranges, and commands that a session can be asked to do. Of what a
-/// session can run today, each command is one that it runs.
+/// What is read is a script: a profile within its ranges, and commands that a session can be asked to do.
 #[tactic(auto, using(crate::proofs::TakingLemmas::script_laws))]
 pub fn reads_scripts()
-    ensures { (extent : Extent) (text : List ℕ) → IfOk (script_of extent text) (IsOf extent) }
+    ensures { (text : List ℕ) → IfOk (script_of text) IsScript }
 {}
 
 /// A script that is written out reads back as itself.
 #[tactic(auto, using(crate::proofs::AgainLemmas::again_laws))]
 pub fn reads_back()
-    ensures { (script : Commands) → IsScript script → script_of Extent.Whole (script_octets script) ≡ Ok script }
+    ensures { (script : Commands) → IsScript script → script_of (script_octets script) ≡ Ok script }
 {}
 
 /// The generated script means what it was made of.
 #[tactic(auto, using(crate::proofs::GeneratedLemmas::generated_laws))]
 pub fn reads_generated()
-    ensures { (n : ℕ) → n ≤ 4294967295 → script_of Extent.Whole (generate_text n) ≡ Ok (generated_script n) }
+    ensures { (n : ℕ) → n ≤ 4294967295 → script_of (generate_text n) ≡ Ok (generated_script n) }
 {}
 
 /// The texts of one script differ in nothing but comments, empty lines, the case of hexadecimal digits, the order of

@@ -7,7 +7,6 @@
 //! text at a line feed or a space, and `spelling_of` says how an editor spelt a line, for whoever reads other lines.
 #![tactic(auto)]
 
-mod built;
 mod generator;
 mod head;
 mod laws;
@@ -25,7 +24,7 @@ pub use crate::generator::generate;
 pub use crate::laws::{reads_back, reads_generated, reads_scripts};
 pub use crate::meaning::Meaning;
 pub use crate::reader::{read, read_commands, read_script, why_refused};
-pub use crate::refusal::{Extent, Refusal, ScriptFault, Why};
+pub use crate::refusal::{Refusal, ScriptFault, Why};
 pub use crate::script::{Line, Script, Verb};
 pub use crate::setting::Setting;
 pub use crate::spelling::spelling_of;

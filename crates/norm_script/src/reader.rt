@@ -2,17 +2,15 @@
 
 ghost use Rattle.std.specs.Prelude.{◌≡◌, ◌+◌, ◌≤◌, ◌==◌, count_by, length, MatchResult, Ok, IfOk};
 ghost use Rattle.std.specs.Result.{result_err};
-ghost use Rattle.norm_script.specs.Built.{unbuilt_command, counts};
 ghost use Rattle.norm_script.specs.Reading.{next_line, command_refused, take_in, take_line, commands_from, script_of, commands_of};
 ghost use Rattle.norm_script.specs.Refused.{IsRefused};
 ghost use Rattle.norm_script.specs.Steps.{unless};
 ghost use Rattle.norm_script.specs.Text.{text_lines};
 
-use crate::built::unbuilt_command;
 use crate::head::{MOST_LINES, read_head};
 use crate::lines::first_line;
 use crate::meaning::{Meaning, meaning_of};
-use crate::refusal::{Extent, Refusal, ScriptFault, Why};
+use crate::refusal::{Refusal, ScriptFault, Why};
 use crate::script::{Line, Script, Verb};
 use norm_base::{Memory, Profile};
 use std::alloc::Global;
@@ -40,14 +38,8 @@ fn next_line(before: &[Line], producer: u32, verb: Verb) -> Line
 }
 
 /// Why a command behind so many is refused, where it is.
-fn command_refused(
-    extent: Extent,
-    profile: &Profile,
-    before: usize,
-    producer: u32,
-    verb: &Verb,
-) -> Option<Why>
-    ensures { result ≡ command_refused extent profile.now before producer verb.now }
+fn command_refused(profile: &Profile, before: usize, producer: u32) -> Option<Why>
+    ensures { result ≡ command_refused profile.now before producer }
 {
     if before >= MOST_COMMANDS {
         return Some(Why::ManyCommands);
@@ -59,23 +51,19 @@ fn command_refused(
             producers,
         });
     }
-    match extent {
-        Extent::Whole => None,
-        Extent::Built => unbuilt_command(verb),
-    }
+    None
 }
 
 /// Takes a command in. Answers why it is refused, where it is.
 fn add(
-    extent: Extent,
     profile: &Profile,
     lines: &mut Vec<Line>,
     producer: u32,
     verb: Verb,
 ) -> Result<Option<Why>, Memory>
-    ensures { IfOk result (λ why. take_in extent profile.now lines.old.items (Meaning.Command producer verb) ≡ unless why lines.new.items) }
+    ensures { IfOk result (λ why. take_in profile.now lines.old.items (Meaning.Command producer verb) ≡ unless why lines.new.items) }
 {
-    if let Some(why) = command_refused(extent, profile, lines.len(), producer, &verb) {
+    if let Some(why) = command_refused(profile, lines.len(), producer) {
         return Ok(Some(why));
     }
     let line = next_line(lines, producer, verb);
@@ -87,36 +75,34 @@ fn add(
 
 /// Takes in what a line means. Answers why it is refused, where it is.
 fn take_in(
-    extent: Extent,
     profile: &Profile,
     lines: &mut Vec<Line>,
     meaning: Meaning,
 ) -> Result<Option<Why>, Memory>
-    ensures { IfOk result (λ why. take_in extent profile.now lines.old.items meaning ≡ unless why lines.new.items) }
+    ensures { IfOk result (λ why. take_in profile.now lines.old.items meaning ≡ unless why lines.new.items) }
 {
     match meaning {
         Meaning::Nothing => Ok(None),
         Meaning::Set { .. } => Ok(Some(Why::AfterCommand)),
-        Meaning::Command { producer, verb } => add(extent, profile, lines, producer, verb),
+        Meaning::Command { producer, verb } => add(profile, lines, producer, verb),
     }
 }
 
 /// Takes in line `n`. Answers why it is refused, where it is.
 fn take_line(
     alloc: Global,
-    extent: Extent,
     profile: &Profile,
     lines: &mut Vec<Line>,
     n: u32,
     line: &[u8],
 ) -> Result<Option<Why>, Memory>
-    ensures { IfOk result (λ why. take_line extent profile.now lines.old.items n line.now ≡ unless why lines.new.items) }
+    ensures { IfOk result (λ why. take_line profile.now lines.old.items n line.now ≡ unless why lines.new.items) }
 {
     if n > MOST_LINES {
         return Ok(Some(Why::ManyLines));
     }
     match meaning_of(alloc, line)? {
-        Ok(meaning) => take_in(extent, profile, lines, meaning),
+        Ok(meaning) => take_in(profile, lines, meaning),
         Err(why) => Ok(Some(why)),
     }
 }
@@ -124,13 +110,12 @@ fn take_line(
 /// Reads commands, from line `n` on.
 fn read_from(
     alloc: Global,
-    extent: Extent,
     profile: Profile,
     n: u32,
     text: &[u8],
 ) -> Result<Result<Script, Refusal>, Memory>
     requires { n ≤ 8193 }
-    ensures { IfOk result (λ read. read ≡ commands_from extent profile n (text_lines text.now)) }
+    ensures { IfOk result (λ read. read ≡ commands_from profile n (text_lines text.now)) }
 {
     let mut lines = Vec::new(alloc);
     let mut rest = text;
@@ -138,7 +123,7 @@ fn read_from(
     // Proof: the label names the loop for its invariant.
     'lines: while !rest.is_empty() {
         let (line, more) = first_line(rest);
-        if let Some(why) = take_line(alloc, extent, &profile, &mut lines, n, line)? {
+        if let Some(why) = take_line(alloc, &profile, &mut lines, n, line)? {
             return Ok(Err(Refusal { line: n, why }));
         }
         rest = more;
@@ -147,23 +132,22 @@ fn read_from(
     Ok(Ok(Script { profile, lines }))
 }
 
-/// Reads a script, or as much of the grammar as a session can run today: its profile and its commands, or the first
-/// line without meaning and why it has none.
-pub fn read(alloc: Global, text: &[u8], extent: Extent) -> Result<Result<Script, Refusal>, Memory>
-    ensures { IfOk result (λ read. read ≡ script_of extent text.now) }
+/// Reads a script: its profile and its commands, or the first line without meaning and why it has none.
+pub fn read(alloc: Global, text: &[u8]) -> Result<Result<Script, Refusal>, Memory>
+    ensures { IfOk result (λ read. read ≡ script_of text.now) }
 {
     let begun = read_head(alloc, text)?;
     match begun.head.profile() {
-        Ok(profile) => read_from(alloc, extent, profile, begun.next, begun.rest),
+        Ok(profile) => read_from(alloc, profile, begun.next, begun.rest),
         Err(refusal) => Ok(Err(refusal)),
     }
 }
 
 /// Reads a script: its profile and its commands. A line without meaning refuses it, the first one counts.
 pub fn read_script(alloc: Global, text: &[u8]) -> Result<Script, ScriptFault>
-    ensures { MatchResult result (λ script. script_of Extent.Whole text.now ≡ Ok script) (IsRefused (script_of Extent.Whole text.now)) }
+    ensures { MatchResult result (λ script. script_of text.now ≡ Ok script) (IsRefused (script_of text.now)) }
 {
-    match read(alloc, text, Extent::Whole) {
+    match read(alloc, text) {
         Ok(Ok(script)) => Ok(script),
         Ok(Err(refusal)) => Err(ScriptFault::Line { n: refusal.line }),
         Err(Memory) => Err(ScriptFault::Memory),
@@ -174,7 +158,7 @@ pub fn read_script(alloc: Global, text: &[u8]) -> Result<Script, ScriptFault>
 pub fn read_commands(alloc: Global, text: &[u8], profile: &Profile) -> Result<Script, ScriptFault>
     ensures { MatchResult result (λ script. commands_of profile.now text.now ≡ Ok script) (IsRefused (commands_of profile.now text.now)) }
 {
-    match read_from(alloc, Extent::Whole, *profile, 1, text) {
+    match read_from(alloc, *profile, 1, text) {
         Ok(Ok(script)) => Ok(script),
         Ok(Err(refusal)) => Err(ScriptFault::Line { n: refusal.line }),
         Err(Memory) => Err(ScriptFault::Memory),
@@ -183,9 +167,9 @@ pub fn read_commands(alloc: Global, text: &[u8], profile: &Profile) -> Result<Sc
 
 /// Why the first line of a script that has no meaning has none. `None` where each line has one.
 pub fn why_refused(alloc: Global, text: &[u8]) -> Result<Option<Refusal>, Memory>
-    ensures { IfOk result (λ refusal. refusal ≡ result_err (script_of Extent.Whole text.now)) }
+    ensures { IfOk result (λ refusal. refusal ≡ result_err (script_of text.now)) }
 {
-    match read(alloc, text, Extent::Whole)? {
+    match read(alloc, text)? {
         Ok(_) => Ok(None),
         Err(refusal) => Ok(Some(refusal)),
     }

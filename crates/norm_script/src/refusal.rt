@@ -3,15 +3,6 @@
 use norm_base::Key;
 use thiserror::Error;
 
-/// How much of the grammar is read.
-#[derive(Clone, Copy, Debug, PartialEq, Eq)]
-pub enum Extent {
-    /// All of it.
-    Whole,
-    /// What a session can run today.
-    Built,
-}
-
 /// Why a line of a script has no meaning.
 #[derive(Clone, Copy, Debug, PartialEq, Eq)]
 pub enum Why {
@@ -65,8 +56,6 @@ pub enum Why {
     ManyCommands,
     /// There is no such producer.
     Producer { producer: u32, producers: u32 },
-    /// The command is one of a stream, which a session does not run yet.
-    VerbUnbuilt,
 }
 
 /// A line without meaning, by its number from 1, and why it has none.

@@ -118,7 +118,6 @@ impl fmt::Display for Why {
             Why::NoQuorum => f.write_str("a quorum is a number from 1 to 16"),
             Why::NoNode => f.write_str("a node is a number from 1 to 4294967294"),
             Why::ManyCommands => f.write_str("a script has at most 4096 commands"),
-            Why::VerbUnbuilt => f.write_str("a session does not run open, write and close yet"),
         }
     }
 }

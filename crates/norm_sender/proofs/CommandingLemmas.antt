@@ -1,28 +1,23 @@
 -- Commands, over what a sender keeps.
-use Rattle.std.proofs.Common.{◌≡◌, ◌≢◌, ◌∙◌, ◌⊎◌, inl, inr, ℕ, ◌*◌, ◌-◌, List, [], ◌∷◌, ◌++◌, length, Option, Some, None, Result, Ok, Err, Bool, true, false, refl, sym, ap, subst, is_none}
-use Rattle.std.specs.Prelude.{◌==◌, nat_lt}
+use Rattle.std.proofs.Common.{◌≡◌, ◌≢◌, ◌∙◌, ◌⊎◌, inl, inr, ℕ, List, [], Option, Some, None, Result, Ok, Err, refl, sym, ap, subst}
 use Rattle.norm_base.specs.Settings.{Settings}
 use Rattle.norm_base.specs.declared.node.Origin.{Origin}
 use Rattle.norm_order.specs.Entries as stream
-use Rattle.norm_order.specs.Entries.{Part, End}
-use Rattle.norm_order.specs.Segments.{written}
-use Rattle.norm_order.specs.First.{first_where}
 use Rattle.norm_send_rules.specs.SenderState.{SenderState}
 use Rattle.norm_send_rules.specs.Commanding.{commanded, answered, refused_as}
-use Rattle.norm_send_rules.specs.Enqueuing.{open_stream}
-use Rattle.norm_send_rules.specs.InWindow.{last_index}
-use Rattle.norm_send_rules.specs.Room.{first_kept}
-use Rattle.norm_send_rules.specs.Streaming.{write_fault, close_fault, parts_now, is_spent, is_crowded, grown}
+use Rattle.norm_send_rules.specs.Enqueuing.{joined}
+use Rattle.norm_send_rules.specs.InWindow.{next_index}
+use Rattle.norm_send_rules.specs.Streaming.{open_fault, opened}
 use Rattle.norm_send_rules.specs.declared.job.Job.{Job}
-use Rattle.norm_send_rules.specs.declared.job.Job.TheVariants.{Write, Close}
+use Rattle.norm_send_rules.specs.declared.job.Job.TheVariants.{Open}
 use Rattle.norm_send_rules.specs.declared.job.Receipt.{Receipt}
-use Rattle.norm_send_rules.specs.declared.job.Receipt.TheVariants.{Wrote, Closed}
+use Rattle.norm_send_rules.specs.declared.job.Receipt.TheVariants.{Opened}
 use Rattle.norm_send_rules.specs.declared.fault.SendFault.{SendFault}
 use Rattle.norm_send_rules.specs.declared.fault.SendFault.TheVariants.{Enqueue, Mark, Strike, IdUsed, Memory}
 use Rattle.norm_send_rules.specs.declared.fault.EnqueueFault.{EnqueueFault}
-use Rattle.norm_send_rules.specs.declared.fault.EnqueueFault.TheVariants.{Empty, TooBig, NoStream, Stream as OfStream}
-use Rattle.norm_send_rules.specs.declared.fault.StreamFault.TheVariants.{Spent, Full}
-use Rattle.norm_sender.specs.Commands.{Obeys, unopened_fault}
+use Rattle.norm_send_rules.specs.declared.fault.EnqueueFault.TheVariants.{Empty, TooBig, InfoTooBig, StreamOpen, NoStream, IdsSpent, Stream as OfStream, WindowFull, Memory as NoRoom}
+use Rattle.tx_window.specs.Taking.{IsUnopened}
+use Rattle.norm_sender.specs.Commands.{Obeys, open_refusal}
 use Rattle.norm_sender.specs.SenderKept.{SenderKept, Agrees}
 
 -- How a command is answered.
@@ -52,55 +47,72 @@ pub as_sender : (new : SenderKept) (receipt : Receipt) (step : SenderState × Re
     → Agrees new (answered Enqueue step).0 × (Ok receipt ≡ (answered Enqueue step).1)
 as_sender new receipt step h = (h.0, ap (refused_as Enqueue) h.1)
 
--- Where no stream is open.
+-- a part that answers what its rule says, as a command
+pub part_obeys : (old new : SenderKept) (job : Job) (step : SenderState → Origin → SenderState × Result Receipt EnqueueFault) (receipt : Receipt)
+    (answer : Result Receipt EnqueueFault) → ((s : SenderState) (by : Origin) → commanded old.p s by job ≡ answered Enqueue (step s by)) → answer ≡ Ok receipt
+    → ((s : SenderState) (by : Origin) → Agrees old s → Agrees new (step s by).0 × (answer ≡ (step s by).1)) → Obeys old new job (Ok receipt)
+part_obeys old new job step receipt answer rule is h = record {
+  stands = λ s by a some.
+      subst (λ (y : SenderState × Result Receipt SendFault). Agrees new y.0 × (Ok receipt ≡ y.1)) (sym (rule s by))
+      ((h s by a).0, ap (refused_as Enqueue) (sym is ∙ (h s by a).1));
+  back = tt;
+  memory = λ e. absurd (never e);
+}
+  where
+    never : ◌≡◌ {A = Result Receipt SendFault} (Ok receipt) (Err Memory) → ⊥
+    never e = cc
 
-write_table : (p : Settings) (n : ℕ) (empty big crowded spent : Bool) (f g : EnqueueFault)
-    → first_where ((empty, Empty) ∷ (big, TooBig n) ∷ (true, NoStream) ∷ (spent, f) ∷ (crowded, g) ∷ [])
-    ≡ Some (elim empty as (λ _. EnqueueFault) [ true ↦ Empty | false ↦ elim big as (λ _. EnqueueFault) [ true ↦ TooBig n | false ↦ NoStream ] ])
-unfolding first_where
-write_table p n true big crowded spent f g = refl
-write_table p n false true crowded spent f g = refl
-write_table p n false false crowded spent f g = refl
+pub part_refuses : (old new : SenderKept) (job : Job) (step : SenderState → Origin → SenderState × Result Receipt EnqueueFault) (fault : EnqueueFault)
+    (answer : Result Receipt EnqueueFault) → ((s : SenderState) (by : Origin) → commanded old.p s by job ≡ answered Enqueue (step s by)) → answer ≡ Err fault
+    → ((s : SenderState) (by : Origin) → Agrees old s → Agrees new (step s by).0 × (answer ≡ (step s by).1)) → Obeys old new job (Err (Some job, Enqueue fault))
+part_refuses old new job step fault answer rule is h =
+    refused old new job (Some job) (Enqueue fault) (λ e. never e) refl (λ s by a.
+    subst (λ (y : SenderState × Result Receipt SendFault). Agrees new y.0 × (Err (Enqueue fault) ≡ y.1)) (sym (rule s by))
+    ((h s by a).0, ap (refused_as Enqueue) (sym is ∙ (h s by a).1)))
+  where
+    never : Enqueue fault ≡ Memory → ⊥
+    never e = cc
 
-close_table : (spent crowded : Bool) (f g : EnqueueFault) → first_where ((true, NoStream) ∷ (spent, f) ∷ (crowded, g) ∷ []) ≡ Some NoStream
-unfolding first_where
-close_table spent crowded f g = refl
+-- a receipt of a part, as a command's
+pub got : (old new : SenderKept) (job : Job) (step : SenderState → Origin → SenderState × Result Receipt EnqueueFault) (receipt : Receipt)
+    → ((s : SenderState) (by : Origin) → commanded old.p s by job ≡ answered Enqueue (step s by))
+    → ((s : SenderState) (by : Origin) → Agrees old s → Agrees new (step s by).0 × (Ok receipt ≡ (step s by).1)) → Obeys old new job (Ok receipt)
+got old new job step receipt rule h = part_obeys old new job step receipt (Ok receipt) rule refl h
 
--- a step by the fault that is found
-abbrev by_fault : SenderState → SenderState × Result Receipt EnqueueFault → Option EnqueueFault → SenderState × Result Receipt SendFault
-by_fault s step found = answered Enqueue (elim found [ Some fault ↦ (s, Err fault) | None ↦ step ])
+-- why a stream was not opened, as a command is answered
+not_opened : (p : Settings) (s : SenderState) (by : Origin) (fault : EnqueueFault) → open_fault p s ≡ Some fault → opened p s by ≡ (s, Err fault)
+not_opened p s by fault is =
+    ap (λ (r : Option EnqueueFault). elim r as (λ v. SenderState × Result Receipt EnqueueFault) [
+      | Some f ↦ (s, Err f)
+      | None ↦ (joined p by (stream.Stream []) s, Ok (Opened (next_index s)))
+    ]) is
 
-pub write_refused : (p : Settings) (s : SenderState) (by : Origin) (octets : List ℕ) → open_stream s ≡ None
-    → commanded p s by (Write octets) ≡ (s, Err (Enqueue (unopened_fault p (length octets))))
-write_refused p s by octets none =
-    let parts : List Part = parts_now s ++ stream.Write by octets ∷ [] in
-    let spent = is_spent p parts in
-    let crowded = is_crowded p s parts in
-    let f = OfStream (Spent (length (written (parts_now s)))) in
-    let g = OfStream (Full (first_kept s (last_index s))) in
-    let empty = length octets == 0 in
-    let big = nat_lt ((p.blocks - 1) * p.b * p.e) (length octets) in
-    let found : write_fault p s octets parts ≡ Some (unopened_fault p (length octets)) =
-    ap (λ (b : Bool). first_where ((empty, Empty) ∷ (big, TooBig (length octets)) ∷ (b, NoStream) ∷ (spent, f) ∷ (crowded, g) ∷ [])) (ap is_none none)
-    ∙ write_table p (length octets) empty big crowded spent f g in
-    ap (by_fault s (grown p s parts, Ok (Wrote (last_index s) (length (written (parts_now s))) (length octets)))) found
+pub open_refuses : (old new : SenderKept) (fault : EnqueueFault) → new ≡ old → ((s : SenderState) → Agrees old s → IsUnopened old.p s fault)
+    → Obeys old new Open (Err (open_refusal fault))
+open_refuses old new fault same why = go fault refl
+  where
+    known : (f : EnqueueFault) → fault ≡ f → (f ≡ NoRoom → ⊥) → Obeys old new Open (Err (Some Open, Enqueue f))
+    known f is some =
+        refused old new Open (Some Open) (Enqueue f) (λ e. never f e) refl (λ s by a.
+        let step : opened old.p s by ≡ (s, Err f) = by_rule s by a (why s a) in (
+          subst (λ (y : SenderState × Result Receipt EnqueueFault). Agrees new y.0) (sym step) (subst (λ (k : SenderKept). Agrees k s) (sym same) a),
+          sym (ap (λ (y : SenderState × Result Receipt EnqueueFault). refused_as Enqueue y.1) step),
+        ))
+      where
+        never : (g : EnqueueFault) → Enqueue g ≡ Memory → ⊥
+        never g e = cc
 
-pub close_refused : (p : Settings) (s : SenderState) (by : Origin) → open_stream s ≡ None → commanded p s by Close ≡ (s, Err (Enqueue NoStream))
-close_refused p s by none =
-    let parts : List Part = parts_now s ++ End ∷ [] in
-    let spent = is_spent p parts in
-    let crowded = is_crowded p s parts in
-    let f = OfStream (Spent (length (written (parts_now s)))) in
-    let g = OfStream (Full (first_kept s (last_index s))) in
-    let found : close_fault p s parts ≡ Some NoStream =
-    ap (λ (b : Bool). first_where ((b, NoStream) ∷ (spent, f) ∷ (crowded, g) ∷ [])) (ap is_none none) ∙ close_table spent crowded f g in
-    ap (by_fault s (grown p s parts, Ok (Closed (last_index s)))) found
+        by_rule : (s : SenderState) (by : Origin) → Agrees old s → IsUnopened old.p s fault → opened old.p s by ≡ (s, Err f)
+        by_rule s by a (inl lacking) = absurd (some (sym is ∙ lacking))
+        by_rule s by a (inr found) = not_opened old.p s by f (found ∙ ap Some is)
 
--- a command that the rules refuse, and that changes nothing
-pub refused_by_rule : (k : SenderKept) (job : Job) (fault : SendFault) → fault ≢ Memory
-    → ((s : SenderState) (by : Origin) → Agrees k s → commanded k.p s by job ≡ (s, Err fault)) → Obeys k k job (Err (Some job, fault))
-refused_by_rule k job fault some rule =
-    refused k k job (Some job) fault some refl (λ s by h. (
-      subst (λ (step : SenderState × Result Receipt SendFault). Agrees k step.0) (sym (rule s by h)) h,
-      sym (ap (λ (step : SenderState × Result Receipt SendFault). step.1) (rule s by h)),
-    ))
+    go : (f : EnqueueFault) → fault ≡ f → Obeys old new Open (Err (open_refusal f))
+    go NoRoom is = record { stands = λ s by a some. absurd (some refl); back = inl (refl, refl); memory = λ e. same }
+    go Empty is = known Empty is (λ e. cc)
+    go (TooBig len) is = known (TooBig len) is (λ e. cc)
+    go (InfoTooBig len) is = known (InfoTooBig len) is (λ e. cc)
+    go (StreamOpen index) is = known (StreamOpen index) is (λ e. cc)
+    go NoStream is = known NoStream is (λ e. cc)
+    go IdsSpent is = known IdsSpent is (λ e. cc)
+    go (OfStream f) is = known (OfStream f) is (λ e. cc)
+    go (WindowFull first) is = known (WindowFull first) is (λ e. cc)

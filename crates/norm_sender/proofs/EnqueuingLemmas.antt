@@ -20,26 +20,23 @@ use Rattle.norm_send_rules.specs.declared.job.Receipt.TheVariants.{Object}
 use Rattle.norm_send_rules.specs.declared.fault.EnqueueFault.{EnqueueFault}
 use Rattle.tx_window.specs.Taking.{room_made, filled_entry, with_piece}
 use Rattle.tx_window.specs.WindowMoves.{WindowMoves}
-use Rattle.tx_window.specs.WindowState.{WindowState, Stands, drop_of, open_of, Filling}
-use Rattle.norm_sender.specs.Unopened.{Stands as WindowStands}
-use Rattle.nack_union.specs.Kept.{Kept, Marked, admitted, with_object, retired, shape_of_marked}
+use Rattle.tx_window.specs.WindowState.{WindowState, Stands as WindowStands, drop_of, Filling}
+use Rattle.nack_union.specs.Kept.{Kept, Marked, MayRetire, admitted, with_object, retired, shape_of_marked}
 use Rattle.nack_union.specs.UnionState.{UnionState, Stands as UnionStands}
 use Rattle.nack_union.specs.UnionMoves.{UnionMoves}
-use Rattle.nack_union.proofs.Retired.{retired_stands, retired_with}
+use Rattle.nack_union.proofs.Retired.{retired_stands}
 use Rattle.norm_sender.specs.Pacing.{pace_of}
 use Rattle.norm_sender.specs.SenderKept.{SenderKept, Agrees}
 use Rattle.norm_sender.specs.Filling.{Fills, entry_of}
+use Rattle.norm_sender.specs.Retiring.{IsOnward, CanRetire}
 use Rattle.norm_sender.specs.declared.pace.Pace.{Pace}
+use Rattle.norm_sender.proofs.RetiringLemmas.{stays_onward, onward_more, may_retire, retired_more}
 use Rattle.norm_sender.proofs.SenderLemmas.{anyone}
 
 -- Where the window begins after room was made.
 
-drop_is : (drop : Point) (d n : ℕ) → drop ≡ point d 0 → drop_after drop n ≡ point (d + n) 0
-drop_is drop d zero is = is ∙ ap (λ i. point i 0) (let e : d ≡ d + 0 = omega arith in e)
-drop_is drop d (suc n) is = ap (λ (x : Point). point (x.index + suc n) 0) is
-
 -- no more objects go than there are
-goes_le : (p : Settings) (size : ℕ) (entries : List Entry) → has_to_go p size entries ≤ length entries
+pub goes_le : (p : Settings) (size : ℕ) (entries : List Entry) → has_to_go p size entries ≤ length entries
 unfolding has_to_go
 goes_le p size [] = omega arith
 goes_le p size (x ∷ xs) = go (has_room p size (x ∷ xs)) (goes_le p size xs)
@@ -48,27 +45,23 @@ goes_le p size (x ∷ xs) = go (has_room p size (x ∷ xs)) (goes_le p size xs)
     go true le = omega arith
     go false le = omega (arith, le)
 
--- a point lies in a union's window, or at its end
-pub record IsWithin (u : Kept) (drop : Point) : Type 0 where
-  pub not_back : u.first ≤ drop.index
-  pub within : drop.index ≤ u.first + length u.objects
-  pub whole : drop.block ≡ 0
+-- Before an object or a stream is begun no more was dropped than afterwards, and all that is dropped then is of the order.
+pub room_onward : (k : SenderKept) (w : WindowState) (s t : SenderState) (n : ℕ) → Agrees k s → WindowStands w t → t.current.drop ≡ drop_after s.current.drop n
+    → n ≤ length (window s) → IsOnward k.union.p s (drop_of w)
+room_onward k w s t n h st is le =
+    subst (λ (q : Settings). IsOnward q s (drop_of w)) (h.window_profile ∙ sym h.union_profile)
+    (subst (λ (d : Point). IsOnward k.window.p s d) (sym is ∙ st.dropped) (go n le))
+  where
+    kept : s.current.drop.index ≤ length s.current.order
+    kept = omega (arith, ap (λ (d : Point). d.index) h.window.dropped, h.window.next)
 
--- before an object is begun no more was dropped than afterwards, and all that is dropped then is in the union
-pub room_within : (k : SenderKept) (w : WindowState) (q : Settings) (len : ℕ) (s : SenderState) → Agrees k s → Stands w (room_made q len s)
-    → IsWithin k.union.kept (drop_of w)
-room_within k w q len s h st =
-    let n = has_to_go q len (window s) in
-    let d = s.current.drop.index in
-    let is : drop_of w ≡ point (d + n) 0 = sym st.dropped ∙ drop_is s.current.drop d n (ap (point d) h.union.holds.whole) in
-    let first : k.union.kept.first ≡ d = h.union.holds.first in
-    let le : n ≤ length s.current.order - s.current.drop.index = omega (arith, goes_le q len (window s), length-drop s.current.drop.index s.current.order) in
-    let at = ap (λ (x : Point). x.index) is in
-    let next = h.union.holds.next in
-    record {
-      not_back = omega (arith, first, at);
-      within = omega (arith, first, at, le, next);
-      whole = ap (λ (x : Point). x.block) is;
+    go : (m : ℕ) → m ≤ length (window s) → IsOnward k.window.p s (drop_after s.current.drop m)
+    go zero few = stays_onward k.window s h.window
+    go (suc m) few = record {
+      not_back = omega arith;
+      within = omega (arith, few, kept, length-drop s.current.drop.index s.current.order);
+      onward = λ same. absurd (omega (arith, same));
+      stream = λ some. absurd (omega (arith, some));
     }
 
 -- An object is begun.
@@ -86,7 +79,8 @@ some_octets n = replicate n 0
 pub record TakesIn (k : SenderKept) (m : Marked) (u1 u2 : UnionState) (drop : Point) (pace : Pace) : Type 0 where
   pub admits : u1 ≡ record (k.union) { kept = with_object m k.union.kept }
   pub joins : (entry : Entry) → shape_of k.union.p entry.object ≡ shape_of_marked m → UnionMoves k.union u1 (with_entry entry)
-  pub retires : u2 ≡ record u1 { kept = retired drop.index u1.kept }
+  pub retires : u2 ≡ record u1 { kept = retired drop.index drop.block u1.kept }
+  pub few : drop.block ≤ 16777216
   pub drops : UnionMoves u1 u2 (dropped_to drop)
   pub due : (t : SenderState) → UnionStands u1 t
       → pace ≡ record (k.pace) { squelch_due = k.pace.squelch_due || list_any (λ want. not (stands_behind drop want)) t.wants }
@@ -103,7 +97,9 @@ pub begun_fills : (k : SenderKept) (s : SenderState) (f : Filling) (w : WindowSt
     → Fills (record k { window = w; union = u2; pace = pace }) s f
 begun_fills k s f w m u1 u2 pace h begins is takes =
     let st : WindowStands w (room_made k.p f.len s) = subst (λ (q : Settings). WindowStands w (room_made q f.len s)) h.window_profile begins.stands in
-    let in_union = room_within k w k.p f.len s h st.stands in
+    let d = drop_of w in
+    let may : MayRetire d.index d.block k.union.kept =
+    may_retire k.union s d h.union (room_onward k w s (room_made k.p f.len s) (has_to_go k.p f.len (window s)) h st refl (goes_le k.p f.len (window s))) takes.few in
     let shape : (by : Origin) (octets : List ℕ) → length octets ≡ f.len → shape_of k.union.p (Whole f.kind f.info octets) ≡ shape_of_marked m =
     λ by octets long. subst (λ (q : Settings). shape_of q (Whole f.kind f.info octets) ≡ shape_of_marked m) (sym h.union_profile) (shape_is k.p f octets m is long) in
     let one : UnionStands u1 (with_entry (entry_of anyone f (some_octets f.len)) s) =
@@ -114,25 +110,41 @@ begun_fills k s f w m u1 u2 pace h begins is takes =
       filling = begins.filling;
       window = st;
       union = record {
-        before = record (k.union) { kept = retired w.dropped k.union.kept };
+        before = record (k.union) { kept = retired d.index d.block k.union.kept };
         marked = m;
         is =
-            takes.retires ∙ ap (λ (u : UnionState). record u { kept = retired w.dropped u.kept }) takes.admits
-            ∙ ap (λ (kept : Kept). record (k.union) { kept = kept }) (retired_with w.dropped m k.union.kept in_union.within);
+            takes.retires ∙ ap (λ (u : UnionState). record u { kept = retired d.index d.block u.kept }) takes.admits
+            ∙ ap (λ (kept : Kept). record (k.union) { kept = kept }) (retired_more d.index d.block m k.union.kept may);
         stands =
-            subst (λ (d : Point). UnionStands (record (k.union) { kept = retired w.dropped k.union.kept }) (dropped_to d s))
-            (ap (point w.dropped) (sym in_union.whole) ∙ sym st.stands.dropped)
-            (retired_stands k.union s w.dropped in_union.not_back in_union.within h.union);
+            subst (λ (at : Point). UnionStands (record (k.union) { kept = retired d.index d.block k.union.kept }) (dropped_to at s)) (sym st.dropped)
+            (retired_stands k.union s d.index d.block may h.union);
         joins = λ by octets long.
-            subst (λ (d : Point). UnionStands u2 (dropped_to d (with_entry (entry_of by f octets) s))) (sym st.stands.dropped)
+            subst (λ (at : Point). UnionStands u2 (dropped_to at (with_entry (entry_of by f octets) s))) (sym st.dropped)
             (takes.drops (with_entry (entry_of by f octets) s) (takes.joins (entry_of by f octets) (shape by octets long) s h.union));
       };
       book = h.book;
       pace =
           takes.due (with_entry (entry_of anyone f (some_octets f.len)) s) one
           ∙ ap (λ (q : Pace). record q { squelch_due = q.squelch_due || list_any (λ want. not (stands_behind (drop_of w) want)) s.wants }) h.pace
-          ∙ ap (λ (d : Point). record (pace_of s) { squelch_due = s.squelch_due || list_any (λ want. not (stands_behind d want)) s.wants }) (sym st.stands.dropped);
+          ∙ ap (λ (d : Point). record (pace_of s) { squelch_due = s.squelch_due || list_any (λ want. not (stands_behind d want)) s.wants }) (sym st.dropped);
       free = λ octets long. subst (λ (q : Settings). object_fault q s f.info octets ≡ None) h.window_profile (begins.free octets long);
+    }
+
+-- the union, which took the object in, may follow the window
+pub begun_onward : (k : SenderKept) (w : WindowState) (s : SenderState) (f : Filling) (m : Marked) (u1 : UnionState) → Agrees k s
+    → WindowStands w (room_made k.window.p f.len s) → m ≡ admitted (cut_of f.len k.p.e k.p.b k.p.max_n) (is_some f.info)
+    → u1 ≡ record (k.union) { kept = with_object m k.union.kept }
+    → ((entry : Entry) → shape_of k.union.p entry.object ≡ shape_of_marked m → UnionMoves k.union u1 (with_entry entry)) → CanRetire u1 (drop_of w)
+begun_onward k w s f m u1 h st is admits joins =
+    let entry = entry_of anyone f (some_octets f.len) in
+    let shape = subst (λ (q : Settings). shape_of q (Whole f.kind f.info (some_octets f.len)) ≡ shape_of_marked m) (sym h.union_profile)
+    (shape_is k.p f (some_octets f.len) m is (length-replicate f.len 0)) in
+    record {
+      state = with_entry entry s;
+      stands = joins entry shape s h.union;
+      onward = subst (λ (q : Settings). IsOnward q (with_entry entry s) (drop_of w)) (sym (ap (λ (u : UnionState). u.p) admits))
+          (onward_more k.union.p s entry (drop_of w)
+          (room_onward k w s (room_made k.window.p f.len s) (has_to_go k.window.p f.len (window s)) h st refl (goes_le k.window.p f.len (window s))));
     }
 
 -- one piece more of it
@@ -142,19 +154,12 @@ filled_more k w s f piece profile filling moves h = record {
   window_profile = profile ∙ h.window_profile;
   union_profile = h.union_profile;
   filling = filling;
-  window = record { stands = moves (room_made k.p f.len s) h.window.stands; unopened = h.window.unopened };
+  window = moves (room_made k.p f.len s) h.window;
   union = record { before = h.union.before; marked = h.union.marked; is = h.union.is; stands = h.union.stands; joins = h.union.joins };
   book = h.book;
   pace = h.pace;
   free = h.free;
 }
-
--- behind an object no stream is open
-abbrev first_open : List Entry → Option (List Part)
-first_open entries = elim entries as (λ _. Option (List Part)) [ [] ↦ None | entry ∷ more ↦ open_parts entry.object ]
-
-whole_joined : (order : List Entry) (entry : Entry) → open_parts entry.object ≡ None → open_of (order ++ entry ∷ []) ≡ None
-whole_joined order entry whole = ap first_open (reverse-append order (entry ∷ [])) ∙ whole
 
 -- an object without a fault joins
 enqueued_is : (p : Settings) (s : SenderState) (by : Origin) (kind : Kind) (info : Option (List ℕ)) (octets : List ℕ) → object_fault p s info octets ≡ None
@@ -167,7 +172,7 @@ enqueued_is p s by kind info octets free =
 
 -- it joins the order
 pub finished : (k : SenderKept) (w : WindowState) (s : SenderState) (by : Origin) (f : Filling) (index len : ℕ) → Fills k s f → length f.octets ≡ f.len
-    → w.p ≡ k.window.p → w.filling ≡ None → Stands w (with_entry (filled_entry by f) (room_made k.p f.len s))
+    → w.p ≡ k.window.p → w.filling ≡ None → WindowStands w (with_entry (filled_entry by f) (room_made k.p f.len s))
     → index ≡ next_index (room_made k.p f.len s) → len ≡ f.len
     → Agrees (record k { window = w }) (enqueued k.p s by f.kind f.info f.octets).0 × (Ok (Object index len) ≡ (enqueued k.p s by f.kind f.info f.octets).1)
 finished k w s by f index len h long profile filling st at many =
@@ -177,7 +182,7 @@ finished k w s by f index len h long profile filling st at many =
       window_profile = profile ∙ h.window_profile;
       filling = filling;
       union_profile = h.union_profile;
-      window = record { stands = st; unopened = whole_joined s.current.order (filled_entry by f) refl };
+      window = st;
       union = h.union.joins by f.octets long;
       book = h.book;
       pace = h.pace;
@@ -199,7 +204,7 @@ left_agrees k w u s f h is moves withdrawn =
       window_profile = ap (λ (v : WindowState). v.p) is ∙ h.window_profile;
       filling = ap (λ (v : WindowState). v.filling) is;
       union_profile = ap (λ (v : UnionState). v.p) back ∙ sym (ap (λ (v : UnionState). v.p) h.union.is) ∙ h.union_profile;
-      window = record { stands = moves (room_made k.p f.len s) h.window.stands; unopened = h.window.unopened };
+      window = moves (room_made k.p f.len s) h.window;
       union = subst (λ (v : UnionState). UnionStands v (room_made k.p f.len s)) (sym back) h.union.stands;
       book = h.book;
       pace = h.pace;

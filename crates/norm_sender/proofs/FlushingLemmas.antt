@@ -17,8 +17,7 @@ use Rattle.norm_send_rules.specs.Messages.{flush_message}
 use Rattle.norm_send_rules.specs.Flushing.{flushes_for, flushes_no_more, flushed, flushes_oldest, expired}
 use Rattle.norm_send_rules.specs.declared.news.Outcome.{Outcome}
 use Rattle.norm_send_rules.specs.declared.news.Outcome.TheVariants.{Expired}
-use Rattle.tx_window.specs.WindowState.{WindowState}
-use Rattle.norm_sender.specs.Unopened.{Stands as WindowStands}
+use Rattle.tx_window.specs.WindowState.{WindowState, Stands as WindowStands}
 use Rattle.nack_union.specs.UnionState.{UnionState, Stands as UnionStands}
 use Rattle.mark_book.specs.BookState.{BookState, Stands as BookStands}
 use Rattle.mark_book.specs.Answers.{open_watermark}

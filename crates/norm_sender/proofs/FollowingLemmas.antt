@@ -3,7 +3,7 @@ use Rattle.std.proofs.Common.{◌≡◌, ◌∙◌, Bool, true, false, refl, ap}
 use Rattle.norm_base.specs.Settings.{Settings}
 use Rattle.norm_send_rules.specs.SenderState.{SenderState}
 use Rattle.norm_send_rules.specs.Watermarks.{keeps_oldest, counted_anew, all_past}
-use Rattle.tx_window.specs.WindowState.{WindowReads, reads as window_reads, WindowState, Stands as StandsAlone, open_of}
+use Rattle.tx_window.specs.WindowState.{reads as window_reads, WindowState, Stands as WindowStands}
 use Rattle.nack_union.specs.UnionState.{UnionState, Stands as UnionStands}
 use Rattle.mark_book.specs.BookState.{BookState, Stands as BookStands}
 use Rattle.norm_sender.specs.Pacing.{pace_of, counted_by}
@@ -47,13 +47,13 @@ pace_read true s t = refl
 pace_read false s t = refl
 
 pub followed_stands : (k : SenderKept) (window : WindowState) (kept : Bool) (s t : SenderState) → IsBehind k s (with_book t s)
-    → window.p ≡ k.window.p → window.filling ≡ k.window.filling → StandsAlone window (counted_anew s (with_book t s)) → kept ≡ keeps_oldest s (with_book t s)
+    → window.p ≡ k.window.p → window.filling ≡ k.window.filling → WindowStands window (counted_anew s (with_book t s)) → kept ≡ keeps_oldest s (with_book t s)
     → Agrees (record k { window = window; pace = counted_by kept k.pace }) (counted_anew s (with_book t s))
 followed_stands k window kept s t h profile filling behind is = record {
   window_profile = profile ∙ h.window_profile;
   filling = filling ∙ h.filling;
   union_profile = h.union_profile;
-  window = record { stands = behind; unopened = ap (λ (r : WindowReads). open_of r.order) (followed_past s t) ∙ h.window.unopened };
+  window = behind;
   union = union_read (keeps_oldest s (with_book t s)) k.union s t h.union;
   book = followed_book k.p k.book s (with_book t s) h.book;
   pace =

@@ -29,8 +29,7 @@ use Rattle.norm_send_rules.specs.SenderState.{Round}
 use Rattle.norm_send_rules.specs.InWindow.{last_index}
 use Rattle.norm_send_rules.specs.Watermarks.{has_member}
 use Rattle.norm_send_rules.specs.Hearing.{credited_by, nack_heard, ack_heard, message_heard, credited, rises, listed_past, joined_round, round_at}
-use Rattle.tx_window.specs.WindowState.{WindowState}
-use Rattle.norm_sender.specs.Unopened.{Stands as WindowStands}
+use Rattle.tx_window.specs.WindowState.{WindowState, Stands as WindowStands}
 use Rattle.nack_union.specs.UnionState.{UnionState, Stands as UnionStands}
 use Rattle.mark_book.specs.BookState.{BookState, Stands as BookStands}
 use Rattle.norm_sender.specs.declared.pace.Pace.{Pace}

@@ -8,8 +8,10 @@ pub mod HearingLemmas
 pub mod MarkingLemmas
 pub mod NewLemmas
 pub mod RestartingLemmas
+pub mod RetiringLemmas
 pub mod SenderLemmas
 pub mod SendingLemmas
+pub mod StreamingLemmas
 pub mod StrikingLemmas
 pub mod TellingLemmas
 pub mod TickingLemmas

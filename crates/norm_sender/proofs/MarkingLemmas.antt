@@ -22,18 +22,6 @@ use Rattle.norm_send_rules.specs.declared.job.Receipt.TheVariants.{Mark}
 use Rattle.mark_book.specs.Answers.{asked_for, numbered, quorum_refused}
 use Rattle.norm_sender.specs.SenderKept.{SenderKept, Agrees}
 
--- Nothing is cut where no stream is open.
-
-abbrev cut_of_parts : Settings → SenderState → List Part → SenderState
-cut_of_parts p s parts = elim (unclosed p.e parts) [ zero ↦ s | suc n ↦ with_parts (parts ++ Cut ∷ []) s ]
-
-abbrev cut_by : SenderState → ℕ → SenderState
-cut_by s n = elim n [ zero ↦ s | suc m ↦ with_parts (Cut ∷ []) s ]
-
-not_cut : (p : Settings) (s : SenderState) → open_stream s ≡ None → cut p s ≡ s
-unfolding segments.since_cut
-not_cut p s none = ap (λ (o : Option (List Part)). cut_of_parts p s (unwrap_or o [])) none ∙ ap (cut_by s) (zero-mod p.e)
-
 -- a mark by the state behind the cut and the last source symbol
 abbrev marked_by : Settings → SenderState → Origin → Option ℕ → SenderState × Result Receipt MarkFault → SenderState × Result Receipt MarkFault
 marked_by p s by quorum step = elim (quorum_refused p quorum) [ Some fault ↦ (s, Err fault) | None ↦ step ]
@@ -54,40 +42,49 @@ marked_where p s by (Some q) = go (is_no_quorum p q)
     go true = refl
     go false = refl
 
-pub marked_is : (p : Settings) (s : SenderState) (by : Origin) (quorum : Option ℕ) (end : Option Position) → open_stream s ≡ None
-    → end ≡ last_source (current_shapes p s) → marked p s by quorum ≡ asked_for p s by quorum end
-marked_is p s by quorum end none is =
+pub marked_refused : (p : Settings) (s : SenderState) (by : Origin) (quorum : Option ℕ) (fault : MarkFault) → quorum_refused p quorum ≡ Some fault
+    → marked p s by quorum ≡ (s, Err fault)
+marked_refused p s by quorum fault is =
     marked_where p s by quorum
-    ∙ ap (λ (t : SenderState). marked_by p s by quorum (watermark_at t by quorum (last_source (current_shapes p t)))) (not_cut p s none)
-    ∙ ap (λ (o : Option Position). asked_for p s by quorum o) (sym is)
+    ∙ ap (λ (o : Option MarkFault). elim o as (λ v. SenderState × Result Receipt MarkFault) [
+      | Some f ↦ (s, Err f)
+      | None ↦ watermark_at (cut p s) by quorum (last_source (current_shapes p (cut p s)))
+    ]) is
 
-pub asked_no_quorum : (p : Settings) (s : SenderState) (by : Origin) (quorum : Option ℕ) (end : Option Position) (fault : MarkFault) (found : Option MarkFault)
-    → found ≡ quorum_refused p quorum → found ≡ Some fault → asked_for p s by quorum end ≡ (s, Err fault)
-asked_no_quorum p s by quorum end fault found is e =
-    ap (λ (o : Option MarkFault). elim o as (λ _. SenderState × Result Receipt MarkFault) [ Some f ↦ (s, Err f) | None ↦ watermark_at s by quorum end ]) (sym is ∙ e)
+pub marked_is : (p : Settings) (s : SenderState) (by : Origin) (quorum : Option ℕ) (end : Option Position) → quorum_refused p quorum ≡ None
+    → end ≡ last_source (current_shapes p (cut p s)) → marked p s by quorum ≡ asked_for p (cut p s) by quorum end
+marked_is p s by quorum end some is =
+    marked_where p s by quorum
+    ∙ ap (λ (o : Option MarkFault). elim o as (λ v. SenderState × Result Receipt MarkFault) [
+      | Some f ↦ (s, Err f)
+      | None ↦ watermark_at (cut p s) by quorum (last_source (current_shapes p (cut p s)))
+    ]) some
+    ∙ ap (λ (at : Option Position). watermark_at (cut p s) by quorum at) (sym is)
+    ∙ sym (ap (λ (o : Option MarkFault). elim o as (λ v. SenderState × Result Receipt MarkFault) [
+      | Some f ↦ (cut p s, Err f)
+      | None ↦ watermark_at (cut p s) by quorum end
+    ]) some)
 
-pub asked_nothing : (p : Settings) (s : SenderState) (by : Origin) (quorum : Option ℕ) (found : Option MarkFault)
-    → found ≡ quorum_refused p quorum → found ≡ None → asked_for p s by quorum None ≡ (s, Err NothingEnqueued)
-asked_nothing p s by quorum found is e =
-    ap (λ (o : Option MarkFault). elim o as (λ _. SenderState × Result Receipt MarkFault) [ Some f ↦ (s, Err f) | None ↦ watermark_at s by quorum None ]) (sym is ∙ e)
-
--- a mark, by what is asked of the book
+-- a mark, by what is asked of the book once the open stream is cut
 pub marks_by : (k new : SenderKept) (s : SenderState) (by : Origin) (quorum : Option ℕ) (end : Option Position) (answer : Result Receipt MarkFault)
-    → Agrees k s → end ≡ last_source (current_shapes k.window.p s)
-    → Agrees new (asked_for k.p s by quorum end).0 × (answer ≡ (asked_for k.p s by quorum end).1)
+    → Agrees k s → quorum_refused k.p quorum ≡ None → end ≡ last_source (current_shapes k.window.p (cut k.window.p s))
+    → Agrees new (asked_for k.p (cut k.p s) by quorum end).0 × (answer ≡ (asked_for k.p (cut k.p s) by quorum end).1)
     → Agrees new (marked k.p s by quorum).0 × (answer ≡ (marked k.p s by quorum).1)
-marks_by k new s by quorum end answer h is after =
-    let there : end ≡ last_source (current_shapes k.p s) = subst (λ (q : Settings). end ≡ last_source (current_shapes q s)) h.window_profile is in
-    subst (λ (step : SenderState × Result Receipt MarkFault). Agrees new step.0 × (answer ≡ step.1))
-    (sym (marked_is k.p s by quorum end h.window.unopened there)) after
+marks_by k new s by quorum end answer h some is after =
+    let there : end ≡ last_source (current_shapes k.p (cut k.p s)) = subst (λ (q : Settings). end ≡ last_source (current_shapes q (cut q s))) h.window_profile is in
+    subst (λ (step : SenderState × Result Receipt MarkFault). Agrees new step.0 × (answer ≡ step.1)) (sym (marked_is k.p s by quorum end some there)) after
 
--- a mark that is refused before the book is asked
-pub refuses_by : (k : SenderKept) (s : SenderState) (by : Origin) (quorum : Option ℕ) (end : Option Position) (fault : MarkFault)
-    → Agrees k s → end ≡ last_source (current_shapes k.window.p s) → asked_for k.p s by quorum end ≡ (s, Err fault)
+-- a quorum that can be none is refused before that
+pub refuses_quorum : (k : SenderKept) (s : SenderState) (by : Origin) (quorum : Option ℕ) (fault : MarkFault) → Agrees k s → quorum_refused k.p quorum ≡ Some fault
     → Agrees k (marked k.p s by quorum).0 × (Err fault ≡ (marked k.p s by quorum).1)
-refuses_by k s by quorum end fault h is refused =
-    marks_by k k s by quorum end (Err fault) h is
-    (subst (λ (step : SenderState × Result Receipt MarkFault). Agrees k step.0 × (Err fault ≡ step.1)) (sym refused) (h, refl))
+refuses_quorum k s by quorum fault h is =
+    subst (λ (step : SenderState × Result Receipt MarkFault). Agrees k step.0 × (Err fault ≡ step.1)) (sym (marked_refused k.p s by quorum fault is)) (h, refl)
+
+-- where nothing was enqueued nothing is asked for
+pub asked_nothing : (p : Settings) (s : SenderState) (by : Origin) (quorum : Option ℕ) → quorum_refused p quorum ≡ None
+    → asked_for p s by quorum None ≡ (s, Err NothingEnqueued)
+asked_nothing p s by quorum none =
+    ap (λ (o : Option MarkFault). elim o as (λ _. SenderState × Result Receipt MarkFault) [ Some f ↦ (s, Err f) | None ↦ watermark_at s by quorum None ]) none
 
 -- What the book answered.
 
@@ -144,3 +141,9 @@ memory_or_not (Err (Quorum q)) = inr (λ e. cc)
 memory_or_not (Err NothingEnqueued) = inr (λ e. cc)
 memory_or_not (Err (TooMany count)) = inr (λ e. cc)
 memory_or_not (Err Memory) = inl refl
+
+pub memory_fault : (f : MarkFault) → (f ≡ Memory) ⊎ (f ≢ Memory)
+memory_fault (Quorum q) = inr (λ e. cc)
+memory_fault NothingEnqueued = inr (λ e. cc)
+memory_fault (TooMany count) = inr (λ e. cc)
+memory_fault Memory = inl refl

@@ -15,7 +15,7 @@ use Rattle.norm_send_rules.specs.Hearing.{heard}
 use Rattle.norm_send_rules.specs.Telling.{told}
 use Rattle.norm_send_rules.specs.Reached.{IsReached}
 use Rattle.norm_send_rules.proofs.ReachedLemmas.{reached_laws}
-use Rattle.tx_window.specs.WindowState.{Stands as StandsAlone, Filling}
+use Rattle.tx_window.specs.WindowState.{Stands as WindowStands, Filling}
 use Rattle.nack_union.specs.UnionState.{UnionState, empty_union, Stands as UnionStands}
 use Rattle.mark_book.specs.BookState.{Stands as BookStands}
 use Rattle.norm_sender.specs.Pacing.{pace_of}
@@ -85,14 +85,14 @@ receivers_count p zero = refl
 receivers_count p (suc n) = omega (arith, length-append (receivers_of p n) ((p.sender + 1 + n) ∷ []), receivers_count p n)
 
 pub begins : (k : SenderKept) (instance : ℕ) → InRange k.p → k.window.p ≡ k.p → k.window.filling ≡ None → k.union ≡ empty_union k.p
-    → StandsAlone k.window (sender_opening k.p instance) → UnionStands k.union (sender_opening k.p instance)
+    → WindowStands k.window (sender_opening k.p instance) → UnionStands k.union (sender_opening k.p instance)
     → BookStands k.p k.book (sender_opening k.p instance) → k.pace ≡ pace_of (sender_opening k.p instance) → Stands k (sender_opening k.p instance)
 begins k instance range profile filling union_is window union book pace = record {
   agrees = record {
     window_profile = profile;
     filling = filling;
     union_profile = ap (λ (u : UnionState). u.p) union_is;
-    window = record { stands = window; unopened = refl };
+    window = window;
     union = union;
     book = book;
     pace = pace;

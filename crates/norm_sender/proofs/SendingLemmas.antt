@@ -1,6 +1,6 @@
 -- What is sent of an object of the window, over what a sender keeps.
-use Rattle.std.proofs.Common.{◌≡◌, ◌∙◌, ℕ, ◌+◌, ◌≤◌, List, [], Bool, true, false, Option, Some, None, refl, sym, ap, arith}
-use Rattle.std.specs.Prelude.{nat_lt, not, min, slice_get}
+use Rattle.std.proofs.Common.{◌≡◌, ◌∙◌, ◌⊎◌, inl, inr, ℕ, ◌+◌, ◌<◌, ◌≤◌, List, [], Bool, true, false, Option, Some, None, refl, sym, ap, arith}
+use Rattle.std.specs.Prelude.{nat_le, nat_lt, not, min, slice_get}
 use Rattle.std.specs.Option.{option_map}
 use Rattle.std.proofs.lemmas.Option.{slice_get-map}
 use Rattle.std.proofs.lemmas.Bool.Decides.{nat_tests}
@@ -8,20 +8,21 @@ use Rattle.norm_base.specs.Settings.{Settings}
 use Rattle.norm_base.specs.declared.kinds.Kind.{Kind}
 use Rattle.norm_base.specs.declared.kinds.Kind.TheVariants as kind
 use Rattle.norm_base.specs.declared.kinds.Sent.TheVariants.{Datagram}
-use Rattle.fec_plan.specs.Points.{Point}
+use Rattle.fec_plan.specs.Points.{Point, point_of, point_before}
 use Rattle.fec_plan.specs.declared.position.Position.{Position}
+use Rattle.fec_plan.proofs.PointLemmas.{behind_point}
 use Rattle.norm_ext.specs.Octets.{octets_of}
 use Rattle.norm_order.specs.Entries.{Object, Whole, Stream, Entry}
 use Rattle.norm_order.specs.Shapes.{Shape, shape_of, encoded_in}
 use Rattle.norm_send_rules.specs.SenderState.{SenderState}
 use Rattle.norm_send_rules.specs.InWindow.{stands_behind}
 use Rattle.norm_send_rules.specs.Messages.{object_flags}
+use Rattle.norm_send_rules.specs.Room.{first_kept}
 use Rattle.norm_send_rules.specs.Sending.{object_of, message_of, noted, sends_want}
 use Rattle.norm_send_rules.specs.declared.want.Want.{Want}
 use Rattle.norm_send_rules.specs.declared.want.Want.TheVariants.{Info, Symbol}
 use Rattle.tx_window.specs.Asked.{kept_at}
-use Rattle.tx_window.specs.WindowState.{WindowState, IsInWindow}
-use Rattle.norm_sender.specs.Unopened.{Stands as WindowStands}
+use Rattle.tx_window.specs.WindowState.{WindowState, IsInWindow, Stands as WindowStands}
 use Rattle.tx_window.proofs.LawLemmas.{is_there}
 use Rattle.nack_union.specs.UnionState.{UnionState, Stands as UnionStands}
 use Rattle.mark_book.specs.BookState.{BookState, Stands as BookStands}
@@ -36,6 +37,7 @@ pub record SymbolThere (p : Settings) (s : SenderState) (at : Position) : Type 0
   pub kept : kept_at s at.index ≡ Some object
   pub of : object_of s (Symbol at) ≡ object
   pub encoded : nat_lt at.symbol (encoded_in (shape_of p object) at.block) ≡ true
+  pub first : nat_le (first_kept s at.index) at.block ≡ true
 
 -- An info of the window is one of its object there.
 pub record InfoThere (s : SenderState) (index : ℕ) : Type 0 where
@@ -79,6 +81,22 @@ object_behind drop at e = go (nat_lt at.index drop.index) refl
     go false f = refl
     go true f = absurd (grind (arith, nat_tests))
 
+-- a symbol behind the drop point is of a block that is kept
+kept_from : (s : SenderState) (at : Position) → stands_behind s.current.drop (Symbol at) ≡ true → nat_le (first_kept s at.index) at.block ≡ true
+kept_from s at e =
+    go (nat_lt s.current.drop.index at.index) refl (behind_point (point_of at) s.current.drop (not_so (point_before (point_of at) s.current.drop) e))
+  where
+    not_so : (b : Bool) → not b ≡ true → b ≡ false
+    not_so true e = absurd (cc)
+    not_so false e = refl
+
+    go : (b : Bool) → nat_lt s.current.drop.index at.index ≡ b
+        → (s.current.drop.index < at.index) ⊎ ((s.current.drop.index ≡ at.index) × (s.current.drop.block ≤ at.block))
+        → nat_le (elim b [ true ↦ 0 | false ↦ s.current.drop.block ]) at.block ≡ true
+    go true is behind = grind (arith, nat_tests)
+    go false is (inl lt) = absurd (grind (arith, nat_tests))
+    go false is (inr same) = (let le = same.1 in grind (arith, nat_tests))
+
 pub symbol_there : (p : Settings) (s : SenderState) (at : Position) → IsValid p s (Symbol at) → SymbolThere p s at
 symbol_there p s at v =
     let test : Shape → Bool = λ shape. nat_lt at.symbol (encoded_in shape at.block) in
@@ -92,6 +110,7 @@ symbol_there p s at v =
           ∙ ap (kept_if true) f.is;
       of = ap object_if f.is;
       encoded = f.passes;
+      first = kept_from s at v.behind;
     }
 
 info_of_whole : (s : SenderState) (index : ℕ) (p : Settings) (entry : Entry) (object : Object) → entry.object ≡ object
@@ -172,4 +191,4 @@ info_in_window w s index p h v =
     let f = found_where p (λ shape. shape.info) (slice_get s.current.order index)
     (ap (λ (o : Option Shape). elim o as (λ _. Bool) [ Some x ↦ x.info | None ↦ false ])
     (sym (slice_get-map (λ (entry : Entry). shape_of p entry.object) s.current.order index)) ∙ v.of_order) in
-    is_there w s index f.entry h.stands f.is (not_below index s.current.drop.index v.behind)
+    is_there w s index f.entry h f.is (not_below index s.current.drop.index v.behind)

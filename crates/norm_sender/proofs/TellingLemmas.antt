@@ -4,8 +4,7 @@ use Rattle.norm_send_rules.specs.SenderState.{SenderState}
 use Rattle.norm_send_rules.specs.Watermarks.{watermark_of}
 use Rattle.norm_send_rules.specs.Telling.{told, past_news, listing_of, done_news}
 use Rattle.norm_send_rules.specs.declared.news.News.{News}
-use Rattle.tx_window.specs.WindowState.{WindowState}
-use Rattle.norm_sender.specs.Unopened.{Stands as WindowStands}
+use Rattle.tx_window.specs.WindowState.{WindowState, Stands as WindowStands}
 use Rattle.nack_union.specs.UnionState.{UnionState, Stands as UnionStands}
 use Rattle.mark_book.specs.BookState.{BookState, Stands as BookStands}
 use Rattle.norm_sender.specs.Pacing.{pace_of}

@@ -1,6 +1,5 @@
 -- What a sender may be asked to do, what it answers, and what a refusal gives back.
-use Rattle.std.specs.Prelude.{ℕ, ◌≡◌, ◌≢◌, ◌==◌, ◌-◌, ◌*◌, nat_lt, ◌⊎◌, Bool, true, false, Option, None, Some, Result, Ok, Err, IfErr}
-use Rattle.norm_base.specs.Settings.{Settings}
+use Rattle.std.specs.Prelude.{ℕ, ◌≡◌, ◌≢◌, ◌⊎◌, Option, None, Some, Result, Ok, Err, IfErr}
 use Rattle.norm_base.specs.declared.node.Origin.{Origin}
 use Rattle.norm_send_rules.specs.SenderState.{SenderState}
 use Rattle.norm_send_rules.specs.Commanding.{commanded}
@@ -8,17 +7,12 @@ use Rattle.norm_send_rules.specs.declared.job.Job.{Job}
 use Rattle.norm_send_rules.specs.declared.job.Job.TheVariants.{Open, Mark}
 use Rattle.norm_send_rules.specs.declared.job.Receipt.{Receipt}
 use Rattle.norm_send_rules.specs.declared.fault.EnqueueFault.{EnqueueFault}
-use Rattle.norm_send_rules.specs.declared.fault.EnqueueFault.TheVariants.{Empty, TooBig, NoStream}
+use Rattle.norm_send_rules.specs.declared.fault.EnqueueFault.TheVariants.{Empty, TooBig, InfoTooBig, StreamOpen, NoStream, IdsSpent, Stream, WindowFull, Memory as NoRoom}
 use Rattle.norm_send_rules.specs.declared.fault.MarkFault.{MarkFault}
 use Rattle.norm_send_rules.specs.declared.fault.MarkFault.TheVariants.{Quorum, NothingEnqueued, TooMany, Memory as NoMemory}
 use Rattle.norm_send_rules.specs.declared.fault.SendFault.{SendFault}
-use Rattle.norm_send_rules.specs.declared.fault.SendFault.TheVariants.{Mark as MarkRefused, Memory}
+use Rattle.norm_send_rules.specs.declared.fault.SendFault.TheVariants.{Enqueue, Mark as MarkRefused, Memory}
 use Rattle.norm_sender.specs.SenderKept.{SenderKept, Agrees}
-
--- a command opens no stream
-abbrev pub opens_none : Job → Bool
-opens_none Open = false
-opens_none _ = true
 
 -- an answer, without what a refusal gives back
 abbrev pub answer_of : {X : Type 0} → Result Receipt (Option X × SendFault) → Result Receipt SendFault
@@ -29,11 +23,18 @@ answer_of (Err refusal) = Err refusal.1
 abbrev pub GivesBack : {X : Type 0} → X → Option X × SendFault → Type 0
 GivesBack given refusal = ((refusal.1 ≡ Memory) × (refusal.0 ≡ None)) ⊎ ((refusal.1 ≢ Memory) × (refusal.0 ≡ Some given))
 
--- why so many octets are not written where no stream is open: the first that applies
-abbrev pub unopened_fault : Settings → ℕ → EnqueueFault
-unopened_fault p len = elim (len == 0) [
-  | true ↦ Empty
-  | false ↦ elim (nat_lt ((p.blocks - 1) * p.b * p.e) len) [ true ↦ TooBig len | false ↦ NoStream ]
+-- what a refused opening is answered
+abbrev pub open_refusal : EnqueueFault → Option Job × SendFault
+open_refusal fault = elim fault [
+  | NoRoom ↦ (None, Memory)
+  | Empty ↦ (Some Open, Enqueue Empty)
+  | TooBig len ↦ (Some Open, Enqueue (TooBig len))
+  | InfoTooBig len ↦ (Some Open, Enqueue (InfoTooBig len))
+  | StreamOpen index ↦ (Some Open, Enqueue (StreamOpen index))
+  | NoStream ↦ (Some Open, Enqueue NoStream)
+  | IdsSpent ↦ (Some Open, Enqueue IdsSpent)
+  | Stream why ↦ (Some Open, Enqueue (Stream why))
+  | WindowFull first ↦ (Some Open, Enqueue (WindowFull first))
 ]
 
 -- what a refused mark is answered

@@ -7,8 +7,7 @@ use Rattle.norm_send_rules.specs.SenderState.{SenderState}
 use Rattle.norm_send_rules.specs.Enqueuing.{object_fault, with_entry}
 use Rattle.norm_send_rules.specs.Reached.{IsReached}
 use Rattle.tx_window.specs.Taking.{room_made}
-use Rattle.tx_window.specs.WindowState.{Filling}
-use Rattle.norm_sender.specs.Unopened.{Stands as WindowStands}
+use Rattle.tx_window.specs.WindowState.{Filling, Stands as WindowStands}
 use Rattle.nack_union.specs.Kept.{Marked, with_object}
 use Rattle.nack_union.specs.UnionState.{UnionState, Stands as UnionStands}
 use Rattle.mark_book.specs.BookState.{Stands as BookStands}

@@ -1,11 +1,11 @@
 pub mod Pacing
 pub mod Heads
-pub mod Unopened
 pub mod SenderKept
 pub mod Filling
 pub mod SenderSound
 pub mod Inside
 pub mod SenderMoves
+pub mod Retiring
 pub mod Feedback
 pub mod Wanted
 pub mod Commands

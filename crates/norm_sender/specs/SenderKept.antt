@@ -3,8 +3,7 @@ use Rattle.std.specs.Prelude.{◌≡◌, None}
 use Rattle.norm_base.specs.Settings.{Settings}
 use Rattle.norm_send_rules.specs.SenderState.{SenderState}
 use Rattle.norm_send_rules.specs.Reached.{IsReached}
-use Rattle.tx_window.specs.WindowState.{WindowState}
-use Rattle.norm_sender.specs.Unopened.{Stands as WindowStands}
+use Rattle.tx_window.specs.WindowState.{WindowState, Stands as WindowStands}
 use Rattle.nack_union.specs.UnionState.{UnionState, Stands as UnionStands}
 use Rattle.mark_book.specs.BookState.{BookState, Stands as BookStands}
 use Rattle.norm_sender.specs.Pacing.{pace_of}

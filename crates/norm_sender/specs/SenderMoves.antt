@@ -6,7 +6,7 @@ use Rattle.norm_base.specs.Datagrams.{datagram_of}
 use Rattle.norm_base.specs.declared.kinds.Sent.{Sent}
 use Rattle.norm_ext.specs.Written.{Written}
 use Rattle.norm_send_rules.specs.SenderState.{SenderState}
-use Rattle.norm_sender.specs.Unopened.{Stands as WindowStands}
+use Rattle.tx_window.specs.WindowState.{Stands as WindowStands}
 use Rattle.nack_union.specs.UnionState.{Stands as UnionStands}
 use Rattle.mark_book.specs.BookState.{Stands as BookStands}
 use Rattle.norm_sender.specs.Pacing.{pace_of}

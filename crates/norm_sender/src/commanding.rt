@@ -7,25 +7,34 @@ ghost use Rattle.norm_send_rules.specs.SenderState.{SenderState};
 ghost use Rattle.norm_send_rules.specs.Commanding.{commanded};
 ghost use Rattle.norm_send_rules.specs.declared.fault.SendFault.TheVariants as send_fault;
 ghost use Rattle.norm_send_rules.specs.declared.job.Job.TheVariants as job;
-ghost use Rattle.norm_sender.specs.Commands.{opens_none, mark_refusal, GivesBack, Obeys};
+ghost use Rattle.norm_sender.specs.Commands.{open_refusal, mark_refusal, GivesBack, Obeys};
 ghost use Rattle.norm_sender.specs.SenderKept.{Agrees};
 ghost use Rattle.norm_sender.specs.Filling.{Fills, file_of};
 ghost use Rattle.norm_sender.specs.Inside.{kept_of};
 ghost use Rattle.norm_sender.specs.Wanted.{IsStanding};
 
 use crate::parts::{Parts, hold_range};
-use crate::streaming::write_fault;
 use norm_base::{InstanceId, Kind, NodeId, Octets};
 use norm_send_rules::{EnqueueFault, Job, MarkFault, Receipt, SendFault};
 
 /// What a command is answered: a receipt, or the fault, with the command but for want of memory.
 pub(crate) type Answer = Result<Receipt, (Option<Job>, SendFault)>;
 
-/// Whether a command opens no stream. A sender carries those that open none.
-pub fn opens_none(job: &Job) -> bool
-    ensures { result ≡ opens_none job.now }
+/// What a refused opening is answered.
+fn open_refusal(fault: EnqueueFault) -> (Option<Job>, SendFault)
+    ensures { result ≡ open_refusal fault }
 {
-    !matches!(job, Job::Open)
+    match fault {
+        EnqueueFault::Memory => (None, SendFault::Memory),
+        EnqueueFault::Empty
+        | EnqueueFault::TooBig { .. }
+        | EnqueueFault::InfoTooBig { .. }
+        | EnqueueFault::StreamOpen { .. }
+        | EnqueueFault::NoStream
+        | EnqueueFault::IdsSpent
+        | EnqueueFault::Stream(_)
+        | EnqueueFault::WindowFull { .. } => (Some(Job::Open), SendFault::Enqueue(fault)),
+    }
 }
 
 /// What a refused mark is answered.
@@ -106,6 +115,7 @@ impl Parts {
 
     /// Makes a watermark.
     fn mark_for(&mut self, quorum: Option<u32>) -> Answer
+        requires { IsStanding (kept_of self.old) }
         ensures profile { self.new.profile ≡ self.old.profile }
         ensures obeys { Obeys (kept_of self.old) (kept_of self.new) (job.Mark quorum) result }
     {
@@ -138,27 +148,45 @@ impl Parts {
         }
     }
 
-    /// Octets for a stream, of which none is open.
-    fn refuse_write(&mut self, bytes: Octets) -> Answer
+    /// Opens a stream.
+    fn open_up(&mut self) -> Answer
+        requires { IsStanding (kept_of self.old) }
+        ensures profile { self.new.profile ≡ self.old.profile }
+        ensures obeys { Obeys (kept_of self.old) (kept_of self.new) job.Open result }
+    {
+        match self.open() {
+            Ok(receipt) => Ok(receipt),
+            Err(fault) => Err(open_refusal(fault)),
+        }
+    }
+
+    /// Writes octets to the open stream.
+    fn write_all(&mut self, bytes: Octets) -> Answer
+        requires { IsStanding (kept_of self.old) }
         ensures profile { self.new.profile ≡ self.old.profile }
         ensures obeys { Obeys (kept_of self.old) (kept_of self.new) (job.Write bytes) result }
     {
-        let fault = write_fault(&self.profile, bytes.bytes().len());
-        Err((Some(Job::Write { bytes }), SendFault::Enqueue(fault)))
+        match self.write(bytes.bytes()) {
+            Ok(receipt) => Ok(receipt),
+            Err(fault) => Err((Some(Job::Write { bytes }), SendFault::Enqueue(fault))),
+        }
     }
 
-    /// The end of a stream, of which none is open.
-    fn refuse_close(&mut self) -> Answer
+    /// Ends the open stream.
+    fn close_off(&mut self) -> Answer
+        requires { IsStanding (kept_of self.old) }
         ensures profile { self.new.profile ≡ self.old.profile }
         ensures obeys { Obeys (kept_of self.old) (kept_of self.new) job.Close result }
     {
-        Err((Some(Job::Close), SendFault::Enqueue(EnqueueFault::NoStream)))
+        match self.close() {
+            Ok(receipt) => Ok(receipt),
+            Err(fault) => Err((Some(Job::Close), SendFault::Enqueue(fault))),
+        }
     }
 
     /// Obeys a command.
     pub(crate) fn command(&mut self, job: Job) -> Answer
-        requires standing { IsStanding (kept_of self.old) }
-        requires carried { opens_none job ≡ true }
+        requires { IsStanding (kept_of self.old) }
         ensures range { InRange self.old.profile }
         ensures profile { self.new.profile ≡ self.old.profile }
         ensures obeys { Obeys (kept_of self.old) (kept_of self.new) job result }
@@ -167,10 +195,9 @@ impl Parts {
         match job {
             Job::Data { info, bytes } => self.enqueue_data(info, bytes),
             Job::File { name, bytes } => self.enqueue_file(name, bytes),
-            // Proof: what opens a stream does not come here.
-            Job::Open => Err((None, SendFault::Memory)),
-            Job::Write { bytes } => self.refuse_write(bytes),
-            Job::Close => self.refuse_close(),
+            Job::Open => self.open_up(),
+            Job::Write { bytes } => self.write_all(bytes),
+            Job::Close => self.close_off(),
             Job::Mark { quorum } => self.mark_for(quorum),
             Job::Restart { instance } => self.restart_in(instance),
             Job::Strike { node } => self.strike_off(node),

@@ -17,6 +17,7 @@ ghost use Rattle.nack_union.specs.UnionMoves.{UnionMoves};
 ghost use Rattle.norm_sender.specs.SenderKept.{Agrees};
 ghost use Rattle.norm_sender.specs.Filling.{Fills};
 ghost use Rattle.norm_sender.specs.Inside.{kept_of};
+ghost use Rattle.norm_sender.specs.Retiring.{CanRetire};
 ghost use Rattle.norm_sender.specs.Wanted.{IsStanding};
 
 use crate::parts::{Parts, hold_range};
@@ -25,18 +26,18 @@ use norm_send_rules::{EnqueueFault, Receipt};
 use tx_window::{info_len, plan_of};
 
 impl Parts {
-    /// What was asked for of objects that the window dropped is forgotten. Where that takes away a want, a squelch is due.
-    fn retire(&mut self)
-        requires not_back { self.old.union.kept.first ≤ (drop_of self.old.window).index }
-        requires within { (drop_of self.old.window).index ≤ self.old.union.kept.first + length self.old.union.kept.objects }
-        requires whole { (drop_of self.old.window).block ≡ 0 }
+    /// What was asked for of what the window dropped is forgotten. Where that takes away a want, a squelch is due.
+    pub(crate) fn retire(&mut self)
+        requires { CanRetire self.old.union (drop_of self.old.window) }
         ensures rest { (self.new.profile ≡ self.old.profile) × (self.new.window ≡ self.old.window) × (self.new.book ≡ self.old.book) }
-        ensures exact { self.new.union ≡ record self.old.union { kept = retired (drop_of self.old.window).index self.old.union.kept } }
+        ensures exact { self.new.union ≡ record self.old.union { kept = retired (drop_of self.old.window).index (drop_of self.old.window).block self.old.union.kept } }
+        ensures few { (drop_of self.old.window).block ≤ 16777216 }
         ensures union { UnionMoves self.old.union self.new.union (dropped_to (drop_of self.old.window)) }
         ensures pace { (s : SenderState) → UnionStands self.old.union s → self.new.pace ≡ record self.old.pace {
           squelch_due = self.old.pace.squelch_due || list_any (λ want. not (stands_behind (drop_of self.old.window) want)) s.wants;
         } }
     {
+        self.window.fits();
         let (index, block) = self.window.first();
         let dropped = self.union.retire(index, block);
         self.pace = self.pace.retired(dropped);

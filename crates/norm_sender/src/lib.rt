@@ -19,6 +19,5 @@ mod telling;
 mod ticking;
 mod writing;
 
-pub use crate::commanding::opens_none;
 pub use crate::pace::Pace;
 pub use crate::sender::Sender;

@@ -5,36 +5,63 @@ ghost use Rattle.norm_base.specs.Settings.{InRange};
 ghost use Rattle.norm_base.specs.declared.node.Origin.{Origin};
 ghost use Rattle.norm_send_rules.specs.SenderState.{SenderState};
 ghost use Rattle.norm_send_rules.specs.Marking.{marked};
+ghost use Rattle.norm_send_rules.specs.Streaming.{cut};
 ghost use Rattle.norm_send_rules.specs.declared.fault.MarkFault.TheVariants as fault;
 ghost use Rattle.mark_book.specs.Answers.{asked_for};
 ghost use Rattle.norm_sender.specs.SenderKept.{Agrees};
+ghost use Rattle.norm_sender.specs.SenderMoves.{IsBehind};
+ghost use Rattle.norm_sender.specs.Retiring.{CanCut};
 ghost use Rattle.norm_sender.specs.Inside.{kept_of};
+ghost use Rattle.norm_sender.specs.Wanted.{IsStanding};
 
 use crate::parts::{Parts, hold_range};
 use fec_plan::Position;
 use norm_send_rules::{MarkFault, Receipt};
 
 impl Parts {
-    /// One more watermark, for everything up to a position.
+    /// A refused mark cuts the open stream all the same, but for want of memory.
+    fn cut_unless_memory(&mut self, why: &MarkFault)
+        requires { CanCut (kept_of self.old) }
+        ensures profile { self.new.profile ≡ self.old.profile }
+        ensures cut { why.now ≢ fault.Memory → (s t : SenderState) → IsBehind (kept_of self.old) s t
+            → IsBehind (kept_of self.new) (cut self.old.profile s) t }
+        ensures memory { why.now ≡ fault.Memory → self.new ≡ self.old }
+    {
+        match why {
+            MarkFault::Memory => {}
+            MarkFault::Quorum { .. } | MarkFault::NothingEnqueued | MarkFault::TooMany { .. } => {
+                self.cut();
+            }
+        }
+    }
+
+    /// One more watermark, for everything up to a position, which is the last one once the open stream is cut. The stream is cut as
+    /// soon as no memory is wanted any more.
     fn mark_at(&mut self, at: Position, quorum: Option<u32>) -> Result<Receipt, MarkFault>
+        requires { IsStanding (kept_of self.old) }
         ensures profile { self.new.profile ≡ self.old.profile }
         ensures stands { (s : SenderState) (by : Origin) → Agrees (kept_of self.old) s → result ≢ Err fault.Memory
-            → Agrees (kept_of self.new) (asked_for self.old.profile s by quorum (Some at)).0
-            × (result ≡ (asked_for self.old.profile s by quorum (Some at)).1) }
+            → Agrees (kept_of self.new) (asked_for self.old.profile (cut self.old.profile s) by quorum (Some at)).0
+            × (result ≡ (asked_for self.old.profile (cut self.old.profile s) by quorum (Some at)).1) }
         ensures memory { result ≡ Err fault.Memory → kept_of self.new ≡ kept_of self.old }
     {
         let before = self.book.oldest();
         match self.book.request(Some(at), quorum) {
             Ok(mark) => {
+                self.cut();
                 self.follow(before);
                 Ok(Receipt::Mark { mark, at })
             }
-            Err(fault) => Err(fault),
+            Err(fault) => {
+                self.cut_unless_memory(&fault);
+                Err(fault)
+            }
         }
     }
 
-    /// One more watermark, for everything that was enqueued. No stream is ever open, so that nothing is cut.
+    /// One more watermark, for everything that was enqueued: the open stream is cut.
     pub(crate) fn mark(&mut self, quorum: Option<u32>) -> Result<Receipt, MarkFault>
+        requires { IsStanding (kept_of self.old) }
         ensures range { InRange self.old.profile }
         ensures profile { self.new.profile ≡ self.old.profile }
         ensures stands { (s : SenderState) (by : Origin) → Agrees (kept_of self.old) s → result ≢ Err fault.Memory
@@ -45,7 +72,8 @@ impl Parts {
         if let Some(fault) = self.book.quorum_fault(quorum) {
             return Err(fault);
         }
-        let Some(at) = self.window.end() else {
+        let Some(at) = self.window.end_cut() else {
+            self.cut();
             return Err(MarkFault::NothingEnqueued);
         };
         self.mark_at(at, quorum)

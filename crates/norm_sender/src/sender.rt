@@ -17,7 +17,7 @@ ghost use Rattle.norm_send_rules.specs.declared.fault.SendFault.TheVariants as s
 ghost use Rattle.norm_send_rules.specs.declared.job.Job.TheVariants as job;
 ghost use Rattle.tx_window.specs.Taking.{room_made, with_piece};
 ghost use Rattle.tx_window.specs.WindowState.{Filling};
-ghost use Rattle.norm_sender.specs.Commands.{opens_none, answer_of, GivesBack};
+ghost use Rattle.norm_sender.specs.Commands.{answer_of, GivesBack};
 ghost use Rattle.norm_sender.specs.Filling.{HasBegun, file_of};
 ghost use Rattle.norm_sender.specs.SenderKept.{Stands};
 ghost use Rattle.norm_sender.specs.SenderMoves.{IsTick};
@@ -119,21 +119,20 @@ impl Sender {
         self.parts.tick(now, out)
     }
 
-    /// Obeys a command that opens no stream ([`opens_none`](crate::opens_none)), of a producer, at a moment. Neither whose it was nor
-    /// when it came makes a difference to what a sender keeps.
+    /// Obeys a command of a producer, at a moment. Neither whose it was nor when it came makes a difference to what a sender keeps.
     ///
     /// # Errors
     ///
     /// The fault that the rules name, and with it the command, or `Memory` without it, which stands for every want of memory.
-    /// Then nothing changes. A command that waits for room is answered before any memory is taken for it.
+    /// Then nothing changes but that a mark cuts the open stream. Want of memory changes nothing. A command that waits for room is
+    /// answered before any memory is taken for it.
     pub fn command(
         &mut self,
         by: Origin,
         job: Job,
         now: Moment,
     ) -> Result<Receipt, (Option<Job>, SendFault)>
-        requires ready { self.old.window.filling ≡ None }
-        requires carried { opens_none job ≡ true }
+        requires { self.old.window.filling ≡ None }
         ensures profile { self.new.p ≡ self.old.p }
         ensures ready { self.new.window.filling ≡ None }
         ensures stands { (s : SenderState) → Stands self.old s → answer_of result ≢ Err send_fault.Memory
@@ -199,14 +198,14 @@ impl Sender {
         self.parts.leave();
     }
 
-    /// Asks that so many members, or all of them, confirm everything that was enqueued so far. The watermark is satisfied
+    /// Cuts the open stream, and asks that so many members, or all of them, confirm everything that was enqueued so far. The watermark is satisfied
     /// as it is made where enough members are past it. Whose command it was makes no difference to what a sender keeps.
     ///
     /// # Errors
     ///
     /// `Quorum` exactly where the quorum is 0 or above the number of receivers, else `NothingEnqueued` exactly where this
-    /// instance enqueued nothing, and else `TooMany` exactly where 16 watermarks are open; or `Memory`. Then nothing
-    /// changes.
+    /// instance enqueued nothing, and else `TooMany` exactly where 16 watermarks are open. The open stream is cut all the same, but
+    /// for `Quorum`. Or `Memory`, and then nothing changes.
     pub fn mark(&mut self, quorum: Option<u32>) -> Result<Receipt, MarkFault>
         requires { self.old.window.filling ≡ None }
         ensures profile { self.new.p ≡ self.old.p }

@@ -1,6 +1,6 @@
 //! What a sender sends of its objects (RFC 5740 section 5.2): an info or a symbol of the window.
 
-ghost use Rattle.std.specs.Prelude.{◌≡◌, ◌≤◌, ◌<◌, ◌+◌, ℕ, List, true, length, Some, nat_lt};
+ghost use Rattle.std.specs.Prelude.{◌≡◌, ◌≤◌, ◌<◌, ◌+◌, ℕ, List, true, length, Some, nat_le, nat_lt};
 ghost use Rattle.norm_order.specs.Entries.{Object, Whole};
 ghost use Rattle.norm_order.specs.Moments.{moment_after};
 ghost use Rattle.norm_order.specs.Shapes.{shape_of, encoded_in};
@@ -8,6 +8,7 @@ ghost use Rattle.norm_base.specs.declared.kinds.Kind.{Kind};
 ghost use Rattle.norm_ext.specs.Octets.{octets_of};
 ghost use Rattle.norm_send_rules.specs.SenderState.{SenderState};
 ghost use Rattle.norm_send_rules.specs.Messages.{data_message, info_message};
+ghost use Rattle.norm_send_rules.specs.Room.{first_kept};
 ghost use Rattle.norm_send_rules.specs.Sending.{noted, object_of, repair_flags, sends_want};
 ghost use Rattle.norm_send_rules.specs.declared.want.Want.{Want as Wanted};
 ghost use Rattle.norm_send_rules.specs.declared.want.Want.TheVariants.{Info, Symbol};
@@ -33,7 +34,7 @@ impl Parts {
     /// Writes an encoded symbol of the window, with what a repair adds to the flags. False where the window has none such.
     fn write_symbol(&self, at: Position, repair: u8, out: &mut Datagram) -> bool
         ensures { (s : SenderState) (object : Object) → Agrees (kept_of self.now) s → kept_at s at.index ≡ Some object
-            → nat_lt at.symbol (encoded_in (shape_of self.now.profile object) at.block) ≡ true → repair ≤ 3
+            → nat_lt at.symbol (encoded_in (shape_of self.now.profile object) at.block) ≡ true → nat_le (first_kept s at.index) at.block ≡ true → repair ≤ 3
             → (result ≡ true) × (out.new ≡ octets_of (data_message self.now.profile s at object repair)) }
     {
         let Some(about) = self.window.about(at.index) else {

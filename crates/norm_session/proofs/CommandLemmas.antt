@@ -45,10 +45,10 @@ use Rattle.norm_session.specs.Commanding.{IsDue, IsAtLine, IsAnswered, given, of
 use Rattle.norm_session.specs.Turning.{IsOver, command_next}
 use Rattle.norm_session.specs.Context.{Context, judged_of}
 use Rattle.norm_session.specs.Left.{IsTaken, lines_at}
-use Rattle.norm_session.specs.Noting.{IsAtHand, kept_of, noted}
+use Rattle.norm_session.specs.Noting.{IsAtHand, noted}
 use Rattle.norm_session.specs.Posting.{entries_in}
 use Rattle.norm_session.specs.RunKept.{RunKept}
-use Rattle.norm_session.specs.SoFar.{HasAll, IsOffered, IsTelling, At, Leads}
+use Rattle.norm_session.specs.SoFar.{HasAll, IsOffered, IsTelling, At}
 use Rattle.norm_session.specs.Stopping.{IsUnwritten, Stopped}
 use Rattle.norm_session.specs.declared.fault.SessionFault.{SessionFault}
 use Rattle.norm_session.specs.declared.fault.SessionFault.TheVariants as fault
@@ -172,7 +172,7 @@ notes x k v e journal totals waiting place line gave text network unwritten writ
     record {
       world = g.after;
       so_far = record {
-        all = record { script = g.all.script; world = g.all.world; alone = g.all.alone; receivers = g.all.receivers; objects = g.all.objects };
+        all = record { script = g.all.script; world = g.all.world; alone = g.all.alone; receivers = g.all.receivers };
         stands = g.stands;
         journal = g.journal ++ e ∷ [];
         kept = joined ∙ kept_more k.alone k.journal g.journal e g.kept;
@@ -259,7 +259,7 @@ abbrev pub moved_to : RunKept → WorldKept → RunKept
 moved_to k world = record k { world = world }
 
 pub has_all : (x : Context) (k : RunKept) (world : WorldKept) → world.p ≡ k.world.p → HasAll x k → HasAll x (moved_to k world)
-has_all x k world same all = record { script = all.script; world = same ∙ all.world; alone = all.alone; receivers = all.receivers; objects = all.objects }
+has_all x k world same all = record { script = all.script; world = same ∙ all.world; alone = all.alone; receivers = all.receivers }
 
 -- the line of a job
 pub gave_text : (x : Context) (k : RunKept) (w : World) (first : Bool) (line : Line) (by : Origin) (told : Option Job) (gave : Result Receipt SendFault) (instance : ℕ)

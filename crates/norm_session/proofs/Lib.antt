@@ -15,3 +15,4 @@ pub mod SessionLemmas
 pub mod TellingLemmas
 pub mod HandingLemmas
 pub mod ServingLemmas
+pub mod ScriptLemmas

@@ -28,7 +28,6 @@ use Rattle.norm_journal.specs.declared.event.Event.TheVariants as event
 use Rattle.norm_journal.specs.Calls.{LooksIntoFile, file_call, call_at}
 use Rattle.norm_journal.specs.Commands.{telling}
 use Rattle.norm_journal.specs.Follows.{CommandOffered, FileRefused, IsContent, IsLength, IsJobOf}
-use Rattle.norm_journal.specs.Laws.{HasOctets}
 use Rattle.norm_journal.specs.Jobs.{Told, job_of, may_be_absent, file_of_length}
 use Rattle.norm_journal.specs.Judged.{Judged}
 use Rattle.norm_journal.specs.Lines.{gave_line, no_line, reason_of}
@@ -137,9 +136,6 @@ octets_both [] ys front back i = back i
 octets_both (x ∷ xs) ys front back zero = front zero
 octets_both (x ∷ xs) ys front back (suc i) = octets_both xs ys (λ n. front (suc n)) back i
 
-pub no_octets : AreOctets []
-no_octets i = omega arith
-
 -- a piece came to the file that is begun
 abbrev pub ComesTo : (old new : WorldKept) (piece : List ℕ) → Type 0
 ComesTo old new piece = (name octets : List ℕ) (len : ℕ) → IsFilling old name len octets → IsFilling new name len (octets ++ piece)
@@ -163,18 +159,6 @@ part_on old new name piece len done n part comes long octets =
       count = omega (arith, count, sum, long) ∙ ap length (sym there);
       are_octets = subst AreOctets (sym there) (octets_both (octets_there old) piece part.are_octets octets);
     }
-
--- and among those that are kept
-pub copied_on : (old new : WorldKept) (name piece : List ℕ) (len : ℕ) (before after : Option (List ℕ)) (keeps : Bool)
-    → IsFilling old name len (octets_there old) → ComesTo old new piece → after ≡ option_map (λ (octets : List ℕ). octets ++ piece) before
-    → before ≡ octets_at keeps (octets_there old) → after ≡ octets_at keeps (octets_there new)
-copied_on old new name piece len before after keeps filling comes joined is =
-    joined ∙ ap (option_map (λ (octets : List ℕ). octets ++ piece)) is ∙ one keeps (octets_there old)
-    ∙ ap (octets_at keeps) (sym (there_on old new name piece len filling comes))
-  where
-    one : (keeps : Bool) (octets : List ℕ) → option_map (λ (xs : List ℕ). xs ++ piece) (octets_at keeps octets) ≡ octets_at keeps (octets ++ piece)
-    one true octets = refl
-    one false octets = refl
 
 -- the job of the octets that are kept
 pub job_kept : (keeps : Bool) (name octets : List ℕ) (copy : Option (List ℕ)) (at_hand : Option Job)

@@ -7,6 +7,7 @@ use Rattle.norm_base.specs.Network as network
 use Rattle.norm_base.specs.Network.{Network}
 use Rattle.norm_base.specs.Told.{Pieces}
 use Rattle.norm_script.specs.Commands.{Commands}
+use Rattle.norm_script.specs.Scripts.{IsScript}
 use Rattle.norm_safety.specs.InTime.{WasOffered}
 use Rattle.norm_safety.proofs.CreditLemmas.{credit_run}
 use Rattle.norm_safety.proofs.FreshRun.{fresh_run}
@@ -14,11 +15,12 @@ use Rattle.norm_safety.proofs.HoldRun.{hold_run}
 use Rattle.norm_safety.proofs.Owing.{acknowledge_run}
 use Rattle.norm_safety.proofs.SafeRun.{safe_run}
 use Rattle.norm_safety.proofs.SaidRun.{said_run}
+use Rattle.norm_safety.proofs.SatisfiedRun.{satisfied_run}
 use Rattle.norm_journal.specs.declared.event.Event.{Event}
 use Rattle.norm_journal.specs.declared.event.Event.TheVariants as event
 use Rattle.norm_journal.specs.Accepting.{accepts, judged_from}
 use Rattle.norm_journal.specs.Honest.{IsHonest}
-use Rattle.norm_journal.specs.Jobs.{Told}
+use Rattle.norm_journal.specs.Jobs.{Told, IsOfObjects}
 use Rattle.norm_journal.specs.Judged.{Judged}
 use Rattle.norm_journal.specs.Laws.{HasOctets, octets_given}
 use Rattle.norm_journal.specs.Projections.{offers_in}
@@ -26,11 +28,13 @@ use Rattle.norm_journal.specs.SessionRun.{Begun}
 use Rattle.norm_journal.specs.WorldEvents.{TakesHonestly}
 use Rattle.norm_journal.proofs.FrontLemmas.{judged_from-append}
 use Rattle.norm_journal.proofs.ObjectLemmas.{commands_are_of_objects}
+use Rattle.norm_journal.proofs.LawfulLemmas.{begins_honestly}
 use Rattle.norm_journal.proofs.OctetLemmas.{commands_are_events}
+use Rattle.norm_journal.proofs.ScriptLemmas.{scripts_named}
 use Rattle.norm_journal.proofs.OfferedLemmas.{offers_are_the_worlds}
 use Rattle.norm_journal.proofs.TimeLemmas.{begins_lawfully}
 use Rattle.norm_session.specs.Context.{Context, opening}
-use Rattle.norm_session.specs.Session.{IsRunnable, IsSafe, OverHonest, nodes_of, session_opening, session_events}
+use Rattle.norm_session.specs.Session.{IsSafeOfObjects, IsSafe, OverHonest, nodes_of, session_opening, session_events}
 use Rattle.norm_session.specs.SoFar.{Leads, IsOffered, AreOffered}
 use Rattle.norm_session.specs.Stopping.{Stopped}
 use Rattle.norm_session.specs.declared.fault.SessionFault.{SessionFault}
@@ -98,18 +102,15 @@ starts_there j = refl
 is_some : {X : Type 0} (o : Option X) (x : X) → o ≡ Some x → IsSome o
 is_some o x is = subst IsSome (sym is) refl
 
-pub safe_so_far : (script : Commands) (files : Told) (journal : List Event) (last : Judged) → IsRunnable script
-    → judged_from (session_opening script files) journal ≡ Some last → AreOffered [] journal → AllByRecursion HasOctets journal
-    → IsSafe script files journal
-safe_so_far script files journal last is so offered octets =
-    let start = session_opening script files in
-    let begun : Begun script files (nodes_of script) journal = is_some (judged_from start journal) last so in
-    let honest = take_honestly script files [] journal start last (starts_there start) so offered in
-    let lawful = begins_lawfully script files (nodes_of script) journal is.is_script is.objects begun octets honest in
+safe_of_objects : (script : Commands) (files : Told) (journal : List Event) → IsScript script → Begun script files (nodes_of script) journal
+    → TakesHonestly (session_opening script files) journal → AllByRecursion HasOctets journal → AllByRecursion IsOfObjects script.lines
+    → IsSafeOfObjects script files journal
+safe_of_objects script files journal is begun honest octets objects =
+    let lawful = begins_lawfully script files (nodes_of script) journal is objects begun octets honest in
     let events = session_events script files journal in
-    let are = commands_are_events script files (nodes_of script) journal is.is_script begun octets in
-    let of = commands_are_of_objects script files (nodes_of script) journal is.objects begun in
-    let range = is.is_script.range in
+    let are = commands_are_events script files (nodes_of script) journal is begun octets in
+    let of = commands_are_of_objects script files (nodes_of script) journal objects begun in
+    let range = is.range in
     record {
       lawful = lawful;
       safe = safe_run.safe script.profile range events lawful are of;
@@ -118,7 +119,22 @@ safe_so_far script files journal last is so offered octets =
       fresh = fresh_run script.profile range events lawful are of;
       acknowledged = acknowledge_run.handed script.profile range events lawful are of;
       owed = acknowledge_run.owed script.profile range events lawful are of;
+    }
+
+pub safe_so_far : (script : Commands) (files : Told) (journal : List Event) (last : Judged) → IsScript script
+    → judged_from (session_opening script files) journal ≡ Some last → AreOffered [] journal → AllByRecursion HasOctets journal
+    → IsSafe script files journal
+safe_so_far script files journal last is so offered octets =
+    let start = session_opening script files in
+    let begun : Begun script files (nodes_of script) journal = is_some (judged_from start journal) last so in
+    let honest = take_honestly script files [] journal start last (starts_there start) so offered in
+    let run = begins_honestly script files (nodes_of script) journal (scripts_named script is) begun honest in
+    let events = session_events script files journal in
+    record {
+      once = safe_run.once script.profile events run.honest;
+      satisfied = satisfied_run script.profile is.range events;
       credited = credit_run script.profile events;
+      of_objects = λ objects. safe_of_objects script files journal is begun honest octets objects;
     }
 
 -- ---- over an honest network
@@ -137,7 +153,7 @@ session_judged : (x : Context) (journal : List Event) (last : Judged) → x.node
 session_judged x journal last nodes so = subst (λ n. judged_from (opening (record x { nodes = n })) journal ≡ Some last) nodes so
 
 pub safe_over : (x : Context) (journal : List Event) (j : Judged) (network : Network) (written : Pieces) → Leads x journal j network written
-    → x.nodes ≡ nodes_of x.script → IsRunnable x.script → IfSome x.network.offered (λ now. now ≡ [])
+    → x.nodes ≡ nodes_of x.script → IsScript x.script → IfSome x.network.offered (λ now. now ≡ [])
     → OverHonest x.network (IsSafe x.script x.files journal)
 safe_over x journal j network written s nodes is none =
     over_honest x (IsSafe x.script x.files journal) none (λ honest told.
@@ -145,7 +161,7 @@ safe_over x journal j network written s nodes is none =
 
 -- the same where a fault stopped it
 pub safe_stopped : (x : Context) (fault : SessionFault) (network : Network) (written : Pieces) (s : Stopped x fault network written)
-    → x.nodes ≡ nodes_of x.script → IsRunnable x.script → IfSome x.network.offered (λ now. now ≡ [])
+    → x.nodes ≡ nodes_of x.script → IsScript x.script → IfSome x.network.offered (λ now. now ≡ [])
     → OverHonest x.network (IsSafe x.script x.files s.journal)
 safe_stopped x fault network written s nodes is none =
     over_honest x (IsSafe x.script x.files s.journal) none (λ honest told.

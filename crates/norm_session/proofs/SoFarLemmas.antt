@@ -6,7 +6,6 @@ use Rattle.std.specs.Option.{option_to_list}
 use Rattle.std.proofs.lemmas.List.{append-nil, map-append}
 use Rattle.std.proofs.lemmas.List.Concat.{flat_map-append}
 use Rattle.norm_base.specs.Network.{Network}
-use Rattle.norm_base.specs.Settings.{Settings}
 use Rattle.norm_base.specs.Told.{Pieces, gained, GainsFront}
 use Rattle.norm_journal.specs.declared.event.Event.{Event}
 use Rattle.norm_journal.specs.Accepting.{accepts, judged_from}
@@ -179,7 +178,6 @@ moved x board k new e w v place next before now unwritten written s m leads = re
     world = m.nodes ∙ s.all.world ∙ sym m.profile;
     alone = m.alone ∙ s.all.alone;
     receivers = s.all.receivers ∙ ap (nodes_in k.alone) (sym m.profile) ∙ ap (λ b. nodes_in b new.p) (sym m.alone);
-    objects = s.all.objects;
   };
   stands = m.stands;
   journal = s.journal ++ e ∷ [];

@@ -1,7 +1,6 @@
 -- The beginning of a run.
 use Rattle.std.proofs.Common.{◌≡◌, ℕ, List, [], ◌∷◌, Bool, Option, None, refl, sym, ap, ◌∙◌, subst, inl, inr}
 use Rattle.std.specs.Prelude.{◌⊎◌}
-use Rattle.std.specs.List.{AllByRecursion}
 use Rattle.rand_pcg.specs.Lcg.{Lcg}
 use Rattle.norm_base.specs.Network.{Network}
 use Rattle.norm_base.specs.Settings.{Settings}
@@ -14,7 +13,6 @@ use Rattle.norm_safety.specs.World.{world_opening}
 use Rattle.norm_journal.specs.Accepting.{judged_from}
 use Rattle.norm_journal.specs.Draws.{first_draws}
 use Rattle.norm_journal.specs.Follows.{NetworkStarts}
-use Rattle.norm_journal.specs.Jobs.{IsOfObjects}
 use Rattle.norm_journal.specs.Places.{Between}
 use Rattle.norm_journal.specs.Printed.{lines_from}
 use Rattle.norm_journal.specs.Projections.{network_after}
@@ -65,10 +63,10 @@ begun_with alone p world journal totals draws left = record {
   waiting = None;
 }
 
-begins : (x : Context) (script : Commands) (alone : Bool) (network : Network) (world : WorldKept) (left : List ℕ) → lines_at x.script.lines left ≡ x.script.lines → IsBegun x script alone network → AllByRecursion IsOfObjects x.script.lines
+begins : (x : Context) (script : Commands) (alone : Bool) (network : Network) (world : WorldKept) (left : List ℕ) → lines_at x.script.lines left ≡ x.script.lines → IsBegun x script alone network
     → world.p ≡ x.script.profile → StandsFor world (world_opening x.script.profile)
     → At x (begun_with alone x.script.profile world (kept_of alone (event.Start ∷ [])) nothing_counted (first_draws x.script.profile) left) Between network x.written
-begins x script alone network world left all b objects same stands =
+begins x script alone network world left all b same stands =
     let k = begun_with alone x.script.profile world (kept_of alone (event.Start ∷ [])) nothing_counted (first_draws x.script.profile) left in
     let w = world_opening x.script.profile in
     let follows : NetworkStarts (opening x) (judged_of x k w Between) = record { place = refl; then = ap (λ (ls : List Line). record (judged_of x k w Between) { left = ls }) all } in
@@ -80,7 +78,6 @@ begins x script alone network world left all b objects same stands =
           world = same;
           alone = sym b.is_alone;
           receivers = subst (λ (s : Commands). x.nodes ≡ nodes_in alone s.profile) (sym b.script) b.nodes;
-          objects = objects;
         };
         stands = stands;
         journal = event.Start ∷ [];
@@ -94,11 +91,11 @@ begins x script alone network world left all b objects same stands =
 
 -- by what it keeps
 pub run_begins : (x : Context) (script : Commands) (alone : Bool) (network : Network) (p : Settings) (world : WorldKept) (journal : Option (List Event)) (totals : Totals) (draws : Lcg)
-    (left : List ℕ) → lines_at script.lines left ≡ script.lines → AllByRecursion IsOfObjects script.lines → p ≡ script.profile → world.p ≡ p → StandsFor world (world_opening p) → journal ≡ kept_of alone (event.Start ∷ [])
+    (left : List ℕ) → lines_at script.lines left ≡ script.lines → p ≡ script.profile → world.p ≡ p → StandsFor world (world_opening p) → journal ≡ kept_of alone (event.Start ∷ [])
     → totals ≡ nothing_counted → draws ≡ first_draws p → IsBegun x script alone network → At x (begun_with alone p world journal totals draws left) Between network x.written
-run_begins x script alone network p world journal totals draws left all objects p_is same stands journal_is totals_is draws_is b =
+run_begins x script alone network p world journal totals draws left all p_is same stands journal_is totals_is draws_is b =
     let own : p ≡ x.script.profile = p_is ∙ ap (λ (s : Commands). s.profile) (sym b.script) in
-    let here = begins x script alone network world left (subst (λ (s : Commands). lines_at s.lines left ≡ s.lines) (sym b.script) all) b (subst (λ (s : Commands). AllByRecursion IsOfObjects s.lines) (sym b.script) objects) (same ∙ own)
+    let here = begins x script alone network world left (subst (λ (s : Commands). lines_at s.lines left ≡ s.lines) (sym b.script) all) b (same ∙ own)
     (subst (λ (q : Settings). StandsFor world (world_opening q)) own stands) in
     subst (λ js. At x (begun_with alone p world js totals draws left) Between network x.written) (sym journal_is)
     (subst (λ (t : Totals). At x (begun_with alone p world (kept_of alone (event.Start ∷ [])) t draws left) Between network x.written) (sym totals_is)

@@ -33,7 +33,6 @@ use Rattle.norm_session.specs.RunKept.{RunKept}
 use Rattle.norm_session.specs.SoFar.{SoFar, At}
 use Rattle.norm_session.specs.Stopping.{IsUnwritten, Stopped}
 use Rattle.norm_session.specs.Telling.{untold_count, left_past, left_by, IsTellingOf, HasTold}
-use Rattle.norm_session.specs.declared.fault.SessionFault.{SessionFault}
 use Rattle.norm_session.specs.declared.fault.SessionFault.TheVariants as fault
 use Rattle.producer_gate.specs.Boards.{BoardState}
 use Rattle.norm_session.proofs.SoFarLemmas.{more_told, posted_by, untold, told_line_stops}

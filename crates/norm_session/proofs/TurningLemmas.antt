@@ -18,9 +18,9 @@ use Rattle.norm_journal.specs.declared.event.Event.TheVariants as event
 use Rattle.norm_safety.specs.World.{World}
 use Rattle.norm_session.specs.Context.{Context, with_moments, opening, judged_of}
 use Rattle.norm_session.specs.Moments.{Either, count_of, ByClock, HaveMoments, last_moment}
-use Rattle.norm_session.specs.Noting.{kept_of, noted}
+use Rattle.norm_session.specs.Noting.{noted}
 use Rattle.norm_session.specs.RunKept.{RunKept}
-use Rattle.norm_session.specs.SoFar.{Leads, At}
+use Rattle.norm_session.specs.SoFar.{At}
 use Rattle.norm_session.specs.Stopping.{Stopped}
 use Rattle.norm_session.specs.Turning.{command_next, IsGiven, IsStepped, IsNextMoment, FollowMoments, GoesOn}
 use Rattle.norm_session.specs.declared.fault.SessionFault.TheVariants as fault
@@ -106,7 +106,7 @@ begins_turn x k journal turn now before after network written number moment join
     record {
       world = w;
       so_far = record {
-        all = record { script = s.all.script; world = s.all.world; alone = s.all.alone; receivers = s.all.receivers; objects = s.all.objects };
+        all = record { script = s.all.script; world = s.all.world; alone = s.all.alone; receivers = s.all.receivers };
         stands = s.stands;
         journal = s.journal ++ e ∷ [];
         kept = joined ∙ kept_more k.alone k.journal s.journal e s.kept;

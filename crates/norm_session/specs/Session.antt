@@ -6,7 +6,6 @@ use Rattle.norm_base.specs.Network.{Network, Starts}
 use Rattle.norm_base.specs.Told.{Pieces, gained}
 use Rattle.norm_base.specs.declared.kinds.Local.TheVariants.{All, One}
 use Rattle.norm_script.specs.Commands.{Commands}
-use Rattle.norm_script.specs.Scripts.{IsScript}
 use Rattle.norm_journal.specs.declared.event.Event.{Event}
 use Rattle.norm_journal.specs.Jobs.{Told, IsOfObjects}
 use Rattle.norm_journal.specs.Judged.{Judged, judged_opening}
@@ -23,7 +22,9 @@ use Rattle.norm_safety.specs.History.{History, history}
 use Rattle.norm_safety.specs.Lawful.{Lawful}
 use Rattle.norm_safety.specs.Laws.{SaidOfOrders}
 use Rattle.norm_safety.specs.LosesNothing.{LosesNothing}
+use Rattle.norm_safety.specs.OnceEach.{OnceEach}
 use Rattle.norm_safety.specs.Safe.{Safe}
+use Rattle.norm_safety.specs.SatisfiedExactly.{SatisfiedExactly}
 use Rattle.norm_session.specs.Context.{Context, with_moments, with_posted}
 use Rattle.norm_session.specs.Moments.{HaveMoments}
 use Rattle.norm_session.specs.Noting.{kept_of}
@@ -34,11 +35,6 @@ use Rattle.norm_session.specs.Turning.{Span}
 use Rattle.norm_session.specs.declared.fault.SessionFault.{SessionFault}
 use Rattle.norm_session.specs.declared.fault.SessionFault.TheVariants as fault
 use Rattle.producer_gate.specs.Boards.{BoardState}
-
--- What a session can run: a script that opens no stream.
-pub record IsRunnable (script : Commands) : Type 0 where
-  pub is_script : IsScript script
-  pub objects : AllByRecursion IsOfObjects script.lines
 
 -- the receivers of a script's profile, in order
 abbrev pub nodes_of : Commands → List ℕ
@@ -56,8 +52,8 @@ session_events script files journal = world_events (session_opening script files
 abbrev pub session_history : Commands → Told → List Event → History
 session_history script files journal = history script.profile (session_events script files journal)
 
--- What was done is a lawful run of the nodes, and safe; and more than that is promised of it.
-pub record IsSafe (script : Commands) (files : Told) (journal : List Event) : Type 0 where
+-- What was done with data and files alone is a lawful run of the nodes, and safe; and more than that is promised of it.
+pub record IsSafeOfObjects (script : Commands) (files : Told) (journal : List Event) : Type 0 where
   pub lawful : Lawful script.profile (session_events script files journal)
   -- Each accepted object is once in the order; each receiver handed up that order, with a loss only below the drop point; whoever is
   -- listed past a watermark had handed up everything before it; and a watermark is satisfied exactly where its quorum is listed.
@@ -72,8 +68,15 @@ pub record IsSafe (script : Commands) (files : Told) (journal : List Event) : Ty
   pub acknowledged : AcknowledgesHanded script.profile (session_history script files journal)
   -- and whoever handed up everything before the end of an object owes that to a flush which names it
   pub owed : OwesWhatItHanded script.profile (session_history script files journal)
-  -- what a member acknowledges is credited
+
+-- What is promised of every session: each accepted object is once in the order, with the octets that it was given, as what was written to a
+-- stream is; a watermark is satisfied exactly where its quorum is listed; what a member acknowledges is credited; and a session that
+-- opens no stream is safe.
+pub record IsSafe (script : Commands) (files : Told) (journal : List Event) : Type 0 where
+  pub once : OnceEach (session_history script files journal)
+  pub satisfied : SatisfiedExactly (session_history script files journal)
   pub credited : CreditsMembers script.profile (session_history script files journal)
+  pub of_objects : AllByRecursion IsOfObjects script.lines → IsSafeOfObjects script files journal
 
 -- over an honest network that tells what is offered
 abbrev pub OverHonest : Network → Type 0 → Type 0

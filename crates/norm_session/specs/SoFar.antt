@@ -9,7 +9,6 @@ use Rattle.norm_base.specs.declared.kinds.Sent.TheVariants as sent
 use Rattle.norm_journal.specs.declared.event.Event.{Event}
 use Rattle.norm_journal.specs.declared.event.Event.TheVariants as event
 use Rattle.norm_journal.specs.Accepting.{judged_from}
-use Rattle.norm_journal.specs.Jobs.{IsOfObjects}
 use Rattle.norm_journal.specs.Judged.{Judged, news_due}
 use Rattle.norm_journal.specs.Laws.{HasOctets}
 use Rattle.norm_journal.specs.Places.{Place, Offering, Taking, handing}
@@ -44,13 +43,12 @@ pub record Leads (x : Context) (journal : List Event) (j : Judged) (network : Ne
   pub board : x.posted ≡ posting x.board (entries_in journal)
   pub octets : AllByRecursion HasOctets journal
 
--- A run has all receivers of its profile, or its sender is alone; its nodes and its script are under that, and no line of the script is of a stream.
+-- A run has all receivers of its profile, or its sender is alone; its nodes and its script are under that.
 pub record HasAll (x : Context) (k : RunKept) : Type 0 where
   pub script : k.p ≡ x.script.profile
   pub world : k.world.p ≡ k.p
   pub alone : k.alone ≡ x.alone
   pub receivers : x.nodes ≡ nodes_in k.alone k.p
-  pub objects : AllByRecursion IsOfObjects x.script.lines
 
 -- A run with these nodes of the rules, at a place: its world stands for them, and there is a journal that leads there, which it keeps
 -- unless its sender is alone.

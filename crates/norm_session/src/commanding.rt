@@ -10,7 +10,7 @@ ghost use Rattle.norm_journal.specs.Pulling.{origin_of};
 ghost use Rattle.norm_journal.specs.Totals.{with_gave};
 ghost use Rattle.norm_journal.specs.declared.event.Event.TheVariants as event;
 ghost use Rattle.norm_safety.specs.Events.{Commanded, Gave};
-ghost use Rattle.norm_sender.specs.Commands.{opens_none, answer_of};
+ghost use Rattle.norm_sender.specs.Commands.{answer_of};
 ghost use Rattle.norm_world.specs.WorldKept.{IsReady};
 ghost use Rattle.norm_world.specs.WorldMoves.{IsEvent};
 ghost use Rattle.norm_session.specs.Causes.{WriteCause, NeedsMemory};
@@ -88,10 +88,9 @@ fn strike_of(node: u32) -> Result<Job, Memory>
 ///
 /// # Errors
 ///
-/// `Memory` where memory runs out. So also for what opens a stream, and for the number of no member, which no script has that is run.
+/// `Memory` where memory runs out. So also for the number of no member, which no script has that is run.
 fn job_of(verb: &Verb) -> Result<Option<Job>, Memory>
     ensures job { IfOk result (λ job. job ≡ job_of verb.now) }
-    ensures carried { IfOk result (λ job. IfSome job (λ job. opens_none job ≡ true)) }
 {
     match verb {
         Verb::Data { info, bytes } => {
@@ -99,7 +98,7 @@ fn job_of(verb: &Verb) -> Result<Option<Job>, Memory>
             Ok(Some(job))
         }
         Verb::File { .. } => Ok(None),
-        Verb::Open => Err(Memory),
+        Verb::Open => Ok(Some(Job::Open)),
         Verb::Write { bytes } => {
             let job = write_of(bytes)?;
             Ok(Some(job))
@@ -156,7 +155,6 @@ fn lacks_memory(gave: &Gives) -> bool
 /// What the sender gives to a command.
 fn offer_job(world: &mut World, by: Origin, job: Job, now: Moment) -> Result<Gives, Memory>
     requires ready { IsReady world.old }
-    requires carried { opens_none job ≡ true }
     ensures profile { world.new.p ≡ world.old.p }
     ensures ready { IsReady world.new }
     ensures gives { IfOk result (λ gave. IsEvent world.old world.new (Commanded by job now) (λ answer. answer ≡ Gave gave)) }
@@ -295,7 +293,6 @@ impl Run {
         output: &mut K,
     ) -> Result<(), SessionFault>
         requires job { job_of line.now.verb ≡ Some job }
-        requires carried { opens_none job ≡ true }
         ensures goes { OnOk result ((x : Context) (network : Network) → IsDue x self.old place line.now first network (K.pieces output.old)
             → IsTelling x self.new Sending network (K.pieces output.new)) }
         ensures stops { IfErr result (λ fault. (x : Context) (network : Network) → IsDue x self.old place line.now first network (K.pieces output.old)

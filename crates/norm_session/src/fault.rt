@@ -5,7 +5,6 @@ ghost use Rattle.norm_session.specs.Causes.{session_fault};
 ghost use Rattle.norm_session.specs.declared.fault.SessionFault.TheVariants as fault;
 
 use norm_base::{FabricFault, Failed, Memory, Text};
-use norm_world::DeliverFault;
 use std::alloc::{AllocError, AllocFailed};
 
 /// Why a run stops before it is done.
@@ -64,14 +63,5 @@ impl From<FabricFault> for SessionFault {
             FabricFault::Failed => SessionFault::Fabric,
             FabricFault::Memory => SessionFault::Memory,
         }
-    }
-}
-
-/// A datagram of a stream stops a run as want of memory does, as long as no receiver takes one in.
-impl From<DeliverFault> for SessionFault {
-    ghost from_gives = { λ e r. r ≡ fault.Memory };
-
-    fn from(_fault: DeliverFault) -> SessionFault {
-        SessionFault::Memory
     }
 }

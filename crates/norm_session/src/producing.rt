@@ -2,7 +2,8 @@
 
 ghost use Rattle.std.specs.Prelude.{◌≡◌, ◌≤◌, All, IfErr, IfOk, length};
 ghost use Rattle.norm_session.specs.Causes.{HasCause, counted};
-ghost use Rattle.norm_session.specs.Session.{IsRunnable, RunsKept, StopsScript};
+ghost use Rattle.norm_script.specs.Scripts.{IsScript};
+ghost use Rattle.norm_session.specs.Session.{RunsKept, StopsScript};
 ghost use Rattle.norm_session.specs.Turning.{span};
 
 use crate::arrivals::{Arrivals, Arrived};
@@ -14,7 +15,7 @@ use producer_gate::{Board, Gate, GateFault, PullSeat, Seat, Turnstile};
 use std::alloc::Global;
 use std::sync::Wait;
 use std::thread;
-use std::thread::{Threads, join_mut};
+use std::thread::Threads;
 
 /// A session has at most so many producers, each in a thread of its own.
 const MOST_PRODUCERS: usize = 4;
@@ -76,7 +77,7 @@ fn produce<R: Wait, G: Turnstile>(
     }
 }
 
-/// All producers, each in a thread of its own. Where a thread cannot be started, its work is done here.
+/// All producers, each in a thread of its own. Where a thread cannot be started for one, it submits in this one.
 fn produce_all<R: Threads + Wait + Sync, G: Turnstile + Sync>(
     rt: &R,
     lines: &[Line],
@@ -95,9 +96,54 @@ fn produce_all<R: Threads + Wait + Sync, G: Turnstile + Sync>(
     );
 }
 
+/// Does nothing. What a call hands back of what it was lent is the caller's again by this use of it.
+fn take_back<T>(lent: &mut T)
+    ensures { lent.new ≡ lent.old }
+{}
+
+/// Works while a thread of their own runs the producers. Where it cannot be started they run before the work, so that the work finds in the
+/// ring all that they submit, and waits for no line that nobody will submit.
+fn beside_producers<R: Threads + Wait + Sync, G: Turnstile + Sync, F: FnMut() -> A, A>(
+    rt: &R,
+    lines: &[Line],
+    gate: &G,
+    ring: &Gate,
+    seats: &mut [Seat],
+    work: &mut F,
+) -> A
+    requires own { All (λ s. s.gate ≡ ring.now.id) seats.old }
+    requires few { length lines.now ≤ 4096 }
+    requires can { F.pre work.old }
+    ensures { F.step work.old result work.new }
+{
+    let (list, lent) = (&mut *seats, &mut *work);
+    let (back, made) = thread::scope(
+        thread::scope_env(),
+        rt,
+        move |scope| -> (&mut F, A)
+            requires { All (λ s. s.gate ≡ ring.now.id) list.now × (length lines.now ≤ 4096) × F.pre lent.now }
+            ensures { (result.0.ghost_name ≡ lent.entry.ghost_name) × F.step lent.entry.now result.1 result.0.now }
+        {
+            let started = scope.spawn(
+                move ||
+                    requires { All (λ s. s.gate ≡ ring.now.id) list.now × (length lines.now ≤ 4096) }
+                { produce_all(rt, lines, gate, ring, list) },
+            );
+            match started {
+                Ok(thread) => drop(thread),
+                Err(refused) => (refused.value)(),
+            }
+            let made = lent();
+            (lent, made)
+        },
+    );
+    take_back(back);
+    made
+}
+
 /// The ring has a place for each line, so that producers can end before anything is pulled.
 fn ring_for(alloc: Global, script: &Script) -> Result<(Gate, Vec<Seat>, PullSeat), Memory>
-    requires { IsRunnable script.now }
+    requires { IsScript script.now }
     ensures seats { IfOk result (λ made. All (λ s. s.gate ≡ made.0.id) made.1.items) }
     ensures pull { IfOk result (λ made. made.2.gate ≡ made.0.id) }
 {
@@ -119,7 +165,7 @@ fn run_pulled<R: Wait, K: Sink, F: Fabric, D: Files, C: Clock>(
     files: &mut D,
     clock: &mut C,
 ) -> Result<Made, SessionFault>
-    requires script { IsRunnable script.now }
+    requires script { IsScript script.now }
     requires own { pull.old.gate ≡ ring.now.id }
     ensures run { IfOk result (λ made. RunsKept alone script.now (D.contents files.old) made.journal made.whole
         (span (F.told fabric.old) (F.told fabric.new) (K.pieces output.old) (K.pieces output.new) (C.moments clock.old) (C.moments clock.new) board.old board.new)) }
@@ -164,7 +210,7 @@ pub(crate) fn run_produced<
     files: &mut D,
     clock: &mut C,
 ) -> Result<Made, SessionFault>
-    requires { IsRunnable script.now }
+    requires { IsScript script.now }
     ensures run { IfOk result (λ made. RunsKept alone script.now (D.contents files.old) made.journal made.whole
         (span (F.told fabric.old) (F.told fabric.new) (K.pieces output.old) (K.pieces output.new) (C.moments clock.old) (C.moments clock.new) board.old board.new)) }
     ensures stops { IfErr result (λ fault. StopsScript alone fault script.now (D.contents files.old)
@@ -176,14 +222,16 @@ pub(crate) fn run_produced<
     let (ring, mut seats, mut pull) = ring_for(alloc, script)?;
     let (shared, list) = (&ring, seats.as_mut_slice());
     let lines = script.lines.as_slice();
-    let (_produced, made) = join_mut(
+    beside_producers(
         rt,
-        &mut ||
-            requires { All (λ s. s.gate ≡ shared.now.id) list.now × (length lines.now ≤ 4096) }
-        { produce_all(rt, lines, gate, shared, list) },
-        &mut || run_pulled(
-            rt, alloc, script, alone, shared, &mut pull, board, output, fabric, files, clock,
-        ),
-    );
-    made
+        lines,
+        gate,
+        shared,
+        list,
+        &mut || {
+            run_pulled(
+                rt, alloc, script, alone, shared, &mut pull, board, output, fabric, files, clock,
+            )
+        },
+    )
 }

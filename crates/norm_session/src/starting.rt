@@ -1,10 +1,8 @@
 //! The beginning of a run.
 
 ghost use Rattle.std.specs.Prelude.{◌≡◌, ◌⊎◌, IfOk, IfErr, OnOk, OnErr};
-ghost use Rattle.std.specs.List.{AllByRecursion};
 ghost use Rattle.norm_base.specs.Network.{Network, Starts};
 ghost use Rattle.norm_journal.specs.Draws.{first_draws};
-ghost use Rattle.norm_journal.specs.Jobs.{IsOfObjects};
 ghost use Rattle.norm_journal.specs.Places.{Between};
 ghost use Rattle.norm_session.specs.Causes.{NetworkCause};
 ghost use Rattle.norm_session.specs.Context.{Context};
@@ -46,7 +44,6 @@ fn local_of(profile: &Profile, alone: bool) -> Local
 impl Run {
     /// A run of the script as it begins, once the network is started.
     fn begun(alloc: Global, script: &Script, alone: bool) -> Result<Run, Memory>
-        requires { AllByRecursion IsOfObjects script.now.lines }
         ensures { IfOk result (λ run. (x : Context) (network : Network) → IsBegun x script.now alone network → At x run Between network x.written) }
     {
         let profile = script.profile;
@@ -82,7 +79,6 @@ impl Run {
         alone: bool,
         fabric: &mut F,
     ) -> Result<Run, SessionFault>
-        requires { AllByRecursion IsOfObjects script.now.lines }
         ensures starts { OnOk result (Starts (F.told fabric.old) (F.told fabric.new) script.now.profile (local_of alone script.now.profile)) }
         ensures goes { IfOk result (λ run. (x : Context) → IsBegun x script.now alone (F.told fabric.new) → At x run Between (F.told fabric.new) x.written) }
         ensures same { OnErr result (F.told fabric.new ≡ F.told fabric.old) }

@@ -77,8 +77,7 @@ impl Run {
     ///
     /// # Errors
     ///
-    /// `Fabric` where the network failed, or `Memory`: so also where a receiver gets a datagram of a stream, which none takes in
-    /// yet.
+    /// `Fabric` where the network failed, or `Memory`.
     pub fn take<F: Fabric>(
         &mut self,
         fabric: &mut F,

@@ -53,10 +53,3 @@ where_none (Some x) h f = h
 pub on_err : {T E P : Type 0} (result : Result T E) → P → OnErr result P
 on_err (Ok t) h = tt
 on_err (Err e) h = h
-
--- a test that said no
-pub said_no : {P : Type 0} (b : Bool) → (IsTrue b ↔ P) → b ≡ false → P → ⊥
-said_no b both e h = never (sym e ∙ both.1 h)
-  where
-    never : false ≡ true → ⊥
-    never e = cc

@@ -1,12 +1,8 @@
 //! The nodes of a session as one world (RFC 5740 section 5): a sender and its receivers, which stand for a list of events.
 #![tactic(auto)]
 
-mod fault;
 mod world;
 
-pub use crate::fault::DeliverFault;
 pub use crate::world::World;
 /// What is promised of lists of events: when they are lawful, and that lawful ones are safe.
 pub use norm_safety::laws;
-/// The test for what a command's condition asks.
-pub use norm_sender::opens_none;

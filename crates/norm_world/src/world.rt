@@ -1,25 +1,21 @@
 //! The nodes of a session as one world.
 
-ghost use Rattle.std.specs.Prelude.{◌≡◌, ◌≢◌, ℕ, ◌+◌, ◌<◌, ◌++◌, true, List, [], Option, Some, IfOk, IfErr, OnErr, IfNone, IfSome, IsErr, IsSome, Err, length, slice_get, ◌↔◌};
+ghost use Rattle.std.specs.Prelude.{◌≡◌, ◌≢◌, ℕ, ◌+◌, ◌<◌, ◌++◌, true, List, [], Option, Some, IfOk, IfErr, OnErr, IfNone, IfSome, IsErr, IsSome, Err, length, slice_get};
 ghost use Rattle.norm_base.specs.Members.{is_receiver, is_node};
 ghost use Rattle.norm_base.specs.Settings.{Settings};
-ghost use Rattle.norm_ext.specs.Reading.{decoded};
 ghost use Rattle.norm_receive_rules.specs.ReceiverState.{receiver_opening};
-ghost use Rattle.norm_receiver.specs.Delivering.{IsOfNoStream};
 ghost use Rattle.norm_receiver.specs.ReceiverKept.{ReceiverKept};
 ghost use Rattle.norm_safety.specs.Events.{Commanded, Delivered, Ticked, Offered, UpTaken, NewsAsked, Gave, Took, Told, Silent};
 ghost use Rattle.norm_safety.specs.Hands.{instance_at as instance_in};
 ghost use Rattle.norm_safety.specs.World.{World as Rules, world_opening};
 ghost use Rattle.norm_send_rules.specs.declared.fault.SendFault.TheVariants as send;
-ghost use Rattle.norm_sender.specs.Commands.{opens_none, answer_of, GivesBack};
+ghost use Rattle.norm_sender.specs.Commands.{answer_of, GivesBack};
 ghost use Rattle.norm_world.specs.WorldKept.{StandsFor, IsReady, IsBegun, IsFilling, IsMissing, IsFilled, HasBegun, place_of};
 ghost use Rattle.norm_world.specs.WorldMoves.{IsEvent, IsNoEvent, IsRefused, IsEnded, IsLeft, IsSent, AreTaken, receiver_of, AreBegun};
-ghost use Rattle.norm_world.specs.declared.fault.DeliverFault.TheVariants as fault;
 
-use crate::fault::DeliverFault;
 use norm_base::{Datagram, InstanceId, Memory, Moment, NodeId, Octets, Origin, Profile, Sent};
 use norm_order::Up;
-use norm_receiver::{Receiver, is_of_no_stream};
+use norm_receiver::Receiver;
 use norm_send_rules::{Job, News, Receipt, SendFault};
 use norm_sender::Sender;
 use std::alloc::Global;
@@ -134,7 +130,7 @@ impl World {
         self.receivers[place(&self.profile, node)].instance()
     }
 
-    /// A command, which opens no stream ([`opens_none`](crate::opens_none)), of a producer.
+    /// A command of a producer.
     ///
     /// # Errors
     ///
@@ -147,7 +143,6 @@ impl World {
         now: Moment,
     ) -> Result<Receipt, (Option<Job>, SendFault)>
         requires ready { IsReady self.old }
-        requires carried { opens_none job ≡ true }
         ensures profile { self.new.p ≡ self.old.p }
         ensures ready { IsReady self.new }
         ensures event { answer_of result ≢ Err send.Memory → IsEvent self.old self.new (Commanded by job now) (λ answer. answer ≡ Gave (answer_of result)) }
@@ -211,29 +206,24 @@ impl World {
     ///
     /// # Errors
     ///
-    /// `Stream` exactly where it is an INFO or a DATA of a stream, for a receiver; or `Memory`. All is then as if it had been
-    /// lost.
+    /// `Memory` where memory runs out, or a receiver heard more of others than it keeps; all is then as if it had been lost.
     pub fn deliver(
         &mut self,
         to: NodeId,
         bytes: &[u8],
         now: Moment,
         draw: u32,
-    ) -> Result<(), DeliverFault>
+    ) -> Result<(), Memory>
         requires ready { IsReady self.old }
         requires member { is_node self.old.p to ≡ true }
         ensures profile { self.new.p ≡ self.old.p }
         ensures ready { IsReady self.new }
         ensures event { IfOk result (λ _. IsEvent self.old self.new (Delivered to bytes.now now draw) (λ answer. answer ≡ Silent)) }
         ensures refused { OnErr result (IsNoEvent self.old self.new) }
-        ensures stream { (result ≡ Err fault.Stream) ↔ (is_receiver self.old.p to ≡ true) × (IsOfNoStream (decoded bytes.now) → ⊥) }
     {
         if !self.profile.is_receiver(to) {
             self.sender.deliver(bytes, now);
             return Ok(());
-        }
-        if !is_of_no_stream(bytes) {
-            return Err(DeliverFault::Stream);
         }
         let place = place(&self.profile, to);
         self.receivers[place].deliver(bytes, now, draw)?;

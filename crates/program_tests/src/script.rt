@@ -2,7 +2,7 @@
 
 use norm_base::{Failed, Profile, Sink};
 use norm_script::{
-    Extent, Line, Refusal, ScriptFault, Verb, Why, generate, read, read_commands, read_script,
+    Line, Refusal, ScriptFault, Verb, Why, generate, read, read_commands, read_script,
     split_at_first, why_refused,
 };
 use std::alloc::Global;
@@ -129,85 +129,63 @@ fn the_generated_script_is_written_line_by_line(rt: HostRuntime) {
 }
 
 /// Why a script is refused, as people read it.
-fn said(alloc: Global, text: &[u8], extent: Extent) -> Result<String, Fail> {
-    match read(alloc, text, extent) {
+fn said(alloc: Global, text: &[u8]) -> Result<String, Fail> {
+    match read(alloc, text) {
         Ok(Err(refusal)) => Ok(format!(in alloc; "{refusal}")?),
         _ => Err("it is read")?,
     }
 }
 
 /// Refused scripts and the reasons.
-const REASONS: [(&[u8], Extent, &str); 6] = [
+const REASONS: [(&[u8], &str); 5] = [
     (
         b"set e 64\n\nset e 65",
-        Extent::Whole,
         "line 3: the key e was set on line 1",
     ),
-    (
-        b"\nset e 63",
-        Extent::Whole,
-        "line 2: 63 is below 64, the least e",
-    ),
+    (b"\nset e 63", "line 2: 63 is below 64, the least e"),
     (
         b"set e 1401",
-        Extent::Whole,
         "line 1: the value is above 1400, the greatest e",
     ),
     (
         b"set e 64\r\n",
-        Extent::Whole,
         "line 1: it ends with a carriage return: write lines that end with a line feed alone",
     ),
     (
         b"1 data 616",
-        Extent::Built,
         "line 1: contents are an even number of hexadecimal digits, 2 to 16384",
-    ),
-    (
-        b"set producers 2\n2 file a.txt\n2 mark 1\n1 open",
-        Extent::Built,
-        "line 4: a session does not run open, write and close yet",
     ),
 ];
 
 /// Scripts as editors spell them, and the reasons.
-const SPELLINGS: [(&[u8], Extent, &str); 4] = [
+const SPELLINGS: [(&[u8], &str); 4] = [
     (
         b"\xef\xbb\xbfset e 64",
-        Extent::Whole,
         "line 1: it begins with a byte order mark: write UTF-8 without one",
     ),
     (
         b"s\0e\0t\0",
-        Extent::Whole,
         "line 1: it has an octet 0, 254 or 255, as UTF-16 has: write ASCII or UTF-8",
     ),
-    (b"1 data 61 ", Extent::Whole, "line 1: it ends with a space"),
+    (b"1 data 61 ", "line 1: it ends with a space"),
     (
         b"set  e 64",
-        Extent::Whole,
         "line 1: it has two spaces in a row: words have one between them",
     ),
 ];
 
 #[test]
 fn a_reason_is_one_sentence(rt: HostRuntime) -> Result<(), Fail> {
-    for (text, extent, reason) in REASONS {
-        assert!(rt;
-            said(rt.alloc(), text, extent)?.as_str() == reason,
-            "{reason}"
-        );
+    for (text, reason) in REASONS {
+        assert!(rt; said(rt.alloc(), text)?.as_str() == reason, "{reason}");
     }
     Ok(())
 }
 
 #[test]
 fn a_spelling_is_a_reason(rt: HostRuntime) -> Result<(), Fail> {
-    for (text, extent, reason) in SPELLINGS {
-        assert!(rt;
-            said(rt.alloc(), text, extent)?.as_str() == reason,
-            "{reason}"
-        );
+    for (text, reason) in SPELLINGS {
+        assert!(rt; said(rt.alloc(), text)?.as_str() == reason, "{reason}");
     }
     Ok(())
 }

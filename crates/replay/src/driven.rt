@@ -2,7 +2,7 @@
 
 use norm_base::{Datagram, InstanceId, Memory, Moment, Origin, Profile, Sent};
 use norm_send_rules::{Job, News, Receipt, SendFault};
-use norm_sender::{Sender, opens_none};
+use norm_sender::Sender;
 use std::alloc::Global;
 use std::marker::Model;
 
@@ -44,19 +44,16 @@ impl Driven {
         self.sender.tick(now, out)
     }
 
-    /// Gives it a command. `None` where that opens a stream, which isn't given to it.
+    /// Gives it a command.
     pub(crate) fn command(
         &mut self,
         by: Origin,
         job: Job,
         now: Moment,
-    ) -> Option<Result<Receipt, SendFault>> {
-        if !opens_none(&job) {
-            return None;
-        }
+    ) -> Result<Receipt, SendFault> {
         match self.sender.command(by, job, now) {
-            Ok(receipt) => Some(Ok(receipt)),
-            Err((_given_back, fault)) => Some(Err(fault)),
+            Ok(receipt) => Ok(receipt),
+            Err((_given_back, fault)) => Err(fault),
         }
     }
 

@@ -4,11 +4,11 @@ use crate::answers::{counted, decided, instance, said, sent, taken};
 use crate::fault::Fault;
 use crate::words::Words;
 use norm_base::{Datagram, Memory, Moment};
-use norm_receiver::{Receiver, is_of_no_stream};
+use norm_receiver::Receiver;
 use norm_text::Line;
 use std::alloc::Global;
 
-/// A datagram comes. One of a stream isn't handed over.
+/// A datagram comes.
 fn deliver(
     alloc: Global,
     receiver: &mut Receiver,
@@ -20,9 +20,6 @@ fn deliver(
     let Some(octets) = words.octets(alloc)? else {
         return Ok(None);
     };
-    if !is_of_no_stream(octets.bytes()) {
-        return Ok(Some(said(alloc, "stream")?));
-    }
     let word = match receiver.deliver(octets.bytes(), Moment(now), draw) {
         Ok(()) => "done",
         Err(Memory) => "memory",

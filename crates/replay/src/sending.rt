@@ -40,7 +40,7 @@ fn tick(
     Ok(Some(sent(alloc, given, out)?))
 }
 
-/// A command. One that opens a stream isn't handed over.
+/// A command.
 fn command(
     alloc: Global,
     sender: &mut Driven,
@@ -57,9 +57,8 @@ fn command(
         return Ok(None);
     };
     match sender.command(Origin { producer, number }, job, Moment(now)) {
-        Some(Ok(receipt)) => Ok(Some(received(alloc, receipt)?)),
-        Some(Err(fault)) => Ok(Some(command_refused(alloc, fault)?)),
-        None => Ok(Some(said(alloc, "stream")?)),
+        Ok(receipt) => Ok(Some(received(alloc, receipt)?)),
+        Err(fault) => Ok(Some(command_refused(alloc, fault)?)),
     }
 }
 

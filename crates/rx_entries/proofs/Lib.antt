@@ -15,3 +15,4 @@ pub mod LoseLemmas
 pub mod SettledLemmas
 pub mod UntakeLemmas
 pub mod NeedLemmas
+pub mod EndLemmas

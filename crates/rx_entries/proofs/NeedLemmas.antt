@@ -1,9 +1,10 @@
 -- The first block of an object that is not done, and how far a stream was seen, from what a front has.
 use Rattle.std.proofs.Common.{◌≡◌, ℕ, zero, suc, ◌+◌, ◌-◌, ◌<◌, ◌≤◌, ◌⊎◌, inl, inr, Bool, true, false, cond, refl, sym, ap, ◌∙◌, subst, arith, Option, Some, None, ◌∷◌}
-use Rattle.std.specs.Prelude.{filter, not, option_map, slice_get}
+use Rattle.std.specs.Prelude.{IfSome, filter, nat_lt, not, option_map, slice_get, ◌==◌, ◌&&◌, ◌||◌}
 use Rattle.std.specs.List.{range_with_len}
-use Rattle.std.proofs.lemmas.Bool.{cases_lt, cases_order}
+use Rattle.std.proofs.lemmas.Bool.{cases_lt, cases_order, eqb-true, le-ltb}
 use Rattle.fec_plan.specs.Partition.{blocks}
+use Rattle.fec_plan.specs.Points.{point, point_before, point_of}
 use Rattle.fec_plan.specs.declared.position.Position.{Position}
 use Rattle.norm_receive_rules.specs.Holding.{Holding, Plan}
 use Rattle.norm_receive_rules.specs.Laws.{IsAtStart, IsPassed, PassedBy}
@@ -157,3 +158,20 @@ module _ (f : Front) (s : Holding) (index : ℕ) (front : IsFront f) (stands : S
       go : (place : Option Seat) → at_place f.ring.items (index - f.point) ≡ place → None ≡ option_map (λ (seat : Seat). seat.entry) place → None ≡ seen_at s index
       go None e h = sym (ap seen_by (read_none f s index front stands reached (state_at f.ring.items (index - f.point) ∙ ap state_of e)))
       go (Some seat) e h = absurd (cc h)
+
+-- ---- it is not of a block that was handed up whole
+
+pub short_ahead : (f : Front) (index : ℕ) (o : EntryState) (t : Holding) (plan : Plan) (first : Option ℕ) → f.point ≤ index → entry_at (states_of f.ring.items) (index - f.point) ≡ Some o
+    → IsShortFrom t plan o.point.block first → IfSome first (λ block. point_before (point index block) (point_of (point_of_front f)) ≡ false)
+short_ahead f index o t plan None reached e short = tt
+short_ahead f index o t plan (Some block) reached e short =
+    ap (λ b. b || (index == f.point && nat_lt block (point_of_front f).block)) (le-ltb index f.point reached) ∙ go (index == f.point) refl
+  where
+    go : (b : Bool) → (index == f.point) ≡ b → (b && nat_lt block (point_of_front f).block) ≡ false
+    go false here = refl
+    go true here =
+        let first_place : index - f.point ≡ 0 = (let same = eqb-true index f.point here in omega (arith, same)) in
+        let is : (point_of_front f).block ≡ o.point.block =
+        ap (λ (found : Option EntryState). (begins_at f.point found).block) (ap (entry_at (states_of f.ring.items)) (sym first_place) ∙ e) in
+        let le = short.short.0 in
+        le-ltb block (point_of_front f).block (omega (arith, is, le))

@@ -156,6 +156,21 @@ seen_none f s i front stands block e = record {
   passed = seen_passed f.profile (point (f.point + i) block) s stands.passed;
 }
 
+-- a block is seen of an object that was handed up or lost
+pub seen_over : (f : Front) (s : Holding) (index block : ℕ) → IsFront f → StandsFor (front_view f) s → index < f.point
+    → StandsFor (front_view f) (sees_block (point index block) s)
+seen_over f s index block front stands lt = record {
+  point = stands.point;
+  plans =
+      filter_seen s (point index block) s.plans ∙ ap (map (plan_seen (point index block))) stands.plans
+      ∙ later_seen f.profile (point index block) f.point (states_of f.ring.items) (placed f.profile f.point f.ring.items front.seats) lt;
+  held = stands.held;
+  infos = stands.infos;
+  ups = stands.ups;
+  lost = stands.lost;
+  passed = seen_passed f.profile (point index block) s stands.passed;
+}
+
 module _ (f : Front) (s : Holding) (i : ℕ) (front : IsFront f) (stands : StandsFor (front_view f) s) (lt : i < length f.ring.items) where
   abbrev states : List (Option EntryState)
   states = states_of f.ring.items

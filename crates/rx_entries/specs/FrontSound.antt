@@ -1,8 +1,10 @@
 -- What the front of a hold keeps, and what it is seen as.
-use Rattle.std.specs.Prelude.{ℕ, ◌≡◌, ◌==◌, ◌+◌, ◌≤◌, find, List, [], Option, None, MatchOption, length, sum_by}
+use Rattle.std.specs.Prelude.{ℕ, ◌≡◌, ◌==◌, ◌+◌, ◌≤◌, find, List, [], Option, None, MatchOption, length, option_map, sum_by}
 use Rattle.std.specs.VecDeque.{deque_capacity}
+use Rattle.fec_plan.specs.Partition.{Cut}
 use Rattle.fec_plan.specs.declared.position.Position.{Position}
 use Rattle.norm_receive_rules.specs.Fitting.{most_ahead}
+use Rattle.norm_receive_rules.specs.Plans.{cut_of_plan}
 use Rattle.rx_hold.specs.EntryState.{EntryState}
 use Rattle.rx_hold.specs.EntryHold.{EntryHold, entries_there, entry_at}
 use Rattle.rx_entries.specs.Seats.{AreSeats, begins_at, octets_at, states_of, waiting_at}
@@ -24,6 +26,14 @@ front_view f = record {
 -- the object with an index, where it has a plan
 abbrev pub object_in : EntryHold → ℕ → Option EntryState
 object_in h index = find (λ (o : EntryState). o.plan.index == index) h.objects
+
+-- how the object with an index is cut
+abbrev pub plan_in : EntryHold → ℕ → Option Cut
+plan_in h index = option_map (λ (o : EntryState). cut_of_plan o.plan) (object_in h index)
+
+-- the flags of the object with an index
+abbrev pub flags_in : EntryHold → ℕ → Option ℕ
+flags_in h index = option_map (λ (o : EntryState). o.plan.flags) (object_in h index)
 
 -- nothing is held of an object, and nothing was handed up of it
 pub record IsBlank (o : EntryState) : Type 0 where

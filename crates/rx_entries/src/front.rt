@@ -4,7 +4,7 @@ ghost use Rattle.std.specs.Prelude.{◌≡◌, ◌||◌, nat_lt, not, ◌+◌, �
 ghost use Rattle.fec_plan.specs.Partition.{blocks};
 ghost use Rattle.fec_plan.specs.Points.{point as point_at, point_before, point_of, position};
 ghost use Rattle.norm_receive_rules.specs.Holding.{Holding};
-ghost use Rattle.norm_receive_rules.specs.Plans.{cut_of_plan, holds, info_of, says_info};
+ghost use Rattle.norm_receive_rules.specs.Plans.{holds, info_of, says_info};
 ghost use Rattle.norm_receive_rules.specs.Putting.{put_info_of, put_of, with_symbol, with_info};
 ghost use Rattle.norm_receive_rules.specs.Seeing.{sees_block};
 ghost use Rattle.norm_receive_rules.specs.declared.words.Put.TheVariants as put_word;
@@ -12,7 +12,7 @@ ghost use Rattle.rx_hold.specs.EntryState.{entry_of};
 ghost use Rattle.rx_hold.specs.EntryHold.{StandsFor, entry_at};
 ghost use Rattle.rx_hold.specs.HoldSound.{at_place};
 ghost use Rattle.rx_hold.specs.HoldState.{flags_at, missing_at, plan_at};
-ghost use Rattle.rx_entries.specs.FrontSound.{HasRoom, IsFront, front_view, object_in, point_of_front, view_states};
+ghost use Rattle.rx_entries.specs.FrontSound.{HasRoom, IsFront, flags_in, front_view, plan_in, point_of_front, view_states};
 ghost use Rattle.rx_entries.specs.Seats.{IsSeat, octets_at, states_of};
 
 use crate::ring::{PLACES, Seat, counted, entry_at, offer_at, put_info_at, see_at};
@@ -126,7 +126,8 @@ impl Front {
     pub fn plan(&self, index: u32) -> Option<Plan>
         requires front { IsFront self.now }
         requires reached { self.now.point ≤ index }
-        ensures { (s : Holding) → StandsFor (front_view self.now) s → result ≡ plan_at s index }
+        ensures exact { result ≡ plan_in (front_view self.now) index }
+        ensures state { (s : Holding) → StandsFor (front_view self.now) s → result ≡ plan_at s index }
     {
         match self.entry(index) {
             Some(entry) => Some(entry.plan()),
@@ -138,7 +139,8 @@ impl Front {
     pub fn flags(&self, index: u32) -> Option<u8>
         requires front { IsFront self.now }
         requires reached { self.now.point ≤ index }
-        ensures { (s : Holding) → StandsFor (front_view self.now) s → result ≡ flags_at s index }
+        ensures exact { result ≡ flags_in (front_view self.now) index }
+        ensures state { (s : Holding) → StandsFor (front_view self.now) s → result ≡ flags_at s index }
     {
         match self.entry(index) {
             Some(entry) => Some(entry.flags()),
@@ -162,7 +164,7 @@ impl Front {
     pub fn missing(&self, index: u32, block: u32) -> Missing
         requires front { IsFront self.now }
         requires reached { point_before (point_at index block) (point_of (point_of_front self.now)) ≡ false }
-        requires block { MatchOption (object_in (front_view self.now) index) ⊤ (λ o. block < blocks (cut_of_plan o.plan)) }
+        requires block { MatchOption (plan_in (front_view self.now) index) ⊤ (λ cut. block < blocks cut) }
         ensures { (s : Holding) → StandsFor (front_view self.now) s → result ≡ missing_at s index block }
     {
         let Some(entry) = self.entry(index) else {
@@ -289,14 +291,16 @@ impl Front {
         Ok(word)
     }
 
-    /// A block of the object with an index is seen.
+    /// A block of the object with an index is seen. Of one that was handed up or lost nothing is kept of that.
     pub fn see_block(&mut self, index: u32, block: u32)
-        requires front { IsFront self.old }
-        requires reached { self.old.point ≤ index }
+        requires { IsFront self.old }
         ensures sound { IsFront self.new }
         ensures profile { self.new.profile ≡ self.old.profile }
         ensures state { (s : Holding) → StandsFor (front_view self.old) s → StandsFor (front_view self.new) (sees_block (point_at index block) s) }
     {
+        if index < self.point {
+            return;
+        }
         let place = (index - self.point) as usize;
         if place < PLACES {
             self.see(place, block);

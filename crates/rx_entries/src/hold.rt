@@ -1,23 +1,24 @@
 //! What a receiver holds of objects that it did not hand up yet.
 
-ghost use Rattle.std.specs.Prelude.{ℕ, ◌≡◌, ◌<◌, ◌≤◌, [], IfOk, IfNone, IfSome, MatchOption, OnErr, is_some, length, not, false, ⊤};
+ghost use Rattle.std.specs.Prelude.{ℕ, ◌≡◌, ◌<◌, ◌≤◌, [], IfOk, IfNone, IfSome, MatchOption, OnErr, is_some, length, not, option_map, false, ⊤};
 ghost use Rattle.fec_plan.specs.Partition.{blocks};
-ghost use Rattle.fec_plan.specs.Points.{point as point_at, point_of, point_before, position};
+ghost use Rattle.fec_plan.specs.Payload.{Name};
+ghost use Rattle.fec_plan.specs.Points.{point as point_at, point_of, point_before, position, position_before};
 ghost use Rattle.norm_ext.specs.declared.fti.Fti.{Fti as FtiValue};
 ghost use Rattle.norm_receive_rules.specs.Acknowledging.{lost_nothing};
 ghost use Rattle.norm_receive_rules.specs.Fitting.{fit_of, fitted, with_plan};
 ghost use Rattle.norm_receive_rules.specs.HandingUp.{handed_up};
 ghost use Rattle.norm_receive_rules.specs.Holding.{Holding, holding_nothing};
 ghost use Rattle.norm_receive_rules.specs.Losing.{squelched};
-ghost use Rattle.norm_receive_rules.specs.Plans.{cut_of_plan, holds, info_of, plan_of};
+ghost use Rattle.norm_receive_rules.specs.Plans.{holds, info_of, plan_of};
 ghost use Rattle.norm_receive_rules.specs.Putting.{put_info_of, put_of, with_info, with_symbol};
 ghost use Rattle.norm_receive_rules.specs.Seeing.{sees_block};
 ghost use Rattle.norm_receive_rules.specs.Taking.{up_taken};
 ghost use Rattle.norm_receive_rules.specs.declared.words.Fit.TheVariants as fit_word;
 ghost use Rattle.rx_hold.specs.EntryHold.{StandsFor};
 ghost use Rattle.rx_hold.specs.HoldState.{IsFirstShort, first_short_at, flags_at, missing_at, plan_at};
-ghost use Rattle.rx_entries.specs.Asked.{seen_at};
-ghost use Rattle.rx_entries.specs.FrontSound.{IsUnused, object_in};
+ghost use Rattle.rx_entries.specs.Asked.{end_at, seen_at};
+ghost use Rattle.rx_entries.specs.FrontSound.{IsUnused, flags_in, plan_in};
 ghost use Rattle.rx_entries.specs.Handing.{IsSettled};
 ghost use Rattle.rx_entries.specs.HoldSound.{empty_hold};
 
@@ -43,6 +44,21 @@ pub struct Place {
     pub index: u32,
     pub block: u32,
     pub symbol: u8,
+}
+
+impl Place {
+    /// Whether it is behind a position, so that all through that was handed up.
+    pub fn is_behind(&self, at: &Position) -> bool
+        ensures { result ≡ position_before at.now (position self.now.index self.now.block self.now.symbol) }
+    {
+        if at.index != self.index {
+            return at.index < self.index;
+        }
+        if at.block != self.block {
+            return at.block < self.block;
+        }
+        at.symbol < self.symbol
+    }
 }
 
 /// What a receiver holds.
@@ -145,7 +161,8 @@ impl Hold {
     /// How an object is cut. `None` exactly where it has no plan.
     pub fn plan(&self, index: u32) -> Option<Plan>
         requires { self.now.point.index ≤ index }
-        ensures { (s : Holding) → StandsFor self.now s → result ≡ plan_at s index }
+        ensures exact { result ≡ plan_in self.now index }
+        ensures state { (s : Holding) → StandsFor self.now s → result ≡ plan_at s index }
     {
         self.front.plan(index)
     }
@@ -153,7 +170,8 @@ impl Hold {
     /// The flags of an object. `None` exactly where it has no plan.
     pub fn flags(&self, index: u32) -> Option<u8>
         requires { self.now.point.index ≤ index }
-        ensures { (s : Holding) → StandsFor self.now s → result ≡ flags_at s index }
+        ensures exact { result ≡ flags_in self.now index }
+        ensures state { (s : Holding) → StandsFor self.now s → result ≡ flags_at s index }
     {
         self.front.flags(index)
     }
@@ -177,7 +195,7 @@ impl Hold {
     /// What is lacking of a block. Where the object has a plan, the block is one of its.
     pub fn missing(&self, index: u32, block: u32) -> Missing
         requires reached { point_before (point_at index block) (point_of self.now.point) ≡ false }
-        requires block { MatchOption (object_in self.now index) ⊤ (λ o. block < blocks (cut_of_plan o.plan)) }
+        requires block { MatchOption (plan_in self.now index) ⊤ (λ cut. block < blocks cut) }
         ensures { (s : Holding) → StandsFor self.now s → result ≡ missing_at s index block }
     {
         self.front.missing(index, block)
@@ -189,6 +207,7 @@ impl Hold {
         requires { self.now.point.index ≤ index }
         ensures exact { (s : Holding) → StandsFor self.now s → result ≡ first_short_at s index }
         ensures first { (s : Holding) → StandsFor self.now s → IfSome (plan_of s index) (λ plan. IsFirstShort s plan result) }
+        ensures ahead { IfSome result (λ block. point_before (point_at index block) (point_of self.now.point) ≡ false) }
     {
         self.front.first_short(index)
     }
@@ -199,6 +218,15 @@ impl Hold {
         ensures { (s : Holding) → StandsFor self.now s → result ≡ seen_at s index }
     {
         self.front.seen(index)
+    }
+
+    /// The place of a stream's end, where that is held or given by what is held of its block. `None` where that is not so, or no
+    /// stream has the index. It looks at each block from the next segment's on, at one of which nothing is held for a moment only.
+    pub fn end(&self, index: u32) -> Option<PayloadId>
+        requires { self.now.point.index ≤ index }
+        ensures { (s : Holding) → StandsFor self.now s → option_map (λ (id : Name). position index id.block id.symbol) result ≡ end_at self.now.p s index }
+    {
+        self.front.end(index)
     }
 
     /// Whether an object was lost in this instance.
@@ -217,7 +245,6 @@ impl Hold {
 
     /// A block is seen, whether what came with it is kept or not: of a stream the greatest one is kept.
     pub fn see(&mut self, at: Point)
-        requires { self.old.point.index ≤ at.index }
         ensures profile { self.new.p ≡ self.old.p }
         ensures state { (s : Holding) → StandsFor self.old s → StandsFor self.new (sees_block at s) }
     {

@@ -7,8 +7,9 @@ use Rattle.std.proofs.Math.Nat.{mod-add-mod, zero-mod}
 use Rattle.norm_base.specs.Settings.{Settings}
 use Rattle.norm_base.specs.declared.node.Origin.{Origin}
 use Rattle.fec_plan.specs.Partition.{Cut}
-use Rattle.norm_order.specs.Entries.{Part, Write, Cut as CutHere, End}
+use Rattle.norm_order.specs.Entries.{Part, Write, Cut as CutHere, End, Stream}
 use Rattle.norm_order.specs.Segments.{Segment, segments, closed_from, full_pieces, all_pieces, placed, written, since_cut, unclosed, has_end}
+use Rattle.norm_order.specs.Shapes.{shape_of}
 use Rattle.norm_order.proofs.StreamLemmas.{length-placed}
 use Rattle.norm_send_rules.specs.Streaming.{used_segments}
 use Rattle.stream_buffer.specs.StreamState.{StreamState, StandsFor, coded, closed_segments, behind_full, open_octets, with_cut}
@@ -215,3 +216,24 @@ cut_with p parts s st some some_e closed = go (unclosed p.e parts) refl
         unended : (b : Bool) → has_end parts ≡ b → b ≡ false
         unended false e = refl
         unended true e = absurd (let none = ap length (closed (st.ended ∙ e)) in omega (arith, none, long, is))
+
+-- how many segments are closed of it then
+pub closed_cut : (p : Settings) (parts : List Part) (s : StreamState) → StandsFor p parts s → 0 < p.e → length s.filling < p.e → (s.ended ≡ true → s.filling ≡ [])
+    → closed_segments s + min 1 (length s.filling) ≡ (shape_of p (Stream (with_cut p.e parts))).closed
+closed_cut p parts s st some short closed =
+    (let same : closed_segments s + min 1 (length s.filling) ≡ closed_segments (cut_here s) = omega (
+      arith,
+      length-append s.rows (map (coded s.cut.e) new),
+      length-map new (coded s.cut.e),
+      length-placed (s.octets - length s.filling) (all_pieces s.cut.e s.filling),
+      length-pieces s.cut.e (div_ceil (length s.filling) s.cut.e) s.filling,
+      short_all s.cut.e s.filling (omega (arith, e-is, short)),
+    ) in same)
+    ∙ closed_is p (with_cut p.e parts) (cut_here s) (cut_with p parts s st some (omega (arith, e-is, some)) closed)
+    ∙ length-placed 0 (closed_from p.e [] (with_cut p.e parts))
+  where
+    e-is : s.cut.e ≡ p.e
+    e-is = ap (λ (k : Cut). k.e) st.cut
+
+    new : List Segment
+    new = placed (s.octets - length s.filling) (all_pieces s.cut.e s.filling)

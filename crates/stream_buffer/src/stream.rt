@@ -9,8 +9,9 @@ ghost use Rattle.norm_base.specs.Sizes.{datagram_room};
 ghost use Rattle.norm_base.specs.Settings.{Settings};
 ghost use Rattle.norm_base.specs.declared.node.Origin.{Origin};
 ghost use Rattle.fec_plan.specs.Partition.{place_octets};
-ghost use Rattle.norm_order.specs.Entries.{Part, Write, End};
+ghost use Rattle.norm_order.specs.Entries.{Part, Write, End, Stream};
 ghost use Rattle.norm_order.specs.Segments.{has_end};
+ghost use Rattle.norm_order.specs.Shapes.{shape_of};
 ghost use Rattle.norm_send_rules.specs.Room.{least_kept};
 ghost use Rattle.norm_send_rules.specs.Streaming.{used_segments, is_spent};
 ghost use Rattle.stream_buffer.specs.StreamState.{StreamState, StandsFor, Answers, empty_stream, kept_from, closed_segments, with_cut, is_there, octets_of, sent_of, block_code, rows_of_block};
@@ -116,6 +117,15 @@ impl StreamBuf {
         ensures few { result ≤ 16777216 * self.now.cut.b }
     {
         self.rows.closed() as u32
+    }
+
+    /// How many segments are closed once the one that fills is cut, where it holds octets.
+    pub fn segments_cut(&self) -> u32
+        ensures exact { (p : Settings) (parts : List Part) → StandsFor p parts self.now → result ≡ (shape_of p (Stream (with_cut p.e parts))).closed }
+        ensures few { result ≤ 16777216 * self.now.cut.b }
+    {
+        let filling = self.rows.filled().min(1);
+        (self.rows.closed() + filling) as u32
     }
 
     /// How many closed segments are kept: those of the first block that was not given up, and all behind it.

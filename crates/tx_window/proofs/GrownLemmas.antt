@@ -26,7 +26,7 @@ length-with_last object [] = refl
 length-with_last object (entry ∷ []) = refl
 length-with_last object (entry ∷ next ∷ order) = ap suc (length-with_last object (next ∷ order))
 
-last_set : (p : Settings) (object : Object) (order : List Entry) → shapes_of p (with_last object order) ≡ set (shapes_of p order) (length order - 1) (shape_of p object)
+pub last_set : (p : Settings) (object : Object) (order : List Entry) → shapes_of p (with_last object order) ≡ set (shapes_of p order) (length order - 1) (shape_of p object)
 last_set p object [] = refl
 last_set p object (entry ∷ []) = refl
 last_set p object (entry ∷ next ∷ order) =
@@ -35,7 +35,7 @@ last_set p object (entry ∷ next ∷ order) =
     ∙ ap (λ n. set (shapes_of p (entry ∷ next ∷ order)) n (shape_of p object)) (let e : suc (length order) ≡ length (entry ∷ next ∷ order) - 1 = omega arith in e)
 
 -- the last one has this object, and the others stay
-last_there : (object : Object) (order : List Entry) (n : ℕ) (entry : Entry) → slice_get (with_last object order) n ≡ Some entry
+pub last_there : (object : Object) (order : List Entry) (n : ℕ) (entry : Entry) → slice_get (with_last object order) n ≡ Some entry
     → ((n + 1 ≡ length order) × (entry.object ≡ object)) ⊎ ((n + 1 < length order) × (slice_get order n ≡ Some entry))
 last_there object [] n entry is = absurd (cc)
 last_there object (x ∷ []) zero entry is = inl (refl, ap (λ (e : Entry). e.object) (let same : entry ≡ record x { object = object } = cc in same))
@@ -73,7 +73,7 @@ replaced index found (y ∷ z ∷ xs) (suc n) x v long is =
       after = rest.after ∙ ap (λ i. last_or (last_in i v) rest.front) at;
     }
 
-last_now : (index : ℕ) (found : Option Position) (xs : List Shape) (n : ℕ) (x v : Shape) → n + 1 ≡ length xs → slice_get xs n ≡ Some x
+pub last_now : (index : ℕ) (found : Option Position) (xs : List Shape) (n : ℕ) (x v : Shape) → n + 1 ≡ length xs → slice_get xs n ≡ Some x
     → (last_in (index + n) v ≡ None → last_in (index + n) x ≡ None)
     → last_from index found (set xs n v) ≡ last_or (last_in (index + n) v) (last_from index found xs)
 last_now index found xs n x v long is more = go (last_in (index + n) v) refl

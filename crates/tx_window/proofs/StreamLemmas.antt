@@ -1,8 +1,8 @@
 -- How the open stream goes on, in the rules' words.
 use Rattle.std.proofs.Common.{◌≡◌, ℕ, zero, suc, ◌+◌, ◌-◌, ◌*◌, ◌<◌, ◌≤◌, ◌⊎◌, inl, inr, Bool, true, false, refl, sym, ap, ◌∙◌, subst, arith, Option, Some, None, List, [], ◌∷◌, ◌++◌, length, drop, take}
-use Rattle.std.specs.Prelude.{slice_get, slice_set, nat_lt, nat_le, max, is_none, is_some, unwrap_or, option_map, ◌==◌, MatchOption, Result, Ok, Err, MatchResult}
+use Rattle.std.specs.Prelude.{slice_get, slice_set, nat_lt, nat_le, max, min, is_none, is_some, unwrap_or, option_map, ◌==◌, MatchOption, Result, Ok, Err, MatchResult}
 use Rattle.std.proofs.lemmas.Bool.{cases_lt, lt-ltb, le-ltb}
-use Rattle.std.proofs.lemmas.List.{length-set}
+use Rattle.std.proofs.lemmas.List.{length-set, length-map}
 use Rattle.norm_base.specs.Settings.{Settings}
 use Rattle.norm_base.specs.declared.node.Origin.{Origin}
 use Rattle.std.proofs.lemmas.Bool.Decides.{Decides-eqb}
@@ -11,7 +11,7 @@ use Rattle.fec_plan.specs.declared.position.Position.{Position}
 use Rattle.norm_order.specs.First.{first_where}
 use Rattle.norm_order.specs.Entries.{Part, Write, Cut, End, Object, Whole, Stream, Entry}
 use Rattle.norm_order.specs.Segments.{has_end, written, unclosed, closed_from, pieces, since_cut}
-use Rattle.norm_order.specs.Shapes.{Shape, shape_of, shapes_of, last_in, closed_blocks, closed_in}
+use Rattle.norm_order.specs.Shapes.{Shape, shape_of, shapes_of, last_in, last_from, closed_blocks, closed_in}
 use Rattle.norm_order.proofs.StreamLemmas.{closed_grow}
 use Rattle.norm_send_rules.specs.SenderState.{SenderState}
 use Rattle.norm_send_rules.specs.InWindow.{last_index, next_index}
@@ -44,7 +44,7 @@ use Rattle.std.proofs.lemmas.Option.{slice_get_within}
 use Rattle.tx_window.proofs.ListLemmas.{slice_get-drop, le-leb, lt-leb, get_some}
 use Rattle.tx_window.proofs.KeptLemmas.{chosen, passed_over, dropped_is}
 use Rattle.tx_window.proofs.FaultLemmas.{Last, last_found, none_open}
-use Rattle.tx_window.proofs.GrownLemmas.{gone_on, gone_window, stands_gone, last_alone}
+use Rattle.tx_window.proofs.GrownLemmas.{gone_on, gone_window, stands_gone, last_alone, last_set, last_now}
 
 -- ---- where the window begins
 
@@ -452,7 +452,7 @@ cut_none p s none =
     ∙ ap (λ n. elim n as (λ v. SenderState) [ zero ↦ s | suc m ↦ with_parts ([] ++ Cut ∷ []) s ]) (Rattle.std.proofs.Math.Nat.zero-mod p.e)
 
 -- an order whose last entry is this object already
-with_same : (order : List Entry) (n : ℕ) (entry : Entry) (object : Object) → n + 1 ≡ length order → slice_get order n ≡ Some entry → entry.object ≡ object → with_last object order ≡ order
+pub with_same : (order : List Entry) (n : ℕ) (entry : Entry) (object : Object) → n + 1 ≡ length order → slice_get order n ≡ Some entry → entry.object ≡ object → with_last object order ≡ order
 with_same [] n entry object long is same = absurd (omega (arith, long))
 with_same (x ∷ []) zero entry object long is same = ap (λ (o : Object). record x { object = o } ∷ []) (sym same ∙ ap (λ (e : Entry). e.object) (let z : entry ≡ x = cc in z))
 with_same (x ∷ []) (suc n) entry object long is same = absurd (omega (arith, long))
@@ -496,6 +496,62 @@ cut_on w s e now parts stands some there least last open_ is first =
         (with_same s.current.order (last_index s) last.found.entry (Stream parts) (omega (arith, stands.next, some)) (ap (slice_get s.current.order) (sym last.index) ∙ last.found.there) stream.0)
         (by parts (ap cut_by none) (λ e. e))
     go (suc n) more = by (parts ++ Cut ∷ []) (ap cut_by more) (none_before w.p (last_index s) parts (Cut ∷ []) least stream.1)
+
+-- the last closed source symbol once the open stream is cut
+pub last_if_cut : (w : WindowState) (s : SenderState) (e : HeldEntry) (parts : List Part) → Stands w s → 0 < length w.entries → 1 ≤ w.p.e
+    → (last : Last w s e) → open_parts last.found.entry.object ≡ Some parts
+    → last_from 0 None (shapes_of w.p (cut w.p s).current.order) ≡ last_or (last_in (last_index s) (shape_of w.p (Stream (with_cut w.p.e parts)))) w.last
+last_if_cut w s e parts stands some least last open_ =
+    subst (λ (ps : List Part). last_from 0 None (shapes_of w.p (elim (unclosed w.p.e ps) as (λ v. SenderState) [ zero ↦ s | suc n ↦ with_parts (ps ++ Cut ∷ []) s ]).current.order)
+    ≡ last_or (last_in (last_index s) (shape_of w.p (Stream (with_cut w.p.e parts)))) w.last) (sym (parts_are s parts (last.opened ∙ open_)))
+    (go (unclosed w.p.e parts) refl)
+  where
+    stream : (last.found.entry.object ≡ Stream parts) × (has_end parts ≡ false)
+    stream = stream_is last.found.entry.object parts open_
+
+    long : length s.current.order - 1 + 1 ≡ length s.current.order
+    long = omega (arith, stands.next, some)
+
+    at : 0 + (length s.current.order - 1) ≡ last_index s
+    at = omega arith
+
+    cut_by : ℕ → List Part
+    cut_by n = elim n as (λ v. List Part) [ zero ↦ parts | suc m ↦ parts ++ Cut ∷ [] ]
+
+    by : (ps : List Part) → (last_in (last_index s) (shape_of w.p (Stream ps)) ≡ None → last_in (last_index s) (shape_of w.p (Stream parts)) ≡ None)
+        → last_from 0 None (shapes_of w.p (with_parts ps s).current.order) ≡ last_or (last_in (last_index s) (shape_of w.p (Stream ps))) w.last
+    by ps more =
+        ap (last_from 0 None) (last_set w.p (Stream ps) s.current.order)
+        ∙ last_now 0 None (shapes_of w.p s.current.order) (length s.current.order - 1) (shape_of w.p (Stream parts)) (shape_of w.p (Stream ps))
+        (omega (arith, long, length-map s.current.order (λ (x : Entry). shape_of w.p x.object)))
+        (last_shape w s e last ∙ ap (λ (o : Object). Some (shape_of w.p o)) stream.0)
+        (λ none. ap (λ i. last_in i (shape_of w.p (Stream parts))) at ∙ more (ap (λ i. last_in i (shape_of w.p (Stream ps))) (sym at) ∙ none))
+        ∙ ap (λ i. last_or (last_in i (shape_of w.p (Stream ps))) (last_from 0 None (shapes_of w.p s.current.order))) at
+        ∙ ap (last_or (last_in (last_index s) (shape_of w.p (Stream ps)))) stands.last
+
+    go : (n : ℕ) → unclosed w.p.e parts ≡ n → last_from 0 None (shapes_of w.p (elim n as (λ v. SenderState) [ zero ↦ s | suc m ↦ with_parts (parts ++ Cut ∷ []) s ]).current.order)
+        ≡ last_or (last_in (last_index s) (shape_of w.p (Stream (with_cut w.p.e parts)))) w.last
+    go zero none =
+        sym (ap (λ (order : List Entry). last_from 0 None (shapes_of w.p order))
+        (with_same s.current.order (last_index s) last.found.entry (Stream parts) (omega (arith, stands.next, some)) (ap (slice_get s.current.order) (sym last.index) ∙ last.found.there) stream.0))
+        ∙ by parts (λ e. e)
+        ∙ ap (λ (ps : List Part). last_or (last_in (last_index s) (shape_of w.p (Stream ps))) w.last) (sym (ap cut_by none))
+    go (suc n) more =
+        by (parts ++ Cut ∷ []) (none_before w.p (last_index s) parts (Cut ∷ []) least stream.1)
+        ∙ ap (λ (ps : List Part). last_or (last_in (last_index s) (shape_of w.p (Stream ps))) w.last) (sym (ap cut_by more))
+
+-- so many segments have room either way
+pub in_room : (n a b k : ℕ) → n ≤ a * k → n ≤ b * k → n ≤ min a b * k
+in_room n a b k first second = go (cases_lt a b)
+  where
+    go : (a < b) ⊎ (b ≤ a) → n ≤ min a b * k
+    go (inl lt) = subst (λ m. n ≤ m * k) (sym (let z : min a b ≡ a = omega (arith, lt) in z)) first
+    go (inr le) = subst (λ m. n ≤ m * k) (sym (let z : min a b ≡ b = omega (arith, le) in z)) second
+
+-- the parts of a stream that is open
+pub open_is : (r : Option (List Part)) → is_some r ≡ true → (parts : List Part) × (r ≡ Some parts)
+open_is None is = absurd (cc)
+open_is (Some parts) is = (parts, refl)
 
 -- ---- what follows
 

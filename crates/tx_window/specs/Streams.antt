@@ -1,11 +1,13 @@
 -- How the open stream of a window goes on.
-use Rattle.std.specs.Prelude.{ℕ, ◌≡◌, ◌+◌, ◌-◌, ◌*◌, ◌==◌, List, [], ◌∷◌, length, drop, slice_set, nat_lt, true, false, Option, Some, None, Result, Ok, Err, MatchResult}
+use Rattle.std.specs.Prelude.{ℕ, ◌≡◌, ◌+◌, ◌-◌, ◌*◌, ◌<◌, ◌==◌, List, [], ◌∷◌, length, drop, slice_get, slice_set, nat_lt, true, false, Option, Some, None, Result, Ok, Err, MatchResult}
 use Rattle.norm_base.specs.Settings.{Settings}
 use Rattle.norm_base.specs.declared.node.Origin.{Origin}
 use Rattle.fec_plan.specs.declared.position.Position.{Position}
+use Rattle.norm_order.specs.Entries.{Part, Stream, Entry}
 use Rattle.norm_order.specs.First.{first_where}
 use Rattle.norm_order.specs.Shapes.{Shape, last_in}
 use Rattle.norm_send_rules.specs.SenderState.{SenderState}
+use Rattle.norm_send_rules.specs.InWindow.{last_index}
 use Rattle.norm_send_rules.specs.Streaming.{wrote, closed}
 use Rattle.norm_send_rules.specs.declared.fault.EnqueueFault.{EnqueueFault}
 use Rattle.norm_send_rules.specs.declared.fault.EnqueueFault.TheVariants.{Empty, TooBig}
@@ -23,6 +25,11 @@ pub record IsWritten (p : Settings) (s : SenderState) (by : Origin) (octets : Li
 pub record IsClosed (p : Settings) (s : SenderState) (answer : Result ℕ EnqueueFault) (w : WindowState) : Type 0 where
   pub answers : MatchResult answer (λ index. (closed p s).1 ≡ Ok (Closed index)) (λ fault. (closed p s).1 ≡ Err fault)
   pub stands : Stands w (closed p s).0
+
+-- The last entry of a state's order is the stream of these parts, and was not dropped whole.
+pub record EndsIn (parts : List Part) (s : SenderState) : Type 0 where
+  pub kept : s.current.drop.index < length s.current.order
+  pub last : (entry : Entry) → slice_get s.current.order (last_index s) ≡ Some entry → entry.object ≡ Stream parts
 
 -- what is wrong with a write of so many octets: the first that applies
 abbrev pub write_size_fault : Settings → ℕ → Option EnqueueFault

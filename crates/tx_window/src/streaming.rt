@@ -1,18 +1,20 @@
 //! Streams of the window (RFC 5740 section 5.1 on NORM_OBJECT_STREAM): how one is opened, and how the open one goes on.
 
-ghost use Rattle.std.specs.Prelude.{ℕ, ⊤, ◌≡◌, ◌+◌, ◌-◌, ◌*◌, ◌<◌, ◌≤◌, List, None, Some, IfOk, IsErr, MatchResult, length, slice_get, slice_set};
+ghost use Rattle.std.specs.Prelude.{ℕ, ⊤, ◌≡◌, ◌+◌, ◌-◌, ◌*◌, ◌<◌, ◌≤◌, List, None, Some, IfOk, IsErr, MatchResult, length, min, slice_get, slice_set};
 ghost use Rattle.std.specs.VecDeque.{deque_capacity};
 ghost use Rattle.norm_base.specs.declared.node.Origin.{Origin};
 ghost use Rattle.norm_order.specs.Entries.{Part, Stream as Streamed};
-ghost use Rattle.norm_order.specs.Shapes.{shape_of};
+ghost use Rattle.norm_order.specs.Shapes.{shape_of, last_source};
 ghost use Rattle.norm_send_rules.specs.SenderState.{SenderState};
+ghost use Rattle.norm_send_rules.specs.InWindow.{current_shapes, last_index};
+ghost use Rattle.norm_send_rules.specs.Room.{first_kept};
 ghost use Rattle.norm_send_rules.specs.Streaming.{cut};
 ghost use Rattle.held_entry.specs.EntryState.{EntryReads, StandsFor as StandsForEntry};
 ghost use Rattle.held_entry.specs.declared.entry.HeldEntry.{HeldEntry as Kept};
-ghost use Rattle.tx_window.specs.WindowState.{Stands};
+ghost use Rattle.tx_window.specs.WindowState.{Stands, drop_of};
 ghost use Rattle.tx_window.specs.WindowMoves.{WindowMoves};
 ghost use Rattle.tx_window.specs.Taking.{IsOpened, IsUnopened};
-ghost use Rattle.tx_window.specs.Streams.{IsWritten, IsClosed, followed, last_or, write_size_fault};
+ghost use Rattle.tx_window.specs.Streams.{IsWritten, IsClosed, EndsIn, followed, last_or, write_size_fault};
 
 use crate::extent::{Extent, keep_extent};
 use crate::room::{buffer_len, drop_front, hold_range, reserve, room_for};
@@ -174,6 +176,48 @@ impl Window {
             Ok(()) => Ok(self.follow()),
             Err(fault) => Err(fault),
         }
+    }
+
+    /// The last closed source symbol once the open stream is cut, also where its entry was dropped.
+    pub fn end_cut(&self) -> Option<Position>
+        ensures { (s : SenderState) → Stands self.now s → result ≡ last_source (current_shapes self.now.p (cut self.now.p s)) }
+    {
+        if self.held.is_empty() {
+            return self.last;
+        }
+        hold_range(&self.profile);
+        let place = self.held.len() - 1;
+        let entry = &self.held[place];
+        if !entry.is_open() {
+            return self.last;
+        }
+        last_of(entry.last_cut(self.dropped + place as u32), self.last)
+    }
+
+    /// How many segments of the last entry, a stream, are closed. They have room, and 24 bits number their blocks.
+    pub fn segments(&self) -> u32
+        ensures exact { (s : SenderState) (parts : List Part) → Stands self.now s → EndsIn parts s → result ≡ (shape_of self.now.p (Streamed parts)).closed }
+        ensures room { (s : SenderState) (parts : List Part) → Stands self.now s → EndsIn parts s
+            → result ≤ min (first_kept s (last_index s) + self.now.p.blocks) 16777216 * self.now.p.b }
+    {
+        if self.held.is_empty() {
+            return 0;
+        }
+        let place = self.held.len() - 1;
+        let entry = &self.held[place];
+        entry.fits();
+        entry.segments()
+    }
+
+    /// 24 bits number the blocks before the first that is kept. Nothing is done.
+    pub fn fits(&self)
+        ensures { (drop_of self.now).block ≤ 16777216 }
+    {
+        if self.held.is_empty() {
+            return;
+        }
+        let entry = &self.held[0];
+        entry.fits();
     }
 
     /// Closes the segment that fills of the open stream, where it holds octets. Without an open stream nothing changes.

@@ -1,5 +1,5 @@
 use Rattle.std.proofs.Common.{◌∙◌, sym}
-use Rattle.gate_tests.proofs.ScriptLemmas.{runnable}
+use Rattle.norm_session.proofs.ScriptLemmas.{runnable}
 use Rattle.gate_tests.proofs.sessions.script_of.Goals as goal
 
 -- what is read can be run

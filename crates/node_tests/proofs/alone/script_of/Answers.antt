@@ -1,5 +1,5 @@
 use Rattle.std.proofs.Common.{◌∙◌, sym}
-use Rattle.node_tests.proofs.ScriptLemmas.{runnable}
+use Rattle.norm_session.proofs.ScriptLemmas.{runnable}
 use Rattle.node_tests.proofs.alone.script_of.Goals as goal
 
 -- what is read can be run

@@ -1,31 +1,13 @@
-use Rattle.std.proofs.Common.{◌≡◌, ◌+◌, ◌-◌, ◌/◌, ◌%◌, ap, sym, subst, ◌∙◌, arith, Some}
-use Rattle.fec_plan.specs.Partition.{Cut}
-use Rattle.fec_plan.specs.Points.{position}
+use Rattle.std.proofs.Common.{◌≡◌, ap, sym, subst, ◌∙◌, arith}
 use Rattle.stream_buffer.specs.StreamState.{StandsFor}
 use Rattle.held_stream.specs.HeldState.{HeldState}
 use Rattle.held_stream.proofs.KnowsLemmas.{counted}
-use Rattle.held_stream.proofs.GoingLemmas.{none_last, last_is, last_below}
 use Rattle.held_stream.proofs.stream.HeldStream.last.Goals as goal
 
-pub returns-then-segments-eq0 : goal.returns-then-segments-eq0
-returns-then-segments-eq0 c = λ p parts st.
-    let here : StandsFor p parts c.self.inside.buffer = subst (λ (v : HeldState). StandsFor p parts v.buffer) (sym c.self.view_is) st in
-    sym (none_last p c.args.index parts (sym (c.segments-segments.ensures.exact ∙ counted p parts c.self.inside.buffer here) ∙ c.if-segments-eq0.true))
-
-pub invariant_of-result : goal.invariant_of-result
-invariant_of-result c =
-    last_below c.segments-segments.result c.from-b.result c.self.inside.buffer.cut.b (omega (arith, c.from-b.ensures, c.self.invariant.some)) (c.from-b.ensures ∙ c.self.invariant.b)
-    c.segments-segments.ensures.few c.if-segments-eq0.false
+pub last_of-requires : goal.last_of-requires
+last_of-requires c = omega (arith, c.segments.ensures.few, ap (λ (v : HeldState). v.buffer.cut.b) c.self.view_is)
 
 pub returns : goal.returns
 returns c = λ p parts st.
     let here : StandsFor p parts c.self.inside.buffer = subst (λ (v : HeldState). StandsFor p parts v.buffer) (sym c.self.view_is) st in
-    let b : c.from-b.result ≡ p.b = c.from-b.ensures ∙ c.self.invariant.b ∙ ap (λ (k : Cut). k.b) here.cut in
-    let n = c.segments-segments.result in
-    let more : n ≡ n - 1 + 1 = grows n c.if-segments-eq0.false in
-    ap (λ k. Some (position c.args.index ((n - 1) / k) ((n - 1) % k))) b
-    ∙ sym (last_is p c.args.index parts (n - 1) (omega (arith, b, c.from-b.ensures, c.self.invariant.some))
-    (sym (c.segments-segments.ensures.exact ∙ counted p parts c.self.inside.buffer here) ∙ more))
-  where
-    grows : (n : Rattle.std.specs.Prelude.ℕ) → (n ≡ 0 → ⊥) → n ≡ n - 1 + 1
-    grows n some = grind (arith, some)
+    c.last_of.ensures p parts parts st (c.segments.ensures.exact ∙ counted p parts c.self.inside.buffer here)

@@ -23,10 +23,13 @@ returns-clause-added c =
 planned : (c : goal.After-hold_all-2) → AllByRecursion IsPlanned c.args.self.now.objects
 planned c = subst (λ (ms : List Marked). AllByRecursion IsPlanned ms) (c.deref.ensures.value ∙ ap (λ (u : Kept). u.objects) c.self.view_is) c.hold_all.ensures.planned
 
+now_planned : (c : goal.After-hold_all-2) → AllByRecursion IsPlanned c.ask_requests.new.self.objects
+now_planned c = subst (λ (ms : List Marked). AllByRecursion IsPlanned ms) (c.deref-2.ensures.value ∙ ap (λ (u : Kept). u.objects) c.self-2.view_is) c.hold_all-2.ensures.planned
+
 pub returns-clause-stands : goal.returns-clause-stands
 returns-clause-stands c = λ s st. stands_added c.args.profile.now s c.args.self.now c.ask_requests.new.self _ st (returns-clause-added c)
 
 pub returns-clause-collects : goal.returns-clause-collects
 returns-clause-collects c = λ s asked st col.
     subst (λ (more : List Asked). Collects c.args.profile.now c.ask_requests.new.self s (asked ++ more)) (named_then_asked c.args.profile.now s (known_of c.args.self.now) c.args.requests (ap (λ (n : ℕ). n - 1) st.next))
-    (collects_more c.args.profile.now s c.args.self.now c.ask_requests.new.self asked _ st (planned c) col (returns-clause-added c))
+    (collects_more c.args.profile.now s c.args.self.now c.ask_requests.new.self asked _ st (planned c) (now_planned c) col (returns-clause-added c))

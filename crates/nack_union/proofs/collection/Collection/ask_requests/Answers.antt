@@ -1,4 +1,4 @@
-use Rattle.std.proofs.Common.{List, Option, ℕ, map, sym, ap, subst, ◌∙◌}
+use Rattle.std.proofs.Common.{List, Option, map, sym, ap, subst, ◌∙◌}
 use Rattle.norm_ext.specs.Asking.{named}
 use Rattle.norm_ext.specs.Requests.{Request}
 use Rattle.norm_ext.specs.RequestView.{request_of}

@@ -5,7 +5,8 @@ use Rattle.std.specs.Vec.{with_items}
 use Rattle.std.proofs.lemmas.List.{with_items_is, length-map}
 use borrow.Rule.Slice.PartMut.{mid_of, post_of}
 use Rattle.fec_plan.specs.Points.{Point, point}
-use Rattle.nack_union.specs.Kept.{Kept, Marked, Holds, IsCounted, closed_marks, closed_union}
+use Rattle.nack_union.specs.Kept.{Kept, Marked, Holds, IsCounted, closed_marks, closed_union, first_block}
+use Rattle.nack_union.proofs.Fronts.{first_front, block_closed}
 use Rattle.nack_union.specs.Rounds.{wants_closed, new_wants}
 use Rattle.nack_union.specs.CollectionSound.{AreIdle, AreQuiet}
 use Rattle.nack_union.proofs.Idle.{idle_outside, closed_range, counted_range, new_range, closed_are_idle}
@@ -74,15 +75,23 @@ returns-clause-queued c = λ p s st.
     ∙ ap (λ (n : ℕ). min n 4294967295) (all_queued p s (before c) (counted c) (subst (λ (u : Kept). Holds p u s) (sym c.self.view_is) st))
     ∙ ap (λ (u : Kept). min (length (wants_closed u s) - length s.wants) 4294967295) c.self.view_is
 
+all_counted : (c : goal.After-self-5-1) → AllByRecursion IsCounted c.args.self.now.objects
+all_counted c = subst (λ (u : Kept). AllByRecursion IsCounted u.objects) c.self.view_is (counted c)
+
+pub returns-clause-early : goal.returns-clause-early
+returns-clause-early c =
+    c.is_early-early.ensures
+    ∙ ap (λ n. is_before_window c.self.inside.earliest (point c.self.inside.first n)) (c.first_block-block.ensures ∙ ap first_block (c.deref.ensures.value ∙ now c) ∙ block_closed c.self.inside.objects.items)
+    ∙ ap (λ (u : Kept). is_before_window u.earliest (point u.first (first_block u.objects))) c.self.view_is
+
 pub returns-clause-rules : goal.returns-clause-rules
 returns-clause-rules c = λ p s r st col. (
-  stands_by_rules p s r c.args.self.now (record { first = c.self.inside.first; objects = items c; earliest = None }) st col (returns-clause-closed c p s st),
-  returns-clause-queued c p s st ∙ ap (λ (ws : List Want). min (length ws - length s.wants) 4294967295) (by_rules p s c.args.self.now r.asked st col),
-  c.is_early-early.ensures
-      ∙ ap (λ (u : Kept). is_before_window u.earliest (point u.first 0)) c.self.view_is
-      ∙ ap (λ (o : Option Point). is_before_window o (point c.args.self.now.first 0)) col.earliest
-      ∙ ap (λ (n : ℕ). is_before_window (earliest_with None (map (λ (a : Asked). a.request) r.asked)) (point n 0)) st.first
-      ∙ ap (λ (n : ℕ). is_before_window (earliest_with None (map (λ (a : Asked). a.request) r.asked)) (point s.current.drop.index n)) (sym st.whole)
+  stands_by_rules p s r c.args.self.now (record { first = c.self.inside.first; objects = items c; earliest = None }) st col (all_counted c) (returns-clause-closed c p s st),
+  returns-clause-queued c p s st ∙ ap (λ (ws : List Want). min (length ws - length s.wants) 4294967295) (by_rules p s c.args.self.now r.asked st col (all_counted c)),
+  returns-clause-early c
+      ∙ ap (λ (o : Option Point). is_before_window o (point c.args.self.now.first (first_block c.args.self.now.objects))) col.earliest
+      ∙ ap (λ (n : ℕ). is_before_window (earliest_with None (map (λ (a : Asked). a.request) r.asked)) (point n (first_block c.args.self.now.objects))) st.first
+      ∙ ap (λ (n : ℕ). is_before_window (earliest_with None (map (λ (a : Asked). a.request) r.asked)) (point s.current.drop.index n)) (first_front s.current.drop.block c.args.self.now.objects st.fronts)
       ∙ early_is s.current.drop r.asked,
 )
 

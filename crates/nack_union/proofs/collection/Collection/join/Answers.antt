@@ -13,7 +13,7 @@ use Rattle.nack_union.proofs.collection.Collection.join.Goals as goal
 pub returns-clause-stands : goal.returns-clause-stands
 returns-clause-stands c = λ p s entry st shape room.
     subst (λ (ms : List Marked). Holds p (record { first = c.self.inside.first; objects = ms; earliest = c.self.inside.earliest }) (with_entry entry s)) (sym c.in_ok-push.ensures.items)
-    (stands_admitted p s _ entry c.args.marks c.requires.fresh.wants c.requires.fresh.sent (subst (λ (u : Kept). Holds p u s) (sym c.self.view_is) st) shape room)
+    (stands_admitted p s _ entry c.args.marks c.requires.fresh.wants c.requires.fresh.sent c.requires.fresh.first (subst (λ (u : Kept). Holds p u s) (sym c.self.view_is) st) shape room)
 
 pub invariant_of-self-2 : goal.invariant_of-self-2
 invariant_of-self-2 c = record {

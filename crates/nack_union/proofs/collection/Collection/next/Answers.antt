@@ -49,7 +49,7 @@ returns-clause-collects c = λ p s asked rest col.
     let there = position-Some wanted c.self.inside.objects.items c.in_ok-place.place c.index_mut-object.result.now at in
     let same = sym c.index_mut-object.ensures.value ∙ c.in_ok-slot.ensures.0 in
     let kept = collects_kept p s (record { first = c.self.inside.first; objects = c.self.inside.objects.items; earliest = c.self.inside.earliest }) asked c.in_ok-place.place c.take_lowest.new.self c.index_mut-object.result.now
-    there.0 (sym (ap (λ (m : Marked). m.asked) same)) (sym (ap (λ (m : Marked). m.counts) same))
+    there.0 (sym (ap (λ (m : Marked). m.asked) same)) (sym (ap (λ (m : Marked). m.counts) same)) (sym (ap (λ (m : Marked). m.first) same))
     (known_kept _ c.in_ok-place.place (next_index s) c.take_lowest.new.self c.index_mut-object.result.now asked
     there.0 (sym (ap (λ (m : Marked). m.cut) same)) (sym (ap (λ (m : Marked). m.closed) same))
     (subst (λ (u : Kept). AllByRecursion (IsKnownIn u (next_index s)) asked) (sym c.self.view_is) col.known))

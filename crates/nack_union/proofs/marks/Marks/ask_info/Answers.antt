@@ -8,3 +8,6 @@ pub returns-then-self : goal.returns-then-self
 returns-then-self c =
     one_slot _ 0 c.args.self.now c.ask.new.self c.ask.ensures
     (λ slot. ap (λ b. b && slot == 0) (sym (ap (λ (m : Marked). m.info) c.self.view_is) ∙ c.if-self.true))
+
+pub ask-requires-clause-info : goal.ask-requires-clause-info
+ask-requires-clause-info c = λ e. sym (ap (λ (m : Marked). m.info) c.self.view_is) ∙ c.if-self.true

@@ -1,6 +1,7 @@
 -- What is asked for of all blocks is what is asked for here, and then of the blocks that are left.
-use Rattle.std.proofs.Common.{ℕ, ◌-◌, List}
+use Rattle.std.proofs.Common.{◌≡◌, ℕ, ◌-◌, List, false}
 use Rattle.std.specs.Prelude.{IfSome}
+use Rattle.fec_plan.specs.Points.{point, point_before, point_of}
 use Rattle.norm_receive_rules.specs.ReceiverState.{ReceiverState}
 use Rattle.norm_receive_rules.specs.HeardNeeds.{is_heard}
 use Rattle.norm_receive_rules.specs.Needs.{counts_from}
@@ -13,6 +14,7 @@ use Rattle.norm_receiver.proofs.parts.Parts.ask_blocks.Given as goal
 
 abbrev pub invariant-loop-block : goal.invariant-loop-block
 invariant-loop-block l = record {
+  ahead : point_before (point l.index l.block) (point_of l.self.hold.point) ≡ false;
   room : HasRoom l.asking.writer l.out;
   walked : (s : ReceiverState) (front : List ℕ) (w : Walked) → Stands (kept_of l.self) s
       → IsAt l.self.profile (is_heard s.knows.heard s.holding) l.initial.asking l.initial.out front w

@@ -7,7 +7,7 @@ use Rattle.mark_book.specs.BookState.{BookState}
 use Rattle.norm_sender.specs.SenderKept.{SenderKept}
 use Rattle.norm_sender.specs.Filling.{Fills}
 use Rattle.norm_sender.specs.Inside.{kept_of}
-use Rattle.norm_sender.proofs.EnqueuingLemmas.{begun_fills}
+use Rattle.norm_sender.proofs.EnqueuingLemmas.{begun_fills, begun_onward}
 use Rattle.norm_sender.proofs.parts.Parts.begin.Goals as goal
 
 pub returns-in-Ok-begin-clause-begun : goal.returns-in-Ok-begin-clause-begun
@@ -26,14 +26,26 @@ returns-in-Ok-begin-clause-begun c s h =
     (record {
       profile = c.begin.ensures.profile;
       filling = c.in-Ok-begin.ensures.begun;
-      stands = record { stands = c.in-Ok-begin.ensures.stands s h.window.stands; unopened = h.window.unopened };
-      free = λ octets long. c.in-Ok-begin.ensures.free s octets h.window.stands long;
+      stands = c.in-Ok-begin.ensures.stands s h.window;
+      free = λ octets long. c.in-Ok-begin.ensures.free s octets h.window long;
     })
     (ap (λ (cut : Cut). admitted cut c.is_some.result) c.plan_of-plan.ensures ∙ ap (λ (b : Bool). admitted (cut_of c.args.len k.p.e k.p.b k.p.max_n) b) c.is_some.ensures)
     (record {
       admits = c.in-Ok.ensures.exact;
       joins = c.in-Ok.ensures.stands;
       retires = c.retire.ensures.exact;
+      few = c.retire.ensures.few;
       drops = c.retire.ensures.union;
       due = c.retire.ensures.pace;
     }))
+
+pub retire-requires : goal.retire-requires
+retire-requires c =
+    let k = kept_of c.args.self.now in
+    let s = c.requires.state in
+    let h = c.requires.stands in
+    let f : Filling = record { kind = c.args.kind; info = c.args.info; len = c.args.len; octets = [] } in
+    let w = c.begin.new.self in
+    begun_onward k w s f (admitted c.plan_of-plan.result c.is_some.result) c.admit.new.self h (c.in-Ok-begin.ensures.stands s h.window)
+    (ap (λ (cut : Cut). admitted cut c.is_some.result) c.plan_of-plan.ensures ∙ ap (λ (b : Bool). admitted (cut_of c.args.len k.p.e k.p.b k.p.max_n) b) c.is_some.ensures)
+    c.in-Ok.ensures.exact c.in-Ok.ensures.stands

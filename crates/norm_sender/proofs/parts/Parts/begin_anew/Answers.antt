@@ -9,7 +9,7 @@ returns-clause-stands c s h =
       window_profile = c.clear.ensures.profile ∙ h.window_profile;
       filling = c.clear.ensures.finished;
       union_profile = c.clear-2.ensures.profile ∙ h.union_profile;
-      window = record { stands = c.clear.ensures.begun c.args.instance s h.window.stands; unopened = refl };
+      window = c.clear.ensures.begun c.args.instance s h.window;
       union = c.clear-2.ensures.begun c.args.instance s h.union;
       book = c.cut_all.ensures k.p s c.args.instance h.book;
       pace = c.begun_anew-self.ensures s h.pace;

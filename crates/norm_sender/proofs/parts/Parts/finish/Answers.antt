@@ -12,4 +12,4 @@ returns-clause-stands c s by f h =
     let room = room_made k.p f.len s in
     let long : length f.octets ≡ f.len = subst (λ (o : Option Filling). MatchOption o ⊥ (λ (g : Filling). length g.octets ≡ g.len)) h.filling c.requires in
     finished k c.finish-index.new.self s by f c.finish-index.result c.from-len.result h long c.finish-index.ensures.profile c.finish-index.ensures.finished
-    (c.finish-index.ensures.stands room by f h.window.stands h.filling) (c.finish-index.ensures.index room h.window.stands) (c.from-len.ensures ∙ c.begun_len.ensures f h.filling)
+    (c.finish-index.ensures.stands room by f h.window h.filling) (c.finish-index.ensures.index room h.window) (c.from-len.ensures ∙ c.begun_len.ensures f h.filling)

@@ -13,7 +13,7 @@ returns-then-keeps_oldest-clause-stands c s t h was =
     let k = kept_of c.args.self.now in
     let u = with_book t s in
     followed_stands k c.note_past.new.self true s t h (ap (λ (w : WindowState). w.p) c.note_past.ensures.exact) (ap (λ (w : WindowState). w.filling) c.note_past.ensures.exact)
-    (c.note_past.ensures.stands s (counted_anew s u) h.window.stands (followed_past s t) (λ at. c.least.ensures k.p (counted_anew s u) at (followed_book k.p k.book s u h.book)))
+    (c.note_past.ensures.stands s (counted_anew s u) h.window (followed_past s t) (λ at. c.least.ensures k.p (counted_anew s u) at (followed_book k.p k.book s u h.book)))
     (sym c.if-keeps_oldest.true ∙ c.keeps_oldest.ensures s u was (c.oldest.ensures k.p u h.book))
 
 pub returns-clause-stands : goal.returns-clause-stands
@@ -22,5 +22,5 @@ returns-clause-stands c s t h was =
     let u = with_book t s in
     subst (λ (q : Pace). Agrees (record k { window = c.note_past.new.self; pace = q }) (counted_anew s u)) (sym c.counted_anew-self.ensures)
     (followed_stands k c.note_past.new.self false s t h (ap (λ (w : WindowState). w.p) c.note_past.ensures.exact) (ap (λ (w : WindowState). w.filling) c.note_past.ensures.exact)
-    (c.note_past.ensures.stands s (counted_anew s u) h.window.stands (followed_past s t) (λ at. c.least.ensures k.p (counted_anew s u) at (followed_book k.p k.book s u h.book)))
+    (c.note_past.ensures.stands s (counted_anew s u) h.window (followed_past s t) (λ at. c.least.ensures k.p (counted_anew s u) at (followed_book k.p k.book s u h.book)))
     (sym c.if-keeps_oldest.false ∙ c.keeps_oldest.ensures s u was (c.oldest.ensures k.p u h.book)))

@@ -1,11 +1,13 @@
-use Rattle.std.proofs.Common.{◌≡◌, ◌∙◌, Bool, ap, subst}
+use Rattle.std.proofs.Common.{◌≡◌, ◌∙◌, Bool, ap, subst, sym}
 use Rattle.std.specs.Prelude.{not, ◌||◌}
 use Rattle.std.specs.List.{list_any}
 use Rattle.fec_plan.specs.Points.{Point, point}
 use Rattle.norm_send_rules.specs.InWindow.{stands_behind}
 use Rattle.norm_send_rules.specs.Dropping.{dropped_to}
 use Rattle.tx_window.specs.WindowState.{drop_of}
-use Rattle.nack_union.specs.UnionState.{Stands as UnionStands}
+use Rattle.nack_union.specs.Kept.{MayRetire, retired}
+use Rattle.nack_union.specs.UnionState.{UnionState, Stands as UnionStands}
+use Rattle.norm_sender.proofs.RetiringLemmas.{may_retire}
 use Rattle.norm_sender.specs.declared.pace.Pace.{Pace}
 use Rattle.norm_sender.proofs.parts.Parts.retire.Goals as goal
 
@@ -25,3 +27,20 @@ returns-clause-pace c s h =
     c.retired-self.ensures
     ∙ ap (λ (b : Bool). record pace { squelch_due = pace.squelch_due || b })
     (c.retire-dropped.ensures.wanted s h ∙ ap (λ (d : Point). list_any (λ want. not (stands_behind d want)) s.wants) at)
+
+pub retire-dropped-requires : goal.retire-dropped-requires
+retire-dropped-requires c =
+    let first = c.first-index in
+    let u = c.args.self.now.union in
+    let d = drop_of c.args.self.now.window in
+    subst (λ i. MayRetire i first.result.1 u.kept) (sym first.ensures.number.0)
+    (subst (λ b. MayRetire d.index b u.kept) (sym first.ensures.number.1)
+    (may_retire u c.requires.state d c.requires.stands c.requires.onward c.fits.ensures))
+
+pub returns-clause-exact : goal.returns-clause-exact
+returns-clause-exact c =
+    let first = c.first-index in
+    let u : UnionState = c.args.self.now.union in
+    c.retire-dropped.ensures.exact
+    ∙ ap (λ i. record u { kept = retired i first.result.1 u.kept }) first.ensures.number.0
+    ∙ ap (λ b. record u { kept = retired c.args.self.now.window.dropped b u.kept }) first.ensures.number.1

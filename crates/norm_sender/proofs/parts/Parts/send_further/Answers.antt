@@ -14,7 +14,7 @@ send_want-requires c =
     let w = c.in-Some.want in
     let found : next_new k.p r.state ≡ Some w =
     subst (λ (q : Settings). next_new q r.state ≡ Some w) r.stands.window_profile
-    (sym (c.in-Some.ensures.exact r.state r.stands.window.stands (sym (ap (λ (q : Pace). q.next) r.stands.pace)))) in
+    (sym (c.in-Some.ensures.exact r.state r.stands.window (sym (ap (λ (q : Pace). q.next) r.stands.pace)))) in
     record {
       state = record (r.state) { next = behind w };
       stands = goes_on_stands k r.state w c.behind.result c.goes_on-self.result r.stands c.behind.ensures c.goes_on-self.ensures;
@@ -27,7 +27,7 @@ returns-clause-stands c s h wants =
     let w = c.in-Some.want in
     let found : next_new k.p s ≡ Some w =
     subst (λ (q : Settings). next_new q s ≡ Some w) h.window_profile
-    (sym (c.in-Some.ensures.exact s h.window.stands (sym (ap (λ (q : Pace). q.next) h.pace)))) in
+    (sym (c.in-Some.ensures.exact s h.window (sym (ap (λ (q : Pace). q.next) h.pace)))) in
     new_sends (kept_of c.send_want.new.self) c.send_want.new.out c.send_want.result k.p c.args.now w s found
     (c.send_want.ensures.stands (record s { next = behind w })
     (goes_on_stands k s w c.behind.result c.goes_on-self.result h c.behind.ensures c.goes_on-self.ensures)

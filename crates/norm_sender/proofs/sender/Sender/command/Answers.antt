@@ -9,10 +9,10 @@ use Rattle.norm_sender.proofs.CommandingLemmas.{lacking_or_not}
 use Rattle.norm_sender.proofs.SenderLemmas.{stands_here, sound_standing, standing, commands}
 use Rattle.norm_sender.proofs.sender.Sender.command.Goals as goal
 
-pub command-requires-clause-standing : goal.command-requires-clause-standing
-command-requires-clause-standing c =
+pub command-requires : goal.command-requires
+command-requires c =
     let k = kept_of c.self.inside.parts in
-    standing k c.self.invariant.state (stands_here k c.self.invariant (ap (λ (v : SenderKept). v.window.filling) c.self.view_is ∙ c.requires.ready))
+    standing k c.self.invariant.state (stands_here k c.self.invariant (ap (λ (v : SenderKept). v.window.filling) c.self.view_is ∙ c.requires))
 
 pub returns-clause-profile : goal.returns-clause-profile
 returns-clause-profile c = c.command.ensures.profile ∙ ap (λ (k : SenderKept). k.p) c.self.view_is
@@ -48,7 +48,7 @@ invariant_of-self c = go (lacking_or_not (answer_of c.command.result))
     go (inr some) =
         let s = c.self.invariant.state in
         let by = c.args.by in
-        let here = stands_here k c.self.invariant (ap (λ (v : SenderKept). v.window.filling) c.self.view_is ∙ c.requires.ready) in
+        let here = stands_here k c.self.invariant (ap (λ (v : SenderKept). v.window.filling) c.self.view_is ∙ c.requires) in
         sound_standing new (commanded k.p s by c.args.job).0
         (commands k new by c.args.job s c.command.ensures.range c.command.ensures.profile (c.command.ensures.obeys.stands s by here.agrees some).0 here.reached)
 
@@ -62,9 +62,9 @@ returns-clause-ready c = go (lacking_or_not (answer_of c.command.result))
     new = kept_of c.command.new.self
 
     go : (answer_of c.command.result ≡ Err Memory) ⊎ (answer_of c.command.result ≢ Err Memory) → new.window.filling ≡ None
-    go (inl lacking) = ap (λ (v : SenderKept). v.window.filling) (c.command.ensures.obeys.memory lacking ∙ c.self.view_is) ∙ c.requires.ready
+    go (inl lacking) = ap (λ (v : SenderKept). v.window.filling) (c.command.ensures.obeys.memory lacking ∙ c.self.view_is) ∙ c.requires
     go (inr some) =
         let s = c.self.invariant.state in
         let by = c.args.by in
-        let here = stands_here k c.self.invariant (ap (λ (v : SenderKept). v.window.filling) c.self.view_is ∙ c.requires.ready) in
+        let here = stands_here k c.self.invariant (ap (λ (v : SenderKept). v.window.filling) c.self.view_is ∙ c.requires) in
         (commands k new by c.args.job s c.command.ensures.range c.command.ensures.profile (c.command.ensures.obeys.stands s by here.agrees some).0 here.reached).agrees.filling

@@ -5,9 +5,14 @@ use Rattle.norm_send_rules.specs.declared.fault.MarkFault.TheVariants.{Memory}
 use Rattle.norm_sender.specs.Inside.{kept_of}
 use Rattle.norm_sender.specs.SenderKept.{SenderKept, Stands}
 use Rattle.norm_sender.specs.SenderSound.{SenderSound}
-use Rattle.norm_sender.proofs.SenderLemmas.{stands_here, sound_standing, commands, anyone}
+use Rattle.norm_sender.proofs.SenderLemmas.{stands_here, sound_standing, standing, commands, anyone}
 use Rattle.norm_sender.proofs.MarkingLemmas.{memory_or_not}
 use Rattle.norm_sender.proofs.sender.Sender.mark.Goals as goal
+
+pub mark-requires : goal.mark-requires
+mark-requires c =
+    let k = kept_of c.self.inside.parts in
+    standing k c.self.invariant.state (stands_here k c.self.invariant (ap (λ (v : SenderKept). v.window.filling) c.self.view_is ∙ c.requires))
 
 pub returns-clause-profile : goal.returns-clause-profile
 returns-clause-profile c = c.mark.ensures.profile ∙ ap (λ (k : SenderKept). k.p) c.self.view_is

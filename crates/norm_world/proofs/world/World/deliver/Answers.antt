@@ -1,10 +1,10 @@
-use Rattle.std.proofs.Common.{◌≡◌, true, false, refl, sym, subst, set, rules}
+use Rattle.std.proofs.Common.{◌≡◌, true, false, sym, subst, set, rules}
 use Rattle.norm_base.specs.Members.{is_receiver, is_node}
 use Rattle.norm_base.specs.Settings.{Settings}
 use Rattle.norm_safety.specs.Events.{Delivered, Silent}
 use Rattle.norm_world.specs.WorldKept.{WorldKept}
 use Rattle.norm_world.specs.WorldMoves.{IsEvent, IsNoEvent}
-use Rattle.norm_world.proofs.WorldLemmas.{kept, turned, on_err, said_no}
+use Rattle.norm_world.proofs.WorldLemmas.{kept, turned, on_err}
 use Rattle.norm_world.proofs.SenderEvents.{hears}
 use Rattle.norm_world.proofs.ReceiverEvents.{is_place, is_sender, rests}
 use Rattle.norm_world.proofs.ReceiverEvents as receivers
@@ -19,15 +19,6 @@ returns-then-not-is_receiver-clause-event c =
     (subst (λ n. IsEvent (kept i.profile i.sender i.receivers.items) (kept i.profile c.deliver.new.self i.receivers.items)
     (Delivered n c.args.bytes.now c.args.now c.args.draw) (λ answer. answer ≡ Silent)) (sym (is_sender i.profile c.args.to member no))
     (hears i.profile i.sender c.deliver.new.self i.receivers.items c.args.bytes.now c.args.now c.args.draw c.deliver.ensures.profile c.deliver.ensures.stands))
-
-pub returns-then-not-is_of_no_stream-clause-stream : goal.returns-then-not-is_of_no_stream-clause-stream
-returns-then-not-is_of_no_stream-clause-stream c =
-    let i = c.self.inside in
-    let yes : is_receiver i.profile c.args.to ≡ true = search rules in
-    let no : c.is_of_no_stream.result ≡ false = search rules in (
-      λ e. (subst (λ (v : WorldKept). is_receiver v.p c.args.to ≡ true) c.self.view_is yes, said_no c.is_of_no_stream.result c.is_of_no_stream.ensures no),
-      λ e. refl,
-    )
 
 pub returns-in_err-deliver-clause-refused : goal.returns-in_err-deliver-clause-refused
 returns-in_err-deliver-clause-refused c =

@@ -8,8 +8,8 @@ use Rattle.norm_world.proofs.SenderEvents.{commands}
 use Rattle.norm_world.proofs.WorldLemmas.{kept, turned}
 use Rattle.norm_world.proofs.world.World.job.Goals as goal
 
-pub command-requires-clause-ready : goal.command-requires-clause-ready
-command-requires-clause-ready c = subst (λ (v : WorldKept). IsReady v) (sym c.self.view_is) c.requires.ready
+pub command-requires : goal.command-requires
+command-requires c = subst (λ (v : WorldKept). IsReady v) (sym c.self.view_is) c.requires.ready
 
 pub returns-clause-event : goal.returns-clause-event
 returns-clause-event c memory =

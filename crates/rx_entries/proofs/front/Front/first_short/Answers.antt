@@ -1,7 +1,7 @@
 use Rattle.std.proofs.Common.{sym}
-use Rattle.rx_hold.specs.EntryState.{entry_of}
+use Rattle.rx_hold.specs.EntryState.{alone_in, entry_of}
 use Rattle.rx_hold.proofs.FirstLemmas.{first_says}
-use Rattle.rx_entries.proofs.NeedLemmas.{read_first, read_no_first}
+use Rattle.rx_entries.proofs.NeedLemmas.{read_first, read_no_first, short_ahead}
 use Rattle.rx_entries.proofs.front.Front.first_short.Goals as goal
 
 pub returns-in-Some-clause-exact : goal.returns-in-Some-clause-exact
@@ -16,3 +16,8 @@ returns-in-Some-clause-first c = λ s stands. first_says s c.args.index _ (retur
 
 pub returns-in-None-clause-first : goal.returns-in-None-clause-first
 returns-in-None-clause-first c = λ s stands. first_says s c.args.index _ (returns-in-None-clause-exact c s stands)
+
+pub returns-in-Some-clause-ahead : goal.returns-in-Some-clause-ahead
+returns-in-Some-clause-ahead c =
+    short_ahead c.args.self.now c.args.index (entry_of c.in-Some.entry.now) (alone_in (entry_of c.in-Some.entry.now)) (entry_of c.in-Some.entry.now).plan c.first_short_in.result
+    c.requires.reached (sym c.in-Some.ensures) c.first_short_in.ensures

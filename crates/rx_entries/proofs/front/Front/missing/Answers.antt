@@ -1,5 +1,5 @@
 use Rattle.std.proofs.Common.{◌<◌, sym, subst, ◌∙◌, Option}
-use Rattle.std.specs.Prelude.{MatchOption, ⊤}
+use Rattle.std.specs.Prelude.{MatchOption, option_map, ⊤}
 use Rattle.fec_plan.specs.Partition.{blocks}
 use Rattle.fec_plan.specs.Points.{position}
 use Rattle.norm_receive_rules.specs.Plans.{cut_of_plan}
@@ -22,7 +22,7 @@ lacking-wanted-requires-clause-reached c =
 
 pub lacking-wanted-requires-clause-block : goal.lacking-wanted-requires-clause-block
 lacking-wanted-requires-clause-block c =
-    subst (λ (found : Option EntryState). MatchOption found ⊤ (λ o. c.args.block < blocks (cut_of_plan o.plan)))
+    subst (λ (found : Option EntryState). MatchOption (option_map (λ (o : EntryState). cut_of_plan o.plan) found) ⊤ (λ cut. c.args.block < blocks cut))
     (looked_up c.args.self.now c.args.index c.requires.front (not_earlier (position c.args.index c.args.block 0) (point_of_front c.args.self.now) c.requires.reached) ∙ sym c.in-Some.ensures)
     c.requires.block
 

@@ -1,0 +1,301 @@
+//! What a receiver needs of a stream (RFC 5740 section 5.3), whose end it may not know.
+
+ghost use Rattle.std.specs.Prelude.{◌≡◌, ◌+◌, ◌≤◌, ◌&&◌, false, true, is_none, min, Some, None, IfSome};
+ghost use Rattle.fec_plan.specs.Partition.{most_blocks, source_symbols};
+ghost use Rattle.fec_plan.specs.Points.{IsBlock, point as point_at, point_before, point_of};
+ghost use Rattle.norm_receive_rules.specs.Holding.{Holding};
+ghost use Rattle.norm_receive_rules.specs.Plans.{is_done, plan_of, says_stream};
+ghost use Rattle.norm_receive_rules.specs.StreamNeeds.{flush_in, is_behind, open_block, stream_due, stream_needs};
+ghost use Rattle.rx_entries.specs.Asked.{end_at};
+ghost use Rattle.rx_hold.specs.EntryHold.{StandsFor as HoldStands};
+ghost use Rattle.norm_receiver.specs.Quiet.{is_nil};
+ghost use Rattle.norm_receiver.specs.ReceiverKept.{HasSeenBlocks};
+ghost use Rattle.norm_receiver.specs.Streams.{AreBlocks, IsStreamOf, end_run, flush_run, missing_in, missing_of, rest_at, sources, symbols_named, wants_of};
+
+use crate::needs::{is_covered, is_done_before};
+use crate::numbers::{FlushPlace, Numbers};
+use crate::searching::LAST_BLOCK;
+use fec_plan::{Plan, Point, Position};
+use norm_receive_rules::Missing;
+use rx_entries::Hold;
+
+/// Source symbols of a block in a row: from the first to before the one behind.
+#[derive(Clone, Copy, Debug, PartialEq, Eq)]
+pub struct Run {
+    pub block: u32,
+    pub first: u8,
+    pub behind: u8,
+}
+
+/// What may be needed of a stream behind its info.
+#[derive(Clone, Copy, Debug, PartialEq, Eq)]
+pub struct StreamWants {
+    /// So many blocks are due whole.
+    pub due: u32,
+    /// The source symbols up to the flush.
+    pub flushed: Option<Run>,
+    /// Those before the end, behind those that the flush names.
+    pub ended: Option<Run>,
+    /// The block from which on all is needed.
+    pub rest: Option<u32>,
+}
+
+/// The flush position, where it is in this object.
+fn flush_in(flush: &Option<Position>, index: u32) -> Option<Position>
+    ensures exact { result ≡ flush_in flush.now index }
+    ensures block { IfSome result (λ at. IsBlock at.block) }
+{
+    match flush {
+        Some(at) if at.index == index => Some(*at),
+        _ => None,
+    }
+}
+
+/// The sender was seen or heard to be past a stream.
+fn is_behind(farthest: &Option<Point>, flush: &Option<Position>, index: u32) -> bool
+    ensures { result ≡ is_behind farthest.now flush.now index }
+{
+    if let Some(at) = farthest {
+        if index < at.index {
+            return true;
+        }
+    }
+    match flush {
+        Some(at) => index < at.index,
+        None => false,
+    }
+}
+
+/// The blocks of a stream before the greatest one that was seen, and before the flush's.
+fn stream_due(seen: u32, within: &Option<Position>) -> u32
+    requires seen { IsBlock seen }
+    requires within { IfSome within.now (λ at. IsBlock at.block) }
+    ensures exact { result ≡ stream_due seen within.now }
+    ensures block { IsBlock result }
+{
+    match within {
+        Some(at) => seen.max(at.block),
+        None => seen,
+    }
+}
+
+/// The greatest block that was seen of a stream. No message names one behind the last.
+fn block_seen(hold: &Hold, index: u32) -> u32
+    requires { hold.now.point.index ≤ index }
+    ensures block { IsBlock result }
+    ensures seen { (s : Holding) → HoldStands hold.now s → HasSeenBlocks s → IfSome (plan_of s index) (λ found. says_stream found.flags ≡ true → result ≡ found.seen) }
+{
+    match hold.seen(index) {
+        Some(block) => block.min(LAST_BLOCK),
+        None => 0,
+    }
+}
+
+/// The place of a covered stream's end, where that is known. Of one that is not covered the end is not looked for.
+fn end_of(hold: &Hold, index: u32, covered: bool) -> Option<Position>
+    requires { hold.now.point.index ≤ index }
+    ensures exact { covered ≡ true → (s : Holding) → HoldStands hold.now s → result ≡ end_at hold.now.p s index }
+    ensures block { IfSome result (λ at. IsBlock at.block) }
+{
+    if !covered {
+        return None;
+    }
+    match hold.end(index) {
+        Some(id) => Some(FlushPlace { index, id }.position()),
+        None => None,
+    }
+}
+
+/// Whether a block of a stream was handed up, or has as many symbols as source symbols.
+pub(crate) fn is_done(hold: &Hold, index: u32, plan: &Plan, block: u32) -> bool
+    requires stream { IsStreamOf hold.now index plan.now }
+    requires block { IsBlock block }
+    ensures exact { (s : Holding) → HoldStands hold.now s → IfSome (plan_of s index) (λ found. result ≡ is_done s found block) }
+    ensures ahead { result ≡ false → point_before (point_at index block) (point_of hold.now.point) ≡ false }
+{
+    let at = hold.hand_up();
+    let first = Point {
+        index: at.index,
+        block: at.block,
+    };
+    let this = Point { index, block };
+    if this.is_before(&first) {
+        return true;
+    }
+    match hold.missing(index, block) {
+        Missing::Done => true,
+        Missing::Short { .. } => false,
+        Missing::Unseen => false,
+    }
+}
+
+/// The block from which on all is needed, where the sender is past a stream whose end is not known: the greatest seen, or the
+/// one behind it where that is done.
+fn open_block(hold: &Hold, index: u32, plan: &Plan, seen: u32) -> u32
+    requires stream { IsStreamOf hold.now index plan.now }
+    requires block { IsBlock seen }
+    ensures { (s : Holding) → HoldStands hold.now s → IfSome (plan_of s index) (λ found. seen ≡ found.seen → result ≡ open_block s found) }
+{
+    if is_done(hold, index, plan, seen) {
+        return seen + 1;
+    }
+    seen
+}
+
+/// How many source symbols of a block a flush of this one names; one that is no source symbol counts as the last.
+fn symbols_through(plan: &Plan, symbol: u8, block: u32) -> u8
+    ensures { result ≡ min (symbol + 1) (source_symbols plan.now block) }
+{
+    (u16::from(symbol) + 1).min(u16::from(plan.source_len(block))) as u8
+}
+
+/// How many source symbols of a block a flush names.
+fn symbols_flushed(plan: &Plan, within: &Option<Position>, block: u32) -> u8
+    ensures { result ≡ symbols_named plan.now within.now block }
+{
+    match within {
+        Some(at) if at.block == block => symbols_through(plan, at.symbol, block),
+        _ => 0,
+    }
+}
+
+/// The source symbols of the flush's block up to the flush.
+fn flush_run(plan: &Plan, within: &Option<Position>) -> Option<Run>
+    requires { IfSome within.now (λ at. IsBlock at.block) }
+    ensures exact { result ≡ flush_run plan.now within.now }
+    ensures block { IfSome result (λ run. IsBlock run.block) }
+{
+    match within {
+        Some(at) => Some(Run {
+            block: at.block,
+            first: 0,
+            behind: symbols_through(plan, at.symbol, at.block),
+        }),
+        None => None,
+    }
+}
+
+/// The source symbols of the end's block before the end, behind those that a flush names.
+fn end_run(
+    plan: &Plan,
+    covered: bool,
+    within: &Option<Position>,
+    end: &Option<Position>,
+) -> Option<Run>
+    requires { IfSome end.now (λ at. IsBlock at.block) }
+    ensures exact { result ≡ end_run covered plan.now within.now end.now }
+    ensures block { IfSome result (λ run. IsBlock run.block) }
+{
+    if !covered {
+        return None;
+    }
+    match end {
+        Some(at) => Some(Run {
+            block: at.block,
+            first: symbols_flushed(plan, within, at.block),
+            behind: at.symbol,
+        }),
+        None => None,
+    }
+}
+
+/// The block from which on all is needed of a stream whose end is not known, where the sender is past it and there is one.
+fn rest_from(end: &Option<Position>, behind: bool, least: u32) -> Option<u32>
+    ensures exact { result ≡ rest_at (is_none end.now && behind) least }
+    ensures block { IfSome result (λ block. IsBlock block) }
+{
+    if end.is_some() {
+        return None;
+    }
+    if !behind {
+        return None;
+    }
+    if least > LAST_BLOCK {
+        return None;
+    }
+    Some(least)
+}
+
+/// What may be needed of a stream behind its info.
+pub(crate) fn stream_wants(hold: &Hold, numbers: &Numbers, index: u32, plan: &Plan) -> StreamWants
+    requires { IsStreamOf hold.now index plan.now }
+    ensures widths { AreBlocks result }
+    ensures exact { (s : Holding) → HoldStands hold.now s → HasSeenBlocks s → IfSome (plan_of s index) (λ found.
+        result ≡ wants_of hold.now.p numbers.now.farthest numbers.now.flush s found) }
+{
+    let seen = block_seen(hold, index);
+    let within = flush_in(&numbers.flush, index);
+    let covered = is_covered(&numbers.farthest, &numbers.flush, index);
+    let end = end_of(hold, index, covered);
+    let behind = is_behind(&numbers.farthest, &numbers.flush, index);
+    let least = open_block(hold, index, plan, seen);
+    StreamWants {
+        due: stream_due(seen, &within),
+        flushed: flush_run(plan, &within),
+        ended: end_run(plan, covered, &within, &end),
+        rest: rest_from(&end, behind, least),
+    }
+}
+
+/// Whether none of these source symbols is missing: each is held, or their block is done.
+fn is_there(hold: &Hold, index: u32, plan: &Plan, run: Run) -> bool
+    requires stream { IsStreamOf hold.now index plan.now }
+    requires block { IsBlock run.block }
+    ensures { (s : Holding) → HoldStands hold.now s → IfSome (plan_of s index) (λ found. result ≡ is_nil (sources (missing_in s found run))) }
+{
+    if is_done(hold, index, plan, run.block) {
+        return true;
+    }
+    let block = run.block;
+    let mut symbol = run.first;
+    while symbol < run.behind {
+        let at = Position {
+            index,
+            block,
+            symbol,
+        };
+        if !hold.holds(at) {
+            return false;
+        }
+        symbol += 1;
+    }
+    true
+}
+
+/// Whether none is missing of source symbols that may be needed.
+fn are_there(hold: &Hold, index: u32, plan: &Plan, run: Option<Run>) -> bool
+    requires stream { IsStreamOf hold.now index plan.now }
+    requires block { IfSome run (λ some. IsBlock some.block) }
+    ensures { (s : Holding) → HoldStands hold.now s → IfSome (plan_of s index) (λ found. result ≡ is_nil (sources (missing_of s found run))) }
+{
+    match run {
+        Some(run) => is_there(hold, index, plan, run),
+        None => true,
+    }
+}
+
+/// Whether there is no such block.
+fn is_nowhere(rest: &Option<u32>) -> bool
+    ensures { result ≡ is_none rest.now }
+{
+    rest.is_none()
+}
+
+/// Whether nothing is needed of a stream behind its info.
+pub(crate) fn is_stream_quiet(hold: &Hold, numbers: &Numbers, index: u32, plan: &Plan) -> bool
+    requires { IsStreamOf hold.now index plan.now }
+    ensures { (s : Holding) → HoldStands hold.now s → HasSeenBlocks s → IfSome (plan_of s index) (λ found.
+        result ≡ is_nil (stream_needs hold.now.p numbers.now.farthest numbers.now.flush s found)) }
+{
+    let wants = stream_wants(hold, numbers, index, plan);
+    if !is_done_before(hold, index, wants.due) {
+        return false;
+    }
+    if !are_there(hold, index, plan, wants.flushed) {
+        return false;
+    }
+    if !are_there(hold, index, plan, wants.ended) {
+        return false;
+    }
+    is_nowhere(&wants.rest)
+}
