@@ -83,9 +83,6 @@ empty_word words i e = ap (λ w. bit_at w (i % 64) == 1) e ∙ ap (λ b. b == 1)
 pub no_members : (words : List ℕ) (n : ℕ) → ((k : ℕ) → get_or words k 0 ≡ 0) → (places_of n words).members ≡ []
 no_members words n zeros = no_filter (has_bit words) 0 n (λ i le lt. empty_word words i (zeros (i / 64)))
 
-pub no_rest : (words : List ℕ) (n : ℕ) → ((k : ℕ) → get_or words k 0 ≡ 0) → (i : ℕ) → n ≤ i → has_bit words i ≡ false
-no_rest words n zeros i le = empty_word words i (zeros (i / 64))
-
 pub positive : (n : ℕ) → (n ≡ 0 → ⊥) → 0 < n
 positive zero ne = absurd (ne refl)
 positive (suc n) ne = omega arith

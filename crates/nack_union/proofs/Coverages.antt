@@ -241,23 +241,6 @@ covered_grown c was now ends alone le runs =
     same_within (λ slot. is_member nat_lt slot alone || is_run_slot (shape_closed c was) ends slot) (λ slot. is_member nat_lt slot alone || is_run_slot (shape_closed c now) ends slot)
     0 (slots (blocks c)) (λ slot from to. ap (λ b. is_member nat_lt slot alone || b) (run_grown c was now ends le runs slot))
 
--- A run of slots is what lies before its first whole block, its whole blocks, and what lies behind them.
-run_parts : (from to first behind n : ℕ) → from ≤ 256 * first + 1 → first < behind → 256 * behind + 1 ≤ to
-    → ((in_run from (256 * first + 1) (suc n) || (not (nat_lt (n / 256) first) && nat_lt (n / 256) behind)) || in_run (256 * behind + 1) to (suc n)) ≡ in_run from to (suc n)
-run_parts from to first behind n low some high = grind (arith, nat_tests, div-add-mod n 256)
-
-by_source : (s x y z w : Bool) → ((x || y) || z) ≡ w → (((s && x) || (s && y)) || (s && z)) ≡ (s && w)
-by_source true x y z w e = e
-by_source false x y z w e = refl
-
-pub parts_are_run : (c : Shape) (m : Bool) (slot from to first behind : ℕ) → from ≤ 256 * first + 1 → first < behind → 256 * behind + 1 ≤ to
-    → (((m || (is_source_slot c slot && in_run from (256 * first + 1) slot)) || (is_source_slot c slot && is_in_blocks first behind slot)) || (is_source_slot c slot && in_run (256 * behind + 1) to slot))
-    ≡ (m || (is_source_slot c slot && in_run from to slot))
-parts_are_run c true slot from to first behind low some high = refl
-parts_are_run c false zero from to first behind low some high = refl
-parts_are_run c false (suc n) from to first behind low some high =
-    by_source (is_source_slot c (suc n)) _ _ _ _ (run_parts from to first behind n low some high)
-
 -- The source symbols of one block more that lies in a run, or that lies in none.
 block_here : (n m k j b : ℕ) (l : Bool) → j ≤ 256 → b < m → n / 256 ≡ b → k ≡ j → l ≡ true
     → ((((nat_lt (n / 256) m && nat_lt (n % 256) k) && l) && nat_lt (n / 256) b) || in_run (256 * b + 0 + 1) (256 * b + 0 + 1 + j) (suc n))

@@ -1,13 +1,12 @@
 -- What stands behind a drop point.
 use Rattle.std.proofs.Common.{◌≡◌, ℕ, zero, suc, ◌<◌, ◌≤◌, ◌⊎◌, inl, inr, List, [], ◌∷◌, map, cond, Bool, true, false, refl, sym, ap, ◌∙◌, arith}
 use Rattle.std.specs.Prelude.{not, filter}
-use Rattle.std.proofs.lemmas.Bool.{cases_lt, lt-ltb, le-ltb, le-leb}
+use Rattle.std.proofs.lemmas.Bool.{cases_lt, lt-ltb, le-ltb}
 use Rattle.std.proofs.lemmas.Bool.Decides.{Decides-ltb, Decides-eqb, Decides-and, Decides-or}
 use Rattle.std.specs.Bool.{Decides}
 use Rattle.fec_plan.specs.Points.{Point, point_of, point_before, position_before}
 use Rattle.fec_plan.specs.declared.position.Position.{Position}
 use Rattle.norm_order.specs.Sets.{with_member}
-use Rattle.fec_plan.proofs.PositionLemmas.{before_decides}
 use Rattle.norm_send_rules.specs.Laws.{Rise}
 use Rattle.norm_send_rules.specs.Wants.{want_before, want_index}
 use Rattle.norm_send_rules.specs.InWindow.{stands_behind}
@@ -70,12 +69,6 @@ index_behind d w e = go (cases_lt (want_index w) d.index)
     go : (want_index w < d.index) ⊎ (d.index ≤ want_index w) → d.index ≤ want_index w
     go (inl lt) = absurd (clash (sym (not_behind d w lt) ∙ e))
     go (inr le) = le
-
-pub by_index : (v w : Want) → want_index v < want_index w → want_before v w ≡ true
-by_index (Info i) (Info j) lt = lt-ltb i j lt
-by_index (Info i) (Symbol b) lt = le-leb i b.index (omega arith)
-by_index (Symbol a) (Info j) lt = lt-ltb a.index j lt
-by_index (Symbol a) (Symbol b) lt = (before_decides a b).1 (inl (inl lt))
 
 -- the symbols of a list as wants
 pub symbols_with : (at : Position) (xs : List Position) → map Symbol (with_member position_before at xs) ≡ with_member want_before (Symbol at) (map Symbol xs)

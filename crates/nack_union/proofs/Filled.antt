@@ -1,5 +1,5 @@
 -- Runs of bits in words.
-use Rattle.std.proofs.Common.{◌≡◌, ℕ, zero, suc, cond, ◌+◌, ◌-◌, ◌*◌, ◌/◌, ◌%◌, ◌^◌, ◌<◌, ◌≤◌, ◌⊎◌, inl, inr, List, ◌∷◌, length, set, get_or, true, false, refl, sym, ap, ◌∙◌, arith, take}
+use Rattle.std.proofs.Common.{◌≡◌, ℕ, zero, suc, cond, ◌+◌, ◌-◌, ◌*◌, ◌/◌, ◌%◌, ◌^◌, ◌<◌, ◌≤◌, ◌⊎◌, inl, inr, List, ◌∷◌, length, set, get_or, true, false, sym, ap, ◌∙◌, arith, take}
 use Rattle.std.specs.Prelude.{◌==◌, ◌&&◌, ◌||◌, bit_or, nat_lt, filter, max, min, Bool}
 use Rattle.std.specs.Int.{bit_at}
 use Rattle.std.specs.List.{range_with_len, AllByRecursion}
@@ -36,12 +36,6 @@ run_bit low high i = go (cases_lt i low) (cases_lt i high)
     go (inl below) side = none _ (bit_at_mask_below low high i below) (grind (arith, nat_tests))
     go (inr from) (inl under) = one _ (bit_at_mask_inside low high i from under) (grind (arith, nat_tests))
     go (inr from) (inr past) = none _ (bit_at_mask_above low high i past) (grind (arith, nat_tests))
-
--- a place of the word that comes next
-here_more : (a : Bool) (from to place w low high : ℕ) → place / 64 ≡ w → low ≡ from - 64 * w → high ≡ min (to - 64 * w) 64
-    → (a || in_run low high (place % 64)) ≡ ((a || (in_run from to place && nat_lt (place / 64) w)) || (in_run from to place && nat_lt (place / 64) (w + 1)))
-here_more true from to place w low high at first last = refl
-here_more false from to place w low high at first last = grind (arith, nat_tests, div-add-mod place 64)
 
 run_here : (from to place w low high : ℕ) → place / 64 ≡ w → low ≡ from - 64 * w → high ≡ min (to - 64 * w) 64
     → in_run low high (place % 64) ≡ (in_run from to place && nat_lt (place / 64) (w + 1))

@@ -33,22 +33,6 @@ not_wanted : (xs : List ℕ) → nat_lt 0 (length xs) ≡ false → xs ≡ []
 not_wanted [] e = refl
 not_wanted (x ∷ xs) e = let f = lt-ltb 0 (suc (length xs)) (omega arith) in absurd (cc)
 
--- and one more of which nothing is
-pub quiet_more : (ms : List Marked) (i : ℕ) (here : Marked) → AreQuiet i ms → here ≡ get_or ms i here → wanted here ≡ false → AreQuiet (i + 1) ms
-quiet_more ms i here none is idle k d lt below = go (cases_eq k i)
-  where
-    go : (k ≡ i) ⊎ (k ≡ i → ⊥) → (get_or ms k d).wants ≡ []
-    go (inl e) =
-        ap (λ j. (get_or ms j d).wants) e
-        ∙ ap (λ (m : Marked). m.wants) (there ms i d here (omega (arith, e, lt)) is)
-        ∙ not_wanted here.wants idle
-      where
-        there : (xs : List Marked) (j : ℕ) (d h : Marked) → j < length xs → h ≡ get_or xs j h → get_or xs j d ≡ h
-        there [] j d h lt e = absurd (omega arith)
-        there (x ∷ xs) zero d h lt e = sym e
-        there (x ∷ xs) (suc j) d h lt e = there xs j d h (omega arith) e
-    go (inr ne) = none k d lt (omega (arith, below, ne))
-
 -- an object that joins at the end, of which nothing is wanted
 pub quiet_pushed : (quiet : ℕ) (ms : List Marked) (m : Marked) → AreQuiet quiet ms → m.wants ≡ [] → AreQuiet quiet (ms ++ m ∷ [])
 quiet_pushed quiet ms m none new k d lt below = go (cases_lt k (length ms))

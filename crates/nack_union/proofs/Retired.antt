@@ -1,15 +1,14 @@
 -- A union whose first objects, and first blocks of the next, are gone.
-use Rattle.std.proofs.Common.{◌≡◌, ℕ, ◌+◌, ◌-◌, ◌<◌, ◌≤◌, ◌⊎◌, inl, inr, List, [], ◌∷◌, length, drop, false, None, Some, ap, subst, ◌∙◌, arith}
+use Rattle.std.proofs.Common.{◌≡◌, ℕ, ◌+◌, ◌-◌, ◌<◌, ◌≤◌, ◌⊎◌, inl, inr, List, drop, false, None, Some, ap, subst, ◌∙◌, arith}
 use Rattle.std.specs.Prelude.{filter, slice_get}
 use Rattle.std.proofs.lemmas.Bool.{cases_lt}
-use Rattle.std.proofs.lemmas.List.{drop-append-le}
 use Rattle.std.proofs.lemmas.Option.{slice_get_within, get_or_from_slice_get}
 use Rattle.fec_plan.specs.Points.{point}
 use Rattle.norm_send_rules.specs.SenderState.{SenderState, Asked}
 use Rattle.norm_send_rules.specs.Dropping.{dropped_to}
 use Rattle.norm_send_rules.specs.InWindow.{stands_behind, current_shapes}
 use Rattle.norm_base.specs.Settings.{Settings}
-use Rattle.nack_union.specs.Kept.{Kept, Marked, Holds, MayRetire, asked_so_far, retired, with_object, moved_front, shape_of_marked}
+use Rattle.nack_union.specs.Kept.{Kept, Marked, Holds, MayRetire, asked_so_far, retired, moved_front, shape_of_marked}
 use Rattle.nack_union.specs.Collected.{Collects}
 use Rattle.nack_union.specs.UnionState.{UnionState, Stands}
 use Rattle.nack_union.specs.Laws.{MayBeRetired}
@@ -47,11 +46,6 @@ retired_stands u s index block may st = record {
   collects = collected_retired u.p u.kept s (asked_so_far s) index block may st.holds st.collects;
   idle = λ e. ap (filter (stands_behind (point index block))) (st.idle e);
 }
-
--- an object that was admitted stays the last one, as others go
-pub retired_with : (index : ℕ) (m : Marked) (u : Kept) → index ≤ u.first + length u.objects → retired index 0 (with_object m u) ≡ with_object m (retired index 0 u)
-retired_with index m u to =
-    ap (λ (ms : List Marked). record u { first = index; objects = ms }) (drop-append-le (index - u.first) u.objects (m ∷ []) (omega (arith, to)))
 
 -- the law
 pub may_be_retired : MayBeRetired

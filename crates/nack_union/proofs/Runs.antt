@@ -1,22 +1,12 @@
 -- Slots of a run, and of the source symbols of an object.
 use Rattle.std.proofs.Common.{◌≡◌, ℕ, zero, suc, ◌+◌, ◌-◌, ◌*◌, ◌/◌, ◌%◌, ◌<◌, ◌≤◌, ◌⊎◌, inl, inr, false, refl, sym, ap, ◌∙◌, arith}
-use Rattle.std.specs.Prelude.{◌==◌, ◌&&◌, ◌||◌, nat_lt, min, max}
+use Rattle.std.specs.Prelude.{◌&&◌, ◌||◌, nat_lt, min, max}
 use Rattle.std.proofs.lemmas.Bool.Decides.{nat_tests}
 use Rattle.std.proofs.lemmas.Bool.{cases_eq, cases_lt}
 use Rattle.std.proofs.Math.Nat.{div-add-mod}
 use Rattle.fec_plan.specs.Partition.{blocks}
 use Rattle.norm_order.specs.Shapes.{Shape, closed_in}
 use Rattle.nack_union.specs.More.{in_run, is_source_slot, is_below}
-
--- one slot more
-pub run_more : (from i n : ℕ) → from ≤ i → (in_run from i n || n == i) ≡ in_run from (i + 1) n
-run_more from i n le = grind (arith, nat_tests)
-
-pub run_none : (from to n : ℕ) → to ≤ from → in_run from to n ≡ false
-run_none from to n le = grind (arith, nat_tests)
-
-pub run_end : (from i to n : ℕ) → from ≤ i → i ≤ max from to → to ≤ i → in_run from i n ≡ in_run from to n
-run_end from i to n le most least = grind (arith, nat_tests)
 
 -- a symbol of the block that comes next, or of another
 plain_more : (n m k j b from to low high : ℕ) → j ≤ 256 → b < m → (n / 256 ≡ b → k ≡ j) → low ≡ max (256 * b + 0 + 1) from → high ≡ min (256 * b + 0 + 1 + j) to

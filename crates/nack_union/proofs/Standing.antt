@@ -12,7 +12,7 @@ use Rattle.fec_plan.specs.Points.{point, position}
 use Rattle.fec_plan.specs.declared.position.Position.{Position}
 use Rattle.norm_order.specs.Entries.{Entry}
 use Rattle.norm_order.specs.Sets.{with_member}
-use Rattle.norm_order.specs.Shapes.{Shape, shape_of, shapes_of}
+use Rattle.norm_order.specs.Shapes.{shape_of, shapes_of}
 use Rattle.norm_send_rules.specs.SenderState.{SenderState}
 use Rattle.norm_send_rules.specs.Wants.{want_before}
 use Rattle.norm_send_rules.specs.InWindow.{stands_behind, current_shapes}
@@ -163,22 +163,6 @@ stands_retired p s u n block le some onward st = record {
       ∙ ap (filter (stands_behind (point (u.first + n) block))) st.sent
       ∙ filter_twice s.current.drop (point (u.first + n) block) (map Symbol s.sent) (behind_both s.current.drop (point (u.first + n) block) (drop_onward p s u n block le some onward st));
   rooms = rooms_moved p block (drop n u.objects) (λ m rest e. onward m (some_first u.objects n m rest e)) (rooms_dropped p n u.objects st.rooms);
-}
-
--- what a round asks for changes nothing else
-pub stands_asked : (p : Settings) (s : SenderState) (u : Kept) (k : ℕ) (new d : Marked) → k < length u.objects
-    → shape_of_marked new ≡ shape_of_marked (get_or u.objects k d) → new.wants ≡ (get_or u.objects k d).wants → new.sent ≡ (get_or u.objects k d).sent
-    → new.first ≡ (get_or u.objects k d).first → length new.counts ≡ length (get_or u.objects k d).counts → Holds p u s
-    → Holds p (record u { objects = set u.objects k new }) s
-stands_asked p s u k new d lt shape wants sent front many st = record {
-  first = st.first;
-  fronts = fronts_set s.current.drop.block u.objects k new d front st.fronts;
-  next = ap (λ n. u.first + n) (length-set u.objects k new) ∙ st.next;
-  shapes = same_shapes u.objects k new d shape ∙ st.shapes;
-  wants = same_at (λ m. m.wants) u.first k u.objects new d lt wants ∙ st.wants;
-  rise = st.rise;
-  sent = same_at (λ m. m.sent) u.first k u.objects new d lt sent ∙ st.sent;
-  rooms = rooms_set p u.objects k new d (ap (λ (x : Shape). x.cut) shape) front many st.rooms;
 }
 
 -- something is wanted of an object exactly where there is a want

@@ -1,5 +1,4 @@
 pub mod Places
-pub mod Stretches
 pub mod Words
 pub mod Slots
 pub mod Repairs

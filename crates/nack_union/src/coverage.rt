@@ -1,6 +1,6 @@
 //! What the open round asks for of an object.
 
-ghost use Rattle.std.specs.Prelude.{◌≡◌, ◌+◌, ◌*◌, ◌^◌, ◌<◌, ◌≤◌, [], nat_lt, true, IfOk, None, ℕ, List, ◌-◌, length, slice_index, ◌&&◌, ◌||◌};
+ghost use Rattle.std.specs.Prelude.{◌≡◌, ◌+◌, ◌*◌, ◌<◌, ◌≤◌, [], nat_lt, true, IfOk, None, ℕ, ◌-◌, length, slice_index, ◌&&◌, ◌||◌};
 ghost use Rattle.fec_plan.specs.Partition.{blocks, most_blocks, symbol_number};
 ghost use Rattle.norm_order.specs.Shapes.{closed_in, is_full};
 ghost use Rattle.norm_order.specs.Sets.{with_member, with_members, is_member, Rises};

@@ -1,18 +1,16 @@
 //! What a union keeps of one object.
 
-ghost use Rattle.std.specs.Prelude.{◌≡◌, ◌+◌, ◌-◌, ◌*◌, ◌^◌, ◌<◌, ◌≤◌, ◌∷◌, [], nat_lt, IfOk, MatchOption, true, false, ◌==◌, ℕ, length, max, replicate, set, slice_index, ◌&&◌, ◌||◌, not, None, Some};
+ghost use Rattle.std.specs.Prelude.{◌≡◌, ◌+◌, ◌-◌, ◌*◌, ◌^◌, ◌<◌, ◌≤◌, ◌∷◌, [], nat_lt, IfOk, MatchOption, true, false, ◌==◌, ℕ, length, max, replicate, set, slice_index, ◌&&◌, not, None, Some};
 ghost use Rattle.fec_plan.specs.Partition.{all_symbols, blocks, most_blocks};
 ghost use Rattle.norm_order.specs.Shapes.{closed_in};
-ghost use Rattle.norm_order.specs.Sets.{with_member, is_member, Rises};
-ghost use Rattle.nack_union.specs.Slots.{slots, symbol_slot, want_at, stands_from};
+ghost use Rattle.norm_order.specs.Sets.{with_member, Rises};
+ghost use Rattle.nack_union.specs.Slots.{slots, stands_from};
 ghost use Rattle.nack_union.specs.More.{HasMore, is_source_slot, is_encoded_slot, in_run, slot_in, slot_from, slot_behind, is_slot_of, count_at as counted_at, kept_count, MoreOf, named_part};
 ghost use Rattle.nack_union.specs.Adding.{IsPlanned};
 ghost use Rattle.norm_ext.specs.Asking.{span, block_span, object_span, has_flag};
 ghost use Rattle.nack_union.specs.Repairs.{shape_closed};
 ghost use Rattle.nack_union.specs.Kept.{admitted, admitted_stream, CanGrow, closed_marks, moved_on, IsCounted, symbols_of_marked};
 ghost use Rattle.std.specs.List.{list_any};
-ghost use Rattle.norm_send_rules.specs.declared.want.Want.TheVariants.{Symbol};
-ghost use Rattle.fec_plan.specs.Points.{position};
 
 use crate::closed::{all_symbols, closed_len, encoded_len};
 use crate::coverage::Coverage;

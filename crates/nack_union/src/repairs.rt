@@ -1,6 +1,6 @@
 //! What a count of lacking symbols of a block asks for.
 
-ghost use Rattle.std.specs.Prelude.{◌≡◌, ◌+◌, ◌-◌, ◌<◌, ◌≤◌, ◌^◌, min, nat_lt, length, map, take, List, ℕ, slice_index};
+ghost use Rattle.std.specs.Prelude.{◌≡◌, ◌+◌, ◌-◌, ◌<◌, ◌≤◌, min, nat_lt, length, map, take, ℕ, slice_index};
 ghost use Rattle.std.specs.List.{range_with_len};
 ghost use Rattle.fec_plan.specs.Partition.{blocks, source_symbols};
 ghost use Rattle.norm_order.specs.Sets.{with_members};

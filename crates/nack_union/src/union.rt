@@ -1,6 +1,6 @@
 //! What is wanted of a sender's window, and what was sent of it, by the sender's rules.
 
-ghost use Rattle.std.specs.Prelude.{◌≡◌, ◌<◌, ◌≤◌, ◌+◌, ◌-◌, ◌∷◌, [], length, IfOk, IsErr, MatchOption, None, Some, ℕ, List, slice_get, not, min, nat_lt};
+ghost use Rattle.std.specs.Prelude.{◌≡◌, ◌<◌, ◌+◌, ◌-◌, ◌∷◌, [], length, IfOk, IsErr, MatchOption, None, Some, ℕ, List, slice_get, not, min, nat_lt};
 ghost use Rattle.std.specs.List.{list_any};
 ghost use Rattle.fec_plan.specs.Points.{point};
 ghost use Rattle.norm_order.specs.Entries.{Entry, Part, Stream};
