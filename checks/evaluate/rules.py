@@ -26,7 +26,7 @@ EDITS = {
     'obj_buffer/code_is_of_the_other_length': 'norm_order/Symbols', 'obj_buffer/last_symbol_is_sent_padded': 'norm_order/Symbols',
     'rs_block/first_source_is_not_written': 'rs_block/Codeword', 'rs_block/parity_is_shifted': 'rs_block/Codeword', 'rs_block/weight_is_not_inverted': 'rs_block/Codeword',
     'rx_hold/a_block_waits_for_all_sources': 'norm_receive_rules/BlockValue',
-    'rx_hold/an_object_is_handed_up_again_when_its_fti_comes_anew': 'norm_receive_rules/HandingUp',
+    'rx_entries/an_object_is_handed_up_again_when_its_fti_comes_anew': 'norm_receive_rules/HandingUp',
     'rx_hold/the_last_symbol_is_handed_up_with_its_padding': 'norm_receive_rules/HandingUp',
     'rx_stream/a_block_waits_for_all_sources': 'norm_receive_rules/BlockValue',
     'stream_buffer/a_cut_segment_begins_at_its_end': 'norm_order/Segments',

@@ -11,3 +11,5 @@ mod fed;
 mod pair;
 #[cfg(test)]
 mod pair_tests;
+#[cfg(test)]
+mod receiver_tests;

@@ -12,7 +12,7 @@ use Rattle.norm_receive_rules.specs.Plans.{cut_of_plan, says_stream, says_info, 
 use Rattle.norm_receive_rules.specs.Needs.{Need, ObjectInfo, Symbols, object_needs, is_covered, info_needs, blocks_due, counts_from, unknown_needs}
 use Rattle.norm_receive_rules.specs.AllNeeds.{planned_needs, needs_of, needs_from}
 use Rattle.norm_receive_rules.specs.StreamNeeds.{stream_needs}
-use Rattle.rx_hold.specs.HoldState.{IsFirstShort, flags_at, plan_at}
+use Rattle.rx_hold.specs.Told.{IsFirstShort, flags_at, plan_at}
 use Rattle.norm_receiver.specs.Quiet.{is_nil, is_behind}
 
 pub clash : {X : Type 0} → false ≡ true → X

@@ -23,7 +23,7 @@ use Rattle.rx_entries.specs.Asked.{end_at, seen_at}
 use Rattle.rx_entries.specs.FrontSound.{flags_in, object_in, plan_in}
 use Rattle.rx_hold.specs.EntryHold.{EntryHold, StandsFor as HoldStands}
 use Rattle.rx_hold.specs.EntryState.{EntryState}
-use Rattle.rx_hold.specs.HoldState.{missing_at, missing_by, plan_at}
+use Rattle.rx_hold.specs.Told.{missing_at, missing_by, plan_at}
 use Rattle.norm_receiver.specs.Quiet.{is_nil}
 use Rattle.norm_receiver.specs.Streams.{end_run, flush_run, missing_in, missing_of, rest_at, rest_of, sources, unheld, wanted_of, wants_by, wants_of}
 use Rattle.norm_receiver.specs.Walking.{Walked, walk_need, walk_on, walk_where}

@@ -3,7 +3,7 @@ use Rattle.std.specs.Prelude.{ℕ, ◌≡◌, Some}
 use Rattle.fec_plan.specs.Partition.{Cut}
 use Rattle.norm_receive_rules.specs.Holding.{Holding}
 use Rattle.rx_hold.specs.EntryHold.{EntryHold, StandsFor as HoldStands}
-use Rattle.rx_hold.specs.HoldState.{plan_at}
+use Rattle.rx_hold.specs.Told.{plan_at}
 use Rattle.rx_entries.specs.FrontSound.{plan_in}
 
 -- A plan is that of the object with this index, in whatever a hold stands for.

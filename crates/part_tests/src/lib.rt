@@ -1,5 +1,4 @@
-//! Tests of the parts of a sender and of a receiver: what a window sends, what is asked for and acknowledged, and what is held
-//! until it is handed up. A module for each crate.
+//! Tests of the parts of a sender: what a window sends, and what is asked for and acknowledged. A module for each crate.
 #![tactic(auto)]
 
 #[cfg(test)]
@@ -10,8 +9,6 @@ mod mark_book_tests;
 mod nack_union_tests;
 #[cfg(test)]
 mod obj_buffer_tests;
-#[cfg(test)]
-mod rx_hold_tests;
 #[cfg(test)]
 mod stream_buffer_tests;
 #[cfg(test)]

@@ -13,8 +13,7 @@ use Rattle.norm_receive_rules.specs.Fitting.{room_of}
 use Rattle.norm_receive_rules.specs.Holding.{Held}
 use Rattle.norm_receive_rules.specs.Plans.{cut_of_plan, says_stream}
 use Rattle.rx_hold.specs.EntryState.{EntryState, IsOfKind, entry_of}
-use Rattle.rx_hold.specs.EntryHold.{IsEntryAt, entries_there, entry_at}
-use Rattle.rx_hold.specs.HoldSound.{at_place}
+use Rattle.rx_hold.specs.EntryHold.{IsEntryAt, at_place, entries_there, entry_at}
 use Rattle.rx_entries.specs.Seats.{AreSeats, IsSeat, begins_at, octets_at, states_of, waiting, waiting_at}
 use Rattle.rx_entries.specs.FrontSound.{HasRoom, IsFront, front_view, view_states}
 use Rattle.rx_entries.specs.declared.front.Front.{Front}

@@ -13,9 +13,8 @@ use Rattle.norm_receive_rules.specs.Holding.{Holding, Plan, Held}
 use Rattle.norm_receive_rules.specs.Plans.{cut_of_plan, first_block, says_stream}
 use Rattle.norm_receive_rules.specs.StreamNeeds.{end_among, end_in as end_of_block, end_of, is_end}
 use Rattle.rx_hold.specs.EntryState.{EntryState, IsOfKind, alone_in, entry_of}
-use Rattle.rx_hold.specs.EntryHold.{PlacedEntries, StandsFor, entry_at}
-use Rattle.rx_hold.specs.HoldSound.{at_place}
-use Rattle.rx_hold.specs.HoldState.{is_passed}
+use Rattle.rx_hold.specs.EntryHold.{PlacedEntries, StandsFor, at_place, entry_at}
+use Rattle.rx_hold.specs.Told.{is_passed}
 use Rattle.rx_hold.specs.declared.entry.Entry.{Entry}
 use Rattle.rx_hold.specs.declared.entry.Entry.TheVariants as kinds
 use Rattle.rx_hold.proofs.EntryHands.{value_at}

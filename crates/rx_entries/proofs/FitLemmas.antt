@@ -15,8 +15,7 @@ use Rattle.norm_receive_rules.specs.Fitting.{most_ahead, room_of, room_taken, sa
 use Rattle.norm_receive_rules.specs.declared.words.Fit.{Fit}
 use Rattle.norm_receive_rules.specs.declared.words.Fit.TheVariants as fit
 use Rattle.rx_hold.specs.EntryState.{EntryState, entry_of}
-use Rattle.rx_hold.specs.EntryHold.{StandsFor, entries_there, entry_at}
-use Rattle.rx_hold.specs.HoldSound.{at_place}
+use Rattle.rx_hold.specs.EntryHold.{StandsFor, at_place, entries_there, entry_at}
 use Rattle.rx_entries.specs.Fits.{are_same}
 use Rattle.rx_entries.specs.FrontSound.{IsFront, front_view}
 use Rattle.rx_entries.specs.Seats.{octets_at, state_of, states_of}

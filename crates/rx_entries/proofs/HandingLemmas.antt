@@ -13,9 +13,8 @@ use Rattle.norm_receive_rules.specs.Holding.{Holding, Plan, Held}
 use Rattle.norm_receive_rules.specs.Plans.{has_its_info, plan_of, says_stream}
 use Rattle.norm_receive_rules.proofs.PassedLemmas.{filter_few}
 use Rattle.rx_hold.specs.EntryState.{EntryState, IsOfKind, alone_in, entry_of}
-use Rattle.rx_hold.specs.EntryHold.{IsEntryAt, StandsFor, entries_there, entry_at}
-use Rattle.rx_hold.specs.HoldSound.{at_place}
-use Rattle.rx_hold.specs.HoldState.{is_passed}
+use Rattle.rx_hold.specs.EntryHold.{IsEntryAt, StandsFor, at_place, entries_there, entry_at}
+use Rattle.rx_hold.specs.Told.{is_passed}
 use Rattle.rx_hold.specs.ObjectState.{ObjectState, alone}
 use Rattle.rx_hold.specs.declared.entry.Entry.{Entry}
 use Rattle.rx_hold.specs.declared.entry.Entry.TheVariants as kinds
@@ -225,8 +224,7 @@ whole_left f front seat e o k whole =
     let is : IsSeat f.profile 0 (f.point + 0) seat = front.seats 0 seat e in
     let here : IsEntryAt f.profile (f.point + 0) (entry_of (kinds.Object o)) = subst (λ (kind : Entry). IsEntryAt f.profile (f.point + 0) (entry_of kind)) k is.entry in
     let kind : says_stream o.plan.flags ≡ false = subst (λ (kind : Entry). IsOfKind kind) k is.kind in
-    let some : 1 ≤ length o.held =
-    holds_some f.profile (f.point + 0) o (record { index = here.index; own = here.own; object = kind; sound = here.sound; e = sym here.profile.e; b = here.b; last = here.last }) whole in
+    let some : 1 ≤ length o.held = holds_some o kind here.sound whole in
     let same : left_at (at_place f.ring.items 0) ≡ length o.held - 0 = ap left_at e ∙ ap (λ (x : Entry). length (entry_of x).held - (entry_of x).point.symbol) k in
     omega (arith, some, same)
 

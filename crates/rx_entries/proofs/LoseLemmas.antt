@@ -12,8 +12,7 @@ use Rattle.norm_receive_rules.specs.HandingUp.{next_segment, handed_up}
 use Rattle.norm_receive_rules.specs.Losing.{loses_one, loses_before, is_cut_off, loses_at, squelched}
 use Rattle.norm_receive_rules.proofs.PassedLemmas.{lost_passed}
 use Rattle.rx_hold.specs.EntryState.{EntryState, entry_of}
-use Rattle.rx_hold.specs.EntryHold.{EntryHold, StandsFor}
-use Rattle.rx_hold.specs.HoldSound.{at_place}
+use Rattle.rx_hold.specs.EntryHold.{EntryHold, StandsFor, at_place}
 use Rattle.rx_hold.specs.declared.entry.Entry.{Entry}
 use Rattle.rx_hold.specs.declared.entry.Entry.TheVariants as kinds
 use Rattle.rx_stream.specs.BlockMoves.{IsRow}

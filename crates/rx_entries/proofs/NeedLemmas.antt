@@ -10,9 +10,8 @@ use Rattle.norm_receive_rules.specs.Holding.{Holding, Plan}
 use Rattle.norm_receive_rules.specs.Laws.{IsAtStart, IsPassed, PassedBy}
 use Rattle.norm_receive_rules.specs.Plans.{cut_of_plan, is_done, plan_of, says_stream}
 use Rattle.rx_hold.specs.EntryState.{EntryState, IsOfKind, alone_in, entry_of}
-use Rattle.rx_hold.specs.EntryHold.{StandsFor, entry_at}
-use Rattle.rx_hold.specs.HoldSound.{at_place}
-use Rattle.rx_hold.specs.HoldState.{IsFirstShort, first_short_at, short_of}
+use Rattle.rx_hold.specs.EntryHold.{StandsFor, at_place, entry_at}
+use Rattle.rx_hold.specs.Told.{IsFirstShort, first_short_at, short_of}
 use Rattle.rx_hold.specs.ObjectState.{ObjectState, alone, short_blocks}
 use Rattle.rx_hold.specs.declared.entry.Entry.{Entry}
 use Rattle.rx_hold.specs.declared.entry.Entry.TheVariants as kinds

@@ -14,8 +14,7 @@ use Rattle.norm_receive_rules.specs.Laws.{HasPassed}
 use Rattle.norm_receive_rules.specs.Plans.{cut_of_plan}
 use Rattle.norm_receive_rules.proofs.PassedLemmas.{one_passed}
 use Rattle.rx_hold.specs.EntryState.{entry_of}
-use Rattle.rx_hold.specs.EntryHold.{EntryHold, StandsFor}
-use Rattle.rx_hold.specs.HoldSound.{at_place}
+use Rattle.rx_hold.specs.EntryHold.{EntryHold, StandsFor, at_place}
 use Rattle.rx_hold.specs.declared.entry.Entry.TheVariants as kinds
 use Rattle.rx_hold.proofs.EntryBlocks.{moved_on}
 use Rattle.rx_hold.proofs.EntryMoves.{moved_within}

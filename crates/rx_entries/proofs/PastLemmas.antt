@@ -12,8 +12,7 @@ use Rattle.norm_receive_rules.specs.HandingUp.{after_object}
 use Rattle.norm_receive_rules.specs.Holding.{Holding, Plan, Held, HeldInfo}
 use Rattle.norm_receive_rules.specs.Laws.{HasPassed}
 use Rattle.rx_hold.specs.EntryState.{EntryState, entry_of, infos_in}
-use Rattle.rx_hold.specs.EntryHold.{EntryHold, PlacedEntries, StandsFor, entry_at, entries_there}
-use Rattle.rx_hold.specs.HoldSound.{at_place}
+use Rattle.rx_hold.specs.EntryHold.{EntryHold, PlacedEntries, StandsFor, at_place, entries_there, entry_at}
 use Rattle.rx_hold.proofs.EntryRing.{filter_twice, without_first}
 use Rattle.rx_hold.proofs.EntryStands.{held_in, held_key, own_held, own_info, own_plan, plans_in, plans_joined, view_with}
 use Rattle.rx_entries.specs.Seats.{AreSeats, IsSeat, begins_at, octets_at, state_of, states_of, waiting_at}

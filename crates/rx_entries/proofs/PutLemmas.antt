@@ -17,17 +17,16 @@ use Rattle.norm_receive_rules.specs.declared.words.Put.TheVariants as put
 use Rattle.rs_block.specs.Solver.{SolverState}
 use Rattle.rx_hold.specs.BlockState.{held_at}
 use Rattle.rx_hold.specs.EntryState.{EntryState, entry_of, with_word}
-use Rattle.rx_hold.specs.EntryHold.{EntryHold, StandsFor, entry_at}
-use Rattle.rx_hold.specs.HoldSound.{at_place}
-use Rattle.rx_hold.specs.HoldState.{is_passed}
+use Rattle.rx_hold.specs.EntryHold.{EntryHold, StandsFor, at_place, entry_at}
+use Rattle.rx_hold.specs.Told.{is_passed}
 use Rattle.rx_hold.proofs.EntryWords.{is_ahead, put_nowhere, put_there}
 use Rattle.rx_hold.proofs.EntryKept.{entry_kept}
-use Rattle.rx_entries.specs.Seats.{Becomes, GetsWord, IsOffered, IsSame, IsSeat, MayOffer, begins_at, counted, opening, state_of, states_of, waiting, waiting_at}
+use Rattle.rx_entries.specs.Seats.{Becomes, GetsWord, IsOffered, IsSame, IsSeat, MayOffer, begins_at, counted, opening, state_of, states_of, stream_at, waiting, waiting_at}
 use Rattle.rx_entries.specs.FrontSound.{HasRoom, IsFront, front_view, point_of_front, view_states}
 use Rattle.rx_entries.specs.declared.front.Front.{Front}
 use Rattle.rx_entries.specs.declared.ring.Seat.{Seat}
 use Rattle.rx_entries.proofs.ChangeLemmas.{GoesOn, IsChanged, begins_same, seat_on, set_there, sound_same, sound_set, view_changed}
-use Rattle.rx_entries.proofs.SeatLemmas.{far, placed, state_at, states_set}
+use Rattle.rx_entries.proofs.SeatLemmas.{counted_few, far, placed, state_at, states_set}
 
 -- ---- an object to which a symbol came
 
@@ -67,17 +66,17 @@ word_own n o put.Had block symbol payload is own = own
 word_own n o put.Away block symbol payload is own = own
 word_own n o put.Unfit block symbol payload is own = own
 
-word_longer : (o : EntryState) (word : Put) (block symbol : ℕ) (payload : List ℕ) → length (with_word word block symbol payload o).held ≤ length o.held + counted word
+word_longer : (o : EntryState) (word : Put) (block symbol : ℕ) (payload : List ℕ) → length (with_word word block symbol payload o).held ≤ length o.held + counted true word
 word_longer o put.Kept block symbol payload = one_longer (held_at o.plan.index block symbol payload) o.held
 word_longer o put.Had block symbol payload = omega arith
 word_longer o put.Away block symbol payload = omega arith
 word_longer o put.Unfit block symbol payload = omega arith
 
-word_waits : (o : EntryState) (word : Put) (block symbol : ℕ) (payload : List ℕ) → waiting (with_word word block symbol payload o) ≤ waiting o + counted word
+word_waits : (o : EntryState) (word : Put) (block symbol : ℕ) (payload : List ℕ) → waiting (with_word word block symbol payload o) ≤ waiting o + counted (says_stream o.plan.flags) word
 word_waits o word block symbol payload = go (says_stream o.plan.flags)
   where
     go : (b : Bool) → elim b as (λ _. ℕ) [ true ↦ length (with_word word block symbol payload o).held - o.point.symbol + (1 + opening o.point) | false ↦ 1 ]
-        ≤ elim b as (λ _. ℕ) [ true ↦ length o.held - o.point.symbol + (1 + opening o.point) | false ↦ 1 ] + counted word
+        ≤ elim b as (λ _. ℕ) [ true ↦ length o.held - o.point.symbol + (1 + opening o.point) | false ↦ 1 ] + counted b word
     go true = (let le = word_longer o word block symbol payload in omega (arith, le))
     go false = omega arith
 
@@ -96,27 +95,23 @@ seat_offered p i n seat next word block symbol payload is came =
 -- ---- a front
 
 pub offered_sound : (f g : Front) (i block symbol : ℕ) (payload : List ℕ) (word : Put) → IsFront f → IsChanged f g → HasRoom 1 f → i < length f.ring.items
-    → Becomes f.ring.items g.ring.items i (IsOffered word block symbol payload) → GetsWord (at_place f.ring.items i) word block symbol payload → g.waiting ≡ f.waiting + counted word → IsFront g
+    → Becomes f.ring.items g.ring.items i (IsOffered word block symbol payload) → g.waiting ≡ f.waiting + counted (stream_at (at_place f.ring.items i)) word → IsFront g
 offered_sound f g i block symbol payload word front is room lt = go (at_place f.ring.items i) refl
   where
-    few : (w : Put) → counted w ≤ 1
-    few put.Kept = omega arith
-    few put.Had = omega arith
-    few put.Away = omega arith
-    few put.Unfit = omega arith
-
     go : (found : Option Seat) → at_place f.ring.items i ≡ found
         → MatchOption found (g.ring.items ≡ f.ring.items) (λ (seat : Seat). (next : Seat) × (g.ring.items ≡ slice_set f.ring.items i (Some next)) × IsOffered word block symbol payload seat next)
-        → GetsWord found word block symbol payload → g.waiting ≡ f.waiting + counted word → IsFront g
-    go None e r away count = sound_same f g front is r (let none : counted word ≡ 0 = ap counted away in omega (arith, count, none))
-    go (Some seat) e r gets count =
+        → g.waiting ≡ f.waiting + counted (stream_at found) word → IsFront g
+    go None e r count = sound_same f g front is r (let none : g.waiting ≡ f.waiting + 0 = count in omega (arith, none))
+    go (Some seat) e r count =
         let next = r.0 in
         let came = r.2 in
         let new = seat_offered f.profile i (f.point + i) seat next word block symbol payload (front.seats i seat e) came in
         let ups_long : length g.ups.items ≡ length f.ups.items = ap (λ u. length u.items) is.ups in
         let ups_room : deque_capacity g.ups ≡ deque_capacity f.ups = ap (λ u. deque_capacity u) is.ups in
+        let stream = says_stream (entry_of seat.entry).plan.flags in
+        let all : g.waiting ≡ f.waiting + counted stream word = count in
         let more = came.waiting in
-        sound_set f g i seat next front is e r.1 new.1 new.0 (omega (arith, count, more)) (omega (arith, room, count, few word, ups_long, ups_room))
+        sound_set f g i seat next front is e r.1 new.1 new.0 (omega (arith, all, more)) (omega (arith, room, all, counted_few stream word, ups_long, ups_room))
 
 module _ (f : Front) (s : Holding) (index i : ℕ) (front : IsFront f) (stands : StandsFor (front_view f) s) (at : f.point + i ≡ index) (lt : i < length f.ring.items) where
   index_is : s.point.index ≡ f.point

@@ -14,8 +14,8 @@ use Rattle.norm_receive_rules.specs.declared.words.Missing.TheVariants as missin
 use Rattle.norm_receive_rules.specs.declared.words.Put.{Put}
 use Rattle.norm_receive_rules.specs.declared.words.Put.TheVariants as put
 use Rattle.rx_hold.specs.EntryState.{EntryState, alone_in, entry_of, infos_in}
-use Rattle.rx_hold.specs.EntryHold.{EntryHold, PlacedEntries, StandsFor, entries_there, entry_at}
-use Rattle.rx_hold.specs.HoldState.{is_passed, plan_at, flags_at, missing_at, missing_by}
+use Rattle.rx_hold.specs.EntryHold.{EntryHold, PlacedEntries, StandsFor, at_place, entries_there, entry_at}
+use Rattle.rx_hold.specs.Told.{is_passed, plan_at, flags_at, missing_at, missing_by}
 use Rattle.rx_hold.proofs.EntryLemmas.{AreAlikeAt, holds_at, lacking_at}
 use Rattle.rx_hold.proofs.EntryRing.{filter_twice, found_in, part_of}
 use Rattle.rx_hold.proofs.EntryStands.{alike_at, found_same, held_in, held_key, info_at, own_held, own_info, placed_at, plan_found}
@@ -24,7 +24,6 @@ use Rattle.rx_entries.specs.Seats.{begins_at, states_of}
 use Rattle.rx_entries.specs.FrontSound.{IsFront, front_view, object_in, point_of_front}
 use Rattle.rx_entries.specs.declared.front.Front.{Front}
 use Rattle.rx_entries.specs.declared.ring.Seat.{Seat}
-use Rattle.rx_hold.specs.HoldSound.{at_place}
 use Rattle.rx_entries.proofs.SeatLemmas.{far, placed, state_at, state_seat}
 
 -- the info that an object alone has

@@ -11,8 +11,7 @@ use Rattle.norm_receive_rules.specs.declared.words.Put.TheVariants as put
 use Rattle.rx_hold.specs.EntryState.{EntryState, IsOfKind, alone_in, entry_of}
 use Rattle.rx_hold.specs.declared.entry.Entry.{Entry}
 use Rattle.rx_hold.specs.declared.entry.Entry.TheVariants as kinds
-use Rattle.rx_hold.specs.EntryHold.{AreAsFar, IsEntryAt, PlacedEntries, entry_at}
-use Rattle.rx_hold.specs.HoldSound.{at_place}
+use Rattle.rx_hold.specs.EntryHold.{AreAsFar, IsEntryAt, PlacedEntries, at_place, entry_at}
 use Rattle.rx_hold.proofs.PlaceLemmas.{read_there, set_same}
 use Rattle.rx_entries.specs.Seats.{AreSeats, Becomes, IsSeat, begins_at, counted, state_of, states_of}
 use Rattle.rx_entries.specs.declared.ring.Seat.{Seat}
@@ -121,11 +120,12 @@ own_first o stream object = go (o.point.index == o.plan.index) refl
         by true f = absurd (let same = stream f in let wrong : true ≡ false = sym (eq-eqb o.point.index o.plan.index same) ∙ e in cc wrong)
         by false f = sym (object f)
 
-pub counted_few : (word : Put) → counted word ≤ 1
-counted_few put.Kept = omega arith
-counted_few put.Had = omega arith
-counted_few put.Away = omega arith
-counted_few put.Unfit = omega arith
+pub counted_few : (stream : Bool) (word : Put) → counted stream word ≤ 1
+counted_few true put.Kept = omega arith
+counted_few true put.Had = omega arith
+counted_few true put.Away = omega arith
+counted_few true put.Unfit = omega arith
+counted_few false word = omega arith
 
 pub none_there : (ring : List (Option Seat)) (i : ℕ) (v : Option Seat) → i < length ring → v ≡ get_or ring i v → v ≡ None → at_place ring i ≡ None
 none_there ring i v lt read is = read_there (Seat) ring i v lt read ∙ is

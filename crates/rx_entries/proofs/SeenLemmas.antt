@@ -16,8 +16,7 @@ use Rattle.norm_receive_rules.specs.Seeing.{plan_seen, sees_block}
 use Rattle.norm_receive_rules.specs.declared.words.Put.TheVariants as put
 use Rattle.norm_receive_rules.proofs.PassedLemmas.{info_passed, seen_passed}
 use Rattle.rx_hold.specs.EntryState.{EntryState, IsOfKind, entry_of, infos_in, with_seen}
-use Rattle.rx_hold.specs.EntryHold.{EntryHold, PlacedEntries, StandsFor, entries_there, entry_at}
-use Rattle.rx_hold.specs.HoldSound.{at_place}
+use Rattle.rx_hold.specs.EntryHold.{EntryHold, PlacedEntries, StandsFor, at_place, entries_there, entry_at}
 use Rattle.rx_hold.proofs.EntryRing.{alone_in, filter_joins, part_of, same_parts, with_part}
 use Rattle.rx_hold.proofs.EntryStands.{held_in, held_key, own_held, own_info, own_plan, not_over, placed_at, plans_in, plans_joined}
 use Rattle.rx_entries.specs.Seats.{Becomes, IsInformed, IsSeat, IsSeen, opening, state_of, states_of, waiting}

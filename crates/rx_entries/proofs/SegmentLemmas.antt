@@ -15,8 +15,7 @@ use Rattle.norm_receive_rules.specs.HandingUp.{after_object, hands_one}
 use Rattle.norm_receive_rules.specs.Holding.{Holding, Plan, Held}
 use Rattle.norm_receive_rules.specs.Plans.{says_stream}
 use Rattle.rx_hold.specs.EntryState.{EntryState, IsOfKind, entry_of}
-use Rattle.rx_hold.specs.EntryHold.{IsEntryAt, StandsFor, entry_at}
-use Rattle.rx_hold.specs.HoldSound.{at_place}
+use Rattle.rx_hold.specs.EntryHold.{IsEntryAt, StandsFor, at_place, entry_at}
 use Rattle.rx_hold.specs.declared.entry.Entry.{Entry}
 use Rattle.rx_hold.specs.declared.entry.Entry.TheVariants as kinds
 use Rattle.rx_hold.proofs.EntryStands.{view_with}

@@ -10,8 +10,7 @@ use Rattle.norm_receive_rules.specs.Holding.{Holding, Plan}
 use Rattle.norm_receive_rules.specs.Plans.{says_stream, plan_of, has_its_info}
 use Rattle.norm_receive_rules.specs.Laws.{HasPassed, IsAtStart, IsPassed, PassedBy}
 use Rattle.rx_hold.specs.EntryState.{EntryState}
-use Rattle.rx_hold.specs.EntryHold.{EntryHold, entry_at}
-use Rattle.rx_hold.specs.HoldSound.{at_place}
+use Rattle.rx_hold.specs.EntryHold.{EntryHold, at_place, entry_at}
 use Rattle.rx_hold.proofs.EntryStands.{plan_found, view_with}
 use Rattle.rx_entries.specs.Seats.{AreSeats, begins_at, states_of}
 use Rattle.rx_entries.specs.Handing.{IsSettled}

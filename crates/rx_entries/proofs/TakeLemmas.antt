@@ -18,8 +18,7 @@ use Rattle.norm_receive_rules.specs.declared.words.Fit.{Fit}
 use Rattle.norm_receive_rules.specs.declared.words.Fit.TheVariants as fit
 use Rattle.norm_receive_rules.proofs.PassedLemmas.{fitted_passed}
 use Rattle.rx_hold.specs.EntryState.{EntryState, IsOfKind, entry_of, infos_in}
-use Rattle.rx_hold.specs.EntryHold.{IsEntryAt, PlacedEntries, StandsFor, entries_there, entry_at}
-use Rattle.rx_hold.specs.HoldSound.{at_place}
+use Rattle.rx_hold.specs.EntryHold.{IsEntryAt, PlacedEntries, StandsFor, at_place, entries_there, entry_at}
 use Rattle.rx_hold.proofs.EntryRing.{alone_in, filter_joins, part_of, same_parts, with_part}
 use Rattle.rx_hold.proofs.EntryStands.{held_in, held_key, not_over, own_held, own_info, own_plan, plans_in, plans_joined}
 use Rattle.rx_entries.specs.Fits.{empty_entry}

@@ -15,8 +15,7 @@ use Rattle.norm_receive_rules.specs.Laws.{HasPassed, IsAtStart, IsPassed, Passed
 use Rattle.norm_receive_rules.specs.Plans.{is_over, plan_of, says_stream}
 use Rattle.norm_receive_rules.proofs.PassedLemmas.{new_found}
 use Rattle.rx_hold.specs.EntryState.{EntryState, entry_of, infos_in}
-use Rattle.rx_hold.specs.EntryHold.{EntryHold, PlacedEntries, StandsFor, entries_there, entry_at}
-use Rattle.rx_hold.specs.HoldSound.{at_place}
+use Rattle.rx_hold.specs.EntryHold.{EntryHold, PlacedEntries, StandsFor, at_place, entries_there, entry_at}
 use Rattle.rx_hold.proofs.EntryRing.{part_of, same_parts}
 use Rattle.rx_hold.proofs.EntryStands.{held_in, held_key, own_held, own_info, view_with}
 use Rattle.rx_entries.specs.Fits.{empty_entry}

@@ -7,8 +7,7 @@ use Rattle.norm_receive_rules.specs.Holding.{Holding}
 use Rattle.norm_receive_rules.proofs.PassedLemmas.{one_passed}
 use Rattle.norm_receive_rules.specs.Plans.{says_stream}
 use Rattle.rx_hold.specs.EntryState.{EntryState, entry_of}
-use Rattle.rx_hold.specs.EntryHold.{StandsFor}
-use Rattle.rx_hold.specs.HoldSound.{at_place}
+use Rattle.rx_hold.specs.EntryHold.{StandsFor, at_place}
 use Rattle.rx_hold.specs.ObjectState.{ObjectState, alone}
 use Rattle.rx_hold.specs.declared.entry.Entry.{Entry}
 use Rattle.rx_hold.specs.declared.entry.Entry.TheVariants as kinds

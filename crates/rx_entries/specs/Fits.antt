@@ -8,7 +8,7 @@ use Rattle.norm_receive_rules.specs.Fitting.{most_ahead, room_of}
 use Rattle.norm_receive_rules.specs.Holding.{Plan}
 use Rattle.norm_receive_rules.specs.Plans.{says_stream}
 use Rattle.rx_hold.specs.EntryState.{EntryState}
-use Rattle.rx_hold.specs.HoldSound.{at_place}
+use Rattle.rx_hold.specs.EntryHold.{at_place}
 use Rattle.rx_entries.specs.declared.front.Front.{Front}
 
 -- an object of which nothing is held, and for how many blocks there is room where it is a stream

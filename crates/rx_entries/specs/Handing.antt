@@ -7,9 +7,8 @@ use Rattle.norm_order.specs.declared.up.Up.{Up}
 use Rattle.norm_order.specs.declared.up.Up.TheVariants as up
 use Rattle.norm_receive_rules.specs.HandingUp.{hands_one, next_segment, is_whole, kind_of, object_octets, told_info}
 use Rattle.norm_receive_rules.specs.Holding.{Holding}
-use Rattle.rx_hold.specs.EntryHold.{EntryHold, StandsFor}
+use Rattle.rx_hold.specs.EntryHold.{EntryHold, StandsFor, at_place}
 use Rattle.rx_hold.specs.EntryState.{entry_of}
-use Rattle.rx_hold.specs.HoldSound.{at_place}
 use Rattle.rx_hold.specs.ObjectState.{ObjectState, alone}
 use Rattle.rx_hold.specs.declared.entry.Entry.{Entry}
 use Rattle.rx_hold.specs.declared.entry.Entry.TheVariants as kinds

@@ -1,5 +1,5 @@
 -- Places of objects of either kind, and what is kept at each: the object, and for how many hand-ups of it there is room.
-use Rattle.std.specs.Prelude.{ℕ, ◌≡◌, ◌<◌, ◌≤◌, ◌+◌, ◌-◌, ◌*◌, ◌^◌, ◌==◌, ◌&&◌, List, map, length, slice_set, true, false, Option, Some, None, option_map, MatchOption}
+use Rattle.std.specs.Prelude.{ℕ, ◌≡◌, ◌<◌, ◌≤◌, ◌+◌, ◌-◌, ◌*◌, ◌^◌, ◌==◌, ◌&&◌, Bool, List, map, length, slice_set, true, false, Option, Some, None, option_map, MatchOption}
 use Rattle.norm_base.specs.Settings.{Settings}
 use Rattle.fec_plan.specs.Points.{position}
 use Rattle.fec_plan.specs.declared.position.Position.{Position}
@@ -10,8 +10,7 @@ use Rattle.norm_receive_rules.specs.declared.words.Put.{Put}
 use Rattle.norm_receive_rules.specs.declared.words.Put.TheVariants as put
 use Rattle.rs_block.specs.Solver.{SolverState}
 use Rattle.rx_hold.specs.EntryState.{EntryState, IsOfKind, IsOfProfile, alone_in, entry_of, with_seen, with_word}
-use Rattle.rx_hold.specs.EntryHold.{IsEntryAt}
-use Rattle.rx_hold.specs.HoldSound.{at_place}
+use Rattle.rx_hold.specs.EntryHold.{IsEntryAt, at_place}
 use Rattle.rx_entries.specs.declared.ring.Seat.{Seat}
 
 -- what stands at a place
@@ -56,12 +55,17 @@ begins_at index first = position index (elim first [ Some o ↦ o.point.block | 
 
 -- ---- what becomes of what is at a place
 
--- a symbol that is kept may make a hand-up more
-abbrev pub counted : Put → ℕ
-counted put.Kept = 1
-counted put.Had = 0
-counted put.Away = 0
-counted put.Unfit = 0
+-- a stream stands at a place
+abbrev pub stream_at : Option Seat → Bool
+stream_at place = elim place [ Some seat ↦ says_stream (entry_of seat.entry).plan.flags | None ↦ false ]
+
+-- a symbol of a stream that is kept may make a hand-up more; data and files have one in all
+abbrev pub counted : Bool → Put → ℕ
+counted true put.Kept = 1
+counted true put.Had = 0
+counted true put.Away = 0
+counted true put.Unfit = 0
+counted false word = 0
 
 -- A symbol of a block may be offered, where there is so much room to solve blocks.
 pub record MayOffer (seat : Seat) (block long : ℕ) (solver : SolverState) : Type 0 where
@@ -75,7 +79,7 @@ pub record MayOffer (seat : Seat) (block long : ℕ) (solver : SolverState) : Ty
 pub record IsOffered (word : Put) (block symbol : ℕ) (payload : List ℕ) (seat next : Seat) : Type 0 where
   pub entry : entry_of next.entry ≡ with_word word block symbol payload (entry_of seat.entry)
   pub kind : IsOfKind next.entry
-  pub waiting : next.waiting ≡ seat.waiting + counted word
+  pub waiting : next.waiting ≡ seat.waiting + counted (says_stream (entry_of seat.entry).plan.flags) word
 
 -- a block was seen
 pub record IsSeen (block : ℕ) (seat next : Seat) : Type 0 where

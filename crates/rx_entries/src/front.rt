@@ -9,13 +9,12 @@ ghost use Rattle.norm_receive_rules.specs.Putting.{put_info_of, put_of, with_sym
 ghost use Rattle.norm_receive_rules.specs.Seeing.{sees_block};
 ghost use Rattle.norm_receive_rules.specs.declared.words.Put.TheVariants as put_word;
 ghost use Rattle.rx_hold.specs.EntryState.{entry_of};
-ghost use Rattle.rx_hold.specs.EntryHold.{StandsFor, entry_at};
-ghost use Rattle.rx_hold.specs.HoldSound.{at_place};
-ghost use Rattle.rx_hold.specs.HoldState.{flags_at, missing_at, plan_at};
+ghost use Rattle.rx_hold.specs.EntryHold.{StandsFor, at_place, entry_at};
+ghost use Rattle.rx_hold.specs.Told.{flags_at, missing_at, plan_at};
 ghost use Rattle.rx_entries.specs.FrontSound.{HasRoom, IsFront, flags_in, front_view, plan_in, point_of_front, view_states};
 ghost use Rattle.rx_entries.specs.Seats.{IsSeat, octets_at, states_of};
 
-use crate::ring::{PLACES, Seat, counted, entry_at, offer_at, put_info_at, see_at};
+use crate::ring::{PLACES, Seat, counted, entry_at, is_stream_at, offer_at, put_info_at, see_at};
 use fec_plan::{PayloadId, Plan};
 use norm_base::{Memory, Octets, Profile};
 use norm_order::Up;
@@ -217,8 +216,9 @@ impl Front {
         ensures row { length row.new ≡ length row.old }
         ensures scratch { scratch.new ≡ scratch.old }
     {
+        let is_stream = is_stream_at(&self.ring, place);
         let word = offer_at(&mut self.ring, place, id, payload, row, scratch)?;
-        self.waiting += counted(word);
+        self.waiting += counted(is_stream, word);
         Ok(word)
     }
 

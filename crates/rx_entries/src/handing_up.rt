@@ -4,8 +4,7 @@ ghost use Rattle.std.specs.Prelude.{ℕ, ◌≡◌, ◌==◌, ◌&&◌, ◌+◌,
 ghost use Rattle.std.specs.VecDeque.{deque_capacity};
 ghost use Rattle.norm_receive_rules.specs.HandingUp.{handed_up};
 ghost use Rattle.norm_receive_rules.specs.Holding.{Holding};
-ghost use Rattle.rx_hold.specs.EntryHold.{StandsFor};
-ghost use Rattle.rx_hold.specs.HoldSound.{at_place};
+ghost use Rattle.rx_hold.specs.EntryHold.{StandsFor, at_place};
 ghost use Rattle.rx_entries.specs.FrontSound.{HasRoom, IsFront, front_view, point_of_front};
 ghost use Rattle.rx_entries.specs.Handing.{HandsFirst, HandsOn, IsPast, IsSettled, has_stream, has_whole, is_end_up, is_stream, is_whole_object, left_in, object_in, object_of, shifted, told_ups, told_with, up_of};
 ghost use Rattle.rx_entries.specs.Seats.{octets_at, waiting_at};

@@ -16,7 +16,7 @@ ghost use Rattle.norm_receive_rules.specs.Seeing.{sees_block};
 ghost use Rattle.norm_receive_rules.specs.Taking.{up_taken};
 ghost use Rattle.norm_receive_rules.specs.declared.words.Fit.TheVariants as fit_word;
 ghost use Rattle.rx_hold.specs.EntryHold.{StandsFor};
-ghost use Rattle.rx_hold.specs.HoldState.{IsFirstShort, first_short_at, flags_at, missing_at, plan_at};
+ghost use Rattle.rx_hold.specs.Told.{IsFirstShort, first_short_at, flags_at, missing_at, plan_at};
 ghost use Rattle.rx_entries.specs.Asked.{end_at, seen_at};
 ghost use Rattle.rx_entries.specs.FrontSound.{IsUnused, flags_in, plan_in};
 ghost use Rattle.rx_entries.specs.Handing.{IsSettled};

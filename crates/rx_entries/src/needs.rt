@@ -9,7 +9,7 @@ ghost use Rattle.norm_receive_rules.specs.Holding.{Holding};
 ghost use Rattle.norm_receive_rules.specs.Plans.{plan_of};
 ghost use Rattle.rx_hold.specs.EntryHold.{StandsFor};
 ghost use Rattle.rx_hold.specs.EntryState.{alone_in, entry_of};
-ghost use Rattle.rx_hold.specs.HoldState.{IsFirstShort, first_short_at};
+ghost use Rattle.rx_hold.specs.Told.{IsFirstShort, first_short_at};
 ghost use Rattle.rx_stream.specs.StreamState.{alone};
 ghost use Rattle.rx_entries.specs.Asked.{IsShortFrom, end_at, end_in, seen_at, seen_in};
 ghost use Rattle.rx_entries.specs.FrontSound.{IsFront, front_view, point_of_front};

@@ -2,12 +2,15 @@
 
 ghost use Rattle.std.specs.Prelude.{◌≡◌, ◌-◌, ◌<◌, ◌≤◌, [], MatchOption, IfOk, OnErr, None, Some, length, option_copied, option_map, replicate, slice_set, ⊤};
 ghost use Rattle.std.specs.VecDeque.{deque_capacity};
+ghost use Rattle.norm_receive_rules.specs.Plans.{says_stream};
 ghost use Rattle.rx_hold.specs.EntryState.{IsOfKind, entry_of};
-ghost use Rattle.rx_hold.specs.HoldSound.{at_place};
-ghost use Rattle.rx_entries.specs.Seats.{Becomes, GetsWord, IsInformed, IsOffered, IsSame, IsSeen, MayOffer, counted};
+ghost use Rattle.rx_hold.specs.EntryHold.{at_place};
+ghost use Rattle.rx_entries.specs.Seats.{Becomes, GetsWord, IsInformed, IsOffered, IsSame, IsSeen, MayOffer, counted, stream_at};
 
 use fec_plan::PayloadId;
 use norm_base::{Memory, Octets};
+use norm_ext::flags::STREAM;
+use norm_ext::items::has_flag;
 use norm_receive_rules::Put;
 use rx_hold::Entry;
 use rx_stream::Scratch;
@@ -47,10 +50,23 @@ pub fn fill(ring: &mut VecDeque<Option<Seat>>)
     }
 }
 
-/// How many hand-ups more a symbol may make that got this word.
-pub fn counted(word: Put) -> usize
-    ensures { result ≡ counted word }
+/// Whether a stream is at a place.
+pub fn is_stream_at(ring: &VecDeque<Option<Seat>>, place: usize) -> bool
+    ensures { result ≡ stream_at (at_place ring.now.items place) }
 {
+    match ring.get(place) {
+        Some(Some(seat)) => seat.says_stream(),
+        _ => false,
+    }
+}
+
+/// How many hand-ups more a symbol may make that got this word: a stream's that is kept, a segment. Data and files make one in all.
+pub fn counted(is_stream: bool, word: Put) -> usize
+    ensures { result ≡ counted is_stream word }
+{
+    if !is_stream {
+        return 0;
+    }
     match word {
         Put::Kept => 1,
         Put::Had | Put::Away | Put::Unfit => 0,
@@ -58,6 +74,13 @@ pub fn counted(word: Put) -> usize
 }
 
 impl Seat {
+    /// Whether it is a stream, by its flags.
+    fn says_stream(&self) -> bool
+        ensures { result ≡ says_stream (entry_of self.now.entry).plan.flags }
+    {
+        has_flag(self.entry.flags(), STREAM)
+    }
+
     /// Offers a symbol, and counts the hand-up that it may make.
     fn offer(
         &mut self,
@@ -73,8 +96,9 @@ impl Seat {
         ensures row { length row.new ≡ length row.old }
         ensures scratch { scratch.new ≡ scratch.old }
     {
+        let is_stream = self.says_stream();
         let word = self.entry.offer(id, payload, row, scratch)?;
-        self.waiting += counted(word);
+        self.waiting += counted(is_stream, word);
         Ok(word)
     }
 

@@ -15,7 +15,7 @@ use Rattle.norm_receive_rules.proofs.PassedLemmas.{symbol_passed}
 use Rattle.rx_hold.specs.BlockState.{held_at}
 use Rattle.rx_hold.specs.EntryState.{EntryState, infos_in, with_word}
 use Rattle.rx_hold.specs.EntryHold.{PlacedEntries, StandsFor, entry_at, entries_there}
-use Rattle.rx_hold.specs.HoldState.{is_passed}
+use Rattle.rx_hold.specs.Told.{is_passed}
 use Rattle.rx_hold.proofs.EntryRing.{filter_joins, part_of, same_parts, with_part}
 use Rattle.rx_hold.proofs.EntryStands.{held_in, held_key, own_held, own_info, own_plan, placed_at, plans_in, plans_joined, view_with}
 

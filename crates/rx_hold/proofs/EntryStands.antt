@@ -11,7 +11,7 @@ use Rattle.norm_order.specs.declared.up.Up.{Up}
 use Rattle.norm_receive_rules.specs.Holding.{Holding, Plan, Held, HeldInfo}
 use Rattle.norm_receive_rules.specs.Plans.{plan_of, is_over, held_of, info_of, first_block}
 use Rattle.rx_hold.specs.EntryState.{EntryState, infos_in, alone_in}
-use Rattle.rx_hold.specs.HoldState.{is_passed}
+use Rattle.rx_hold.specs.Told.{is_passed}
 use Rattle.rx_hold.specs.EntryHold.{EntryHold, StandsFor, PlacedEntries, AreAsFar, IsEntryAt, block_at_place, entry_at, entries_there}
 use Rattle.rx_hold.proofs.EntryRing.{filter_twice, part_of, IsOwn, found_in}
 use Rattle.rx_hold.proofs.EntryLemmas.{AreAlikeAt}

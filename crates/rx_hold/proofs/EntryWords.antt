@@ -15,7 +15,7 @@ use Rattle.norm_receive_rules.specs.declared.words.Put.{Put}
 use Rattle.norm_receive_rules.specs.declared.words.Put.TheVariants as put
 use Rattle.rx_hold.specs.EntryState.{EntryState, alone_in}
 use Rattle.rx_hold.specs.EntryHold.{AreAsFar, PlacedEntries, StandsFor, block_at_place, entry_at}
-use Rattle.rx_hold.specs.HoldState.{is_passed}
+use Rattle.rx_hold.specs.Told.{is_passed}
 use Rattle.rx_hold.proofs.EntryLemmas.{AreAlikeAt, put_by_at, put_earlier}
 use Rattle.rx_hold.proofs.EntryStands.{alike_at, not_over, placed_at, plan_found, view_with}
 

@@ -1,4 +1,4 @@
--- What a hold's answers say of what it stands for: which blocks are done; and which indices a position leaves.
+-- What answers say of what is held: which blocks are done, and how many symbols are lacking; and which indices a position leaves.
 use Rattle.std.proofs.Common.{◌≡◌, ℕ, zero, suc, cond, ◌+◌, ◌<◌, ◌≤◌, ◌⊎◌, inl, inr, Bool, true, false, refl, sym, ap, ◌∙◌, subst, arith, Option, Some, None, ◌∷◌}
 use Rattle.std.specs.Prelude.{filter, not, nat_lt, ◌==◌, ◌&&◌, ◌||◌, slice_get, IfSome, MatchOption}
 use Rattle.std.specs.List.{range_with_len}
@@ -8,7 +8,8 @@ use Rattle.fec_plan.specs.Points.{point_of, point_before}
 use Rattle.fec_plan.specs.declared.position.Position.{Position}
 use Rattle.norm_receive_rules.specs.Holding.{Holding, Plan}
 use Rattle.norm_receive_rules.specs.Plans.{cut_of_plan, plan_of, is_done}
-use Rattle.rx_hold.specs.HoldState.{IsFirstShort, short_of, first_short_at}
+use Rattle.norm_receive_rules.specs.declared.words.Missing.TheVariants as missing
+use Rattle.rx_hold.specs.Told.{IsFirstShort, first_short_at, missing_by, short_of}
 
 -- a position that is not before a block is of its object or a later one
 pub not_earlier : (at point : Position) → point_before (point_of at) (point_of point) ≡ false → point.index ≤ at.index
@@ -87,3 +88,8 @@ first_says s index first is = go (plan_of s index) refl
     go None e = tt
     go (Some plan) e =
         first_short_says s plan first (is ∙ ap (λ (o : Option Plan). elim o [ Some plan ↦ slice_get (short_of s plan) 0 | None ↦ None ]) e)
+
+-- so many symbols are lacking
+pub short_word : (n : ℕ) → (n ≡ 0 → ⊥) → missing.Short n ≡ missing_by n
+short_word zero some = absurd (some refl)
+short_word (suc n) some = refl

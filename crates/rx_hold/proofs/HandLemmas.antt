@@ -1,79 +1,16 @@
--- Handing up from the first place on, and losing what is there.
-use Rattle.std.proofs.Common.{◌≡◌, ℕ, zero, suc, ◌+◌, ◌-◌, ◌<◌, ◌≤◌, Bool, true, false, cond, refl, sym, ap, ◌∙◌, subst, arith, Option, Some, None, List, [], ◌∷◌, length}
-use Rattle.std.specs.Prelude.{filter, not, option_map, ◌&&◌, MatchOption, ⊤}
+-- A whole object holds a symbol at least; and where so many hand-ups lead.
+use Rattle.std.proofs.Common.{◌≡◌, ℕ, zero, suc, ◌+◌, ◌-◌, ◌<◌, ◌≤◌, Bool, true, false, cond, refl, ap, ◌∙◌, arith, Option, Some, None, List, [], ◌∷◌, length}
+use Rattle.std.specs.Prelude.{filter, ◌&&◌}
 use Rattle.std.proofs.lemmas.Bool.{eqb-true}
 use Rattle.std.specs.List.{list_all, range_with_len}
 use Rattle.norm_base.specs.Settings.{Settings}
 use Rattle.fec_plan.specs.Partition.{IsSound, Cut, cut_of, stream_cut, blocks, blocks_in, source_symbols, symbols_in}
-use Rattle.fec_plan.specs.declared.position.Position.{Position}
 use Rattle.fec_plan.proofs.CutLemmas.{some_blocks}
 use Rattle.fec_plan.proofs.CoverLemmas.{few_blocks, small_some, between}
-use Rattle.norm_order.specs.declared.up.Up.{Up}
-use Rattle.norm_order.specs.declared.up.Up.TheVariants as up
 use Rattle.norm_receive_rules.specs.Holding.{Holding, Plan, Held}
 use Rattle.norm_receive_rules.specs.Plans.{cut_of_plan, says_stream, is_done, lacking, held_of, has_its_info}
-use Rattle.norm_receive_rules.specs.HandingUp.{is_whole, kind_of, told_info, object_octets, after_object, handed, hands_object, hands_next, hands_one, hands_most, handed_up}
+use Rattle.norm_receive_rules.specs.HandingUp.{is_whole, hands_one, hands_most, handed_up}
 use Rattle.rx_hold.specs.ObjectState.{ObjectState, alone}
-use Rattle.rx_hold.specs.HoldState.{HoldState, Stands, is_passed}
-use Rattle.rx_hold.specs.HoldSound.{IsAt, Placed, at_place}
-use Rattle.rx_hold.specs.HoldMoves.{symbols_held, HandsFirst}
-use Rattle.rx_hold.proofs.PlaceLemmas.{placed_at}
-use Rattle.rx_hold.proofs.AlikeLemmas.{Alike, whole_alike, told_alike, octets_alike}
-use Rattle.rx_hold.proofs.StandsLemmas.{view_of, plan_found, alike_at}
-use Rattle.rx_hold.proofs.MoveLemmas.{moved}
-
--- ---- one hand-up
-
--- what is handed up of an object
-abbrev pub up_of : ObjectState → Up
-up_of o = up.Object o.plan.index (kind_of o.plan.flags) (told_info (alone o) o.plan) (object_octets (alone o) o.plan)
-
-abbrev by_stream : Settings → Holding → Plan → Bool → Option Holding
-by_stream p s plan stream = elim stream as (λ _. Option Holding) [ true ↦ hands_next p s plan | false ↦ hands_object s plan ]
-
-abbrev by_plan : Settings → Holding → Option Plan → Option Holding
-by_plan p s found = elim found as (λ _. Option Holding) [ Some plan ↦ by_stream p s plan (says_stream plan.flags) | None ↦ None ]
-
-abbrev by_whole : Holding → Plan → Bool → Option Holding
-by_whole s plan whole = elim whole as (λ _. Option Holding) [
-  | true ↦ Some (handed (up.Object plan.index (kind_of plan.flags) (told_info s plan) (object_octets s plan) ∷ []) (after_object plan.index) s)
-  | false ↦ None
-]
-
-module _ (p : Settings) (m : ℕ) (ring : List (Option ObjectState)) (ups : List Up) (lost : Bool) (s : Holding)
-    (placed : Placed p m ring) (stands : Stands (view_of p m ring ups lost) s) where
-  point_is : s.point.index ≡ m
-  point_is = ap (λ (at : Position). at.index) stands.point
-
-  alike_first : (o : ObjectState) → at_place ring 0 ≡ Some o → Alike s (alone o) o.plan.index
-  alike_first o e = alike_at p m ring ups lost s placed stands o.plan.index 0 o (sym (placed_at p m 0 ring o placed e).index) e
-
-  first_planned : (o : ObjectState) → at_place ring 0 ≡ Some o → (whole : Bool) → is_whole (alone o) o.plan ≡ whole → hands_one p s ≡ by_whole s o.plan whole
-  first_planned o e whole w =
-      ap (by_plan p s)
-      (plan_found p m ring ups lost s placed stands s.point.index 0 (let same = point_is in omega arith)
-      ∙ ap (λ (found : Option ObjectState). option_map (λ (x : ObjectState). x.plan) found) e)
-      ∙ ap (by_stream p s o.plan) (placed_at p m 0 ring o placed e).object
-      ∙ ap (by_whole s o.plan) (whole_alike s (alone o) o.plan (alike_first o e) ∙ w)
-
-  pub hands_whole : (o : ObjectState) → at_place ring 0 ≡ Some o → is_whole (alone o) o.plan ≡ true → hands_one p s ≡ Some (moved (up_of o) s.lost s)
-  hands_whole o e w =
-      first_planned o e true w
-      ∙ ap (λ (i : Option (List ℕ)). Some (handed (up.Object o.plan.index (kind_of o.plan.flags) i (object_octets s o.plan) ∷ []) (after_object o.plan.index) s))
-      (told_alike s (alone o) o.plan (alike_first o e))
-      ∙ ap (λ octets. Some (handed (up.Object o.plan.index (kind_of o.plan.flags) (told_info (alone o) o.plan) octets ∷ []) (after_object o.plan.index) s))
-      (octets_alike s (alone o) o.plan (alike_first o e))
-      ∙ ap (λ n. Some (handed (up_of o ∷ []) (after_object n) s))
-      (let here = (placed_at p m 0 ring o placed e).index in let same = point_is in let n : o.plan.index ≡ s.point.index = omega arith in n)
-
-  pub hands_short : (o : ObjectState) → at_place ring 0 ≡ Some o → is_whole (alone o) o.plan ≡ false → hands_one p s ≡ None
-  hands_short o e w = first_planned o e false w
-
-  pub hands_nothing : at_place ring 0 ≡ None → hands_one p s ≡ None
-  hands_nothing e =
-      ap (by_plan p s)
-      (plan_found p m ring ups lost s placed stands s.point.index 0 (let same = point_is in omega arith)
-      ∙ ap (λ (found : Option ObjectState). option_map (λ (x : ObjectState). x.plan) found) e)
 
 -- ---- a whole object holds a symbol at least
 
@@ -116,13 +53,13 @@ blocks_of plan object sound = go (says_stream plan.flags) object sound
     go true e is = absurd (cc)
     go false e is = some_blocks (symbols_in plan.fti.l plan.fti.e) plan.fti.b is.some (let b = is.least_b in omega arith)
 
-pub holds_some : (p : Settings) (n : ℕ) (o : ObjectState) → IsAt p n o → is_whole (alone o) o.plan ≡ true → 1 ≤ length o.held
-holds_some p n o is whole =
+pub holds_some : (o : ObjectState) → says_stream o.plan.flags ≡ false → IsSound (cut_of_plan o.plan) → is_whole (alone o) o.plan ≡ true → 1 ≤ length o.held
+holds_some o object sound whole =
     let done : is_done (alone o) o.plan 0 ≡ true =
-    some_block (is_done (alone o) o.plan) (blocks (cut_of_plan o.plan)) (blocks_of o.plan is.object is.sound)
+    some_block (is_done (alone o) o.plan) (blocks (cut_of_plan o.plan)) (blocks_of o.plan object sound)
     (both (has_its_info (alone o) o.plan) (list_all (is_done (alone o) o.plan) (range_with_len 0 (blocks (cut_of_plan o.plan)))) whole).1 in
     let none : lacking (alone o) o.plan 0 ≡ 0 = eqb-true (lacking (alone o) o.plan 0) 0 done in
-    let some : 1 ≤ source_symbols (cut_of_plan o.plan) 0 = sources_of o.plan is.object is.sound in
+    let some : 1 ≤ source_symbols (cut_of_plan o.plan) 0 = sources_of o.plan object sound in
     let few : length (held_of (alone o) o.plan.index 0) ≤ length o.held = filter_fewer Held _ o.held in
     omega arith
 
@@ -152,48 +89,3 @@ pub leads_to_end : (p : Settings) (s : Holding) (n : ℕ) (after : Holding) → 
 leads_to_end p s n after leads e le =
     ap (λ k. hands_most k p s) (let k : length s.held ≡ n + (length s.held - n) = omega arith in k)
     ∙ leads.on (length s.held - n) ∙ hands_none_more (length s.held - n) p after e
-
--- a state holds no fewer symbols than a hold that stands for it
-pub no_fewer : (h : HoldState) (s : Holding) → Stands h s → symbols_held h ≤ length s.held
-no_fewer h s stands =
-    let same = ap (λ (xs : List Held). length xs) stands.held in
-    omega (arith, same, filter_fewer Held (λ x. not (is_passed s x.at)) s.held)
-
--- what a hold stands for after some hand-ups
-pub record HandsOn (first now : HoldState) (s : Holding) : Type 0 where
-  pub after : Holding
-  pub count : ℕ
-  pub leads : Leads first.p s count after
-  pub few : count + symbols_held now ≤ symbols_held first
-  pub stands : Stands now after
-
-pub hands_on_more : (first middle now : HoldState) (s : Holding) → middle.p ≡ first.p → HandsOn first middle s
-    → ((t : Holding) → Stands middle t → HandsFirst true middle now t) → symbols_held now < symbols_held middle → HandsOn first now s
-hands_on_more first middle now s same so_far next fewer =
-    let step = next so_far.after so_far.stands in
-    record {
-      after = step.0;
-      count = so_far.count + 1;
-      leads = leads_on first.p s so_far.count so_far.after step.0 so_far.leads (ap (λ (p : Settings). hands_one p so_far.after) (sym same) ∙ step.1);
-      few = (let few = so_far.few in omega arith);
-      stands = step.2;
-    }
-
-pub hands_on_end : (first middle now : HoldState) (s : Holding) → middle.p ≡ first.p → HandsOn first middle s
-    → ((t : Holding) → Stands middle t → HandsFirst false middle now t) → Stands first s → Stands now (handed_up first.p s)
-hands_on_end first middle now s same so_far last stands =
-    let step = last so_far.after so_far.stands in
-    subst (λ (t : Holding). Stands now t)
-    (sym (leads_to_end first.p s so_far.count so_far.after so_far.leads (ap (λ (p : Settings). hands_one p so_far.after) (sym same) ∙ step.0)
-    (omega (arith, so_far.few, no_fewer first s stands))))
-    step.1
-
--- ---- the first place
-
-pub hands_stop : (p : Settings) (m : ℕ) (ring : List (Option ObjectState)) (ups : List Up) (lost : Bool) (s : Holding)
-    → Placed p m ring → Stands (view_of p m ring ups lost) s → MatchOption (at_place ring 0) ⊤ (λ o. is_whole (alone o) o.plan ≡ false) → hands_one p s ≡ None
-hands_stop p m ring ups lost s placed stands short = go (at_place ring 0) refl short
-  where
-    go : (found : Option ObjectState) → at_place ring 0 ≡ found → MatchOption found ⊤ (λ o. is_whole (alone o) o.plan ≡ false) → hands_one p s ≡ None
-    go None e h = hands_nothing p m ring ups lost s placed stands e
-    go (Some o) e h = hands_short p m ring ups lost s placed stands o e h

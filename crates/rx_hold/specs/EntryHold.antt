@@ -11,7 +11,7 @@ use Rattle.norm_receive_rules.specs.Holding.{Holding, Plan, Held, HeldInfo}
 use Rattle.norm_receive_rules.specs.Laws.{HasPassed}
 use Rattle.norm_receive_rules.specs.Plans.{cut_of_plan, first_block, is_over}
 use Rattle.rx_hold.specs.EntryState.{EntryState, IsOfProfile, alone_in, infos_in}
-use Rattle.rx_hold.specs.HoldState.{is_passed}
+use Rattle.rx_hold.specs.Told.{is_passed}
 
 -- an object with this index, taken up by this profile, all of whose symbols are its own
 pub record IsEntryAt (p : Settings) (n : ℕ) (o : EntryState) : Type 0 where
@@ -29,6 +29,10 @@ PlacedEntries p n (None ∷ ring) = PlacedEntries p (suc n) ring
 PlacedEntries p n (Some o ∷ ring) = IsEntryAt p n o × PlacedEntries p (suc n) ring
 
 -- what is at a place
+abbrev pub at_place : {X : Type 0} → List (Option X) → ℕ → Option X
+at_place ring i = elim (slice_get ring i) [ Some place ↦ place | None ↦ None ]
+
+-- the object that is there
 abbrev pub entry_at : List (Option EntryState) → ℕ → Option EntryState
 entry_at ring i = elim (slice_get ring i) [ Some place ↦ place | None ↦ None ]
 

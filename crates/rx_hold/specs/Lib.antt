@@ -5,8 +5,6 @@ pub mod Rows
 pub mod RowsSound
 pub mod ObjectState
 pub mod ObjectSound
-pub mod HoldState
-pub mod HoldSound
-pub mod HoldMoves
+pub mod Told
 pub mod EntryState
 pub mod EntryHold

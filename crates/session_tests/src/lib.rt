@@ -4,6 +4,8 @@
 #[cfg(test)]
 mod disturbed;
 #[cfg(test)]
+mod failing;
+#[cfg(test)]
 mod program;
 #[cfg(test)]
 mod words;

@@ -1,156 +1,359 @@
-//! What is held of objects of either kind: the word of each call in its order.
+//! What is held of objects of either kind, streams above all: the word of each call in its order, what is handed up of segments in
+//! whatever order they come, and what a squelch makes lost.
 
-use fec_plan::{PayloadId, Point};
-use norm_base::{Given, Key, Memory, Profile};
-use norm_ext::Fti;
-use norm_receive_rules::{Fit, Put};
-use rx_entries::Hold;
-use std::alloc::Global;
-use std::process::Abort;
+use crate::playing::{Handed, Sizes, Step, play};
+use norm_receive_rules::{Fit, Missing, Put};
 use std::test::Fail;
 
-/// A symbol's place: the object's index, the block and the symbol.
-type At = (u32, u16, u8);
+/// Blocks of three source symbols of 64 octets and two of parity, of which a stream's buffer has four: 768 octets.
+const SIZES: Sizes = (64, 3, 5, 1600, 4);
 
-/// A call of a hold, with what it has to answer.
-#[derive(Clone, Copy)]
-enum Step {
-    /// Transmission information of an object of so many octets, and its flags.
-    Fit(u32, u16, u8, Fit),
-    /// A symbol of so many octets, of which the second is this one, and all others are zeros.
-    Put(At, usize, u8, Put),
-    /// An info of so many octets.
-    Info(u32, usize, Put),
-    /// A block is seen.
-    See(u32, u16),
-    Flags(u32, Option<u8>),
-}
+/// The same, and room for two streams and an object of 464 octets.
+const WIDE: Sizes = (64, 3, 5, 2000, 4);
 
-/// The word that a symbol gets.
-fn put(hold: &mut Hold, at: At, octets: usize, second: u8) -> Result<Option<Put>, Memory> {
-    let (index, block, symbol) = at;
-    let mut payload = [0; 72];
-    payload[1] = second;
-    if octets > 72 {
-        return Ok(None);
-    }
-    let block = u32::from(block);
-    let word = hold.put(index, PayloadId { block, symbol }, &payload[..octets])?;
-    Ok(Some(word))
-}
+/// Each word in its order, of a stream and of an object beside it.
+const WORDS: [Step; 26] = [
+    Step::Segment((0, 0, 0), (1, 0, 0), 9, Put::Away),
+    Step::Fit(0, (0, 64, 3, 5), 32, Fit::Taken),
+    Step::Fit(0, (9, 64, 3, 5), 32, Fit::Known),
+    Step::Fit(0, (9, 64, 3, 5), 0, Fit::Unfit),
+    Step::Flags(0, Some(32)),
+    Step::Fit(1, (1000, 64, 3, 5), 4, Fit::Taken),
+    Step::Fit(2, (0, 64, 3, 5), 32, Fit::Away),
+    Step::Fit(2, (0, 64, 3, 5), 0, Fit::Unfit),
+    Step::Fit(256, (1, 64, 3, 5), 0, Fit::Away),
+    Step::See(0, 3),
+    Step::Segment((0, 0, 0), (1, 0, 0), 9, Put::Kept),
+    Step::Segment((0, 0, 0), (1, 0, 0), 9, Put::Had),
+    Step::Segment((0, 0, 1), (2, 0, 0), 9, Put::Unfit),
+    Step::Segment((0, 0, 3), (1, 0, 0), 71, Put::Unfit),
+    Step::Segment((0, 0, 3), (1, 0, 0), 72, Put::Kept),
+    Step::Segment((0, 0, 4), (1, 0, 0), 72, Put::Kept),
+    Step::Segment((0, 0, 1), (1, 0, 0), 9, Put::Had),
+    Step::Segment((0, 3, 0), (1, 0, 0), 9, Put::Kept),
+    Step::Segment((0, 4, 0), (1, 0, 0), 9, Put::Away),
+    Step::Put((1, 0, 0), 64, 0, Put::Kept),
+    Step::Put((1, 9, 0), 64, 0, Put::Unfit),
+    Step::Info(0, 9, Put::Unfit),
+    Step::Info(1, 65, Put::Unfit),
+    Step::Info(1, 9, Put::Kept),
+    Step::Info(1, 9, Put::Had),
+    Step::Info(2, 9, Put::Away),
+];
 
-/// The word that transmission information gets: blocks of three source symbols of 64 octets and two of parity.
-fn fit(hold: &mut Hold, index: u32, octets: u16, flags: u8) -> Result<Option<Fit>, Memory> {
-    let fti = Fti {
-        l: u64::from(octets),
-        e: 64,
-        b: 3,
-        max_n: 5,
-    };
-    if index == u32::MAX {
-        return Ok(None);
-    }
-    Ok(Some(hold.fti(index, &fti, flags)?))
-}
-
-/// Whether a call answers as it has to.
-fn answers(hold: &mut Hold, step: Step) -> Result<bool, Memory> {
-    match step {
-        Step::Fit(index, octets, flags, word) => {
-            Ok(fit(hold, index, octets, flags)? == Some(word))
-        }
-        Step::Put(at, octets, second, word) => Ok(put(hold, at, octets, second)? == Some(word)),
-        Step::Info(index, octets, word) => {
-            let info = [7; 72];
-            if octets > 72 {
-                return Ok(false);
-            }
-            Ok(hold.put_info(index, &info[..octets])? == word)
-        }
-        Step::See(index, block) => see(hold, index, block),
-        Step::Flags(index, flags) => flags_are(hold, index, flags),
-    }
-}
-
-/// A block is seen, of an object from the hand-up point on.
-fn see(hold: &mut Hold, index: u32, block: u16) -> Result<bool, Memory> {
-    if index < hold.hand_up().index {
-        return Ok(false);
-    }
-    hold.see(Point {
-        index,
-        block: u32::from(block),
-    });
-    Ok(true)
-}
-
-/// Whether these are the flags of an object from the hand-up point on.
-fn flags_are(hold: &Hold, index: u32, flags: Option<u8>) -> Result<bool, Memory> {
-    if index < hold.hand_up().index {
-        return Ok(false);
-    }
-    Ok(hold.flags(index) == flags)
-}
-
-/// A profile of blocks of three source symbols of 64 octets and two of parity, of which a stream's buffer has four.
-fn profile(rt: &impl Abort) -> Profile {
-    let mut given = Given::new();
-    for (key, value) in [
-        (Key::E, 64),
-        (Key::B, 3),
-        (Key::MaxN, 5),
-        (Key::Octets, 2000),
-        (Key::Blocks, 4),
-    ] {
-        given.set(key, value);
-    }
-    Profile::of(&given).expect(rt, "a profile")
-}
-
-/// The number of the first step that does not answer as it has to.
-fn first_wrong(rt: &impl Abort, alloc: Global, steps: &[Step]) -> Result<Option<usize>, Memory> {
-    let profile = profile(rt);
-    let mut hold = Hold::new(alloc, &profile)?;
-    for (number, step) in steps.iter().enumerate() {
-        if !answers(&mut hold, *step)? {
-            return Ok(Some(number));
-        }
-    }
-    Ok(None)
-}
-
-/// Each word in its order: a stream's buffer takes 768 octets, and its segments say their own length.
 #[test]
 fn words_of_either_kind(rt: HostRuntime) -> Result<(), Fail> {
-    let steps = [
-        Step::Put((0, 0, 0), 9, 1, Put::Away),
-        Step::Fit(0, 0, 32, Fit::Taken),
-        Step::Fit(0, 9, 32, Fit::Known),
-        Step::Fit(0, 9, 0, Fit::Unfit),
-        Step::Flags(0, Some(32)),
-        Step::Fit(1, 1000, 4, Fit::Taken),
-        Step::Fit(2, 0, 32, Fit::Away),
-        Step::Fit(2, 0, 0, Fit::Unfit),
-        Step::Fit(256, 1, 0, Fit::Away),
-        Step::See(0, 3),
-        Step::Put((0, 0, 0), 9, 1, Put::Kept),
-        Step::Put((0, 0, 0), 9, 1, Put::Had),
-        Step::Put((0, 0, 1), 9, 2, Put::Unfit),
-        Step::Put((0, 0, 3), 71, 1, Put::Unfit),
-        Step::Put((0, 0, 3), 72, 1, Put::Kept),
-        Step::Put((0, 0, 4), 72, 1, Put::Kept),
-        Step::Put((0, 0, 1), 9, 1, Put::Had),
-        Step::Put((0, 3, 0), 9, 1, Put::Kept),
-        Step::Put((0, 4, 0), 9, 1, Put::Away),
-        Step::Put((1, 0, 0), 64, 1, Put::Kept),
-        Step::Put((1, 9, 0), 64, 1, Put::Unfit),
-        Step::Info(0, 9, Put::Unfit),
-        Step::Info(1, 65, Put::Unfit),
-        Step::Info(1, 9, Put::Kept),
-        Step::Info(1, 9, Put::Had),
-        Step::Info(2, 9, Put::Away),
-    ];
-    let wrong = first_wrong(&rt, rt.alloc(), &steps)?;
-    assert!(rt; wrong.is_none(), "step {wrong:?}");
+    let steps = WORDS;
+    play(&rt, rt.alloc(), WIDE, &steps)?;
+    Ok(())
+}
+
+/// What becomes of a stream's transmission information: the first word that applies. Two streams leave room for 64 octets.
+const FITS: [Step; 18] = [
+    Step::Fit(0, (0, 64, 3, 5), 32, Fit::Taken),
+    // It is known; the length says nothing.
+    Step::Fit(0, (9, 64, 3, 5), 32, Fit::Known),
+    // Another plan than the one that is known, or no stream.
+    Step::Fit(0, (0, 65, 3, 5), 32, Fit::Unfit),
+    Step::Fit(0, (0, 64, 2, 5), 32, Fit::Unfit),
+    Step::Fit(0, (0, 64, 3, 6), 32, Fit::Unfit),
+    Step::Fit(0, (0, 64, 3, 5), 0, Fit::Unfit),
+    // No plan, or none of the profile.
+    Step::Fit(1, (0, 0, 3, 5), 32, Fit::Unfit),
+    Step::Fit(1, (0, 64, 3, 2), 32, Fit::Unfit),
+    Step::Fit(1, (0, 65, 3, 5), 32, Fit::Unfit),
+    // Too far ahead, whatever else is wrong.
+    Step::Fit(256, (0, 65, 3, 2), 32, Fit::Away),
+    Step::Fit(255, (0, 64, 3, 5), 32, Fit::Taken),
+    // No room, whatever else is wrong.
+    Step::Fit(1, (0, 64, 3, 5), 32, Fit::Away),
+    Step::Fit(1, (0, 65, 3, 2), 32, Fit::Away),
+    Step::Fit(1, (65, 64, 3, 5), 0, Fit::Away),
+    Step::Fit(1, (64, 64, 3, 5), 0, Fit::Taken),
+    // One that is over is known, whatever it says; and its room is free.
+    Step::LoseBefore(1, 0),
+    Step::Fit(0, (9, 65, 3, 2), 0, Fit::Known),
+    Step::Fit(256, (0, 64, 3, 5), 32, Fit::Taken),
+];
+
+#[test]
+fn the_information_of_a_stream_gets_its_word(rt: HostRuntime) -> Result<(), Fail> {
+    let steps = FITS;
+    play(&rt, rt.alloc(), SIZES, &steps)?;
+    Ok(())
+}
+
+/// What becomes of a stream's symbols: the first word that applies. Where three symbols of a block are the same, all are.
+const PUTS: [Step; 37] = [
+    Step::Segment((0, 0, 0), (1, 0, 7), 9, Put::Away),
+    Step::Fit(0, (0, 64, 3, 5), 32, Fit::Taken),
+    Step::Segment((256, 0, 0), (1, 0, 7), 9, Put::Away),
+    // There is room for four blocks, whatever else is wrong.
+    Step::Segment((0, 4, 0), (1, 0, 7), 9, Put::Away),
+    Step::Segment((0, 4, 9), (65, 0, 7), 9, Put::Away),
+    // No such symbol; a length above 64; octets that are wanting, or follow.
+    Step::Segment((0, 0, 5), (64, 0, 7), 72, Put::Unfit),
+    Step::Segment((0, 3, 255), (64, 0, 7), 72, Put::Unfit),
+    Step::Segment((0, 0, 0), (65, 0, 7), 73, Put::Unfit),
+    Step::Segment((0, 0, 0), (2, 0, 7), 9, Put::Unfit),
+    Step::Segment((0, 0, 0), (0, 0, 7), 9, Put::Unfit),
+    Step::Segment((0, 0, 0), (0, 0, 7), 7, Put::Unfit),
+    // Parity has 72 octets.
+    Step::Segment((0, 0, 3), (1, 0, 7), 71, Put::Unfit),
+    Step::Segment((0, 0, 3), (1, 0, 7), 73, Put::Unfit),
+    Step::Segment((0, 0, 0), (1, 0, 7), 9, Put::Kept),
+    Step::Missing(0, 0, Missing::Short { wanted: 2 }),
+    // It is held, whatever else is wrong.
+    Step::Segment((0, 0, 0), (65, 0, 7), 9, Put::Had),
+    Step::Segment((0, 0, 3), (1, 0, 7), 72, Put::Kept),
+    Step::FirstShort(0, Some(0)),
+    Step::Segment((0, 0, 4), (1, 0, 7), 72, Put::Kept),
+    Step::Missing(0, 0, Missing::Done),
+    Step::FirstShort(0, Some(1)),
+    // Its block is done, whatever else is wrong.
+    Step::Segment((0, 0, 1), (65, 0, 7), 9, Put::Had),
+    Step::Segment((0, 0, 9), (1, 0, 7), 9, Put::Had),
+    Step::Advance,
+    Step::Up(Handed::Open(0)),
+    Step::Up(Handed::Segment(0, 0, 1, 7)),
+    Step::Up(Handed::Segment(0, 0, 1, 7)),
+    Step::Up(Handed::Segment(0, 0, 1, 7)),
+    Step::Up(Handed::Nothing),
+    Step::HandUp((0, 1, 0)),
+    // Its block was handed up whole; and there is room for a block more.
+    Step::Segment((0, 0, 1), (65, 0, 7), 9, Put::Had),
+    Step::Segment((0, 4, 0), (1, 0, 7), 9, Put::Kept),
+    Step::Segment((0, 5, 0), (1, 0, 7), 9, Put::Away),
+    Step::LoseBefore(1, 0),
+    Step::Up(Handed::Lost(0)),
+    Step::Segment((0, 9, 9), (65, 0, 7), 9, Put::Had),
+    Step::HasLost(true),
+];
+
+#[test]
+fn a_symbol_of_a_stream_gets_its_word(rt: HostRuntime) -> Result<(), Fail> {
+    let steps = PUTS;
+    play(&rt, rt.alloc(), SIZES, &steps)?;
+    Ok(())
+}
+
+/// A stream of 130 octets in blocks of four: a segment each of 1, 64, 64 and 1 octets, and its end. They come in disorder, and all but
+/// the last but one twice.
+const SEGMENTS: [Step; 29] = [
+    Step::Fit(0, (1024, 64, 4, 6), 32, Fit::Taken),
+    Step::Segment((0, 0, 0), (1, 0, 0x41), 9, Put::Kept),
+    Step::Advance,
+    Step::Up(Handed::Open(0)),
+    Step::Up(Handed::Segment(0, 0, 1, 0x41)),
+    Step::Up(Handed::Nothing),
+    Step::HandUp((0, 0, 1)),
+    Step::Segment((0, 0, 0), (1, 0, 0x41), 9, Put::Had),
+    Step::Segment((0, 0, 2), (64, 65, 0x43), 72, Put::Kept),
+    Step::Advance,
+    Step::Up(Handed::Nothing),
+    Step::Segment((0, 0, 1), (64, 1, 0x42), 72, Put::Kept),
+    Step::Segment((0, 0, 2), (64, 65, 0x43), 72, Put::Had),
+    Step::Advance,
+    Step::Up(Handed::Segment(0, 1, 64, 0x42)),
+    Step::Up(Handed::Segment(0, 65, 64, 0x43)),
+    Step::Up(Handed::Nothing),
+    Step::HandUp((0, 0, 3)),
+    Step::End(0, None),
+    Step::Segment((0, 1, 0), (0, 130, 0), 8, Put::Kept),
+    Step::End(0, Some((1, 0))),
+    Step::Advance,
+    Step::Up(Handed::Nothing),
+    Step::Segment((0, 0, 3), (1, 129, 0x43), 9, Put::Kept),
+    Step::Segment((0, 1, 0), (0, 130, 0), 8, Put::Had),
+    Step::Advance,
+    Step::Up(Handed::Segment(0, 129, 1, 0x43)),
+    Step::Up(Handed::End(0)),
+    Step::HandUp((1, 0, 0)),
+];
+
+#[test]
+fn segments_are_handed_up_in_order_and_once(rt: HostRuntime) -> Result<(), Fail> {
+    let steps = SEGMENTS;
+    play(&rt, rt.alloc(), (64, 4, 6, 2000, 4), &steps)?;
+    Ok(())
+}
+
+/// The octets of a block of three source symbols and two of parity that is known from outside.
+const KNOWN: [u8; 5] = [0x01, 0x04, 0x10, 0x40, 0x1d];
+
+/// A symbol of the block whose segments have 64 octets, of which the first is the known one, as the offset is.
+fn known(symbol: u8, word: Put) -> Step {
+    let octet = KNOWN[usize::from(symbol % 5)];
+    Step::Segment((0, 0, symbol % 5), (64, octet, octet), 72, word)
+}
+
+/// Three of the five symbols come in this order, each twice, and all that can be is handed up after each.
+fn in_order(first: u8, second: u8, third: u8) -> [Step; 16] {
+    [
+        Step::Fit(0, (0, 64, 3, 5), 32, Fit::Taken),
+        known(first, Put::Kept),
+        known(first, Put::Had),
+        Step::Advance,
+        known(second, Put::Kept),
+        known(second, Put::Had),
+        Step::Advance,
+        known(third, Put::Kept),
+        known(third, Put::Had),
+        Step::Advance,
+        Step::Up(Handed::Open(0)),
+        Step::Up(Handed::Segment(0, 0x01, 64, 0x01)),
+        Step::Up(Handed::Segment(0, 0x04, 64, 0x04)),
+        Step::Up(Handed::Segment(0, 0x10, 64, 0x10)),
+        Step::Up(Handed::Nothing),
+        Step::HandUp((0, 1, 0)),
+    ]
+}
+
+#[test]
+fn any_three_of_five_symbols_give_the_segments_in_any_order(rt: HostRuntime) -> Result<(), Fail> {
+    for order in 0..125u8 {
+        let (first, second, third) = (order / 25, order / 5 % 5, order % 5);
+        if first != second && first != third && second != third {
+            let steps = in_order(first, second, third);
+            play(&rt, rt.alloc(), SIZES, &steps)?;
+        }
+    }
+    Ok(())
+}
+
+/// The end of a stream that no symbol says: all three segments are of no octets, so parity is as they are.
+const END_BY_PARITY: [Step; 9] = [
+    Step::Fit(0, (0, 64, 3, 5), 32, Fit::Taken),
+    Step::Segment((0, 0, 3), (0, 9, 0), 72, Put::Kept),
+    Step::Segment((0, 0, 2), (0, 9, 0), 8, Put::Kept),
+    Step::End(0, Some((0, 2))),
+    Step::Segment((0, 0, 4), (0, 9, 0), 72, Put::Kept),
+    Step::End(0, Some((0, 0))),
+    Step::Advance,
+    Step::Up(Handed::Open(0)),
+    Step::Up(Handed::End(0)),
+];
+
+#[test]
+fn an_end_is_known_by_parity(rt: HostRuntime) -> Result<(), Fail> {
+    let steps = END_BY_PARITY;
+    play(&rt, rt.alloc(), SIZES, &steps)?;
+    Ok(())
+}
+
+/// The window begins within a stream: what is there next is handed up, and where the next segment is in a block before it and is not
+/// there, the rest is lost.
+const CUT_OFF: [Step; 21] = [
+    Step::Fit(0, (0, 64, 3, 5), 32, Fit::Taken),
+    Step::Segment((0, 0, 0), (1, 0, 7), 9, Put::Kept),
+    Step::Segment((0, 0, 1), (1, 1, 8), 9, Put::Kept),
+    Step::Segment((0, 0, 2), (1, 2, 9), 9, Put::Kept),
+    Step::Segment((0, 1, 1), (1, 4, 9), 9, Put::Kept),
+    Step::LoseBefore(0, 1),
+    Step::Up(Handed::Open(0)),
+    Step::Up(Handed::Segment(0, 0, 1, 7)),
+    Step::Up(Handed::Segment(0, 1, 1, 8)),
+    Step::Up(Handed::Segment(0, 2, 1, 9)),
+    Step::Up(Handed::Nothing),
+    Step::HandUp((0, 1, 0)),
+    Step::HasLost(false),
+    Step::LoseBefore(0, 1),
+    Step::HandUp((0, 1, 0)),
+    Step::LoseBefore(0, 2),
+    Step::Up(Handed::Lost(0)),
+    Step::Up(Handed::Nothing),
+    Step::HandUp((1, 0, 0)),
+    Step::HasLost(true),
+    Step::Segment((0, 1, 0), (1, 3, 9), 9, Put::Had),
+];
+
+#[test]
+fn the_rest_of_a_stream_is_lost_where_its_next_block_went(rt: HostRuntime) -> Result<(), Fail> {
+    let steps = CUT_OFF;
+    play(&rt, rt.alloc(), SIZES, &steps)?;
+    Ok(())
+}
+
+/// The window begins behind streams: one is whole to its end, one is not; an object that was never seen is lost, and at the window
+/// itself only where blocks of it went, as only a stream's do.
+const LOST: [Step; 18] = [
+    Step::Fit(0, (0, 64, 3, 5), 32, Fit::Taken),
+    Step::Segment((0, 0, 1), (0, 1, 0), 8, Put::Kept),
+    Step::Segment((0, 0, 0), (1, 0, 7), 9, Put::Kept),
+    Step::Fit(1, (0, 64, 3, 5), 32, Fit::Taken),
+    Step::Segment((1, 0, 0), (1, 0, 8), 9, Put::Kept),
+    Step::LoseBefore(3, 0),
+    Step::Up(Handed::Open(0)),
+    Step::Up(Handed::Segment(0, 0, 1, 7)),
+    Step::Up(Handed::End(0)),
+    Step::Up(Handed::Open(1)),
+    Step::Up(Handed::Segment(1, 0, 1, 8)),
+    Step::Up(Handed::Lost(1)),
+    Step::Up(Handed::Lost(2)),
+    Step::Up(Handed::Nothing),
+    Step::HandUp((3, 0, 0)),
+    Step::LoseBefore(3, 1),
+    Step::Up(Handed::Lost(3)),
+    Step::HandUp((4, 0, 0)),
+];
+
+#[test]
+fn what_is_there_of_streams_before_the_window_is_handed_up(rt: HostRuntime) -> Result<(), Fail> {
+    let steps = LOST;
+    play(&rt, rt.alloc(), SIZES, &steps)?;
+    Ok(())
+}
+
+/// A stream that says that it has an info waits for it, at a squelch too, where its next segment is held.
+const WITH_INFO: [Step; 11] = [
+    Step::Fit(0, (0, 64, 3, 5), 36, Fit::Taken),
+    Step::Segment((0, 0, 0), (1, 0, 7), 9, Put::Kept),
+    Step::Advance,
+    Step::LoseBefore(0, 1),
+    Step::Up(Handed::Nothing),
+    Step::HandUp((0, 0, 0)),
+    Step::HasInfo(0, false),
+    Step::Info(0, 3, Put::Kept),
+    Step::Advance,
+    Step::Up(Handed::Open(0)),
+    Step::Up(Handed::Segment(0, 0, 1, 7)),
+];
+
+#[test]
+fn a_stream_waits_for_its_info(rt: HostRuntime) -> Result<(), Fail> {
+    let steps = WITH_INFO;
+    play(&rt, rt.alloc(), SIZES, &steps)?;
+    Ok(())
+}
+
+/// What is told of a stream: its plan has all blocks that 24 bits name, and the greatest block seen is kept from the plan on. A plan
+/// that is taken back leaves nothing.
+const TOLD: [Step; 20] = [
+    Step::See(0, 9),
+    Step::Seen(0, None),
+    Step::TakeBack(0, (0, 64, 3, 5), 32),
+    Step::Flags(0, None),
+    Step::Fit(0, (0, 64, 3, 5), 32, Fit::Taken),
+    Step::Seen(0, Some(0)),
+    Step::Blocks(0, Some(16_777_216)),
+    Step::See(0, 3),
+    Step::See(0, 1),
+    Step::Seen(0, Some(3)),
+    Step::Fit(1, (64, 64, 3, 5), 0, Fit::Taken),
+    Step::See(1, 3),
+    Step::Seen(1, None),
+    Step::Segment((0, 2, 1), (0, 0, 0), 8, Put::Kept),
+    Step::Holds((0, 2, 1), true),
+    Step::Holds((0, 2, 0), false),
+    Step::Missing(0, 2, Missing::Short { wanted: 2 }),
+    Step::Missing(0, 9, Missing::Short { wanted: 3 }),
+    Step::FirstShort(0, Some(0)),
+    Step::End(0, Some((2, 1))),
+];
+
+#[test]
+fn what_is_held_of_a_stream_is_told(rt: HostRuntime) -> Result<(), Fail> {
+    let steps = TOLD;
+    play(&rt, rt.alloc(), SIZES, &steps)?;
     Ok(())
 }

@@ -1,7 +1,6 @@
 use Rattle.std.proofs.Common.{◌-◌, refl, sym, ◌∙◌, subst, arith, Option, Some}
 use Rattle.norm_order.specs.declared.up.Up.{Up}
-use Rattle.rx_hold.specs.EntryHold.{EntryHold, StandsFor}
-use Rattle.rx_hold.specs.HoldSound.{at_place}
+use Rattle.rx_hold.specs.EntryHold.{EntryHold, StandsFor, at_place}
 use Rattle.rx_entries.specs.Handing.{HasTold, told_ups, told_with}
 use Rattle.rx_entries.specs.declared.front.Front.{Front}
 use Rattle.rx_entries.proofs.ChangeLemmas.{IsChanged}

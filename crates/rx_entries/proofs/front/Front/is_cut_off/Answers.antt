@@ -1,7 +1,7 @@
 use Rattle.std.proofs.Common.{sym, ap, ◌∙◌}
 use Rattle.std.specs.Prelude.{◌&&◌}
 use Rattle.std.proofs.lemmas.Bool.{eq-eqb}
-use Rattle.rx_hold.specs.HoldSound.{at_place}
+use Rattle.rx_hold.specs.EntryHold.{at_place}
 use Rattle.rx_entries.specs.Handing.{cut_by_place}
 use Rattle.rx_entries.proofs.LoseLemmas.{cut_off_is}
 use Rattle.rx_entries.proofs.front.Front.is_cut_off.Goals as goal

@@ -4,8 +4,7 @@ use Rattle.fec_plan.specs.Partition.{blocks}
 use Rattle.fec_plan.specs.Points.{position}
 use Rattle.norm_receive_rules.specs.Plans.{cut_of_plan}
 use Rattle.rx_hold.specs.EntryState.{EntryState, entry_of}
-use Rattle.rx_hold.proofs.FirstLemmas.{not_earlier}
-use Rattle.rx_hold.proofs.ReadLemmas.{short_word}
+use Rattle.rx_hold.proofs.FirstLemmas.{not_earlier, short_word}
 use Rattle.rx_entries.specs.FrontSound.{point_of_front}
 use Rattle.rx_entries.proofs.ReadLemmas.{looked_up, reached_block, read_missing, read_unseen}
 use Rattle.rx_entries.proofs.front.Front.missing.Goals as goal

@@ -1,4 +1,5 @@
-use Rattle.std.proofs.Common.{◌+◌, ◌<◌, refl, ap, arith, length}
+use Rattle.std.proofs.Common.{◌+◌, ◌<◌, ◌∙◌, refl, ap, arith, length}
+use Rattle.rx_entries.specs.Seats.{counted}
 use Rattle.rx_entries.proofs.ChangeLemmas.{on_err}
 use Rattle.rx_entries.proofs.PutLemmas.{may_offer, offered_sound, offered_stands, offered_word, refused_sound, refused_view}
 use Rattle.rx_entries.proofs.front.Front.offer.Goals as goal
@@ -21,7 +22,8 @@ pub returns-clause-sound : goal.returns-clause-sound
 returns-clause-sound c =
     offered_sound c.args.self.now _ c.args.place c.args.id.block c.args.id.symbol c.args.payload.now c.in_ok-word.word c.requires.front
     (record { profile = refl; point = refl; ring_room = c.offer_at.ensures.capacity; taken = refl; ups = refl; lost = refl }) c.requires.room
-    (omega (arith, c.requires.place, c.requires.front.places)) c.in_ok-word.ensures.items c.in_ok-word.ensures.word (ap (λ n. c.args.self.now.waiting + n) c.counted.ensures)
+    (omega (arith, c.requires.place, c.requires.front.places)) c.in_ok-word.ensures.items
+    (ap (λ n. c.args.self.now.waiting + n) (c.counted.ensures ∙ ap (λ stream. counted stream c.in_ok-word.word) c.is_stream_at-is_stream.ensures))
 
 pub returns-clause-state : goal.returns-clause-state
 returns-clause-state c = λ s stands.

@@ -4,8 +4,7 @@ use Rattle.norm_receive_rules.specs.Fitting.{fit_of, with_plan}
 use Rattle.norm_receive_rules.specs.Holding.{new_plan}
 use Rattle.norm_receive_rules.specs.declared.words.Fit.TheVariants as fit
 use Rattle.rx_hold.specs.EntryState.{entry_of}
-use Rattle.rx_hold.specs.EntryHold.{EntryHold, StandsFor}
-use Rattle.rx_hold.specs.HoldSound.{at_place}
+use Rattle.rx_hold.specs.EntryHold.{EntryHold, StandsFor, at_place}
 use Rattle.rx_entries.specs.Fits.{empty_entry}
 use Rattle.rx_entries.specs.declared.ring.Seat.{Seat}
 use Rattle.rx_entries.proofs.TakeLemmas.{taken_stands}

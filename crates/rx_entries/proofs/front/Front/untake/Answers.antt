@@ -1,5 +1,5 @@
 use Rattle.std.proofs.Common.{◌≡◌, ◌+◌, ◌-◌, refl, ap, ◌∙◌, arith}
-use Rattle.rx_hold.specs.HoldSound.{at_place}
+use Rattle.rx_hold.specs.EntryHold.{at_place}
 use Rattle.rx_entries.specs.Seats.{octets_at, waiting_at}
 use Rattle.rx_entries.specs.declared.front.Front.{Front}
 use Rattle.rx_entries.proofs.SeatLemmas.{within}

@@ -1,0 +1,535 @@
+//! A receiver that is given datagrams, octet for octet: what it hands up, acknowledges and asks for.
+
+use crate::pair::profile_of;
+use crate::pair_tests::octets_of;
+use norm_base::{Datagram, Key, Memory, Moment, NodeId, Octets, Sent};
+use norm_order::Up;
+use norm_receiver::Receiver;
+use std::alloc::Global;
+use std::process::Abort;
+use std::test::Fail;
+
+/// A datagram: a text that spells octets in hexadecimal, and so many octets behind them, each of them this one.
+type Spelled = (&'static str, (usize, u8));
+
+/// What is handed up, with its index; of octets how many there are and the first of them, and of a segment where it begins.
+#[derive(Clone, Copy, PartialEq, Eq)]
+enum Handed {
+    Object(u32, usize, u8),
+    Open(u32),
+    Segment(u32, u32, usize, u8),
+    End(u32),
+    Lost(u32),
+    Nothing,
+}
+
+/// A call of a receiver, with what it has to answer.
+#[derive(Clone, Copy)]
+enum Call {
+    /// A datagram comes at this moment.
+    Deliver(u64, Spelled),
+    /// It comes three times.
+    Thrice(u64, Spelled),
+    /// Each front of it comes that has fewer octets than so many, from none on.
+    Fronts(u64, &'static str, usize),
+    Up(Handed),
+    /// What is sent at this moment, spelled in hexadecimal; `""` where nothing is.
+    Tick(u64, &'static str),
+    Instance(Option<u16>),
+    HasLost(bool),
+}
+
+/// A receiver, and what it wrote last.
+#[derive(Drop)]
+struct Given {
+    receiver: Receiver,
+    out: Datagram,
+}
+
+/// The octets of a datagram.
+fn datagram_of(alloc: Global, (text, behind): Spelled) -> Result<Octets, Fail> {
+    let Some(front) = octets_of(alloc, text)? else {
+        return Ok(Octets::of(Vec::new(alloc)));
+    };
+    let mut octets = front.into_inner();
+    for _ in 0..behind.0 {
+        octets.push(behind.1)?;
+    }
+    Ok(Octets::of(octets))
+}
+
+/// How many octets there are, and the first of them.
+fn front_of(octets: &Octets) -> (usize, u8) {
+    let bytes = octets.bytes();
+    (bytes.len(), bytes.first().copied().unwrap_or(0))
+}
+
+/// A hand-up.
+fn handed_of(up: &Up) -> Handed {
+    match up {
+        Up::Object { index, bytes, .. } => {
+            let (len, first) = front_of(bytes);
+            Handed::Object(*index, len, first)
+        }
+        Up::StreamOpen { index } => Handed::Open(*index),
+        Up::StreamBytes {
+            index,
+            offset,
+            bytes,
+        } => {
+            let (len, first) = front_of(bytes);
+            Handed::Segment(*index, *offset, len, first)
+        }
+        Up::StreamEnd { index } => Handed::End(*index),
+        Up::Lost { index } => Handed::Lost(*index),
+    }
+}
+
+impl Given {
+    /// A datagram comes.
+    fn deliver(&mut self, bytes: &[u8], now: u64) -> Result<(), Memory> {
+        self.receiver.deliver(bytes, Moment(now), 0)
+    }
+
+    /// Each front of a datagram comes that has fewer octets than so many.
+    fn deliver_fronts(&mut self, bytes: &[u8], now: u64, below: usize) -> Result<(), Memory> {
+        for count in 0..below.min(bytes.len()) {
+            self.deliver(&bytes[..count], now)?;
+        }
+        Ok(())
+    }
+
+    /// The next hand-up.
+    fn up(&mut self) -> Handed {
+        match self.receiver.take_up() {
+            Some(up) => handed_of(&up),
+            None => Handed::Nothing,
+        }
+    }
+
+    /// Whether these octets are sent at this moment, or nothing where there are none; all has to be taken before.
+    fn sends(&mut self, now: u64, wanted: &[u8]) -> bool {
+        if self.receiver.ups() > 0 {
+            return false;
+        }
+        match self.receiver.tick(Moment(now), &mut self.out) {
+            Sent::Datagram => self.out.bytes() == wanted,
+            _ => wanted.is_empty(),
+        }
+    }
+
+    /// A datagram comes so often.
+    fn takes(
+        &mut self,
+        alloc: Global,
+        now: u64,
+        spelled: Spelled,
+        times: u32,
+    ) -> Result<bool, Fail> {
+        let octets = datagram_of(alloc, spelled)?;
+        for _ in 0..times {
+            self.deliver(octets.bytes(), now)?;
+        }
+        Ok(!octets.bytes().is_empty())
+    }
+
+    /// Fronts of a datagram come.
+    fn takes_fronts(
+        &mut self,
+        alloc: Global,
+        now: u64,
+        text: &'static str,
+        below: usize,
+    ) -> Result<bool, Fail> {
+        let octets = datagram_of(alloc, (text, (0, 0)))?;
+        self.deliver_fronts(octets.bytes(), now, below)?;
+        Ok(below <= octets.bytes().len())
+    }
+
+    /// Whether this is what is sent.
+    fn is_sent(&mut self, alloc: Global, now: u64, text: &'static str) -> Result<bool, Fail> {
+        let octets = datagram_of(alloc, (text, (0, 0)))?;
+        Ok(self.sends(now, octets.bytes()))
+    }
+
+    /// Makes a call, and says whether it was answered so.
+    fn does(&mut self, alloc: Global, call: Call) -> Result<bool, Fail> {
+        match call {
+            Call::Deliver(now, spelled) => self.takes(alloc, now, spelled, 1),
+            Call::Thrice(now, spelled) => self.takes(alloc, now, spelled, 3),
+            Call::Fronts(now, text, below) => self.takes_fronts(alloc, now, text, below),
+            Call::Up(wanted) => Ok(self.up() == wanted),
+            Call::Tick(now, text) => self.is_sent(alloc, now, text),
+            Call::Instance(wanted) => Ok(self.receiver.instance().map(|id| id.0) == wanted),
+            Call::HasLost(wanted) => Ok(self.receiver.has_lost() == wanted),
+        }
+    }
+}
+
+/// Makes calls in their order, of the receiver with this node id.
+fn plays(
+    rt: &impl Abort,
+    alloc: Global,
+    keys: &[(Key, u32)],
+    node: u32,
+    calls: &[Call],
+) -> Result<(), Fail> {
+    let (Some(profile), Some(node)) = (profile_of(keys), NodeId::of(node)) else {
+        panic!(rt; "no profile");
+    };
+    let receiver = Receiver::new(alloc, &profile, node)?;
+    let out = Datagram::new(alloc)?;
+    let mut given = Given { receiver, out };
+    for (place, call) in calls.iter().enumerate() {
+        let is_so = given.does(alloc, *call)?;
+        assert!(rt; is_so, "call {place}");
+    }
+    Ok(())
+}
+
+/// An object of five octets; a flush that asks node 2 whether all through it was handed up, and the answer that it was.
+const HELLO: Spelled = (
+    "12080000 00000001 00074041 00050000 00000000 40030000 00000005 00400406",
+    (5, 0x68),
+);
+
+const FLUSH: &str = "13050001 00000001 00074041 01050000 00000000 00000002";
+
+const ANSWER: &str = "15060000 00000002 00000001 00070200 00000000 00000000 05000000 00000000";
+
+#[test]
+fn an_object_is_handed_up_and_acknowledged(rt: HostRuntime) -> Result<(), Fail> {
+    let calls = [
+        Call::Instance(None),
+        Call::Deliver(1000, HELLO),
+        Call::Instance(Some(7)),
+        Call::Up(Handed::Object(0, 5, 0x68)),
+        Call::Up(Handed::Nothing),
+        Call::Tick(1000, ""),
+        Call::Deliver(2000, (FLUSH, (0, 0))),
+        Call::Tick(2000, ANSWER),
+        Call::Tick(2000, ""),
+        Call::HasLost(false),
+    ];
+    plays(&rt, rt.alloc(), &[], 2, &calls)
+}
+
+/// A flush of which octets are missing is refused, or asks nobody; and begins no instance before its own octets are there.
+#[test]
+fn a_front_of_a_flush_asks_nobody(rt: HostRuntime) -> Result<(), Fail> {
+    let calls = [
+        Call::Fronts(1000, FLUSH, 20),
+        Call::Instance(None),
+        Call::Deliver(1000, HELLO),
+        Call::Up(Handed::Object(0, 5, 0x68)),
+        Call::Fronts(2000, FLUSH, 24),
+        Call::Up(Handed::Nothing),
+        Call::Tick(2000, ""),
+        Call::Deliver(2000, (FLUSH, (0, 0))),
+        Call::Tick(2000, ANSWER),
+    ];
+    plays(&rt, rt.alloc(), &[], 2, &calls)
+}
+
+/// Two symbols of parity of a block of two, of which no source symbol came.
+#[test]
+fn an_object_is_handed_up_from_parity_alone(rt: HostRuntime) -> Result<(), Fail> {
+    let keys = [(Key::B, 2), (Key::MaxN, 4), (Key::Auto, 2)];
+    let calls = [
+        Call::Deliver(
+            3000,
+            (
+                "12080002 00000001 00074041 00050000 00000002 40030000 00000080 00400204",
+                (64, 4),
+            ),
+        ),
+        Call::Up(Handed::Nothing),
+        Call::Deliver(
+            4000,
+            (
+                "12080003 00000001 00074041 00050000 00000003 40030000 00000080 00400204",
+                (64, 8),
+            ),
+        ),
+        Call::Up(Handed::Object(0, 128, 1)),
+        Call::Up(Handed::Nothing),
+    ];
+    plays(&rt, rt.alloc(), &keys, 2, &calls)
+}
+
+/// The four source symbols of an object of 256 octets, one of parity, and the last one sent anew.
+const FIRST: Spelled = (
+    "12080000 00000001 00074001 00050000 00000000 40030000 00000100 00400406",
+    (64, 1),
+);
+
+const SECOND: Spelled = (
+    "12080001 00000001 00074001 00050000 00000001 40030000 00000100 00400406",
+    (64, 2),
+);
+
+const THIRD: Spelled = (
+    "12080002 00000001 00074001 00050000 00000002 40030000 00000100 00400406",
+    (64, 4),
+);
+
+const FOURTH: Spelled = (
+    "12080003 00000001 00074001 00050000 00000003 40030000 00000100 00400406",
+    (64, 8),
+);
+
+const PARITY: Spelled = (
+    "12080005 00000001 00074001 01050000 00000004 40030000 00000100 00400406",
+    (64, 0x10),
+);
+
+const FLUSH_OF_TWO: &str = "13050004 00000001 00074001 01050000 00000003 00000002 00000003";
+
+const ASKS_FOR_ONE: &str =
+    "14060000 00000002 00000001 00070000 00000000 00000000 03010008 05000000 00000001";
+
+const ASKS_FOR_THREE: &str =
+    "14060000 00000002 00000001 00070000 00000000 00000000 03010008 05000000 00000003";
+
+/// One symbol is lost: the flush makes the node ask for one more of its block, and no more is asked for before the hold-off ends,
+/// two round trips of 10,000 later. A flush behind the repair is acknowledged.
+#[test]
+fn a_lost_symbol_is_asked_for_once(rt: HostRuntime) -> Result<(), Fail> {
+    let calls = [
+        Call::Deliver(1000, FIRST),
+        Call::Deliver(3000, THIRD),
+        Call::Deliver(4000, FOURTH),
+        Call::Tick(4000, ""),
+        Call::Deliver(5000, (FLUSH_OF_TWO, (0, 0))),
+        Call::Tick(5000, ASKS_FOR_ONE),
+        Call::Deliver(6000, (FLUSH_OF_TWO, (0, 0))),
+        Call::Tick(6000, ""),
+        Call::Deliver(16_000, PARITY),
+        Call::Up(Handed::Object(0, 256, 1)),
+        Call::Up(Handed::Nothing),
+        Call::Tick(16_000, ""),
+        Call::Deliver(25_000, (FLUSH_OF_TWO, (0, 0))),
+        Call::Tick(
+            25_000,
+            "15060001 00000002 00000001 00070200 00000000 00000000 05000000 00000003",
+        ),
+    ];
+    plays(
+        &rt,
+        rt.alloc(),
+        &[(Key::Receivers, 2), (Key::K, 0)],
+        2,
+        &calls,
+    )
+}
+
+/// As the other node asks for as much, nothing is sent; each front of its datagram changes nothing.
+#[test]
+fn what_another_node_asks_for_is_not_asked_again(rt: HostRuntime) -> Result<(), Fail> {
+    let keys = [(Key::Receivers, 2), (Key::K, 0)];
+    let calls = [
+        Call::Deliver(1000, FIRST),
+        Call::Deliver(2000, SECOND),
+        Call::Deliver(4000, FOURTH),
+        Call::Deliver(5000, (FLUSH_OF_TWO, (0, 0))),
+        Call::Deliver(5000, (ASKS_FOR_ONE, (0, 0))),
+        Call::Tick(5000, ""),
+    ];
+    plays(&rt, rt.alloc(), &keys, 3, &calls)?;
+    let calls = [
+        Call::Deliver(1000, FIRST),
+        Call::Deliver(2000, SECOND),
+        Call::Deliver(4000, FOURTH),
+        Call::Deliver(5000, (FLUSH_OF_TWO, (0, 0))),
+        Call::Fronts(5000, ASKS_FOR_ONE, 36),
+        Call::Tick(
+            5000,
+            "14060000 00000003 00000001 00070000 00000000 00000000 03010008 05000000 00000001",
+        ),
+    ];
+    plays(&rt, rt.alloc(), &keys, 3, &calls)
+}
+
+/// Of a block that lacks three, three are asked for, whichever they are; and they may come in any order.
+#[test]
+fn three_lost_symbols_are_asked_for_by_their_number(rt: HostRuntime) -> Result<(), Fail> {
+    let calls = [
+        Call::Deliver(1000, FIRST),
+        Call::Deliver(
+            5000,
+            (
+                "13050004 00000001 00074001 01050000 00000003 00000002",
+                (0, 0),
+            ),
+        ),
+        Call::Tick(5000, ASKS_FOR_THREE),
+        Call::Deliver(16_000, FOURTH),
+        Call::Deliver(17_000, THIRD),
+        Call::Up(Handed::Nothing),
+        Call::Deliver(18_000, SECOND),
+        Call::Up(Handed::Object(0, 256, 1)),
+    ];
+    plays(&rt, rt.alloc(), &[(Key::K, 0)], 2, &calls)
+}
+
+/// Objects of one octet, the first two of an instance.
+const OBJECT_0: Spelled = (
+    "12080000 00000001 00074041 00050000 00000000 40030000 00000001 00400406",
+    (1, 1),
+);
+
+const OBJECT_1: Spelled = (
+    "12080001 00000001 00074041 00050001 00000000 40030000 00000001 00400406",
+    (1, 2),
+);
+
+#[test]
+fn objects_that_come_thrice_in_disorder_are_handed_up_once(rt: HostRuntime) -> Result<(), Fail> {
+    let calls = [
+        Call::Thrice(1000, OBJECT_1),
+        Call::Up(Handed::Nothing),
+        Call::Deliver(1000, OBJECT_0),
+        Call::Up(Handed::Object(0, 1, 1)),
+        Call::Up(Handed::Object(1, 1, 2)),
+        Call::Thrice(1000, OBJECT_0),
+        Call::Up(Handed::Nothing),
+    ];
+    plays(&rt, rt.alloc(), &[], 2, &calls)
+}
+
+/// The first object never came: it is asked for whole, and as the sender says that it went, it is lost, and no flush is acknowledged.
+#[test]
+fn what_the_sender_dropped_is_lost(rt: HostRuntime) -> Result<(), Fail> {
+    let calls = [
+        Call::Deliver(
+            2000,
+            (
+                "12080001 00000001 00074001 00050001 00000000 40030000 00000001 00400406",
+                (1, 2),
+            ),
+        ),
+        Call::Tick(
+            2000,
+            "14060000 00000002 00000001 00070000 00000000 00000000 010c0008 05000000 00000000",
+        ),
+        Call::Deliver(
+            13_000,
+            ("13050003 00000001 00074001 03050001 00000000", (0, 0)),
+        ),
+        Call::Up(Handed::Lost(0)),
+        Call::Up(Handed::Object(1, 1, 2)),
+        Call::Up(Handed::Nothing),
+        Call::HasLost(true),
+        Call::Deliver(
+            14_000,
+            (
+                "13050004 00000001 00074001 01050001 00000000 00000002",
+                (0, 0),
+            ),
+        ),
+        Call::Tick(14_000, ""),
+    ];
+    plays(&rt, rt.alloc(), &[(Key::K, 0)], 2, &calls)
+}
+
+/// An object of one octet in instance 8.
+const OF_EIGHT: Spelled = (
+    "12080001 00000001 00084041 00050000 00000000 40030000 00000001 00400406",
+    (1, 2),
+);
+
+/// A later instance takes the place of an earlier one, whose hand-ups are forgotten; a datagram of an earlier one, also of one that was
+/// never entered, changes nothing, and neither does one of another sender.
+#[test]
+fn a_datagram_of_an_earlier_instance_changes_nothing(rt: HostRuntime) -> Result<(), Fail> {
+    let calls = [
+        Call::Deliver(1000, OBJECT_0),
+        Call::Deliver(2000, OF_EIGHT),
+        Call::Instance(Some(8)),
+        Call::Up(Handed::Object(0, 1, 2)),
+        Call::Up(Handed::Nothing),
+        Call::Deliver(3000, OBJECT_1),
+        Call::Deliver(3000, (FLUSH, (0, 0))),
+        Call::Instance(Some(8)),
+        Call::Up(Handed::Nothing),
+        Call::Tick(3000, ""),
+    ];
+    plays(&rt, rt.alloc(), &[], 2, &calls)?;
+    let calls = [
+        Call::Deliver(1000, OF_EIGHT),
+        Call::Deliver(2000, OBJECT_0),
+        Call::Instance(Some(8)),
+        Call::Up(Handed::Object(0, 1, 2)),
+        Call::Up(Handed::Nothing),
+        Call::Deliver(
+            3000,
+            (
+                "12080001 00000003 00094041 00050000 00000000 40030000 00000001 00400406",
+                (1, 3),
+            ),
+        ),
+        Call::Instance(Some(8)),
+        Call::Up(Handed::Nothing),
+    ];
+    plays(&rt, rt.alloc(), &[], 2, &calls)
+}
+
+/// A stream of 130 octets: segments of 1, 64, 64 and 1 octets, and its end.
+const STREAM: [Spelled; 5] = [
+    (
+        "12080000 00000001 00074041 20050000 00000000 40030000 00001000 00400406 00010000 00000000",
+        (1, 0x41),
+    ),
+    (
+        "12080001 00000001 00074041 20050000 00000001 40030000 00001000 00400406 00400000 00000001",
+        (64, 0x42),
+    ),
+    (
+        "12080002 00000001 00074041 20050000 00000002 40030000 00001000 00400406 00400000 00000041",
+        (64, 0x43),
+    ),
+    (
+        "12080003 00000001 00074041 20050000 00000003 40030000 00001000 00400406 00010000 00000081",
+        (1, 0x43),
+    ),
+    (
+        "12080004 00000001 00074041 20050000 00000100 40030000 00001000 00400406 00000000 00000082",
+        (0, 0),
+    ),
+];
+
+#[test]
+fn a_stream_is_handed_up_segment_by_segment(rt: HostRuntime) -> Result<(), Fail> {
+    let calls = [
+        Call::Deliver(3000, STREAM[0]),
+        Call::Up(Handed::Open(0)),
+        Call::Up(Handed::Segment(0, 0, 1, 0x41)),
+        Call::Up(Handed::Nothing),
+        Call::Deliver(4000, (FLUSH, (0, 0))),
+        Call::Tick(4000, ANSWER),
+        Call::Deliver(5000, STREAM[2]),
+        Call::Deliver(5000, STREAM[4]),
+        Call::Up(Handed::Nothing),
+        Call::Thrice(5000, STREAM[1]),
+        Call::Up(Handed::Segment(0, 1, 64, 0x42)),
+        Call::Up(Handed::Segment(0, 65, 64, 0x43)),
+        Call::Up(Handed::Nothing),
+        Call::Deliver(5000, STREAM[3]),
+        Call::Up(Handed::Segment(0, 129, 1, 0x43)),
+        Call::Up(Handed::End(0)),
+        Call::Up(Handed::Nothing),
+        Call::Deliver(
+            29_000,
+            (
+                "13050005 00000001 00074041 01050000 00000100 00000002",
+                (0, 0),
+            ),
+        ),
+        Call::Tick(
+            29_000,
+            "15060001 00000002 00000001 00070200 00000000 00000000 05000000 00000100",
+        ),
+        Call::HasLost(false),
+    ];
+    plays(&rt, rt.alloc(), &[], 2, &calls)
+}

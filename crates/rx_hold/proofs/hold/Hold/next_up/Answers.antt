@@ -1,8 +1,0 @@
-use Rattle.std.proofs.Common.{ap}
-use Rattle.rx_hold.specs.HoldState.{HoldState}
-use Rattle.rx_hold.proofs.SettledHolds.{taken_settled}
-use Rattle.rx_hold.proofs.hold.Hold.next_up.Goals as goal
-
-pub returns-clause-settled : goal.returns-clause-settled
-returns-clause-settled c =
-    taken_settled c.args.self.now _ (ap (λ (h : HoldState). record h { ups = c.pop_front.new.self.items }) c.self.view_is)
