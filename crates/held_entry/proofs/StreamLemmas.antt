@@ -1,18 +1,15 @@
 -- A stream of the window, in the words of the rules.
-use Rattle.std.proofs.Common.{◌≡◌, ℕ, ◌+◌, ◌-◌, ◌<◌, ◌≤◌, ◌++◌, inl, inr, Bool, true, false, refl, sym, ap, ◌∙◌, subst, arith, Some, None, List, [], length, length-append}
+use Rattle.std.proofs.Common.{◌≡◌, ℕ, ◌+◌, ◌-◌, ◌<◌, ◌≤◌, inl, inr, Bool, true, false, refl, ap, ◌∙◌, subst, arith, Some, None, List}
 use Rattle.std.specs.Prelude.{nat_le, ◌&&◌}
 use Rattle.std.specs.Int.{div_ceil}
 use Rattle.std.proofs.lemmas.Bool.{le-ltb}
-use Rattle.std.proofs.lemmas.List.{append-nil}
 use Rattle.norm_base.specs.Settings.{Settings}
 use Rattle.fec_plan.specs.Partition.{Cut, IsSound, source_symbols, encoding_symbols}
 use Rattle.fec_plan.specs.Points.{Position, position}
 use Rattle.norm_order.specs.Entries.{Part, Stream}
 use Rattle.norm_order.specs.Shapes.{shape_of, encoded_in, closed_in, closed_blocks, is_full}
-use Rattle.norm_order.specs.Symbols.{symbol_octets}
 use Rattle.norm_send_rules.specs.Sending.{sent_once}
-use Rattle.stream_buffer.specs.StreamState.{StreamState, StandsFor, closed_segments, is_there as is_closed, octets_of}
-use Rattle.held_object.proofs.HeldLemmas.{taken, refused}
+use Rattle.stream_buffer.specs.StreamState.{StreamState, StandsFor, closed_segments}
 use Rattle.held_stream.proofs.KnowsLemmas.{closed_of, counted}
 use Rattle.held_entry.specs.Asked.{AnswersKept, IsNext}
 
@@ -75,18 +72,3 @@ stream_past p parts s block symbol old new st sound past same = (
     go : (b : Bool) → (elim b as (λ v. ℕ) [ true ↦ encoding_symbols (shape_of p (Stream parts)).cut block | false ↦ closed_in (shape_of p (Stream parts)) block ]) ≤ symbol
     go true = most
     go false = omega (arith, fit, most)
-
-pub stream_none : (p : Settings) (parts : List Part) (first block symbol : ℕ) (old new : List ℕ) → false ≡ is_closed p parts first block symbol
-    → new ≡ old ++ octets_of p parts first block symbol → AnswersKept p (Stream parts) first block symbol old new None
-stream_none p parts first block symbol old new none is = (
-  sym none,
-  is ∙ ap (λ xs. old ++ xs) (refused (is_closed p parts first block symbol) (symbol_octets p (Stream parts) block symbol) [] (sym none)) ∙ append-nil old,
-)
-
-pub stream_some : (p : Settings) (parts : List Part) (first block symbol : ℕ) (old new : List ℕ) (n : ℕ) → true ≡ is_closed p parts first block symbol
-    → new ≡ old ++ octets_of p parts first block symbol → n ≡ length new - length old → AnswersKept p (Stream parts) first block symbol old new (Some n)
-stream_some p parts first block symbol old new n there is n-is =
-    let octets : octets_of p parts first block symbol ≡ symbol_octets p (Stream parts) block symbol =
-    taken (is_closed p parts first block symbol) (symbol_octets p (Stream parts) block symbol) [] (sym there) in
-    let appended : new ≡ old ++ symbol_octets p (Stream parts) block symbol = is ∙ ap (λ xs. old ++ xs) octets in
-    (sym there, appended, omega (arith, n-is, ap length appended, length-append old (symbol_octets p (Stream parts) block symbol)))

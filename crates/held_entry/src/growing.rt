@@ -1,6 +1,6 @@
 //! How an open stream of the window goes on: what is written to it, its cut and its end.
 
-ghost use Rattle.std.specs.Prelude.{ℕ, ◌≡◌, ◌≤◌, ◌++◌, List, [], ◌∷◌, OnErr, length};
+ghost use Rattle.std.specs.Prelude.{ℕ, ◌≡◌, ◌≤◌, List, [], ◌∷◌, OnErr, length};
 ghost use Rattle.norm_base.specs.declared.node.Origin.{Origin};
 ghost use Rattle.fec_plan.specs.Points.{Position as Place, reached_by};
 ghost use Rattle.norm_order.specs.Entries.{Part, Write, End, Object as Entered, Stream};

@@ -4,7 +4,6 @@ ghost use Rattle.std.specs.Prelude.{ℕ, ◌≡◌, ◌+◌, ◌<◌, ◌≤◌,
 ghost use Rattle.std.specs.List.{list_all};
 ghost use Rattle.norm_base.specs.Sizes.{datagram_room};
 ghost use Rattle.norm_base.specs.Settings.{Settings};
-ghost use Rattle.norm_base.specs.declared.kinds.Kind.{Kind as AnyKind};
 ghost use Rattle.fec_plan.specs.Partition.{IsSound, all_symbols, blocks, cut_of};
 ghost use Rattle.held_object.specs.Held.{octets_of};
 ghost use Rattle.norm_order.specs.Entries.{Whole};

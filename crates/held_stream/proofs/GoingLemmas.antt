@@ -49,13 +49,6 @@ block_sent p index parts sent h block knows low full =
     long : h.buffer.first * p.b + length h.buffer.rows ≡ closed_of p parts
     long = omega (arith, counted p parts h.buffer knows.buffer, first_by p parts h.buffer knows.buffer)
 
-fails_first : (x y : Bool) → ((false && x) && y) ≡ false
-fails_first x y = refl
-
-fails_last : (x y : Bool) → y ≡ false → (x && y) ≡ false
-fails_last true y e = e
-fails_last false y e = refl
-
 passes_last : (x y : Bool) → y ≡ true → (x && y) ≡ x
 passes_last true y e = e
 passes_last false y e = refl
@@ -65,12 +58,6 @@ pub stays_open : (p : Settings) (s : SenderState) (index : ℕ) (parts : List Pa
     → block_may_go p s index (shape_of p (Stream parts)) block ≡ false
 stays_open p s index parts block some lt =
     ap (λ b. (b && all_sent s (symbols_of index p.b block)) && is_released p s (Some (position index block (p.b - 1)))) (not_full p parts block some lt)
-
--- nor one that is not released
-pub stays_held : (p : Settings) (s : SenderState) (index : ℕ) (parts : List Part) (block : ℕ) → is_released p s (Some (position index block (p.b - 1))) ≡ false
-    → block_may_go p s index (shape_of p (Stream parts)) block ≡ false
-stays_held p s index parts block held =
-    fails_last (is_full (shape_of p (Stream parts)) block && all_sent s (symbols_of index p.b block)) (is_released p s (Some (position index block (p.b - 1)))) held
 
 -- and another one goes where its segments were sent
 pub goes_sent : (p : Settings) (s : SenderState) (index : ℕ) (parts : List Part) (h : HeldState) (block : ℕ) → Knows p index parts s.sent h

@@ -8,9 +8,8 @@ use Rattle.std.proofs.lemmas.List.FromFn.{length-map-range_with_len}
 use Rattle.std.proofs.Math.Nat.{mod-lt, mul-le-mul_right}
 use Rattle.norm_base.specs.Settings.{Settings}
 use Rattle.fec_plan.specs.Partition.{Cut, encoding_symbols}
-use Rattle.fec_plan.specs.Points.{Position, position_before}
+use Rattle.fec_plan.specs.Points.{Position}
 use Rattle.norm_order.specs.Entries.{Part, Stream}
-use Rattle.norm_order.specs.Sets.{is_member}
 use Rattle.norm_order.specs.Segments.{closed_from}
 use Rattle.norm_order.specs.Shapes.{shape_of, closed_in, is_full, encoded_in}
 use Rattle.norm_order.proofs.StreamLemmas.{length-placed}
@@ -67,10 +66,6 @@ open_unsent p index parts sent h number some knows past = go (was_sent index p.b
         let lt : number % p.b < p.b = mod-lt number some in
         let less = is_closed p parts (number / p.b) (number % p.b) lt (knows.only (place_of index p.b number) e refl) in
         omega (arith, less, past, div-add-mod' number p.b))
-
--- the marks of the segments that are kept
-pub marks_now : (p : Settings) (index : ℕ) (parts : List Part) (sent : List Position) (h : HeldState) → Knows p index parts sent h → length h.sent ≡ length h.buffer.rows
-marks_now p index parts sent h knows = ap length knows.marks ∙ length-map-range_with_len (was_sent index p.b sent) (h.buffer.first * p.b) (length h.buffer.rows)
 
 pub first_by : (p : Settings) (parts : List Part) (s : StreamState) → StandsFor p parts s → kept_from s ≡ s.first * p.b
 first_by p parts s st = ap (λ (c : Cut). s.first * c.b) st.cut
@@ -133,16 +128,6 @@ goes_on p index parts more sent h k blocks knows st gone_sent low high grows gon
         let le = encoded_in_more (shape_of p (Stream parts)) (shape_of p (Stream more)) at.block
         (record { cut = refl; closed = closed; info = refl; parity = shape_parity p blocks (Stream more) }) in
         lt-ltb at.symbol (encoded_in (shape_of p (Stream more)) at.block) (omega (arith, less, le))
-
--- a stream to which nothing was written, and of which nothing was sent
-pub begins : (p : Settings) (index : ℕ) (sent : List Position) (h : HeldState) → StandsFor p [] h.buffer → h.buffer.first ≡ 0 → h.buffer.rows ≡ [] → h.sent ≡ []
-    → ((at : Position) → is_member position_before at sent ≡ true → at.index ≡ index → ⊥) → Knows p index [] sent h
-begins p index sent h st first rows marks none = record {
-  buffer = st;
-  marks = marks ∙ sym (ap (λ n. marks_of index p.b sent (h.buffer.first * p.b) n) (ap length rows));
-  gone = λ number lt. absurd (let z : h.buffer.first * p.b ≡ 0 = ap (λ n. n * p.b) first ∙ (let e : 0 * p.b ≡ 0 = omega arith in e) in omega (arith, lt, z));
-  only = λ at there same. absurd (none at there same);
-}
 
 -- ---- what a call of the buffer leaves
 

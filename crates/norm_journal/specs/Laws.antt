@@ -116,10 +116,9 @@ abbrev pub CommandsAreOfObjects : Type 0
 CommandsAreOfObjects = (script : Commands) (files : Told) (nodes : List ℕ) (events : List Event) → AllByRecursion IsOfObjects script.lines
     → Begun script files nodes events → AreOfObjects (world_events (judged_opening script files nodes) events)
 
--- Nothing comes too late in a session of data and files: a script has so few commands that its nodes' run is lawful wherever its takes are
--- honest.
+-- Nothing comes too late in a session: a script has so few commands that its nodes' run is lawful wherever its takes are honest.
 abbrev pub BeginsLawfully : Type 0
-BeginsLawfully = (script : Commands) (files : Told) (nodes : List ℕ) (events : List Event) → IsScript script → AllByRecursion IsOfObjects script.lines
+BeginsLawfully = (script : Commands) (files : Told) (nodes : List ℕ) (events : List Event) → IsScript script
     → Begun script files nodes events → AllByRecursion HasOctets events → TakesHonestly (judged_opening script files nodes) events
     → Lawful script.profile (world_events (judged_opening script files nodes) events)
 

@@ -46,7 +46,7 @@ pub fn begins_honestly()
     ensures { BeginsHonestly }
 {}
 
-/// In a session of data and files nothing comes too late: where its takes are honest, the nodes have a lawful run.
+/// In a session nothing comes too late: where its takes are honest, the nodes have a lawful run.
 #[tactic(auto, using(crate::proofs::TimeLemmas::begins_lawfully))]
 pub fn begins_lawfully()
     ensures { BeginsLawfully }

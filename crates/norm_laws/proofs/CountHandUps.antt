@@ -11,32 +11,9 @@ use Rattle.norm_order.specs.declared.up.Up.{Up}
 use Rattle.norm_send_rules.specs.SenderState.{SenderState, Instance, Watermark}
 use Rattle.norm_send_rules.specs.Restarting.{instances}
 use Rattle.norm_safety.specs.OnceEach.{origins_of, origins, instance_ids, order_of}
-use Rattle.norm_safety.proofs.Exact.{Exactly}
-use Rattle.norm_safety.proofs.WholeOrders.{IsSized, AreSized}
 use Rattle.norm_journal.specs.declared.event.Event.{Event}
 use Rattle.norm_journal.specs.declared.event.Event.TheVariants as event
 use Rattle.norm_journal.specs.Handed.{up_in, ups_in}
-
--- ---- the hand-ups of one receiver in one instance
-
--- hand-ups that go exactly through a front of an order are no more than it has entries
-pub exactly_few : (p : Settings) (d index n : ℕ) (order : List Entry) (ups : List Up) → AreSized p order → Exactly p d index (take n order) ups
-    → length ups ≤ length order
-exactly_few p d index zero order ups sized h = let none = ap length h in omega (arith, none)
-exactly_few p d index (suc n) [] ups sized h = let none = ap length h in omega (arith, none)
-exactly_few p d index (suc n) (x ∷ order) ups sized (inl (rest, is, more)) =
-    let later = exactly_few p d (suc index) n order rest sized.1 more in
-    let one = one_part x.object sized.0 in
-    let both = ap length is ∙ length-append (parts_of p index x.object) rest in
-    omega (arith, later, one, both)
-  where
-    one_part : (object : Object) → IsSized p object → length (parts_of p index object) ≡ 1
-    one_part (Whole kind info octets) sized = refl
-    one_part (Stream parts) sized = absurd sized
-exactly_few p d index (suc n) (x ∷ order) ups sized (inr (rest, is, below, more)) =
-    let later = exactly_few p d (suc index) n order rest sized.1 more in
-    let both = ap length is in
-    omega (arith, later, both)
 
 -- ---- sums over nodes and instances
 

@@ -17,7 +17,6 @@ use Rattle.norm_safety.specs.WorldStep.{world_step, run_from}
 use Rattle.norm_safety.proofs.OnceLemmas.{OnceSoFar}
 use Rattle.norm_safety.proofs.OnceRun.{once_in}
 use Rattle.norm_safety.proofs.OrderRun.{run_of}
-use Rattle.norm_safety.proofs.SenderHolds.{orders_hold}
 use Rattle.norm_safety.proofs.WorldLemmas.{world_laws}
 use Rattle.norm_journal.specs.declared.event.Event.{Event}
 use Rattle.norm_journal.specs.declared.totals.Totals.{Totals}
@@ -37,7 +36,8 @@ use Rattle.norm_journal.proofs.TimeLemmas.{begins_lawfully}
 use Rattle.norm_journal.proofs.WorldLemmas.{moves_world}
 use Rattle.norm_laws.specs.CountsFit.{IsBounded, CountsOfASessionFit}
 use Rattle.norm_laws.proofs.CountEntries.{run_counted}
-use Rattle.norm_laws.proofs.CountHandUps.{ups_many, entries, entries_few, exactly_few, ups_few}
+use Rattle.norm_laws.proofs.CountHandUps.{ups_many, entries, entries_few, ups_few}
+use Rattle.norm_laws.proofs.WholeOrders.{WholeHolds, whole_run, order_whole, through_few}
 use Rattle.norm_laws.proofs.CountHandUpsRun.{ups_of, run_handed}
 use Rattle.norm_laws.proofs.CountOctets.{nothing_is_written, run_filled}
 use Rattle.norm_laws.proofs.CountOutcomes.{Told as AreTold, opening_told}
@@ -98,12 +98,13 @@ module _ (script : Commands) (files : Told) (nodes : List ℕ) (events : List Ev
   -- what was handed up in an instance is no more than its order
   hands_few : (node id : ℕ) → length (ups_in events node id) ≤ length (order_of last.world.sender id)
   hands_few node id =
-      let lawful = begins_lawfully script files nodes events is objects begins octets honest in
-      let run = run_of script.profile is.range happened lawful (commands_are_events script files nodes events is begins octets)
-      (commands_are_of_objects script files nodes events objects begins) in
-      let through = run.holds.through node id in
+      let lawful = begins_lawfully script files nodes events is begins octets honest in
+      let run = run_of script.profile is.range happened lawful (commands_are_events script files nodes events is begins octets) in
       let said = ap length (says_the_hands script files nodes events last begun node id) in
-      let few = exactly_few script.profile _ 0 through.count _ _ ((orders_hold script.profile _ run.holds.sender).sized id) through.exactly in
+      let W : World → Type 0 = λ w. WholeHolds w.sender in
+      let whole = subst W (sym (last_is_run script.profile (world_opening script.profile) happened))
+      (whole_run script.profile happened (commands_are_of_objects script files nodes events objects begins)) in
+      let few = through_few script.profile _ 0 _ _ (order_whole _ id whole) (run.holds.through node id) in
       let at : length (ups_in events node id) ≤ length (order_of (last_world (world_opening script.profile) (happens script.profile (world_opening script.profile) happened)).sender id) =
       omega (arith, said, few) in
       subst (λ (w : World). length (ups_in events node id) ≤ length (order_of w.sender id)) world_is at

@@ -1,4 +1,5 @@
 pub mod NewOrder
+pub mod WholeOrders
 pub mod SentLemmas
 pub mod IdleRun
 pub mod ShapesThen

@@ -54,10 +54,9 @@ use Rattle.norm_send_rules.specs.declared.news.News.{News}
 use Rattle.norm_send_rules.specs.declared.want.Want.{Want}
 use Rattle.norm_send_rules.specs.declared.want.Want.TheVariants.{Info, Symbol}
 use Rattle.norm_safety.specs.Jobs.{IsJob, OpensNone}
-use Rattle.norm_safety.proofs.CommandSteps.{where_free, first_none, no_parts}
-use Rattle.norm_safety.proofs.SenderHolds.{SenderHolds, current_sized}
-use Rattle.norm_safety.proofs.WholeOrders.{AreSized, none_open}
+use Rattle.norm_safety.proofs.CommandSteps.{where_free, first_none}
 use Rattle.norm_laws.specs.SentOnce.{was_sent, sent_once_of, AllSent}
+use Rattle.norm_laws.proofs.WholeOrders.{WholeHolds, none_open, current_whole, cut_nothing}
 use Rattle.norm_laws.proofs.NewOrder.{clash, all_implied, all_two, all_append, lower_first, first_lower, none_first, none_between, IsAmong, new_among, new_rises, new_split, new_more, first_found, none_found, shapes_drop, shapes_more, shapes_many}
 
 -- ---- what holds of a sender
@@ -279,15 +278,6 @@ closed_so_far : (p : Settings) (s : SenderState) → open_stream s ≡ None → 
     → (after : SenderState) (receipt : Receipt) → SentSoFar p s → SentSoFar p (where_free found s after receipt).0
 closed_so_far p s none found says after receipt so = free_so_far p found s after receipt (λ e. absurd (clash (sym (says e) ∙ ap is_none none))) so
 
--- a mark cuts nothing
-cut_nothing : (p : Settings) (s : SenderState) → open_stream s ≡ None → cut p s ≡ s
-cut_nothing p s none =
-    let nothing : unclosed p.e (parts_now s) ≡ 0 = ap (λ (o : Option (List Part)). unclosed p.e (unwrap_or o [])) none ∙ no_parts p.e in
-    ap (λ (n : ℕ). cut_by n) nothing
-  where
-    cut_by : ℕ → SenderState
-    cut_by n = elim n [ zero ↦ s | suc n ↦ with_parts (parts_now s ++ Cut ∷ []) s ]
-
 marked_quiet : (s : SenderState) (by : Origin) (quorum : Option ℕ) (between : SenderState) (found : Option Position) → between ≡ s
     → Quiet s (answered Mark (watermark_at between by quorum found)).0
 marked_quiet s by quorum between found same = subst (λ x. Quiet s (answered Mark (watermark_at x by quorum found)).0) (sym same) (at found)
@@ -320,7 +310,7 @@ begun_so_far : (p : Settings) (id : ℕ) (s : SenderState) → SentSoFar p (begu
 unfolding new_from
 begun_so_far p id s = record { sent = tt; next = inr refl }
 
-pub command_so_far : (p : Settings) (s : SenderState) (by : Origin) (job : Job) → SenderHolds p s → OpensNone job → SentSoFar p s → SentSoFar p (commanded p s by job).0
+pub command_so_far : (p : Settings) (s : SenderState) (by : Origin) (job : Job) → WholeHolds s → OpensNone job → SentSoFar p s → SentSoFar p (commanded p s by job).0
 command_so_far p s by (job.Data info bytes) h opens so =
     free_so_far p (object_fault p s info bytes) s (joined p by (Whole kind.Data info bytes) s) _ (λ e. joined_so_far p s by (Whole kind.Data info bytes) h.block so) so
 command_so_far p s by (job.File name bytes) h opens so =
@@ -329,12 +319,12 @@ command_so_far p s by (job.File name bytes) h opens so =
 command_so_far p s by job.Open h opens so = absurd opens
 command_so_far p s by (job.Write bytes) h opens so =
     let parts = parts_now s ++ Write by bytes ∷ [] in
-    closed_so_far p s (none_open p s.current.order (current_sized p s h)) (write_fault p s bytes parts)
+    closed_so_far p s (none_open s.current.order (current_whole s h)) (write_fault p s bytes parts)
     (λ e. (let first = first_none _ _ _ e in let second = first_none _ _ _ first.1 in (first_none _ _ _ second.1).0)) (grown p s parts) _ so
 command_so_far p s by job.Close h opens so =
     let parts = parts_now s ++ End ∷ [] in
-    closed_so_far p s (none_open p s.current.order (current_sized p s h)) (close_fault p s parts) (λ e. (first_none _ _ _ e).0) (grown p s parts) _ so
-command_so_far p s by (job.Mark None) h opens so = cut_so_far p s by None (none_open p s.current.order (current_sized p s h)) so
+    closed_so_far p s (none_open s.current.order (current_whole s h)) (close_fault p s parts) (λ e. (first_none _ _ _ e).0) (grown p s parts) _ so
+command_so_far p s by (job.Mark None) h opens so = cut_so_far p s by None (none_open s.current.order (current_whole s h)) so
 command_so_far p s by (job.Mark (Some q)) h opens so = go (is_no_quorum p q)
   where
     state_of : SenderState × Result Receipt SendFault → SenderState
@@ -342,7 +332,7 @@ command_so_far p s by (job.Mark (Some q)) h opens so = go (is_no_quorum p q)
 
     go : (no : Bool) → SentSoFar p (state_of (answered Mark (elim no [ true ↦ (s, Err (Quorum q)) | false ↦ cut_and_marked p s by (Some q) ])))
     go true = so
-    go false = cut_so_far p s by (Some q) (none_open p s.current.order (current_sized p s h)) so
+    go false = cut_so_far p s by (Some q) (none_open s.current.order (current_whole s h)) so
 command_so_far p s by (job.Restart id) h opens so = go (is_used s id)
   where
     state_of : SenderState × Result Receipt SendFault → SenderState

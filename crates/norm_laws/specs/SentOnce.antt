@@ -1,7 +1,7 @@
 -- What a sender sends once by itself, and when all of it was sent.
 use Rattle.std.specs.Prelude.{◌≡◌, ℕ, List, Bool, true, nat_lt}
 use Rattle.std.specs.List.{AllByRecursion}
-use Rattle.norm_base.specs.Settings.{Settings, InRange}
+use Rattle.norm_base.specs.Settings.{Settings}
 use Rattle.fec_plan.specs.Points.{position_before}
 use Rattle.norm_order.specs.Sets.{is_member}
 use Rattle.norm_send_rules.specs.SenderState.{SenderState}
@@ -11,7 +11,7 @@ use Rattle.norm_send_rules.specs.Ticking.{is_idle}
 use Rattle.norm_send_rules.specs.declared.want.Want.{Want}
 use Rattle.norm_send_rules.specs.declared.want.Want.TheVariants.{Info, Symbol}
 use Rattle.norm_safety.specs.Events.{Event}
-use Rattle.norm_safety.specs.Jobs.{AreEvents, AreOfObjects}
+use Rattle.norm_safety.specs.Jobs.{AreOfObjects}
 use Rattle.norm_safety.specs.WorldStep.{run}
 
 -- it was sent in the current instance
@@ -30,5 +30,5 @@ AllSent p s = AllByRecursion (λ w. stands_behind s.current.drop w ≡ true → 
 
 -- Wherever a sender of data and files is idle, all that it sends once by itself was sent, or was dropped.
 abbrev pub IdleHasSent : Type 0
-IdleHasSent = (p : Settings) → InRange p → (events : List Event) → AreEvents events → AreOfObjects events
+IdleHasSent = (p : Settings) (events : List Event) → AreOfObjects events
     → is_idle p (run p events).sender ≡ true → AllSent p (run p events).sender

@@ -1,6 +1,6 @@
 -- What a receiver acknowledges, or is to acknowledge, it handed up with everything before.
 use Rattle.std.proofs.Common.{◌≡◌, ℕ, List, [], ◌∷◌, ◌++◌, Option, None, Some, refl, sym, ap, ◌∙◌, subst}
-use Rattle.std.specs.Prelude.{map, flat_map, IfSome}
+use Rattle.std.specs.Prelude.{flat_map, IfSome}
 use Rattle.std.specs.List.{AllByRecursion}
 use Rattle.norm_base.specs.Settings.{Settings, InRange}
 use Rattle.norm_base.specs.Members.{receivers_of}
@@ -9,17 +9,16 @@ use Rattle.fec_plan.specs.declared.position.Position.{Position}
 use Rattle.norm_ext.specs.Message.{Message, Info, Data, Flush, Eot, Squelch, RepairAdv, AckReq, Opaque, Nack, Ack, Report, AckMessage, AckContent, Mark, Unread}
 use Rattle.norm_ext.specs.Written.{Written}
 use Rattle.norm_order.specs.Upto.{upto}
-use Rattle.norm_order.specs.declared.up.Up.{Up}
 use Rattle.norm_receive_rules.specs.ReceiverState.{ReceiverState}
 use Rattle.norm_safety.specs.AcknowledgesHanded.{DueIsHanded, SaidIsHanded, AcknowledgesHanded}
 use Rattle.norm_safety.specs.Events.{Event}
 use Rattle.norm_safety.specs.Fronts.{IsFront}
 use Rattle.norm_safety.specs.Hands.{hands}
-use Rattle.norm_safety.specs.History.{Happening, History, happens, last_world, history}
-use Rattle.norm_safety.specs.Jobs.{AreEvents, AreOfObjects}
+use Rattle.norm_safety.specs.History.{History, happens, last_world, history}
+use Rattle.norm_safety.specs.Jobs.{AreEvents}
 use Rattle.norm_safety.specs.Lawful.{Lawful}
 use Rattle.norm_safety.specs.OnceEach.{order_of}
-use Rattle.norm_safety.specs.Said.{About, about, first_index, ack_said}
+use Rattle.norm_safety.specs.Said.{about, first_index, ack_said}
 use Rattle.norm_safety.specs.World.{World, world_opening, receiver_at}
 use Rattle.norm_safety.specs.WorldLaws.{nodes_of}
 use Rattle.norm_safety.specs.WorldStep.{world_step}
@@ -77,10 +76,10 @@ unfolding happens last_world
 last_nodes p w [] = refl
 last_nodes p w (e ∷ events) = last_nodes p (world_step p w e).0 events ∙ step_nodes p w e
 
-pub handed_run : (p : Settings) → InRange p → (events : List Event) → Lawful p events → AreEvents events → AreOfObjects events
+pub handed_run : (p : Settings) → InRange p → (events : List Event) → Lawful p events → AreEvents events
     → AcknowledgesHanded p (history p events)
-handed_run p range events lawful are of =
-    let run = confirms_of p range events lawful are of in
+handed_run p range events lawful are =
+    let run = confirms_of p range events lawful are in
     let h : History = history p events in
     let w : World = h.now in
     let D : List ℕ → Type 0 = λ nodes. Differ nodes in

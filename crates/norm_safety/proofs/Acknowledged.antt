@@ -1,6 +1,6 @@
 -- What a receiver acknowledges it handed up, everything before included.
-use Rattle.std.proofs.Common.{◌≡◌, ℕ, ◌+◌, ◌*◌, ◌<◌, List, [], ◌∷◌, ◌++◌, Bool, true, false, Option, None, Some, Result, Ok, Err, refl, sym, ap, ◌∙◌, subst, arith}
-use Rattle.std.specs.Prelude.{⊤, nat_le, nat_lt, map, flat_map, unwrap_or, IfSome}
+use Rattle.std.proofs.Common.{◌≡◌, ℕ, ◌*◌, ◌<◌, List, [], ◌∷◌, ◌++◌, Bool, true, false, Option, None, Some, Result, Ok, refl, sym, ap, ◌∙◌, subst, arith}
+use Rattle.std.specs.Prelude.{⊤, nat_le, nat_lt, flat_map, unwrap_or, IfSome}
 use Rattle.std.proofs.lemmas.List.{append-nil}
 use Rattle.norm_base.specs.Member.{IsMember}
 use Rattle.norm_base.specs.Settings.{Settings, InRange}
@@ -25,13 +25,12 @@ use Rattle.norm_receive_rules.specs.ReceiverState.{ReceiverState}
 use Rattle.norm_receive_rules.specs.Ticking.{are_heard, sends, holds_off, asks, asks_where_needed, ends_back_off, ticked}
 use Rattle.norm_send_rules.specs.SenderState.{SenderState}
 use Rattle.norm_safety.specs.OnceEach.{order_of}
-use Rattle.norm_safety.proofs.EntryLemmas.{clash}
 use Rattle.norm_safety.proofs.Feedback.{nack_of, ack_of, by_type}
 use Rattle.norm_safety.proofs.Onward.{Onward}
 use Rattle.norm_safety.proofs.ReceiverMoves.{StandingIn, Standing}
-use Rattle.norm_safety.proofs.SenderHolds.{OrdersHold, order_later}
+use Rattle.norm_safety.proofs.SenderHolds.{OrdersHold, order_later, some_octets}
 use Rattle.norm_safety.proofs.Spoken.{IsNoAck, SpeaksTrue, sized_at, entry_with, source_named}
-use Rattle.norm_safety.proofs.Stood.{Stood, Due, stood_more, stood_grown, due_more, due_grown}
+use Rattle.norm_safety.proofs.Stood.{Stood, Due, due_more, due_grown}
 
 -- An acknowledgement with an id of one index names a source symbol of its instance's order, and its node handed up everything
 -- before in that instance.
@@ -54,46 +53,44 @@ pub record AckTrue (p : Settings) (s : SenderState) (handed : ℕ → ℕ → Li
 -- ---- later
 
 -- orders go on, and more is handed up
-pub due_later : (p : Settings) (s t : SenderState) (id : ℕ) (ups more : List Up) (due : Option Position) → Onward s t
+pub due_later : (p : Settings) → InRange p → (s t : SenderState) (id : ℕ) (ups more : List Up) (due : Option Position) → Onward s t
     → Due p (order_of s id) ups due → Due p (order_of t id) (ups ++ more) due
-due_later p s t id ups more due onward h =
-    let later = order_later s t onward id in
-    let D : List Entry → Type 0 = λ order. Due p order (ups ++ more) due in
-    subst D (sym later.order) (due_grown p (order_of s id) later.more (ups ++ more) due (due_more p (order_of s id) ups more due h))
+due_later p range s t id ups more due onward h =
+    due_grown p (some_octets p range) (order_of s id) (order_of t id) (ups ++ more) due (order_later s t onward id).order (due_more p (order_of s id) ups more due h)
 
 -- hand-ups go on
 pub record HandsOn (was now : ℕ → ℕ → List Up) : Type 0 where
   pub more : ℕ → ℕ → List Up
   pub is : (node id : ℕ) → now node id ≡ was node id ++ more node id
 
-pub due_on : (p : Settings) (s t : SenderState) (was now : ℕ → ℕ → List Up) (node id : ℕ) (due : Option Position) → Onward s t → HandsOn was now
+pub due_on : (p : Settings) → InRange p → (s t : SenderState) (was now : ℕ → ℕ → List Up) (node id : ℕ) (due : Option Position) → Onward s t → HandsOn was now
     → Due p (order_of s id) (was node id) due → Due p (order_of t id) (now node id) due
-due_on p s t was now node id due onward hands h =
+due_on p range s t was now node id due onward hands h =
     let D : List Up → Type 0 = λ ups. Due p (order_of t id) ups due in
-    subst D (sym (hands.is node id)) (due_later p s t id (was node id) (hands.more node id) due onward h)
+    subst D (sym (hands.is node id)) (due_later p range s t id (was node id) (hands.more node id) due onward h)
 
-told_later : (p : Settings) (s t : SenderState) (was now : ℕ → ℕ → List Up) (indices : List ℕ) (m : Message) → Onward s t → HandsOn was now
+told_later : (p : Settings) → InRange p → (s t : SenderState) (was now : ℕ → ℕ → List Up) (indices : List ℕ) (m : Message) → Onward s t → HandsOn was now
     → AckTold p s was indices m → AckTold p t now indices m
-told_later p s t was now indices (Ack m) onward hands h = record {
+told_later p range s t was now indices (Ack m) onward hands h = record {
   at = h.at;
   alone = h.alone;
   content = h.content;
-  stood = due_on p s t was now m.source m.instance (Some h.at) onward hands h.stood;
+  stood = due_on p range s t was now m.source m.instance (Some h.at) onward hands h.stood;
 }
-told_later p s t was now indices (Info m) onward hands h = tt
-told_later p s t was now indices (Data m) onward hands h = tt
-told_later p s t was now indices (Flush m) onward hands h = tt
-told_later p s t was now indices (Eot m) onward hands h = tt
-told_later p s t was now indices (Squelch m) onward hands h = tt
-told_later p s t was now indices (RepairAdv m) onward hands h = tt
-told_later p s t was now indices (AckReq m) onward hands h = tt
-told_later p s t was now indices (Opaque m) onward hands h = tt
-told_later p s t was now indices (Nack m) onward hands h = tt
-told_later p s t was now indices (Report m) onward hands h = tt
+told_later p range s t was now indices (Info m) onward hands h = tt
+told_later p range s t was now indices (Data m) onward hands h = tt
+told_later p range s t was now indices (Flush m) onward hands h = tt
+told_later p range s t was now indices (Eot m) onward hands h = tt
+told_later p range s t was now indices (Squelch m) onward hands h = tt
+told_later p range s t was now indices (RepairAdv m) onward hands h = tt
+told_later p range s t was now indices (AckReq m) onward hands h = tt
+told_later p range s t was now indices (Opaque m) onward hands h = tt
+told_later p range s t was now indices (Nack m) onward hands h = tt
+told_later p range s t was now indices (Report m) onward hands h = tt
 
-pub ack_later : (p : Settings) (s t : SenderState) (was now : ℕ → ℕ → List Up) (o : Written) → Onward s t → HandsOn was now
+pub ack_later : (p : Settings) → InRange p → (s t : SenderState) (was now : ℕ → ℕ → List Up) (o : Written) → Onward s t → HandsOn was now
     → AckTrue p s was o → AckTrue p t now o
-ack_later p s t was now o onward hands h = record { read = h.read; told = told_later p s t was now o.indices o.message onward hands h.told }
+ack_later p range s t was now o onward hands h = record { read = h.read; told = told_later p range s t was now o.indices o.message onward hands h.told }
 
 -- ---- what is no acknowledgement
 

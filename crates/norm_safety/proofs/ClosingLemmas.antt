@@ -3,7 +3,6 @@ use Rattle.std.proofs.Common.{◌≡◌, ℕ, zero, suc, ◌+◌, ◌<◌, ◌�
 use Rattle.std.specs.Prelude.{filter, flat_map, fold, min, max, not, slice_get, nat_lt, nat_le, ◌==◌, ◌&&◌, ◌||◌, Contains}
 use Rattle.std.specs.List.{AllByRecursion, list_any, list_all, range_with_len}
 use Rattle.std.proofs.lemmas.Bool.Decides.{Decides-eqb, Decides-ltb, leb_tells}
-use Rattle.std.proofs.lemmas.List.{length-append}
 use Rattle.norm_base.specs.Settings.{Settings}
 use Rattle.fec_plan.specs.Partition.{source_symbols}
 use Rattle.fec_plan.specs.Points.{Point, position, point_of, point_before, position_before, same_point, same_position}
@@ -13,13 +12,13 @@ use Rattle.norm_ext.specs.Asking.{Count}
 use Rattle.norm_order.specs.Sets.{is_member, with_member, with_members, IsRising}
 use Rattle.norm_order.specs.Shapes.{Shape, is_full, closed_in}
 use Rattle.norm_order.proofs.SetLemmas.{all_with, rises_with, numbers}
-use Rattle.norm_receive_rules.specs.Holding.{Holding, Held}
+use Rattle.norm_receive_rules.specs.Holding.{Held}
 use Rattle.norm_receive_rules.specs.ReceiverState.{ReceiverState}
 use Rattle.norm_send_rules.specs.Asking.{wants_of, counts_of}
-use Rattle.norm_send_rules.specs.Closing.{greatest, repairs, counted, asked_in, wants_after, round_closed}
+use Rattle.norm_send_rules.specs.Closing.{greatest, repairs, counted, asked_in, round_closed}
 use Rattle.norm_send_rules.specs.InWindow.{stands_behind, current_shapes}
 use Rattle.norm_send_rules.specs.RepairLaws.{AllDiffer, wants_of_ids, WasSent, AreDifferent, MakesWhole}
-use Rattle.norm_send_rules.specs.SenderState.{SenderState, Asked, Round}
+use Rattle.norm_send_rules.specs.SenderState.{SenderState, Round}
 use Rattle.norm_send_rules.specs.Wants.{want_before}
 use Rattle.norm_send_rules.specs.declared.want.Want.{Want}
 use Rattle.norm_send_rules.specs.declared.want.Want.TheVariants.{Info, Symbol}
@@ -33,11 +32,6 @@ use Rattle.norm_safety.proofs.TickNoted.{was_sent}
 use Rattle.norm_safety.proofs.WorldHolds.{all_later}
 
 -- ---- something that is there
-
-any_contains : {X : Type 0} (test : X → Bool) (xs : List X) (x : X) → Contains xs x → test x ≡ true → list_any test xs ≡ true
-any_contains test [] x has h = absurd (omega (arith, has.1))
-any_contains test (y ∷ xs) x (zero, lt, is) h = or_first (test y) _ (ap test is ∙ h)
-any_contains test (y ∷ xs) x (suc k, lt, is) h = or_second (test y) _ (any_contains test xs x (k, omega (arith, lt), is) h)
 
 any_flat : {X Y : Type 0} (test : Y → Bool) (f : X → List Y) (xs : List X) (x : X) → Contains xs x → list_any test (f x) ≡ true → list_any test (flat_map f xs) ≡ true
 any_flat test f [] x has h = absurd (omega (arith, has.1))

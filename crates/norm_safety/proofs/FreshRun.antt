@@ -1,9 +1,8 @@
--- Nobody holds a symbol of the current instance that was never sent: kept by each event of a lawful run of data and files.
-use Rattle.std.proofs.Common.{◌≡◌, ℕ, zero, suc, ◌+◌, ◌<◌, cond, List, [], ◌∷◌, ◌++◌, Bool, true, false, Option, None, Some, refl, sym, ap, ◌∙◌, subst, append_assoc, arith}
-use Rattle.std.specs.Prelude.{map, find, not, slice_get, nat_eq, nat_le, ◌==◌, ◌&&◌, ◌||◌, option_and_then, Contains, IsTrue, IsSomeAnd, ⊤}
+-- Nobody holds a symbol of the current instance that was never sent: kept by each event of a lawful run.
+use Rattle.std.proofs.Common.{◌≡◌, ℕ, zero, suc, ◌+◌, ◌<◌, cond, List, [], ◌∷◌, ◌++◌, Bool, true, false, Option, None, Some, refl, sym, ap, ◌∙◌, subst, arith}
+use Rattle.std.specs.Prelude.{map, find, not, slice_get, ◌==◌, ◌&&◌, ◌||◌, option_and_then, IsTrue, IsSomeAnd, ⊤}
 use Rattle.std.specs.List.{AllByRecursion, list_all, list_any}
 use Rattle.std.proofs.lemmas.Bool.Decides.{Decides-eqb}
-use Rattle.std.proofs.lemmas.List.{append-nil}
 use Rattle.norm_base.specs.Settings.{Settings, InRange}
 use Rattle.norm_base.specs.Members.{receivers_of}
 use Rattle.norm_base.specs.declared.node.Origin.{Origin}
@@ -12,7 +11,9 @@ use Rattle.fec_plan.specs.declared.position.Position.{Position}
 use Rattle.fec_plan.proofs.PositionLemmas.{positions_same}
 use Rattle.norm_ext.specs.Message.{Message, Info, Data, Flush, Eot, Squelch, RepairAdv, AckReq, Opaque, Nack, Ack, Report}
 use Rattle.norm_ext.specs.Written.{Written}
-use Rattle.norm_order.specs.Entries.{Entry}
+use Rattle.norm_order.specs.Entries.{Part, Cut, Entry}
+use Rattle.norm_order.specs.Segments.{unclosed}
+use Rattle.norm_send_rules.specs.Streaming.{parts_now, with_parts, cut}
 use Rattle.norm_order.specs.Sets.{is_member}
 use Rattle.norm_order.specs.declared.up.Up.{Up}
 use Rattle.norm_receive_rules.specs.Holding.{Holding, Held}
@@ -34,14 +35,14 @@ use Rattle.norm_safety.specs.ClosingCompletes.{EventCompletes, ClosingCompletes}
 use Rattle.norm_safety.specs.FreshWants.{wants_are_fresh, FreshWants}
 use Rattle.norm_safety.specs.Hands.{hands}
 use Rattle.norm_safety.specs.History.{Happening, happens, history}
-use Rattle.norm_safety.specs.Jobs.{IsJob, OpensNone, IsEvent, IsOfObjects, AreEvents, AreOfObjects}
-use Rattle.norm_safety.specs.Lawful.{sender_knows, receiver_knows, are_near, comes_in_time, accepted_with, MayCome, LawfulFrom, Lawful}
+use Rattle.norm_safety.specs.Jobs.{IsJob, IsEvent, AreEvents}
+use Rattle.norm_safety.specs.Lawful.{sender_knows, receiver_knows, are_near, accepted_with, MayCome, LawfulFrom, Lawful}
 use Rattle.norm_safety.specs.OnceEach.{order_of}
 use Rattle.norm_safety.specs.RepairSuffices.{closes_by, wanted_symbols, holds, is_fresh}
-use Rattle.norm_safety.specs.Said.{about, first_index, entry_at}
+use Rattle.norm_safety.specs.Said.{first_index}
 use Rattle.norm_safety.specs.World.{World, world_opening, receiver_at, with_receiver, with_given, given_others, is_of, offers}
 use Rattle.norm_safety.specs.WorldLaws.{nodes_of}
-use Rattle.norm_safety.specs.WorldStep.{world_step, moved, OfSender, OfReceiver, node_move, receiver_move}
+use Rattle.norm_safety.specs.WorldStep.{world_step, moved, node_move, receiver_move}
 use Rattle.norm_safety.proofs.ClosingLemmas.{closing_completes}
 use Rattle.norm_safety.proofs.EntryLemmas.{clash}
 use Rattle.norm_safety.proofs.Feedback.{IsOther, SendsNothingOf, receiver_says_nothing}
@@ -51,12 +52,12 @@ use Rattle.norm_safety.proofs.ListRun.{given_leaves}
 use Rattle.norm_safety.proofs.OrderRun.{moved_node_is, happening, taken_by, found_holds, event_holds, opening_world}
 use Rattle.norm_safety.proofs.ReceiverMoves.{StandingIn, SameHeld, tick_same, received_moves}
 use Rattle.norm_safety.proofs.RunLemmas.{step_nodes, opening_nodes}
-use Rattle.norm_safety.proofs.SenderHolds.{current_sized, orders_hold}
+use Rattle.norm_safety.proofs.SenderHolds.{orders_hold}
 use Rattle.norm_safety.proofs.SenderKeeps.{Keeps, heard_keeps, ticked_keeps, told_keeps}
 use Rattle.norm_safety.proofs.Spoken.{IsTrueOf, SaysTrue, current_order}
 use Rattle.norm_safety.proofs.TickNoted.{was_sent, SentCounts, tick_counts}
-use Rattle.norm_safety.proofs.WholeOrders.{CommandCase, Stays, Joins, Restarts, command_case}
-use Rattle.norm_safety.proofs.WorldHolds.{AtNode, AtReceiver, WorldHolds, all_filter, all_end, all_contains, all_later}
+use Rattle.norm_safety.proofs.SizedOrders.{OrderCase, Rests, Enqueues, Grows, Marks, Begins, order_case}
+use Rattle.norm_safety.proofs.WorldHolds.{AtNode, WorldHolds, all_filter, all_end, all_contains, all_later}
 use Rattle.norm_safety.proofs.WorldLemmas.{world_laws}
 use Rattle.norm_safety.proofs.WorldMoves.{at_node, put_in, found_put, found_other}
 
@@ -212,19 +213,30 @@ moved_sent w v node r t found same sender receivers offered given now h = record
 
 -- ---- an event
 
-command_sent : (p : Settings) (past : List Happening) (accepted after : List Origin) (w : World) (by : Origin) (job : Job) → IsJob job → OpensNone job
+command_sent : (p : Settings) (past : List Happening) (accepted after : List Origin) (w : World) (by : Origin) (job : Job) → IsJob job
     → WorldHolds p past accepted w → (next : List Happening) → WorldHolds p next after (record w { sender = (commanded p w.sender by job).0 }) → Sent w
     → Sent (record w { sender = (commanded p w.sender by job).0 })
-command_sent p past accepted after w by job is none holds next then h =
-    go (commanded p w.sender by job).0 (command_case p w.sender by job (current_sized p w.sender holds.sender) is none) then
+command_sent p past accepted after w by job is holds next then h =
+    go (commanded p w.sender by job).0 (order_case p w.sender by job is) then
   where
     still : (t : SenderState) → SendsOn w.sender t → Sent (record w { sender = t })
     still t on = quiet_sent w (record w { sender = t }) refl on (all_counts w.sender t w.offered on h.offered) (all_counts w.sender t w.given on h.given) h
 
-    go : (t : SenderState) → CommandCase p w.sender by t → WorldHolds p next after (record w { sender = t }) → Sent (record w { sender = t })
-    go t (Stays same) then = still t (record { id = ap (λ (i : Instance). i.id) same.current; sent = same.sent })
-    go t (Joins kind info octets sized few room) then = still t (record { id = refl; sent = λ at n. n })
-    go t (Restarts id unused few) then = anew_sent p next after (record w { sender = t }) refl then
+    -- a cut sends nothing
+    cuts : (n : ℕ) (parts : List Part) → SendsOn w.sender (elim n [ zero ↦ w.sender | suc k ↦ with_parts parts w.sender ])
+    cuts zero parts = same_on w.sender
+    cuts (suc n) parts = record { id = refl; sent = λ at n. n }
+
+    cut_on : SendsOn w.sender (cut p w.sender)
+    cut_on = cuts (unclosed p.e (parts_now w.sender)) (parts_now w.sender ++ Cut ∷ [])
+
+    go : (t : SenderState) → OrderCase p w.sender by t → WorldHolds p next after (record w { sender = t }) → Sent (record w { sender = t })
+    go t (Rests same) then = still t (record { id = ap (λ (i : Instance). i.id) same.current; sent = same.sent })
+    go t (Enqueues object sized none few room) then = still t (record { id = refl; sent = λ at n. n })
+    go t (Grows part octets there spent crowded) then = still t (record { id = refl; sent = λ at n. n })
+    go t (Marks same) then =
+        still t (record { id = ap (λ (i : Instance). i.id) same.current ∙ cut_on.id; sent = λ at n. same.sent at (cut_on.sent at n) })
+    go t (Begins id unused few) then = anew_sent p next after (record w { sender = t }) refl then
 
 other_counts : (s : SenderState) (indices : List ℕ) (m : Message) → IsOther m → DataPasses (was_sent s) s.current.id indices m
 other_counts s indices (Data m) h = absurd h
@@ -258,10 +270,10 @@ same_passes : (s : SenderState) (r t : ReceiverState) → SameHeld r t → InPas
 same_passes s r t same h =
     λ is. (let A : Holding → Type 0 = λ holding. HeldPass (was_sent s) holding in subst A (sym same.holding) (h (sym same.instance ∙ is)))
 
-event_sent : (p : Settings) → InRange p → (past next : List Happening) (accepted after : List Origin) (w : World) (e : Event) → MayCome p w accepted e → IsEvent e → IsOfObjects e
+event_sent : (p : Settings) → InRange p → (past next : List Happening) (accepted after : List Origin) (w : World) (e : Event) → MayCome p w accepted e → IsEvent e
     → WorldHolds p past accepted w → WorldHolds p next after (world_step p w e).0 → Sent w → Sent (world_step p w e).0
-event_sent p range past next accepted after w (Commanded by job now) may is of holds then h = command_sent p past accepted after w by job is of holds next then h
-event_sent p range past next accepted after w (Delivered node octets now draw) may is of holds then h = go (node == p.sender) (receiver_at w node) refl may.near
+event_sent p range past next accepted after w (Commanded by job now) may is holds then h = command_sent p past accepted after w by job is holds next then h
+event_sent p range past next accepted after w (Delivered node octets now draw) may is holds then h = go (node == p.sender) (receiver_at w node) refl may.near
   where
     o : Written
     o = may.datagram
@@ -285,7 +297,7 @@ event_sent p range past next accepted after w (Delivered node octets now draw) m
         let H : Option ReceiverState → Type 0 = λ found. HoldsSent w.sender found in
         moved_sent w (with_receiver t w) node r t e (moved_node_is p w.sender r t (received_moves p range w.sender r may.datagram octets now draw (orders_hold p w.sender holds.sender) says may.same close)) refl refl refl h.given
         (received_passes (was_sent w.sender) w.sender.current.id p w.sender r may.datagram octets now draw says counts may.same close (subst H e (h.held node))) h
-event_sent p range past next accepted after w (Ticked node now) may is of holds then h = go (node == p.sender) (receiver_at w node) refl
+event_sent p range past next accepted after w (Ticked node now) may is holds then h = go (node == p.sender) (receiver_at w node) refl
   where
     go : (own : Bool) (found : Option ReceiverState) → receiver_at w node ≡ found
         → Sent (moved p w (node_move own found (sender.Ticked now) (receiver.Ticked now))).0
@@ -314,7 +326,7 @@ event_sent p range past next accepted after w (Ticked node now) may is of holds 
         moved_sent w (with_given r.node sent v) node r t e same.node leaves.0 (given_receivers r.node sent v) leaves.1
         (given_counts w.sender r.node sent v (nothing_counts w.sender sent (receiver_says_nothing p r now)) h.given)
         (same_passes w.sender r t same (subst H e (h.held node))) h
-event_sent p range past next accepted after w (Offered node octets) may is of holds then h = go (find (is_of node octets) w.given) refl
+event_sent p range past next accepted after w (Offered node octets) may is holds then h = go (find (is_of node octets) w.given) refl
   where
     go : (found : Option (ℕ × Written)) → find (is_of node octets) w.given ≡ found → Sent (offers found node w)
     go None e = h
@@ -322,7 +334,7 @@ event_sent p range past next accepted after w (Offered node octets) may is of ho
         (all_end (λ (o : ℕ × Written). Counts w.sender o.1) w.offered o h.offered
         (found_holds (λ (o : ℕ × Written). Counts w.sender o.1) (is_of node octets) w.given o h.given e))
         (all_filter (λ (o : ℕ × Written). Counts w.sender o.1) _ w.given h.given) h
-event_sent p range past next accepted after w (UpTaken node) may is of holds then h = go (receiver_at w node) refl
+event_sent p range past next accepted after w (UpTaken node) may is holds then h = go (receiver_at w node) refl
   where
     ups : (r : ReceiverState) → receiver_at w node ≡ Some r → (waiting : List Up)
         → Sent (taken_by w r (elim waiting [ up ∷ more ↦ (record (r.holding) { ups = more }, Some up) | [] ↦ (r.holding, None) ])).0
@@ -337,7 +349,7 @@ event_sent p range past next accepted after w (UpTaken node) may is of holds the
     go : (found : Option ReceiverState) → receiver_at w node ≡ found → Sent (moved p w (receiver_move found receiver.UpTaken)).0
     go None e = h
     go (Some r) e = ups r e r.holding.ups
-event_sent p range past next accepted after w NewsAsked may is of holds then h =
+event_sent p range past next accepted after w NewsAsked may is holds then h =
     let t : SenderState = (told w.sender).0 in
     let on = keeps_on w.sender t (told_keeps w.sender) in
     quiet_sent w (record w { sender = t }) refl on (all_counts w.sender t w.offered on h.offered) (all_counts w.sender t w.given on h.given) h
@@ -449,17 +461,17 @@ fresh_event p w e answer v differ h = go (closes_by p w e)
 pub run_claims : (p : Settings) → InRange p → (Claim : Happening → Type 0)
     → ((w : World) (e : Event) (answer : Answer) (v : World) → Differ (nodes_of w) → Sent w → Claim (record { before = w; event = e; answer = answer; after = v }))
     → (past : List Happening) (accepted : List Origin) (w : World) (events : List Event) → LawfulFrom p w accepted events
-    → AreEvents events → AreOfObjects events → WorldHolds p past accepted w → Differ (nodes_of w) → Sent w → AllByRecursion Claim (happens p w events)
+    → AreEvents events → WorldHolds p past accepted w → Differ (nodes_of w) → Sent w → AllByRecursion Claim (happens p w events)
 unfolding happens
-run_claims p range Claim each past accepted w [] lawful are of holds differ h = tt
-run_claims p range Claim each past accepted w (e ∷ events) lawful are of holds differ h =
+run_claims p range Claim each past accepted w [] lawful are holds differ h = tt
+run_claims p range Claim each past accepted w (e ∷ events) lawful are holds differ h =
     let step = world_step p w e in
     let x : Happening = happening w e step in
-    let next = event_holds p range past accepted w e lawful.0 are.0 of.0 holds in
-    let sent = event_sent p range past (past ++ x ∷ []) accepted (accepted_with accepted e step.1) w e lawful.0 are.0 of.0 holds next h in
+    let next = event_holds p range past accepted w e lawful.0 are.0 holds in
+    let sent = event_sent p range past (past ++ x ∷ []) accepted (accepted_with accepted e step.1) w e lawful.0 are.0 holds next h in
     let D : List ℕ → Type 0 = λ nodes. Differ nodes in (
       each w e step.1 step.0 differ h,
-      run_claims p range Claim each (past ++ x ∷ []) (accepted_with accepted e step.1) step.0 events lawful.1 are.1 of.1 next (subst D (sym (step_nodes p w e)) differ) sent,
+      run_claims p range Claim each (past ++ x ∷ []) (accepted_with accepted e step.1) step.0 events lawful.1 are.1 next (subst D (sym (step_nodes p w e)) differ) sent,
     )
 
 nothing_held : (p : Settings) (s : SenderState) (nodes : List ℕ) (node : ℕ) → HoldsSent s (at_node (map receiver_opening nodes) node)
@@ -472,22 +484,22 @@ nothing_held p s (n ∷ nodes) node = go (n == node) (nothing_held p s nodes nod
 
 pub claims_of : (p : Settings) → InRange p → (Claim : Happening → Type 0)
     → ((w : World) (e : Event) (answer : Answer) (v : World) → Differ (nodes_of w) → Sent w → Claim (record { before = w; event = e; answer = answer; after = v }))
-    → (events : List Event) → Lawful p events → AreEvents events → AreOfObjects events → AllByRecursion Claim (history p events).happened
-claims_of p range Claim each events lawful are of =
+    → (events : List Event) → Lawful p events → AreEvents events → AllByRecursion Claim (history p events).happened
+claims_of p range Claim each events lawful are =
     let D : List ℕ → Type 0 = λ nodes. Differ nodes in
-    run_claims p range Claim each [] [] (world_opening p) events lawful are of (opening_world p range)
+    run_claims p range Claim each [] [] (world_opening p) events lawful are (opening_world p range)
     (subst D (sym (opening_nodes (receivers_of p p.receivers))) (receivers_rise p p.receivers).1)
     (record { offered = tt; given = tt; held = λ node. nothing_held p (world_opening p).sender (receivers_of p p.receivers) node })
 
 -- What is wanted as a round closes and was never sent is held by nobody.
-pub fresh_run : (p : Settings) → InRange p → (events : List Event) → Lawful p events → AreEvents events → AreOfObjects events
+pub fresh_run : (p : Settings) → InRange p → (events : List Event) → Lawful p events → AreEvents events
     → FreshWants p (history p events)
-fresh_run p range events lawful are of = claims_of p range (λ (x : Happening). IsTrue (wants_are_fresh p x)) (fresh_event p) events lawful are of
+fresh_run p range events lawful are = claims_of p range (λ (x : Happening). IsTrue (wants_are_fresh p x)) (fresh_event p) events lawful are
 
 -- What a closing wants completes a block for whoever lacks no more of it than is counted.
-pub closing_run : (p : Settings) → InRange p → (events : List Event) → Lawful p events → AreEvents events → AreOfObjects events
+pub closing_run : (p : Settings) → InRange p → (events : List Event) → Lawful p events → AreEvents events
     → ClosingCompletes p (history p events)
-closing_run p range events lawful are of = claims_of p range (EventCompletes p) one events lawful are of
+closing_run p range events lawful are = claims_of p range (EventCompletes p) one events lawful are
   where
     one : (w : World) (e : Event) (answer : Answer) (v : World) → Differ (nodes_of w) → Sent w
         → EventCompletes p (record { before = w; event = e; answer = answer; after = v })

@@ -71,12 +71,12 @@ climbs index block (h ∷ held) up = go (is_in index block h) refl (climbs index
 
 -- ---- the sources of a block
 
-octets-take : (n : ℕ) (xs : List ℕ) → AreElements xs → AreElements (take n xs)
+pub octets-take : (n : ℕ) (xs : List ℕ) → AreElements xs → AreElements (take n xs)
 octets-take zero xs are = tt
 octets-take (suc n) [] are = tt
 octets-take (suc n) (x ∷ xs) are = (are.0, octets-take n xs are.1)
 
-octets-drop : (n : ℕ) (xs : List ℕ) → AreElements xs → AreElements (drop n xs)
+pub octets-drop : (n : ℕ) (xs : List ℕ) → AreElements xs → AreElements (drop n xs)
 octets-drop zero xs are = are
 octets-drop (suc n) [] are = tt
 octets-drop (suc n) (x ∷ xs) are = octets-drop n xs are.1

@@ -1,13 +1,13 @@
 -- What a receiver holds passes a test of positions, where what it hears does.
 use Rattle.std.proofs.Common.{◌≡◌, ℕ, List, [], ◌∷◌, Bool, true, false, Option, None, Some, Result, Ok, Err, refl, sym, ap, ◌∙◌, subst, ◌⊎◌, inl, inr}
-use Rattle.std.specs.Prelude.{◌==◌, ◌&&◌, not, option_and_then, unwrap_or, ⊤, ◌≤◌}
+use Rattle.std.specs.Prelude.{◌==◌, ◌&&◌, not, option_and_then, unwrap_or, ⊤}
 use Rattle.std.specs.List.{AllByRecursion}
 use Rattle.std.proofs.lemmas.Bool.Decides.{Decides-eqb}
 use Rattle.norm_base.specs.Settings.{Settings}
-use Rattle.fec_plan.specs.Points.{Point, point, point_of, position}
+use Rattle.fec_plan.specs.Points.{point, point_of, position}
 use Rattle.fec_plan.specs.declared.position.Position.{Position}
 use Rattle.norm_ext.specs.Extensions.{Extension, fti_of}
-use Rattle.norm_ext.specs.Message.{Message, Info, Data, Flush, Eot, Squelch, RepairAdv, AckReq, Opaque, Nack, Ack, Report, InfoMessage, DataMessage, RepairAdvCommand}
+use Rattle.norm_ext.specs.Message.{Message, Info, Data, Flush, Eot, Squelch, RepairAdv, AckReq, Opaque, Nack, Ack, Report}
 use Rattle.norm_ext.specs.ObjectIds.{index_named}
 use Rattle.norm_ext.specs.Reading.{decoded}
 use Rattle.norm_ext.specs.Written.{Written}
@@ -19,7 +19,7 @@ use Rattle.norm_receive_rules.specs.HandingUp.{handed_up}
 use Rattle.norm_receive_rules.specs.Holding.{Holding, Held}
 use Rattle.norm_receive_rules.specs.Leaving.{is_in, goes_to, enters, entered}
 use Rattle.norm_receive_rules.specs.Losing.{squelched}
-use Rattle.norm_receive_rules.specs.Overhearing.{overheard, nack_overheard, adv_overheard}
+use Rattle.norm_receive_rules.specs.Overhearing.{overheard, adv_overheard}
 use Rattle.norm_receive_rules.specs.Putting.{put_of, put_symbol, with_symbol, held_before, put_info_of, put_info, with_info}
 use Rattle.norm_receive_rules.specs.ReceiverState.{ReceiverState}
 use Rattle.norm_receive_rules.specs.Receiving.{object_held, info_received, data_received, flush_received, squelch_received, takes_in, in_instance, message_received, received}

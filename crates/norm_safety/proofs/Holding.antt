@@ -1,23 +1,24 @@
--- What a receiver of data and files holds in an instance: plans, symbols and infos of the instance's order, and hand-ups
--- that went exactly through it up to the hand-up point.
-use Rattle.std.proofs.Common.{◌≡◌, ℕ, suc, ◌+◌, ◌*◌, ◌/◌, ◌%◌, ◌≤◌, cond, List, [], ◌∷◌, ◌++◌, length, take, Bool, true, false, Option, None, Some, refl, sym, ap, ◌∙◌, subst, append_assoc, arith}
+-- What a receiver holds in an instance: plans, symbols and infos of the instance's order, and hand-ups that went exactly through it up to
+-- the hand-up point.
+use Rattle.std.proofs.Common.{◌≡◌, ℕ, zero, suc, ◌+◌, ◌*◌, ◌/◌, ◌%◌, ◌<◌, ◌≤◌, cond, List, [], ◌∷◌, ◌++◌, length, Bool, true, false, Option, None, Some, refl, sym, ap, ◌∙◌, subst, append_assoc, arith}
 use Rattle.std.specs.Prelude.{find, slice_get, ◌==◌, ◌&&◌, nat_lt, is_some, IsSomeAnd, if◌then◌else◌}
 use Rattle.std.specs.List.{AllByRecursion, list_all, range_with_len}
-use Rattle.std.proofs.lemmas.Bool.Decides.{Decides-eqb}
-use Rattle.std.proofs.lemmas.List.{length-take}
-use Rattle.std.proofs.lemmas.Option.{slice_get_within}
+use Rattle.std.proofs.Math.Nat.{add-mul}
+use Rattle.std.proofs.lemmas.Bool.{ltb-false}
+use Rattle.std.proofs.lemmas.Bool.Decides.{Decides-eqb, Decides-ltb}
 use Rattle.norm_base.specs.Settings.{Settings, InRange}
 use Rattle.norm_base.specs.declared.kinds.Kind.{Kind}
 use Rattle.norm_base.specs.declared.kinds.Kind.TheVariants as kind
-use Rattle.fec_plan.specs.Partition.{blocks}
+use Rattle.fec_plan.specs.Partition.{blocks, source_symbols}
+use Rattle.fec_plan.specs.Points.{Point, position}
 use Rattle.fec_plan.specs.declared.position.Position.{Position}
 use Rattle.norm_ext.specs.Asking.{has_flag}
-use Rattle.norm_order.specs.Entries.{Object, Whole, Stream, Entry}
+use Rattle.norm_order.specs.Entries.{Part, Object, Whole, Stream, Entry}
 use Rattle.norm_order.specs.Sets.{with_member}
 use Rattle.fec_plan.proofs.PositionLemmas.{before_decides, before_both}
 use Rattle.norm_order.specs.Shapes.{shape_of, encoded_in}
-use Rattle.norm_order.specs.Symbols.{symbol_octets}
-use Rattle.norm_order.specs.Upto.{parts_of, all_parts}
+use Rattle.norm_order.specs.Symbols.{segment_octets, symbol_octets}
+use Rattle.norm_order.specs.Upto.{segment_up, parts_of}
 use Rattle.norm_order.specs.declared.up.Up.{Up}
 use Rattle.norm_order.specs.declared.up.Up.TheVariants as up
 use Rattle.norm_send_rules.specs.Messages.{fti_of_object, object_flags}
@@ -25,15 +26,20 @@ use Rattle.norm_receive_rules.specs.Holding.{Holding, Plan, Held, HeldInfo}
 use Rattle.norm_receive_rules.specs.ReceiverState.{ReceiverState}
 use Rattle.norm_receive_rules.specs.Plans.{cut_of_plan, says_stream, says_info, plan_of, is_done, has_its_info, info_of}
 use Rattle.norm_receive_rules.specs.Putting.{held_before}
-use Rattle.norm_receive_rules.specs.HandingUp.{after_object, handed, is_whole, object_octets, kind_of, told_info, hands_object, hands_next, hands_one}
+use Rattle.norm_receive_rules.specs.HandingUp.{after_object, open_before, handed, is_whole, object_octets, kind_of, told_info, segment_length, segment_up as told_up, next_segment, hands_segment, hands_object, hands_next, hands_one}
 use Rattle.norm_safety.specs.SaysSymbols.{info_of_object}
 use Rattle.norm_safety.proofs.EntryLemmas.{clash}
-use Rattle.norm_safety.proofs.WholeOrders.{IsSized, AreSized}
+use Rattle.norm_safety.proofs.SizedOrders.{IsSized, AreSized}
 use Rattle.norm_safety.proofs.Spoken.{sized_at}
-use Rattle.norm_send_rules.proofs.CutNames.{cut_range}
+use Rattle.norm_send_rules.proofs.CutNames.{CutRange, cut_range}
 use Rattle.norm_safety.proofs.ObjectLemmas.{Rising, IsOfObject, object_again}
-use Rattle.norm_safety.proofs.Exact.{Exactly, exactly_hands, take_next}
-use Rattle.norm_safety.proofs.Stood.{Due, due_more, all_parts_end}
+use Rattle.norm_safety.proofs.GoesOn.{IsFinished}
+use Rattle.norm_safety.proofs.Passed.{StandsIn, StandsAt, begun}
+use Rattle.norm_safety.proofs.Through.{Handed}
+use Rattle.norm_safety.proofs.HandedMoves.{begun_first, handed_whole, handed_segment, handed_end}
+use Rattle.norm_safety.proofs.StreamHeld.{OfOctets, ClosedAt, closed_there, StreamPlan, stream_plan_cut, BeginsAs, value_begins}
+use Rattle.norm_safety.proofs.StreamUp.{length_again, up_again}
+use Rattle.norm_safety.proofs.Stood.{Due, due_more}
 
 -- ---- what is held
 
@@ -51,40 +57,59 @@ IsSymbolOf p order h = IsSomeAnd (slice_get order h.at.index) (λ (x : Entry).
 abbrev pub IsInfoOf : List Entry → HeldInfo → Type 0
 IsInfoOf order h = IsSomeAnd (slice_get order h.index) (λ (x : Entry). info_of_object x.object ≡ Some h.info)
 
--- What a receiver holds of an order that is dropped below an index, with what it handed up before and the acknowledgement that is
--- due: it is of the order, and hand-ups went exactly through that; where nothing was lost they are all parts before the
--- hand-up point; and everything before what is due was handed up.
-pub record HoldsOf (p : Settings) (order : List Entry) (d : ℕ) (taken : List Up) (due : Option Position) (r : Holding) : Type 0 where
+-- a plan among others
+abbrev pub plan_in : List Plan → ℕ → Option Plan
+plan_in plans index = find (λ (plan : Plan). plan.index == index) plans
+
+-- the hand-up point lies within an object only where its plan is known
+abbrev pub IsPlanned : List Plan → Position → Type 0
+IsPlanned plans point = plan_in plans point.index ≡ None → (point.block ≡ 0) × (point.symbol ≡ 0)
+
+-- What a receiver holds of an order with a drop point, with what it handed up before and the acknowledgement that is due: it is of
+-- the order; hand-ups passed all entries before the hand-up point and stand there, within an object whose plan is known; and everything
+-- before what is due was handed up.
+pub record HoldsOf (p : Settings) (order : List Entry) (d : Point) (taken : List Up) (due : Option Position) (r : Holding) : Type 0 where
   pub plans : AllByRecursion (IsPlanOf p order) r.plans
   pub symbols : AllByRecursion (IsSymbolOf p order) r.held
   pub rising : Rising r.held
   pub infos : AllByRecursion (IsInfoOf order) r.infos
-  pub block : r.point.block ≡ 0
-  pub symbol : r.point.symbol ≡ 0
-  pub within : r.point.index ≤ length order
-  pub gone : Exactly p d 0 (take r.point.index order) (taken ++ r.ups)
-  pub clean : r.lost ≡ [] → taken ++ r.ups ≡ all_parts p 0 (take r.point.index order)
+  pub planned : IsPlanned r.plans r.point
+  pub gone : Handed p order d r.lost (taken ++ r.ups) r.point
   pub confirms : Due p order (taken ++ r.ups) due
 
 -- the same of a receiver
-abbrev pub ReceiverHolds : Settings → List Entry → ℕ → List Up → ReceiverState → Type 0
+abbrev pub ReceiverHolds : Settings → List Entry → Point → List Up → ReceiverState → Type 0
 ReceiverHolds p order d taken r = HoldsOf p order d taken r.knows.due r.holding
 
 -- another acknowledgement may be due
-pub asks_due : (p : Settings) (order : List Entry) (d : ℕ) (taken : List Up) (due after : Option Position) (r : Holding)
+pub asks_due : (p : Settings) (order : List Entry) (d : Point) (taken : List Up) (due after : Option Position) (r : Holding)
     → Due p order (taken ++ r.ups) after → HoldsOf p order d taken due r → HoldsOf p order d taken after r
 asks_due p order d taken due after r confirms h = record {
   plans = h.plans;
   symbols = h.symbols;
   rising = h.rising;
   infos = h.infos;
-  block = h.block;
-  symbol = h.symbol;
-  within = h.within;
+  planned = h.planned;
   gone = h.gone;
-  clean = h.clean;
   confirms = confirms;
 }
+
+-- more is handed up
+pub handed_holding : (p : Settings) (order : List Entry) (d : Point) (taken : List Up) (due : Option Position) (r : Holding) (ups : List Up) (point : Position)
+    → Handed p order d r.lost ((taken ++ r.ups) ++ ups) point → IsPlanned r.plans point → HoldsOf p order d taken due r
+    → HoldsOf p order d taken due (handed ups point r)
+handed_holding p order d taken due r ups point gone planned h =
+    let H : List Up → Type 0 = λ us. Handed p order d r.lost us point in
+    let D : List Up → Type 0 = λ us. Due p order us due in
+    record {
+      plans = h.plans;
+      symbols = h.symbols;
+      rising = h.rising;
+      infos = h.infos;
+      planned = planned;
+      gone = subst H (append_assoc taken r.ups ups) gone;
+      confirms = subst D (append_assoc taken r.ups ups) (due_more p order (taken ++ r.ups) ups due h.confirms);
+    }
 
 -- ---- members of sorted lists
 
@@ -165,6 +190,10 @@ flags_say flags kind.File (Some info) octets e = record {
   infos = flag_is flags 4 1 (omega arith);
 }
 
+-- the flags of a stream say so
+pub stream_says : (flags : ℕ) (parts : List Part) → 4 * (flags / 4) ≡ object_flags (Stream parts) → says_stream flags ≡ true
+stream_says flags parts e = flag_is flags 32 1 (omega arith)
+
 -- ---- a hand-up
 
 -- a plan that is found is one of the plans, of that index
@@ -240,10 +269,11 @@ and_parts false b e = absurd (clash e)
 -- an object that is whole is handed up as its part
 whole_up : (p : Settings) → InRange p → (order : List Entry) (r : Holding) (plan : Plan) (x : Entry) (object : Object) → x.object ≡ object → IsSized p object
     → slice_get order plan.index ≡ Some x → plan.fti ≡ fti_of_object p object → 4 * (plan.flags / 4) ≡ object_flags object
-    → AllByRecursion (IsSymbolOf p order) r.held → AllByRecursion (IsInfoOf order) r.infos → Rising r.held → is_whole r plan ≡ true
+    → says_stream plan.flags ≡ false → AllByRecursion (IsSymbolOf p order) r.held → AllByRecursion (IsInfoOf order) r.infos → Rising r.held → is_whole r plan ≡ true
     → (up.Object plan.index (kind_of plan.flags) (told_info r plan) (object_octets r plan) ∷ []) ≡ parts_of p plan.index object
-whole_up p range order r plan x (Stream parts) is sized found fti flags symbols infos rising whole = absurd sized
-whole_up p range order r plan x (Whole kind info octets) is sized found fti flags symbols infos rising whole =
+whole_up p range order r plan x (Stream parts) is sized found fti flags plain symbols infos rising whole =
+    absurd (clash (sym plain ∙ stream_says plan.flags parts flags))
+whole_up p range order r plan x (Whole kind info octets) is sized found fti flags plain symbols infos rising whole =
     let object : Object = Whole kind info octets in
     let say = flags_say plan.flags kind info octets flags in
     let parts = and_parts (has_its_info r plan) (list_all (is_done r plan) (range_with_len 0 (blocks (cut_of_plan plan)))) whole in
@@ -276,8 +306,191 @@ whole_up p range order r plan x (Whole kind info octets) is sized found fti flag
         ap by_info says
         ∙ found_some (info_of r plan.index) i refl (sym (ap has_info says) ∙ has) (ap info_of_object is ∙ e)
 
+-- What is known of the object at the hand-up point, of which there is a plan.
+record AtPoint (p : Settings) (order : List Entry) (r : Holding) (plan : Plan) : Type 0 where
+  entry : Entry
+  found : slice_get order plan.index ≡ Some entry
+  here : slice_get order r.point.index ≡ Some entry
+  index : plan.index ≡ r.point.index
+  sized : IsSized p entry.object
+  fti : plan.fti ≡ fti_of_object p entry.object
+  flags : 4 * (plan.flags / 4) ≡ object_flags entry.object
+
+at_point : (p : Settings) (order : List Entry) (d : Point) (taken : List Up) (due : Option Position) (r : Holding) (plan : Plan) → AreSized p order
+    → HoldsOf p order d taken due r → plan_of r r.point.index ≡ Some plan → AtPoint p order r plan
+at_point p order d taken due r plan sized h is =
+    let found = found_plan (IsPlanOf p order) r.plans r.point.index plan h.plans is in
+    let entry = some_and _ (slice_get order plan.index) found.0 in
+    record {
+      entry = entry.0;
+      found = entry.1;
+      here = ap (slice_get order) (sym found.1) ∙ entry.1;
+      index = found.1;
+      sized = sized_at p order plan.index entry.0 sized entry.1;
+      fti = entry.2.0;
+      flags = entry.2.1;
+    }
+
+first_planned : (plans : List Plan) (index : ℕ) → IsPlanned plans (after_object index)
+first_planned plans index e = (refl, refl)
+
+known_planned : (plans : List Plan) (index block symbol : ℕ) (plan : Plan) → plan_in plans index ≡ Some plan → IsPlanned plans (position index block symbol)
+known_planned plans index block symbol plan known e = absurd (differ (sym known ∙ e))
+  where
+    differ : Some plan ≡ None → ⊥
+    differ e = cc
+
+-- an object that is whole is handed up
+object_holding : (p : Settings) → InRange p → (order : List Entry) (d : Point) (taken : List Up) (due : Option Position) (r : Holding) (plan : Plan)
+    → HoldsOf p order d taken due r → AtPoint p order r plan → says_stream plan.flags ≡ false → is_whole r plan ≡ true
+    → HoldsOf p order d taken due (handed (up.Object plan.index (kind_of plan.flags) (told_info r plan) (object_octets r plan) ∷ []) (after_object plan.index) r)
+object_holding p range order d taken due r plan h at plain done =
+    let x : Entry = at.entry in
+    let one : List Up = up.Object plan.index (kind_of plan.flags) (told_info r plan) (object_octets r plan) ∷ [] in
+    let up_is : one ≡ parts_of p plan.index x.object =
+    whole_up p range order r plan x x.object refl at.sized at.found at.fti at.flags plain h.symbols h.infos h.rising done in
+    let place = by_object x.object refl in
+    let none : begun p r.point.index (r.point.block * p.b + r.point.symbol) (Some x) ≡ [] =
+    ap (λ (b : ℕ). begun p r.point.index (b * p.b + r.point.symbol) (Some x)) place.1.0 ∙ ap (λ (s : ℕ). begun p r.point.index (0 * p.b + s) (Some x)) place.1.1
+    ∙ begun_first p r.point.index (Some x) in
+    let whole : begun p r.point.index (r.point.block * p.b + r.point.symbol) (Some x) ++ one ≡ parts_of p r.point.index x.object =
+    ap (λ (us : List Up). us ++ one) none ∙ up_is ∙ ap (λ (i : ℕ). parts_of p i x.object) at.index in
+    let H : ℕ → Type 0 = λ i. Handed p order d r.lost ((taken ++ r.ups) ++ one) (after_object i) in
+    handed_holding p order d taken due r one (after_object plan.index)
+    (subst H (sym at.index) (handed_whole p order d r.lost (taken ++ r.ups) one r.point x (let some = range.b.0 in some) at.here place.0 whole h.gone))
+    (first_planned r.plans plan.index) h
+  where
+    stands : StandsIn p at.entry.object r.point.block r.point.symbol
+    stands = let S : Option Entry → Type 0 = λ o. StandsAt p o r.point.block r.point.symbol in subst S at.here h.gone.stands
+
+    by_object : (o : Object) → at.entry.object ≡ o → IsFinished at.entry.object × ((r.point.block ≡ 0) × (r.point.symbol ≡ 0))
+    by_object (Whole kind info octets) is =
+        let F : Object → Type 0 = λ o. IsFinished o in
+        let S : Object → Type 0 = λ o. StandsIn p o r.point.block r.point.symbol in
+        (subst F (sym is) tt, subst S is stands)
+    by_object (Stream parts) is = absurd (clash (sym plain ∙ stream_says plan.flags parts (at.flags ∙ ap object_flags is)))
+
+-- the next segment of a stream is handed up
+segment_holding : (p : Settings) → InRange p → (order : List Entry) (d : Point) (taken : List Up) (due : Option Position) (r : Holding) (plan : Plan)
+    (symbol : List ℕ) → HoldsOf p order d taken due r → AtPoint p order r plan → plan_of r r.point.index ≡ Some plan → says_stream plan.flags ≡ true
+    → next_segment r plan ≡ Some symbol → HoldsOf p order d taken due (hands_segment p r plan symbol)
+segment_holding p range order d taken due r plan symbol h at known stream value = by_object at.entry.object refl
+  where
+    n : ℕ
+    n = r.point.block * p.b + r.point.symbol
+
+    cut : CutRange p
+    cut = cut_range p range
+
+    stands : StandsIn p at.entry.object r.point.block r.point.symbol
+    stands = let S : Option Entry → Type 0 = λ o. StandsAt p o r.point.block r.point.symbol in subst S at.here h.gone.stands
+
+    by_object : (o : Object) → at.entry.object ≡ o → HoldsOf p order d taken due (hands_segment p r plan symbol)
+    by_object (Whole kind info octets) is = absurd (clash (sym (flags_say plan.flags kind info octets (at.flags ∙ ap object_flags is)).stream ∙ stream))
+    by_object (Stream parts) is =
+        let Z : Object → Type 0 = λ o. IsSized p o in
+        let S : Object → Type 0 = λ o. StandsIn p o r.point.block r.point.symbol in
+        let O : Object → Type 0 = λ o. AllByRecursion (IsOfObject p o plan.index) r.held in
+        let sized = subst Z is at.sized in
+        let here : StandsIn p (Stream parts) r.point.block r.point.symbol = subst S is stands in
+        let of : OfOctets parts = record { octets = sized.2; few = sized.1 } in
+        let planned : StreamPlan p parts r plan = record {
+          fti = at.fti ∙ ap (fti_of_object p) is;
+          stream = stream;
+          symbols = subst O is (of_object p order r.held plan.index at.entry at.found h.symbols);
+          rising = h.rising;
+        } in
+        let begins = value_begins p cut parts of r plan r.point.block r.point.symbol symbol planned here.0 value in
+        goes parts is here planned begins (closed_there p parts n of begins.closed)
+      where
+        goes : (parts : List Part) → at.entry.object ≡ Stream parts → StandsIn p (Stream parts) r.point.block r.point.symbol → StreamPlan p parts r plan
+            → BeginsAs p parts n symbol → ClosedAt p parts n → HoldsOf p order d taken due (hands_segment p r plan symbol)
+        goes parts is here planned begins c = by_length (segment_length p symbol) refl (length c.segment.octets) long
+          where
+            symbol_is : symbol ≡ segment_octets c.segment ++ begins.rest
+            symbol_is = begins.is ∙ ap (λ (xs : List ℕ). xs ++ begins.rest) c.sent
+
+            long : segment_length p symbol ≡ length c.segment.octets
+            long = ap (segment_length p) symbol_is ∙ length_again p c.segment begins.rest cut.most_e c.short
+
+            told : told_up p r.point.index symbol ≡ segment_up r.point.index c.segment
+            told = ap (told_up p r.point.index) symbol_is ∙ up_again p r.point.index c.segment begins.rest cut.most_e c.short c.offset
+
+            ups : List Up
+            ups = open_before r.point ++ told_up p r.point.index symbol ∷ []
+
+            next : List Up
+            next = open_before r.point ++ segment_up r.point.index c.segment ∷ []
+
+            same : next ≡ ups
+            same = ap (λ (u : Up). open_before r.point ++ u ∷ []) (sym told)
+
+            -- the place behind the segment, by its length
+            behind : ℕ → Position
+            behind m = elim m [
+              | zero ↦ after_object r.point.index
+              | suc k ↦ elim (nat_lt (r.point.symbol + 1) (source_symbols (cut_of_plan plan) r.point.block)) [
+                | true ↦ position r.point.index r.point.block (r.point.symbol + 1)
+                | false ↦ position r.point.index (r.point.block + 1) 0
+              ]
+            ]
+
+            moved : (to : Position) → behind (segment_length p symbol) ≡ to → Handed p order d r.lost ((taken ++ r.ups) ++ next) to → IsPlanned r.plans to
+                → HoldsOf p order d taken due (hands_segment p r plan symbol)
+            moved to e gone plans =
+                let G : List Up → Type 0 = λ us. Handed p order d r.lost ((taken ++ r.ups) ++ us) to in
+                let K : Position → Type 0 = λ point. HoldsOf p order d taken due (handed ups point r) in
+                subst K (sym e) (handed_holding p order d taken due r ups to (subst G same gone) plans h)
+
+            some_b : 1 ≤ p.b
+            some_b = cut.least_b
+
+            some_e : 0 < p.e
+            some_e = let least = cut.least_e in omega (arith, least)
+
+            empty : (xs : List ℕ) → length xs ≡ 0 → xs ≡ []
+            empty [] e = refl
+            empty (x ∷ xs) e = absurd (omega (arith, e))
+
+            by_room : (m : ℕ) → segment_length p symbol ≡ suc m → 0 < length c.segment.octets → (b : Bool)
+                → nat_lt (r.point.symbol + 1) (source_symbols (cut_of_plan plan) r.point.block) ≡ b → HoldsOf p order d taken due (hands_segment p r plan symbol)
+            by_room m is_long octets true room =
+                let size : source_symbols (cut_of_plan plan) r.point.block ≡ p.b = ap (λ k. source_symbols k r.point.block) (stream_plan_cut p parts r plan planned) in
+                let lt = (Decides-ltb (r.point.symbol + 1) (source_symbols (cut_of_plan plan) r.point.block)).0 room in
+                moved (position r.point.index r.point.block (r.point.symbol + 1))
+                (ap behind is_long ∙ ap (λ (b : Bool). elim b [
+                  | true ↦ position r.point.index r.point.block (r.point.symbol + 1)
+                  | false ↦ position r.point.index (r.point.block + 1) 0
+                ]) room)
+                (handed_segment p order d r.lost (taken ++ r.ups) r.point at.entry parts some_b at.here is c begins.closed octets r.point.block (r.point.symbol + 1)
+                (omega (arith, size, lt)) (let z : r.point.block * p.b + (r.point.symbol + 1) ≡ suc (r.point.block * p.b + r.point.symbol) = omega arith in z) h.gone)
+                (known_planned r.plans r.point.index r.point.block (r.point.symbol + 1) plan known)
+            by_room m is_long octets false room =
+                let size : source_symbols (cut_of_plan plan) r.point.block ≡ p.b = ap (λ k. source_symbols k r.point.block) (stream_plan_cut p parts r plan planned) in
+                let le = ltb-false (r.point.symbol + 1) (source_symbols (cut_of_plan plan) r.point.block) room in
+                let low = here.0 in
+                let step : (r.point.block + 1) * p.b ≡ r.point.block * p.b + 1 * p.b = add-mul r.point.block 1 p.b in
+                moved (position r.point.index (r.point.block + 1) 0)
+                (ap behind is_long ∙ ap (λ (b : Bool). elim b [
+                  | true ↦ position r.point.index r.point.block (r.point.symbol + 1)
+                  | false ↦ position r.point.index (r.point.block + 1) 0
+                ]) room)
+                (handed_segment p order d r.lost (taken ++ r.ups) r.point at.entry parts some_b at.here is c begins.closed octets (r.point.block + 1) 0
+                (omega (arith, some_b)) (omega (arith, step, size, le, low)) h.gone)
+                (known_planned r.plans r.point.index (r.point.block + 1) 0 plan known)
+
+            by_length : (m : ℕ) → segment_length p symbol ≡ m → (l : ℕ) → segment_length p symbol ≡ l → HoldsOf p order d taken due (hands_segment p r plan symbol)
+            by_length zero e l f =
+                let none : length c.segment.octets ≡ 0 = sym long ∙ e in
+                moved (after_object r.point.index) (ap behind e)
+                (handed_end p order d r.lost (taken ++ r.ups) r.point at.entry parts some_b some_e at.here is c begins.closed (empty c.segment.octets none) h.gone)
+                (first_planned r.plans r.point.index)
+            by_length (suc m) e l f =
+                let some : length c.segment.octets ≡ suc m = sym long ∙ e in
+                by_room m e (omega (arith, some)) (nat_lt (r.point.symbol + 1) (source_symbols (cut_of_plan plan) r.point.block)) refl
+
 -- what is handed up next, with the order
-pub hands_holding : (p : Settings) → InRange p → (order : List Entry) (d : ℕ) (taken : List Up) (due : Option Position) (r after : Holding) → AreSized p order
+pub hands_holding : (p : Settings) → InRange p → (order : List Entry) (d : Point) (taken : List Up) (due : Option Position) (r after : Holding) → AreSized p order
     → HoldsOf p order d taken due r → hands_one p r ≡ Some after → HoldsOf p order d taken due after
 hands_holding p range order d taken due r after sized h e = go (plan_of r r.point.index) refl e
   where
@@ -287,72 +500,38 @@ hands_holding p range order d taken due r after sized h e = go (plan_of r r.poin
     none_state : (a : Holding) → None ≡ Some a → ⊥
     none_state a e = cc
 
+    K : Holding → Type 0
+    K s = HoldsOf p order d taken due s
+
     next : Plan → Holding
     next plan = handed (up.Object plan.index (kind_of plan.flags) (told_info r plan) (object_octets r plan) ∷ []) (after_object plan.index) r
 
-    whole : (plan : Plan) → plan_of r r.point.index ≡ Some plan → is_whole r plan ≡ true → HoldsOf p order d taken due (next plan)
-    whole plan is done =
-        let found = found_plan (IsPlanOf p order) r.plans r.point.index plan h.plans is in
-        let entry = some_and _ (slice_get order plan.index) found.0 in
-        let x : Entry = entry.0 in
-        let up_is = whole_up p range order r plan x x.object refl (sized_at p order plan.index x sized entry.1) entry.1 entry.2.0 entry.2.1
-        h.symbols h.infos h.rising done in
-        let lt = slice_get_within order plan.index x entry.1 in
-        let at : slice_get order r.point.index ≡ Some x = ap (slice_get order) (sym found.1) ∙ entry.1 in
-        let many = length-take r.point.index order in
-        let E : ℕ → Type 0 = λ n. Exactly p d 0 (take n order) (taken ++ (r.ups ++ up.Object plan.index (kind_of plan.flags) (told_info r plan) (object_octets r plan) ∷ [])) in
-        let F : List Entry → Type 0 = λ xs. Exactly p d 0 xs (taken ++ (r.ups ++ up.Object plan.index (kind_of plan.flags) (told_info r plan) (object_octets r plan) ∷ [])) in
-        let U : List Up → Type 0 = λ us. Exactly p d 0 (take r.point.index order ++ x ∷ []) us in
-        let joined : (taken ++ r.ups) ++ parts_of p plan.index x.object ≡ taken ++ (r.ups ++ up.Object plan.index (kind_of plan.flags) (told_info r plan) (object_octets r plan) ∷ []) =
-        append_assoc taken r.ups (parts_of p plan.index x.object) ∙ ap (λ (us : List Up). taken ++ (r.ups ++ us)) (sym up_is) in
-        record {
-          plans = h.plans;
-          symbols = h.symbols;
-          rising = h.rising;
-          infos = h.infos;
-          block = refl;
-          symbol = refl;
-          within = omega arith;
-          gone = subst E (let z : suc r.point.index ≡ plan.index + 1 = (let w = found.1 in omega arith) in z)
-              (subst F (sym (take_next order r.point.index x at))
-              (subst U joined (exactly_hands p d 0 (take r.point.index order) (taken ++ r.ups) x plan.index
-              (let w = found.1 in let v = h.within in omega arith) h.gone)));
-          clean = λ none. (
-              sym joined ∙ ap (λ (us : List Up). us ++ parts_of p plan.index x.object) (h.clean none)
-              ∙ sym (all_parts_end p 0 plan.index (take r.point.index order) x (let w = found.1 in let v = h.within in omega arith))
-              ∙ ap (all_parts p 0) (sym (take_next order r.point.index x at))
-              ∙ ap (λ (n : ℕ). all_parts p 0 (take n order)) (let z : suc r.point.index ≡ plan.index + 1 = (let w = found.1 in omega arith) in z)
-              );
-          confirms = (
-              let D : List Up → Type 0 = λ us. Due p order us due in
-              let one : List Up = up.Object plan.index (kind_of plan.flags) (told_info r plan) (object_octets r plan) ∷ [] in
-              subst D (append_assoc taken r.ups one) (due_more p order (taken ++ r.ups) one due h.confirms)
-              );
-        }
-
-    object : (plan : Plan) → plan_of r r.point.index ≡ Some plan → (b : Bool) → is_whole r plan ≡ b
+    whole : (plan : Plan) → AtPoint p order r plan → says_stream plan.flags ≡ false → (b : Bool) → is_whole r plan ≡ b
         → (elim b [ true ↦ Some (next plan) | false ↦ None ]) ≡ Some after → HoldsOf p order d taken due after
-    object plan is true done e = let K : Holding → Type 0 = λ s. HoldsOf p order d taken due s in subst K (same_state (next plan) after e) (whole plan is done)
-    object plan is false done e = absurd (none_state after e)
+    whole plan at plain true done e = subst K (same_state (next plan) after e) (object_holding p range order d taken due r plan h at plain done)
+    whole plan at plain false done e = absurd (none_state after e)
 
-    not_stream : (plan : Plan) → plan_of r r.point.index ≡ Some plan → says_stream plan.flags ≡ false
-    not_stream plan is =
-        let found = found_plan (IsPlanOf p order) r.plans r.point.index plan h.plans is in
-        let entry = some_and _ (slice_get order plan.index) found.0 in
-        of_kind entry.0.object (sized_at p order plan.index entry.0 sized entry.1) entry.2.1
-      where
-        of_kind : (o : Object) → IsSized p o → 4 * (plan.flags / 4) ≡ object_flags o → says_stream plan.flags ≡ false
-        of_kind (Whole kind info octets) s f = (flags_say plan.flags kind info octets f).stream
-        of_kind (Stream parts) s f = absurd s
+    segment : (plan : Plan) → AtPoint p order r plan → plan_of r r.point.index ≡ Some plan → says_stream plan.flags ≡ true → (value : Option (List ℕ))
+        → next_segment r plan ≡ value → (elim value [ Some symbol ↦ Some (hands_segment p r plan symbol) | None ↦ None ]) ≡ Some after
+        → HoldsOf p order d taken due after
+    segment plan at known stream (Some symbol) value e =
+        subst K (same_state (hands_segment p r plan symbol) after e) (segment_holding p range order d taken due r plan symbol h at known stream value)
+    segment plan at known stream None value e = absurd (none_state after e)
 
-    plain : (plan : Plan) → plan_of r r.point.index ≡ Some plan → (b : Bool) → b ≡ false
+    informed : (plan : Plan) → AtPoint p order r plan → plan_of r r.point.index ≡ Some plan → says_stream plan.flags ≡ true → (b : Bool)
+        → (elim b [ true ↦ elim (next_segment r plan) [ Some symbol ↦ Some (hands_segment p r plan symbol) | None ↦ None ] | false ↦ None ]) ≡ Some after
+        → HoldsOf p order d taken due after
+    informed plan at known stream true e = segment plan at known stream (next_segment r plan) refl e
+    informed plan at known stream false e = absurd (none_state after e)
+
+    by_kind : (plan : Plan) → AtPoint p order r plan → plan_of r r.point.index ≡ Some plan → (b : Bool) → says_stream plan.flags ≡ b
         → (elim b [ true ↦ hands_next p r plan | false ↦ hands_object r plan ]) ≡ Some after → HoldsOf p order d taken due after
-    plain plan is true never e = absurd (clash (sym never))
-    plain plan is false never e = object plan is (is_whole r plan) refl e
+    by_kind plan at known true stream e = informed plan at known stream (has_its_info r plan) e
+    by_kind plan at known false plain e = whole plan at plain (is_whole r plan) refl e
 
     go : (found : Option Plan) → plan_of r r.point.index ≡ found → (elim found [
       | Some plan ↦ elim (says_stream plan.flags) [ true ↦ hands_next p r plan | false ↦ hands_object r plan ]
       | None ↦ None
     ]) ≡ Some after → HoldsOf p order d taken due after
     go None is e = absurd (none_state after e)
-    go (Some plan) is e = plain plan is (says_stream plan.flags) (not_stream plan is) e
+    go (Some plan) is e = by_kind plan (at_point p order d taken due r plan sized h is) is (says_stream plan.flags) refl e

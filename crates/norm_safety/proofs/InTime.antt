@@ -1,6 +1,6 @@
 -- In an honest run of few objects nothing comes too late: all that nodes know and say has small indices, which lie near each other.
-use Rattle.std.proofs.Common.{◌≡◌, ℕ, ◌+◌, ◌-◌, ◌<◌, ◌≤◌, cond, List, [], ◌∷◌, ◌++◌, length, Bool, true, false, Option, None, Some, refl, sym, ap, ◌∙◌, subst, arith, inl, inr}
-use Rattle.std.specs.Prelude.{◌⊎◌, ◌==◌, ◌&&◌, ◌||◌, map, flat_map, find, filter, slice_get, not, nat_le, nat_lt, nat_eq, option_and_then, Contains, IsTrue, IsSomeAnd, IfSome, ⊤}
+use Rattle.std.proofs.Common.{◌≡◌, ℕ, ◌+◌, ◌<◌, ◌≤◌, cond, List, [], ◌∷◌, ◌++◌, length, Bool, true, false, Option, None, Some, refl, sym, ap, subst, arith, inl, inr}
+use Rattle.std.specs.Prelude.{◌⊎◌, ◌==◌, ◌&&◌, map, flat_map, find, slice_get, nat_le, nat_lt, nat_eq, option_and_then, IsTrue, IsSomeAnd, IfSome}
 use Rattle.std.specs.List.{list_all, AllByRecursion, IsDistinct}
 use Rattle.std.specs.Option.{option_map}
 use Rattle.std.proofs.lemmas.Bool.Decides.{leb_tells}
@@ -9,23 +9,22 @@ use Rattle.std.proofs.lemmas.Option.{slice_get_within}
 use Rattle.norm_base.specs.Settings.{Settings, InRange}
 use Rattle.norm_base.specs.Members.{receivers_of}
 use Rattle.norm_base.specs.declared.node.Origin.{Origin}
-use Rattle.fec_plan.specs.Points.{Point, point, point_before, position}
+use Rattle.fec_plan.specs.Points.{Point, point}
 use Rattle.fec_plan.proofs.PointLemmas.{behind_point}
-use Rattle.norm_ext.specs.Message.{Message, Info, Data, Flush, Eot, Squelch, RepairAdv, AckReq, Opaque, Nack, Ack, Report, SquelchCommand}
+use Rattle.norm_ext.specs.Message.{Message, Info, Data, Flush, Eot, Squelch, RepairAdv, AckReq, Opaque, Nack, Ack, Report}
 use Rattle.norm_ext.specs.Written.{Written}
 use Rattle.norm_order.specs.Entries.{Entry}
 use Rattle.norm_order.specs.Shapes.{closed_in}
-use Rattle.norm_receive_rules.specs.Leaving.{is_in, goes_to, enters, entered}
+use Rattle.norm_receive_rules.specs.Leaving.{is_in, goes_to, enters}
 use Rattle.norm_receive_rules.specs.ReceiverState.{ReceiverState, receiver_opening}
 use Rattle.norm_receive_rules.specs.Receiving.{received}
 use Rattle.norm_receive_rules.specs.Taking.{took}
 use Rattle.norm_receive_rules.specs.Ticking.{ticked as receiver_ticked}
 use Rattle.norm_receive_rules.specs.ReceiverStep as receiver
-use Rattle.norm_send_rules.specs.Commanding.{commanded}
 use Rattle.norm_send_rules.specs.Hearing.{heard}
 use Rattle.norm_send_rules.specs.InWindow.{last_index}
 use Rattle.norm_send_rules.specs.Restarting.{instances}
-use Rattle.norm_send_rules.specs.SenderState.{SenderState, Instance, Watermark, sender_opening}
+use Rattle.norm_send_rules.specs.SenderState.{SenderState, Instance, Watermark}
 use Rattle.norm_send_rules.specs.SenderStep as sender
 use Rattle.norm_send_rules.specs.Telling.{told}
 use Rattle.norm_send_rules.specs.Ticking.{ticked as sender_ticked}
@@ -34,21 +33,22 @@ use Rattle.norm_send_rules.proofs.ShapeLemmas.{blocks_of}
 use Rattle.norm_safety.specs.Events.{Event, Commanded, Delivered, Ticked, Offered, UpTaken, NewsAsked}
 use Rattle.norm_safety.specs.History.{Happening, happens, last_world}
 use Rattle.norm_safety.specs.InOrder.{drop_of}
-use Rattle.norm_safety.specs.InTime.{WasOffered, MayComeLate, HonestFrom, Honest, accepted_in, FewObjects, TimeLaws}
-use Rattle.norm_safety.specs.Jobs.{IsEvent, IsOfObjects, AreEvents, AreOfObjects}
-use Rattle.norm_safety.specs.Lawful.{knows_with, knows_in, receiver_knows, sender_knows_in, sender_knows, node_knows, most_apart, is_near, are_near, comes_in_time, accepted_with, MayCome, LawfulFrom, Lawful}
-use Rattle.norm_safety.specs.OnceEach.{origins_of, origins, instance_ids, order_of}
+use Rattle.norm_safety.specs.InTime.{MayComeLate, HonestFrom, Honest, accepted_in, FewObjects, TimeLaws}
+use Rattle.norm_safety.specs.Jobs.{IsEvent, AreEvents}
+use Rattle.norm_safety.specs.Lawful.{knows_with, knows_in, receiver_knows, sender_knows_in, sender_knows, node_knows, most_apart, is_near, are_near, comes_in_time, accepted_with, MayCome, LawfulFrom}
+use Rattle.norm_safety.specs.OnceEach.{origins_of, instance_ids, order_of}
 use Rattle.norm_safety.specs.Said.{about, first_index}
 use Rattle.norm_safety.specs.SaysSymbols.{SaysSymbol, SaysInfo}
 use Rattle.norm_safety.specs.World.{World, world_opening, receiver_at, with_receiver, with_given, given_others, is_of, offers}
-use Rattle.norm_safety.specs.WorldStep.{world_step, moved, OfSender, OfReceiver, node_move, receiver_move, run_from, run}
+use Rattle.norm_safety.specs.WorldStep.{world_step, moved, node_move, receiver_move, run_from, run}
 use Rattle.norm_safety.proofs.EntryLemmas.{clash}
 use Rattle.norm_safety.proofs.LowKnown.{IsLow, low_nothing, received_low, SentLow, tick_low}
 use Rattle.norm_safety.proofs.LowNeeds.{AreUpTo}
 use Rattle.norm_safety.proofs.OnceRun.{once_in}
+use Rattle.norm_safety.proofs.GoesOn.{later_long}
 use Rattle.norm_safety.proofs.Onward.{Onward, instance_in, goes_on_itself, go_on_both}
 use Rattle.norm_safety.proofs.OrderRun.{event_holds, opening_world, happening, found_holds}
-use Rattle.norm_safety.proofs.SenderHolds.{SenderHolds, Steps, OrdersHold, command_steps, keeps_steps, order_later, orders_hold, opening_holds, point_in}
+use Rattle.norm_safety.proofs.SenderHolds.{SenderHolds, Steps, OrdersHold, command_steps, keeps_steps, order_later, orders_hold, point_in}
 use Rattle.norm_safety.proofs.SenderKeeps.{heard_keeps, ticked_keeps, told_keeps}
 use Rattle.norm_safety.proofs.Spoken.{IsTrueOf, IsSpoken, SaysTrue, current_order, entry_with}
 use Rattle.norm_safety.proofs.TickTrue.{SentTrue, tick_true}
@@ -178,7 +178,7 @@ true_low p s indices (Squelch m) orders few spoken (speaks, says) =
     let is : (drop_of s m.head.instance).index ≡ i.drop.index = ap (λ (found : Option Instance). (point_in found).index) found in
     let le = not_above i.drop (point (first_index indices) m.id.block) (behind_point i.drop (point (first_index indices) m.id.block) before) in
     let same = ap first_index speaks.alone in
-    let within = orders.within m.head.instance in
+    let within = (orders.within m.head.instance).within in
     let most = few m.head.instance in
     subst S (sym speaks.alone) (omega (arith, is, le, same, within, most), tt)
 true_low p s indices (Eot m) orders few spoken says = absurd spoken
@@ -321,10 +321,10 @@ event_low p range w NewsAsked past accepted may few holds h = still_low w _ h
 
 -- ---- orders only go on
 
-sender_steps : (p : Settings) → InRange p → (w : World) (e : Event) → IsEvent e → IsOfObjects e → SenderHolds p w.sender
+sender_steps : (p : Settings) → InRange p → (w : World) (e : Event) → IsEvent e → SenderHolds p w.sender
     → Steps p w.sender (world_step p w e).0.sender
-sender_steps p range w (Commanded by job now) is of h = command_steps p range w.sender by job now is of h
-sender_steps p range w (Delivered node octets now draw) is of h = go (node == p.sender) (receiver_at w node)
+sender_steps p range w (Commanded by job now) is h = command_steps p range w.sender by job now is h
+sender_steps p range w (Delivered node octets now draw) is h = go (node == p.sender) (receiver_at w node)
   where
     go : (own : Bool) (found : Option ReceiverState)
         → Steps p w.sender (moved p w (node_move own found (sender.Delivered octets now) (receiver.Delivered octets now draw))).0.sender
@@ -333,7 +333,7 @@ sender_steps p range w (Delivered node octets now draw) is of h = go (node == p.
         (wants_step p (blocks_of p range) w.sender (sender.Delivered octets now) h.wants) h
     go false None = record { holds = h; onward = goes_on_itself (instances w.sender) }
     go false (Some r) = record { holds = h; onward = goes_on_itself (instances w.sender) }
-sender_steps p range w (Ticked node now) is of h = go (node == p.sender) (receiver_at w node)
+sender_steps p range w (Ticked node now) is h = go (node == p.sender) (receiver_at w node)
   where
     given_same : (node : ℕ) (sent : Option Written) (v : World) → Steps p w.sender v.sender → Steps p w.sender (with_given node sent v).sender
     given_same node None v steps = steps
@@ -347,47 +347,46 @@ sender_steps p range w (Ticked node now) is of h = go (node == p.sender) (receiv
     go false None = record { holds = h; onward = goes_on_itself (instances w.sender) }
     go false (Some r) =
         given_same r.node (receiver_ticked p r now).1 (with_receiver (receiver_ticked p r now).0 w) (record { holds = h; onward = goes_on_itself (instances w.sender) })
-sender_steps p range w (Offered node octets) is of h = go (find (is_of node octets) w.given)
+sender_steps p range w (Offered node octets) is h = go (find (is_of node octets) w.given)
   where
     go : (found : Option (ℕ × Written)) → Steps p w.sender (offers found node w).sender
     go None = record { holds = h; onward = goes_on_itself (instances w.sender) }
     go (Some o) = record { holds = h; onward = goes_on_itself (instances w.sender) }
-sender_steps p range w (UpTaken node) is of h = go (receiver_at w node)
+sender_steps p range w (UpTaken node) is h = go (receiver_at w node)
   where
     go : (found : Option ReceiverState) → Steps p w.sender (moved p w (receiver_move found receiver.UpTaken)).0.sender
     go None = record { holds = h; onward = goes_on_itself (instances w.sender) }
     go (Some r) = record { holds = h; onward = goes_on_itself (instances w.sender) }
-sender_steps p range w NewsAsked is of h =
+sender_steps p range w NewsAsked is h =
     keeps_steps p w.sender (told w.sender).0 (told_keeps w.sender) (wants_step p (blocks_of p range) w.sender sender.NewsAsked h.wants) h
 
-goes_on : (p : Settings) → InRange p → (w : World) (events : List Event) → AreEvents events → AreOfObjects events → SenderHolds p w.sender
+goes_on : (p : Settings) → InRange p → (w : World) (events : List Event) → AreEvents events → SenderHolds p w.sender
     → Onward w.sender (run_from p w events).sender
-goes_on p range w [] are of h = goes_on_itself (instances w.sender)
-goes_on p range w (e ∷ events) are of h =
-    let steps = sender_steps p range w e are.0 of.0 h in
+goes_on p range w [] are h = goes_on_itself (instances w.sender)
+goes_on p range w (e ∷ events) are h =
+    let steps = sender_steps p range w e are.0 h in
     go_on_both (instances w.sender) (instances (world_step p w e).0.sender) (instances (run_from p w (e ∷ events)).sender) steps.onward
-    (goes_on p range (world_step p w e).0 events are.1 of.1 steps.holds)
+    (goes_on p range (world_step p w e).0 events are.1 steps.holds)
 
 -- an instance has no more objects than later
 few_before : (s t : SenderState) → Onward s t → FewObjects t → FewObjects s
 few_before s t onward few id =
-    let later = order_later s t onward id in
-    let longer = ap length later.order ∙ length-append (order_of s id) later.more in
+    let longer = later_long (order_of s id) (order_of t id) (order_later s t onward id).order in
     let most = few id in
     omega (arith, longer, most)
 
 -- ---- a run
 
 lawful_from : (p : Settings) → InRange p → (past : List Happening) (accepted : List Origin) (w : World) (events : List Event) → HonestFrom p w accepted events
-    → AreEvents events → AreOfObjects events → FewObjects (run_from p w events).sender → WorldHolds p past accepted w → LowWorld w → LawfulFrom p w accepted events
-lawful_from p range past accepted w [] honest are of few holds h = tt
-lawful_from p range past accepted w (e ∷ events) honest are of few holds h =
+    → AreEvents events → FewObjects (run_from p w events).sender → WorldHolds p past accepted w → LowWorld w → LawfulFrom p w accepted events
+lawful_from p range past accepted w [] honest are few holds h = tt
+lawful_from p range past accepted w (e ∷ events) honest are few holds h =
     let step = world_step p w e in
-    let now = few_before w.sender (run_from p w (e ∷ events)).sender (goes_on p range w (e ∷ events) are of holds.sender) few in
+    let now = few_before w.sender (run_from p w (e ∷ events)).sender (goes_on p range w (e ∷ events) are holds.sender) few in
     let may = event_may p w e past accepted honest.0 now holds h in
-    let next = event_holds p range past accepted w e may are.0 of.0 holds in (
+    let next = event_holds p range past accepted w e may are.0 holds in (
       may,
-      lawful_from p range (past ++ happening w e step ∷ []) (accepted_with accepted e step.1) step.0 events honest.1 are.1 of.1 few next
+      lawful_from p range (past ++ happening w e step ∷ []) (accepted_with accepted e step.1) step.0 events honest.1 are.1 few next
           (event_low p range w e past accepted may now holds h),
     )
 
@@ -441,7 +440,7 @@ few_commands p events honest most id =
 
 pub time_laws : TimeLaws
 time_laws = record {
-  lawful = λ p range events honest are of few.
-      lawful_from p range [] [] (world_opening p) events honest are of few (opening_world p range) (low_opening p);
+  lawful = λ p range events honest are few.
+      lawful_from p range [] [] (world_opening p) events honest are few (opening_world p range) (low_opening p);
   few = few_commands;
 }

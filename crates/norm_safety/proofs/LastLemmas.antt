@@ -1,4 +1,4 @@
--- The last closed source symbol of an order of data and files is one of its source symbols, and stays one.
+-- The last closed source symbol of an order is one of its source symbols, and a source symbol stays one as more entries join.
 use Rattle.std.proofs.Common.{◌≡◌, ℕ, zero, suc, List, [], ◌∷◌, ◌++◌, Bool, true, false, Some}
 use Rattle.std.specs.Prelude.{nat_lt}
 use Rattle.std.specs.List.{AllByRecursion}
@@ -9,17 +9,18 @@ use Rattle.norm_order.specs.Shapes.{Shape, shapes_of, closed_in, at_index, is_so
 use Rattle.norm_send_rules.specs.Reached.{FitsProfile}
 use Rattle.norm_send_rules.proofs.PlaceLemmas.{last_is_source as last_of_fitting}
 use Rattle.norm_safety.proofs.EntryLemmas.{clash}
-use Rattle.norm_safety.proofs.WholeOrders.{IsSized, AreSized}
+use Rattle.norm_safety.proofs.SizedOrders.{IsSized, AreSized}
 use Rattle.norm_send_rules.proofs.CutNames.{CutRange}
 
--- objects of their sizes fit the profile
-sized_fit : (p : Settings) (order : List Entry) → AreSized p order → AllByRecursion (λ (x : Entry). FitsProfile p x.object) order
+-- an object of its size fits the profile
+pub sized_fits : (p : Settings) (object : Object) → IsSized p object → FitsProfile p object
+sized_fits p (Whole kind info octets) h = (h.0, h.1, h.2)
+sized_fits p (Stream parts) h = h.0
+
+-- and so does each of an order
+pub sized_fit : (p : Settings) (order : List Entry) → AreSized p order → AllByRecursion (λ (x : Entry). FitsProfile p x.object) order
 sized_fit p [] all = tt
-sized_fit p (x ∷ order) all = (fits x.object all.0, sized_fit p order all.1)
-  where
-    fits : (object : Object) → IsSized p object → FitsProfile p object
-    fits (Whole kind info octets) h = (h.0, h.1, h.2)
-    fits (Stream parts) h = absurd h
+sized_fit p (x ∷ order) all = (sized_fits p x.object all.0, sized_fit p order all.1)
 
 pub last_is_source : (p : Settings) → CutRange p → (order : List Entry) (at : Position) → AreSized p order → last_source (shapes_of p order) ≡ Some at
     → is_source (shapes_of p order) at ≡ true

@@ -1,6 +1,6 @@
--- A receiver is listed only past what it handed up: kept by each event of a lawful run of data and files, and so at its end.
-use Rattle.std.proofs.Common.{◌≡◌, ◌<◌, ℕ, List, [], ◌∷◌, ◌++◌, Bool, true, false, Option, None, Some, refl, sym, ap, ◌∙◌, subst, append_assoc, arith}
-use Rattle.std.specs.Prelude.{map, find, ◌==◌, option_and_then, IsTrue, Contains, IfSome}
+-- A receiver is listed only past what it handed up: kept by each event of a lawful run, and so at its end.
+use Rattle.std.proofs.Common.{◌≡◌, ◌<◌, ℕ, List, [], ◌∷◌, ◌++◌, Bool, true, false, Option, None, Some, refl, sym, ap, ◌∙◌, subst, append_assoc}
+use Rattle.std.specs.Prelude.{find, ◌==◌, option_and_then, IsTrue, IfSome}
 use Rattle.std.specs.List.{AllByRecursion}
 use Rattle.std.proofs.lemmas.List.{append-nil}
 use Rattle.norm_base.specs.Settings.{Settings, InRange}
@@ -11,7 +11,6 @@ use Rattle.norm_ext.specs.Written.{Written}
 use Rattle.norm_order.specs.Entries.{Entry}
 use Rattle.norm_order.specs.Upto.{upto}
 use Rattle.norm_order.specs.declared.up.Up.{Up}
-use Rattle.norm_receive_rules.specs.Holding.{Holding}
 use Rattle.norm_receive_rules.specs.ReceiverState.{ReceiverState}
 use Rattle.norm_receive_rules.specs.ReceiverStep as receiver
 use Rattle.norm_receive_rules.specs.Ticking.{ticked as receiver_ticked}
@@ -29,7 +28,7 @@ use Rattle.norm_safety.specs.Events.{Event, Commanded, Delivered, Ticked, Offere
 use Rattle.norm_safety.specs.Fronts.{IsFront}
 use Rattle.norm_safety.specs.Hands.{hands, taken_in, is_at}
 use Rattle.norm_safety.specs.History.{Happening, happens, last_world, history}
-use Rattle.norm_safety.specs.Jobs.{IsJob, OpensNone, IsEvent, IsOfObjects, AreEvents, AreOfObjects}
+use Rattle.norm_safety.specs.Jobs.{IsJob, IsEvent, AreEvents}
 use Rattle.norm_safety.specs.Lawful.{sender_knows, receiver_knows, are_near, comes_in_time, accepted_with, AllTaken, MayCome, LawfulFrom, Lawful}
 use Rattle.norm_safety.specs.ListedAfter.{ListedAfter}
 use Rattle.norm_safety.specs.OnceEach.{order_of}
@@ -40,10 +39,10 @@ use Rattle.norm_safety.proofs.Listed.{ListsGo, Goes, Anew, ListedDue, command_li
 use Rattle.norm_safety.proofs.Onward.{Onward, goes_on_itself}
 use Rattle.norm_safety.proofs.ReceiverMoves.{Standing}
 use Rattle.norm_safety.proofs.OrderRun.{happening, taken_by, found_holds, event_holds, opening_world}
-use Rattle.norm_safety.proofs.SenderHolds.{Steps, command_steps, keeps_steps, orders_hold}
+use Rattle.norm_safety.proofs.SenderHolds.{command_steps, keeps_steps, orders_hold}
 use Rattle.norm_safety.proofs.SenderKeeps.{Keeps, heard_keeps, ticked_keeps, told_keeps}
 use Rattle.norm_safety.proofs.Spoken.{current_order}
-use Rattle.norm_safety.proofs.Stood.{Stood, Due}
+use Rattle.norm_safety.proofs.Stood.{Due}
 use Rattle.norm_safety.proofs.TickTrue.{SentTrue, tick_true}
 use Rattle.norm_safety.proofs.WorldHolds.{CameTo, AtReceiver, AtNode, WorldHolds, hands_more, all_filter, all_end, all_contains, all_later}
 
@@ -66,32 +65,32 @@ hands_on past x = record {
 }
 
 -- Where orders go on, and acknowledgements and listings are true of the orders and hand-ups before an event, they are so after it.
-confirms_on : (p : Settings) (past : List Happening) (w v : World) (e : Event) (answer : Answer) → Onward w.sender v.sender
+confirms_on : (p : Settings) → InRange p → (past : List Happening) (w v : World) (e : Event) (answer : Answer) → Onward w.sender v.sender
     → AllByRecursion (λ (o : ℕ × Written). AckTrue p w.sender (hands past) o.1) v.offered
     → AllByRecursion (λ (o : ℕ × Written). AckTrue p w.sender (hands past) o.1) v.given
     → AllByRecursion (ListedDue p (order_of w.sender v.sender.current.id) (λ node. hands past node v.sender.current.id)) v.sender.listings
     → Confirms p (past ++ record { before = w; event = e; answer = answer; after = v } ∷ []) v
-confirms_on p past w v e answer onward offered given listed =
+confirms_on p range past w v e answer onward offered given listed =
     let x : Happening = record { before = w; event = e; answer = answer; after = v } in
     let more = hands_on past x in
     let later : (o : ℕ × Written) → AckTrue p w.sender (hands past) o.1 → AckTrue p v.sender (hands (past ++ x ∷ [])) o.1 =
-    λ o h. ack_later p w.sender v.sender (hands past) (hands (past ++ x ∷ [])) o.1 onward more h in
+    λ o h. ack_later p range w.sender v.sender (hands past) (hands (past ++ x ∷ [])) o.1 onward more h in
     record {
       offered = all_later _ (λ (o : ℕ × Written). AckTrue p v.sender (hands (past ++ x ∷ [])) o.1) v.offered later offered;
       given = all_later _ (λ (o : ℕ × Written). AckTrue p v.sender (hands (past ++ x ∷ [])) o.1) v.given later given;
       listed = all_later _ (ListedDue p (order_of v.sender v.sender.current.id) (λ node. hands (past ++ x ∷ []) node v.sender.current.id)) v.sender.listings
-          (λ l h. due_on p w.sender v.sender (hands past) (hands (past ++ x ∷ [])) l.node v.sender.current.id l.past onward more h) listed;
+          (λ l h. due_on p range w.sender v.sender (hands past) (hands (past ++ x ∷ [])) l.node v.sender.current.id l.past onward more h) listed;
     }
 
 -- an event that leaves the sender
-still_confirms : (p : Settings) (past : List Happening) (w v : World) (e : Event) (answer : Answer) → v.sender ≡ w.sender
+still_confirms : (p : Settings) → InRange p → (past : List Happening) (w v : World) (e : Event) (answer : Answer) → v.sender ≡ w.sender
     → AllByRecursion (λ (o : ℕ × Written). AckTrue p w.sender (hands past) o.1) v.offered
     → AllByRecursion (λ (o : ℕ × Written). AckTrue p w.sender (hands past) o.1) v.given → Confirms p past w
     → Confirms p (past ++ record { before = w; event = e; answer = answer; after = v } ∷ []) v
-still_confirms p past w v e answer same offered given h =
+still_confirms p range past w v e answer same offered given h =
     let O : SenderState → Type 0 = λ s. Onward w.sender s in
     let L : SenderState → Type 0 = λ s. AllByRecursion (ListedDue p (order_of w.sender s.current.id) (λ node. hands past node s.current.id)) s.listings in
-    confirms_on p past w v e answer (subst O (sym same) (goes_on_itself (instances w.sender))) offered given (subst L (sym same) h.listed)
+    confirms_on p range past w v e answer (subst O (sym same) (goes_on_itself (instances w.sender))) offered given (subst L (sym same) h.listed)
 
 -- the listings after a command, by the orders before it
 lists_after : (p : Settings) (past : List Happening) (w : World) (t : SenderState)
@@ -107,23 +106,23 @@ lists_after p past w t (Anew none) h =
     nothing l e = let D : Option Position → Type 0 = λ due. Due p (order_of w.sender t.current.id) (hands past l.node t.current.id) due in subst D (sym e) tt
 
 command_confirms : (p : Settings) → InRange p → (past : List Happening) (accepted : List Origin) (w : World) (by : Origin) (job : Job) (now : ℕ)
-    → IsJob job → OpensNone job → WorldHolds p past accepted w → Confirms p past w
+    → IsJob job → WorldHolds p past accepted w → Confirms p past w
     → ConfirmsAfter p past w (Commanded by job now) (world_step p w (Commanded by job now))
-command_confirms p range past accepted w by job now is none holds h =
+command_confirms p range past accepted w by job now is holds h =
     let t : SenderState = (commanded p w.sender by job).0 in
-    let steps = command_steps p range w.sender by job now is none holds.sender in
-    confirms_on p past w (record w { sender = t }) (Commanded by job now) _ steps.onward h.offered h.given
+    let steps = command_steps p range w.sender by job now is holds.sender in
+    confirms_on p range past w (record w { sender = t }) (Commanded by job now) _ steps.onward h.offered h.given
     (lists_after p past w t (command_lists p _ w.sender by job) h)
 
 -- a sender that keeps its orders and instance, with listings that are true of them
-keeps_confirms : (p : Settings) (past : List Happening) (w v : World) (e : Event) (answer : Answer) → Onward w.sender v.sender → Keeps w.sender v.sender
+keeps_confirms : (p : Settings) → InRange p → (past : List Happening) (w v : World) (e : Event) (answer : Answer) → Onward w.sender v.sender → Keeps w.sender v.sender
     → AllByRecursion (λ (o : ℕ × Written). AckTrue p w.sender (hands past) o.1) v.offered
     → AllByRecursion (λ (o : ℕ × Written). AckTrue p w.sender (hands past) o.1) v.given
     → AllByRecursion (ListedDue p (order_of w.sender w.sender.current.id) (λ node. hands past node w.sender.current.id)) v.sender.listings
     → Confirms p (past ++ record { before = w; event = e; answer = answer; after = v } ∷ []) v
-keeps_confirms p past w v e answer onward keeps offered given listed =
+keeps_confirms p range past w v e answer onward keeps offered given listed =
     let I : ℕ → Type 0 = λ id. AllByRecursion (ListedDue p (order_of w.sender id) (λ node. hands past node id)) v.sender.listings in
-    confirms_on p past w v e answer onward offered given (subst I (sym (ap (λ i. i.id) keeps.current)) listed)
+    confirms_on p range past w v e answer onward offered given (subst I (sym (ap (λ i. i.id) keeps.current)) listed)
 
 delivery_confirms : (p : Settings) → InRange p → (past : List Happening) (accepted : List Origin) (w : World) (node : ℕ) (octets : List ℕ) (now draw : ℕ)
     → (o : Written) → AckTrue p w.sender (hands past) o → o.octets ≡ octets → IsTrue (comes_in_time p w node o) → WorldHolds p past accepted w
@@ -137,10 +136,10 @@ delivery_confirms p range past accepted w node octets now draw o says same near 
         let t : SenderState = heard p w.sender octets now in
         let keeps = heard_keeps p w.sender octets now in
         let wants = wants_step p (blocks_of p range) w.sender (sender.Delivered octets now) holds.sender.wants in
-        keeps_confirms p past w (record w { sender = t }) (Delivered node octets now draw) Silent (keeps_steps p w.sender t keeps wants holds.sender).onward keeps
+        keeps_confirms p range past w (record w { sender = t }) (Delivered node octets now draw) Silent (keeps_steps p w.sender t keeps wants holds.sender).onward keeps
         h.offered h.given (heard_due p w.sender (hands past) o octets now holds.sender holds.once.ids says same close h.listed)
-    go false None close = still_confirms p past w w (Delivered node octets now draw) Silent refl h.offered h.given h
-    go false (Some r) close = still_confirms p past w _ (Delivered node octets now draw) Silent refl h.offered h.given h
+    go false None close = still_confirms p range past w w (Delivered node octets now draw) Silent refl h.offered h.given h
+    go false (Some r) close = still_confirms p range past w _ (Delivered node octets now draw) Silent refl h.offered h.given h
 
 -- what a node's tick gave is its to offer
 given_acks : (p : Settings) (s : SenderState) (past : List Happening) (w : World) (node : ℕ) (sent : Option Written) → SentAck p s (hands past) sent
@@ -175,7 +174,7 @@ sender_tick_confirms p range past accepted w node now holds h =
     let A : List (ℕ × Written) → Type 0 = λ all. AllByRecursion (λ (o : ℕ × Written). AckTrue p w.sender (hands past) o.1) all in
     let L : List Listing → Type 0 = λ ls. AllByRecursion (ListedDue p (order_of w.sender w.sender.current.id) (λ node. hands past node w.sender.current.id)) ls in
     let listings : (with_given p.sender sent v).sender.listings ≡ w.sender.listings = ap (λ (s : SenderState). s.listings) leaves.0 ∙ tick_stays p w.sender now in
-    keeps_confirms p past w (with_given p.sender sent v) (Ticked node now) (Sent sent) (subst O (sym leaves.0) steps.onward) (subst K (sym leaves.0) keeps)
+    keeps_confirms p range past w (with_given p.sender sent v) (Ticked node now) (Sent sent) (subst O (sym leaves.0) steps.onward) (subst K (sym leaves.0) keeps)
     (subst A (sym leaves.1) h.offered)
     (given_acks p w.sender past v p.sender sent (sent_acks p w.sender (hands past) sent (tick_true p range w.sender now holds.sender holds.once.ids)) h.given)
     (subst L (sym listings) h.listed)
@@ -205,7 +204,7 @@ receiver_tick_confirms p range past accepted w node now r found none holds h =
     (came_few p _ r.instance here.came) none (subst S (sym here.here) here.stands) in
     let leaves = given_leaves r.node sent v in
     let A : List (ℕ × Written) → Type 0 = λ all. AllByRecursion (λ (o : ℕ × Written). AckTrue p w.sender (hands past) o.1) all in
-    still_confirms p past w (with_given r.node sent v) (Ticked node now) (Sent sent) leaves.0 (subst A (sym leaves.1) h.offered)
+    still_confirms p range past w (with_given r.node sent v) (Ticked node now) (Sent sent) leaves.0 (subst A (sym leaves.1) h.offered)
     (given_acks p w.sender past v r.node sent acks h.given) h
 
 tick_confirms : (p : Settings) → InRange p → (past : List Happening) (accepted : List Origin) (w : World) (node now : ℕ) → AllTaken (receiver_at w node)
@@ -215,49 +214,49 @@ tick_confirms p range past accepted w node now taken holds h = go (node == p.sen
     go : (own : Bool) (found : Option ReceiverState) → receiver_at w node ≡ found → AllTaken found
         → ConfirmsAfter p past w (Ticked node now) (moved p w (node_move own found (sender.Ticked now) (receiver.Ticked now)))
     go true found e none = sender_tick_confirms p range past accepted w node now holds h
-    go false None e none = still_confirms p past w w (Ticked node now) Silent refl h.offered h.given h
+    go false None e none = still_confirms p range past w w (Ticked node now) Silent refl h.offered h.given h
     go false (Some r) e none = receiver_tick_confirms p range past accepted w node now r e none holds h
 
-offer_confirms : (p : Settings) (past : List Happening) (w : World) (node : ℕ) (octets : List ℕ) → Confirms p past w
+offer_confirms : (p : Settings) → InRange p → (past : List Happening) (w : World) (node : ℕ) (octets : List ℕ) → Confirms p past w
     → ConfirmsAfter p past w (Offered node octets) (world_step p w (Offered node octets))
-offer_confirms p past w node octets h = go (find (is_of node octets) w.given) refl
+offer_confirms p range past w node octets h = go (find (is_of node octets) w.given) refl
   where
     go : (found : Option (ℕ × Written)) → find (is_of node octets) w.given ≡ found → ConfirmsAfter p past w (Offered node octets) (offers found node w, Silent)
-    go None e = still_confirms p past w w (Offered node octets) Silent refl h.offered h.given h
+    go None e = still_confirms p range past w w (Offered node octets) Silent refl h.offered h.given h
     go (Some o) e =
-        still_confirms p past w (offers (Some o) node w) (Offered node octets) Silent refl
+        still_confirms p range past w (offers (Some o) node w) (Offered node octets) Silent refl
         (all_end (λ (o : ℕ × Written). AckTrue p w.sender (hands past) o.1) w.offered o h.offered
         (found_holds (λ (o : ℕ × Written). AckTrue p w.sender (hands past) o.1) (is_of node octets) w.given o h.given e))
         (all_filter (λ (o : ℕ × Written). AckTrue p w.sender (hands past) o.1) _ w.given h.given) h
 
-taking_confirms : (p : Settings) (past : List Happening) (w : World) (node : ℕ) → Confirms p past w
+taking_confirms : (p : Settings) → InRange p → (past : List Happening) (w : World) (node : ℕ) → Confirms p past w
     → ConfirmsAfter p past w (UpTaken node) (world_step p w (UpTaken node))
-taking_confirms p past w node h = go (receiver_at w node)
+taking_confirms p range past w node h = go (receiver_at w node)
   where
     ups : (r : ReceiverState) (waiting : List Up) → ConfirmsAfter p past w (UpTaken node)
         (taken_by w r (elim waiting [ up ∷ more ↦ (record (r.holding) { ups = more }, Some up) | [] ↦ (r.holding, None) ]))
-    ups r [] = still_confirms p past w (with_receiver r w) (UpTaken node) (Took None) refl h.offered h.given h
-    ups r (up ∷ more) = still_confirms p past w (with_receiver (record r { holding = record (r.holding) { ups = more } }) w) (UpTaken node) (Took (Some up)) refl h.offered h.given h
+    ups r [] = still_confirms p range past w (with_receiver r w) (UpTaken node) (Took None) refl h.offered h.given h
+    ups r (up ∷ more) = still_confirms p range past w (with_receiver (record r { holding = record (r.holding) { ups = more } }) w) (UpTaken node) (Took (Some up)) refl h.offered h.given h
 
     go : (found : Option ReceiverState) → ConfirmsAfter p past w (UpTaken node) (moved p w (receiver_move found receiver.UpTaken))
-    go None = still_confirms p past w w (UpTaken node) Silent refl h.offered h.given h
+    go None = still_confirms p range past w w (UpTaken node) Silent refl h.offered h.given h
     go (Some r) = ups r r.holding.ups
 
-pub event_confirms : (p : Settings) → InRange p → (past : List Happening) (accepted : List Origin) (w : World) (e : Event) → MayCome p w accepted e → IsEvent e → IsOfObjects e
+pub event_confirms : (p : Settings) → InRange p → (past : List Happening) (accepted : List Origin) (w : World) (e : Event) → MayCome p w accepted e → IsEvent e
     → WorldHolds p past accepted w → Confirms p past w → ConfirmsAfter p past w e (world_step p w e)
-event_confirms p range past accepted w (Commanded by job now) may is of holds h = command_confirms p range past accepted w by job now is of holds h
-event_confirms p range past accepted w (Delivered node datagram now draw) may is of holds h =
+event_confirms p range past accepted w (Commanded by job now) may is holds h = command_confirms p range past accepted w by job now is holds h
+event_confirms p range past accepted w (Delivered node datagram now draw) may is holds h =
     delivery_confirms p range past accepted w node datagram now draw may.datagram
     (all_contains (λ (o : ℕ × Written). AckTrue p w.sender (hands past) o.1) w.offered (may.from, may.datagram) h.offered may.offered) may.same may.near holds h
-event_confirms p range past accepted w (Ticked node now) may is of holds h = tick_confirms p range past accepted w node now may holds h
-event_confirms p range past accepted w (Offered node datagram) may is of holds h = offer_confirms p past w node datagram h
-event_confirms p range past accepted w (UpTaken node) may is of holds h = taking_confirms p past w node h
-event_confirms p range past accepted w NewsAsked may is of holds h =
+event_confirms p range past accepted w (Ticked node now) may is holds h = tick_confirms p range past accepted w node now may holds h
+event_confirms p range past accepted w (Offered node datagram) may is holds h = offer_confirms p range past w node datagram h
+event_confirms p range past accepted w (UpTaken node) may is holds h = taking_confirms p range past w node h
+event_confirms p range past accepted w NewsAsked may is holds h =
     let t : SenderState = (told w.sender).0 in
     let keeps = told_keeps w.sender in
     let wants = wants_step p (blocks_of p range) w.sender sender.NewsAsked holds.sender.wants in
     let L : List Listing → Type 0 = λ ls. AllByRecursion (ListedDue p (order_of w.sender w.sender.current.id) (λ node. hands past node w.sender.current.id)) ls in
-    keeps_confirms p past w (record w { sender = t }) NewsAsked (Told (told w.sender).1) (keeps_steps p w.sender t keeps wants holds.sender).onward keeps
+    keeps_confirms p range past w (record w { sender = t }) NewsAsked (Told (told w.sender).1) (keeps_steps p w.sender t keeps wants holds.sender).onward keeps
     h.offered h.given (subst L (sym (told_stays w.sender)) h.listed)
 
 -- ---- a run
@@ -269,18 +268,18 @@ pub record RunConfirms (p : Settings) (past : List Happening) (w : World) (event
   pub confirms : Confirms p (past ++ happens p w events) (last_world w (happens p w events))
 
 run_confirms : (p : Settings) → InRange p → (past : List Happening) (accepted : List Origin) (w : World) (events : List Event) → LawfulFrom p w accepted events
-    → AreEvents events → AreOfObjects events → WorldHolds p past accepted w → Confirms p past w → RunConfirms p past w events
+    → AreEvents events → WorldHolds p past accepted w → Confirms p past w → RunConfirms p past w events
 unfolding happens last_world
-run_confirms p range past accepted w [] lawful are of holds h =
+run_confirms p range past accepted w [] lawful are holds h =
     let W : List Happening → Type 0 = λ all. WorldHolds p all accepted w in
     let C : List Happening → Type 0 = λ all. Confirms p all w in
     record { accepted = accepted; holds = subst W (sym (append-nil past)) holds; confirms = subst C (sym (append-nil past)) h }
-run_confirms p range past accepted w (e ∷ events) lawful are of holds h =
+run_confirms p range past accepted w (e ∷ events) lawful are holds h =
     let step = world_step p w e in
     let x : Happening = happening w e step in
-    let next = event_holds p range past accepted w e lawful.0 are.0 of.0 holds in
-    let now = event_confirms p range past accepted w e lawful.0 are.0 of.0 holds h in
-    let rest = run_confirms p range (past ++ x ∷ []) (accepted_with accepted e step.1) step.0 events lawful.1 are.1 of.1 next now in
+    let next = event_holds p range past accepted w e lawful.0 are.0 holds in
+    let now = event_confirms p range past accepted w e lawful.0 are.0 holds h in
+    let rest = run_confirms p range (past ++ x ∷ []) (accepted_with accepted e step.1) step.0 events lawful.1 are.1 next now in
     let W : List Happening → Type 0 = λ all. WorldHolds p all rest.accepted (last_world step.0 (happens p step.0 events)) in
     let C : List Happening → Type 0 = λ all. Confirms p all (last_world step.0 (happens p step.0 events)) in
     record {
@@ -297,17 +296,17 @@ none_listed p (node ∷ nodes) = (tt, none_listed p nodes)
 pub confirms_opening : (p : Settings) → Confirms p [] (world_opening p)
 confirms_opening p = record { offered = tt; given = tt; listed = none_listed p (receivers_of p p.receivers) }
 
-pub confirms_of : (p : Settings) → InRange p → (events : List Event) → Lawful p events → AreEvents events → AreOfObjects events
+pub confirms_of : (p : Settings) → InRange p → (events : List Event) → Lawful p events → AreEvents events
     → RunConfirms p [] (world_opening p) events
-confirms_of p range events lawful are of =
-    run_confirms p range [] [] (world_opening p) events lawful are of (opening_world p range)
+confirms_of p range events lawful are =
+    run_confirms p range [] [] (world_opening p) events lawful are (opening_world p range)
     (confirms_opening p)
 
 -- Who is listed past a watermark handed up everything before it.
-pub listed_run : (p : Settings) → InRange p → (events : List Event) → Lawful p events → AreEvents events → AreOfObjects events
+pub listed_run : (p : Settings) → InRange p → (events : List Event) → Lawful p events → AreEvents events
     → ListedAfter p (history p events)
-listed_run p range events lawful are of =
-    let run = confirms_of p range events lawful are of in
+listed_run p range events lawful are =
+    let run = confirms_of p range events lawful are in
     let w : World = (history p events).now in
     let past : List Happening = (history p events).happened in
     let order : order_of w.sender w.sender.current.id ≡ w.sender.current.order = current_order w.sender run.holds.once.ids in

@@ -1,5 +1,5 @@
 -- What a step of the sender makes of its listings: they stay, some go, one rises to what was acknowledged, or all begin anew.
-use Rattle.std.proofs.Common.{◌≡◌, ℕ, zero, suc, ◌+◌, ◌<◌, ◌≤◌, cond, List, [], ◌∷◌, ◌++◌, length, map, Bool, true, false, Option, None, Some, Result, Ok, Err, refl, sym, ap, ◌∙◌, subst, arith}
+use Rattle.std.proofs.Common.{◌≡◌, ℕ, zero, suc, ◌+◌, cond, List, [], ◌∷◌, ◌++◌, length, map, Bool, true, false, Option, None, Some, Result, Ok, Err, refl, sym, ap, ◌∙◌, subst, arith}
 use Rattle.std.specs.Prelude.{filter, not, nat_lt, nat_le, nat_eq, ◌==◌, ◌&&◌}
 use Rattle.std.specs.List.{AllByRecursion, IsDistinct}
 use Rattle.std.proofs.lemmas.Bool.Decides.{Decides-eqb}
@@ -11,12 +11,11 @@ use Rattle.fec_plan.specs.declared.position.Position.{Position}
 use Rattle.fec_plan.specs.Points.{position}
 use Rattle.norm_ext.specs.Asking.{item_named}
 use Rattle.norm_ext.specs.Message.{Message, Info, Data, Flush, Eot, Squelch, RepairAdv, AckReq, Opaque, Nack, Ack, Report, NackMessage, AckMessage, AckContent, Mark, Unread}
-use Rattle.norm_ext.specs.ObjectIds.{index_named}
 use Rattle.norm_ext.specs.Reading.{decoded}
 use Rattle.norm_ext.specs.Requests.{Request}
 use Rattle.norm_ext.specs.Written.{Written}
 use Rattle.norm_ext.specs.declared.refusal.Refusal.{Refusal}
-use Rattle.norm_order.specs.Entries.{Part, Write, End, Cut, Whole, Stream, Entry}
+use Rattle.norm_order.specs.Entries.{Write, End, Cut, Whole, Stream, Entry}
 use Rattle.norm_order.specs.Segments.{unclosed}
 use Rattle.norm_order.specs.Sets.{with_member}
 use Rattle.norm_order.specs.Shapes.{is_source, last_source, closed_in}
@@ -31,7 +30,7 @@ use Rattle.norm_send_rules.specs.Marking.{is_no_quorum, most_open, with_watermar
 use Rattle.norm_send_rules.specs.Striking.{strike_fault, without_node, struck_off}
 use Rattle.norm_send_rules.specs.Restarting.{is_used, begun_anew}
 use Rattle.norm_send_rules.specs.Commanding.{commanded}
-use Rattle.norm_send_rules.specs.Hearing.{listed_past, rises, credited, credited_at, credited_by, joined_round, nack_counts, ack_counts, is_for, ack_heard, message_heard, heard}
+use Rattle.norm_send_rules.specs.Hearing.{listed_past, rises, credited_at, credited_by, joined_round, nack_counts, ack_counts, is_for, ack_heard, message_heard, heard}
 use Rattle.norm_send_rules.specs.Sending.{noted}
 use Rattle.norm_send_rules.specs.Flushing.{expired}
 use Rattle.norm_send_rules.specs.Ticking.{ticked}

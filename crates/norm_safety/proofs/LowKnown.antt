@@ -1,11 +1,10 @@
 -- What a receiver knows and says stays at indices that are at most so great, where what it hears does.
-use Rattle.std.proofs.Common.{◌≡◌, ℕ, ◌≤◌, List, [], ◌∷◌, Bool, true, false, Option, None, Some, Result, Ok, Err, refl, sym, ap, ◌∙◌, subst, arith, ◌⊎◌, inl, inr}
-use Rattle.std.specs.Prelude.{◌==◌, ◌&&◌, not, nat_le, max, flat_map, unwrap_or, option_and_then, if◌then◌else◌, IfSome, ⊤}
-use Rattle.std.specs.List.{AllByRecursion}
+use Rattle.std.proofs.Common.{◌≡◌, ℕ, ◌≤◌, List, [], ◌∷◌, Bool, true, false, Option, None, Some, Result, Ok, Err, sym, ap, ◌∙◌, subst, arith, ◌⊎◌, inl, inr}
+use Rattle.std.specs.Prelude.{◌==◌, ◌&&◌, not, nat_le, flat_map, unwrap_or, option_and_then, if◌then◌else◌, IfSome, ⊤}
 use Rattle.norm_base.specs.Settings.{Settings}
 use Rattle.fec_plan.specs.Points.{Point, position, point_of, point_before, position_before, further, further_point}
 use Rattle.fec_plan.specs.declared.position.Position.{Position}
-use Rattle.norm_ext.specs.Message.{Message, Info, Data, Flush, Eot, Squelch, RepairAdv, AckReq, Opaque, Nack, Ack, Report, RepairAdvCommand}
+use Rattle.norm_ext.specs.Message.{Message, Info, Data, Flush, Eot, Squelch, RepairAdv, AckReq, Opaque, Nack, Ack, Report}
 use Rattle.norm_ext.specs.ObjectIds.{object_id}
 use Rattle.norm_ext.specs.Reading.{decoded}
 use Rattle.norm_ext.specs.Requests.{Request}
@@ -17,7 +16,7 @@ use Rattle.norm_receive_rules.specs.BackingOff.{may_back_off, backs_off, may_nee
 use Rattle.norm_receive_rules.specs.Leaving.{is_in, goes_to, enters, entered}
 use Rattle.norm_receive_rules.specs.Nack.{indices_of, fitting, nack_message, ack_message}
 use Rattle.norm_receive_rules.specs.Needs.{Need}
-use Rattle.norm_receive_rules.specs.Overhearing.{overheard, nack_overheard, adv_overheard}
+use Rattle.norm_receive_rules.specs.Overhearing.{overheard, adv_overheard}
 use Rattle.norm_receive_rules.specs.Receiving.{info_received, data_received, flush_received, squelch_received, takes_in, in_instance, message_received, received}
 use Rattle.norm_receive_rules.specs.ReceiverState.{ReceiverState, Knowledge, knowing_nothing}
 use Rattle.norm_receive_rules.specs.Ticking.{sends, holds_off, are_heard, asks, asks_where_needed, ends_back_off, ticked}
@@ -26,7 +25,7 @@ use Rattle.norm_safety.specs.Lawful.{receiver_knows, are_near}
 use Rattle.norm_safety.proofs.Feedback.{SaysNothing}
 use Rattle.norm_safety.proofs.LowNeeds.{AreUpTo, asked_up_to}
 use Rattle.norm_safety.proofs.ReceiverMoves.{knowing, known_in, near_named}
-use Rattle.norm_safety.proofs.Spoken.{Speaks, IsTrueOf, SaysTrue}
+use Rattle.norm_safety.proofs.Spoken.{IsTrueOf, SaysTrue}
 
 -- all that a receiver knows has indices that are at most so great
 pub record IsLow (n : ℕ) (k : Knowledge) : Type 0 where

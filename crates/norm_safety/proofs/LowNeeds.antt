@@ -1,9 +1,9 @@
 -- What a receiver asks for has indices up to the greatest that it saw or heard flushed.
-use Rattle.std.proofs.Common.{◌≡◌, ℕ, zero, suc, ◌+◌, ◌-◌, ◌<◌, ◌≤◌, List, [], ◌∷◌, ◌++◌, Bool, true, false, Option, None, Some, refl, sym, subst, arith}
-use Rattle.std.specs.Prelude.{map, filter, find, flat_map, ◌==◌, ◌&&◌, not, nat_le, max, min, is_none, IfSome, ⊤}
+use Rattle.std.proofs.Common.{◌≡◌, ℕ, zero, suc, ◌+◌, ◌-◌, ◌<◌, ◌≤◌, List, [], ◌∷◌, Bool, true, false, Option, None, Some, refl, arith}
+use Rattle.std.specs.Prelude.{map, filter, flat_map, ◌&&◌, not, nat_le, max, min, is_none, IfSome, ⊤}
 use Rattle.std.specs.List.{AllByRecursion, range_with_len}
 use Rattle.norm_base.specs.Settings.{Settings}
-use Rattle.fec_plan.specs.Partition.{blocks, source_symbols}
+use Rattle.fec_plan.specs.Partition.{source_symbols}
 use Rattle.fec_plan.specs.Points.{Point, position}
 use Rattle.fec_plan.specs.declared.position.Position.{Position}
 use Rattle.norm_ext.specs.Asked.{Asked, octets_behind}
@@ -11,10 +11,10 @@ use Rattle.norm_receive_rules.specs.AllNeeds.{planned_needs, needs_of, needs_fro
 use Rattle.norm_receive_rules.specs.Holding.{Holding, Plan}
 use Rattle.norm_receive_rules.specs.Lazy.{Lazy, Nil, Next, followed_by, lazily}
 use Rattle.norm_receive_rules.specs.Nack.{asked_of, indices_of, fitting}
-use Rattle.norm_receive_rules.specs.Needs.{Need, Object, ObjectInfo, Symbols, Source, Rest, farthest_index, is_covered, info_needs, counts_from, object_needs, unknown_needs}
+use Rattle.norm_receive_rules.specs.Needs.{Need, Object, ObjectInfo, Symbols, Source, Rest, is_covered, info_needs, counts_from, object_needs, unknown_needs}
 use Rattle.norm_receive_rules.specs.Plans.{cut_of_plan, holds, is_done, first_block, lacking, says_stream, plan_of, has_its_info}
 use Rattle.norm_receive_rules.specs.ReceiverState.{ReceiverState}
-use Rattle.norm_receive_rules.specs.StreamNeeds.{last_block, flush_in, earlier_needs, missing_symbols, symbols_flushed, flush_symbols, end_of, end_symbols, last_symbols, is_behind, open_block, rest_needs, stream_end_needs, stream_needs}
+use Rattle.norm_receive_rules.specs.StreamNeeds.{last_block, flush_in, earlier_needs, missing_symbols, flush_symbols, end_of, end_symbols, last_symbols, is_behind, open_block, rest_needs, stream_end_needs, stream_needs}
 use Rattle.norm_receive_rules.proofs.HandUpLemmas.{index_of_found}
 use Rattle.norm_safety.proofs.SaidRun.{all_append}
 use Rattle.norm_safety.proofs.WorldHolds.{all_filter}

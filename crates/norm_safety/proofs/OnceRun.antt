@@ -1,5 +1,5 @@
 -- Accepted objects enter the transport order once each: kept by each event of a lawful run, and so at its end.
-use Rattle.std.proofs.Common.{◌≡◌, ◌≤◌, ℕ, length, List, [], ◌∷◌, Bool, true, false, Option, None, Some, Result, Ok, Err, refl, sym, ap, ◌∙◌, subst, arith}
+use Rattle.std.proofs.Common.{◌≡◌, ℕ, length, List, [], ◌∷◌, Bool, true, false, Option, None, Some, Result, Ok, Err, refl, sym, ap, ◌∙◌, subst, arith}
 use Rattle.std.specs.Prelude.{◌==◌, find, is_ok, nat_eq, IsTrue, Contains}
 use Rattle.std.specs.List.{IsDistinct, AllByRecursion}
 use Rattle.norm_base.specs.Settings.{Settings}

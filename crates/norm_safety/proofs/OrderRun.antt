@@ -1,4 +1,4 @@
--- A receiver hands up the transport order: kept by each event of a lawful run of data and files, and so at its end.
+-- A receiver hands up the transport order: kept by each event of a lawful run, and so at its end.
 use Rattle.std.proofs.Common.{◌≡◌, ℕ, zero, suc, ◌+◌, ◌≤◌, cond, List, [], ◌∷◌, ◌++◌, length, Bool, true, false, Option, None, Some, refl, sym, ap, subst, append_assoc, arith, inr}
 use Rattle.std.specs.Prelude.{map, find, ◌==◌, nat_eq, option_and_then, IsTrue, Contains, ⊤}
 use Rattle.std.specs.List.{AllByRecursion, IsDistinct}
@@ -26,13 +26,12 @@ use Rattle.norm_send_rules.specs.declared.job.Job.{Job}
 use Rattle.norm_send_rules.proofs.StepLemmas.{step_holds as wants_step}
 use Rattle.norm_send_rules.proofs.ShapeLemmas.{blocks_of}
 use Rattle.norm_safety.specs.Events.{Event, Commanded, Delivered, Ticked, Offered, UpTaken, NewsAsked, Answer, Sent, Took, Told, Silent}
-use Rattle.norm_safety.specs.Jobs.{IsJob, OpensNone, IsEvent, IsOfObjects, AreEvents, AreOfObjects}
+use Rattle.norm_safety.specs.Jobs.{IsJob, IsEvent, AreEvents}
 use Rattle.norm_safety.specs.World.{World, world_opening, receiver_at, with_receiver, with_given, given_others, is_of, offers}
 use Rattle.norm_safety.specs.WorldStep.{world_step, moved, OfSender, OfReceiver, node_move, receiver_move}
 use Rattle.norm_safety.specs.Lawful.{sender_knows, receiver_knows, are_near, comes_in_time, accepted_with, MayCome, LawfulFrom, Lawful}
 use Rattle.norm_safety.specs.History.{Happening, happens, last_world, history}
-use Rattle.norm_safety.specs.InOrder.{came_to, InOrder, drop_of}
-use Rattle.norm_safety.specs.OnceEach.{order_of}
+use Rattle.norm_safety.specs.InOrder.{Stops, came_to, InOrder}
 use Rattle.norm_safety.proofs.SenderKeeps.{Keeps, heard_keeps, ticked_keeps, told_keeps}
 use Rattle.norm_safety.specs.Hands.{taken_in}
 use Rattle.norm_safety.specs.Lawful.{same_origin}
@@ -44,7 +43,6 @@ use Rattle.norm_safety.proofs.SenderHolds.{Steps, command_steps, keeps_steps, or
 use Rattle.norm_safety.proofs.Spoken.{SaysTrue}
 use Rattle.norm_safety.proofs.Feedback.{SendsNothingOf, receiver_says_nothing}
 use Rattle.norm_safety.proofs.TickTrue.{SentTrue, tick_true, nothing_true, true_later}
-use Rattle.norm_safety.proofs.Exact.{exactly_through}
 use Rattle.norm_safety.proofs.ReceiverMoves.{Moved, Remains, Enters, received_moves, same_moves, tick_same, held_same}
 use Rattle.norm_safety.proofs.WorldHolds.{AtNode, WorldHolds, instance_of, said_later, all_filter, all_end, all_contains, quiet_world}
 use Rattle.norm_safety.proofs.WorldMoves.{moved_world}
@@ -61,14 +59,14 @@ abbrev HoldsAfter : Settings → List Happening → List Origin → World → Ev
 HoldsAfter p past accepted w e step = WorldHolds p (past ++ happening w e step ∷ []) (accepted_with accepted e step.1) step.0
 
 command_holds : (p : Settings) → InRange p → (past : List Happening) (accepted : List Origin) (w : World) (by : Origin) (job : Job) (now : ℕ)
-    → (Contains accepted by → ⊥) → IsJob job → OpensNone job → WorldHolds p past accepted w
+    → (Contains accepted by → ⊥) → IsJob job → WorldHolds p past accepted w
     → HoldsAfter p past accepted w (Commanded by job now) (world_step p w (Commanded by job now))
-command_holds p range past accepted w by job now may is none h =
+command_holds p range past accepted w by job now may is h =
     let leaves = event_leaves p w accepted (Commanded by job now) may h.once in
-    let steps = command_steps p range w.sender by job now is none h.sender in
+    let steps = command_steps p range w.sender by job now is h.sender in
     let after : SenderState = (commanded p w.sender by job).0 in
-    quiet_world p past accepted _ w (record w { sender = after }) (Commanded by job now) _ refl steps.holds leaves.once steps.onward
-    (said_later p w.sender after w.offered steps.onward h.offered) (said_later p w.sender after w.given steps.onward h.given) (λ node. refl) h
+    quiet_world p range past accepted _ w (record w { sender = after }) (Commanded by job now) _ refl steps.holds leaves.once steps.onward
+    (said_later p range w.sender after w.offered steps.onward h.offered) (said_later p range w.sender after w.given steps.onward h.given) (λ node. refl) h
 
 -- where a node moved is where it was
 pub moved_node_is : (p : Settings) (s : SenderState) (r t : ReceiverState) → Moved p s r t → t.node ≡ r.node
@@ -91,26 +89,26 @@ once_kept s t accepted keeps h =
     }
 
 -- a sender that keeps its orders, and says nothing
-sender_holds : (p : Settings) (past : List Happening) (accepted : List Origin) (w : World) (t : SenderState) (e : Event) (answer : Answer)
+sender_holds : (p : Settings) → InRange p → (past : List Happening) (accepted : List Origin) (w : World) (t : SenderState) (e : Event) (answer : Answer)
     → Steps p w.sender t → Keeps w.sender t → ((node : ℕ) → taken_in node e answer ≡ []) → WorldHolds p past accepted w
     → WorldHolds p (past ++ record { before = w; event = e; answer = answer; after = record w { sender = t } } ∷ []) accepted (record w { sender = t })
-sender_holds p past accepted w t e answer steps keeps none h =
-    quiet_world p past accepted accepted w (record w { sender = t }) e answer refl steps.holds (once_kept w.sender t accepted keeps h.once) steps.onward
-    (said_later p w.sender t w.offered steps.onward h.offered) (said_later p w.sender t w.given steps.onward h.given) none h
+sender_holds p range past accepted w t e answer steps keeps none h =
+    quiet_world p range past accepted accepted w (record w { sender = t }) e answer refl steps.holds (once_kept w.sender t accepted keeps h.once) steps.onward
+    (said_later p range w.sender t w.offered steps.onward h.offered) (said_later p range w.sender t w.given steps.onward h.given) none h
 
 -- a receiver that moved
-receiver_holds : (p : Settings) (past : List Happening) (accepted : List Origin) (w : World) (node : ℕ) (r t : ReceiverState) (e : Event) (answer : Answer)
+receiver_holds : (p : Settings) → InRange p → (past : List Happening) (accepted : List Origin) (w : World) (node : ℕ) (r t : ReceiverState) (e : Event) (answer : Answer)
     → receiver_at w node ≡ Some r → Moved p w.sender r t → ((other : ℕ) → taken_in other e answer ≡ []) → WorldHolds p past accepted w
     → WorldHolds p (past ++ record { before = w; event = e; answer = answer; after = with_receiver t w } ∷ []) accepted (with_receiver t w)
-receiver_holds p past accepted w node r t e answer found moved none h =
-    moved_world p past accepted w (with_receiver t w) e answer node r t found (moved_node_is p w.sender r t moved) refl refl refl moved none h.given h
+receiver_holds p range past accepted w node r t e answer found moved none h =
+    moved_world p range past accepted w (with_receiver t w) e answer node r t found (moved_node_is p w.sender r t moved) refl refl refl moved none h.given h
 
 -- nothing happened to the world
-nothing_holds : (p : Settings) (past : List Happening) (accepted : List Origin) (w : World) (e : Event) (answer : Answer)
+nothing_holds : (p : Settings) → InRange p → (past : List Happening) (accepted : List Origin) (w : World) (e : Event) (answer : Answer)
     → ((node : ℕ) → taken_in node e answer ≡ []) → WorldHolds p past accepted w
     → WorldHolds p (past ++ record { before = w; event = e; answer = answer; after = w } ∷ []) accepted w
-nothing_holds p past accepted w e answer none h =
-    quiet_world p past accepted accepted w w e answer refl h.sender h.once (goes_on_itself (instances w.sender)) h.offered h.given none h
+nothing_holds p range past accepted w e answer none h =
+    quiet_world p range past accepted accepted w w e answer refl h.sender h.once (goes_on_itself (instances w.sender)) h.offered h.given none h
 
 delivery_holds : (p : Settings) → InRange p → (past : List Happening) (accepted : List Origin) (w : World) (node : ℕ) (octets : List ℕ) (now draw : ℕ)
     → (o : Written) → SaysTrue p w.sender o → o.octets ≡ octets → IsTrue (comes_in_time p w node o) → WorldHolds p past accepted w
@@ -123,11 +121,11 @@ delivery_holds p range past accepted w node octets now draw o says same near h =
     go true found e close =
         let keeps = heard_keeps p w.sender octets now in
         let wants = wants_step p (blocks_of p range) w.sender (sender.Delivered octets now) h.sender.wants in
-        sender_holds p past accepted w (heard p w.sender octets now) (Delivered node octets now draw) Silent
+        sender_holds p range past accepted w (heard p w.sender octets now) (Delivered node octets now draw) Silent
         (keeps_steps p w.sender (heard p w.sender octets now) keeps wants h.sender) keeps (λ other. refl) h
-    go false None e close = nothing_holds p past accepted w (Delivered node octets now draw) Silent (λ other. refl) h
+    go false None e close = nothing_holds p range past accepted w (Delivered node octets now draw) Silent (λ other. refl) h
     go false (Some r) e close =
-        receiver_holds p past accepted w node r (received p r octets now draw) (Delivered node octets now draw) Silent e
+        receiver_holds p range past accepted w node r (received p r octets now draw) (Delivered node octets now draw) Silent e
         (received_moves p range w.sender r o octets now draw (orders_hold p w.sender h.sender) says same close) (λ other. refl) h
 
 -- what a step sends is true of a state's orders
@@ -152,26 +150,26 @@ sender_tick_holds p range past accepted w node now h =
     said : (t : SenderState) (sent : Option Written) → Onward w.sender t → SentTrue p w.sender sent
         → AllByRecursion (λ (o : ℕ × Written). SaysTrue p t o.1) (with_given p.sender sent (record w { sender = t })).given
     said t None onward says =
-        all_filter (λ (o : ℕ × Written). SaysTrue p t o.1) _ w.given (said_later p w.sender t w.given onward h.given)
+        all_filter (λ (o : ℕ × Written). SaysTrue p t o.1) _ w.given (said_later p range w.sender t w.given onward h.given)
     said t (Some datagram) onward says =
         all_end (λ (o : ℕ × Written). SaysTrue p t o.1) (given_others p.sender w) (p.sender, datagram)
-        (all_filter (λ (o : ℕ × Written). SaysTrue p t o.1) _ w.given (said_later p w.sender t w.given onward h.given))
-        (true_later p w.sender t datagram onward says.says)
+        (all_filter (λ (o : ℕ × Written). SaysTrue p t o.1) _ w.given (said_later p range w.sender t w.given onward h.given))
+        (true_later p range w.sender t datagram onward says.says)
 
     go : (t : SenderState) (sent : Option Written) → Steps p w.sender t → Keeps w.sender t → SentTrue p w.sender sent
         → HoldsAfter p past accepted w (Ticked node now) (with_given p.sender sent (record w { sender = t }), Sent sent)
     go t None steps keeps says =
-        quiet_world p past accepted accepted w (with_given p.sender None (record w { sender = t })) (Ticked node now) (Sent None) refl steps.holds
-        (once_kept w.sender t accepted keeps h.once) steps.onward (said_later p w.sender t w.offered steps.onward h.offered)
+        quiet_world p range past accepted accepted w (with_given p.sender None (record w { sender = t })) (Ticked node now) (Sent None) refl steps.holds
+        (once_kept w.sender t accepted keeps h.once) steps.onward (said_later p range w.sender t w.offered steps.onward h.offered)
         (said t None steps.onward says) (λ other. refl) h
     go t (Some datagram) steps keeps says =
-        quiet_world p past accepted accepted w (with_given p.sender (Some datagram) (record w { sender = t })) (Ticked node now) (Sent (Some datagram)) refl
-        steps.holds (once_kept w.sender t accepted keeps h.once) steps.onward (said_later p w.sender t w.offered steps.onward h.offered)
+        quiet_world p range past accepted accepted w (with_given p.sender (Some datagram) (record w { sender = t })) (Ticked node now) (Sent (Some datagram)) refl
+        steps.holds (once_kept w.sender t accepted keeps h.once) steps.onward (said_later p range w.sender t w.offered steps.onward h.offered)
         (said t (Some datagram) steps.onward says) (λ other. refl) h
 
-receiver_tick_holds : (p : Settings) (past : List Happening) (accepted : List Origin) (w : World) (node now : ℕ) (r : ReceiverState) → receiver_at w node ≡ Some r
+receiver_tick_holds : (p : Settings) → InRange p → (past : List Happening) (accepted : List Origin) (w : World) (node now : ℕ) (r : ReceiverState) → receiver_at w node ≡ Some r
     → WorldHolds p past accepted w → HoldsAfter p past accepted w (Ticked node now) (moved p w (OfReceiver r (receiver.Ticked now)))
-receiver_tick_holds p past accepted w node now r found h =
+receiver_tick_holds p range past accepted w node now r found h =
     let t : ReceiverState = (receiver_ticked p r now).0 in
     let moved : Moved p w.sender r t = same_moves p w.sender r t (tick_same p r now) in
     go t (receiver_ticked p r now).1 moved (says_nothing_false p w.sender (receiver_ticked p r now).1 (receiver_says_nothing p r now))
@@ -179,11 +177,11 @@ receiver_tick_holds p past accepted w node now r found h =
     go : (t : ReceiverState) (sent : Option Written) → Moved p w.sender r t → SaidTrue p w.sender sent
         → HoldsAfter p past accepted w (Ticked node now) (with_given r.node sent (with_receiver t w), Sent sent)
     go t None moved says =
-        moved_world p past accepted w (with_given r.node None (with_receiver t w)) (Ticked node now) (Sent None) node r t found
+        moved_world p range past accepted w (with_given r.node None (with_receiver t w)) (Ticked node now) (Sent None) node r t found
         (moved_node_is p w.sender r t moved) refl refl refl moved (λ other. refl)
         (all_filter (λ (o : ℕ × Written). SaysTrue p w.sender o.1) _ w.given h.given) h
     go t (Some datagram) moved says =
-        moved_world p past accepted w (with_given r.node (Some datagram) (with_receiver t w)) (Ticked node now) (Sent (Some datagram)) node r t found
+        moved_world p range past accepted w (with_given r.node (Some datagram) (with_receiver t w)) (Ticked node now) (Sent (Some datagram)) node r t found
         (moved_node_is p w.sender r t moved) refl refl refl moved (λ other. refl)
         (all_end (λ (o : ℕ × Written). SaysTrue p w.sender o.1) (given_others r.node w) (r.node, datagram)
         (all_filter (λ (o : ℕ × Written). SaysTrue p w.sender o.1) _ w.given h.given) says) h
@@ -195,8 +193,8 @@ tick_holds p range past accepted w node now h = go (node == p.sender) (receiver_
     go : (own : Bool) (found : Option ReceiverState) → receiver_at w node ≡ found
         → HoldsAfter p past accepted w (Ticked node now) (moved p w (node_move own found (sender.Ticked now) (receiver.Ticked now)))
     go true found e = sender_tick_holds p range past accepted w node now h
-    go false None e = nothing_holds p past accepted w (Ticked node now) Silent (λ other. refl) h
-    go false (Some r) e = receiver_tick_holds p past accepted w node now r e h
+    go false None e = nothing_holds p range past accepted w (Ticked node now) Silent (λ other. refl) h
+    go false (Some r) e = receiver_tick_holds p range past accepted w node now r e h
 
 -- an element that is found is one of them
 pub found_holds : {X : Type 0} (P : X → Type 0) (test : X → Bool) (xs : List X) (x : X) → AllByRecursion P xs → find test xs ≡ Some x → P x
@@ -213,15 +211,15 @@ found_holds {X} P test (y ∷ xs) x all e = go (test y) (λ e. found_holds P tes
     go true more e = subst P (same y x e) all.0
     go false more e = more e
 
-offer_holds : (p : Settings) (past : List Happening) (accepted : List Origin) (w : World) (node : ℕ) (octets : List ℕ)
+offer_holds : (p : Settings) → InRange p → (past : List Happening) (accepted : List Origin) (w : World) (node : ℕ) (octets : List ℕ)
     → WorldHolds p past accepted w → HoldsAfter p past accepted w (Offered node octets) (world_step p w (Offered node octets))
-offer_holds p past accepted w node octets h = go (find (is_of node octets) w.given) refl
+offer_holds p range past accepted w node octets h = go (find (is_of node octets) w.given) refl
   where
     go : (found : Option (ℕ × Written)) → find (is_of node octets) w.given ≡ found
         → HoldsAfter p past accepted w (Offered node octets) (offers found node w, Silent)
-    go None e = nothing_holds p past accepted w (Offered node octets) Silent (λ other. refl) h
+    go None e = nothing_holds p range past accepted w (Offered node octets) Silent (λ other. refl) h
     go (Some o) e =
-        quiet_world p past accepted accepted w (offers (Some o) node w) (Offered node octets) Silent refl h.sender h.once (goes_on_itself (instances w.sender))
+        quiet_world p range past accepted accepted w (offers (Some o) node w) (Offered node octets) Silent refl h.sender h.once (goes_on_itself (instances w.sender))
         (all_end (λ (o : ℕ × Written). SaysTrue p w.sender o.1) w.offered o h.offered
         (found_holds (λ (o : ℕ × Written). SaysTrue p w.sender o.1) (is_of node octets) w.given o h.given e))
         (all_filter (λ (o : ℕ × Written). SaysTrue p w.sender o.1) _ w.given h.given) (λ other. refl) h
@@ -230,32 +228,32 @@ offer_holds p past accepted w node octets h = go (find (is_of node octets) w.giv
 abbrev pub taken_by : World → ReceiverState → Holding × Option Up → World × Answer
 taken_by w r step = (with_receiver (record r { holding = step.0 }) w, Took step.1)
 
-taking_holds : (p : Settings) (past : List Happening) (accepted : List Origin) (w : World) (node : ℕ) → WorldHolds p past accepted w
+taking_holds : (p : Settings) → InRange p → (past : List Happening) (accepted : List Origin) (w : World) (node : ℕ) → WorldHolds p past accepted w
     → HoldsAfter p past accepted w (UpTaken node) (world_step p w (UpTaken node))
-taking_holds p past accepted w node h = go (receiver_at w node) refl
+taking_holds p range past accepted w node h = go (receiver_at w node) refl
   where
     ups : (r : ReceiverState) → receiver_at w node ≡ Some r → (waiting : List Up) → r.holding.ups ≡ waiting → HoldsAfter p past accepted w (UpTaken node)
         (taken_by w r (elim waiting [ up ∷ more ↦ (record (r.holding) { ups = more }, Some up) | [] ↦ (r.holding, None) ]))
-    ups r found [] e = receiver_holds p past accepted w node r r (UpTaken node) (Took None) found (same_moves p w.sender r r (held_same r)) (λ other. refl) h
-    ups r found (up ∷ more) e = taken_world p past accepted w (with_receiver (behind_up more r) w) node r up more found e refl refl refl refl h
+    ups r found [] e = receiver_holds p range past accepted w node r r (UpTaken node) (Took None) found (same_moves p w.sender r r (held_same r)) (λ other. refl) h
+    ups r found (up ∷ more) e = taken_world p range past accepted w (with_receiver (behind_up more r) w) node r up more found e refl refl refl refl h
 
     go : (found : Option ReceiverState) → receiver_at w node ≡ found → HoldsAfter p past accepted w (UpTaken node) (moved p w (receiver_move found receiver.UpTaken))
-    go None e = nothing_holds p past accepted w (UpTaken node) Silent (λ other. refl) h
+    go None e = nothing_holds p range past accepted w (UpTaken node) Silent (λ other. refl) h
     go (Some r) e = ups r e r.holding.ups refl
 
-pub event_holds : (p : Settings) → InRange p → (past : List Happening) (accepted : List Origin) (w : World) (e : Event) → MayCome p w accepted e → IsEvent e → IsOfObjects e
+pub event_holds : (p : Settings) → InRange p → (past : List Happening) (accepted : List Origin) (w : World) (e : Event) → MayCome p w accepted e → IsEvent e
     → WorldHolds p past accepted w → HoldsAfter p past accepted w e (world_step p w e)
-event_holds p range past accepted w (Commanded by job now) may is of h = command_holds p range past accepted w by job now may is of h
-event_holds p range past accepted w (Delivered node datagram now draw) may is of h =
+event_holds p range past accepted w (Commanded by job now) may is h = command_holds p range past accepted w by job now may is h
+event_holds p range past accepted w (Delivered node datagram now draw) may is h =
     delivery_holds p range past accepted w node datagram now draw may.datagram
     (all_contains (λ (o : ℕ × Written). SaysTrue p w.sender o.1) w.offered (may.from, may.datagram) h.offered may.offered) may.same may.near h
-event_holds p range past accepted w (Ticked node now) may is of h = tick_holds p range past accepted w node now h
-event_holds p range past accepted w (Offered node datagram) may is of h = offer_holds p past accepted w node datagram h
-event_holds p range past accepted w (UpTaken node) may is of h = taking_holds p past accepted w node h
-event_holds p range past accepted w NewsAsked may is of h =
+event_holds p range past accepted w (Ticked node now) may is h = tick_holds p range past accepted w node now h
+event_holds p range past accepted w (Offered node datagram) may is h = offer_holds p range past accepted w node datagram h
+event_holds p range past accepted w (UpTaken node) may is h = taking_holds p range past accepted w node h
+event_holds p range past accepted w NewsAsked may is h =
     let keeps = told_keeps w.sender in
     let wants = wants_step p (blocks_of p range) w.sender sender.NewsAsked h.sender.wants in
-    sender_holds p past accepted w (told w.sender).0 NewsAsked (Told (told w.sender).1) (keeps_steps p w.sender (told w.sender).0 keeps wants h.sender) keeps
+    sender_holds p range past accepted w (told w.sender).0 NewsAsked (Told (told w.sender).1) (keeps_steps p w.sender (told w.sender).0 keeps wants h.sender) keeps
     (λ other. refl) h
 
 -- ---- a run
@@ -295,7 +293,7 @@ opening_world p range = record {
   offered = tt;
   given = tt;
   nodes = λ node. none_yet p (receivers_of p p.receivers) node (receivers_are_members p range p.receivers (omega arith));
-  through = λ node id. record { count = 0; within = omega arith; exactly = refl };
+  through = λ node id. Stops;
   latest = λ node. sym (none_in (receivers_of p p.receivers) node);
 }
 
@@ -305,36 +303,33 @@ pub record RunHolds (p : Settings) (past : List Happening) (w : World) (events :
   pub holds : WorldHolds p (past ++ happens p w events) accepted (last_world w (happens p w events))
 
 run_holds : (p : Settings) → InRange p → (past : List Happening) (accepted : List Origin) (w : World) (events : List Event) → LawfulFrom p w accepted events
-    → AreEvents events → AreOfObjects events → WorldHolds p past accepted w → RunHolds p past w events
+    → AreEvents events → WorldHolds p past accepted w → RunHolds p past w events
 unfolding happens last_world
-run_holds p range past accepted w [] lawful are of h =
+run_holds p range past accepted w [] lawful are h =
     let W : List Happening → Type 0 = λ all. WorldHolds p all accepted w in
     record { accepted = accepted; holds = subst W (sym (append-nil past)) h }
-run_holds p range past accepted w (e ∷ events) lawful are of h =
+run_holds p range past accepted w (e ∷ events) lawful are h =
     let step = world_step p w e in
     let x : Happening = happening w e step in
-    let next = event_holds p range past accepted w e lawful.0 are.0 of.0 h in
-    let rest = run_holds p range (past ++ x ∷ []) (accepted_with accepted e step.1) step.0 events lawful.1 are.1 of.1 next in
+    let next = event_holds p range past accepted w e lawful.0 are.0 h in
+    let rest = run_holds p range (past ++ x ∷ []) (accepted_with accepted e step.1) step.0 events lawful.1 are.1 next in
     let W : List Happening → Type 0 = λ all. WorldHolds p all rest.accepted (last_world step.0 (happens p step.0 events)) in
     record { accepted = rest.accepted; holds = subst W (append_assoc past (x ∷ []) (happens p step.0 events)) rest.holds }
 
-pub run_of : (p : Settings) → InRange p → (events : List Event) → Lawful p events → AreEvents events → AreOfObjects events
+pub run_of : (p : Settings) → InRange p → (events : List Event) → Lawful p events → AreEvents events
     → RunHolds p [] (world_opening p) events
-run_of p range events lawful are of = run_holds p range [] [] (world_opening p) events lawful are of (opening_world p range)
+run_of p range events lawful are = run_holds p range [] [] (world_opening p) events lawful are (opening_world p range)
 
-pub in_order_run : (p : Settings) → InRange p → (events : List Event) → Lawful p events → AreEvents events → AreOfObjects events
+pub in_order_run : (p : Settings) → InRange p → (events : List Event) → Lawful p events → AreEvents events
     → InOrder p (history p events)
 unfolding IsDistinct
-in_order_run p range events lawful are of = record {
-  through = λ node id. (
-      let t = run.holds.through node id in
-      exactly_through p (drop_of (history p events).now.sender id) 0 t.count (order_of (history p events).now.sender id) _ t.exactly
-      );
+in_order_run p range events lawful are = record {
+  through = λ node id. run.holds.through node id;
   once = λ node. once node (receiver_at (history p events).now node) (run.holds.nodes node);
 }
   where
     run : RunHolds p [] (world_opening p) events
-    run = run_of p range events lawful are of
+    run = run_of p range events lawful are
 
     once : (node : ℕ) (found : Option ReceiverState) → AtNode p (history p events).now.sender (history p events).happened node found
         → IsDistinct nat_eq (came_to node None (history p events).happened)

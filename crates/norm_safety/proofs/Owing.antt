@@ -1,55 +1,55 @@
 -- What was handed up is owed once a flush asks for it, and is acknowledged at the next tick.
-use Rattle.std.proofs.Common.{◌≡◌, ℕ, zero, suc, ◌+◌, ◌<◌, ◌≤◌, List, [], ◌∷◌, ◌++◌, length, take, Bool, true, false, Option, None, Some, Result, Ok, Err, refl, sym, ap, ◌∙◌, subst, arith, ◌⊎◌, inl, inr}
-use Rattle.std.specs.Prelude.{slice_get, map, fold, not, nat_lt, ◌==◌, ◌&&◌, ◌||◌, option_and_then, unwrap_or, if◌then◌else◌, IsSomeAnd}
-use Rattle.std.specs.List.{AllByRecursion}
+use Rattle.std.proofs.Common.{◌≡◌, ℕ, zero, suc, ◌+◌, ◌*◌, ◌<◌, ◌≤◌, List, [], ◌∷◌, ◌++◌, length, take, Bool, true, false, Option, None, Some, Result, Ok, Err, refl, sym, ap, ◌∙◌, subst, arith, ◌⊎◌, inl, inr}
+use Rattle.std.proofs.Math.Nat.{mul-le-mul_right, add-mul}
+use Rattle.std.specs.Prelude.{slice_get, map, min, not, ◌==◌, ◌&&◌, option_and_then, unwrap_or, if◌then◌else◌}
 use Rattle.std.proofs.lemmas.Bool.Decides.{Decides-eqb, Decides-ltb}
 use Rattle.std.proofs.lemmas.List.{length-append, length-take}
 use Rattle.std.proofs.lemmas.Option.{slice_get_within}
 use Rattle.norm_base.specs.Settings.{Settings, InRange}
-use Rattle.fec_plan.specs.Points.{position, position_before, reaches, further}
+use Rattle.fec_plan.specs.Points.{Point, position, position_before, reaches, further}
 use Rattle.fec_plan.specs.declared.position.Position.{Position}
-use Rattle.fec_plan.proofs.PositionLemmas.{behind, reached, behind_both, positions_are_ordered}
-use Rattle.norm_ext.specs.Message.{Message, Info, Data, Flush, Eot, Squelch, RepairAdv, AckReq, Opaque, Nack, Ack, Report, FlushCommand, RepairAdvCommand, NackMessage}
+use Rattle.fec_plan.proofs.PositionLemmas.{Behind, behind, reached, behind_both, positions_are_ordered}
+use Rattle.norm_ext.specs.Message.{Message, Info, Data, Flush, Eot, Squelch, RepairAdv, AckReq, Opaque, Nack, Ack, Report, FlushCommand, RepairAdvCommand}
 use Rattle.norm_ext.specs.ObjectIds.{index_named}
 use Rattle.norm_ext.specs.Reading.{decoded}
 use Rattle.norm_ext.specs.Requests.{Request}
 use Rattle.norm_ext.specs.Written.{Written, writes}
 use Rattle.norm_ext.specs.declared.refusal.Refusal.{Refusal}
 use Rattle.norm_order.specs.Entries.{Object, Whole, Stream, Entry}
-use Rattle.norm_order.specs.Shapes.{shape_of, last_in}
-use Rattle.norm_order.specs.Upto.{parts_of, all_parts, upto}
+use Rattle.norm_order.specs.Segments.{segments}
+use Rattle.norm_order.specs.Shapes.{shape_of, closed_in}
+use Rattle.norm_order.specs.Upto.{segment_up, parts_of, all_parts, ends_at, parts_through, upto}
+use Rattle.norm_order.proofs.UptoLemmas.{there}
 use Rattle.norm_order.specs.declared.up.Up.{Up}
-use Rattle.norm_receive_rules.specs.Acknowledging.{lost_nothing, has_handed_up, names_this, flushed, acknowledges}
+use Rattle.norm_receive_rules.specs.Acknowledging.{names_this, acknowledges}
 use Rattle.norm_receive_rules.specs.AllNeeds.{needs_nothing}
 use Rattle.norm_receive_rules.specs.BackingOff.{may_back_off, backs_off, may_need}
 use Rattle.norm_receive_rules.specs.Leaving.{is_in, goes_to, enters, entered}
 use Rattle.norm_receive_rules.specs.Nack.{ack_message}
-use Rattle.norm_receive_rules.specs.Overhearing.{overheard, nack_overheard, adv_overheard}
+use Rattle.norm_receive_rules.specs.Overhearing.{overheard, adv_overheard}
 use Rattle.norm_receive_rules.specs.ReceiverState.{ReceiverState, Knowledge}
-use Rattle.norm_receive_rules.specs.Receiving.{info_received, data_received, flush_received, squelch_received, learns, takes_in, in_instance, message_received, received}
+use Rattle.norm_receive_rules.specs.Receiving.{info_received, data_received, flush_received, squelch_received, takes_in, in_instance, message_received, received}
 use Rattle.norm_receive_rules.specs.Ticking.{sends, ends_back_off, ticked}
-use Rattle.norm_safety.specs.Acknowledges.{owes, EndsObject, HandedAll, OwesWhatItHanded, OwingLaws}
+use Rattle.norm_safety.specs.Acknowledges.{owes, EndsPart, EndsPartOf, OwesWhatItHanded, OwingLaws}
 use Rattle.norm_safety.specs.Events.{Event}
 use Rattle.norm_safety.specs.Fronts.{IsFront}
 use Rattle.norm_safety.specs.Hands.{hands}
-use Rattle.norm_safety.specs.History.{Happening, History, history}
-use Rattle.norm_safety.specs.HoldsSaid.{handed_by}
-use Rattle.norm_safety.specs.Jobs.{AreEvents, AreOfObjects}
+use Rattle.norm_safety.specs.History.{Happening, history}
+use Rattle.norm_safety.specs.Jobs.{AreEvents}
 use Rattle.norm_safety.specs.Lawful.{Lawful}
 use Rattle.norm_safety.specs.Laws.{AcknowledgeRun}
 use Rattle.norm_safety.specs.OnceEach.{order_of}
 use Rattle.norm_safety.specs.InOrder.{drop_of}
-use Rattle.norm_safety.specs.World.{World, receiver_at}
+use Rattle.norm_safety.specs.World.{World}
 use Rattle.norm_safety.proofs.AckHanded.{handed_run}
 use Rattle.norm_safety.proofs.EntryLemmas.{clash}
 use Rattle.norm_safety.proofs.Holding.{ReceiverHolds, some_and}
 use Rattle.norm_safety.proofs.OrderRun.{run_of}
 use Rattle.norm_safety.proofs.ReceiverMoves.{StandingIn, knowing}
-use Rattle.norm_safety.proofs.Released.{last_position, has_last, upto_last}
-use Rattle.norm_safety.proofs.SenderHolds.{orders_hold}
-use Rattle.norm_safety.proofs.Spoken.{sized_at}
-use Rattle.norm_safety.proofs.WholeOrders.{IsSized, AreSized}
-use Rattle.norm_safety.proofs.WorldHolds.{AtNode, AtReceiver, WorldHolds}
+use Rattle.norm_safety.proofs.Passed.{StandsIn, StandsAt, begun, length-parts}
+use Rattle.norm_safety.proofs.ReceiverHolds.{there as there_is}
+use Rattle.norm_safety.proofs.Stood.{entries_front}
+use Rattle.norm_safety.proofs.WorldHolds.{AtNode, AtReceiver}
 
 -- ---- what is owed
 
@@ -214,56 +214,137 @@ owing_laws = record {
 
 -- ---- what was handed up is owed once it is asked for
 
--- data and files have one part each
-parts_many : (p : Settings) (first : ℕ) (order : List Entry) → AreSized p order → length (all_parts p first order) ≡ length order
-unfolding all_parts
-parts_many p first [] all = refl
-parts_many p first (x ∷ order) all =
-    let more = parts_many p (first + 1) order all.1 in
-    length-append (parts_of p first x.object) (all_parts p (first + 1) order)
-    ∙ (let one = one_part x.object all.0 in let z : length (parts_of p first x.object) + length (all_parts p (first + 1) order) ≡ suc (length order) = omega (arith, one, more) in z)
+-- what stands before the place of an entry, with a part of it, is handed up in so many steps
+before_many : (p : Settings) (order : List Entry) (i j : ℕ) (x : Entry) → slice_get order i ≡ Some x → i < j
+    → length (all_parts p 0 (take i order)) + length (parts_of p i x.object) ≤ length (all_parts p 0 (take j order))
+before_many p order i j x found lt =
+    let front = entries_front p 0 i order i j x found lt (omega arith) in
+    let whole = ap (λ (ups : List Up). length ups) front.1 in
+    let one = length-append (all_parts p 0 (take i order) ++ parts_of p i x.object) front.0 in
+    let two = length-append (all_parts p 0 (take i order)) (parts_of p i x.object) in
+    omega (arith, whole, one, two)
+
+-- with a position at which something is handed up that is
+through_some : (p : Settings) (at : Position) (object : Object) → EndsPart p at object → 0 < length (parts_through p at object)
+through_some p at (Whole kind info octets) ends =
+    let is : ends_at p (Whole kind info octets) at ≡ true =
+    ap (λ (o : Option Position). elim o [ Some l ↦ reaches at l | None ↦ false ]) ends ∙ reached at at (inr (refl, inr (refl, omega arith))) in
+    let all = ap (λ (b : Bool). length (by b)) is in
+    let z : length (by true) ≡ 1 = refl in
+    omega (arith, all, z)
   where
-    one_part : (object : Object) → IsSized p object → length (parts_of p first object) ≡ 1
-    one_part (Whole kind info octets) sized = refl
-    one_part (Stream parts) sized = absurd sized
+    by : Bool → List Up
+    by b = elim b [ true ↦ parts_of p at.index (Whole kind info octets) | false ↦ [] ]
+through_some p at (Stream parts) ends =
+    let one : length (parts_through p at (Stream parts)) ≡ suc (length (take (suc (at.block * p.b + at.symbol)) (map (segment_up at.index) (segments p.e parts)))) =
+    ap (λ (n : ℕ). length (take n (parts_of p at.index (Stream parts)))) (let z : 2 + (at.block * p.b + at.symbol) ≡ suc (suc (at.block * p.b + at.symbol)) = omega arith in z) in
+    omega (arith, one)
 
-sized_take : (p : Settings) (n : ℕ) (order : List Entry) → AreSized p order → AreSized p (take n order)
-sized_take p zero order all = tt
-sized_take p (suc n) [] all = tt
-sized_take p (suc n) (x ∷ order) all = (all.0, sized_take p n order all.1)
+-- what was handed up of an entry is no more than all of it
+begun_few : (p : Settings) (index n : ℕ) (x : Entry) → (length (begun p index n (Some x)) ≤ length (parts_of p index x.object)) × (length (begun p index n (Some x)) ≤ suc n)
+begun_few p index zero x = (omega arith, omega arith)
+begun_few p index (suc n) x = let few = length-take (suc (suc n)) (parts_of p index x.object) in (omega (arith, few), omega (arith, few))
 
-same_at : (a b : Position) → Some a ≡ Some b → a ≡ b
-same_at a b e = cc
-
--- where everything before the end of an object was handed up without a loss, the hand-up point is behind that object
-point_behind : (p : Settings) → InRange p → (order : List Entry) (d : ℕ) (taken : List Up) (r : ReceiverState) (at : Position) → AreSized p order
-    → ReceiverHolds p order d taken r → r.holding.lost ≡ [] → EndsObject p order at → IsFront (upto p order at) (taken ++ r.holding.ups)
-    → at.index < r.holding.point.index
-point_behind p range order d taken r at sized h none ends front =
-    let entry = some_and (λ (x : Entry). last_in at.index (shape_of p x.object) ≡ Some at) (slice_get order at.index) ends in
-    let x : Entry = entry.0 in
-    let is_sized = sized_at p order at.index x sized entry.1 in
-    let lt = slice_get_within order at.index x entry.1 in
-    let last = has_last p range at.index x.object is_sized in
-    let is : at ≡ last_position at.index (shape_of p x.object) = same_at at _ (sym entry.2 ∙ last) in
-    let all : upto p order at ≡ all_parts p 0 (take (suc at.index) order) = ap (upto p order) is ∙ upto_last p order at.index x lt entry.1 is_sized last in
-    let whole : all_parts p 0 (take r.holding.point.index order) ≡ all_parts p 0 (take (suc at.index) order) ++ front.0 =
-    sym (h.clean none) ∙ front.1 ∙ ap (λ (ups : List Up). ups ++ front.0) all in
-    let many : length (all_parts p 0 (take r.holding.point.index order)) ≡ length (all_parts p 0 (take (suc at.index) order)) + length front.0 =
-    ap (λ (ups : List Up). length ups) whole ∙ length-append (all_parts p 0 (take (suc at.index) order)) front.0 in
-    let one = parts_many p 0 (take r.holding.point.index order) (sized_take p r.holding.point.index order sized) in
-    let two = parts_many p 0 (take (suc at.index) order) (sized_take p (suc at.index) order sized) in
-    let three = length-take r.holding.point.index order in
-    let four = length-take (suc at.index) order in
-    omega (arith, many, one, two, three, four, lt)
-
--- a position of an earlier object is before a point
-before_point : (at point : Position) → at.index < point.index → position_before at point ≡ true
-before_point at point lt = first _ _ (first _ _ ((Decides-ltb at.index point.index).1 lt))
+-- Where all through a position at which something is handed up was handed up without a loss, the hand-up point is behind it.
+point_behind : (p : Settings) → InRange p → (order : List Entry) (d : Point) (taken : List Up) (r : ReceiverState) (at : Position)
+    → ReceiverHolds p order d taken r → r.holding.lost ≡ [] → EndsPartOf p order at → IsFront (upto p order at) (taken ++ r.holding.ups)
+    → position_before at r.holding.point ≡ true
+point_behind p range order d taken r at h none ends front = go (position_before at r.holding.point) refl
   where
-    first : (a b : Bool) → a ≡ true → (a || b) ≡ true
-    first true b e = refl
-    first false b e = absurd (clash e)
+    point : Position
+    point = r.holding.point
+
+    n : ℕ
+    n = point.block * p.b + point.symbol
+
+    entry : (x : Entry) × (slice_get order at.index ≡ Some x) × EndsPart p at x.object
+    entry = some_and (λ (x : Entry). EndsPart p at x.object) (slice_get order at.index) ends
+
+    -- so many were handed up
+    many : length (upto p order at) ≤ length (all_parts p 0 (take point.index order)) + length (begun p point.index n (slice_get order point.index))
+    many =
+        let gone = h.gone in
+        let all = ap (λ (ups : List Up). length ups) (sym front.1 ∙ gone.all) in
+        let one = length-append (upto p order at) front.0 in
+        let two = length-append gone.before (begun p point.index n (slice_get order point.index)) in
+        let three = ap (λ (ups : List Up). length ups) (gone.clean none).1 in
+        omega (arith, all, one, two, three)
+
+    upto_many : length (upto p order at) ≡ length (all_parts p 0 (take at.index order)) + length (parts_through p at entry.0.object)
+    upto_many =
+        length-append (all_parts p 0 (take at.index order)) (there p at (slice_get order at.index))
+        ∙ ap (λ (o : Option Entry). length (all_parts p 0 (take at.index order)) + length (there p at o)) entry.1
+
+    further : point.index < at.index → ⊥
+    further lt =
+        let within = slice_get_within order at.index entry.0 entry.1 in
+        let here = there_is order point.index (omega (arith, lt, within)) in
+        let before = before_many p order point.index at.index here.0 here.1 lt in
+        let own = through_some p at entry.0.object entry.2 in
+        let few = (begun_few p point.index n here.0).0 in
+        let same : length (begun p point.index n (slice_get order point.index)) ≡ length (begun p point.index n (Some here.0)) =
+        ap (λ (o : Option Entry). length (begun p point.index n o)) here.1 in
+        let most = many in
+        let sum = upto_many in
+        absurd (omega (arith, most, sum, before, own, few, same))
+
+    here_number : (point.block < at.block) ⊎ ((point.block ≡ at.block) × (point.symbol ≤ at.symbol)) → point.symbol < p.b → n ≤ at.block * p.b + at.symbol
+    here_number (inl lt) low =
+        let up_to : (point.block + 1) * p.b ≤ at.block * p.b = mul-le-mul_right p.b (let z : point.block + 1 ≤ at.block = omega (arith, lt) in z) in
+        let next : (point.block + 1) * p.b ≡ point.block * p.b + 1 * p.b = add-mul point.block 1 p.b in
+        omega (arith, up_to, next, low)
+    here_number (inr same) low =
+        let e : point.block * p.b ≡ at.block * p.b = ap (λ (k : ℕ). k * p.b) same.0 in
+        let le = same.1 in
+        omega (arith, e, le)
+
+    within : point.index ≡ at.index → (point.block < at.block) ⊎ ((point.block ≡ at.block) × (point.symbol ≤ at.symbol)) → ⊥
+    within same le = by_object entry.0.object refl entry.2 stands
+      where
+        x : Entry
+        x = entry.0
+
+        here : slice_get order point.index ≡ Some x
+        here = ap (slice_get order) same ∙ entry.1
+
+        stands : StandsIn p x.object point.block point.symbol
+        stands = let S : Option Entry → Type 0 = λ o. StandsAt p o point.block point.symbol in subst S here h.gone.stands
+
+        count : length (parts_through p at x.object) ≤ length (begun p point.index n (Some x))
+        count =
+            let most = many in
+            let sum = upto_many in
+            let one : length (begun p point.index n (slice_get order point.index)) ≡ length (begun p point.index n (Some x)) =
+            ap (λ (o : Option Entry). length (begun p point.index n o)) here in
+            let two : length (all_parts p 0 (take point.index order)) ≡ length (all_parts p 0 (take at.index order)) =
+            ap (λ (i : ℕ). length (all_parts p 0 (take i order))) same in
+            omega (arith, most, sum, one, two)
+
+        by_object : (o : Object) → x.object ≡ o → EndsPart p at o → StandsIn p o point.block point.symbol → ⊥
+        by_object (Whole kind info octets) is ends h =
+            let E : Object → Type 0 = λ o. EndsPart p at o in
+            let own = through_some p at x.object (subst E (sym is) ends) in
+            let zero_is : n ≡ 0 = ap (λ (b : ℕ). b * p.b + point.symbol) h.0 ∙ ap (λ (s : ℕ). 0 * p.b + s) h.1 ∙ (let z : 0 * p.b + 0 ≡ 0 = omega arith in z) in
+            let nothing : length (begun p point.index n (Some x)) ≡ 0 = ap (λ (k : ℕ). length (begun p point.index k (Some x))) zero_is in
+            let few = count in
+            absurd (omega (arith, own, nothing, few))
+        by_object (Stream parts) is ends h =
+            let lt = (Decides-ltb at.symbol (closed_in (shape_of p (Stream parts)) at.block)).0 ends in
+            let le = here_number le h.0 in
+            let all : length (parts_through p at x.object) ≡ min (2 + (at.block * p.b + at.symbol)) (length (parts_of p at.index (Stream parts))) =
+            ap (λ (o : Object). length (parts_through p at o)) is ∙ length-take (2 + (at.block * p.b + at.symbol)) (parts_of p at.index (Stream parts)) in
+            let long = length-parts p at.index parts in
+            let few = (begun_few p point.index n x).1 in
+            let most = count in
+            absurd (omega (arith, lt, le, all, long, few, most))
+
+    by_order : Behind at point → ⊥
+    by_order (inl lt) = further lt
+    by_order (inr both) = within both.0 both.1
+
+    go : (b : Bool) → position_before at point ≡ b → position_before at point ≡ true
+    go true e = e
+    go false e = absurd (by_order (behind at point (ap not e)))
 
 flush_owed : (p : Settings) (r : ReceiverState) (octets : List ℕ) (now draw index : ℕ) (m : FlushCommand) → decoded octets ≡ Ok (Flush m)
     → m.head.source ≡ p.sender → names_this r m.nodes ≡ true → index_named p r.knows.known m.object ≡ Some index → r.instance ≡ Some m.head.instance
@@ -300,10 +381,9 @@ flush_owed p r octets now draw index m read source names named inside none befor
     by_name : Option ℕ → ReceiverState
     by_name found = unwrap_or (elim found [ Some i ↦ Some (may_need p now draw (flush_received m i (knowing i r))) | None ↦ None ]) r
 
-pub owed_run : (p : Settings) → InRange p → (events : List Event) → Lawful p events → AreEvents events → AreOfObjects events
-    → OwesWhatItHanded p (history p events)
-owed_run p range events lawful are of node index r octets now draw m read source names named all =
-    let run = run_of p range events lawful are of in
+pub owed_run : (p : Settings) → InRange p → (events : List Event) → Lawful p events → AreEvents events → OwesWhatItHanded p (history p events)
+owed_run p range events lawful are node index r octets now draw m read source names named all =
+    let run = run_of p range events lawful are in
     let w : World = (history p events).now in
     let past : List Happening = (history p events).happened in
     let id : ℕ = m.head.instance in
@@ -311,11 +391,10 @@ owed_run p range events lawful are of node index r octets now draw m read source
     let N : Option ReceiverState → Type 0 = λ o. AtNode p w.sender past node o in
     let here : AtReceiver p w.sender past node r = subst N all.there (run.holds.nodes node) in
     let S : Option ℕ → Type 0 = λ instance. StandingIn p w.sender (hands past node) r instance in
-    let holds : ReceiverHolds p (order_of w.sender id) (drop_of w.sender id).index (hands past node id) r = subst S all.inside here.stands in
+    let holds : ReceiverHolds p (order_of w.sender id) (drop_of w.sender id) (hands past node id) r = subst S all.inside here.stands in
     let F : ℕ → Type 0 = λ n. IsFront (upto p (order_of w.sender id) at) (hands past n id ++ r.holding.ups) in
-    let lt = point_behind p range (order_of w.sender id) (drop_of w.sender id).index (hands past node id) r at
-    ((orders_hold p w.sender run.holds.sender).sized id) holds all.lost all.ends (subst F here.here all.front) in
-    flush_owed p r octets now draw index m read source names named all.inside all.lost (before_point at r.holding.point lt)
+    flush_owed p r octets now draw index m read source names named all.inside all.lost
+    (point_behind p range (order_of w.sender id) (drop_of w.sender id) (hands past node id) r at holds all.lost all.ends (subst F here.here all.front))
 
 pub acknowledge_run : AcknowledgeRun
 acknowledge_run = record { handed = handed_run; owed = owed_run; stays = owing_laws }

@@ -1,16 +1,17 @@
 -- What a receiver does with a message that is true of an order keeps what it holds of it.
-use Rattle.std.proofs.Common.{◌≡◌, ℕ, zero, suc, ◌+◌, ◌-◌, ◌*◌, ◌/◌, ◌<◌, ◌≤◌, List, [], ◌∷◌, ◌++◌, length, take, Bool, true, false, Option, None, Some, refl, sym, ap, ◌∙◌, subst, append_assoc, arith}
+use Rattle.std.proofs.Common.{◌≡◌, ℕ, zero, suc, ◌-◌, ◌*◌, ◌/◌, ◌<◌, ◌≤◌, List, [], ◌∷◌, ◌++◌, length, Bool, true, false, Option, None, Some, refl, sym, ap, ◌∙◌, subst, append_assoc, arith, cond, ◌⊎◌, inl, inr}
 use Rattle.std.specs.Prelude.{slice_get, map, max, ◌==◌, ◌&&◌, nat_lt, is_none, IsSomeAnd}
 use Rattle.std.specs.List.{AllByRecursion}
-use Rattle.std.proofs.lemmas.Bool.Decides.{Decides-ltb}
-use Rattle.std.proofs.lemmas.List.{length-take}
+use Rattle.std.proofs.lemmas.Bool.Decides.{Decides-ltb, Decides-eqb}
 use Rattle.norm_base.specs.Settings.{Settings, InRange}
-use Rattle.fec_plan.specs.Points.{Point, point, position, point_of}
+use Rattle.fec_plan.specs.Points.{Point, point, point_before, position, point_of}
+use Rattle.fec_plan.proofs.PointLemmas.{behind_point}
 use Rattle.fec_plan.specs.declared.position.Position.{Position}
 use Rattle.norm_ext.specs.Extensions.{Extension}
 use Rattle.norm_ext.specs.declared.fti.Fti.{Fti}
 use Rattle.norm_ext.specs.Message.{InfoMessage, DataMessage, SquelchCommand}
 use Rattle.norm_order.specs.Entries.{Entry}
+use Rattle.norm_order.specs.Sets.{with_member}
 use Rattle.norm_order.specs.Shapes.{shape_of, encoded_in}
 use Rattle.norm_order.specs.Symbols.{symbol_octets}
 use Rattle.norm_order.specs.declared.up.Up.{Up}
@@ -20,7 +21,7 @@ use Rattle.norm_receive_rules.specs.Holding.{Holding, Plan, new_plan}
 use Rattle.norm_receive_rules.specs.Plans.{plan_of, says_stream}
 use Rattle.norm_receive_rules.specs.Fitting.{fit_of, fitted, lets_put, plan_before}
 use Rattle.norm_receive_rules.specs.Putting.{put_of, put_symbol, with_symbol, held_before, put_info_of, put_info, with_info, info_before}
-use Rattle.norm_receive_rules.specs.HandingUp.{next_segment, hands_one, hands_most, handed_up}
+use Rattle.norm_receive_rules.specs.HandingUp.{after_object, next_segment, hands_one, hands_most, handed_up}
 use Rattle.norm_receive_rules.specs.Losing.{loses_one, loses_before, is_cut_off, squelched}
 use Rattle.norm_receive_rules.specs.Seeing.{plan_seen, sees_block}
 use Rattle.norm_receive_rules.specs.Receiving.{object_held}
@@ -30,13 +31,14 @@ use Rattle.norm_receive_rules.specs.declared.words.Put.{Put}
 use Rattle.norm_receive_rules.specs.declared.words.Put.TheVariants as put
 use Rattle.norm_safety.specs.SaysSymbols.{SaysObject, info_of_object}
 use Rattle.norm_safety.proofs.EntryLemmas.{clash}
-use Rattle.norm_safety.proofs.WholeOrders.{AreSized}
-use Rattle.norm_safety.proofs.Onward.{not_true}
-use Rattle.norm_safety.proofs.Exact.{Exactly, exactly_loses, take_next}
+use Rattle.norm_safety.proofs.SizedOrders.{AreSized}
+use Rattle.norm_safety.proofs.GoesOn.{DropWithin}
+use Rattle.norm_safety.proofs.Through.{Handed}
+use Rattle.norm_safety.proofs.HandedMoves.{loses_dropped, loses_blocks}
 use Rattle.norm_safety.proofs.Stood.{Due, due_more}
-use Rattle.norm_safety.proofs.Holding.{HoldsOf, IsPlanOf, IsSymbolOf, IsInfoOf, all_with, rising_with, some_and, hands_holding}
+use Rattle.norm_safety.proofs.Holding.{HoldsOf, plan_in, IsPlanOf, IsSymbolOf, IsInfoOf, all_with, rising_with, some_and, hands_holding}
 
-most_holding : (p : Settings) → InRange p → (order : List Entry) (d : ℕ) (taken : List Up) (due : Option Position) (n : ℕ) (r : Holding) → AreSized p order
+most_holding : (p : Settings) → InRange p → (order : List Entry) (d : Point) (taken : List Up) (due : Option Position) (n : ℕ) (r : Holding) → AreSized p order
     → HoldsOf p order d taken due r → HoldsOf p order d taken due (hands_most n p r)
 unfolding hands_most
 most_holding p range order d taken due zero r sized h = h
@@ -49,13 +51,60 @@ most_holding p range order d taken due (suc n) r sized h =
     go None e more = h
     go (Some after) e more = more after e
 
-pub up_holding : (p : Settings) → InRange p → (order : List Entry) (d : ℕ) (taken : List Up) (due : Option Position) (r : Holding) → AreSized p order
+pub up_holding : (p : Settings) → InRange p → (order : List Entry) (d : Point) (taken : List Up) (due : Option Position) (r : Holding) → AreSized p order
     → HoldsOf p order d taken due r → HoldsOf p order d taken due (handed_up p r)
 up_holding p range order d taken due r sized h = most_holding p range order d taken due _ r sized h
 
 -- ---- what a message brings
 
-fitted_holding : (p : Settings) (order : List Entry) (d : ℕ) (taken : List Up) (due : Option Position) (word : Fit) (index : ℕ) (f : Fti) (flags : ℕ) (r : Holding)
+some_plan : (x : Plan) → Some x ≡ None → ⊥
+some_plan x e = cc
+
+-- where a plan is not among more it is not among fewer
+none_before : (x : Plan) (plans : List Plan) (index : ℕ) → plan_in (with_member plan_before x plans) index ≡ None → plan_in plans index ≡ None
+unfolding with_member
+none_before x [] index e = refl
+none_before x (y ∷ plans) index e = go (plan_before x y) (plan_before y x) e (none_before x plans index)
+  where
+    behind : (b : Bool) → cond b (Some x) (plan_in (y ∷ plans) index) ≡ None → plan_in (y ∷ plans) index ≡ None
+    behind true e = absurd (some_plan x e)
+    behind false e = e
+
+    after : (b : Bool) → cond b (Some y) (plan_in (with_member plan_before x plans) index) ≡ None
+        → (plan_in (with_member plan_before x plans) index ≡ None → plan_in plans index ≡ None) → cond b (Some y) (plan_in plans index) ≡ None
+    after true e more = absurd (some_plan y e)
+    after false e more = more e
+
+    go : (b c : Bool) → plan_in (elim b [
+      | true ↦ x ∷ y ∷ plans
+      | false ↦ elim c [ true ↦ y ∷ with_member plan_before x plans | false ↦ y ∷ plans ]
+    ]) index ≡ None → (plan_in (with_member plan_before x plans) index ≡ None → plan_in plans index ≡ None) → plan_in (y ∷ plans) index ≡ None
+    go true c e more = behind (x.index == index) e
+    go false true e more = after (y.index == index) e more
+    go false false e more = e
+
+same_index : (at : Point) (plan : Plan) → (plan_seen at plan).index ≡ plan.index
+same_index at plan = go (plan.index == at.index && says_stream plan.flags)
+  where
+    index_of : Plan → ℕ
+    index_of x = x.index
+
+    go : (b : Bool) → index_of (elim b [ true ↦ record plan { seen = max plan.seen at.block } | false ↦ plan ]) ≡ plan.index
+    go true = refl
+    go false = refl
+
+none_seen : (at : Point) (plans : List Plan) (index : ℕ) → plan_in (map (plan_seen at) plans) index ≡ None → plan_in plans index ≡ None
+none_seen at [] index e = refl
+none_seen at (y ∷ plans) index e =
+    go ((plan_seen at y).index == index) (y.index == index) (ap (λ (n : ℕ). n == index) (same_index at y)) e (none_seen at plans index)
+  where
+    go : (b c : Bool) → b ≡ c → cond b (Some (plan_seen at y)) (plan_in (map (plan_seen at) plans) index) ≡ None
+        → (plan_in (map (plan_seen at) plans) index ≡ None → plan_in plans index ≡ None) → cond c (Some y) (plan_in plans index) ≡ None
+    go true c is e more = absurd (some_plan (plan_seen at y) e)
+    go false true is e more = absurd (clash is)
+    go false false is e more = more e
+
+fitted_holding : (p : Settings) (order : List Entry) (d : Point) (taken : List Up) (due : Option Position) (word : Fit) (index : ℕ) (f : Fti) (flags : ℕ) (r : Holding)
     → IsPlanOf p order (new_plan index f flags) → HoldsOf p order d taken due r → HoldsOf p order d taken due (fitted word index f flags r)
 fitted_holding p order d taken due fit.Known index f flags r plan h = h
 fitted_holding p order d taken due fit.Away index f flags r plan h = h
@@ -65,11 +114,8 @@ fitted_holding p order d taken due fit.Taken index f flags r plan h = record {
   symbols = h.symbols;
   rising = h.rising;
   infos = h.infos;
-  block = h.block;
-  symbol = h.symbol;
-  within = h.within;
+  planned = λ none. h.planned (none_before (new_plan index f flags) r.plans r.point.index none);
   gone = h.gone;
-  clean = h.clean;
   confirms = h.confirms;
 }
 
@@ -85,22 +131,19 @@ plans_seen : (p : Settings) (order : List Entry) (at : Point) (plans : List Plan
 plans_seen p order at [] all = tt
 plans_seen p order at (plan ∷ plans) all = (plan_seen_is p order at plan all.0, plans_seen p order at plans all.1)
 
-seen_holding : (p : Settings) (order : List Entry) (d : ℕ) (taken : List Up) (due : Option Position) (at : Point) (r : Holding) → HoldsOf p order d taken due r
+seen_holding : (p : Settings) (order : List Entry) (d : Point) (taken : List Up) (due : Option Position) (at : Point) (r : Holding) → HoldsOf p order d taken due r
     → HoldsOf p order d taken due (sees_block at r)
 seen_holding p order d taken due at r h = record {
   plans = plans_seen p order at r.plans h.plans;
   symbols = h.symbols;
   rising = h.rising;
   infos = h.infos;
-  block = h.block;
-  symbol = h.symbol;
-  within = h.within;
+  planned = λ none. h.planned (none_seen at r.plans r.point.index none);
   gone = h.gone;
-  clean = h.clean;
   confirms = h.confirms;
 }
 
-symbol_holding : (p : Settings) (order : List Entry) (d : ℕ) (taken : List Up) (due : Option Position) (word : Put) (at : Position) (payload : List ℕ) (r : Holding)
+symbol_holding : (p : Settings) (order : List Entry) (d : Point) (taken : List Up) (due : Option Position) (word : Put) (at : Position) (payload : List ℕ) (r : Holding)
     → IsSymbolOf p order (record { at = at; octets = payload }) → HoldsOf p order d taken due r → HoldsOf p order d taken due (with_symbol word at payload r)
 symbol_holding p order d taken due put.Had at payload r is h = h
 symbol_holding p order d taken due put.Away at payload r is h = h
@@ -110,15 +153,12 @@ symbol_holding p order d taken due put.Kept at payload r is h = record {
   symbols = all_with (IsSymbolOf p order) held_before (record { at = at; octets = payload }) r.held is h.symbols;
   rising = rising_with (record { at = at; octets = payload }) r.held h.rising;
   infos = h.infos;
-  block = h.block;
-  symbol = h.symbol;
-  within = h.within;
+  planned = h.planned;
   gone = h.gone;
-  clean = h.clean;
   confirms = h.confirms;
 }
 
-info_holding : (p : Settings) (order : List Entry) (d : ℕ) (taken : List Up) (due : Option Position) (word : Put) (index : ℕ) (info : List ℕ) (r : Holding)
+info_holding : (p : Settings) (order : List Entry) (d : Point) (taken : List Up) (due : Option Position) (word : Put) (index : ℕ) (info : List ℕ) (r : Holding)
     → IsInfoOf order (record { index = index; info = info }) → HoldsOf p order d taken due r → HoldsOf p order d taken due (with_info word index info r)
 info_holding p order d taken due put.Had index info r is h = h
 info_holding p order d taken due put.Away index info r is h = h
@@ -128,16 +168,13 @@ info_holding p order d taken due put.Kept index info r is h = record {
   symbols = h.symbols;
   rising = h.rising;
   infos = all_with (IsInfoOf order) info_before (record { index = index; info = info }) r.infos is h.infos;
-  block = h.block;
-  symbol = h.symbol;
-  within = h.within;
+  planned = h.planned;
   gone = h.gone;
-  clean = h.clean;
   confirms = h.confirms;
 }
 
 -- a message of an object whose transmission information is that of an entry
-object_holding : (p : Settings) → InRange p → (order : List Entry) (d : ℕ) (taken : List Up) (due : Option Position) (at : Position) (extensions : List Extension) (flags : ℕ) (x : Entry)
+object_holding : (p : Settings) → InRange p → (order : List Entry) (d : Point) (taken : List Up) (due : Option Position) (at : Position) (extensions : List Extension) (flags : ℕ) (x : Entry)
     (brings : Holding → Holding) (r : Holding) → AreSized p order → slice_get order at.index ≡ Some x → SaysObject p x.object extensions flags
     → ((s : Holding) → HoldsOf p order d taken due s → HoldsOf p order d taken due (brings s)) → HoldsOf p order d taken due r
     → HoldsOf p order d taken due (object_held p at extensions flags brings r)
@@ -174,7 +211,7 @@ object_holding p range order d taken due at extensions flags x brings r sized fo
     put true s = up_holding p range order d taken due _ sized (kept _ s)
     put false s = s
 
-pub data_holding : (p : Settings) → InRange p → (order : List Entry) (d : ℕ) (taken : List Up) (due : Option Position) (m : DataMessage) (index : ℕ) (r : Holding) → AreSized p order
+pub data_holding : (p : Settings) → InRange p → (order : List Entry) (d : Point) (taken : List Up) (due : Option Position) (m : DataMessage) (index : ℕ) (r : Holding) → AreSized p order
     → IsSomeAnd (slice_get order index) (λ (x : Entry).
     (nat_lt m.id.symbol (encoded_in (shape_of p x.object) m.id.block) ≡ true)
     × (m.payload ≡ symbol_octets p x.object m.id.block m.id.symbol) × SaysObject p x.object m.extensions m.head.flags)
@@ -187,7 +224,7 @@ data_holding p range order d taken due m index r sized says h =
     object_holding p range order d taken due at m.extensions m.head.flags entry.0 (put_symbol p at m.payload) r sized entry.1 entry.2.2
     (λ s held. symbol_holding p order d taken due (put_of p s at m.payload) at m.payload s (subst S (sym entry.1) (entry.2.0, entry.2.1)) held) h
 
-pub info_is_holding : (p : Settings) → InRange p → (order : List Entry) (d : ℕ) (taken : List Up) (due : Option Position) (m : InfoMessage) (index : ℕ) (r : Holding) → AreSized p order
+pub info_is_holding : (p : Settings) → InRange p → (order : List Entry) (d : Point) (taken : List Up) (due : Option Position) (m : InfoMessage) (index : ℕ) (r : Holding) → AreSized p order
     → IsSomeAnd (slice_get order index) (λ (x : Entry).
     (info_of_object x.object ≡ Some m.info) × SaysObject p x.object m.extensions m.head.flags)
     → HoldsOf p order d taken due r → HoldsOf p order d taken due (object_held p (position index 0 0) m.extensions m.head.flags (put_info p index m.info) r)
@@ -205,92 +242,102 @@ there [] n lt = absurd (omega arith)
 there (x ∷ order) zero lt = (x, refl)
 there (x ∷ order) (suc n) lt = there order n (omega arith)
 
--- behind a loss there is one
-some_lost : (lost : List ℕ) (n : ℕ) → lost ++ n ∷ [] ≡ [] → ⊥
-some_lost [] n e = absurd (cc)
-some_lost (x ∷ lost) n e = absurd (cc)
-
--- the object at the hand-up point is lost, where it was dropped
-lost_holding : (p : Settings) (order : List Entry) (d : ℕ) (taken : List Up) (due : Option Position) (r : Holding) → d ≤ length order → r.point.index < d
+-- the rest of the object at the hand-up point is lost
+lost_holding : (p : Settings) (order : List Entry) (d : Point) (taken : List Up) (due : Option Position) (r : Holding)
+    → Handed p order d (r.lost ++ r.point.index ∷ []) ((taken ++ r.ups) ++ up.Lost r.point.index ∷ []) (after_object r.point.index)
     → HoldsOf p order d taken due r → HoldsOf p order d taken due (loses_one r)
-lost_holding p order d taken due r most lt h =
+lost_holding p order d taken due r gone h =
     let n : ℕ = r.point.index in
-    let entry = there order n (omega arith) in
-    let many = length-take n order in
-    let E : ℕ → Type 0 = λ k. Exactly p d 0 (take k order) (taken ++ (r.ups ++ up.Lost n ∷ [])) in
-    let F : List Entry → Type 0 = λ xs. Exactly p d 0 xs (taken ++ (r.ups ++ up.Lost n ∷ [])) in
-    let U : List Up → Type 0 = λ us. Exactly p d 0 (take n order ++ entry.0 ∷ []) us in
+    let H : List Up → Type 0 = λ us. Handed p order d (r.lost ++ n ∷ []) us (after_object n) in
+    let D : List Up → Type 0 = λ us. Due p order us due in
     record {
       plans = h.plans;
       symbols = h.symbols;
       rising = h.rising;
       infos = h.infos;
-      block = refl;
-      symbol = refl;
-      within = omega arith;
-      gone = subst E (let z : suc n ≡ n + 1 = omega arith in z)
-          (subst F (sym (take_next order n entry.0 entry.1))
-          (subst U (append_assoc taken r.ups (up.Lost n ∷ []))
-          (exactly_loses p d 0 (take n order) (taken ++ r.ups) entry.0 n (let w = h.within in omega arith) lt h.gone)));
-      clean = λ none. absurd (some_lost r.lost n none);
-      confirms = (
-          let D : List Up → Type 0 = λ us. Due p order us due in
-          subst D (append_assoc taken r.ups (up.Lost n ∷ [])) (due_more p order (taken ++ r.ups) (up.Lost n ∷ []) due h.confirms)
-          );
+      planned = λ none. (refl, refl);
+      gone = subst H (append_assoc taken r.ups (up.Lost n ∷ [])) gone;
+      confirms = subst D (append_assoc taken r.ups (up.Lost n ∷ [])) (due_more p order (taken ++ r.ups) (up.Lost n ∷ []) due h.confirms);
     }
 
-before_holding : (p : Settings) → InRange p → (order : List Entry) (d : ℕ) (taken : List Up) (due : Option Position) (n index : ℕ) (r : Holding) → AreSized p order
-    → d ≤ length order → index ≤ d → HoldsOf p order d taken due r → HoldsOf p order d taken due (loses_before n p index r)
+-- an object before the drop point is lost
+dropped_holding : (p : Settings) → InRange p → (order : List Entry) (d : Point) (taken : List Up) (due : Option Position) (r : Holding) → DropWithin p order d
+    → r.point.index < d.index → HoldsOf p order d taken due r → HoldsOf p order d taken due (loses_one r)
+dropped_holding p range order d taken due r within lt h =
+    let most = within.within in
+    let entry = there order r.point.index (omega (arith, lt, most)) in
+    lost_holding p order d taken due r
+    (loses_dropped p order d r.lost (taken ++ r.ups) r.point entry.0 (let some = range.b.0 in some) within entry.1 lt h.gone) h
+
+before_holding : (p : Settings) → InRange p → (order : List Entry) (d : Point) (taken : List Up) (due : Option Position) (n index : ℕ) (r : Holding) → AreSized p order
+    → DropWithin p order d → index ≤ d.index → HoldsOf p order d taken due r → HoldsOf p order d taken due (loses_before n p index r)
 unfolding loses_before
-before_holding p range order d taken due zero index r sized most le h = up_holding p range order d taken due r sized h
-before_holding p range order d taken due (suc n) index r sized most le h =
-    go (nat_lt (handed_up p r).point.index index) refl (λ s held. before_holding p range order d taken due n index s sized most le held)
+before_holding p range order d taken due zero index r sized within le h = up_holding p range order d taken due r sized h
+before_holding p range order d taken due (suc n) index r sized within le h =
+    go (nat_lt (handed_up p r).point.index index) refl (λ s held. before_holding p range order d taken due n index s sized within le held)
   where
     go : (b : Bool) → nat_lt (handed_up p r).point.index index ≡ b
         → ((s : Holding) → HoldsOf p order d taken due s → HoldsOf p order d taken due (loses_before n p index s))
         → HoldsOf p order d taken due (elim b [ true ↦ loses_before n p index (loses_one (handed_up p r)) | false ↦ handed_up p r ])
     go true e more =
         let lt = (Decides-ltb (handed_up p r).point.index index).0 e in
-        more (loses_one (handed_up p r)) (lost_holding p order d taken due (handed_up p r) most (omega arith) (up_holding p range order d taken due r sized h))
+        more (loses_one (handed_up p r))
+        (dropped_holding p range order d taken due (handed_up p r) within (omega (arith, lt, le)) (up_holding p range order d taken due r sized h))
     go false e more = up_holding p range order d taken due r sized h
 
--- nothing is cut off where the window begins at a block 0
-not_cut_off : (p : Settings) (order : List Entry) (d : ℕ) (taken : List Up) (due : Option Position) (r : Holding) (first : Point) → first.block ≡ 0
-    → is_cut_off r first ≡ false
-not_cut_off p order d taken due r first none = go (plan_of r r.point.index)
+-- what is cut off lacks a block before the window
+cut_behind : (p : Settings) (order : List Entry) (d : Point) (taken : List Up) (due : Option Position) (r : Holding) (first : Point)
+    → HoldsOf p order d taken due r → is_cut_off r first ≡ true → r.point.block < first.block
+cut_behind p order d taken due r first h e = go (plan_of r r.point.index) refl e
   where
-    never : (n : ℕ) → nat_lt n first.block ≡ false
-    never n = ap (nat_lt n) none ∙ nothing n
-      where
-        nothing : (n : ℕ) → nat_lt n 0 ≡ false
-        nothing n = not_true (nat_lt n 0) (λ e. (let lt = (Decides-ltb n 0).0 e in omega arith))
+    parted : (a b : Bool) → (a && b) ≡ true → (a ≡ true) × (b ≡ true)
+    parted true b e = (refl, e)
+    parted false b e = absurd (clash e)
 
-    and_false : (a b : Bool) → (a && (false && b)) ≡ false
-    and_false true b = refl
-    and_false false b = refl
-
-    go : (found : Option Plan) → (elim found [
+    go : (found : Option Plan) → plan_of r r.point.index ≡ found → (elim found [
       | Some plan ↦ says_stream plan.flags && nat_lt r.point.block first.block && is_none (next_segment r plan)
       | None ↦ nat_lt 0 first.block
-    ]) ≡ false
-    go None = never 0
-    go (Some plan) = last (says_stream plan.flags) (nat_lt r.point.block first.block) (is_none (next_segment r plan)) (never r.point.block)
-      where
-        last : (a b c : Bool) → b ≡ false → ((a && b) && c) ≡ false
-        last true true c e = absurd (clash (sym e))
-        last true false c e = refl
-        last false b c e = refl
+    ]) ≡ true → r.point.block < first.block
+    go None none e =
+        let lt = (Decides-ltb 0 first.block).0 e in
+        let place = (h.planned none).0 in
+        omega (arith, lt, place)
+    go (Some plan) known e =
+        let two = parted (says_stream plan.flags && nat_lt r.point.block first.block) (is_none (next_segment r plan)) e in
+        (Decides-ltb r.point.block first.block).0 (parted (says_stream plan.flags) (nat_lt r.point.block first.block) two.0).1
 
-pub squelch_holding : (p : Settings) → InRange p → (order : List Entry) (d : ℕ) (taken : List Up) (due : Option Position) (m : SquelchCommand) (index : ℕ) (r : Holding) → AreSized p order
-    → d ≤ length order → index ≤ d → m.id.block ≡ 0 → HoldsOf p order d taken due r → HoldsOf p order d taken due (squelched p (point index m.id.block) r)
-squelch_holding p range order d taken due m index r sized most le none h =
+-- the object at the hand-up point is lost, where the window begins within it
+cut_holding : (p : Settings) → InRange p → (order : List Entry) (d : Point) (taken : List Up) (due : Option Position) (r : Holding) (first : Point) → DropWithin p order d
+    → point_before d first ≡ false → r.point.index ≡ first.index → r.point.block < first.block → HoldsOf p order d taken due r
+    → HoldsOf p order d taken due (loses_one r)
+cut_holding p range order d taken due r first within behind same lt h = go (behind_point d first behind)
+  where
+    go : (first.index < d.index) ⊎ ((first.index ≡ d.index) × (first.block ≤ d.block)) → HoldsOf p order d taken due (loses_one r)
+    go (inl less) = dropped_holding p range order d taken due r within (omega (arith, less, same)) h
+    go (inr (at, le)) =
+        let entry = within.blocks (omega (arith, lt, le)) in
+        let index : r.point.index ≡ d.index = same ∙ at in
+        lost_holding p order d taken due r
+        (loses_blocks p order d r.lost (taken ++ r.ups) r.point entry.0 (let some = range.b.0 in some) within (ap (slice_get order) index ∙ entry.1) index (omega (arith, lt, le)) h.gone) h
+
+pub squelch_holding : (p : Settings) → InRange p → (order : List Entry) (d : Point) (taken : List Up) (due : Option Position) (m : SquelchCommand) (index : ℕ) (r : Holding) → AreSized p order
+    → DropWithin p order d → point_before d (point index m.id.block) ≡ false → HoldsOf p order d taken due r
+    → HoldsOf p order d taken due (squelched p (point index m.id.block) r)
+squelch_holding p range order d taken due m index r sized within behind h =
     let first : Point = point index m.id.block in
     let s : Holding = loses_before (first.index - r.point.index) p first.index r in
-    go s (s.point.index == first.index) (is_cut_off s first) (not_cut_off p order d taken due s first none)
-    (before_holding p range order d taken due (first.index - r.point.index) first.index r sized most le h)
+    go s (before_holding p range order d taken due (first.index - r.point.index) first.index r sized within (not_above (behind_point d first behind)) h)
+    (s.point.index == first.index) refl (is_cut_off s first) refl
   where
-    go : (s : Holding) (a b : Bool) → b ≡ false → HoldsOf p order d taken due s
+    not_above : (index < d.index) ⊎ ((index ≡ d.index) × (m.id.block ≤ d.block)) → index ≤ d.index
+    not_above (inl lt) = omega (arith, lt)
+    not_above (inr same) = let e = same.0 in omega (arith, e)
+
+    go : (s : Holding) → HoldsOf p order d taken due s → (a : Bool) → (s.point.index == index) ≡ a → (b : Bool) → is_cut_off s (point index m.id.block) ≡ b
         → HoldsOf p order d taken due (elim (a && b) [ true ↦ handed_up p (loses_one s) | false ↦ s ])
-    go s true true e held = absurd (clash (sym e))
-    go s true false e held = held
-    go s false b e held = held
+    go s held true same true off =
+        up_holding p range order d taken due (loses_one s) sized
+        (cut_holding p range order d taken due s (point index m.id.block) within behind ((Decides-eqb s.point.index index).0 same)
+        (cut_behind p order d taken due s (point index m.id.block) held off) held)
+    go s held true same false off = held
+    go s held false same b off = held

@@ -1,22 +1,21 @@
 -- What an event does to a receiver: it keeps what is held, or leaves its instance for one that it never was in.
-use Rattle.std.proofs.Common.{◌≡◌, ℕ, ◌+◌, ◌%◌, ◌<◌, ◌≤◌, List, [], ◌∷◌, Bool, true, false, Option, None, Some, Result, Ok, Err, refl, sym, ap, ◌∙◌, subst, arith, ◌⊎◌, inl, inr}
-use Rattle.std.specs.Prelude.{◌==◌, ◌&&◌, not, nat_le, flat_map, unwrap_or, option_and_then, ◌++◌, IfSome, if◌then◌else◌, IsTrue}
+use Rattle.std.proofs.Common.{◌≡◌, ℕ, ◌+◌, ◌*◌, ◌<◌, ◌≤◌, List, [], ◌∷◌, Bool, true, false, Option, None, Some, Result, Ok, Err, refl, sym, ap, ◌∙◌, subst, arith, ◌⊎◌, inl, inr}
+use Rattle.std.specs.Prelude.{slice_get, ◌==◌, ◌&&◌, not, nat_le, flat_map, unwrap_or, option_and_then, ◌++◌, IfSome, if◌then◌else◌, IsTrue}
 use Rattle.std.specs.Option.{option_map}
 use Rattle.std.proofs.lemmas.Bool.Decides.{Decides-eqb, leb_tells}
 use Rattle.std.proofs.Math.Nat.{mod-lt}
 use Rattle.norm_base.specs.Settings.{Settings, InRange}
-use Rattle.fec_plan.specs.Points.{Point, point, position, position_before, further}
+use Rattle.fec_plan.specs.Points.{Point, point, point_before, position, position_before, further}
 use Rattle.fec_plan.specs.declared.position.Position.{Position}
 use Rattle.norm_ext.specs.ObjectIds.{object_id, index_named}
 use Rattle.norm_ext.specs.Written.{Written, writes}
 use Rattle.norm_ext.proofs.IdLemmas.{named_again_law}
-use Rattle.norm_ext.specs.Message.{Message, Info, Data, Flush, Eot, Squelch, RepairAdv, AckReq, Opaque, Nack, Ack, Report, FlushCommand, SquelchCommand, RepairAdvCommand}
+use Rattle.norm_ext.specs.Message.{Message, Info, Data, Flush, Eot, Squelch, RepairAdv, AckReq, Opaque, Nack, Ack, Report, SquelchCommand, RepairAdvCommand}
 use Rattle.norm_ext.specs.Reading.{decoded}
 use Rattle.norm_ext.specs.Requests.{Request}
 use Rattle.norm_ext.specs.declared.refusal.Refusal.{Refusal}
 use Rattle.norm_order.specs.Entries.{Entry}
 use Rattle.norm_order.specs.Shapes.{shapes_of, is_source}
-use Rattle.norm_order.specs.Upto.{all_parts}
 use Rattle.norm_order.specs.declared.up.Up.{Up}
 use Rattle.norm_receive_rules.specs.Holding.{Holding}
 use Rattle.norm_receive_rules.specs.Acknowledging.{lost_nothing, has_handed_up, names_this, flushed, acknowledges}
@@ -33,7 +32,6 @@ use Rattle.norm_send_rules.specs.SenderState.{SenderState, Instance}
 use Rattle.norm_safety.specs.OnceEach.{order_of}
 use Rattle.norm_safety.specs.InOrder.{drop_of}
 use Rattle.norm_safety.proofs.EntryLemmas.{clash}
-use Rattle.fec_plan.proofs.PointLemmas.{behind_point}
 use Rattle.norm_safety.proofs.SenderHolds.{OrdersHold, point_in}
 use Rattle.norm_safety.proofs.Spoken.{IsBegun, IsTrueOf, SaysTrue, SquelchesDropped}
 use Rattle.norm_safety.proofs.Feedback.{SaysNothing}
@@ -41,7 +39,9 @@ use Rattle.norm_safety.specs.Lawful.{receiver_knows, most_apart, is_near, are_ne
 use Rattle.norm_safety.specs.Said.{about}
 use Rattle.norm_safety.specs.SaysSymbols.{SaysSymbol, SaysInfo}
 use Rattle.norm_safety.specs.SaysPositions.{flushes_source}
-use Rattle.norm_safety.proofs.Stood.{Stood, Due, stood_before, earlier_index}
+use Rattle.norm_safety.proofs.Passed.{begun}
+use Rattle.norm_safety.proofs.HandedMoves.{handed_nothing}
+use Rattle.norm_safety.proofs.Stood.{Stood, Due, stood_behind}
 use Rattle.norm_safety.proofs.Holding.{HoldsOf, ReceiverHolds, asks_due}
 use Rattle.norm_safety.proofs.ReceiverHolds.{data_holding, info_is_holding, squelch_holding}
 
@@ -59,7 +59,7 @@ pub record SameHeld (r s : ReceiverState) : Type 1 where
 pub held_same : (r : ReceiverState) → SameHeld r r
 held_same r = record { node = refl; instance = refl; holding = refl; due = λ Claim h. h; sequence = λ n. n }
 
-pub same_holding : (p : Settings) (order : List Entry) (d : ℕ) (taken : List Up) (r s : ReceiverState) → SameHeld r s
+pub same_holding : (p : Settings) (order : List Entry) (d : Point) (taken : List Up) (r s : ReceiverState) → SameHeld r s
     → ReceiverHolds p order d taken r → ReceiverHolds p order d taken s
 same_holding p order d taken r s same h =
     let H : Holding → Type 0 = λ holding. HoldsOf p order d taken s.knows.due holding in
@@ -138,9 +138,6 @@ pub record SameIds (r s : ReceiverState) : Type 0 where
   pub instance : s.instance ≡ r.instance
   pub sequence : r.sequence < 65536 → s.sequence < 65536
 
-ids_same : (r : ReceiverState) → SameIds r r
-ids_same r = record { node = refl; instance = refl; sequence = λ n. n }
-
 ids_both : (a b c : ReceiverState) → SameIds a b → SameIds b c → SameIds a c
 ids_both a b c h g = record { node = g.node ∙ h.node; instance = g.instance ∙ h.instance; sequence = λ n. g.sequence (h.sequence n) }
 
@@ -152,7 +149,7 @@ held_ids r s h = record { node = h.node; instance = h.instance; sequence = h.seq
 -- What holds of a receiver, with what it handed up before in each instance: where it is in one, what it holds is of that
 -- instance's order; where it is in none, nothing waits to be handed up or is to be acknowledged.
 abbrev pub StandingIn : Settings → SenderState → (ℕ → List Up) → ReceiverState → Option ℕ → Type 0
-StandingIn p s taken r (Some id) = ReceiverHolds p (order_of s id) (drop_of s id).index (taken id) r
+StandingIn p s taken r (Some id) = ReceiverHolds p (order_of s id) (drop_of s id) (taken id) r
 StandingIn p s taken r None = (r.holding.ups ≡ []) × IfSome r.knows.due (λ at. ⊥)
 
 -- by the instance that it is in
@@ -163,7 +160,7 @@ Standing p s taken r = StandingIn p s taken r r.instance
 pub data Moved (p : Settings) (s : SenderState) (r : ReceiverState) : ReceiverState → Type 0 where
   Remains : {t : ReceiverState} → SameIds r t → ((taken : ℕ → List Up) → Standing p s taken r → Standing p s taken t) → Moved p s r t
   Enters : {t : ReceiverState} (id : ℕ) → is_in r id ≡ false → goes_to r id ≡ true → IsBegun p id → SameIds (enters id r) t
-      → ReceiverHolds p (order_of s id) (drop_of s id).index [] t → Moved p s r t
+      → ReceiverHolds p (order_of s id) (drop_of s id) [] t → Moved p s r t
 
 same_stands : (p : Settings) (s : SenderState) (taken : ℕ → List Up) (r t : ReceiverState) → SameHeld r t → Standing p s taken r → Standing p s taken t
 same_stands p s taken r t same h =
@@ -171,7 +168,7 @@ same_stands p s taken r t same h =
   where
     go : (instance : Option ℕ) → StandingIn p s taken r instance → StandingIn p s taken t instance
     go None h = (ap (λ (holding : Holding). holding.ups) same.holding ∙ h.0, same.due (λ at. ⊥) h.1)
-    go (Some id) h = same_holding p (order_of s id) (drop_of s id).index (taken id) r t same h
+    go (Some id) h = same_holding p (order_of s id) (drop_of s id) (taken id) r t same h
 
 pub same_moves : (p : Settings) (s : SenderState) (r t : ReceiverState) → SameHeld r t → Moved p s r t
 same_moves p s r t same = Remains (held_ids r t same) (λ taken h. same_stands p s taken r t same h)
@@ -185,23 +182,20 @@ in_instance_is r id e = go r.instance e
     go (Some current) e = ap (λ (n : ℕ). Some n) ((Decides-eqb current id).0 e)
 
 -- a receiver that enters an instance holds nothing of it
-entering_holds : (p : Settings) (order : List Entry) (d : ℕ) (id : ℕ) (r : ReceiverState) → ReceiverHolds p order d [] (enters id r)
-unfolding all_parts
-entering_holds p order d id r = record {
+entering_holds : (p : Settings) → 1 ≤ p.b → (order : List Entry) (d : Point) (id : ℕ) (r : ReceiverState) → ReceiverHolds p order d [] (enters id r)
+entering_holds p some order d id r = record {
   plans = tt;
   symbols = tt;
   rising = tt;
   infos = tt;
-  block = refl;
-  symbol = refl;
-  within = omega arith;
-  gone = refl;
-  clean = λ none. refl;
+  planned = λ none. (refl, refl);
+  gone = handed_nothing p order d [] some;
   confirms = tt;
 }
 
--- What a flush of a source symbol makes due was handed up with everything before it: all objects before the hand-up point were.
-flush_holding : (p : Settings) (order : List Entry) (d : ℕ) (taken : List Up) (at : Position) (nodes : List ℕ) (r : ReceiverState)
+-- What a flush of a source symbol makes due was handed up with everything before it: all objects before the hand-up point were, and
+-- all segments of the stream in which that lies.
+flush_holding : (p : Settings) (order : List Entry) (d : Point) (taken : List Up) (at : Position) (nodes : List ℕ) (r : ReceiverState)
     → is_source (shapes_of p order) at ≡ true → ReceiverHolds p order d taken r
     → ReceiverHolds p order d taken (record r { knows = flushed at (acknowledges r at nodes) r.knows })
 flush_holding p order d taken at nodes r source h =
@@ -218,8 +212,10 @@ flush_holding p order d taken at nodes r source h =
     stood : acknowledges r at nodes ≡ true → Stood p order (taken ++ r.holding.ups) at
     stood e =
         let handed = both (position_before at r.holding.point) (lost_nothing r.holding) (both (names_this r nodes) (has_handed_up r.holding at) e).1 in
-        stood_before p order r.holding.point.index (taken ++ r.holding.ups) at source
-        (earlier_index at r.holding.point h.block h.symbol handed.0) (h.clean (nothing r.holding.lost handed.1))
+        let gone = h.gone in
+        stood_behind p order r.holding.point (taken ++ r.holding.ups) at source handed.0 gone.stands
+        (gone.all ∙ ap (λ (us : List Up). us ++ begun p r.holding.point.index (r.holding.point.block * p.b + r.holding.point.symbol) (slice_get order r.holding.point.index))
+        (gone.clean (nothing r.holding.lost handed.1)).1)
 
     further_due : (due : Option Position) → Stood p order (taken ++ r.holding.ups) at → Due p order (taken ++ r.holding.ups) due
         → Due p order (taken ++ r.holding.ups) (further at due)
@@ -264,12 +260,12 @@ abbrev pub known_in : Option ReceiverState → Option ℕ
 known_in found = option_map (λ (s : ReceiverState). s.knows.known) found
 
 -- a message of the sender in an instance whose order it is true of, where its id names the index that it was written for
-instance_moves : (p : Settings) (s : SenderState) (now draw source id object index : ℕ) (brings : ℕ → ReceiverState → ReceiverState) (r : ReceiverState)
+instance_moves : (p : Settings) → 1 ≤ p.b → (s : SenderState) (now draw source id object index : ℕ) (brings : ℕ → ReceiverState → ReceiverState) (r : ReceiverState)
     → IsBegun p id → object ≡ object_id p index → index ≤ 4294967294 → are_near (known_in (entered r id)) (index ∷ []) ≡ true
     → ((t : ReceiverState) → SameIds t (brings index t))
-    → ((taken : List Up) (t : ReceiverState) → ReceiverHolds p (order_of s id) (drop_of s id).index taken t → ReceiverHolds p (order_of s id) (drop_of s id).index taken (brings index t))
+    → ((taken : List Up) (t : ReceiverState) → ReceiverHolds p (order_of s id) (drop_of s id) taken t → ReceiverHolds p (order_of s id) (drop_of s id) taken (brings index t))
     → Moved p s r (in_instance p now draw source id object brings r)
-instance_moves p s now draw source id object index brings r begun named most near same kept =
+instance_moves p some s now draw source id object index brings r begun named most near same kept =
     go (source == p.sender) (is_in r id) (goes_to r id) refl refl near
   where
     after : ReceiverState → ReceiverState
@@ -281,9 +277,9 @@ instance_moves p s now draw source id object index brings r begun named most nea
         ids_both t (knowing index t) _ k (ids_both (knowing index t) (brings index (knowing index t)) _ (same (knowing index t))
         (held_ids (brings index (knowing index t)) _ (need_same p now draw (brings index (knowing index t)))))
 
-    after_holds : (taken : List Up) (t : ReceiverState) → ReceiverHolds p (order_of s id) (drop_of s id).index taken t
-        → ReceiverHolds p (order_of s id) (drop_of s id).index taken (may_need p now draw (brings index (knowing index t)))
-    after_holds taken t h = same_holding p (order_of s id) (drop_of s id).index taken (brings index (knowing index t)) _
+    after_holds : (taken : List Up) (t : ReceiverState) → ReceiverHolds p (order_of s id) (drop_of s id) taken t
+        → ReceiverHolds p (order_of s id) (drop_of s id) taken (may_need p now draw (brings index (knowing index t)))
+    after_holds taken t h = same_holding p (order_of s id) (drop_of s id) taken (brings index (knowing index t)) _
         (need_same p now draw (brings index (knowing index t))) (kept taken (knowing index t) h)
 
     entering : Bool → Bool → Option ReceiverState
@@ -319,7 +315,7 @@ instance_moves p s now draw source id object index brings r begun named most nea
     go true false true e f close =
         let ids = after_ids (enters id r) in
         in_state (enters id r) close
-        (Enters id e f begun ids (after_holds [] (enters id r) (entering_holds p (order_of s id) (drop_of s id).index id r)))
+        (Enters id e f begun ids (after_holds [] (enters id r) (entering_holds p some (order_of s id) (drop_of s id) id r)))
 
 -- what is said of nothing that is held
 quiet_moves : (p : Settings) (s : SenderState) (r : ReceiverState) (now draw : ℕ) (said : Result Message Refusal) → SaysNothing said
@@ -350,15 +346,13 @@ message_moves : (p : Settings) → InRange p → (s : SenderState) (r : Receiver
     → (m : Message) → IsTrueOf p s indices m → are_near (receiver_knows r m) indices ≡ true → Moved p s r (message_received {E = Refusal} p now draw (Ok m) r)
 message_moves p range s r indices now draw orders = go
   where
-    not_above : (a b : Point) → (b.index < a.index) ⊎ ((b.index ≡ a.index) × (b.block ≤ a.block)) → b.index ≤ a.index
-    not_above a b (inl lt) = omega arith
-    not_above a b (inr same) = (let e = same.0 in omega arith)
+    some : 1 ≤ p.b
+    some = let least = range.b.0 in least
 
-    dropped_to : (m : SquelchCommand) (index : ℕ) → SquelchesDropped s (about (index ∷ []) m) → index ≤ (drop_of s m.head.instance).index
-    dropped_to m index (i, found, before, none) =
-        let is : (drop_of s m.head.instance).index ≡ i.drop.index = ap (λ (found : Option Instance). (point_in found).index) found in
-        let le = not_above i.drop (point index m.id.block) (behind_point i.drop (point index m.id.block) before) in
-        omega arith
+    dropped_to : (m : SquelchCommand) (index : ℕ) → SquelchesDropped s (about (index ∷ []) m)
+        → point_before (drop_of s m.head.instance) (point index m.id.block) ≡ false
+    dropped_to m index (i, found, before, of) =
+        ap (λ (found : Option Instance). point_before (point_in found) (point index m.id.block)) found ∙ before
 
     near_of : (known : Option ℕ) (index : ℕ) → indices ≡ index ∷ [] → are_near known indices ≡ true → are_near known (index ∷ []) ≡ true
     near_of known index alone near = ap (are_near known) (sym alone) ∙ near
@@ -369,36 +363,36 @@ message_moves p range s r indices now draw orders = go
         let index : ℕ = speaks.index in
         let S : List ℕ → Type 0 = λ xs. SaysInfo p s (about xs m) in
         let is = subst S speaks.alone says in
-        instance_moves p s now draw m.head.source id m.head.object index (info_received p m) r speaks.begun speaks.named speaks.most
+        instance_moves p some s now draw m.head.source id m.head.object index (info_received p m) r speaks.begun speaks.named speaks.most
         (near_of (known_in (entered r id)) index speaks.alone near)
         (λ t. record { node = refl; instance = refl; sequence = λ n. n })
-        (λ taken t h. info_is_holding p range (order_of s id) (drop_of s id).index taken t.knows.due m index t.holding (orders.sized id) is h)
+        (λ taken t h. info_is_holding p range (order_of s id) (drop_of s id) taken t.knows.due m index t.holding (orders.sized id) is h)
     go (Data m) (speaks, says) near =
         let id : ℕ = m.head.instance in
         let index : ℕ = speaks.index in
         let S : List ℕ → Type 0 = λ xs. SaysSymbol p s (about xs m) in
         let is = subst S speaks.alone says in
-        instance_moves p s now draw m.head.source id m.head.object index (data_received p m) r speaks.begun speaks.named speaks.most
+        instance_moves p some s now draw m.head.source id m.head.object index (data_received p m) r speaks.begun speaks.named speaks.most
         (near_of (known_in (entered r id)) index speaks.alone near)
         (λ t. record { node = refl; instance = refl; sequence = λ n. n })
-        (λ taken t h. data_holding p range (order_of s id) (drop_of s id).index taken t.knows.due m index t.holding (orders.sized id) is h)
+        (λ taken t h. data_holding p range (order_of s id) (drop_of s id) taken t.knows.due m index t.holding (orders.sized id) is h)
     go (Flush m) (speaks, says) near =
         let id : ℕ = m.head.instance in
         let index : ℕ = speaks.index in
         let S : List ℕ → Type 0 = λ xs. IsTrue (flushes_source p s (about xs m)) in
         let source = subst S speaks.alone says in
-        instance_moves p s now draw m.head.source id m.object index (flush_received m) r speaks.begun speaks.named speaks.most
+        instance_moves p some s now draw m.head.source id m.object index (flush_received m) r speaks.begun speaks.named speaks.most
         (near_of (known_in (entered r id)) index speaks.alone near) (λ t. record { node = refl; instance = refl; sequence = λ n. n })
-        (λ taken t h. flush_holding p (order_of s id) (drop_of s id).index taken (position index m.id.block m.id.symbol) m.nodes t source h)
+        (λ taken t h. flush_holding p (order_of s id) (drop_of s id) taken (position index m.id.block m.id.symbol) m.nodes t source h)
     go (Squelch m) (speaks, says) near =
         let id : ℕ = m.head.instance in
         let index : ℕ = speaks.index in
         let S : List ℕ → Type 0 = λ xs. SquelchesDropped s (about xs m) in
         let is = subst S speaks.alone says in
-        instance_moves p s now draw m.head.source id m.object index (squelch_received p m) r speaks.begun speaks.named speaks.most
+        instance_moves p some s now draw m.head.source id m.object index (squelch_received p m) r speaks.begun speaks.named speaks.most
         (near_of (known_in (entered r id)) index speaks.alone near) (λ t. record { node = refl; instance = refl; sequence = λ n. n })
-        (λ taken t h. squelch_holding p range (order_of s id) (drop_of s id).index taken t.knows.due m index t.holding (orders.sized id) (orders.within id)
-        (dropped_to m index is) is.3 h)
+        (λ taken t h. squelch_holding p range (order_of s id) (drop_of s id) taken t.knows.due m index t.holding (orders.sized id) (orders.within id)
+        (dropped_to m index is) h)
     go (RepairAdv m) says near = quiet_moves p s r now draw (Ok (RepairAdv m)) tt
     go (Nack m) says near = quiet_moves p s r now draw (Ok (Nack m)) tt
     go (Eot m) says near = quiet_moves p s r now draw (Ok (Eot m)) tt

@@ -1,9 +1,9 @@
--- Safety, of every lawful run of data and files; and its first part of every honest run.
+-- Safety, of every lawful run; and its first part of every honest run.
 use Rattle.std.specs.Prelude.{List}
 use Rattle.norm_base.specs.Settings.{Settings, InRange}
 use Rattle.norm_safety.specs.Events.{Event}
 use Rattle.norm_safety.specs.History.{history}
-use Rattle.norm_safety.specs.Jobs.{AreEvents, AreOfObjects}
+use Rattle.norm_safety.specs.Jobs.{AreEvents}
 use Rattle.norm_safety.specs.Lawful.{Lawful}
 use Rattle.norm_safety.specs.Laws.{SafeRun}
 use Rattle.norm_safety.specs.Safe.{IsSafe}
@@ -12,12 +12,12 @@ use Rattle.norm_safety.proofs.OnceRun.{once_each_run, lawful_honest}
 use Rattle.norm_safety.proofs.OrderRun.{in_order_run}
 use Rattle.norm_safety.proofs.SatisfiedRun.{satisfied_run}
 
-is_safe_run : (p : Settings) → InRange p → (events : List Event) → Lawful p events → AreEvents events → AreOfObjects events
+is_safe_run : (p : Settings) → InRange p → (events : List Event) → Lawful p events → AreEvents events
     → IsSafe p (history p events)
-is_safe_run p range events lawful are of = record {
+is_safe_run p range events lawful are = record {
   once = once_each_run p events (lawful_honest p events lawful);
-  order = in_order_run p range events lawful are of;
-  listed = listed_run p range events lawful are of;
+  order = in_order_run p range events lawful are;
+  listed = listed_run p range events lawful are;
   satisfied = satisfied_run p range events;
 }
 

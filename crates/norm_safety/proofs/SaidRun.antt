@@ -1,17 +1,18 @@
--- What was said in a lawful run of data and files is true of the orders: each symbol, info, flush and squelch.
-use Rattle.std.proofs.Common.{◌≡◌, ℕ, List, [], ◌∷◌, ◌++◌, Bool, true, false, refl, ap, ◌∙◌}
-use Rattle.std.specs.Prelude.{flat_map, ◌==◌, ◌&&◌, ◌||◌, not, IsTrue}
+-- What was said in a lawful run is true of the orders: each symbol, info, flush and squelch.
+use Rattle.std.proofs.Common.{◌≡◌, ℕ, List, [], ◌∷◌, ◌++◌, Bool, true, false, Option, None, Some, refl, ap, ◌∙◌, inl, inr}
+use Rattle.std.specs.Prelude.{slice_get, flat_map, ◌==◌, ◌&&◌, ◌||◌, not, IsTrue}
 use Rattle.std.specs.List.{AllByRecursion}
 use Rattle.std.proofs.lemmas.Bool.Decides.{Decides-eqb}
 use Rattle.norm_base.specs.Settings.{Settings, InRange}
 use Rattle.fec_plan.specs.Points.{Point, point, point_before}
 use Rattle.norm_ext.specs.Message.{Message, Info, Data, Flush, Eot, Squelch, RepairAdv, AckReq, Opaque, Nack, Ack, Report, SquelchCommand}
 use Rattle.norm_ext.specs.Written.{Written}
-use Rattle.norm_send_rules.specs.SenderState.{SenderState}
+use Rattle.norm_send_rules.specs.SenderState.{SenderState, Instance}
+use Rattle.norm_order.specs.Entries.{Entry}
 use Rattle.norm_safety.specs.Events.{Event}
 use Rattle.norm_safety.specs.History.{history}
-use Rattle.norm_safety.specs.InOrder.{drop_of}
-use Rattle.norm_safety.specs.Jobs.{AreEvents, AreOfObjects}
+use Rattle.norm_safety.specs.InOrder.{drop_of, is_stream_object}
+use Rattle.norm_safety.specs.Jobs.{AreEvents}
 use Rattle.norm_safety.specs.Laws.{SaidOfOrders}
 use Rattle.norm_safety.specs.Lawful.{Lawful}
 use Rattle.norm_safety.specs.Said.{About, about, data_said, info_said, flush_said, squelch_said}
@@ -19,8 +20,8 @@ use Rattle.norm_safety.specs.SaysPositions.{flushes_source, squelches_dropped, i
 use Rattle.norm_safety.specs.SaysSymbols.{SaysSymbol, SaysInfo}
 use Rattle.norm_safety.specs.World.{World}
 use Rattle.norm_safety.proofs.OrderRun.{run_of}
-use Rattle.norm_safety.proofs.SenderHolds.{point_in}
-use Rattle.norm_safety.proofs.Spoken.{IsTrueOf, SaysTrue, SquelchesDropped}
+use Rattle.norm_safety.proofs.SenderHolds.{point_in, entries_in}
+use Rattle.norm_safety.proofs.Spoken.{IsTrueOf, SaysTrue, IsOfStream, SquelchesDropped}
 
 pub all_append : {X : Type 0} (P : X → Type 0) (xs ys : List X) → AllByRecursion P xs → AllByRecursion P ys → AllByRecursion P (xs ++ ys)
 all_append P [] ys h g = g
@@ -60,15 +61,14 @@ info_true p s indices (Nack m) h = tt
 info_true p s indices (Ack m) h = tt
 info_true p s indices (Report m) h = tt
 
--- a squelch that names a point which the drop point is not before, as the test
+-- a squelch that names a point which the drop point is not before, and a block only of a stream, as the test
 dropped_test : (s : SenderState) (x : About SquelchCommand) → SquelchesDropped s x → IsTrue (squelches_dropped s x)
-dropped_test s x (i, found, before, none) =
+dropped_test s x (i, found, before, of) =
     let m : SquelchCommand = x.message in
     let at : drop_of s m.head.instance ≡ i.drop = ap point_in found in
     both (not (point_before (drop_of s m.head.instance) (point x.index m.id.block)))
     (m.id.block == 0 || is_stream_at s m.head.instance x.index)
-    (ap (λ (d : Point). not (point_before d (point x.index m.id.block))) at ∙ ap not before)
-    (first (m.id.block == 0) (is_stream_at s m.head.instance x.index) ((Decides-eqb m.id.block 0).1 none))
+    (ap (λ (d : Point). not (point_before d (point x.index m.id.block))) at ∙ ap not before) (either of)
   where
     both : (a b : Bool) → a ≡ true → b ≡ true → (a && b) ≡ true
     both true b e f = f
@@ -77,6 +77,18 @@ dropped_test s x (i, found, before, none) =
     first : (a b : Bool) → a ≡ true → (a || b) ≡ true
     first true b e = refl
     first false b e = absurd (cc)
+
+    second : (a b : Bool) → b ≡ true → (a || b) ≡ true
+    second true b e = refl
+    second false b e = e
+
+    stream_found : Option Entry → Bool
+    stream_found found = elim found [ Some entry ↦ is_stream_object entry.object | None ↦ false ]
+
+    either : IsOfStream i.order x.index x.message.id.block → (x.message.id.block == 0 || is_stream_at s x.message.head.instance x.index) ≡ true
+    either (inl none) = first (x.message.id.block == 0) _ ((Decides-eqb x.message.id.block 0).1 none)
+    either (inr (entry, there, is)) = second (x.message.id.block == 0) _
+        (ap (λ (o : Option Instance). stream_found (slice_get (entries_in o) x.index)) found ∙ ap stream_found there ∙ is)
 
 squelch_true : (p : Settings) (s : SenderState) (indices : List ℕ) (m : Message) → IsTrueOf p s indices m
     → AllByRecursion (λ x. IsTrue (squelches_dropped s x)) (squelch_said indices m)
@@ -106,10 +118,10 @@ flush_true p s indices (Nack m) h = tt
 flush_true p s indices (Ack m) h = tt
 flush_true p s indices (Report m) h = tt
 
-pub said_run : (p : Settings) → InRange p → (events : List Event) → Lawful p events → AreEvents events → AreOfObjects events
+pub said_run : (p : Settings) → InRange p → (events : List Event) → Lawful p events → AreEvents events
     → SaidOfOrders p (history p events)
-said_run p range events lawful are of =
-    let run = run_of p range events lawful are of in
+said_run p range events lawful are =
+    let run = run_of p range events lawful are in
     let w : World = (history p events).now in
     let said = all_append (λ (o : ℕ × Written). SaysTrue p w.sender o.1) w.offered w.given run.holds.offered run.holds.given in
     record {

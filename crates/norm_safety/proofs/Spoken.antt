@@ -1,10 +1,9 @@
--- What a sender of data and files says is read again of its octets, and is true of its orders.
-use Rattle.std.proofs.Common.{◌≡◌, ℕ, zero, suc, ◌+◌, ◌*◌, ◌/◌, ◌<◌, ◌≤◌, List, [], ◌∷◌, ◌++◌, length, Bool, true, false, Option, None, Some, Ok, refl, sym, ap, ◌∙◌, subst, arith, inl}
-use Rattle.std.specs.Prelude.{◌⊎◌, slice_get, nat_lt, is_some, nat_eq, ⊤, IsTrue, IsSomeAnd}
+-- What a sender says is read again of its octets, and is true of its orders.
+use Rattle.std.proofs.Common.{◌≡◌, ℕ, zero, suc, ◌+◌, ◌*◌, ◌/◌, ◌<◌, ◌≤◌, List, [], ◌∷◌, ◌++◌, Bool, true, false, Option, None, Some, Ok, refl, sym, ap, ◌∙◌, subst, arith, inl, inr}
+use Rattle.std.specs.Prelude.{◌⊎◌, slice_get, nat_lt, nat_eq, ⊤, IsTrue, IsSomeAnd}
 use Rattle.std.specs.List.{AllByRecursion, IsDistinct}
 use Rattle.byteorder.specs.Endian.{big_bytes}
 use Rattle.norm_base.specs.Settings.{Settings, InRange}
-use Rattle.norm_base.specs.declared.kinds.Kind.{Kind}
 use Rattle.norm_base.specs.declared.kinds.Kind.TheVariants as kind
 use Rattle.fec_plan.specs.Points.{Point, point, point_before}
 use Rattle.fec_plan.specs.declared.position.Position.{Position}
@@ -27,7 +26,7 @@ use Rattle.std.proofs.lemmas.Option.{slice_get_within}
 use Rattle.norm_send_rules.specs.SenderState.{SenderState, Instance}
 use Rattle.norm_send_rules.specs.InWindow.{current_shapes}
 use Rattle.norm_send_rules.specs.Restarting.{instances}
-use Rattle.norm_send_rules.specs.Messages.{fti_of_object, object_flags, object_head, command_head, data_message, squelch_message}
+use Rattle.norm_send_rules.specs.Messages.{told_length, fti_of_object, object_flags, object_head, command_head, data_message, squelch_message}
 use Rattle.norm_send_rules.specs.Sending.{message_of}
 use Rattle.norm_send_rules.specs.Wants.{want_index}
 use Rattle.norm_send_rules.specs.Laws.{is_of_order}
@@ -40,11 +39,17 @@ use Rattle.norm_safety.specs.SaysSymbols.{SaysSymbol, SaysInfo, SaysObject, info
 use Rattle.norm_safety.proofs.Feedback.{SaysNothing}
 use Rattle.norm_safety.proofs.EntryLemmas.{clash}
 use Rattle.norm_safety.proofs.PlaceLemmas.{current_found}
-use Rattle.norm_safety.proofs.WholeOrders.{IsSized, AreSized}
+use Rattle.norm_safety.proofs.SizedOrders.{IsSized, AreSized}
+use Rattle.norm_safety.proofs.LastLemmas.{sized_fits}
+use Rattle.norm_safety.proofs.GoesOn.{HasBlocks}
+use Rattle.norm_safety.specs.InOrder.{is_stream_object}
 use Rattle.fec_plan.proofs.PointLemmas.{not_before_itself}
 use Rattle.norm_safety.proofs.Onward.{instance_in}
-use Rattle.norm_safety.proofs.SenderHolds.{SenderHolds, current_sized}
-use Rattle.norm_send_rules.proofs.CutNames.{cut_range, AreNames, names_fit, source_names_fit}
+use Rattle.norm_safety.proofs.SenderHolds.{SenderHolds, current_sized, current_within}
+use Rattle.norm_send_rules.proofs.CutNames.{AreNames}
+use Rattle.norm_send_rules.proofs.PlaceLemmas.{object_names}
+use Rattle.norm_send_rules.proofs.ShapeLemmas.{blocks_of, shape_parity, closed_is_encoded}
+use Rattle.std.proofs.lemmas.Bool.Decides.{Decides-ltb}
 
 -- ---- numbers
 
@@ -67,14 +72,14 @@ fti_fits f = record { kind = omega arith; words = 3; whole = refl; most = omega 
 extensions_fit : (words : ℕ) (f : Fti) → words ≤ 5 → AreExtensions words (fti_extension f ∷ [])
 extensions_fit words f h = record { each = (fti_fits f, tt); most = omega arith }
 
--- the flags of data and files, and what is left of them without those of a repair
-flags_fit : (kind : Kind) (info : Option (List ℕ)) (octets : List ℕ) (repair : ℕ) → repair < 4
-    → (object_flags (Whole kind info octets) + repair < 256)
-    × (4 * ((object_flags (Whole kind info octets) + repair) / 4) ≡ object_flags (Whole kind info octets))
-flags_fit kind.Data None octets repair h = (omega arith, omega arith)
-flags_fit kind.Data (Some info) octets repair h = (omega arith, omega arith)
-flags_fit kind.File None octets repair h = (omega arith, omega arith)
-flags_fit kind.File (Some info) octets repair h = (omega arith, omega arith)
+-- an object's flags, and what is left of them without those of a repair
+flags_fit : (object : Object) (repair : ℕ) → repair < 4
+    → (object_flags object + repair < 256) × (4 * ((object_flags object + repair) / 4) ≡ object_flags object)
+flags_fit (Whole kind.Data None octets) repair h = (omega arith, omega arith)
+flags_fit (Whole kind.Data (Some info) octets) repair h = (omega arith, omega arith)
+flags_fit (Whole kind.File None octets) repair h = (omega arith, omega arith)
+flags_fit (Whole kind.File (Some info) octets) repair h = (omega arith, omega arith)
+flags_fit (Stream parts) repair h = (omega arith, omega arith)
 
 -- ---- heads
 
@@ -118,13 +123,16 @@ entry_told s index entry differ e = ap (λ (order : List Entry). slice_get order
 says_some : (P : Entry → Type 0) (found : Option Entry) (entry : Entry) → found ≡ Some entry → P entry → IsSomeAnd found P
 says_some P found entry e h = let S : Option Entry → Type 0 = λ o. IsSomeAnd o P in subst S (sym e) h
 
+-- an object's length as it is told
+told_fits : (p : Settings) → InRange p → (object : Object) → IsSized p object → told_length p object < 281474976710656
+told_fits p range (Whole kind info octets) sized = omega (arith, sized.1, range.octets.1)
+told_fits p range (Stream parts) sized = omega (arith, range.buffer)
+
 -- an object of its size tells its transmission information
-says_object : (p : Settings) → InRange p → (kind : Kind) (info : Option (List ℕ)) (octets : List ℕ) (repair : ℕ) → IsSized p (Whole kind info octets) → repair < 4
-    → SaysObject p (Whole kind info octets) (fti_extension (fti_of_object p (Whole kind info octets)) ∷ []) (object_flags (Whole kind info octets) + repair)
-says_object p range kind info octets repair sized h = (
-  fti_again (fti_of_object p (Whole kind info octets)) (omega (arith, sized.1, range.octets.1)) (omega (arith, range.e.1)),
-  (flags_fit kind info octets repair h).1,
-)
+says_object : (p : Settings) → InRange p → (object : Object) (repair : ℕ) → IsSized p object → repair < 4
+    → SaysObject p object (fti_extension (fti_of_object p object) ∷ []) (object_flags object + repair)
+says_object p range object repair sized h =
+    (fti_again (fti_of_object p object) (told_fits p range object sized) (omega (arith, range.e.1)), (flags_fit object repair h).1)
 
 -- ---- what is said
 
@@ -149,11 +157,15 @@ speaks_of : (p : Settings) → InRange p → (s : SenderState) (index : ℕ) →
     → Speaks p s.current.id (object_id p index) (index ∷ [])
 speaks_of p range s index h most = record { index = index; alone = refl; named = refl; most = omega (arith, most); begun = current_begun p range s h }
 
--- a squelch names a point that its instance's drop point is not before, at a block 0
+-- a block is named only of a stream
+abbrev pub IsOfStream : List Entry → ℕ → ℕ → Type 0
+IsOfStream order index block = (block ≡ 0) ⊎ ((x : Entry) × (slice_get order index ≡ Some x) × (is_stream_object x.object ≡ true))
+
+-- a squelch names a point that its instance's drop point is not before, and a block only of a stream
 abbrev pub SquelchesDropped : SenderState → About SquelchCommand → Type 0
 SquelchesDropped s x =
     (i : Instance) × (instance_in (instances s) x.message.head.instance ≡ Some i)
-    × (point_before i.drop (point x.index x.message.id.block) ≡ false) × (x.message.id.block ≡ 0)
+    × (point_before i.drop (point x.index x.message.id.block) ≡ false) × IsOfStream i.order x.index x.message.id.block
 
 -- What a message with ids of these indices says of objects is true of a sender's orders; of anything else nothing is said here.
 abbrev pub IsTrueOf : Settings → SenderState → List ℕ → Message → Type 0
@@ -203,14 +215,13 @@ sized_at p (x ∷ order) zero entry all e = let S : Entry → Type 0 = λ y. IsS
 sized_at p (x ∷ order) (suc index) entry all e = sized_at p order index entry all.1 e
 
 -- an encoded symbol of the current order is said truly
-symbol_true : (p : Settings) → InRange p → (s : SenderState) (at : Position) (entry : Entry) (object : Object) (repair : ℕ) → entry.object ≡ object
-    → SenderHolds p s → IsDistinct nat_eq (instance_ids s) → slice_get s.current.order at.index ≡ Some entry → IsSized p object
-    → nat_lt at.symbol (encoded_in (shape_of p object) at.block) ≡ true → repair < 4
-    → SpeaksTrue p s (writes (data_message p s at object repair) (at.index ∷ []))
-symbol_true p range s at entry (Stream parts) repair is h differ found sized encoded few = absurd sized
-symbol_true p range s at entry (Whole kind info octets) repair is h differ found sized encoded few =
-    let object : Object = Whole kind info octets in
-    let names = names_fit p (cut_range p range) (length octets) (is_some info) at.block at.symbol sized.0 sized.1 encoded in
+symbol_true : (p : Settings) → InRange p → (s : SenderState) (at : Position) (entry : Entry) (repair : ℕ)
+    → SenderHolds p s → IsDistinct nat_eq (instance_ids s) → slice_get s.current.order at.index ≡ Some entry → IsSized p entry.object
+    → nat_lt at.symbol (encoded_in (shape_of p entry.object) at.block) ≡ true → repair < 4
+    → SpeaksTrue p s (writes (data_message p s at entry.object repair) (at.index ∷ []))
+symbol_true p range s at entry repair h differ found sized encoded few =
+    let object : Object = entry.object in
+    let names = object_names p range object at.block at.symbol (sized_fits p object sized) encoded in
     let index : at.index < 4294967295 = (let lt = slice_get_within s.current.order at.index entry found in omega (arith, lt, h.many)) in
     let m : DataMessage = record {
       head = object_head p s at.index object repair;
@@ -222,26 +233,22 @@ symbol_true p range s at entry (Whole kind info octets) repair is h differ found
     IsTrue (nat_lt at.symbol (encoded_in (shape_of p e.object) at.block))
     × (m.payload ≡ symbol_octets p e.object at.block at.symbol)
     × SaysObject p e.object m.extensions m.head.flags in
-    let O : Object → Type 0 = λ o.
-    IsTrue (nat_lt at.symbol (encoded_in (shape_of p o) at.block))
-    × (m.payload ≡ symbol_octets p o at.block at.symbol)
-    × SaysObject p o m.extensions m.head.flags in
     true_again p s (Data m) (at.index ∷ [])
     (record {
-      head = object_head_fits p range s at.index object repair h (flags_fit kind info octets repair few).0;
+      head = object_head_fits p range s at.index object repair h (flags_fit object repair few).0;
       id = names;
       extensions = extensions_fit 5 (fti_of_object p object) (omega arith);
     }) tt tt (
       speaks_of p range s at.index h index,
       says_some P (entry_at s s.current.id at.index) entry (entry_told s at.index entry differ found)
-          (subst O (sym is) (encoded, refl, says_object p range kind info octets repair sized few)),
+          (encoded, refl, says_object p range object repair sized few),
     )
 
 info_true : (p : Settings) → InRange p → (s : SenderState) (index : ℕ) (entry : Entry) (object : Object) (repair : ℕ) → entry.object ≡ object
     → SenderHolds p s → IsDistinct nat_eq (instance_ids s) → slice_get s.current.order index ≡ Some entry → IsSized p object
     → (shape_of p object).info ≡ true → repair < 4
     → SpeaksTrue p s (writes (message_of p s (WantedInfo index) object repair) (index ∷ []))
-info_true p range s index entry (Stream parts) repair is h differ found sized has few = absurd sized
+info_true p range s index entry (Stream parts) repair is h differ found sized has few = absurd (clash has)
 info_true p range s index entry (Whole kind None octets) repair is h differ found sized has few = absurd (clash has)
 info_true p range s index entry (Whole kind (Some info) octets) repair is h differ found sized has few =
     let object : Object = Whole kind (Some info) octets in
@@ -255,12 +262,12 @@ info_true p range s index entry (Whole kind (Some info) octets) repair is h diff
     let O : Object → Type 0 = λ o. (info_of_object o ≡ Some info) × SaysObject p o m.extensions m.head.flags in
     true_again p s (Info m) (index ∷ [])
     (record {
-      head = object_head_fits p range s index object repair h (flags_fit kind (Some info) octets repair few).0;
+      head = object_head_fits p range s index object repair h (flags_fit object repair few).0;
       extensions = extensions_fit 4 (fti_of_object p object) (omega arith);
     }) tt tt (
       speaks_of p range s index h place,
       says_some P (entry_at s s.current.id index) entry (entry_told s index entry differ found)
-          (subst O (sym is) (refl, says_object p range kind (Some info) octets repair sized few)),
+          (subst O (sym is) (refl, says_object p range object repair sized few)),
     )
 
 -- a test of an entry's shape, by its index
@@ -276,7 +283,7 @@ pub want_true : (p : Settings) → InRange p → (s : SenderState) (w : Want) (e
     → repair < 4 → SpeaksTrue p s (writes (message_of p s w entry.object repair) (want_index w ∷ []))
 want_true p range s (Symbol at) entry repair h differ of found few =
     let sized = sized_at p s.current.order at.index entry (current_sized p s h) found in
-    symbol_true p range s at entry entry.object repair refl h differ found sized
+    symbol_true p range s at entry repair h differ found sized
     (tested_at p s.current.order at.index (λ x. nat_lt at.symbol (encoded_in x at.block)) entry found of) few
 want_true p range s (WantedInfo index) entry repair h differ of found few =
     let sized = sized_at p s.current.order index entry (current_sized p s h) found in
@@ -295,7 +302,7 @@ squelch_true p range s h differ =
       extensions = [];
       invalid = [];
     } in
-    let block : drop.block < 16777216 = omega (arith, h.block) in
+    let block : drop.block < 16777216 = h.block in
     true_again p s (Squelch m) (drop.index ∷ [])
     (record {
       head = command_head_fits p range s h.sequence h.id;
@@ -305,8 +312,17 @@ squelch_true p range s h differ =
       invalid = tt;
     }) tt tt (
       speaks_of p range s drop.index h h.index,
-      (s.current, current_found s.earlier s.current s.current refl differ, not_before_itself drop, h.block),
+      (s.current, current_found s.earlier s.current s.current refl differ, not_before_itself drop, of_stream drop.block refl),
     )
+  where
+    of_stream : (block : ℕ) → s.current.drop.block ≡ block → IsOfStream s.current.order s.current.drop.index s.current.drop.block
+    of_stream zero is = inl is
+    of_stream (suc n) is =
+        let blocks = (current_within p s h).blocks (omega arith) in inr (blocks.0, blocks.1, is_stream blocks.0.object blocks.2)
+      where
+        is_stream : (object : Object) → HasBlocks p s.current.drop.block object → is_stream_object object ≡ true
+        is_stream (Whole kind info octets) has = absurd has
+        is_stream (Stream parts) has = refl
 
 -- the entry of which a test of a shape is true
 pub entry_with : (p : Settings) (order : List Entry) (i : ℕ) (test : Shape → Bool) → at_index (shapes_of p order) i false test ≡ true
@@ -318,9 +334,10 @@ entry_with p (x ∷ order) (suc i) test e = entry_with p order i test e
 -- a closed source symbol of an object of its size has a name
 pub source_named : (p : Settings) → InRange p → (object : Object) (block symbol : ℕ) → IsSized p object
     → nat_lt symbol (closed_in (shape_of p object) block) ≡ true → AreNames block symbol
-source_named p range (Whole kind info octets) block symbol sized e =
-    source_names_fit p (cut_range p range) (length octets) (is_some info) block symbol sized.0 sized.1 e
-source_named p range (Stream parts) block symbol sized e = absurd sized
+source_named p range object block symbol sized e =
+    let encoded = closed_is_encoded (shape_of p object) block (shape_parity p (blocks_of p range) object) in
+    let lt = (Decides-ltb symbol (closed_in (shape_of p object) block)).0 e in
+    object_names p range object block symbol (sized_fits p object sized) ((Decides-ltb symbol (encoded_in (shape_of p object) block)).1 (omega arith))
 
 -- A source symbol of the current order is flushed up to truly.
 pub flush_true : (p : Settings) → InRange p → (s : SenderState) (head : CmdHead) (at : Position) (nodes : List ℕ) → SenderHolds p s

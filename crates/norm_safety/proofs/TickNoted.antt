@@ -1,20 +1,18 @@
 -- A symbol that a sender's tick sends counts as sent.
-use Rattle.std.proofs.Common.{◌≡◌, ℕ, List, [], ◌∷◌, Bool, true, false, Option, None, Some, refl}
+use Rattle.std.proofs.Common.{ℕ, List, [], ◌∷◌, Bool, true, false, Option, None, Some}
 use Rattle.std.specs.Prelude.{nat_lt, ⊤}
 use Rattle.norm_base.specs.Settings.{Settings}
-use Rattle.fec_plan.specs.Points.{position, position_before}
+use Rattle.fec_plan.specs.Points.{position_before}
 use Rattle.fec_plan.specs.declared.position.Position.{Position}
-use Rattle.norm_ext.specs.Message.{Message}
 use Rattle.norm_ext.specs.Written.{Written, writes}
 use Rattle.norm_order.specs.Entries.{Object, Whole, Stream}
-use Rattle.norm_order.specs.Sets.{is_member, with_member}
+use Rattle.norm_order.specs.Sets.{is_member}
 use Rattle.norm_order.proofs.SetLemmas.{self_in, positions}
 use Rattle.norm_send_rules.specs.Flushing.{most_flushes, flushes_for, expired, flushes_oldest, flushes_no_more, flushed, flushes_in_turn, flushes, may_flush}
 use Rattle.norm_send_rules.specs.Messages.{squelch_message}
 use Rattle.norm_send_rules.specs.SenderState.{SenderState, Watermark, Round}
 use Rattle.norm_send_rules.specs.Sending.{next_new, behind, sends, noted, repair_flags, object_of, message_of, sends_want, repairs_next, sends_new}
 use Rattle.norm_send_rules.specs.Ticking.{closed_where_due, sends_further, sends_wanted, sends_first, ticked}
-use Rattle.norm_send_rules.specs.Wants.{want_index}
 use Rattle.norm_send_rules.specs.Watermarks.{oldest}
 use Rattle.norm_send_rules.specs.declared.want.Want.{Want}
 use Rattle.norm_send_rules.specs.declared.want.Want.TheVariants.{Info, Symbol}

@@ -1,20 +1,22 @@
 -- What a sender's tick sends is true of its orders, and stays true as its instances go on.
-use Rattle.std.proofs.Common.{◌≡◌, ℕ, zero, suc, ◌<◌, cond, List, [], ◌∷◌, ◌++◌, Bool, true, false, Option, None, Some, refl, sym, ap, ◌∙◌, subst, arith}
-use Rattle.std.specs.Prelude.{map, filter, find, slice_get, nat_lt, nat_eq, ⊤, IsSomeAnd}
+use Rattle.std.proofs.Common.{◌≡◌, ℕ, zero, suc, ◌<◌, cond, List, [], ◌∷◌, Bool, true, false, Option, None, Some, refl, sym, ap, ◌∙◌, subst, arith, inl, inr}
+use Rattle.std.specs.Prelude.{map, filter, find, slice_get, nat_lt, nat_eq, ⊤, IsTrue, IsSomeAnd}
 use Rattle.std.specs.List.{AllByRecursion, IsDistinct}
 use Rattle.norm_base.specs.Settings.{Settings, InRange}
 use Rattle.fec_plan.specs.Points.{position}
 use Rattle.fec_plan.specs.declared.position.Position.{Position}
 use Rattle.fec_plan.specs.Partition.{source_symbols}
-use Rattle.norm_ext.specs.Message.{Message, Info, Data, Flush, Eot, Squelch, RepairAdv, AckReq, Opaque, Nack, Ack, Report}
+use Rattle.norm_ext.specs.Message.{Message, Info, Data, Flush, Eot, Squelch, RepairAdv, AckReq, Opaque, Nack, Ack, Report, InfoMessage, DataMessage}
 use Rattle.norm_ext.specs.Written.{Written, writes}
-use Rattle.norm_order.specs.Entries.{Object, Stream, Entry}
+use Rattle.norm_ext.specs.Extensions.{Extension}
+use Rattle.norm_ext.specs.declared.fti.Fti.{Fti}
+use Rattle.norm_order.specs.Entries.{Object, Whole, Stream, Entry}
+use Rattle.norm_order.specs.Symbols.{symbol_octets}
 use Rattle.norm_order.specs.Shapes.{Shape, shape_of, shapes_of, encoded_in, at_index, is_source}
-use Rattle.norm_order.proofs.UptoLemmas.{found_front}
 use Rattle.norm_send_rules.specs.SenderState.{SenderState, Instance, Listing, Watermark, Round}
 use Rattle.norm_send_rules.specs.InWindow.{current_shapes, stands_behind}
 use Rattle.norm_send_rules.specs.Restarting.{instances}
-use Rattle.norm_send_rules.specs.Messages.{command_head, squelch_message, explicit_repair, parity_repair}
+use Rattle.norm_send_rules.specs.Messages.{fti_of_object, object_flags, command_head, squelch_message, explicit_repair, parity_repair}
 use Rattle.norm_send_rules.specs.Sending.{next_new, behind, sends, noted, repair_flags, message_of, sends_want, repairs_next, sends_new}
 use Rattle.norm_send_rules.specs.Flushing.{most_flushes, flushes_for, expired, flushes_oldest, flushes_no_more, flushed, flushes_in_turn, flushes, may_flush}
 use Rattle.norm_send_rules.specs.Watermarks.{is_open, oldest, pending}
@@ -31,12 +33,16 @@ use Rattle.norm_safety.specs.Said.{first_index, entry_at}
 use Rattle.norm_safety.proofs.CommandSteps.{same_instances, keeps_ids}
 use Rattle.fec_plan.proofs.PointLemmas.{not_before_both}
 use Rattle.norm_safety.proofs.EntryLemmas.{clash}
-use Rattle.norm_safety.proofs.Onward.{GoOn, Onward, LaterThan, instance_in, goes_on_itself}
+use Rattle.norm_safety.proofs.Onward.{GoOn, Onward, goes_on_itself}
 use Rattle.norm_safety.proofs.Members.{all_stay}
 use Rattle.norm_safety.proofs.SenderKeeps.{Keeps, keeps_all, expired_keeps, closed_keeps, nodes_in, AllOpen}
-use Rattle.norm_safety.proofs.SenderHolds.{SenderHolds, keeps_steps, order_later}
-use Rattle.norm_safety.proofs.LastLemmas.{source_still}
-use Rattle.norm_safety.proofs.Spoken.{IsTrueOf, SaysTrue, SpeaksTrue, command_head_fits, want_true, squelch_true, flush_true}
+use Rattle.norm_safety.proofs.SenderHolds.{SenderHolds, some_octets, keeps_steps, order_later}
+use Rattle.norm_safety.specs.InOrder.{is_stream_object}
+use Rattle.norm_safety.specs.SaysSymbols.{SaysObject, info_of_object}
+use Rattle.norm_safety.proofs.GoesOn.{ObjectLater, OrderLater, later_entry, source_later}
+use Rattle.norm_safety.proofs.SymbolLater.{symbol_later}
+use Rattle.norm_send_rules.proofs.CutNames.{cut_range}
+use Rattle.norm_safety.proofs.Spoken.{IsOfStream, IsTrueOf, SaysTrue, SpeaksTrue, command_head_fits, want_true, squelch_true, flush_true}
 use Rattle.norm_safety.proofs.Feedback.{IsOther}
 
 -- what says nothing of objects is true
@@ -55,47 +61,95 @@ nothing_true p s indices (Report m) h = tt
 
 -- ---- what is true stays true
 
-entry_later : (P : Entry → Type 0) (s t : SenderState) (id index : ℕ) → Onward s t → IsSomeAnd (entry_at s id index) P → IsSomeAnd (entry_at t id index) P
-entry_later P s t id index onward h = go (instance_in (instances s) id) (onward id) h
+-- what is told of an object does not change as it goes on
+pub record ToldSame (p : Settings) (o later : Object) : Type 0 where
+  pub fti : fti_of_object p o ≡ fti_of_object p later
+  pub flags : object_flags o ≡ object_flags later
+  pub info : info_of_object o ≡ info_of_object later
+  pub stream : is_stream_object o ≡ is_stream_object later
+
+pub told_same : (p : Settings) (o later : Object) → ObjectLater o later → ToldSame p o later
+told_same p (Whole kind info octets) later is = record {
+  fti = ap (fti_of_object p) (sym is);
+  flags = ap object_flags (sym is);
+  info = ap info_of_object (sym is);
+  stream = ap is_stream_object (sym is);
+}
+told_same p (Stream parts) later (more, is, none) = record {
+  fti = ap (fti_of_object p) (sym is);
+  flags = ap object_flags (sym is);
+  info = ap info_of_object (sym is);
+  stream = ap is_stream_object (sym is);
+}
+
+says_later : (p : Settings) (o later : Object) (extensions : List Extension) (flags : ℕ) → ObjectLater o later → SaysObject p o extensions flags
+    → SaysObject p later extensions flags
+says_later p o later extensions flags on says =
+    let same = told_same p o later on in (says.0 ∙ ap (λ (f : Fti). Some f) same.fti, says.1 ∙ same.flags)
+
+-- what stays true of an entry as its object goes on
+abbrev pub Stable : (Entry → Type 0) → Type 0
+Stable P = (x y : Entry) → ObjectLater x.object y.object → P x → P y
+
+data_stable : (p : Settings) → InRange p → (m : DataMessage) → Stable (λ (x : Entry).
+    IsTrue (nat_lt m.id.symbol (encoded_in (shape_of p x.object) m.id.block))
+    × (m.payload ≡ symbol_octets p x.object m.id.block m.id.symbol)
+    × SaysObject p x.object m.extensions m.head.flags)
+data_stable p range m x y on (encoded, payload, says) =
+    let stays = symbol_later p (cut_range p range) x.object y.object m.id.block m.id.symbol on encoded in
+    (stays.0, payload ∙ sym stays.1, says_later p x.object y.object m.extensions m.head.flags on says)
+
+info_stable : (p : Settings) (m : InfoMessage) → Stable (λ (x : Entry).
+    (info_of_object x.object ≡ Some m.info) × SaysObject p x.object m.extensions m.head.flags)
+info_stable p m x y on (info, says) =
+    (sym (told_same p x.object y.object on).info ∙ info, says_later p x.object y.object m.extensions m.head.flags on says)
+
+pub order_entry_later : (P : Entry → Type 0) → Stable P → (order later : List Entry) (index : ℕ) → OrderLater order later
+    → IsSomeAnd (slice_get order index) P → IsSomeAnd (slice_get later index) P
+order_entry_later P stable order later index on h = go (slice_get order index) refl h
   where
-    order_in : Option Instance → List Entry
-    order_in found = elim found [ Some i ↦ i.order | None ↦ [] ]
+    go : (found : Option Entry) → slice_get order index ≡ found → IsSomeAnd found P → IsSomeAnd (slice_get later index) P
+    go None e h = absurd h
+    go (Some x) e h =
+        let now = later_entry order later index x on e in
+        let S : Option Entry → Type 0 = λ o. IsSomeAnd o P in subst S (sym now.1) (stable x now.0 now.3 h)
 
-    there : (order more : List Entry) (found : Option Entry) → slice_get order index ≡ found → IsSomeAnd found P → IsSomeAnd (slice_get (order ++ more) index) P
-    there order more None e h = absurd h
-    there order more (Some entry) e h =
-        let S : Option Entry → Type 0 = λ o. IsSomeAnd o P in subst S (sym (found_front order more index entry e)) h
+entry_later : (P : Entry → Type 0) → Stable P → (s t : SenderState) (id index : ℕ) → Onward s t → IsSomeAnd (entry_at s id index) P → IsSomeAnd (entry_at t id index) P
+entry_later P stable s t id index onward h =
+    order_entry_later P stable (order_of s id) (order_of t id) index (order_later s t onward id).order h
 
-    go : (found : Option Instance)
-        → ((i : Instance) → found ≡ Some i → (j : Instance) × (instance_in (instances t) id ≡ Some j) × LaterThan j i)
-        → IsSomeAnd (slice_get (order_in found) index) P → IsSomeAnd (entry_at t id index) P
-    go None next h = absurd h
-    go (Some i) next h =
-        let later = next i refl in
-        let S : List Entry → Type 0 = λ order. IsSomeAnd (slice_get order index) P in
-        let O : Option Instance → Type 0 = λ found. IsSomeAnd (slice_get (order_in found) index) P in
-        subst O (sym later.1) (subst S (sym later.2.order) (there i.order later.2.more (slice_get i.order index) refl h))
+of_stream_later : (p : Settings) (order later : List Entry) (index block : ℕ) → OrderLater order later → IsOfStream order index block → IsOfStream later index block
+of_stream_later p order later index block on (inl none) = inl none
+of_stream_later p order later index block on (inr (x, e, is)) =
+    let now = later_entry order later index x on e in inr (now.0, now.1, sym (told_same p x.object now.0.object now.3).stream ∙ is)
 
-message_later : (p : Settings) (s t : SenderState) (indices : List ℕ) (m : Message) → Onward s t → IsTrueOf p s indices m → IsTrueOf p t indices m
-message_later p s t indices (Info m) onward h = (h.0, entry_later _ s t m.head.instance _ onward h.1)
-message_later p s t indices (Data m) onward h = (h.0, entry_later _ s t m.head.instance _ onward h.1)
-message_later p s t indices (Squelch m) onward (speaks, says) =
-    let later = onward m.head.instance says.0 says.1 in
-    (speaks, (later.0, later.1, not_before_both _ says.0.drop later.0.drop says.2 later.2.drop, says.3))
-message_later p s t indices (Flush m) onward h =
+message_later : (p : Settings) → InRange p → (s t : SenderState) (indices : List ℕ) (m : Message) → Onward s t → IsTrueOf p s indices m → IsTrueOf p t indices m
+message_later p range s t indices (Info m) onward h = (h.0, entry_later _ (info_stable p m) s t m.head.instance _ onward h.1)
+message_later p range s t indices (Data m) onward h = (h.0, entry_later _ (data_stable p range m) s t m.head.instance _ onward h.1)
+message_later p range s t indices (Squelch m) onward (speaks, says) =
+    let later = onward m.head.instance says.0 says.1 in (
+      speaks,
+      (
+        later.0,
+        later.1,
+        not_before_both _ says.0.drop later.0.drop says.2 later.2.drop,
+        of_stream_later p says.0.order later.0.order _ m.id.block later.2.order says.3,
+      ),
+    )
+message_later p range s t indices (Flush m) onward h =
     let later = order_later s t onward m.head.instance in
     let at : Position = position (first_index indices) m.id.block m.id.symbol in
-    (h.0, ap (λ (order : List Entry). is_source (shapes_of p order) at) later.order ∙ source_still p (order_of s m.head.instance) later.more at h.1)
-message_later p s t indices (Eot m) onward h = tt
-message_later p s t indices (RepairAdv m) onward h = tt
-message_later p s t indices (AckReq m) onward h = tt
-message_later p s t indices (Opaque m) onward h = tt
-message_later p s t indices (Nack m) onward h = tt
-message_later p s t indices (Ack m) onward h = tt
-message_later p s t indices (Report m) onward h = tt
+    (h.0, source_later p (order_of s m.head.instance) (order_of t m.head.instance) at (some_octets p range) later.order h.1)
+message_later p range s t indices (Eot m) onward h = tt
+message_later p range s t indices (RepairAdv m) onward h = tt
+message_later p range s t indices (AckReq m) onward h = tt
+message_later p range s t indices (Opaque m) onward h = tt
+message_later p range s t indices (Nack m) onward h = tt
+message_later p range s t indices (Ack m) onward h = tt
+message_later p range s t indices (Report m) onward h = tt
 
-pub true_later : (p : Settings) (s t : SenderState) (o : Written) → Onward s t → SaysTrue p s o → SaysTrue p t o
-true_later p s t o onward h = (h.0, message_later p s t o.indices o.message onward h.1)
+pub true_later : (p : Settings) → InRange p → (s t : SenderState) (o : Written) → Onward s t → SaysTrue p s o → SaysTrue p t o
+true_later p range s t o onward h = (h.0, message_later p range s t o.indices o.message onward h.1)
 
 -- ---- a tick
 
@@ -228,9 +282,9 @@ flushes_true p range now s h differ = go (may_flush p s now)
 without : (p : Settings) (s t : SenderState) → Keeps s t → WantsHold p t → SenderHolds p s → SenderHolds p t
 without p s t keeps wants h = (keeps_steps p s t keeps wants h).holds
 
-same_true : (p : Settings) (s t : SenderState) (sent : Option Written) → Onward s t → SentTrue p s sent → SentTrue p t sent
-same_true p s t None onward h = tt
-same_true p s t (Some datagram) onward h = record { says = true_later p s t datagram onward h.says; read = h.read; no_ack = h.no_ack; spoken = h.spoken }
+same_true : (p : Settings) → InRange p → (s t : SenderState) (sent : Option Written) → Onward s t → SentTrue p s sent → SentTrue p t sent
+same_true p range s t None onward h = tt
+same_true p range s t (Some datagram) onward h = record { says = true_later p range s t datagram onward h.says; read = h.read; no_ack = h.no_ack; spoken = h.spoken }
 
 further_true : (p : Settings) → InRange p → (now : ℕ) (s : SenderState) → SenderHolds p s → IsDistinct nat_eq (instance_ids s) → SentTrue p s (sends_further p now s).1
 further_true p range now s h differ = go (next_new p s) refl
@@ -243,7 +297,7 @@ further_true p range now s h differ = go (next_new p s) refl
     go (Some w) e =
         let keeps : Keeps s (next w) = record { earlier = refl; current = refl; by = refl; nodes = λ few. few; sequence = λ n. n; asked = λ test all. all; strikes = all_stay _ _; sent = λ at n. n } in
         let wants : WantsHold p (next w) = record { rise = h.wants.rise; of_order = h.wants.of_order; in_window = h.wants.in_window } in
-        same_true p (next w) s (sends_want p now (λ object. 0) w (next w)).1 (goes_on_itself (instances s))
+        same_true p range (next w) s (sends_want p now (λ object. 0) w (next w)).1 (goes_on_itself (instances s))
         (wanted_true p range (next w) now (λ object. 0) w (without p s (next w) keeps wants h) differ
         (next_of_order p (blocks_of p range) s w e) (λ object. omega arith))
 
@@ -264,7 +318,7 @@ wants_true p range now s h differ = go s.wants refl
         let within = subst W e h.wants.in_window in
         let keeps : Keeps s (rest wants) = record { earlier = refl; current = refl; by = refl; nodes = λ few. few; sequence = λ n. n; asked = λ test all. all; strikes = all_stay _ _; sent = λ at n. n } in
         let hold : WantsHold p (rest wants) = record { rise = rise.1; of_order = of.1; in_window = within.1 } in
-        same_true p (rest wants) s (sends_want p now (λ object. repair_flags p object w) w (rest wants)).1 (goes_on_itself (instances s))
+        same_true p range (rest wants) s (sends_want p now (λ object. repair_flags p object w) w (rest wants)).1 (goes_on_itself (instances s))
         (wanted_true p range (rest wants) now (λ object. repair_flags p object w) w (without p s (rest wants) keeps hold h) differ of.0
         (λ object. repair_few p object w))
 
@@ -292,4 +346,4 @@ tick_true p range s now h differ =
     go : (c : SenderState) → SenderHolds p c → IsDistinct nat_eq (instance_ids c) → Onward c s → (early : Bool)
         → SentTrue p s (given (elim early [ true ↦ (c, None) | false ↦ sends_first p now c ]))
     go c holds differ back true = tt
-    go c holds differ back false = same_true p c s (sends_first p now c).1 back (first_true p range now c holds differ)
+    go c holds differ back false = same_true p range c s (sends_first p now c).1 back (first_true p range now c holds differ)

@@ -1,43 +1,49 @@
--- What holds of a world of data and files after every lawful event.
-use Rattle.std.proofs.Common.{◌≡◌, ℕ, zero, suc, ◌+◌, ◌<◌, ◌≤◌, cond, List, [], ◌∷◌, ◌++◌, length, take, Bool, true, false, Option, None, Some, refl, sym, ap, ◌∙◌, subst, append_assoc, arith}
-use Rattle.norm_order.proofs.UptoLemmas.{found_front}
-use Rattle.std.specs.Prelude.{slice_get, IsSomeAnd, filter, find, ◌==◌, nat_eq, Contains}
+-- What holds of a world after every lawful event.
+use Rattle.std.proofs.Common.{◌≡◌, ℕ, zero, suc, ◌*◌, ◌/◌, ◌<◌, cond, List, [], ◌∷◌, ◌++◌, Bool, true, false, Option, None, Some, refl, sym, ap, ◌∙◌, subst, append_assoc, arith}
+use Rattle.std.specs.Prelude.{nat_lt, filter, find, ◌==◌, nat_eq, Contains}
 use Rattle.std.specs.List.{AllByRecursion, IsDistinct}
 use Rattle.std.proofs.lemmas.Bool.Decides.{Decides-eqb}
-use Rattle.std.proofs.lemmas.List.{append-nil, length-append, take-append-le}
+use Rattle.std.proofs.lemmas.List.{append-nil}
 use Rattle.std.proofs.lemmas.Grind.{flat_map-append}
-use Rattle.norm_base.specs.Settings.{Settings}
+use Rattle.norm_base.specs.Settings.{Settings, InRange}
+use Rattle.fec_plan.specs.Points.{Point, point_before}
 use Rattle.norm_base.specs.Member.{IsMember}
 use Rattle.norm_base.specs.declared.node.Origin.{Origin}
 use Rattle.norm_ext.specs.InstanceIds.{rise}
 use Rattle.norm_ext.specs.Written.{Written}
 use Rattle.norm_order.specs.Entries.{Entry}
-use Rattle.norm_order.specs.Upto.{all_parts}
+use Rattle.norm_order.specs.Shapes.{shape_of, encoded_in}
+use Rattle.norm_order.specs.Symbols.{symbol_octets}
 use Rattle.norm_order.specs.declared.up.Up.{Up}
+use Rattle.norm_receive_rules.specs.Holding.{Plan, Held, HeldInfo}
 use Rattle.norm_receive_rules.specs.ReceiverState.{ReceiverState}
+use Rattle.norm_send_rules.specs.Messages.{fti_of_object, object_flags}
+use Rattle.norm_send_rules.proofs.CutNames.{cut_range}
 use Rattle.norm_send_rules.specs.SenderState.{SenderState}
 use Rattle.norm_safety.specs.Events.{Event, Answer}
 use Rattle.norm_safety.specs.World.{World, receiver_at}
 use Rattle.norm_safety.specs.History.{Happening}
 use Rattle.norm_safety.specs.Hands.{hands, taken_in, is_at, instance_at}
-use Rattle.norm_safety.specs.InOrder.{came_to, newly, drop_of}
+use Rattle.norm_safety.specs.InOrder.{GoesThrough, came_to, newly, drop_of}
 use Rattle.norm_safety.specs.OnceEach.{order_of}
+use Rattle.norm_safety.specs.SaysSymbols.{info_of_object}
 use Rattle.norm_safety.proofs.EntryLemmas.{clash}
 use Rattle.norm_safety.proofs.Onward.{Onward}
-use Rattle.norm_safety.proofs.SenderHolds.{SenderHolds, order_later}
+use Rattle.norm_safety.proofs.SenderHolds.{SenderHolds, some_octets, order_later}
 use Rattle.norm_safety.proofs.OnceLemmas.{OnceSoFar}
 use Rattle.norm_safety.proofs.Spoken.{IsBegun, SaysTrue}
-use Rattle.norm_safety.proofs.TickTrue.{true_later}
-use Rattle.norm_safety.proofs.Exact.{Exactly, exactly_later}
+use Rattle.norm_safety.proofs.GoesOn.{OrderLater}
+use Rattle.norm_safety.proofs.SymbolLater.{symbol_later}
+use Rattle.norm_safety.proofs.TickTrue.{Stable, told_same, order_entry_later, true_later}
+use Rattle.norm_safety.proofs.ThroughLater.{through_on}
+use Rattle.norm_safety.proofs.HandedMoves.{handed_later}
 use Rattle.norm_safety.proofs.Stood.{due_grown}
-use Rattle.norm_safety.proofs.Holding.{ReceiverHolds, IsPlanOf, IsSymbolOf, IsInfoOf, some_and}
+use Rattle.norm_safety.proofs.Holding.{ReceiverHolds, IsPlanOf, IsSymbolOf, IsInfoOf}
 use Rattle.norm_safety.proofs.ReceiverMoves.{Standing, StandingIn}
 
--- hand-ups went exactly through a front of an instance's order
-pub record Through (p : Settings) (s : SenderState) (id : ℕ) (ups : List Up) : Type 0 where
-  pub count : ℕ
-  pub within : count ≤ length (order_of s id)
-  pub exactly : Exactly p (drop_of s id).index 0 (take count (order_of s id)) ups
+-- hand-ups went through an instance's order
+abbrev pub Through : Settings → SenderState → ℕ → List Up → Type 0
+Through p s id ups = GoesThrough p (drop_of s id) 0 (order_of s id) ups
 
 -- an id lies higher above the profile's than all these
 abbrev pub IsAbove : Settings → List ℕ → ℕ → Type 0
@@ -127,65 +133,52 @@ newly_none (Some id) = go (id == id) (same_self id)
 
 -- ---- as the orders go on
 
-take_longer : (n : ℕ) (order more : List Entry) → n ≤ length order → take n (order ++ more) ≡ take n order
-take_longer n order more le = take-append-le n order more le
-
-pub through_later : (p : Settings) (s t : SenderState) (id : ℕ) (ups : List Up) → Onward s t → Through p s id ups → Through p t id ups
-through_later p s t id ups onward h =
+pub through_later : (p : Settings) → InRange p → (s t : SenderState) (id : ℕ) (ups : List Up) → Onward s t → Through p s id ups → Through p t id ups
+through_later p range s t id ups onward h =
     let later = order_later s t onward id in
-    let le = h.within in
-    let longer : length (order_of t id) ≡ length (order_of s id) + length later.more = ap length later.order ∙ length-append (order_of s id) later.more in
-    let E : List Entry → Type 0 = λ order. Exactly p (drop_of t id).index 0 (take h.count order) ups in
-    let F : List Entry → Type 0 = λ entries. Exactly p (drop_of t id).index 0 entries ups in
-    record {
-      count = h.count;
-      within = omega arith;
-      exactly = subst E (sym later.order) (subst F (sym (take_longer h.count (order_of s id) later.more le))
-          (exactly_later p (drop_of s id).index (drop_of t id).index 0 _ ups later.drop h.exactly));
-    }
-
-some_later : (P : Entry → Type 0) (order more : List Entry) (index : ℕ) → IsSomeAnd (slice_get order index) P → IsSomeAnd (slice_get (order ++ more) index) P
-some_later P order more index h =
-    let found = some_and P (slice_get order index) h in
-    let S : Option Entry → Type 0 = λ o. IsSomeAnd o P in
-    subst S (sym (found_front order more index found.0 found.1)) found.2
+    through_on p (drop_of s id) (drop_of t id) 0 (order_of s id) (order_of t id) ups (some_octets p range) later.drop later.order h
 
 pub all_later : {X : Type 0} (P Q : X → Type 0) (xs : List X) → ((x : X) → P x → Q x) → AllByRecursion P xs → AllByRecursion Q xs
 all_later P Q [] f all = tt
 all_later P Q (x ∷ xs) f all = (f x all.0, all_later P Q xs f all.1)
 
-holding_more : (p : Settings) (order more : List Entry) (d e : ℕ) (taken : List Up) (r : ReceiverState) → d ≤ e → ReceiverHolds p order d taken r
-    → ReceiverHolds p (order ++ more) e taken r
-holding_more p order more d e taken r le h =
-    let E : List Entry → Type 0 = λ entries. Exactly p e 0 entries (taken ++ r.holding.ups) in
-    let many = length-append order more in
-    let within = h.within in
-    record {
-      plans = all_later (IsPlanOf p order) (IsPlanOf p (order ++ more)) r.holding.plans (λ plan is. some_later _ order more plan.index is) h.plans;
-      symbols = all_later (IsSymbolOf p order) (IsSymbolOf p (order ++ more)) r.holding.held (λ x is. some_later _ order more x.at.index is) h.symbols;
-      rising = h.rising;
-      infos = all_later (IsInfoOf order) (IsInfoOf (order ++ more)) r.holding.infos (λ x is. some_later _ order more x.index is) h.infos;
-      block = h.block;
-      symbol = h.symbol;
-      within = omega arith;
-      gone = subst E (sym (take_longer r.holding.point.index order more within)) (exactly_later p d e 0 _ (taken ++ r.holding.ups) le h.gone);
-      clean = λ none. h.clean none ∙ ap (all_parts p 0) (sym (take_longer r.holding.point.index order more within));
-      confirms = due_grown p order more (taken ++ r.holding.ups) r.knows.due h.confirms;
-    }
+-- a plan, a symbol and an info of an entry are such as its object goes on
+plan_stable : (p : Settings) (plan : Plan) → Stable (λ (x : Entry). (plan.fti ≡ fti_of_object p x.object) × (4 * (plan.flags / 4) ≡ object_flags x.object))
+plan_stable p plan x y on is = let same = told_same p x.object y.object on in (is.0 ∙ same.fti, is.1 ∙ same.flags)
 
-pub holding_later : (p : Settings) (s t : SenderState) (id : ℕ) (taken : List Up) (r : ReceiverState) → Onward s t
-    → ReceiverHolds p (order_of s id) (drop_of s id).index taken r → ReceiverHolds p (order_of t id) (drop_of t id).index taken r
-holding_later p s t id taken r onward h =
+symbol_stable : (p : Settings) → InRange p → (h : Held) → Stable (λ (x : Entry).
+    (nat_lt h.at.symbol (encoded_in (shape_of p x.object) h.at.block) ≡ true) × (h.octets ≡ symbol_octets p x.object h.at.block h.at.symbol))
+symbol_stable p range h x y on is =
+    let stays = symbol_later p (cut_range p range) x.object y.object h.at.block h.at.symbol on is.0 in (stays.0, is.1 ∙ sym stays.1)
+
+info_stable : (p : Settings) (h : HeldInfo) → Stable (λ (x : Entry). info_of_object x.object ≡ Some h.info)
+info_stable p h x y on is = sym (told_same p x.object y.object on).info ∙ is
+
+holding_on : (p : Settings) → InRange p → (order later : List Entry) (d e : Point) (taken : List Up) (r : ReceiverState) → OrderLater order later
+    → point_before e d ≡ false → ReceiverHolds p order d taken r → ReceiverHolds p later e taken r
+holding_on p range order later d e taken r on drop h = record {
+  plans = all_later (IsPlanOf p order) (IsPlanOf p later) r.holding.plans (λ plan is. order_entry_later _ (plan_stable p plan) order later plan.index on is) h.plans;
+  symbols = all_later (IsSymbolOf p order) (IsSymbolOf p later) r.holding.held
+      (λ x is. order_entry_later _ (symbol_stable p range x) order later x.at.index on is) h.symbols;
+  rising = h.rising;
+  infos = all_later (IsInfoOf order) (IsInfoOf later) r.holding.infos (λ x is. order_entry_later _ (info_stable p x) order later x.index on is) h.infos;
+  planned = h.planned;
+  gone = handed_later p order later d e r.holding.lost (taken ++ r.holding.ups) r.holding.point (omega (arith, range.b.0)) (some_octets p range) on drop h.gone;
+  confirms = due_grown p (some_octets p range) order later (taken ++ r.holding.ups) r.knows.due on h.confirms;
+}
+
+pub holding_later : (p : Settings) → InRange p → (s t : SenderState) (id : ℕ) (taken : List Up) (r : ReceiverState) → Onward s t
+    → ReceiverHolds p (order_of s id) (drop_of s id) taken r → ReceiverHolds p (order_of t id) (drop_of t id) taken r
+holding_later p range s t id taken r onward h =
     let later = order_later s t onward id in
-    let H : List Entry → Type 0 = λ order. ReceiverHolds p order (drop_of t id).index taken r in
-    subst H (sym later.order) (holding_more p (order_of s id) later.more (drop_of s id).index (drop_of t id).index taken r later.drop h)
+    holding_on p range (order_of s id) (order_of t id) (drop_of s id) (drop_of t id) taken r later.order later.drop h
 
-standing_later : (p : Settings) (s t : SenderState) (taken : ℕ → List Up) (r : ReceiverState) → Onward s t → Standing p s taken r → Standing p t taken r
-standing_later p s t taken r onward h = go r.instance h
+standing_later : (p : Settings) → InRange p → (s t : SenderState) (taken : ℕ → List Up) (r : ReceiverState) → Onward s t → Standing p s taken r → Standing p t taken r
+standing_later p range s t taken r onward h = go r.instance h
   where
     go : (instance : Option ℕ) → StandingIn p s taken r instance → StandingIn p t taken r instance
     go None h = h
-    go (Some id) h = holding_later p s t id (taken id) r onward h
+    go (Some id) h = holding_later p range s t id (taken id) r onward h
 
 -- hand-ups that are equal in each instance
 pub same_taken : (p : Settings) (s : SenderState) (taken other : ℕ → List Up) (r : ReceiverState) → ((id : ℕ) → other id ≡ taken id) → Standing p s taken r → Standing p s other r
@@ -193,13 +186,9 @@ same_taken p s taken other r same h = go r.instance h
   where
     go : (instance : Option ℕ) → StandingIn p s taken r instance → StandingIn p s other r instance
     go None h = h
-    go (Some id) h = let H : List Up → Type 0 = λ ups. ReceiverHolds p (order_of s id) (drop_of s id).index ups r in subst H (sym (same id)) h
+    go (Some id) h = let H : List Up → Type 0 = λ ups. ReceiverHolds p (order_of s id) (drop_of s id) ups r in subst H (sym (same id)) h
 
 -- ---- an event that leaves the receivers
-
--- what happened, with one event more that took nothing and left a node where it was
-pub record NothingTaken (past : List Happening) (x : Happening) : Type 0 where
-  pub taken : (node : ℕ) → taken_in node x.event x.answer ≡ []
 
 pub hands_same : (past : List Happening) (x : Happening) (node id : ℕ) → taken_in node x.event x.answer ≡ [] → hands (past ++ x ∷ []) node id ≡ hands past node id
 hands_same past x node id none =
@@ -220,11 +209,11 @@ same_came p past x node same =
     ∙ ap (λ (ids : List ℕ). came_to node None past ++ ids) (newly_none (instance_at x.after node)) ∙ append-nil (came_to node None past)
 
 -- a node whose receiver stays as it was, while the orders go on
-pub node_later : (p : Settings) (s t : SenderState) (past : List Happening) (x : Happening) (node : ℕ) (found : Option ReceiverState) → Onward s t
+pub node_later : (p : Settings) → InRange p → (s t : SenderState) (past : List Happening) (x : Happening) (node : ℕ) (found : Option ReceiverState) → Onward s t
     → taken_in node x.event x.answer ≡ [] → last_in node None past ≡ instance_at x.after node
     → AtNode p s past node found → AtNode p t (past ++ x ∷ []) node found
-node_later p s t past x node None onward none same h = record { came = same_came p past x node same ∙ h.came }
-node_later p s t past x node (Some r) onward none same h =
+node_later p range s t past x node None onward none same h = record { came = same_came p past x node same ∙ h.came }
+node_later p range s t past x node (Some r) onward none same h =
     let still : came_to node None (past ++ x ∷ []) ≡ came_to node None past = same_came p past x node same in
     let C : List ℕ → Type 0 = λ ids. CameTo p ids r.instance in
     let D : List ℕ → Type 0 = λ ids. IsDistinct nat_eq ids in
@@ -235,16 +224,16 @@ node_later p s t past x node (Some r) onward none same h =
       came = subst C (sym still) h.came;
       once = subst D (sym still) h.once;
       stands = same_taken p t (hands past node) (hands (past ++ x ∷ []) node) r (λ id. hands_same past x node id none)
-          (standing_later p s t (hands past node) r onward h.stands);
+          (standing_later p range s t (hands past node) r onward h.stands);
       never = λ id above. (let A : List ℕ → Type 0 = λ ids. IsAbove p ids id in hands_same past x node id none ∙ h.never id (subst A still above));
     }
 
 -- ---- what was said
 
-pub said_later : (p : Settings) (s t : SenderState) (said : List (ℕ × Written)) → Onward s t → AllByRecursion (λ (o : ℕ × Written). SaysTrue p s o.1) said
+pub said_later : (p : Settings) → InRange p → (s t : SenderState) (said : List (ℕ × Written)) → Onward s t → AllByRecursion (λ (o : ℕ × Written). SaysTrue p s o.1) said
     → AllByRecursion (λ (o : ℕ × Written). SaysTrue p t o.1) said
-said_later p s t said onward all =
-    all_later (λ (o : ℕ × Written). SaysTrue p s o.1) (λ (o : ℕ × Written). SaysTrue p t o.1) said (λ o h. true_later p s t o.1 onward h) all
+said_later p range s t said onward all =
+    all_later (λ (o : ℕ × Written). SaysTrue p s o.1) (λ (o : ℕ × Written). SaysTrue p t o.1) said (λ o h. true_later p range s t o.1 onward h) all
 
 pub all_filter : {X : Type 0} (P : X → Type 0) (test : X → Bool) (xs : List X) → AllByRecursion P xs → AllByRecursion P (filter test xs)
 all_filter P test [] all = tt
@@ -270,12 +259,12 @@ abbrev pub instance_of : Option ReceiverState → Option ℕ
 instance_of found = elim found [ Some r ↦ r.instance | None ↦ None ]
 
 -- the world after an event that leaves the receivers, where the sender goes on and what was said is true
-pub quiet_world : (p : Settings) (past : List Happening) (accepted after : List Origin) (w v : World) (e : Event) (answer : Answer)
+pub quiet_world : (p : Settings) → InRange p → (past : List Happening) (accepted after : List Origin) (w v : World) (e : Event) (answer : Answer)
     → v.receivers ≡ w.receivers → SenderHolds p v.sender → OnceSoFar v.sender after → Onward w.sender v.sender
     → AllByRecursion (λ (o : ℕ × Written). SaysTrue p v.sender o.1) v.offered → AllByRecursion (λ (o : ℕ × Written). SaysTrue p v.sender o.1) v.given
     → ((node : ℕ) → taken_in node e answer ≡ []) → WorldHolds p past accepted w
     → WorldHolds p (past ++ record { before = w; event = e; answer = answer; after = v } ∷ []) after v
-quiet_world p past accepted after w v e answer same holds once onward offered given none h =
+quiet_world p range past accepted after w v e answer same holds once onward offered given none h =
     let x : Happening = record { before = w; event = e; answer = answer; after = v } in
     let at : (node : ℕ) → receiver_at v node ≡ receiver_at w node =
     λ node. ap (λ (rs : List ReceiverState). find (λ (r : ReceiverState). r.node == node) rs) same in
@@ -288,11 +277,11 @@ quiet_world p past accepted after w v e answer same holds once onward offered gi
       given = given;
       nodes = λ node. (
           let A : Option ReceiverState → Type 0 = λ found. AtNode p v.sender (past ++ x ∷ []) node found in
-          subst A (sym (at node)) (node_later p w.sender v.sender past x node (receiver_at w node) onward (none node) (instance node) (h.nodes node))
+          subst A (sym (at node)) (node_later p range w.sender v.sender past x node (receiver_at w node) onward (none node) (instance node) (h.nodes node))
           );
       through = λ node id. (
           let T : List Up → Type 0 = λ ups. Through p v.sender id ups in
-          subst T (sym (hands_same past x node id (none node))) (through_later p w.sender v.sender id (hands past node id) onward (h.through node id))
+          subst T (sym (hands_same past x node id (none node))) (through_later p range w.sender v.sender id (hands past node id) onward (h.through node id))
           );
       latest = λ node. last_more node None past x;
     }

@@ -1,10 +1,10 @@
--- What holds of a world of data and files after a receiver moved.
+-- What holds of a world after a receiver moved.
 use Rattle.std.proofs.Common.{◌≡◌, ◌<◌, ◌≤◌, ℕ, cond, List, [], ◌∷◌, ◌++◌, Bool, true, false, Option, None, Some, refl, sym, ap, ◌∙◌, subst, arith}
 use Rattle.std.specs.Prelude.{map, find, ◌==◌, ◌&&◌, nat_eq, nat_le}
 use Rattle.std.specs.List.{AllByRecursion, IsDistinct}
 use Rattle.std.proofs.lemmas.Bool.Decides.{Decides-eqb}
 use Rattle.std.proofs.lemmas.List.{append-nil}
-use Rattle.norm_base.specs.Settings.{Settings}
+use Rattle.norm_base.specs.Settings.{Settings, InRange}
 use Rattle.norm_base.specs.Member.{IsMember}
 use Rattle.norm_base.specs.declared.node.Origin.{Origin}
 use Rattle.norm_ext.specs.InstanceIds.{rise, most_rise, is_above}
@@ -169,7 +169,7 @@ moved_node p s past x node r t moved none latest now h = go moved
         let C : Option ℕ → Type 0 = λ is. CameTo p (came_to node None (past ++ x ∷ [])) is in
         let D : List ℕ → Type 0 = λ xs. IsDistinct nat_eq xs in
         let S : Option ℕ → Type 0 = λ is. StandingIn p s (hands (past ++ x ∷ []) node) t is in
-        let H : List Up → Type 0 = λ ups. ReceiverHolds p (order_of s id) (drop_of s id).index ups t in
+        let H : List Up → Type 0 = λ ups. ReceiverHolds p (order_of s id) (drop_of s id) ups t in
         let last : CameLast p (came_to node None (past ++ x ∷ [])) id =
         record { before = came_to node None past; is = joined; lower = above; begun = begun } in
         record {
@@ -187,12 +187,12 @@ moved_node p s past x node r t moved none latest now h = go moved
 
 -- ---- the world of a receiver that moved
 
-pub moved_world : (p : Settings) (past : List Happening) (accepted : List Origin) (w v : World) (e : Event) (answer : Answer) (node : ℕ) (r t : ReceiverState)
+pub moved_world : (p : Settings) → InRange p → (past : List Happening) (accepted : List Origin) (w v : World) (e : Event) (answer : Answer) (node : ℕ) (r t : ReceiverState)
     → receiver_at w node ≡ Some r → t.node ≡ r.node → v.sender ≡ w.sender → v.receivers ≡ (with_receiver t w).receivers → v.offered ≡ w.offered
     → Moved p w.sender r t → ((other : ℕ) → taken_in other e answer ≡ []) → AllByRecursion (λ (o : ℕ × Written). SaysTrue p w.sender o.1) v.given
     → WorldHolds p past accepted w
     → WorldHolds p (past ++ record { before = w; event = e; answer = answer; after = v } ∷ []) accepted v
-moved_world p past accepted w v e answer node r t found same sender receivers offered moved none given h = record {
+moved_world p range past accepted w v e answer node r t found same sender receivers offered moved none given h = record {
   sender = subst HoldsOf (sym sender) h.sender;
   once = subst OnceOf (sym sender) h.once;
   offered = subst SaidOf (sym sender) (subst Said (sym offered) h.offered);
@@ -251,5 +251,5 @@ moved_world p past accepted w v e answer node r t found same sender receivers of
         let not_t : t.node ≡ other → ⊥ = λ e. clash (sym is ∙ (Decides-eqb t.node other).1 e) in
         let at : receiver_at v other ≡ receiver_at w other = at_v other ∙ found_other t w.receivers other not_t in
         let A : Option ReceiverState → Type 0 = λ o. AtNode p w.sender (past ++ record { before = w; event = e; answer = answer; after = v } ∷ []) other o in
-        subst A (sym at) (node_later p w.sender w.sender past x other (receiver_at w other) (goes_on_itself (instances w.sender)) (none other)
+        subst A (sym at) (node_later p range w.sender w.sender past x other (receiver_at w other) (goes_on_itself (instances w.sender)) (none other)
         (h.latest other ∙ sym (ap instance_of at)) (h.nodes other))

@@ -1,10 +1,11 @@
--- What holds of a world of data and files after a hand-up was taken.
-use Rattle.std.proofs.Common.{◌≡◌, ℕ, zero, suc, ◌≤◌, List, [], ◌∷◌, ◌++◌, take, Bool, true, false, Option, None, Some, refl, sym, ap, ◌∙◌, subst, append_assoc, arith}
+-- What holds of a world after a hand-up was taken.
+use Rattle.std.proofs.Common.{◌≡◌, ℕ, List, [], ◌∷◌, ◌++◌, Bool, true, false, Option, None, Some, refl, sym, ap, ◌∙◌, subst, append_assoc}
 use Rattle.std.specs.Prelude.{map, ◌==◌, nat_eq}
 use Rattle.std.specs.List.{AllByRecursion, IsDistinct}
 use Rattle.std.proofs.lemmas.Bool.Decides.{Decides-eqb}
-use Rattle.std.proofs.lemmas.List.{append-nil, length-take}
-use Rattle.norm_base.specs.Settings.{Settings}
+use Rattle.std.proofs.lemmas.List.{append-nil}
+use Rattle.norm_base.specs.Settings.{Settings, InRange}
+use Rattle.fec_plan.specs.Points.{Point}
 use Rattle.norm_base.specs.declared.node.Origin.{Origin}
 use Rattle.norm_ext.specs.Written.{Written}
 use Rattle.norm_order.specs.Entries.{Entry}
@@ -20,53 +21,33 @@ use Rattle.norm_safety.specs.Hands.{hands, taken_in, is_at}
 use Rattle.norm_safety.specs.InOrder.{came_to, drop_of}
 use Rattle.norm_safety.specs.OnceEach.{order_of}
 use Rattle.norm_safety.proofs.EntryLemmas.{clash}
-use Rattle.norm_safety.proofs.WholeOrders.{AreSized}
 use Rattle.norm_safety.proofs.Onward.{goes_on_itself}
 use Rattle.norm_safety.proofs.OnceLemmas.{OnceSoFar}
 use Rattle.norm_safety.proofs.Spoken.{SaysTrue}
-use Rattle.norm_safety.proofs.Exact.{Exactly, front_exactly}
+use Rattle.norm_safety.proofs.Through.{Handed, handed_through, front_through}
 use Rattle.norm_safety.proofs.Stood.{Due}
-use Rattle.norm_safety.proofs.SenderHolds.{SenderHolds, orders_hold}
+use Rattle.norm_safety.proofs.SenderHolds.{SenderHolds}
 use Rattle.norm_safety.proofs.Holding.{ReceiverHolds}
 use Rattle.norm_safety.proofs.ReceiverMoves.{StandingIn, in_instance_is}
 use Rattle.norm_safety.proofs.WorldHolds.{Through, IsAbove, CameTo, AtReceiver, AtNode, WorldHolds, last_more, hands_more, hands_same, same_came, node_later, instance_of}
 use Rattle.norm_safety.proofs.WorldMoves.{at_node, put_in, found_put, found_other, same_self, above_is_out}
 
--- a front of a front of an order
-take_of_take : (n m : ℕ) (order : List Entry) → n ≤ m → take n (take m order) ≡ take n order
-take_of_take zero m order le = refl
-take_of_take (suc n) zero order le = absurd (omega arith)
-take_of_take (suc n) (suc m) [] le = refl
-take_of_take (suc n) (suc m) (x ∷ order) le = ap (λ (xs : List Entry). x ∷ xs) (take_of_take n m order (omega arith))
-
-sized_take : (p : Settings) (n : ℕ) (order : List Entry) → AreSized p order → AreSized p (take n order)
-sized_take p zero order all = tt
-sized_take p (suc n) [] all = tt
-sized_take p (suc n) (x ∷ order) all = (all.0, sized_take p n order all.1)
-
--- what was taken went through a front of the order
-taken_through : (p : Settings) (s : SenderState) (id : ℕ) (taken : List Up) (r : ReceiverState) → AreSized p (order_of s id)
-    → ReceiverHolds p (order_of s id) (drop_of s id).index taken r → Through p s id taken
-taken_through p s id taken r sized h =
-    let front = front_exactly p (drop_of s id).index 0 (take r.holding.point.index (order_of s id)) taken r.holding.ups (sized_take p r.holding.point.index (order_of s id) sized) h.gone in
-    let many = length-take r.holding.point.index (order_of s id) in
-    let few = front.within in
-    let E : List Entry → Type 0 = λ entries. Exactly p (drop_of s id).index 0 entries taken in
-    record {
-      count = front.count;
-      within = omega arith;
-      exactly = subst E (take_of_take front.count r.holding.point.index (order_of s id) (omega arith)) front.exactly;
-    }
+-- what was taken went through the order
+taken_through : (p : Settings) (s : SenderState) (id : ℕ) (taken : List Up) (r : ReceiverState) → ReceiverHolds p (order_of s id) (drop_of s id) taken r
+    → Through p s id taken
+taken_through p s id taken r h =
+    front_through p (order_of s id) (drop_of s id) taken r.holding.ups
+    (handed_through p (order_of s id) (drop_of s id) r.holding.lost (taken ++ r.holding.ups) r.holding.point h.gone)
 
 -- the receiver behind its next hand-up
 abbrev pub behind_up : List Up → ReceiverState → ReceiverState
 behind_up ups r = record r { holding = record (r.holding) { ups = ups } }
 
 -- what a holding is with one hand-up more that was taken
-pub take_holding : (p : Settings) (order : List Entry) (d : ℕ) (taken : List Up) (up : Up) (ups : List Up) (r : ReceiverState) → r.holding.ups ≡ up ∷ ups
+pub take_holding : (p : Settings) (order : List Entry) (d : Point) (taken : List Up) (up : Up) (ups : List Up) (r : ReceiverState) → r.holding.ups ≡ up ∷ ups
     → ReceiverHolds p order d taken r → ReceiverHolds p order d (taken ++ up ∷ []) (behind_up ups r)
 take_holding p order d taken up ups r is h =
-    let E : List Up → Type 0 = λ us. Exactly p d 0 (take r.holding.point.index order) us in
+    let H : List Up → Type 0 = λ us. Handed p order d r.holding.lost us r.holding.point in
     let D : List Up → Type 0 = λ us. Due p order us r.knows.due in
     let same : taken ++ r.holding.ups ≡ (taken ++ up ∷ []) ++ ups = ap (λ (us : List Up). taken ++ us) is ∙ sym (append_assoc taken (up ∷ []) ups) in
     record {
@@ -74,11 +55,8 @@ take_holding p order d taken up ups r is h =
       symbols = h.symbols;
       rising = h.rising;
       infos = h.infos;
-      block = h.block;
-      symbol = h.symbol;
-      within = h.within;
-      gone = subst E same h.gone;
-      clean = λ none. sym same ∙ h.clean none;
+      planned = h.planned;
+      gone = subst H same h.gone;
       confirms = subst D same h.confirms;
     }
 
@@ -93,11 +71,11 @@ taken_where inside taken = elim inside [ true ↦ taken | false ↦ [] ]
 some_up : {up : Up} {ups : List Up} → (up ∷ ups) ≡ [] → ⊥
 some_up e = cc
 
-pub taken_world : (p : Settings) (past : List Happening) (accepted : List Origin) (w v : World) (node : ℕ) (r : ReceiverState) (up : Up) (ups : List Up)
+pub taken_world : (p : Settings) → InRange p → (past : List Happening) (accepted : List Origin) (w v : World) (node : ℕ) (r : ReceiverState) (up : Up) (ups : List Up)
     → receiver_at w node ≡ Some r → r.holding.ups ≡ up ∷ ups → v.sender ≡ w.sender → v.receivers ≡ (with_receiver (behind_up ups r) w).receivers
     → v.offered ≡ w.offered → v.given ≡ w.given → WorldHolds p past accepted w
     → WorldHolds p (past ++ record { before = w; event = UpTaken node; answer = Took (Some up); after = v } ∷ []) accepted v
-taken_world p past accepted w v node r up ups found is sender receivers offered given h = record {
+taken_world p range past accepted w v node r up ups found is sender receivers offered given h = record {
   sender = subst HoldsOf (sym sender) h.sender;
   once = subst OnceOf (sym sender) h.once;
   offered = subst SaidOf (sym sender) (subst Said (sym offered) h.offered);
@@ -163,7 +141,7 @@ taken_world p past accepted w v node r up ups found is sender receivers offered 
     at_v : (other : ℕ) → receiver_at v other ≡ at_node (map (put_in (behind_up ups r)) w.receivers) other
     at_v other = ap (λ (rs : List ReceiverState). at_node rs other) receivers
 
-    holds_in : (id : ℕ) → r.instance ≡ Some id → ReceiverHolds p (order_of w.sender id) (drop_of w.sender id).index (hands past node id) r
+    holds_in : (id : ℕ) → r.instance ≡ Some id → ReceiverHolds p (order_of w.sender id) (drop_of w.sender id) (hands past node id) r
     holds_in id e = let S : Option ℕ → Type 0 = λ instance. StandingIn p w.sender (hands past node) r instance in subst S e here.stands
 
     stands : (instance : Option ℕ) → r.instance ≡ instance → StandingIn p w.sender (hands (past ++ record { before = w; event = UpTaken node; answer = Took (Some up); after = v } ∷ []) node) (behind_up ups r) instance
@@ -173,8 +151,8 @@ taken_world p past accepted w v node r up ups found is sender receivers offered 
     stands (Some id) e =
         let inside_it : is_in r id ≡ true =
         ap (λ (instance : Option ℕ). elim instance [ Some current ↦ current == id | None ↦ false ]) e ∙ same_self id in
-        let H : List Up → Type 0 = λ us. ReceiverHolds p (order_of w.sender id) (drop_of w.sender id).index us (behind_up ups r) in
-        subst H (sym (within id inside_it)) (take_holding p (order_of w.sender id) (drop_of w.sender id).index (hands past node id) up ups r is (holds_in id e))
+        let H : List Up → Type 0 = λ us. ReceiverHolds p (order_of w.sender id) (drop_of w.sender id) us (behind_up ups r) in
+        subst H (sym (within id inside_it)) (take_holding p (order_of w.sender id) (drop_of w.sender id) (hands past node id) up ups r is (holds_in id e))
 
     own_there : at_node w.receivers r.node ≡ Some r
     own_there = ap (at_node w.receivers) here.here ∙ found
@@ -212,7 +190,7 @@ taken_world p past accepted w v node r up ups found is sender receivers offered 
         let not_own : r.node ≡ other → ⊥ = λ is. clash (sym e ∙ (Decides-eqb node other).1 (sym here.here ∙ is)) in
         let at : receiver_at v other ≡ receiver_at w other = at_v other ∙ found_other (behind_up ups r) w.receivers other not_own in
         let A : Option ReceiverState → Type 0 = λ o. AtNode p w.sender (past ++ record { before = w; event = UpTaken node; answer = Took (Some up); after = v } ∷ []) other o in
-        subst A (sym at) (node_later p w.sender w.sender past x other (receiver_at w other) (goes_on_itself (instances w.sender)) (nothing_at other e)
+        subst A (sym at) (node_later p range w.sender w.sender past x other (receiver_at w other) (goes_on_itself (instances w.sender)) (nothing_at other e)
         (h.latest other ∙ sym (ap instance_of at)) (h.nodes other))
 
     through : (other id : ℕ) (b c : Bool) → (node == other) ≡ b → is_in r id ≡ c
@@ -220,9 +198,9 @@ taken_world p past accepted w v node r up ups found is sender receivers offered 
     through other id true true e f =
         let N : ℕ → Type 0 = λ n. Through p w.sender id (hands (past ++ record { before = w; event = UpTaken node; answer = Took (Some up); after = v } ∷ []) n id) in
         let T : List Up → Type 0 = λ us. Through p w.sender id us in
-        let held = take_holding p (order_of w.sender id) (drop_of w.sender id).index (hands past node id) up ups r is (holds_in id (in_instance_is r id f)) in
+        let held = take_holding p (order_of w.sender id) (drop_of w.sender id) (hands past node id) up ups r is (holds_in id (in_instance_is r id f)) in
         subst N ((Decides-eqb node other).0 e) (subst T (sym (within id f))
-        (taken_through p w.sender id (hands past node id ++ up ∷ []) (behind_up ups r) ((orders_hold p w.sender h.sender).sized id) held))
+        (taken_through p w.sender id (hands past node id ++ up ∷ []) (behind_up ups r) held))
     through other id true false e f =
         let N : ℕ → Type 0 = λ n. Through p w.sender id (hands (past ++ record { before = w; event = UpTaken node; answer = Took (Some up); after = v } ∷ []) n id) in
         let T : List Up → Type 0 = λ us. Through p w.sender id us in

@@ -14,7 +14,7 @@ use Rattle.norm_safety.proofs.EntryLemmas.{clash, Stays}
 use Rattle.norm_safety.proofs.FrontLemmas.{both, of_both, same_list, list_itself}
 use Rattle.norm_safety.proofs.OnceLemmas.{same_self}
 
-written_append : (parts more : List Part) → written (parts ++ more) ≡ written parts ++ written more
+pub written_append : (parts more : List Part) → written (parts ++ more) ≡ written parts ++ written more
 unfolding written
 written_append [] more = refl
 written_append (Write by octets ∷ parts) more =

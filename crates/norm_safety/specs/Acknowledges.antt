@@ -1,15 +1,15 @@
 -- What was handed up is acknowledged (RFC 5740 section 5.5.3): a receiver that handed up all through a flush's position, lost nothing and
 -- heard the flush, which names it, says so at its next tick.
-use Rattle.std.specs.Prelude.{◌≡◌, ℕ, List, [], ◌∷◌, ◌++◌, slice_get, Bool, true, false, Option, None, Some, Ok, IsSomeAnd}
+use Rattle.std.specs.Prelude.{◌≡◌, ℕ, List, [], ◌∷◌, slice_get, Bool, true, false, None, Some, Ok, IsTrue, IsSomeAnd, nat_lt}
 use Rattle.norm_base.specs.Settings.{Settings}
 use Rattle.fec_plan.specs.Points.{position, reaches}
 use Rattle.fec_plan.specs.declared.position.Position.{Position}
 use Rattle.norm_ext.specs.Message.{Flush, FlushCommand}
 use Rattle.norm_ext.specs.ObjectIds.{index_named}
 use Rattle.norm_ext.specs.Reading.{decoded}
-use Rattle.norm_ext.specs.Written.{Written, writes}
-use Rattle.norm_order.specs.Entries.{Entry}
-use Rattle.norm_order.specs.Shapes.{shape_of, last_in}
+use Rattle.norm_ext.specs.Written.{writes}
+use Rattle.norm_order.specs.Entries.{Object, Whole, Stream, Entry}
+use Rattle.norm_order.specs.Shapes.{shape_of, closed_in, last_in}
 use Rattle.norm_order.specs.Upto.{upto}
 use Rattle.norm_receive_rules.specs.Acknowledging.{names_this}
 use Rattle.norm_receive_rules.specs.Nack.{ack_message}
@@ -27,15 +27,20 @@ use Rattle.norm_safety.specs.World.{receiver_at}
 abbrev pub owes : ReceiverState → Position → Bool
 owes r at = elim r.knows.due [ Some due ↦ reaches due at | None ↦ false ]
 
--- the position is the last source symbol of an object of the order, as that of each watermark is
-abbrev pub EndsObject : Settings → List Entry → Position → Type 0
-EndsObject p order at = IsSomeAnd (slice_get order at.index) (λ (entry : Entry). last_in at.index (shape_of p entry.object) ≡ Some at)
+-- with the position something of the object is handed up: data and files with their last source symbol, a stream with each segment
+abbrev pub EndsPart : Settings → Position → Object → Type 0
+EndsPart p at (Whole kind info octets) = last_in at.index (shape_of p (Whole kind info octets)) ≡ Some at
+EndsPart p at (Stream parts) = IsTrue (nat_lt at.symbol (closed_in (shape_of p (Stream parts)) at.block))
+
+-- the same of the order, as of each watermark
+abbrev pub EndsPartOf : Settings → List Entry → Position → Type 0
+EndsPartOf p order at = IsSomeAnd (slice_get order at.index) (λ (entry : Entry). EndsPart p at entry.object)
 
 -- A receiver handed up everything before a position in an instance that it is in, taken or not, and lost nothing there.
 pub record HandedAll (p : Settings) (h : History) (node id : ℕ) (r : ReceiverState) (at : Position) : Type 0 where
   pub there : receiver_at h.now node ≡ Some r
   pub inside : r.instance ≡ Some id
-  pub ends : EndsObject p (order_of h.now.sender id) at
+  pub ends : EndsPartOf p (order_of h.now.sender id) at
   pub lost : r.holding.lost ≡ []
   pub front : IsFront (upto p (order_of h.now.sender id) at) (handed_by h r id)
 

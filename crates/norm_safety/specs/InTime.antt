@@ -5,7 +5,7 @@ use Rattle.norm_base.specs.declared.node.Origin.{Origin}
 use Rattle.norm_ext.specs.Written.{Written}
 use Rattle.norm_send_rules.specs.SenderState.{SenderState}
 use Rattle.norm_safety.specs.Events.{Event, Delivered}
-use Rattle.norm_safety.specs.Jobs.{AreEvents, AreOfObjects}
+use Rattle.norm_safety.specs.Jobs.{AreEvents}
 use Rattle.norm_safety.specs.Lawful.{accepted_with, most_apart, MayCome, Lawful}
 use Rattle.norm_safety.specs.OnceEach.{order_of}
 use Rattle.norm_safety.specs.World.{World, world_opening}
@@ -48,10 +48,10 @@ accepted_in p events = accepted_from p (world_opening p) [] events
 abbrev pub FewObjects : SenderState → Type 0
 FewObjects s = (id : ℕ) → length (order_of s id) ≤ most_apart
 
--- Nothing comes too late in a run of few objects: an honest run of data and files, in which no instance has more than 32,767 objects, is
+-- Nothing comes too late in a run of few objects: an honest run in which no instance has more than 32,767 objects is
 -- lawful. And an instance has no more objects than commands were accepted.
 pub record TimeLaws : Type 0 where
-  pub lawful : (p : Settings) → InRange p → (events : List Event) → Honest p events → AreEvents events → AreOfObjects events
+  pub lawful : (p : Settings) → InRange p → (events : List Event) → Honest p events → AreEvents events
       → FewObjects (run p events).sender → Lawful p events
   pub few : (p : Settings) (events : List Event) → Honest p events → length (accepted_in p events) ≤ most_apart
       → FewObjects (run p events).sender

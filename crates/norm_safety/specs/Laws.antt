@@ -15,7 +15,7 @@ use Rattle.norm_safety.specs.ListedAfter.{ListedAfter, is_listed_after}
 use Rattle.norm_safety.specs.SatisfiedExactly.{SatisfiedExactly, is_satisfied_exactly}
 use Rattle.norm_safety.specs.InTime.{Honest}
 use Rattle.norm_safety.specs.Lawful.{Lawful, is_lawful}
-use Rattle.norm_safety.specs.Jobs.{AreEvents, AreOfObjects}
+use Rattle.norm_safety.specs.Jobs.{AreEvents}
 use Rattle.norm_safety.specs.Safe.{IsSafe, Safe, is_safe}
 use Rattle.norm_safety.specs.Said.{said_data, said_infos, said_flushes, said_squelches}
 use Rattle.norm_safety.specs.SaysPositions.{flushes_source, squelches_dropped}
@@ -47,11 +47,10 @@ pub record SaidOfOrders (p : Settings) (h : History) : Type 0 where
   pub flushes : AllByRecursion (λ m. IsTrue (flushes_source p h.now.sender m)) (said_flushes h.now)
   pub squelches : AllByRecursion (λ m. IsTrue (squelches_dropped h.now.sender m)) (said_squelches h.now)
 
--- a promise of each lawful run of data and files under a profile, whatever the network loses, repeats, reorders or delays,
--- and however often the sender restarts
-abbrev pub OfRunsOfObjects : (Settings → History → Type 0) → Type 0
-OfRunsOfObjects Promise = (p : Settings) → InRange p → (events : List Event) → Lawful p events → AreEvents events → AreOfObjects events
-    → Promise p (history p events)
+-- a promise of each lawful run under a profile, whatever the network loses, repeats, reorders or delays, and however often the
+-- sender restarts
+abbrev pub OfLawfulRuns : (Settings → History → Type 0) → Type 0
+OfLawfulRuns Promise = (p : Settings) → InRange p → (events : List Event) → Lawful p events → AreEvents events → Promise p (history p events)
 
 -- in each run what a member acknowledges is credited
 abbrev pub CreditRun : Type 0
@@ -62,19 +61,19 @@ CreditRun = (p : Settings) (events : List Event) → CreditsMembers p (history p
 abbrev pub SatisfiedRun : Type 0
 SatisfiedRun = (p : Settings) → InRange p → (events : List Event) → SatisfiedExactly (history p events)
 
--- Safety. Every lawful run of data and files is safe: accepted objects enter the transport order once each; each receiver hands up
--- that order, with a loss only below the drop point; a receiver is listed past a watermark only after it handed up everything
--- before; and a watermark is satisfied exactly where its quorum is listed. The first part holds of every honest run, streams included,
--- however late a datagram comes.
+-- Safety. Every lawful run is safe: accepted objects, and what is written to streams, enter the transport order once each; each receiver
+-- hands up that order, with a loss only where the sender dropped data; a receiver is listed past a watermark only after it handed up
+-- everything before; and a watermark is satisfied exactly where its quorum is listed. The first part holds of every honest run, however
+-- late a datagram comes.
 pub record SafeRun : Type 0 where
-  pub safe : OfRunsOfObjects IsSafe
+  pub safe : OfLawfulRuns IsSafe
   pub once : (p : Settings) (events : List Event) → Honest p events → OnceEach (history p events)
-  pub order : OfRunsOfObjects InOrder
-  pub listed : OfRunsOfObjects ListedAfter
+  pub order : OfLawfulRuns InOrder
+  pub listed : OfLawfulRuns ListedAfter
 
--- In lawful runs of data and files a receiver acknowledges only what it handed up, everything before included. A flush makes it owe what
+-- In lawful runs a receiver acknowledges only what it handed up, everything before included. A flush makes it owe what
 -- it handed up; that stays so in its instance until its next tick, which says it.
 pub record AcknowledgeRun : Type 0 where
-  pub handed : OfRunsOfObjects AcknowledgesHanded
-  pub owed : OfRunsOfObjects OwesWhatItHanded
+  pub handed : OfLawfulRuns AcknowledgesHanded
+  pub owed : OfLawfulRuns OwesWhatItHanded
   pub stays : OwingLaws

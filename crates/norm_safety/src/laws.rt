@@ -1,29 +1,29 @@
 //! What is promised of runs of a sender and its receivers, and of the tests of safety. Each law is the contract of a
 //! function that does nothing.
 
-ghost use Rattle.norm_safety.specs.Laws.{TestLaws, WantsHoldInRuns, SafeRun, OfRunsOfObjects, SaidOfOrders, CreditRun, SatisfiedRun, AcknowledgeRun};
+ghost use Rattle.norm_safety.specs.Laws.{TestLaws, WantsHoldInRuns, SafeRun, OfLawfulRuns, SaidOfOrders, CreditRun, SatisfiedRun, AcknowledgeRun};
 ghost use Rattle.norm_safety.specs.ClosingCompletes.{ClosingCompletes};
 ghost use Rattle.norm_safety.specs.FreshWants.{FreshWants};
 ghost use Rattle.norm_safety.specs.InTime.{TimeLaws};
 ghost use Rattle.norm_safety.specs.LosesNothing.{LosesNothing};
 ghost use Rattle.norm_safety.specs.WorldLaws.{WorldLaws};
 
-/// Every lawful run of data and files is safe, whatever the network loses, repeats, reorders or delays and however often the
-/// sender restarts. Accepted objects enter the transport order once each, which holds of every honest run, streams included. Each receiver
-/// hands up an instance's order from its beginning, without a gap and octet for octet, with a loss only below the drop point,
-/// and is in each instance once. A receiver is listed past a watermark only after it handed up everything before. And a
+/// Every lawful run is safe, whatever the network loses, repeats, reorders or delays and however often the sender restarts. Accepted
+/// objects, and what is written to streams, enter the transport order once each, which holds of every honest run. Each receiver hands up
+/// an instance's order from its beginning, without a gap and octet for octet, a stream segment by segment, with a loss only where the
+/// sender dropped data, and is in each instance once. A receiver is listed past a watermark only after it handed up everything before. And a
 /// watermark is satisfied exactly where its quorum is listed past it.
 #[tactic(auto, using(crate::proofs::SafeRun::safe_run))]
 pub fn safe_run()
     ensures { SafeRun }
 {}
 
-/// In lawful runs of data and files each DATA and INFO that was said carries the encoded symbol or the info of its entry, with
+/// In lawful runs each DATA and INFO that was said carries the encoded symbol or the info of its entry, with
 /// the entry's transmission information and flags; each flush names a closed source symbol of its instance's order; and each
 /// squelch a point that its instance's drop point is not before.
 #[tactic(auto, using(crate::proofs::SaidRun::said_run))]
 pub fn said_run()
-    ensures { OfRunsOfObjects SaidOfOrders }
+    ensures { OfLawfulRuns SaidOfOrders }
 {}
 
 /// The test of each part of safety gives true exactly where that part holds, and so the test of all four; and that of
@@ -52,31 +52,31 @@ pub fn satisfied_run()
     ensures { SatisfiedRun }
 {}
 
-/// In `hold` mode no member reports a loss. In each lawful run of data and files a hand-up says that an object is lost only where
+/// In `hold` mode no member reports a loss. In each lawful run a hand-up says that an object, or the rest of a stream, is lost only where
 /// its node was struck.
 #[tactic(auto, using(crate::proofs::HoldRun::hold_run))]
 pub fn hold_run()
-    ensures { OfRunsOfObjects LosesNothing }
+    ensures { OfLawfulRuns LosesNothing }
 {}
 
-/// What is wanted as a round closes and was never sent is held by nobody, in each lawful run of data and files: so a fresh symbol is of
+/// What is wanted as a round closes and was never sent is held by nobody, in each lawful run: so a fresh symbol is of
 /// use to each receiver that lacks one.
 #[tactic(auto, using(crate::proofs::FreshRun::fresh_run))]
 pub fn fresh_run()
-    ensures { OfRunsOfObjects FreshWants }
+    ensures { OfLawfulRuns FreshWants }
 {}
 
 /// What is wanted after a round closed completes a block for each receiver of the instance that lacks no more of it than one of the
 /// round's requests counts, whatever others asked: with what it holds it has as many different symbols as the block has source
-/// symbols. So it is at each closing of a lawful run of data and files.
+/// symbols. So it is at each closing of a lawful run.
 #[tactic(auto, using(crate::proofs::FreshRun::closing_run))]
 pub fn closing_run()
-    ensures { OfRunsOfObjects ClosingCompletes }
+    ensures { OfLawfulRuns ClosingCompletes }
 {}
 
-/// In lawful runs of data and files a receiver acknowledges only what it handed up, everything before included. And what was
-/// handed up is acknowledged: a receiver that handed up everything before the end of an object, lost nothing in that instance
-/// and hears a flush of that position which names it, owes an acknowledgement of it or of a further position. It owes that
+/// In lawful runs a receiver acknowledges only what it handed up, everything before included. And what was handed up is
+/// acknowledged: a receiver that handed up everything before the end of an object or of a stream's segment, lost nothing in that
+/// instance and hears a flush of that position which names it, owes an acknowledgement of it or of a further position. It owes that
 /// whatever it hears in its instance, and its next tick sends it.
 #[tactic(auto, using(crate::proofs::Owing::acknowledge_run))]
 pub fn acknowledge_run()
@@ -84,7 +84,7 @@ pub fn acknowledge_run()
 {}
 
 /// Nothing comes too late in a run of few objects: where the network gives only what was offered, however late, and no instance has more than
-/// 32,767 objects, a run of data and files is lawful. And an instance has no more objects than commands were accepted.
+/// 32,767 objects, a run is lawful. And an instance has no more objects than commands were accepted.
 #[tactic(auto, using(crate::proofs::InTime::time_laws))]
 pub fn in_time()
     ensures { TimeLaws }

@@ -19,15 +19,6 @@ closed_by p now s round = elim round [
   | None ↦ s
 ]
 
-unchanged : (p : Settings) (now : ℕ) (s : SenderState) (round : Option Round)
-    → is_over (option_map (λ (r : Round). r.closes) round) now ≡ false → closed_by p now s round ≡ s
-unchanged p now s None e = refl
-unchanged p now s (Some r) e = ap (λ (b : Bool). elim b as (λ _. SenderState) [ true ↦ round_closed p r s | false ↦ s ]) e
-
-pub not_closed : (k : SenderKept) (now : ℕ) (s : SenderState) → Agrees k s → is_over k.pace.closes now ≡ false → Agrees k (closed_where_due k.p now s)
-not_closed k now s h e =
-    subst (λ (t : SenderState). Agrees k t) (sym (unchanged k.p now s s.round (ap (λ pace. is_over pace.closes now) (sym h.pace) ∙ e))) h
-
 -- the round that closes
 record Over (p : Settings) (now : ℕ) (s : SenderState) (round : Option Round) : Type 0 where
   round_of : Round

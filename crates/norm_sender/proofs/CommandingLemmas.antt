@@ -1,5 +1,5 @@
 -- Commands, over what a sender keeps.
-use Rattle.std.proofs.Common.{◌≡◌, ◌≢◌, ◌∙◌, ◌⊎◌, inl, inr, ℕ, List, [], Option, Some, None, Result, Ok, Err, refl, sym, ap, subst}
+use Rattle.std.proofs.Common.{◌≡◌, ◌≢◌, ◌∙◌, ◌⊎◌, inl, inr, [], Option, Some, None, Result, Ok, Err, refl, sym, ap, subst}
 use Rattle.norm_base.specs.Settings.{Settings}
 use Rattle.norm_base.specs.declared.node.Origin.{Origin}
 use Rattle.norm_order.specs.Entries as stream
@@ -15,7 +15,7 @@ use Rattle.norm_send_rules.specs.declared.job.Receipt.TheVariants.{Opened}
 use Rattle.norm_send_rules.specs.declared.fault.SendFault.{SendFault}
 use Rattle.norm_send_rules.specs.declared.fault.SendFault.TheVariants.{Enqueue, Mark, Strike, IdUsed, Memory}
 use Rattle.norm_send_rules.specs.declared.fault.EnqueueFault.{EnqueueFault}
-use Rattle.norm_send_rules.specs.declared.fault.EnqueueFault.TheVariants.{Empty, TooBig, InfoTooBig, StreamOpen, NoStream, IdsSpent, Stream as OfStream, WindowFull, Memory as NoRoom}
+use Rattle.norm_send_rules.specs.declared.fault.EnqueueFault.TheVariants.{Memory as NoRoom}
 use Rattle.tx_window.specs.Taking.{IsUnopened}
 use Rattle.norm_sender.specs.Commands.{Obeys, open_refusal}
 use Rattle.norm_sender.specs.SenderKept.{SenderKept, Agrees}
@@ -108,11 +108,4 @@ open_refuses old new fault same why = go fault refl
 
     go : (f : EnqueueFault) → fault ≡ f → Obeys old new Open (Err (open_refusal f))
     go NoRoom is = record { stands = λ s by a some. absurd (some refl); back = inl (refl, refl); memory = λ e. same }
-    go Empty is = known Empty is (λ e. cc)
-    go (TooBig len) is = known (TooBig len) is (λ e. cc)
-    go (InfoTooBig len) is = known (InfoTooBig len) is (λ e. cc)
-    go (StreamOpen index) is = known (StreamOpen index) is (λ e. cc)
-    go NoStream is = known NoStream is (λ e. cc)
-    go IdsSpent is = known IdsSpent is (λ e. cc)
-    go (OfStream f) is = known (OfStream f) is (λ e. cc)
-    go (WindowFull first) is = known (WindowFull first) is (λ e. cc)
+    go f is = known f is (λ e. cc)

@@ -1,20 +1,20 @@
 -- Enqueuing, over what a sender keeps.
-use Rattle.std.proofs.Common.{◌≡◌, ◌∙◌, ℕ, zero, suc, ◌+◌, ◌-◌, ◌≤◌, List, [], ◌∷◌, ◌++◌, length, Option, Some, None, Result, Ok, Err, Bool, true, false, refl, sym, ap, subst, arith}
+use Rattle.std.proofs.Common.{◌≡◌, ◌∙◌, ℕ, zero, suc, ◌-◌, ◌≤◌, List, [], ◌∷◌, length, Option, Some, None, Result, Ok, Err, Bool, true, false, refl, sym, ap, subst, arith}
 use Rattle.std.specs.Prelude.{replicate, not, ◌||◌, is_some}
 use Rattle.std.specs.List.{list_any}
-use Rattle.std.proofs.lemmas.List.{length-drop, length-replicate, reverse-append}
+use Rattle.std.proofs.lemmas.List.{length-drop, length-replicate}
 use Rattle.norm_base.specs.Settings.{Settings}
 use Rattle.norm_base.specs.declared.kinds.Kind.{Kind}
 use Rattle.norm_base.specs.declared.node.Origin.{Origin}
 use Rattle.fec_plan.specs.Partition.{cut_of}
-use Rattle.fec_plan.specs.Points.{Point, point}
-use Rattle.norm_order.specs.Entries.{Entry, Part, Whole}
+use Rattle.fec_plan.specs.Points.{Point}
+use Rattle.norm_order.specs.Entries.{Entry, Whole}
 use Rattle.norm_order.specs.Shapes.{shape_of}
 use Rattle.norm_send_rules.specs.SenderState.{SenderState}
 use Rattle.norm_send_rules.specs.InWindow.{stands_behind, next_index}
 use Rattle.norm_send_rules.specs.Dropping.{dropped_to}
 use Rattle.norm_send_rules.specs.Room.{window, has_room, has_to_go, drop_after}
-use Rattle.norm_send_rules.specs.Enqueuing.{object_fault, open_parts, with_entry, joined, enqueued}
+use Rattle.norm_send_rules.specs.Enqueuing.{object_fault, with_entry, joined, enqueued}
 use Rattle.norm_send_rules.specs.declared.job.Receipt.{Receipt}
 use Rattle.norm_send_rules.specs.declared.job.Receipt.TheVariants.{Object}
 use Rattle.norm_send_rules.specs.declared.fault.EnqueueFault.{EnqueueFault}

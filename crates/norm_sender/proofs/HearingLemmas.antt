@@ -1,34 +1,20 @@
 -- What a sender hears, over what it keeps.
-use Rattle.std.proofs.Common.{eq-eqb, ◌≡◌, ◌∙◌, ℕ, List, [], ◌∷◌, length, Bool, true, false, Option, Some, None, refl, sym, subst, ap, arith}
+use Rattle.std.proofs.Common.{eq-eqb, ◌≡◌, ◌∙◌, ℕ, List, [], ◌∷◌, length, Bool, true, false, Option, Some, None, refl, sym, subst, ap}
 use Rattle.std.specs.Prelude.{◌==◌, ◌&&◌}
 use Rattle.std.specs.Option.{option_map}
 use Rattle.norm_base.specs.Settings.{Settings}
 use Rattle.fec_plan.specs.declared.position.Position.{Position}
-use Rattle.norm_order.specs.Shapes.{is_source}
 use Rattle.norm_ext.specs.Requests.{Request, requests_of}
 use Rattle.norm_send_rules.specs.SenderState.{SenderState, Watermark}
-use Rattle.norm_send_rules.specs.InWindow.{current_shapes}
 use Rattle.norm_send_rules.specs.Watermarks.{counted_anew, oldest, keeps_oldest, settled}
 use Rattle.norm_order.specs.Sets.{with_member}
 use Rattle.std.specs.Prelude.{nat_lt, map}
-use Rattle.std.specs.Prelude.{Ok, length}
-use Rattle.norm_base.specs.Members.{is_receiver}
-use Rattle.fec_plan.specs.Points.{position}
-use Rattle.norm_ext.specs.ObjectIds.{index_named}
-use Rattle.norm_ext.specs.Laws.{IsNear}
-use Rattle.norm_ext.proofs.IdLemmas.{names_nearest_law}
-use Rattle.std.proofs.Common.{◌<◌}
-use Rattle.norm_ext.specs.Asking.{item_named}
-use Rattle.norm_ext.specs.declared.head.Item.{Item}
-use Rattle.norm_ext.specs.declared.refusal.Refusal.{Refusal}
-use Rattle.norm_ext.specs.Message.{NackMessage, AckMessage}
-use Rattle.norm_cmdmsg.specs.declared.command.CommandMsg.{CommandMsg}
+use Rattle.std.specs.Prelude.{length}
+use Rattle.norm_ext.specs.Message.{AckMessage}
 use Rattle.norm_cmdmsg.specs.declared.command.CommandMsg.TheVariants as lent
-use Rattle.norm_cmdmsg.specs.View.{command_of}
 use Rattle.norm_send_rules.specs.SenderState.{Round}
-use Rattle.norm_send_rules.specs.InWindow.{last_index}
 use Rattle.norm_send_rules.specs.Watermarks.{has_member}
-use Rattle.norm_send_rules.specs.Hearing.{credited_by, nack_heard, ack_heard, message_heard, credited, rises, listed_past, joined_round, round_at}
+use Rattle.norm_send_rules.specs.Hearing.{ack_heard, credited, rises, listed_past, joined_round, round_at}
 use Rattle.tx_window.specs.WindowState.{WindowState, Stands as WindowStands}
 use Rattle.nack_union.specs.UnionState.{UnionState, Stands as UnionStands}
 use Rattle.mark_book.specs.BookState.{BookState, Stands as BookStands}
@@ -87,56 +73,7 @@ credited_behind k book node at s h listed = record {
 
 -- An acknowledgement's item.
 
--- what is credited, by the index that is named
-abbrev credited_named : Settings → ℕ → Item → SenderState → Option ℕ → SenderState
-credited_named p node item s found = credited_by p node (elim found [ Some index ↦ Some (position index item.id.block item.id.symbol) | None ↦ None ]) s
-
-pub not_named : (k : SenderKept) (node known : ℕ) (item : Item) (s : SenderState) → Agrees k s → known ≡ last_index s
-    → index_named k.p known item.object ≡ None → Agrees k (credited_by k.p node (item_named k.p (last_index s) item) s)
-not_named k node known item s h is found =
-    let e : index_named k.p (last_index s) item.object ≡ None = subst (λ (n : ℕ). index_named k.p n item.object ≡ None) is found in
-    subst (λ (t : SenderState). Agrees k t) (sym (ap (credited_named k.p node item s) e)) h
-
-pub named_as : (k new : SenderKept) (node known index : ℕ) (item : Item) (s : SenderState) → known ≡ last_index s
-    → index_named k.p known item.object ≡ Some index
-    → Agrees new (credited_by k.p node (Some (position index item.id.block item.id.symbol)) s)
-    → Agrees new (credited_by k.p node (item_named k.p (last_index s) item) s)
-named_as k new node known index item s is found h =
-    let e : index_named k.p (last_index s) item.object ≡ Some index = subst (λ (n : ℕ). index_named k.p n item.object ≡ Some index) is found in
-    subst (λ (t : SenderState). Agrees new t) (sym (ap (credited_named k.p node item s) e)) h
-
--- an index that an id names is near what is known
-pub named_near : (p : Settings) (known : ℕ) (item : Item) (index : ℕ) (s : SenderState) → known ≡ last_index s → item.object < 65536
-    → index_named p known item.object ≡ Some index → IsNear (last_index s) index
-named_near p known item index s is small found =
-    subst (λ (n : ℕ). IsNear n index) is ((names_nearest_law p known item.object index small).0 found).0
-
--- what is credited of a position, by whether it is a source symbol
-abbrev credited_where : ℕ → Position → SenderState → Bool → SenderState
-credited_where node at s source = elim source [ true ↦ credited node at s | false ↦ s ]
-
-pub no_source : (k : SenderKept) (node : ℕ) (at : Position) (s : SenderState) (source : Bool) → Agrees k s
-    → IsNear (last_index s) at.index
-    → (IsNear (last_index s) at.index → source ≡ is_source (current_shapes k.window.p s) at) → source ≡ false → Agrees k (credited_by k.p node (Some at) s)
-no_source k node at s source h near is e =
-    let e' : is_source (current_shapes k.p s) at ≡ false =
-    subst (λ (q : Settings). is_source (current_shapes q s) at ≡ false) h.window_profile (sym (is near) ∙ e) in
-    subst (λ (t : SenderState). Agrees k t) (sym (ap (credited_where node at s) e')) h
-
-pub a_source : (k new : SenderKept) (node : ℕ) (at : Position) (s : SenderState) (source : Bool) → Agrees k s
-    → IsNear (last_index s) at.index
-    → (IsNear (last_index s) at.index → source ≡ is_source (current_shapes k.window.p s) at) → source ≡ true → Agrees new (credited node at s)
-    → Agrees new (credited_by k.p node (Some at) s)
-a_source k new node at s source h near is e after =
-    let e' : is_source (current_shapes k.p s) at ≡ true =
-    subst (λ (q : Settings). is_source (current_shapes q s) at ≡ true) h.window_profile (sym (is near) ∙ e) in
-    subst (λ (t : SenderState). Agrees new t) (sym (ap (credited_where node at s) e')) after
-
 -- Requests that join the round.
-
-pub joined_none : (k : SenderKept) (octets : List ℕ) (now : ℕ) (s : SenderState) → Agrees k s → length octets ≡ 0 → Agrees k (joined_round k.p s now (requests_of octets))
-joined_none k [] now s h e = h
-joined_none k (x ∷ octets) now s h e = absurd (omega arith)
 
 opened_as : (p : Settings) (now : ℕ) (s : SenderState) (round : Option Round)
     → opened_at p now (record (pace_of s) { closes = option_map (λ (r : Round). r.closes) round })
@@ -179,28 +116,6 @@ to_me k sender instance = sender == k.p.sender && instance == k.pace.instance
 instance_is : (k : SenderKept) (s : SenderState) → Agrees k s → (sender instance : ℕ) → to_me k sender instance ≡ (sender == k.p.sender && instance == s.current.id)
 instance_is k s h sender instance = ap (λ (q : Pace). sender == k.p.sender && instance == q.instance) h.pace
 
-abbrev nack_where : Settings → SenderState → ℕ → NackMessage → Bool → SenderState
-nack_where p s now m counts = elim counts [ true ↦ joined_round p s now m.requests | false ↦ s ]
-
-pub nack_of_other : (k : SenderKept) (now : ℕ) (m : NackMessage) (s : SenderState) → Agrees k s → is_receiver k.p m.source ≡ false → Agrees k (nack_heard k.p s now m)
-nack_of_other k now m s h e =
-    subst (λ (t : SenderState). Agrees k t)
-    (sym (ap (λ (b : Bool). nack_where k.p s now m (b && (m.sender == k.p.sender && m.instance == s.current.id))) e)) h
-
-pub nack_to_other : (k : SenderKept) (now : ℕ) (m : NackMessage) (s : SenderState) → Agrees k s → is_receiver k.p m.source ≡ true
-    → to_me k m.sender m.instance ≡ false → Agrees k (nack_heard k.p s now m)
-nack_to_other k now m s h of e =
-    subst (λ (t : SenderState). Agrees k t)
-    (sym (ap (λ (b : Bool). nack_where k.p s now m (b && (m.sender == k.p.sender && m.instance == s.current.id))) of
-    ∙ ap (λ (b : Bool). nack_where k.p s now m (true && b)) (sym (instance_is k s h m.sender m.instance) ∙ e))) h
-
-pub nack_to_me : (k new : SenderKept) (now : ℕ) (m : NackMessage) (s : SenderState) → Agrees k s → is_receiver k.p m.source ≡ true
-    → to_me k m.sender m.instance ≡ true → Agrees new (joined_round k.p s now m.requests) → Agrees new (nack_heard k.p s now m)
-nack_to_me k new now m s h of e after =
-    subst (λ (t : SenderState). Agrees new t)
-    (sym (ap (λ (b : Bool). nack_where k.p s now m (b && (m.sender == k.p.sender && m.instance == s.current.id))) of
-    ∙ ap (λ (b : Bool). nack_where k.p s now m (true && b)) (sym (instance_is k s h m.sender m.instance) ∙ e))) after
-
 abbrev ack_where : Settings → SenderState → AckMessage → Bool → SenderState
 ack_where p s m counts = elim counts [ true ↦ content_heard p m.source s m.content | false ↦ s ]
 
@@ -222,11 +137,3 @@ ack_to_me k new m s member h is of e after =
     subst (λ (t : SenderState). Agrees new t)
     (sym (ap (λ (b : Bool). ack_where k.p s m (b && (m.sender == k.p.sender && m.instance == s.current.id))) (sym is ∙ of)
     ∙ ap (λ (b : Bool). ack_where k.p s m (true && b)) (sym (instance_is k s h m.sender m.instance) ∙ e))) after
-
-pub command_unheard : (p : Settings) (s : SenderState) (now : ℕ) (m : CommandMsg) → message_heard {E = Refusal} p s now (Ok (command_of m)) ≡ s
-command_unheard p s now (lent.Flush head object id exts nodes) = refl
-command_unheard p s now (lent.Eot head exts) = refl
-command_unheard p s now (lent.Squelch head object id exts invalid) = refl
-command_unheard p s now (lent.RepairAdv head flags exts requests) = refl
-command_unheard p s now (lent.AckReq head ack_type ack_id exts nodes) = refl
-command_unheard p s now (lent.Opaque head sub_type words rest) = refl

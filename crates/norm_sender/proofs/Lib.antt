@@ -15,4 +15,3 @@ pub mod StreamingLemmas
 pub mod StrikingLemmas
 pub mod TellingLemmas
 pub mod TickingLemmas
-pub mod WritingLemmas

@@ -1,19 +1,15 @@
 -- Marks, over what a sender keeps.
-use Rattle.std.proofs.Common.{◌≡◌, ◌≢◌, ◌∙◌, ℕ, zero, suc, ◌+◌, List, [], ◌∷◌, ◌++◌, length, ◌⊎◌, inl, inr, Option, Some, None, Result, Ok, Err, Bool, true, false, refl, sym, ap, subst}
-use Rattle.std.specs.Prelude.{unwrap_or, nat_le}
-use Rattle.std.proofs.Math.Nat.{zero-mod}
+use Rattle.std.proofs.Common.{◌≡◌, ◌≢◌, ◌∙◌, ℕ, ◌+◌, [], ◌∷◌, ◌++◌, length, ◌⊎◌, inl, inr, Option, Some, None, Result, Ok, Err, Bool, true, false, refl, sym, ap, subst}
+use Rattle.std.specs.Prelude.{nat_le}
 use Rattle.norm_base.specs.Settings.{Settings}
 use Rattle.norm_base.specs.declared.node.Origin.{Origin}
 use Rattle.fec_plan.specs.declared.position.Position.{Position}
-use Rattle.norm_order.specs.Entries.{Part, Cut}
 use Rattle.norm_order.specs.Segments as segments
-use Rattle.norm_order.specs.Segments.{unclosed}
 use Rattle.norm_order.specs.Shapes.{last_source}
 use Rattle.norm_send_rules.specs.SenderState.{SenderState, Watermark}
 use Rattle.norm_send_rules.specs.InWindow.{current_shapes}
 use Rattle.norm_send_rules.specs.Watermarks.{settled, open_watermarks}
-use Rattle.norm_send_rules.specs.Enqueuing.{open_stream}
-use Rattle.norm_send_rules.specs.Streaming.{cut, with_parts}
+use Rattle.norm_send_rules.specs.Streaming.{cut}
 use Rattle.norm_send_rules.specs.Marking.{marked, with_watermark, watermark_at, is_no_quorum, most_open}
 use Rattle.norm_send_rules.specs.declared.fault.MarkFault.{MarkFault}
 use Rattle.norm_send_rules.specs.declared.fault.MarkFault.TheVariants.{Quorum, NothingEnqueued, TooMany, Memory}

@@ -1,14 +1,14 @@
 -- Where a union may follow its window.
-use Rattle.std.proofs.Common.{◌≡◌, ◌∙◌, ℕ, zero, suc, ◌+◌, ◌-◌, ◌<◌, ◌≤◌, List, [], ◌∷◌, ◌++◌, length, drop, Option, Some, None, Bool, true, false, inl, inr, ◌⊎◌, refl, sym, ap, subst, arith}
-use Rattle.std.specs.Prelude.{slice_get, option_map, nat_lt, ◌==◌}
+use Rattle.std.proofs.Common.{◌≡◌, ◌∙◌, ℕ, zero, suc, ◌+◌, ◌-◌, ◌<◌, ◌≤◌, List, [], ◌∷◌, ◌++◌, length, drop, Some, Bool, true, false, inl, inr, ◌⊎◌, refl, sym, ap, arith}
+use Rattle.std.specs.Prelude.{slice_get, option_map, ◌==◌}
 use Rattle.std.proofs.lemmas.Bool.{cases_lt, lt-ltb, le-ltb}
 use Rattle.std.proofs.lemmas.Bool.Decides.{nat_tests}
 use Rattle.std.proofs.lemmas.List.{length-append, length-drop, length-map, map-append, drop-append-le}
 use Rattle.std.proofs.lemmas.Option.{slice_get-map}
 use Rattle.norm_base.specs.Settings.{Settings}
-use Rattle.fec_plan.specs.Points.{Point, point}
+use Rattle.fec_plan.specs.Points.{Point}
 use Rattle.norm_order.specs.Entries.{Part, Object, Stream, Entry}
-use Rattle.norm_order.specs.Shapes.{Shape, shape_of, shapes_of}
+use Rattle.norm_order.specs.Shapes.{Shape, shape_of}
 use Rattle.norm_send_rules.specs.SenderState.{SenderState}
 use Rattle.norm_send_rules.specs.InWindow.{current_shapes, next_index, last_index}
 use Rattle.norm_send_rules.specs.Enqueuing.{open_stream, with_entry}
@@ -18,7 +18,7 @@ use Rattle.held_entry.specs.EntryState.{EntryReads, StandsFor as StandsForEntry,
 use Rattle.held_entry.specs.declared.entry.HeldEntry.{HeldEntry}
 use Rattle.held_entry.specs.declared.entry.HeldEntry.TheVariants as held
 use Rattle.tx_window.specs.WindowState.{WindowState, Stands as WindowStands, first_block}
-use Rattle.tx_window.proofs.KeptLemmas.{Found, entry_at_place}
+use Rattle.tx_window.proofs.KeptLemmas.{entry_at_place}
 use Rattle.nack_union.specs.Kept.{Kept, Marked, MayRetire, moved_front, retired, with_object}
 use Rattle.nack_union.specs.Laws.{IsStreamAt, front_of}
 use Rattle.nack_union.specs.UnionState.{UnionState, Stands as UnionStands}

@@ -1,6 +1,6 @@
 -- What is sent of an object of the window, over what a sender keeps.
-use Rattle.std.proofs.Common.{◌≡◌, ◌∙◌, ◌⊎◌, inl, inr, ℕ, ◌+◌, ◌<◌, ◌≤◌, List, [], Bool, true, false, Option, Some, None, refl, sym, ap, arith}
-use Rattle.std.specs.Prelude.{nat_le, nat_lt, not, min, slice_get}
+use Rattle.std.proofs.Common.{◌≡◌, ◌∙◌, ◌⊎◌, inl, inr, ℕ, ◌<◌, ◌≤◌, List, [], Bool, true, false, Option, Some, None, refl, sym, ap, arith}
+use Rattle.std.specs.Prelude.{nat_le, nat_lt, not, slice_get}
 use Rattle.std.specs.Option.{option_map}
 use Rattle.std.proofs.lemmas.Option.{slice_get-map}
 use Rattle.std.proofs.lemmas.Bool.Decides.{nat_tests}
@@ -16,7 +16,6 @@ use Rattle.norm_order.specs.Entries.{Object, Whole, Stream, Entry}
 use Rattle.norm_order.specs.Shapes.{Shape, shape_of, encoded_in}
 use Rattle.norm_send_rules.specs.SenderState.{SenderState}
 use Rattle.norm_send_rules.specs.InWindow.{stands_behind}
-use Rattle.norm_send_rules.specs.Messages.{object_flags}
 use Rattle.norm_send_rules.specs.Room.{first_kept}
 use Rattle.norm_send_rules.specs.Sending.{object_of, message_of, noted, sends_want}
 use Rattle.norm_send_rules.specs.declared.want.Want.{Want}
@@ -127,18 +126,6 @@ info_there p s index v =
     info_of_whole s index p f.entry f.entry.object refl f.passes
     (ap (λ (b : Bool). kept_if b (slice_get s.current.order index)) v.behind ∙ ap (kept_if true) f.is)
     (ap object_if f.is)
-
--- Flags of an object with those of a repair fit eight bits.
-flags_few : (object : Object) → object_flags object ≤ 32
-flags_few (Whole kind.Data (Some info) octets) = omega arith
-flags_few (Whole kind.Data None octets) = omega arith
-flags_few (Whole kind.File (Some info) octets) = omega arith
-flags_few (Whole kind.File None octets) = omega arith
-flags_few (Stream parts) = omega arith
-
-pub flags_fit : (object : Object) (flags repair total : ℕ) → flags ≡ object_flags object → repair ≤ 3 → total ≡ min (flags + repair) 255
-    → total ≡ object_flags object + repair
-flags_fit object flags repair total is few sum = let most = flags_few object in omega arith
 
 -- What was written, noted and spent is the rule's step.
 

@@ -6,7 +6,7 @@ use Rattle.std.proofs.lemmas.Bool.{le-ltb}
 use Rattle.std.proofs.lemmas.Bool.Decides.{nat_tests}
 use Rattle.norm_base.specs.Settings.{Settings}
 use Rattle.norm_base.specs.declared.node.Origin.{Origin}
-use Rattle.fec_plan.specs.Partition.{Cut, stream_cut}
+use Rattle.fec_plan.specs.Partition.{stream_cut}
 use Rattle.fec_plan.specs.Points.{Point, point}
 use Rattle.norm_order.specs.Entries.{Part, Write, Cut as CutHere, End, Object, Stream, Entry}
 use Rattle.norm_order.specs.First.{first_where}
@@ -30,7 +30,7 @@ use Rattle.tx_window.specs.Streams.{EndsIn, IsWritten, IsClosed}
 use Rattle.tx_window.specs.WindowState.{WindowState, Stands as WindowStands, drop_of}
 use Rattle.tx_window.proofs.GrownLemmas.{length-with_last, last_there}
 use Rattle.tx_window.proofs.StreamLemmas.{none_closed}
-use Rattle.nack_union.specs.Kept.{Marked, Kept, OfLast, MayGrow, admitted_stream, retired, with_object, shape_of_marked}
+use Rattle.nack_union.specs.Kept.{Marked, OfLast, MayGrow, admitted_stream, retired, with_object, shape_of_marked}
 use Rattle.nack_union.specs.UnionState.{UnionState, Stands as UnionStands}
 use Rattle.nack_union.specs.UnionMoves.{UnionMoves}
 use Rattle.nack_union.proofs.Open.{open_streams_may_grow}
@@ -579,3 +579,16 @@ followed_agrees k w one two s more h on f rest profile stands =
     subst (λ (q : SenderKept). Agrees q (grown k.p s (parts_now s ++ more)))
     (sym (ap (λ (x : Parts). kept_of x) rest ∙ ap (λ (q : SenderKept). record q { union = two.union }) (kept_is one k w f.profile f.window f.book)))
     (grown_agrees k w two.union one.pace s more h on (profile ∙ ap (λ (u : UnionState). u.p) f.retires) stands (f.due s h.union))
+
+-- once the union grew as well, the sender stands for the state in which the stream went on, and answers what that step answers
+pub went_on : (k : SenderKept) (w : WindowState) (one two : Parts) (s : SenderState) (more : List Part) (step : SenderState × Result Receipt EnqueueFault)
+    (answer : Result Receipt EnqueueFault) → Agrees k s → WentOn k w s more → 1 ≤ k.p.e → Followed k w one
+    → two ≡ record one { union = two.union } → two.union.p ≡ one.union.p
+    → ((t : SenderState) (parts : List Part) → GoesOn (kept_of one) t parts → UnionStands two.union (with_parts parts t))
+    → step ≡ (grown k.p s (parts_now s ++ more), answer) → Agrees (kept_of two) step.0 × (answer ≡ step.1)
+went_on k w one two s more step answer h on least f rest profile stands is =
+    let goes = followed_goes k w one s more h on least f in
+    let agrees = followed_agrees k w one two s more h on f rest profile (stands (gone_for k.p s (parts_now s ++ more)) (parts_now s ++ more) goes) in (
+      subst (λ (y : SenderState × Result Receipt EnqueueFault). Agrees (kept_of two) y.0) (sym is) agrees,
+      sym (ap (λ (y : SenderState × Result Receipt EnqueueFault). y.1) is),
+    )

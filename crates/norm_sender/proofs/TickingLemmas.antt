@@ -1,9 +1,6 @@
 -- A tick, over what a sender keeps.
-use Rattle.std.proofs.Common.{◌≡◌, ◌∙◌, ℕ, List, [], ◌∷◌, Bool, true, false, Option, Some, None, refl, sym, subst, ap}
-use Rattle.std.specs.Prelude.{nat_lt, length, is_some, is_none}
-use Rattle.std.specs.Option.{option_map}
-use Rattle.std.proofs.Common.{arith}
-use Rattle.std.proofs.lemmas.Bool.Decides.{nat_tests}
+use Rattle.std.proofs.Common.{◌≡◌, ◌∙◌, ℕ, List, [], ◌∷◌, Bool, true, false, Option, Some, None, sym, subst, ap}
+use Rattle.std.specs.Prelude.{nat_lt}
 use Rattle.norm_base.specs.Settings.{Settings, InRange}
 use Rattle.norm_base.specs.declared.kinds.Sent.{Sent}
 use Rattle.norm_base.specs.declared.kinds.Sent.TheVariants.{Datagram}
@@ -11,7 +8,7 @@ use Rattle.norm_ext.specs.Message.{Squelch}
 use Rattle.norm_ext.specs.ObjectIds.{object_id}
 use Rattle.norm_ext.specs.Octets.{octets_of}
 use Rattle.norm_ext.specs.Written.{Written, writes}
-use Rattle.norm_send_rules.specs.SenderState.{SenderState, Round}
+use Rattle.norm_send_rules.specs.SenderState.{SenderState}
 use Rattle.std.specs.List.{AllByRecursion}
 use Rattle.norm_send_rules.specs.Laws.{WantsHold, is_of_order}
 use Rattle.norm_send_rules.specs.InWindow.{stands_behind, current_shapes}
@@ -20,7 +17,7 @@ use Rattle.nack_union.specs.UnionState.{UnionState, Stands as UnionStands}
 use Rattle.norm_send_rules.specs.Messages.{squelch_message}
 use Rattle.norm_send_rules.specs.Sending.{sends, sends_new, next_new, behind, sends_want, repairs_next, repair_flags, object_of, message_of, noted}
 use Rattle.norm_send_rules.specs.Flushing.{flushes}
-use Rattle.norm_send_rules.specs.Ticking.{closed_where_due, sends_first, sends_wanted, sends_further, is_idle}
+use Rattle.norm_send_rules.specs.Ticking.{closed_where_due, sends_first, sends_wanted, sends_further}
 use Rattle.norm_send_rules.specs.declared.want.Want.{Want}
 use Rattle.norm_send_rules.proofs.StepLemmas.{due_holds}
 use Rattle.norm_send_rules.proofs.ShapeLemmas.{blocks_of}
@@ -92,59 +89,6 @@ goes_on_stands k s w next pace h is becomes = record {
       becomes ∙ ap (λ (n : Want). record (k.pace) { next = n }) is
       ∙ ap (λ (q : Pace). record q { next = behind w }) h.pace;
 }
-
--- Whether a sender is idle.
-
-abbrev idle_by_round : Option Round → Bool
-idle_by_round round = elim round [ Some r ↦ false | None ↦ true ]
-
-abbrev idle_by_new : SenderState → Option Want → Bool
-idle_by_new s found = elim found [ Some w ↦ false | None ↦ idle_by_round s.round ]
-
-abbrev idle_by_wants : Settings → SenderState → List Want → Bool
-idle_by_wants p s wants = elim wants [ w ∷ more ↦ false | [] ↦ idle_by_new s (next_new p s) ]
-
-abbrev idle_by : Settings → SenderState → Bool → Bool
-idle_by p s due = elim due [ true ↦ false | false ↦ idle_by_wants p s s.wants ]
-
-pub busy_squelch : (k : SenderKept) (s : SenderState) → Agrees k s → k.pace.squelch_due ≡ true → false ≡ is_idle k.p s
-busy_squelch k s h e = sym (ap (idle_by k.p s) (ap (λ (q : Pace). q.squelch_due) (sym h.pace) ∙ e))
-
-wanted_busy : (p : Settings) (s : SenderState) (wants : List Want) → nat_lt 0 (length wants) ≡ true → idle_by_wants p s wants ≡ false
-wanted_busy p s [] e = absurd (cc)
-wanted_busy p s (w ∷ wants) e = refl
-
-not_wanted : (p : Settings) (s : SenderState) (wants : List Want) → nat_lt 0 (length wants) ≡ false → idle_by_wants p s wants ≡ idle_by_new s (next_new p s)
-not_wanted p s [] e = refl
-not_wanted p s (w ∷ wants) e = absurd (grind (arith, nat_tests))
-
-no_squelch : (k : SenderKept) (s : SenderState) → Agrees k s → k.pace.squelch_due ≡ false → is_idle k.p s ≡ idle_by_wants k.p s s.wants
-no_squelch k s h e = ap (idle_by k.p s) (ap (λ (q : Pace). q.squelch_due) (sym h.pace) ∙ e)
-
-pub busy_wants : (k : SenderKept) (s : SenderState) → Agrees k s → k.pace.squelch_due ≡ false → nat_lt 0 (length s.wants) ≡ true → false ≡ is_idle k.p s
-busy_wants k s h e some = sym (no_squelch k s h e ∙ wanted_busy k.p s s.wants some)
-
-new_busy : (s : SenderState) (found : Option Want) → is_some found ≡ true → idle_by_new s found ≡ false
-new_busy s None e = absurd (cc)
-new_busy s (Some w) e = refl
-
-pub busy_new : (k : SenderKept) (s : SenderState) → Agrees k s → k.pace.squelch_due ≡ false → nat_lt 0 (length s.wants) ≡ false
-    → is_some (next_new k.p s) ≡ true → false ≡ is_idle k.p s
-busy_new k s h e none some = sym (no_squelch k s h e ∙ not_wanted k.p s s.wants none ∙ new_busy s (next_new k.p s) some)
-
-new_idle : (s : SenderState) (found : Option Want) → is_some found ≡ false → idle_by_new s found ≡ idle_by_round s.round
-new_idle s None e = refl
-new_idle s (Some w) e = absurd (cc)
-
-round_idle : (round : Option Round) → is_none (option_map (λ (r : Round). r.closes) round) ≡ idle_by_round round
-round_idle None = refl
-round_idle (Some r) = refl
-
-pub idle_round : (k : SenderKept) (s : SenderState) → Agrees k s → k.pace.squelch_due ≡ false → nat_lt 0 (length s.wants) ≡ false
-    → is_some (next_new k.p s) ≡ false → is_none k.pace.closes ≡ is_idle k.p s
-idle_round k s h e none new =
-    ap (λ (q : Pace). is_none q.closes) h.pace ∙ round_idle s.round
-    ∙ sym (no_squelch k s h e ∙ not_wanted k.p s s.wants none ∙ new_idle s (next_new k.p s) new)
 
 -- The lowest want is taken out.
 pub took : (k : SenderKept) (union : UnionState) (s : SenderState) (rest : List Want) → Agrees k s → union.p ≡ k.union.p

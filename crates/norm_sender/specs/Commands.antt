@@ -7,9 +7,9 @@ use Rattle.norm_send_rules.specs.declared.job.Job.{Job}
 use Rattle.norm_send_rules.specs.declared.job.Job.TheVariants.{Open, Mark}
 use Rattle.norm_send_rules.specs.declared.job.Receipt.{Receipt}
 use Rattle.norm_send_rules.specs.declared.fault.EnqueueFault.{EnqueueFault}
-use Rattle.norm_send_rules.specs.declared.fault.EnqueueFault.TheVariants.{Empty, TooBig, InfoTooBig, StreamOpen, NoStream, IdsSpent, Stream, WindowFull, Memory as NoRoom}
+use Rattle.norm_send_rules.specs.declared.fault.EnqueueFault.TheVariants.{Memory as NoRoom}
 use Rattle.norm_send_rules.specs.declared.fault.MarkFault.{MarkFault}
-use Rattle.norm_send_rules.specs.declared.fault.MarkFault.TheVariants.{Quorum, NothingEnqueued, TooMany, Memory as NoMemory}
+use Rattle.norm_send_rules.specs.declared.fault.MarkFault.TheVariants.{Memory as NoMemory}
 use Rattle.norm_send_rules.specs.declared.fault.SendFault.{SendFault}
 use Rattle.norm_send_rules.specs.declared.fault.SendFault.TheVariants.{Enqueue, Mark as MarkRefused, Memory}
 use Rattle.norm_sender.specs.SenderKept.{SenderKept, Agrees}
@@ -25,26 +25,13 @@ GivesBack given refusal = ((refusal.1 ≡ Memory) × (refusal.0 ≡ None)) ⊎ (
 
 -- what a refused opening is answered
 abbrev pub open_refusal : EnqueueFault → Option Job × SendFault
-open_refusal fault = elim fault [
-  | NoRoom ↦ (None, Memory)
-  | Empty ↦ (Some Open, Enqueue Empty)
-  | TooBig len ↦ (Some Open, Enqueue (TooBig len))
-  | InfoTooBig len ↦ (Some Open, Enqueue (InfoTooBig len))
-  | StreamOpen index ↦ (Some Open, Enqueue (StreamOpen index))
-  | NoStream ↦ (Some Open, Enqueue NoStream)
-  | IdsSpent ↦ (Some Open, Enqueue IdsSpent)
-  | Stream why ↦ (Some Open, Enqueue (Stream why))
-  | WindowFull first ↦ (Some Open, Enqueue (WindowFull first))
-]
+open_refusal NoRoom = (None, Memory)
+open_refusal fault = (Some Open, Enqueue fault)
 
 -- what a refused mark is answered
 abbrev pub mark_refusal : Option ℕ → MarkFault → Option Job × SendFault
-mark_refusal quorum fault = elim fault [
-  | NoMemory ↦ (None, Memory)
-  | Quorum q ↦ (Some (Mark quorum), MarkRefused (Quorum q))
-  | NothingEnqueued ↦ (Some (Mark quorum), MarkRefused NothingEnqueued)
-  | TooMany count ↦ (Some (Mark quorum), MarkRefused (TooMany count))
-]
+mark_refusal quorum NoMemory = (None, Memory)
+mark_refusal quorum fault = (Some (Mark quorum), MarkRefused fault)
 
 -- A command does and answers what the rules say, or is refused for want of memory; then the sender is as it was.
 pub record Obeys (old new : SenderKept) (job : Job) (result : Result Receipt (Option Job × SendFault)) : Type 0 where

@@ -1,6 +1,6 @@
 //! Commands (RFC 5740 section 5.1): each goes to its rule, and a refusal gives it back but for want of memory.
 
-ghost use Rattle.std.specs.Prelude.{ℕ, ◌≡◌, ◌≢◌, true, List, [], length, Some, Err, IfOk, IfErr, IsErr};
+ghost use Rattle.std.specs.Prelude.{ℕ, ◌≡◌, ◌≢◌, List, [], length, Some, Err, IfOk, IfErr, IsErr};
 ghost use Rattle.norm_base.specs.Settings.{InRange};
 ghost use Rattle.norm_base.specs.declared.node.Origin.{Origin};
 ghost use Rattle.norm_send_rules.specs.SenderState.{SenderState};

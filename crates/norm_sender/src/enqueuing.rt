@@ -1,10 +1,9 @@
 //! Enqueuing data and files (RFC 5740 section 5.1): an object is begun, filled and finished, and joins the order at its end.
 
-ghost use Rattle.std.specs.Prelude.{ℕ, ◌≡◌, ◌+◌, ◌<◌, ◌≤◌, ◌||◌, List, [], length, not, None, Some, Ok, IfOk, IfErr, IsErr, IsSome, MatchOption};
+ghost use Rattle.std.specs.Prelude.{ℕ, ◌≡◌, ◌+◌, ◌<◌, ◌≤◌, ◌||◌, List, [], length, not, None, Some, Ok, IfOk, IfErr, IsErr, MatchOption};
 ghost use Rattle.std.specs.List.{list_any};
 ghost use Rattle.norm_base.specs.Settings.{InRange};
 ghost use Rattle.norm_base.specs.declared.node.Origin.{Origin};
-ghost use Rattle.fec_plan.specs.Points.{point};
 ghost use Rattle.norm_send_rules.specs.SenderState.{SenderState};
 ghost use Rattle.norm_send_rules.specs.InWindow.{stands_behind};
 ghost use Rattle.norm_send_rules.specs.Dropping.{dropped_to};

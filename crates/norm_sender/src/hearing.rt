@@ -1,6 +1,6 @@
 //! What a sender hears (RFC 5740 sections 5.4 and 5.5.3).
 
-ghost use Rattle.std.specs.Prelude.{◌≡◌, ◌&&◌, ◌==◌, ℕ};
+ghost use Rattle.std.specs.Prelude.{◌≡◌, ◌&&◌, ◌==◌};
 ghost use Rattle.norm_ext.specs.Requests.{IsRequests, requests_of};
 ghost use Rattle.norm_ext.specs.Asking.{item_named};
 ghost use Rattle.std.specs.Prelude.{Ok};

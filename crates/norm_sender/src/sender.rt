@@ -1,6 +1,6 @@
 //! The sender of a session.
 
-ghost use Rattle.std.specs.Prelude.{ℕ, ◌≡◌, ◌≢◌, ◌+◌, ◌≤◌, ◌++◌, true, List, [], IfOk, IfErr, IfNone, IsErr, IsSome, Some, None, Ok, Err, MatchOption, length};
+ghost use Rattle.std.specs.Prelude.{ℕ, ◌≡◌, ◌≢◌, ◌+◌, ◌≤◌, ◌++◌, List, [], IfOk, IfErr, IfNone, IsErr, IsSome, Some, None, Ok, Err, MatchOption, length};
 ghost use Rattle.norm_base.specs.Members.{receivers_of};
 ghost use Rattle.norm_base.specs.declared.node.Origin.{Origin as By};
 ghost use Rattle.norm_send_rules.specs.SenderState.{SenderState, sender_opening};

@@ -1,8 +1,7 @@
 //! What a sender sends of its objects (RFC 5740 section 5.2): an info or a symbol of the window.
 
-ghost use Rattle.std.specs.Prelude.{◌≡◌, ◌≤◌, ◌<◌, ◌+◌, ℕ, List, true, length, Some, nat_le, nat_lt};
+ghost use Rattle.std.specs.Prelude.{◌≡◌, ◌≤◌, ◌<◌, ◌+◌, ℕ, List, true, Some, nat_le, nat_lt};
 ghost use Rattle.norm_order.specs.Entries.{Object, Whole};
-ghost use Rattle.norm_order.specs.Moments.{moment_after};
 ghost use Rattle.norm_order.specs.Shapes.{shape_of, encoded_in};
 ghost use Rattle.norm_base.specs.declared.kinds.Kind.{Kind};
 ghost use Rattle.norm_ext.specs.Octets.{octets_of};
@@ -10,7 +9,6 @@ ghost use Rattle.norm_send_rules.specs.SenderState.{SenderState};
 ghost use Rattle.norm_send_rules.specs.Messages.{data_message, info_message};
 ghost use Rattle.norm_send_rules.specs.Room.{first_kept};
 ghost use Rattle.norm_send_rules.specs.Sending.{noted, object_of, repair_flags, sends_want};
-ghost use Rattle.norm_send_rules.specs.declared.want.Want.{Want as Wanted};
 ghost use Rattle.norm_send_rules.specs.declared.want.Want.TheVariants.{Info, Symbol};
 ghost use Rattle.tx_window.specs.Asked.{kept_at, IsEncodedIn};
 ghost use Rattle.tx_window.specs.WindowState.{IsInWindow};

@@ -1,7 +1,7 @@
 //! The fronts of a sender's datagrams (RFC 5740 section 4.2): all that stands before a symbol's octets, an info or a list
 //! of nodes, which are pushed behind it where they lie.
 
-ghost use Rattle.std.specs.Prelude.{◌≡◌, ◌%◌, ◌<◌, ◌≤◌, ◌^◌, ◌++◌, [], ◌∷◌, length};
+ghost use Rattle.std.specs.Prelude.{◌≡◌, ◌%◌, ◌<◌, ◌≤◌, ◌++◌, [], ◌∷◌, length};
 ghost use Rattle.norm_ext.specs.Extensions.{fti_extension};
 ghost use Rattle.norm_ext.specs.Message.{Info, Data, Flush, Squelch};
 ghost use Rattle.norm_ext.specs.Octets.{octets_of};

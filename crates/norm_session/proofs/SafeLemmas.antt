@@ -10,31 +10,27 @@ use Rattle.norm_script.specs.Commands.{Commands}
 use Rattle.norm_script.specs.Scripts.{IsScript}
 use Rattle.norm_safety.specs.InTime.{WasOffered}
 use Rattle.norm_safety.proofs.CreditLemmas.{credit_run}
-use Rattle.norm_safety.proofs.FreshRun.{fresh_run}
+use Rattle.norm_safety.proofs.FreshRun.{fresh_run, closing_run}
 use Rattle.norm_safety.proofs.HoldRun.{hold_run}
 use Rattle.norm_safety.proofs.Owing.{acknowledge_run}
 use Rattle.norm_safety.proofs.SafeRun.{safe_run}
 use Rattle.norm_safety.proofs.SaidRun.{said_run}
-use Rattle.norm_safety.proofs.SatisfiedRun.{satisfied_run}
 use Rattle.norm_journal.specs.declared.event.Event.{Event}
 use Rattle.norm_journal.specs.declared.event.Event.TheVariants as event
 use Rattle.norm_journal.specs.Accepting.{accepts, judged_from}
 use Rattle.norm_journal.specs.Honest.{IsHonest}
-use Rattle.norm_journal.specs.Jobs.{Told, IsOfObjects}
+use Rattle.norm_journal.specs.Jobs.{Told}
 use Rattle.norm_journal.specs.Judged.{Judged}
 use Rattle.norm_journal.specs.Laws.{HasOctets, octets_given}
 use Rattle.norm_journal.specs.Projections.{offers_in}
 use Rattle.norm_journal.specs.SessionRun.{Begun}
 use Rattle.norm_journal.specs.WorldEvents.{TakesHonestly}
 use Rattle.norm_journal.proofs.FrontLemmas.{judged_from-append}
-use Rattle.norm_journal.proofs.ObjectLemmas.{commands_are_of_objects}
-use Rattle.norm_journal.proofs.LawfulLemmas.{begins_honestly}
 use Rattle.norm_journal.proofs.OctetLemmas.{commands_are_events}
-use Rattle.norm_journal.proofs.ScriptLemmas.{scripts_named}
 use Rattle.norm_journal.proofs.OfferedLemmas.{offers_are_the_worlds}
 use Rattle.norm_journal.proofs.TimeLemmas.{begins_lawfully}
 use Rattle.norm_session.specs.Context.{Context, opening}
-use Rattle.norm_session.specs.Session.{IsSafeOfObjects, IsSafe, OverHonest, nodes_of, session_opening, session_events}
+use Rattle.norm_session.specs.Session.{IsSafe, OverHonest, nodes_of, session_opening, session_events}
 use Rattle.norm_session.specs.SoFar.{Leads, IsOffered, AreOffered}
 use Rattle.norm_session.specs.Stopping.{Stopped}
 use Rattle.norm_session.specs.declared.fault.SessionFault.{SessionFault}
@@ -102,25 +98,6 @@ starts_there j = refl
 is_some : {X : Type 0} (o : Option X) (x : X) → o ≡ Some x → IsSome o
 is_some o x is = subst IsSome (sym is) refl
 
-safe_of_objects : (script : Commands) (files : Told) (journal : List Event) → IsScript script → Begun script files (nodes_of script) journal
-    → TakesHonestly (session_opening script files) journal → AllByRecursion HasOctets journal → AllByRecursion IsOfObjects script.lines
-    → IsSafeOfObjects script files journal
-safe_of_objects script files journal is begun honest octets objects =
-    let lawful = begins_lawfully script files (nodes_of script) journal is objects begun octets honest in
-    let events = session_events script files journal in
-    let are = commands_are_events script files (nodes_of script) journal is begun octets in
-    let of = commands_are_of_objects script files (nodes_of script) journal objects begun in
-    let range = is.range in
-    record {
-      lawful = lawful;
-      safe = safe_run.safe script.profile range events lawful are of;
-      kept = hold_run script.profile range events lawful are of;
-      said = said_run script.profile range events lawful are of;
-      fresh = fresh_run script.profile range events lawful are of;
-      acknowledged = acknowledge_run.handed script.profile range events lawful are of;
-      owed = acknowledge_run.owed script.profile range events lawful are of;
-    }
-
 pub safe_so_far : (script : Commands) (files : Told) (journal : List Event) (last : Judged) → IsScript script
     → judged_from (session_opening script files) journal ≡ Some last → AreOffered [] journal → AllByRecursion HasOctets journal
     → IsSafe script files journal
@@ -128,13 +105,20 @@ safe_so_far script files journal last is so offered octets =
     let start = session_opening script files in
     let begun : Begun script files (nodes_of script) journal = is_some (judged_from start journal) last so in
     let honest = take_honestly script files [] journal start last (starts_there start) so offered in
-    let run = begins_honestly script files (nodes_of script) journal (scripts_named script is) begun honest in
+    let lawful = begins_lawfully script files (nodes_of script) journal is begun octets honest in
     let events = session_events script files journal in
+    let are = commands_are_events script files (nodes_of script) journal is begun octets in
+    let range = is.range in
     record {
-      once = safe_run.once script.profile events run.honest;
-      satisfied = satisfied_run script.profile is.range events;
+      lawful = lawful;
+      safe = safe_run.safe script.profile range events lawful are;
       credited = credit_run script.profile events;
-      of_objects = λ objects. safe_of_objects script files journal is begun honest octets objects;
+      kept = hold_run script.profile range events lawful are;
+      said = said_run script.profile range events lawful are;
+      fresh = fresh_run script.profile range events lawful are;
+      completes = closing_run script.profile range events lawful are;
+      acknowledged = acknowledge_run.handed script.profile range events lawful are;
+      owed = acknowledge_run.owed script.profile range events lawful are;
     }
 
 -- ---- over an honest network

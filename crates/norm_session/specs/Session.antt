@@ -1,13 +1,12 @@
 -- A whole session, or the run of its sender alone: what it did, and what a fault leaves of it.
 use Rattle.std.specs.Prelude.{◌≡◌, ◌⊎◌, ℕ, List, [], Bool, true, false, Option, IfSome, IsTrue}
-use Rattle.std.specs.List.{AllByRecursion}
 use Rattle.norm_base.specs.Members.{receivers_of}
 use Rattle.norm_base.specs.Network.{Network, Starts}
 use Rattle.norm_base.specs.Told.{Pieces, gained}
 use Rattle.norm_base.specs.declared.kinds.Local.TheVariants.{All, One}
 use Rattle.norm_script.specs.Commands.{Commands}
 use Rattle.norm_journal.specs.declared.event.Event.{Event}
-use Rattle.norm_journal.specs.Jobs.{Told, IsOfObjects}
+use Rattle.norm_journal.specs.Jobs.{Told}
 use Rattle.norm_journal.specs.Judged.{Judged, judged_opening}
 use Rattle.norm_journal.specs.Printed.{lines_from}
 use Rattle.norm_journal.specs.Projections.{moments_in, network_after}
@@ -15,6 +14,7 @@ use Rattle.norm_journal.specs.SessionRun.{SessionRun, SenderRun, Ending, Whole, 
 use Rattle.norm_journal.specs.WorldEvents.{world_events}
 use Rattle.norm_safety.specs.Acknowledges.{OwesWhatItHanded}
 use Rattle.norm_safety.specs.AcknowledgesHanded.{AcknowledgesHanded}
+use Rattle.norm_safety.specs.ClosingCompletes.{ClosingCompletes}
 use Rattle.norm_safety.specs.CreditsMembers.{CreditsMembers}
 use Rattle.norm_safety.specs.Events.{Event as WorldEvent}
 use Rattle.norm_safety.specs.FreshWants.{FreshWants}
@@ -22,9 +22,7 @@ use Rattle.norm_safety.specs.History.{History, history}
 use Rattle.norm_safety.specs.Lawful.{Lawful}
 use Rattle.norm_safety.specs.Laws.{SaidOfOrders}
 use Rattle.norm_safety.specs.LosesNothing.{LosesNothing}
-use Rattle.norm_safety.specs.OnceEach.{OnceEach}
 use Rattle.norm_safety.specs.Safe.{Safe}
-use Rattle.norm_safety.specs.SatisfiedExactly.{SatisfiedExactly}
 use Rattle.norm_session.specs.Context.{Context, with_moments, with_posted}
 use Rattle.norm_session.specs.Moments.{HaveMoments}
 use Rattle.norm_session.specs.Noting.{kept_of}
@@ -52,31 +50,27 @@ session_events script files journal = world_events (session_opening script files
 abbrev pub session_history : Commands → Told → List Event → History
 session_history script files journal = history script.profile (session_events script files journal)
 
--- What was done with data and files alone is a lawful run of the nodes, and safe; and more than that is promised of it.
-pub record IsSafeOfObjects (script : Commands) (files : Told) (journal : List Event) : Type 0 where
+-- What is promised of every session: what was done is a lawful run of the nodes, and safe; and more than that.
+pub record IsSafe (script : Commands) (files : Told) (journal : List Event) : Type 0 where
   pub lawful : Lawful script.profile (session_events script files journal)
-  -- Each accepted object is once in the order; each receiver handed up that order, with a loss only below the drop point; whoever is
-  -- listed past a watermark had handed up everything before it; and a watermark is satisfied exactly where its quorum is listed.
+  -- Each accepted object is once in the order, with the octets that it was given, as what was written to a stream is; each receiver handed
+  -- up that order, with a loss only where the sender dropped data; whoever is listed past a watermark had handed up everything before it;
+  -- and a watermark is satisfied exactly where its quorum is listed.
   pub safe : Safe script.profile (session_events script files journal)
+  -- what a member acknowledges is credited
+  pub credited : CreditsMembers script.profile (session_history script files journal)
   -- in hold mode only a node that was struck reported a loss
   pub kept : LosesNothing script.profile (session_history script files journal)
   -- each symbol, info, flush and squelch that was said is true of the orders
   pub said : SaidOfOrders script.profile (session_history script files journal)
   -- what is wanted as a round closes and was never sent is held by nobody
   pub fresh : FreshWants script.profile (session_history script files journal)
+  -- and what a closing wants completes a block for whoever lacks no more of it than the round counts
+  pub completes : ClosingCompletes script.profile (session_history script files journal)
   -- a receiver acknowledges only what it handed up, everything before included
   pub acknowledged : AcknowledgesHanded script.profile (session_history script files journal)
-  -- and whoever handed up everything before the end of an object owes that to a flush which names it
+  -- and whoever handed up everything before the end of an object, or of a stream's segment, owes that to a flush which names it
   pub owed : OwesWhatItHanded script.profile (session_history script files journal)
-
--- What is promised of every session: each accepted object is once in the order, with the octets that it was given, as what was written to a
--- stream is; a watermark is satisfied exactly where its quorum is listed; what a member acknowledges is credited; and a session that
--- opens no stream is safe.
-pub record IsSafe (script : Commands) (files : Told) (journal : List Event) : Type 0 where
-  pub once : OnceEach (session_history script files journal)
-  pub satisfied : SatisfiedExactly (session_history script files journal)
-  pub credited : CreditsMembers script.profile (session_history script files journal)
-  pub of_objects : AllByRecursion IsOfObjects script.lines → IsSafeOfObjects script files journal
 
 -- over an honest network that tells what is offered
 abbrev pub OverHonest : Network → Type 0 → Type 0

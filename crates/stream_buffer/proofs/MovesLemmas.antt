@@ -225,9 +225,6 @@ pub record Pours (s old : StreamState) (rest octets : List ℕ) : Type 0 where
   pub goes : with_octets rest s ≡ with_octets octets old
   pub used : length s.rows + div_ceil (length s.filling + length rest) s.cut.e ≡ length old.rows + div_ceil (length old.filling + length octets) old.cut.e
 
-pub pours_cut : (s old : StreamState) (rest octets : List ℕ) → Pours s old rest octets → s.cut ≡ old.cut
-pours_cut s old rest octets p = ap (λ (v : StreamState). v.cut) p.goes
-
 pub pours_row : (s old : StreamState) (rest octets : List ℕ) → Pours s old rest octets → 0 < length rest → 0 < s.cut.e
     → length old.rows + div_ceil (length old.filling + length octets) old.cut.e ≤ old.blocks * old.cut.b → length s.rows < s.blocks * s.cut.b
 pours_row s old rest octets p some some_e room =

@@ -1,6 +1,6 @@
 //! The open stream of a sender.
 
-ghost use Rattle.std.specs.Prelude.{ℕ, true, false, None, List, [], ◌∷◌, ◌≡◌, ◌<◌, ◌≤◌, ◌+◌, ◌-◌, ◌*◌, ◌++◌, IfOk, OnErr, OnOk, MatchOption, Ok, Err, length, take, drop, min, max, slice_get};
+ghost use Rattle.std.specs.Prelude.{true, false, None, List, [], ◌∷◌, ◌≡◌, ◌<◌, ◌≤◌, ◌+◌, ◌-◌, ◌*◌, ◌++◌, IfOk, OnErr, OnOk, MatchOption, Ok, Err, length, min, max, slice_get};
 ghost use Rattle.std.specs.Int.{div_ceil};
 ghost use Rattle.std.specs.List.{concat};
 ghost use Rattle.norm_base.specs.Octets.{AreOctets};

@@ -19,7 +19,7 @@ use Rattle.norm_send_rules.specs.declared.job.Receipt.TheVariants.{Object as Enq
 use Rattle.held_entry.specs.declared.entry.HeldEntry.{HeldEntry}
 use Rattle.tx_window.specs.Taking.{size_fault}
 use Rattle.tx_window.specs.WindowState.{WindowState, Stands, open_of}
-use Rattle.tx_window.specs.Asked.{joining_fault, IsOpenAt}
+use Rattle.tx_window.specs.Asked.{joining_fault}
 use Rattle.tx_window.proofs.KeptLemmas.{Found, entry_at_place}
 
 -- ---- the open stream
@@ -65,12 +65,6 @@ last_found w s e stands some there =
       index = index;
       opened = open_last s.current.order (w.dropped + (length w.entries - 1)) is.entry (omega (arith, stands.next, some)) is.there;
     }
-
-pub open_none : (s : SenderState) → open_stream s ≡ None → IsOpenAt s None
-open_none s is = is
-
-pub open_some : (s : SenderState) (index : ℕ) → is_some (open_stream s) ≡ true → index ≡ last_index s → IsOpenAt s (Some index)
-open_some s index is same = (is, same)
 
 pub not_some : {X : Type 0} (r : Option X) → is_some r ≡ false → r ≡ None
 not_some None is = refl

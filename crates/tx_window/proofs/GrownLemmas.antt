@@ -107,9 +107,6 @@ pub record GoesOn (w : WindowState) (s : SenderState) (e now : HeldEntry) (was :
 abbrev pub gone_window : WindowState → HeldEntry → List Part → WindowState
 gone_window w now parts = followed now (shape_of w.p (Stream parts)) (record w { entries = slice_set w.entries (length w.entries - 1) now })
 
-same_entry : (a b : HeldEntry) → Some a ≡ Some b → a ≡ b
-same_entry a b g = cc
-
 -- the parts of the relation that hold whether entries were dropped or not
 record Common (w : WindowState) (s : SenderState) (now : HeldEntry) (parts : List Part) (d : Point) : Type 0 where
   long : length (gone_on parts d s).current.order ≡ length s.current.order

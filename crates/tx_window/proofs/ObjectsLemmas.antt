@@ -1,6 +1,6 @@
 -- The objects among the entries of a window, which lie in its ring.
 use Rattle.std.proofs.Common.{◌≡◌, ℕ, zero, suc, ◌+◌, ◌-◌, ◌*◌, ◌/◌, ◌<◌, ◌≤◌, refl, sym, ap, subst, arith, Some, List, [], ◌∷◌, ◌++◌, length, length-append, drop}
-use Rattle.std.specs.Prelude.{slice_get, sum, ⊤}
+use Rattle.std.specs.Prelude.{slice_get}
 use Rattle.norm_base.specs.Settings.{Settings}
 use Rattle.fec_plan.specs.Partition.{Cut, all_symbols}
 use Rattle.held_object.specs.Held.{HeldObject, octets_of}

@@ -5,7 +5,7 @@ use Rattle.std.specs.Int.{div_ceil}
 use Rattle.std.proofs.lemmas.Bool.{cases_lt, lt-ltb, le-ltb}
 use Rattle.std.proofs.lemmas.List.{append-nil}
 use Rattle.norm_base.specs.Settings.{Settings, InRange}
-use Rattle.fec_plan.specs.Partition.{Cut, IsSound, stream_cut, source_symbols, encoding_symbols, blocks}
+use Rattle.fec_plan.specs.Partition.{IsSound, stream_cut, source_symbols, encoding_symbols, blocks}
 use Rattle.fec_plan.specs.Points.{Point, point_of, position, position_before}
 use Rattle.fec_plan.specs.declared.position.Position.{Position}
 use Rattle.fec_plan.proofs.PointLemmas.{not_before}
@@ -18,7 +18,7 @@ use Rattle.norm_send_rules.specs.InWindow.{stands_behind}
 use Rattle.norm_send_rules.specs.Room.{first_kept}
 use Rattle.norm_send_rules.specs.Wants.{want_before, want_index}
 use Rattle.norm_send_rules.specs.Sending.{sent_once, new_of, new_from, next_new}
-use Rattle.norm_send_rules.specs.Laws.{next_at, first_standing}
+use Rattle.norm_send_rules.specs.Laws.{next_at}
 use Rattle.norm_send_rules.specs.declared.want.Want.{Want}
 use Rattle.norm_send_rules.specs.declared.want.Want.TheVariants.{Info, Symbol}
 use Rattle.held_object.specs.Held.{HeldObject}

@@ -12,7 +12,7 @@ use Rattle.fec_plan.specs.Points.{point, position, position_before, reached_by}
 use Rattle.fec_plan.specs.declared.position.Position.{Position}
 use Rattle.norm_order.specs.Entries.{Part, Object, Entry}
 use Rattle.norm_order.specs.Sets.{is_member, with_member}
-use Rattle.norm_order.specs.Shapes.{Shape, shape_of, shapes_of, last_in, last_from, encoded_in}
+use Rattle.norm_order.specs.Shapes.{Shape, shape_of, shapes_of, last_in, last_from}
 use Rattle.norm_send_rules.specs.SenderState.{SenderState, Listing, sender_opening}
 use Rattle.norm_send_rules.specs.InWindow.{next_index}
 use Rattle.norm_send_rules.specs.Dropping.{dropped_to}

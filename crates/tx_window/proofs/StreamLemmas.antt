@@ -17,7 +17,7 @@ use Rattle.norm_send_rules.specs.SenderState.{SenderState}
 use Rattle.norm_send_rules.specs.InWindow.{last_index, next_index}
 use Rattle.norm_send_rules.specs.Room.{window, may_all_go, first_kept, least_kept, stream_drop}
 use Rattle.norm_send_rules.specs.Enqueuing.{open_stream, open_parts}
-use Rattle.norm_send_rules.specs.Streaming.{used_segments, parts_now, with_last, with_parts, is_spent, is_crowded, write_fault, close_fault, grown, wrote, closed, cut}
+use Rattle.norm_send_rules.specs.Streaming.{used_segments, parts_now, with_last, with_parts, is_spent, is_crowded, write_fault, grown, wrote, closed, cut}
 use Rattle.norm_send_rules.specs.declared.fault.EnqueueFault.{EnqueueFault}
 use Rattle.norm_send_rules.specs.declared.fault.EnqueueFault.TheVariants.{Empty, TooBig, NoStream, Stream as OfStream}
 use Rattle.norm_send_rules.specs.declared.fault.StreamFault.{StreamFault}

@@ -1,6 +1,6 @@
 //! How far an entry of the order reaches, which is kept also once the entry was dropped.
 
-ghost use Rattle.std.specs.Prelude.{ℕ, ◌≡◌, ◌+◌, ◌-◌, ◌<◌, ◌≤◌, ◌++◌, [], ◌∷◌, true, nat_lt, ◌⊎◌, length, drop};
+ghost use Rattle.std.specs.Prelude.{◌≡◌, ◌+◌, ◌-◌, ◌<◌, ◌≤◌, ◌++◌, [], ◌∷◌, nat_lt, ◌⊎◌, length, drop};
 ghost use Rattle.std.specs.VecDeque.{deque_capacity};
 ghost use Rattle.norm_order.specs.Shapes.{closed_in};
 ghost use Rattle.tx_window.specs.WindowState.{most_kept};

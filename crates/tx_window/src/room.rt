@@ -1,6 +1,6 @@
 //! Room in the window: what has to go for one entry more, and whether it may (RFC 5740 section 5.1).
 
-ghost use Rattle.std.specs.Prelude.{ℕ, ⊤, true, false, Option, MatchOption, ◌≡◌, ◌+◌, ◌-◌, ◌<◌, ◌≤◌, ◌*◌, ◌^◌, ◌⊎◌, List, None, Some, length, map, take, drop, filter};
+ghost use Rattle.std.specs.Prelude.{ℕ, true, false, Option, ◌≡◌, ◌+◌, ◌-◌, ◌<◌, ◌≤◌, ◌*◌, ◌^◌, ◌⊎◌, List, None, Some, length, map, take, drop, filter};
 ghost use Rattle.std.specs.Bool.{MatchBool};
 ghost use Rattle.std.specs.VecDeque.{deque_capacity};
 ghost use Rattle.norm_base.specs.Settings.{Settings, InRange};
@@ -8,7 +8,7 @@ ghost use Rattle.norm_order.specs.Entries.{Entry};
 ghost use Rattle.norm_send_rules.specs.SenderState.{SenderState};
 ghost use Rattle.norm_send_rules.specs.Repairable.{is_stream};
 ghost use Rattle.norm_send_rules.specs.Room.{window, size_of, has_to_go, may_all_go, can_make_room};
-ghost use Rattle.norm_send_rules.specs.Enqueuing.{object_fault, info_length, open_stream};
+ghost use Rattle.norm_send_rules.specs.Enqueuing.{object_fault, info_length};
 ghost use Rattle.norm_send_rules.specs.Streaming.{open_fault};
 ghost use Rattle.norm_send_rules.specs.declared.fault.EnqueueFault.TheVariants.{Memory as EnqueueMemory};
 ghost use Rattle.held_entry.specs.Front.{AreEntries};

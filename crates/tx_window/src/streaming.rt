@@ -1,6 +1,6 @@
 //! Streams of the window (RFC 5740 section 5.1 on NORM_OBJECT_STREAM): how one is opened, and how the open one goes on.
 
-ghost use Rattle.std.specs.Prelude.{ℕ, ⊤, ◌≡◌, ◌+◌, ◌-◌, ◌*◌, ◌<◌, ◌≤◌, List, None, Some, IfOk, IsErr, MatchResult, length, min, slice_get, slice_set};
+ghost use Rattle.std.specs.Prelude.{⊤, ◌≡◌, ◌+◌, ◌-◌, ◌*◌, ◌<◌, ◌≤◌, List, None, Some, IfOk, IsErr, MatchResult, length, min, slice_get, slice_set};
 ghost use Rattle.std.specs.VecDeque.{deque_capacity};
 ghost use Rattle.norm_base.specs.declared.node.Origin.{Origin};
 ghost use Rattle.norm_order.specs.Entries.{Part, Stream as Streamed};

@@ -1,10 +1,9 @@
 //! The window of a sender, and what it is asked.
 
-ghost use Rattle.std.specs.Prelude.{ℕ, ⊤, ◌^◌, ◌≡◌, ◌+◌, ◌<◌, ◌≤◌, List, Option, None, IfOk, MatchOption, length, option_map, option_copied, is_some, find, Bool, true};
+ghost use Rattle.std.specs.Prelude.{ℕ, ⊤, ◌^◌, ◌≡◌, ◌+◌, ◌<◌, ◌≤◌, Option, None, IfOk, MatchOption, length, option_map, option_copied};
 ghost use Rattle.norm_base.specs.Settings.{InRange};
 ghost use Rattle.norm_base.specs.Sizes.{datagram_room, symbol_room};
 ghost use Rattle.fec_plan.specs.Partition.{IsSound};
-ghost use Rattle.norm_order.specs.Entries.{Object};
 ghost use Rattle.norm_order.specs.Shapes.{shape_of, last_source, is_source};
 ghost use Rattle.norm_ext.specs.Laws.{IsNear};
 ghost use Rattle.norm_send_rules.specs.SenderState.{SenderState, sender_opening};

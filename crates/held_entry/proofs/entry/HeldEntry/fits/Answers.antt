@@ -1,11 +1,10 @@
-use Rattle.std.proofs.Common.{◌≡◌, ◌+◌, ◌*◌, ◌≤◌, ap, sym, subst, ◌∙◌, arith, List}
+use Rattle.std.proofs.Common.{◌≡◌, ◌+◌, ◌*◌, ◌≤◌, ap, sym, subst, ◌∙◌, List}
 use Rattle.fec_plan.specs.Partition.{Cut}
 use Rattle.norm_order.specs.Entries.{Stream, Part}
 use Rattle.norm_order.specs.Shapes.{shape_of}
 use Rattle.stream_buffer.specs.StreamState.{closed_segments}
 use Rattle.held_stream.proofs.KnowsLemmas.{counted}
 use Rattle.held_entry.specs.EntryState.{StandsFor, first_of}
-use Rattle.held_entry.specs.declared.entry.HeldEntry.{HeldEntry}
 use Rattle.held_entry.proofs.OtherLemmas.{same_parts}
 use Rattle.held_entry.proofs.entry.HeldEntry.fits.Goals as goal
 

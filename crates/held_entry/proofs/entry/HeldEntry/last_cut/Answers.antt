@@ -1,5 +1,5 @@
 use Rattle.std.proofs.Common.{List, ap, sym, subst, ◌∙◌}
-use Rattle.norm_order.specs.Entries.{Object, Stream, Part}
+use Rattle.norm_order.specs.Entries.{Stream, Part}
 use Rattle.norm_order.specs.Shapes.{shape_of, last_in}
 use Rattle.stream_buffer.specs.StreamState.{with_cut}
 use Rattle.held_entry.specs.EntryState.{StandsFor}

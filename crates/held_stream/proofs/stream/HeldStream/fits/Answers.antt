@@ -1,4 +1,4 @@
-use Rattle.std.proofs.Common.{◌≡◌, ◌+◌, ◌*◌, ◌≤◌, ap, sym, subst, arith, length}
+use Rattle.std.proofs.Common.{◌+◌, ◌*◌, ◌≤◌, subst, arith, length}
 use Rattle.stream_buffer.specs.StreamState.{closed_segments}
 use Rattle.held_stream.specs.HeldState.{HeldState}
 use Rattle.held_stream.proofs.GoingLemmas.{first_below, room_is}

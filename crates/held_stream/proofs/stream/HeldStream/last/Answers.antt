@@ -1,4 +1,4 @@
-use Rattle.std.proofs.Common.{◌≡◌, ap, sym, subst, ◌∙◌, arith}
+use Rattle.std.proofs.Common.{ap, sym, subst, ◌∙◌, arith}
 use Rattle.stream_buffer.specs.StreamState.{StandsFor}
 use Rattle.held_stream.specs.HeldState.{HeldState}
 use Rattle.held_stream.proofs.KnowsLemmas.{counted}

@@ -1,4 +1,4 @@
-use Rattle.std.proofs.Common.{◌∙◌, refl}
+use Rattle.std.proofs.Common.{◌∙◌}
 use Rattle.norm_sender.specs.Inside.{kept_of}
 use Rattle.norm_sender.proofs.parts.Parts.begin_anew.Goals as goal
 

@@ -1,14 +1,11 @@
-use Rattle.std.proofs.Common.{◌≡◌, ◌∙◌, [], ◌∷◌, ◌++◌, Result, Ok, Err, ap, sym, subst, arith}
+use Rattle.std.proofs.Common.{◌≡◌, [], ◌∷◌, ◌++◌, Err, ap, sym, subst, arith}
 use Rattle.std.specs.Prelude.{is_err}
 use Rattle.norm_order.specs.Entries.{End}
-use Rattle.norm_send_rules.specs.SenderState.{SenderState}
 use Rattle.norm_send_rules.specs.Streaming.{closed, parts_now}
-use Rattle.norm_send_rules.specs.declared.fault.EnqueueFault.{EnqueueFault}
-use Rattle.norm_send_rules.specs.declared.job.Receipt.{Receipt}
 use Rattle.tx_window.specs.WindowState.{WindowState}
 use Rattle.norm_sender.specs.Inside.{kept_of}
 use Rattle.norm_sender.specs.SenderKept.{Agrees}
-use Rattle.norm_sender.proofs.StreamingLemmas.{closed_on, closed_not, grown_onward, gone_for, Followed, followed_goes, followed_agrees}
+use Rattle.norm_sender.proofs.StreamingLemmas.{closed_on, closed_not, grown_onward, gone_for, followed_goes, went_on}
 use Rattle.norm_sender.proofs.parts.Parts.close.Goals as goal
 
 pub retire-requires : goal.retire-requires
@@ -48,20 +45,16 @@ returns-in-Ok-clause-closed c s h =
     let more = End ∷ [] in
     let done = closed_on k c.close_stream.new.self s c.in-Ok.index c.close_stream.result h c.close_stream.ensures.profile c.close_stream.ensures.finished
     (c.close_stream.ensures.closed s h.window) c.in-Ok.is in
-    let follows : Followed k c.close_stream.new.self c.retire.new.self = record {
+    went_on k c.close_stream.new.self c.retire.new.self c.grow.new.self s more _ _ h done.on (omega (arith, c.hold_range.ensures.e.0))
+    (record {
       profile = c.retire.ensures.rest.0;
       window = c.retire.ensures.rest.1;
       book = c.retire.ensures.rest.2;
       retires = c.retire.ensures.exact;
       drops = c.retire.ensures.union;
       due = c.retire.ensures.pace;
-    } in
-    let goes = followed_goes k c.close_stream.new.self c.retire.new.self s more h done.on (omega (arith, c.hold_range.ensures.e.0)) follows in
-    let stands = c.grow.ensures.union (gone_for k.p s (parts_now s ++ more)) (parts_now s ++ more) goes in
-    let agrees = followed_agrees k c.close_stream.new.self c.retire.new.self c.grow.new.self s more h done.on follows c.grow.ensures.rest c.grow.ensures.profile stands in (
-      subst (λ (step : SenderState × Result Receipt EnqueueFault). Agrees (kept_of c.grow.new.self) step.0) (sym done.step) agrees,
-      sym (ap (λ (step : SenderState × Result Receipt EnqueueFault). step.1) done.step),
-    )
+    })
+    c.grow.ensures.rest c.grow.ensures.profile c.grow.ensures.union done.step
 
 pub returns-in-Err-clause-closed : goal.returns-in-Err-clause-closed
 returns-in-Err-clause-closed c s h =

@@ -1,6 +1,4 @@
-use Rattle.std.proofs.Common.{◌≡◌, ◌+◌, ◌-◌, ◌<◌, ◌∙◌, ap, sym, subst, arith, length}
-use Rattle.std.specs.Prelude.{slice_get}
-use Rattle.fec_plan.specs.Points.{Point}
+use Rattle.std.proofs.Common.{◌-◌, ◌<◌, ap, arith, length}
 use Rattle.norm_send_rules.specs.Streaming.{with_parts}
 use Rattle.tx_window.proofs.ListLemmas.{get_some}
 use Rattle.nack_union.specs.UnionState.{UnionState}

@@ -1,7 +1,5 @@
-use Rattle.std.proofs.Common.{◌≡◌, ◌∙◌, ap, sym, subst}
+use Rattle.std.proofs.Common.{◌≡◌, ap, sym, subst}
 use Rattle.fec_plan.specs.Partition.{Cut}
-use Rattle.norm_send_rules.specs.SenderState.{SenderState}
-use Rattle.norm_base.specs.declared.node.Origin.{Origin}
 use Rattle.nack_union.specs.Kept.{Marked, admitted_stream}
 use Rattle.nack_union.specs.UnionState.{UnionState}
 use Rattle.norm_sender.specs.Inside.{kept_of}

@@ -1,6 +1,5 @@
-use Rattle.std.proofs.Common.{Some, Err, sym, subst, ap, ◌≡◌, Result, Ok}
+use Rattle.std.proofs.Common.{Err, sym, subst, ap}
 use Rattle.std.specs.Prelude.{Option}
-use Rattle.norm_send_rules.specs.SenderState.{SenderState}
 use Rattle.norm_send_rules.specs.declared.job.Job.{Job}
 use Rattle.norm_send_rules.specs.declared.job.Job.TheVariants.{Open}
 use Rattle.norm_send_rules.specs.declared.fault.SendFault.{SendFault}

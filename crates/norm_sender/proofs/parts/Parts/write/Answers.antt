@@ -1,16 +1,12 @@
-use Rattle.std.proofs.Common.{◌≡◌, ◌∙◌, [], ◌∷◌, ◌++◌, Result, Ok, Err, length, ap, sym, subst, arith}
+use Rattle.std.proofs.Common.{◌≡◌, [], ◌∷◌, ◌++◌, Err, ap, sym, subst, arith}
 use Rattle.std.specs.Prelude.{is_err}
 use Rattle.norm_order.specs.Entries.{Write}
-use Rattle.norm_send_rules.specs.SenderState.{SenderState}
 use Rattle.norm_send_rules.specs.Streaming.{wrote, parts_now}
-use Rattle.norm_send_rules.specs.declared.fault.EnqueueFault.{EnqueueFault}
-use Rattle.norm_send_rules.specs.declared.job.Receipt.{Receipt}
-use Rattle.norm_send_rules.specs.declared.job.Receipt.TheVariants.{Wrote}
 use Rattle.tx_window.specs.WindowState.{WindowState}
 use Rattle.norm_sender.specs.Inside.{kept_of}
 use Rattle.norm_sender.specs.SenderKept.{Agrees}
 use Rattle.norm_sender.proofs.SenderLemmas.{anyone}
-use Rattle.norm_sender.proofs.StreamingLemmas.{wrote_on, wrote_not, grown_onward, gone_for, Followed, followed_goes, followed_agrees}
+use Rattle.norm_sender.proofs.StreamingLemmas.{wrote_on, wrote_not, grown_onward, gone_for, followed_goes, went_on}
 use Rattle.norm_sender.proofs.parts.Parts.write.Goals as goal
 
 pub retire-requires : goal.retire-requires
@@ -51,20 +47,16 @@ returns-in-Ok-clause-wrote c s by h =
     let more = Write by octets ∷ [] in
     let done = wrote_on k c.write.new.self s by octets c.in-Ok.at c.write.result h c.write.ensures.profile c.write.ensures.finished
     (c.write.ensures.written s by h.window) c.in-Ok.is in
-    let follows : Followed k c.write.new.self c.retire.new.self = record {
+    went_on k c.write.new.self c.retire.new.self c.grow.new.self s more _ _ h done.on (omega (arith, c.hold_range.ensures.e.0))
+    (record {
       profile = c.retire.ensures.rest.0;
       window = c.retire.ensures.rest.1;
       book = c.retire.ensures.rest.2;
       retires = c.retire.ensures.exact;
       drops = c.retire.ensures.union;
       due = c.retire.ensures.pace;
-    } in
-    let goes = followed_goes k c.write.new.self c.retire.new.self s more h done.on (omega (arith, c.hold_range.ensures.e.0)) follows in
-    let stands = c.grow.ensures.union (gone_for k.p s (parts_now s ++ more)) (parts_now s ++ more) goes in
-    let agrees = followed_agrees k c.write.new.self c.retire.new.self c.grow.new.self s more h done.on follows c.grow.ensures.rest c.grow.ensures.profile stands in (
-      subst (λ (step : SenderState × Result Receipt EnqueueFault). Agrees (kept_of c.grow.new.self) step.0) (sym done.step) agrees,
-      sym (ap (λ (step : SenderState × Result Receipt EnqueueFault). step.1) done.step),
-    )
+    })
+    c.grow.ensures.rest c.grow.ensures.profile c.grow.ensures.union done.step
 
 pub returns-in-Err-clause-wrote : goal.returns-in-Err-clause-wrote
 returns-in-Err-clause-wrote c s by h =

@@ -1,6 +1,4 @@
 use Rattle.std.proofs.Common.{◌≡◌, List, ℕ, refl, subst}
-use Rattle.norm_base.specs.declared.node.Origin.{Origin}
-use Rattle.norm_send_rules.specs.SenderState.{SenderState}
 use Rattle.norm_send_rules.specs.Streaming.{wrote}
 use Rattle.norm_send_rules.specs.declared.job.Job.TheVariants.{Write}
 use Rattle.norm_sender.specs.Inside.{kept_of}

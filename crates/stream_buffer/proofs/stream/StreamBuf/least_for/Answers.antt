@@ -1,7 +1,6 @@
-use Rattle.std.proofs.Common.{◌≡◌, ◌+◌, ◌-◌, ◌*◌, ◌≤◌, ◌∙◌, ap, sym, arith, [], ◌∷◌, length}
-use Rattle.std.specs.Int.{div_ceil}
+use Rattle.std.proofs.Common.{◌+◌, ◌-◌, ◌∙◌, ap, sym, arith, [], ◌∷◌, length}
 use Rattle.norm_order.specs.Entries.{Write}
-use Rattle.stream_buffer.specs.StreamState.{StreamState, StandsFor}
+use Rattle.stream_buffer.specs.StreamState.{StreamState}
 use Rattle.stream_buffer.specs.StreamSound.{stream_view}
 use Rattle.stream_buffer.proofs.FaultLemmas.{least_is, some_e, used_of}
 use Rattle.stream_buffer.proofs.StandingLemmas.{used_written}

@@ -1,8 +1,7 @@
-use Rattle.std.proofs.Common.{◌≡◌, ◌+◌, ◌-◌, ◌*◌, ◌<◌, ◌≤◌, ◌∙◌, ap, sym, arith, [], ◌∷◌, length}
-use Rattle.std.specs.Int.{div_ceil}
+use Rattle.std.proofs.Common.{◌+◌, ◌-◌, ◌<◌, ◌∙◌, ap, sym, arith, [], ◌∷◌, length}
 use Rattle.fec_plan.specs.Partition.{Cut}
 use Rattle.norm_order.specs.Entries.{End}
-use Rattle.stream_buffer.specs.StreamState.{StreamState, StandsFor}
+use Rattle.stream_buffer.specs.StreamState.{StreamState}
 use Rattle.stream_buffer.specs.StreamSound.{stream_view}
 use Rattle.stream_buffer.proofs.FaultLemmas.{least_is, some_e, used_end}
 use Rattle.stream_buffer.proofs.StandingLemmas.{used_ended}

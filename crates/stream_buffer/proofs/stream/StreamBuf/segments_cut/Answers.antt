@@ -1,4 +1,4 @@
-use Rattle.std.proofs.Common.{◌≡◌, ◌+◌, ◌<◌, ◌∙◌, ap, sym, subst, arith, length}
+use Rattle.std.proofs.Common.{◌≡◌, ◌+◌, ◌∙◌, ap, sym, subst, arith, length}
 use Rattle.std.specs.Prelude.{min}
 use Rattle.fec_plan.specs.Partition.{Cut}
 use Rattle.stream_buffer.specs.StreamState.{StreamState, StandsFor, closed_segments}

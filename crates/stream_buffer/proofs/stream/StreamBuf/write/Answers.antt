@@ -2,7 +2,6 @@ use Rattle.std.proofs.Common.{◌≡◌, ◌+◌, ◌*◌, ◌≤◌, ◌∙◌,
 use Rattle.std.specs.Prelude.{Ok, Err}
 use Rattle.std.specs.Int.{div_ceil}
 use Rattle.norm_order.specs.Entries.{Write}
-use Rattle.norm_order.specs.Segments.{has_end}
 use Rattle.norm_send_rules.specs.declared.fault.StreamFault.TheVariants.{Closed, Spent}
 use Rattle.stream_buffer.specs.StreamState.{StreamState, kept_from, closed_segments}
 use Rattle.stream_buffer.specs.StreamMoves.{with_octets, room_fault, from_block, kept_for}

@@ -1,5 +1,5 @@
 use Rattle.std.proofs.Common.{◌≡◌, ◌+◌, ◌-◌, ◌<◌, ap, sym, subst, ◌∙◌, arith, Some, Option, length}
-use Rattle.std.specs.Prelude.{slice_get, is_some}
+use Rattle.std.specs.Prelude.{slice_get}
 use Rattle.fec_plan.specs.declared.position.Position.{Position}
 use Rattle.held_object.proofs.ListLemmas.{get_there}
 use Rattle.norm_order.specs.Entries.{Stream}

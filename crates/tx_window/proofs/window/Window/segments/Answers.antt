@@ -3,7 +3,6 @@ use Rattle.std.specs.Prelude.{slice_get, min}
 use Rattle.held_object.proofs.ListLemmas.{get_there}
 use Rattle.norm_order.specs.Entries.{Object, Stream}
 use Rattle.norm_order.specs.Shapes.{shape_of}
-use Rattle.norm_send_rules.specs.SenderState.{SenderState}
 use Rattle.norm_send_rules.specs.InWindow.{last_index}
 use Rattle.norm_send_rules.specs.Room.{first_kept}
 use Rattle.tx_window.specs.WindowState.{reads, WindowState, Stands, entry_reads}
