@@ -51,7 +51,7 @@ use Rattle.norm_laws.proofs.AsItCame.{Stays, Moves, by_fault, by_test, step_move
 -- ---- what an event does to the round
 
 -- the same round, or none
-abbrev KeepsRound : SenderState → SenderState → Type 0
+abbrev pub KeepsRound : SenderState → SenderState → Type 0
 KeepsRound s t = (t.round ≡ s.round) ⊎ (t.round ≡ None)
 
 anew_round : (old new : SenderState) → (counted_anew old new).round ≡ new.round
@@ -144,11 +144,11 @@ told_round s = go s.untold_nodes s.untold_marks
     go [] [] = refl
 
 -- a NACK that counts adds its requests
-record Adds (p : Settings) (s t : SenderState) (datagram : List ℕ) : Type 0 where
-  nack : NackMessage
-  spells : decoded datagram ≡ Ok (Nack nack)
-  counts : nack_counts p s nack ≡ true
-  asked : asked_yet t ≡ asked_yet s ++ map (asked_now p s) nack.requests
+pub record Adds (p : Settings) (s t : SenderState) (datagram : List ℕ) : Type 0 where
+  pub nack : NackMessage
+  pub spells : decoded datagram ≡ Ok (Nack nack)
+  pub counts : nack_counts p s nack ≡ true
+  pub asked : asked_yet t ≡ asked_yet s ++ map (asked_now p s) nack.requests
 
 credited_round : (node : ℕ) (at : Position) (s : SenderState) → IsRound s.round (credited node at s)
 credited_round node at s = go (rises node at s)
@@ -168,7 +168,7 @@ credited_by_round p node (Some at) s = go (is_source (current_shapes p s) at)
     go true = credited_round node at s
     go false = refl
 
-joined_asks : (p : Settings) (s : SenderState) (now : ℕ) (requests : List Request)
+pub joined_asks : (p : Settings) (s : SenderState) (now : ℕ) (requests : List Request)
     → asked_yet (joined_round p s now requests) ≡ asked_yet s ++ map (asked_now p s) requests
 joined_asks p s now [] = sym (append-nil (asked_yet s))
 joined_asks p s now (r ∷ requests) = ap (λ (xs : List Asked). xs ++ map (asked_now p s) (r ∷ requests)) (go s.round)
@@ -206,10 +206,10 @@ message_round p s now datagram (Ok (Ack m)) e = inl (inl (go (ack_counts p s m) 
 message_round p s now datagram _ e = inl (inl refl)
 
 -- The round stays, or ends; or a NACK that is delivered adds its requests.
-abbrev StepRound : Settings → SenderState → SenderEvent → SenderState → Type 0
+abbrev pub StepRound : Settings → SenderState → SenderEvent → SenderState → Type 0
 StepRound p s event t = KeepsRound s t ⊎ ((datagram : List ℕ) × (moment : ℕ) × (event ≡ Delivered datagram moment) × Adds p s t datagram)
 
-step_round : (p : Settings) (s : SenderState) (event : SenderEvent) → StepRound p s event (sender_step p s event).0
+pub step_round : (p : Settings) (s : SenderState) (event : SenderEvent) → StepRound p s event (sender_step p s event).0
 step_round p s (events.Commanded by job now) = inl (command_round p s by job)
 step_round p s (Delivered datagram now) = go (message_round p s now datagram (decoded datagram) refl)
   where

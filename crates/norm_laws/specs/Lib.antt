@@ -1,3 +1,4 @@
 pub mod SentOnce
 pub mod AsItCame
 pub mod CountsFit
+pub mod Repairs

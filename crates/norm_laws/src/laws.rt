@@ -2,6 +2,7 @@
 
 ghost use Rattle.norm_laws.specs.AsItCame.{AsksAsItCame, RoundsAskAsItCame};
 ghost use Rattle.norm_laws.specs.CountsFit.{CountsOfASessionFit};
+ghost use Rattle.norm_laws.specs.Repairs.{RepairsSuffice};
 ghost use Rattle.norm_laws.specs.SentOnce.{IdleHasSent};
 
 /// Idle says that all was sent: wherever a sender of data and files is idle, each info and symbol that it sends once by itself was
@@ -23,6 +24,13 @@ pub fn requests_ask_as_they_came()
 #[tactic(auto, using(crate::proofs::RoundAsks::rounds_ask))]
 pub fn rounds_ask_as_they_came()
     ensures { RoundsAskAsItCame }
+{}
+
+/// Coded repair suffices: as a round closes, what is wanted then completes each block that one of its NACKs counts, for the receiver that
+/// gave it, whatever others asked; and nobody holds what is wanted and was never sent. So it is in each lawful run of few objects.
+#[tactic(auto, using(crate::proofs::RepairRun::repair_run))]
+pub fn repairs_suffice()
+    ensures { RepairsSuffice }
 {}
 
 /// The counts of a session of data and files are bounded by its script's commands and its profile's receivers and octets, and so fit

@@ -1,8 +1,8 @@
-//! Objects that are taken in, sent, dropped and refused, and one that goes round the ring's end.
+//! Objects that are taken in, sent, dropped and refused, one that goes round the ring's end, and streams of which blocks go.
 
 use fec_plan::Position;
 use norm_base::{Datagram, Given, Key, Kind, Memory, Mode, Octets, Profile};
-use norm_send_rules::{EnqueueFault, Want};
+use norm_send_rules::{EnqueueFault, StreamFault, Want};
 use std::alloc::Global;
 use std::marker::Model;
 use std::process::Abort;
@@ -71,6 +71,44 @@ impl Standing {
         self.window.note_past(through);
     }
 
+    fn open_stream(&mut self) -> Result<u32, EnqueueFault> {
+        self.window.open_stream()
+    }
+
+    fn write(&mut self, bytes: &[u8]) -> Result<(u32, u32), EnqueueFault> {
+        self.window.write(bytes)
+    }
+
+    fn cut(&mut self) {
+        self.window.cut();
+    }
+
+    fn close_stream(&mut self) -> Result<u32, EnqueueFault> {
+        self.window.close_stream()
+    }
+
+    fn end_cut(&self) -> Option<Position> {
+        self.window.end_cut()
+    }
+
+    /// How many streams there are, and how many segments of the last one are closed.
+    fn streams(&self) -> (u32, u32) {
+        (self.window.streams(), self.window.segments())
+    }
+
+    /// Begins an object, of which a piece comes and so many octets are missing as another instance begins. Whether it was begun.
+    fn cut_short(&mut self, piece: &[u8], missing: u32) -> bool {
+        let len = piece.len() as u64 + u64::from(missing);
+        match self.window.begin(Kind::Data, None, len) {
+            Ok(()) => {
+                self.window.fill(piece);
+                self.window.clear();
+                true
+            }
+            Err(_) => false,
+        }
+    }
+
     fn is_source(&self, at: Position) -> bool {
         self.window.is_source(at)
     }
@@ -132,6 +170,19 @@ enum Step {
     Past(At),
     IsSource(At, bool),
     First(u32),
+    /// The first entry and the first block of it.
+    Front(u32, u32),
+    Opens(Result<u32, EnqueueFault>),
+    /// So many octets are written: the index and the offset.
+    Writes(usize, Result<(u32, u32), EnqueueFault>),
+    Cut,
+    Closes(Result<u32, EnqueueFault>),
+    /// The last closed segment once the open stream is cut.
+    EndCut(Option<At>),
+    /// How many streams there are, and how many segments of the last one are closed.
+    Streams(u32, u32),
+    /// An object of which so many octets come, and so many are missing as another instance begins. Whether it was begun.
+    CutShort(usize, u32, bool),
     End(Option<At>),
     /// The length and the flags that messages say of an object, and its blocks.
     About(u32, Option<(u64, u8, u32)>),
@@ -236,6 +287,27 @@ fn send_many(alloc: Global, window: &mut Standing, count: u32) -> Result<(), Mem
     Ok(())
 }
 
+/// Makes a call of the open stream, or of an object that is cut short, and says whether it was answered so.
+fn does_stream(alloc: Global, window: &mut Standing, step: Step) -> Result<bool, Memory> {
+    match step {
+        Step::Opens(answer) => Ok(window.open_stream() == answer),
+        Step::Writes(len, answer) => {
+            let octets = octets_of(alloc, window.e, len)?;
+            Ok(window.write(octets.bytes()) == answer)
+        }
+        Step::Cut => {
+            window.cut();
+            Ok(true)
+        }
+        Step::Closes(answer) => Ok(window.close_stream() == answer),
+        Step::CutShort(len, missing, answer) => {
+            let octets = octets_of(alloc, window.e, len)?;
+            Ok(window.cut_short(octets.bytes(), missing) == answer)
+        }
+        _ => Ok(false),
+    }
+}
+
 /// Makes a call, and says whether it was answered so.
 fn does(alloc: Global, window: &mut Standing, step: Step) -> Result<bool, Memory> {
     match step {
@@ -252,6 +324,12 @@ fn does(alloc: Global, window: &mut Standing, step: Step) -> Result<bool, Memory
         }
         Step::IsSource(at, answer) => Ok(window.is_source(position(at)) == answer),
         Step::First(index) => Ok(window.first() == (index, 0)),
+        Step::Front(index, block) => Ok(window.first() == (index, block)),
+        Step::EndCut(at) => Ok(window.end_cut() == at.map(position)),
+        Step::Streams(count, segments) => Ok(window.streams() == (count, segments)),
+        Step::Opens(_) | Step::Writes(..) | Step::Cut | Step::Closes(_) | Step::CutShort(..) => {
+            does_stream(alloc, window, step)
+        }
         Step::End(at) => Ok(window.end() == at.map(position)),
         Step::About(index, answer) => Ok(says(window, index) == answer),
         Step::NextFrom(index, answer) => {
@@ -301,6 +379,21 @@ fn play(
     steps: &[Step],
 ) -> Result<(), Memory> {
     let profile = profile_of(rt, mode, sizes, most);
+    let mut window = Standing::new(alloc, &profile)?;
+    for (place, step) in steps.iter().enumerate() {
+        let is_so = does(alloc, &mut window, *step)?;
+        assert!(rt; is_so, "call {place}");
+    }
+    Ok(())
+}
+
+/// Makes calls in their order, of a window with room for streams of two blocks, of one segment of 64 octets each.
+fn play_stream(rt: &impl Abort, alloc: Global, mode: Mode, steps: &[Step]) -> Result<(), Memory> {
+    let profile = profile_of(rt, mode, (64, 1, 2), (2, 192));
+    let profile = Profile {
+        blocks: 2,
+        ..profile
+    };
     let mut window = Standing::new(alloc, &profile)?;
     for (place, step) in steps.iter().enumerate() {
         let is_so = does(alloc, &mut window, *step)?;
@@ -535,6 +628,120 @@ const RESTART: [Step; 9] = [
 fn a_restart_leaves_nothing(rt: HostRuntime) -> Result<(), Fail> {
     let steps = RESTART;
     play(&rt, rt.alloc(), Mode::Drop, (64, 4, 6), (1, 128), &steps)?;
+    Ok(())
+}
+
+/// A stream of blocks of one segment each, with room for two, behind an object.
+const GOES: [Step; 24] = [
+    Step::Enqueue(0, 1, Ok(0)),
+    Step::Opens(Ok(1)),
+    Step::Opens(Err(EnqueueFault::StreamOpen { index: 1 })),
+    Step::Enqueue(0, 1, Err(EnqueueFault::StreamOpen { index: 1 })),
+    Step::Writes(0, Err(EnqueueFault::Empty)),
+    Step::Writes(65, Err(EnqueueFault::TooBig { len: 65 })),
+    Step::Writes(64, Ok((1, 0))),
+    Step::Writes(64, Ok((1, 64))),
+    Step::Streams(1, 2),
+    Step::Front(0, 0),
+    Step::Send((1, 0, 0), Some((72, 0))),
+    Step::Writes(
+        64,
+        Err(EnqueueFault::Stream(StreamFault::Full { first: 0 })),
+    ),
+    Step::Send((0, 0, 0), Some((1, 1))),
+    Step::Writes(64, Ok((1, 128))),
+    Step::Front(1, 1),
+    Step::Send((0, 0, 0), None),
+    Step::Send((1, 0, 0), None),
+    Step::IsSource((0, 0, 0), true),
+    Step::IsSource((1, 0, 0), true),
+    Step::IsSource((1, 3, 0), false),
+    Step::NextAt((1, 0, 0), Some(Next::SymbolAt((1, 1, 0)))),
+    Step::Closes(Err(EnqueueFault::Stream(StreamFault::Full { first: 1 }))),
+    Step::Send((1, 1, 0), Some((72, 0))),
+    Step::Closes(Ok(1)),
+];
+
+#[test]
+fn a_front_goes_for_room(rt: HostRuntime) -> Result<(), Fail> {
+    let steps = GOES;
+    play_stream(&rt, rt.alloc(), Mode::Drop, &steps)?;
+    Ok(())
+}
+
+/// The same where all members have to be past what goes.
+const STAYS: [Step; 11] = [
+    Step::Opens(Ok(0)),
+    Step::Writes(64, Ok((0, 0))),
+    Step::Writes(64, Ok((0, 64))),
+    Step::Send((0, 0, 0), Some((72, 0))),
+    Step::Writes(
+        64,
+        Err(EnqueueFault::Stream(StreamFault::Full { first: 0 })),
+    ),
+    Step::Past((0, 0, 0)),
+    Step::Writes(64, Ok((0, 128))),
+    Step::Front(0, 1),
+    Step::Past((0, 1, 0)),
+    Step::Closes(Err(EnqueueFault::Stream(StreamFault::Full { first: 1 }))),
+    Step::Front(0, 1),
+];
+
+#[test]
+fn a_front_stays_until_all_are_past_it(rt: HostRuntime) -> Result<(), Fail> {
+    let steps = STAYS;
+    play_stream(&rt, rt.alloc(), Mode::Hold, &steps)?;
+    Ok(())
+}
+
+/// What fills is no source symbol until it is cut, and the end is known before.
+const CUTS: [Step; 14] = [
+    Step::EndCut(None),
+    Step::Opens(Ok(0)),
+    Step::EndCut(None),
+    Step::Writes(1, Ok((0, 0))),
+    Step::End(None),
+    Step::EndCut(Some((0, 0, 0))),
+    Step::Send((0, 0, 0), None),
+    Step::Cut,
+    Step::Cut,
+    Step::End(Some((0, 0, 0))),
+    Step::EndCut(Some((0, 0, 0))),
+    Step::Streams(1, 1),
+    Step::Send((0, 0, 0), Some((9, 0))),
+    Step::About(0, Some((128, 32, 16_777_216))),
+];
+
+#[test]
+fn what_fills_is_cut_once(rt: HostRuntime) -> Result<(), Fail> {
+    let steps = CUTS;
+    play_stream(&rt, rt.alloc(), Mode::Drop, &steps)?;
+    Ok(())
+}
+
+/// Another instance begins in the middle of a stream, and in the middle of an object.
+const MIDDLE: [Step; 15] = [
+    Step::Opens(Ok(0)),
+    Step::Writes(64, Ok((0, 0))),
+    Step::Writes(1, Ok((0, 64))),
+    Step::Clear,
+    Step::Front(0, 0),
+    Step::End(None),
+    Step::Streams(0, 0),
+    Step::Writes(64, Err(EnqueueFault::NoStream)),
+    Step::Closes(Err(EnqueueFault::NoStream)),
+    Step::CutShort(64, 1, true),
+    Step::End(None),
+    Step::Send((0, 0, 0), None),
+    Step::Opens(Ok(0)),
+    Step::Writes(64, Ok((0, 0))),
+    Step::Send((0, 0, 0), Some((72, 0))),
+];
+
+#[test]
+fn a_restart_leaves_nothing_of_what_was_not_done(rt: HostRuntime) -> Result<(), Fail> {
+    let steps = MIDDLE;
+    play_stream(&rt, rt.alloc(), Mode::Drop, &steps)?;
     Ok(())
 }
 
