@@ -105,8 +105,70 @@ def a_segment_left_out(run):
             return 'with_happened (changed_at %d (λ h. []))' % mine[1], 1
 
 
-DAMAGES = [repeated, swapped, of_another_entry, padded, lost_above_the_drop_point, listed_too_early, satisfied_by_the_first,
-           used_id, origin_twice, after_the_instance_was_left, written_elsewhere, a_write_lost, a_segment_left_out]
+def lost_amid_a_stream(run):
+    """A segment between two others is reported lost."""
+    for node in sorted({n for _, n, _ in taken(run)}):
+        mine = [(i, u) for i, _, u in taken(run, node) if 'bytes' in u]
+        if len(mine) > 2:
+            return 'with_happened (answered_at %d (Took (Some (up.Lost %d))))' % (mine[1][0], mine[1][1]['bytes']['index']), 1
+
+
+def dropped_nothing(run, place):
+    """Whether all that was accepted before a place fits into the window and its octets, and all segments into a stream's blocks."""
+    p, gave = run['profile'], [e.get('gave', {}) for e in run['events'][:place]]
+    entries = [g['object']['len'] for g in gave if 'object' in g] + [p['blocks'] * p['b'] * p['e'] for g in gave if 'opened' in g]
+    writes = [g['wrote']['len'] for g in gave if 'wrote' in g]
+    cuts = sum('mark' in g or 'closed' in g for g in gave) + 1
+    return (len(entries) <= p['window'] and sum(entries) <= p['octets'] and not any('restarted' in g for g in gave)
+            and sum(writes) // p['e'] + len(writes) + cuts <= p['blocks'] * p['b'])
+
+
+def lost_though_its_blocks_stand(run):
+    """Cut behind a segment that is handed up: it is a loss of its stream, of which the sender dropped nothing."""
+    for i, _, u in taken(run):
+        if 'bytes' in u and dropped_nothing(run, i):
+            return 'with_happened (answered_at %d (Took (Some (up.Lost %d))))' % (i, u['bytes']['index']), 1, i + 1
+
+
+def with_another_info(run):
+    for i, _, u in taken(run):
+        if 'object' in u and u['object']['info']:
+            other = {'object': dict(u['object'], info=u['object']['info'] + '00')}
+            return 'with_happened (answered_at %d (Took (Some %s)))' % (i, terms.up(other)), 1
+
+
+def of_another_kind(run):
+    for i, _, u in taken(run):
+        if 'object' in u and u['object']['kind'] == 'data' and not u['object']['info']:
+            other = {'object': dict(u['object'], kind='file')}
+            return 'with_happened (answered_at %d (Took (Some %s)))' % (i, terms.up(other)), 1
+
+
+def listed_before_a_later_hand_up(run):
+    """Cut before an object of one symbol is handed up that is not the first: all are listed past it."""
+    for i, _, u in taken(run):
+        if any('job' in e and e['job']['verb'] == 'restart' for e in run['events'][:i]):
+            return None
+        if 'object' in u and u['object']['index'] and len(u['object']['bytes']) <= 128:
+            return 'with_sender (all_listed (position %d 0 0))' % u['object']['index'], 2, i
+
+
+def satisfied_by_one_that_was_struck(run):
+    """Cut as above: the one that is listed is struck, and what waits for the others is satisfied."""
+    found = satisfied_by_the_first(run)
+    return found and ('with_sender (all_satisfied_without %d)' % run['events'][found[2] - 1]['news']['past']['node'], *found[1:])
+
+
+def open_though_its_quorum_stands(run):
+    """Cut behind a watermark's satisfaction: it is open."""
+    for i, e in enumerate(run['events']):
+        if ((e.get('news') or {}).get('done') or {}).get('outcome') == 'satisfied':
+            return 'with_sender all_open', 3, i + 1
+
+
+DAMAGES = [repeated, swapped, of_another_entry, padded, with_another_info, lost_above_the_drop_point, lost_amid_a_stream, lost_though_its_blocks_stand,
+           a_segment_left_out, after_the_instance_was_left, of_another_kind, listed_too_early, listed_before_a_later_hand_up,
+           satisfied_by_the_first, satisfied_by_one_that_was_struck, open_though_its_quorum_stands, used_id, origin_twice, written_elsewhere, a_write_lost]
 
 
 def cases(runs):

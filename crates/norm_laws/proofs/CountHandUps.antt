@@ -1,12 +1,10 @@
 -- The receivers of a session hand up or lose each entry of each order once at most.
-use Rattle.std.proofs.Common.{◌≡◌, ℕ, zero, suc, ◌+◌, ◌*◌, ◌≤◌, cond, List, [], ◌∷◌, ◌++◌, length, take, Bool, true, false, None, Some, refl, ap, ◌∙◌, arith, ◌⊎◌, inl, inr}
+use Rattle.std.proofs.Common.{◌≡◌, ℕ, ◌+◌, ◌*◌, ◌≤◌, cond, List, [], ◌∷◌, ◌++◌, length, Bool, true, false, None, Some, refl, ap, ◌∙◌, arith, ◌⊎◌, inl, inr}
 use Rattle.std.specs.Prelude.{map, find, flat_map, ◌==◌, ◌&&◌, nat_eq, ⊤}
 use Rattle.std.specs.List.{AllByRecursion, IsDistinct}
 use Rattle.std.proofs.lemmas.Bool.Decides.{Decides-eqb}
 use Rattle.std.proofs.lemmas.List.{length-append, length-map}
-use Rattle.norm_base.specs.Settings.{Settings}
-use Rattle.norm_order.specs.Entries.{Object, Whole, Stream, Entry}
-use Rattle.norm_order.specs.Upto.{parts_of}
+use Rattle.norm_order.specs.Entries.{Entry}
 use Rattle.norm_order.specs.declared.up.Up.{Up}
 use Rattle.norm_send_rules.specs.SenderState.{SenderState, Instance, Watermark}
 use Rattle.norm_send_rules.specs.Restarting.{instances}

@@ -1,5 +1,7 @@
 pub mod NewOrder
 pub mod WholeOrders
+pub mod StreamNew
+pub mod GoneSent
 pub mod SentLemmas
 pub mod IdleRun
 pub mod ShapesThen

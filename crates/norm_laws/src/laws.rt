@@ -3,13 +3,19 @@
 ghost use Rattle.norm_laws.specs.AsItCame.{AsksAsItCame, RoundsAskAsItCame};
 ghost use Rattle.norm_laws.specs.CountsFit.{CountsOfASessionFit};
 ghost use Rattle.norm_laws.specs.Repairs.{RepairsSuffice};
-ghost use Rattle.norm_laws.specs.SentOnce.{IdleHasSent};
+ghost use Rattle.norm_laws.specs.SentOnce.{IdleHasSent, IdleHasSources};
 
-/// Idle says that all was sent: wherever a sender of data and files is idle, each info and symbol that it sends once by itself was
-/// sent, or was dropped.
+/// Idle says that all was sent: wherever a sender is idle, each info and symbol that it sends once by itself was sent, or was dropped.
 #[tactic(auto, using(crate::proofs::IdleRun::idle_has_sent))]
 pub fn idle_has_sent()
     ensures { IdleHasSent }
+{}
+
+/// Nothing is dropped before it was sent: wherever a sender is idle, each closed source symbol of its order and each info of it was sent
+/// in the instance, dropped or not.
+#[tactic(auto, using(crate::proofs::IdleRun::idle_has_sources))]
+pub fn idle_has_sources()
+    ensures { IdleHasSources }
 {}
 
 /// As a round closes, a request asks by the order as it stood when the request came: its infos, symbols and counts are those of then,
