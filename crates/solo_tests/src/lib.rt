@@ -1,0 +1,11 @@
+//! Tests of a sender alone, call by call.
+#![tactic(auto)]
+
+#[cfg(test)]
+mod driven;
+#[cfg(test)]
+mod rows;
+#[cfg(test)]
+mod solo;
+#[cfg(test)]
+mod spelled;
