@@ -214,6 +214,14 @@ refused 1 'it has an octet 0, 254 or 255, as UTF-16 has: write ASCII or UTF-8' '
 refused 1 'it ends with a space' '1 data 61 \n'
 refused 1 'it has two spaces in a row: words have one between them' 'set  e 64\n'
 
+# One line too many, and one that is too long: of each the number is said.
+yes '' | head -n 8193 >"$scratch/in"
+reason='line 8193: a script has at most 8192 lines\n'
+row 'a script of 8,193 empty lines' 3 'refused line 8193\n' session
+{ printf '1 data 61\n#'; digits 16500; printf '\n'; } >"$scratch/in"
+reason='line 2: the line has 16501 octets, and a line has at most 16500\n'
+row 'a script with a line of 16,501 octets' 3 'refused line 2\n' session
+
 # Nodes, each in a process of its own: the sender lists both receivers, which put the file that they hand up. They are ended by a signal.
 port=$((20000 + $$ % 20000))
 printf 'fabric = "udp"\nport = %s\nreceivers = 2\nstep = 0\n' "$port" >"$scratch/profile"
