@@ -1,12 +1,12 @@
-//! Unions of one object: what their rounds ask for, early requests, and the largest object.
+//! Unions of one object or stream: what their rounds ask for, early requests, a front that went, and the largest object.
 
 ghost use Rattle.std.specs.Prelude.{◌≡◌, ◌∷◌, [], false, true};
-ghost use Rattle.fec_plan.specs.Partition.{cut_of};
-ghost use Rattle.nack_union.specs.Kept.{admitted};
+ghost use Rattle.fec_plan.specs.Partition.{cut_of, stream_cut};
+ghost use Rattle.nack_union.specs.Kept.{admitted, MayRetire};
 
 use fec_plan::{PayloadId, Plan, Position};
 use nack_union::{Closed, Union, Want};
-use norm_base::{Memory, Profile};
+use norm_base::{Given, Key, Memory, Profile};
 use norm_ext::flags::{WANT_BLOCK, WANT_INFO, WANT_OBJECT, WANT_SEGMENT};
 use norm_ext::{check_requests, requests_of};
 use std::alloc::Global;
@@ -406,4 +406,94 @@ const LAST: [Call; 6] = [
 fn the_last_symbol_of_the_largest_object_is_wanted(rt: HostRuntime) {
     let calls = LAST;
     play(&rt, largest(&rt, rt.alloc()), &calls);
+}
+
+/// A profile with symbols of 64 octets in blocks of two, with one of parity each.
+fn of_two(rt: &impl Abort) -> Profile {
+    let mut given = Given::new();
+    for (key, value) in [(Key::E, 64), (Key::B, 2), (Key::MaxN, 3)] {
+        given.set(key, value);
+    }
+    Profile::of(&given).expect(rt, "a profile")
+}
+
+/// How streams of a profile are cut.
+fn stream_plan(rt: &impl Abort, profile: &Profile) -> Plan
+    ensures { result ≡ stream_cut profile.now.e profile.now.b profile.now.max_n }
+{
+    Plan::stream(profile.e, profile.b, profile.max_n).expect(rt, "a plan")
+}
+
+/// A union with a stream of which three segments are closed: a block is full, and one is not.
+fn stream(rt: &impl Abort, alloc: Global) -> Union
+    ensures { MayRetire 0 1 result.kept }
+{
+    let profile = of_two(rt);
+    let plan = stream_plan(rt, &profile);
+    let mut union = Union::new(alloc, &profile);
+    match union.admit_stream(0, &plan) {
+        Ok(()) => {
+            union.grow(0, u32::from(profile.b) + 1);
+            union
+        }
+        Err(Memory) => panic!(rt; "no memory for a stream"),
+    }
+}
+
+/// Of a block that is not full nothing but closed segments is wanted, whether by name, by a count or in a range.
+const STREAMED: [Call; 20] = [
+    Call::Item(WANT_SEGMENT, (0, 0, 2)),
+    Call::Item(WANT_SEGMENT, (0, 1, 2)),
+    Call::Item(WANT_SEGMENT, (0, 1, 1)),
+    Call::Item(WANT_SEGMENT, (0, 2, 0)),
+    Call::Closes(1, false),
+    Call::Gives((0, 0, 2)),
+    Call::Count(0, 1),
+    Call::Count(1, 1),
+    Call::Count(2, 1),
+    Call::Closes(2, false),
+    Call::Gives((0, 0, 2)),
+    Call::Gives((0, 1, 0)),
+    Call::Range(WANT_SEGMENT, (0, 0, 1), (0, 9, 0)),
+    Call::Closes(2, false),
+    Call::Gives((0, 0, 1)),
+    Call::Gives((0, 1, 0)),
+    Call::Item(WANT_OBJECT, (0, 0, 0)),
+    Call::Closes(3, false),
+    Call::GivesAll(3),
+    Call::GivesNothing,
+];
+
+#[test]
+fn of_a_stream_what_is_closed_is_wanted(rt: HostRuntime) {
+    let calls = STREAMED;
+    play(&rt, stream(&rt, rt.alloc()), &calls);
+}
+
+/// A union with a stream of which the first block is gone, and whether that took a want.
+fn moved_on(rt: &impl Abort, alloc: Global) -> (Union, bool) {
+    let mut union = stream(rt, alloc);
+    let took = union.retire(0, 1);
+    (union, took)
+}
+
+/// What lies before the front is early, and nothing of it is wanted.
+const FRONT_GONE: [Call; 9] = [
+    Call::Item(WANT_SEGMENT, (0, 0, 1)),
+    Call::Closes(0, true),
+    Call::Count(0, 1),
+    Call::Count(1, 2),
+    Call::Closes(1, true),
+    Call::Gives((0, 1, 0)),
+    Call::Range(WANT_SEGMENT, (0, 0, 0), (0, 2, 0)),
+    Call::Closes(1, true),
+    Call::Gives((0, 1, 0)),
+];
+
+#[test]
+fn what_lies_before_a_front_is_early(rt: HostRuntime) {
+    let calls = FRONT_GONE;
+    let (union, took) = moved_on(&rt, rt.alloc());
+    assert!(rt; !took);
+    play(&rt, union, &calls);
 }
