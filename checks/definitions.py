@@ -94,10 +94,11 @@ def main():
                 from evaluate import rules
                 said, differ = rules.look(a.write)
             elif a.laws:
-                from evaluate import journals, laws
+                from evaluate import handed, journals, laws
                 said, differ = laws.look(space, runs)
                 own, astray = journals.look_at_laws(journals.Judge(tempfile.mkdtemp(dir=scratch)), journals.without_streams(journals.runs_of(a.runs, a.names)))
-                said, differ = '%s, %s' % (said, own), differ + astray
+                passing, parted = handed.look(handed.Passing(tempfile.mkdtemp(dir=scratch)), runs)
+                said, differ = '%s, %s, %s' % (said, own, passing), differ + astray + parted
             elif a.safe:
                 said, differ = compare(space, [], [(n, *terms.safe_case(n, r)) for n, r in lawful])
             elif a.gate or a.damaged or a.cases:

@@ -20,15 +20,15 @@ use Rattle.norm_laws.proofs.GoneSent.{gone_none}
 use Rattle.norm_laws.proofs.SentLemmas.{SentSoFar, heard_so_far, told_so_far, command_so_far, tick_so_far, idle_so_far, sources_sent}
 
 -- what is kept of a sender
-record Kept (p : Settings) (s : SenderState) : Type 0 where
-  drops : DropHolds s
-  sent : SentSoFar p s
+pub record Kept (p : Settings) (s : SenderState) : Type 0 where
+  pub drops : DropHolds s
+  pub sent : SentSoFar p s
 
 given_keeps : (p : Settings) (node : ℕ) (sent : Option Written) (w : World) → Kept p w.sender → Kept p (with_given node sent w).sender
 given_keeps p node None w h = h
 given_keeps p node (Some datagram) w h = h
 
-event_keeps : (p : Settings) → InRange p → (w : World) (e : Event) → Kept p w.sender → Kept p (world_step p w e).0.sender
+pub event_keeps : (p : Settings) → InRange p → (w : World) (e : Event) → Kept p w.sender → Kept p (world_step p w e).0.sender
 event_keeps p range w (Commanded by job now) h = record {
   drops = drop_laws.always p w.sender (sender.Commanded by job now) h.drops;
   sent = command_so_far p range w.sender by job h.drops h.sent;
@@ -72,10 +72,13 @@ opening_sent : (p : Settings) → SentSoFar p (sender_opening p p.instance)
 unfolding new_from
 opening_sent p = record { sent = tt; next = inr refl; place = inl refl; gone = gone_none p [] }
 
+pub opening_kept : (p : Settings) → Kept p (sender_opening p p.instance)
+opening_kept p = record { drops = drop_laws.begins p p.instance; sent = opening_sent p }
+
 -- what was sent at each moment of a run
 pub run_sent : (p : Settings) → InRange p → (events : List Event) → SentSoFar p (run_from p (world_opening p) events).sender
 run_sent p range events =
-    (run_keeps p range (world_opening p) events (record { drops = drop_laws.begins p p.instance; sent = opening_sent p })).sent
+    (run_keeps p range (world_opening p) events (opening_kept p)).sent
 
 pub idle_has_sent : IdleHasSent
 idle_has_sent p range events idle = idle_so_far p (run_from p (world_opening p) events).sender idle (run_sent p range events)

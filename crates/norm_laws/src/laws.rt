@@ -2,6 +2,7 @@
 
 ghost use Rattle.norm_laws.specs.AsItCame.{AsksAsItCame, RoundsAskAsItCame};
 ghost use Rattle.norm_laws.specs.CountsFit.{CountsOfASessionFit};
+ghost use Rattle.norm_laws.specs.HandedUp.{AllIsHandedUp};
 ghost use Rattle.norm_laws.specs.Repairs.{RepairsSuffice};
 ghost use Rattle.norm_laws.specs.SentOnce.{IdleHasSent, IdleHasSources};
 
@@ -16,6 +17,12 @@ pub fn idle_has_sent()
 #[tactic(auto, using(crate::proofs::IdleRun::idle_has_sources))]
 pub fn idle_has_sources()
     ensures { IdleHasSources }
+{}
+
+/// All is handed up where each datagram of the sender is passed on before its next tick: wherever the sender is idle then, every receiver
+/// was handed everything of the current instance's order, and nothing else.
+pub fn all_is_handed_up()
+    ensures { AllIsHandedUp }
 {}
 
 /// As a round closes, a request asks by the order as it stood when the request came: its infos, symbols and counts are those of then,
