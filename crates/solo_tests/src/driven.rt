@@ -59,6 +59,10 @@ impl Driven {
         self.sender.news()
     }
 
+    pub(crate) fn idle(&self) -> bool {
+        self.sender.idle()
+    }
+
     /// A file by two pieces of its octets, the first of so many.
     pub(crate) fn file_in_two(
         &mut self,

@@ -4,8 +4,8 @@
 #[cfg(test)]
 mod driven;
 #[cfg(test)]
+mod fronts;
+#[cfg(test)]
 mod rows;
 #[cfg(test)]
 mod solo;
-#[cfg(test)]
-mod spelled;

@@ -1,9 +1,10 @@
 //! Rows on a sender alone: how a stream is sent, which of its blocks go for room, what is repaired of it, and what a restart
 //! leaves. The datagrams are spelled by the formats of their messages.
 
-use crate::solo::{Answer, Ask, Runs, Step, Told, plays};
+use crate::solo::{Step, plays, plays_from};
 use norm_base::Key;
 use norm_send_rules::Outcome;
+use row_words::{Answer, Ask, Runs, Told};
 use std::test::Fail;
 
 /// A segment of 64 octets.
@@ -488,4 +489,41 @@ fn a_dropped_object_is_squelched(rt: HostRuntime) -> Result<(), Fail> {
     let steps = DROPPED;
     let keys = [(Key::K, 0), (Key::Mode, 1), (Key::Window, 1)];
     plays(&rt, rt.alloc(), &keys, &steps)
+}
+
+/// Restarts of a sender of instance 7: its own id and the current one are over, and so is each that lies more than 32,767 above its first.
+const RESTARTS: [Step; 9] = [
+    Step::Asks(Ask::Data(&[(1, 1)]), Answer::Taken(0, 1)),
+    Step::Asks(Ask::Restart(7), Answer::Used(7)),
+    Step::Asks(Ask::Restart(8), Answer::Restarted(8)),
+    Step::Asks(Ask::Data(&[(1, 2)]), Answer::Taken(0, 1)),
+    Step::Asks(Ask::Restart(7), Answer::Used(7)),
+    Step::Asks(Ask::Restart(8), Answer::Used(8)),
+    Step::Asks(Ask::Restart(32_775), Answer::Used(32_775)),
+    Step::Sends(
+        1,
+        "12080000 00000001 00084041 00050000 00000000 40030000 00000001 00400406 02",
+        (0, 0),
+    ),
+    Step::Asks(Ask::Restart(32_774), Answer::Restarted(32_774)),
+];
+
+#[test]
+fn an_instance_comes_once(rt: HostRuntime) -> Result<(), Fail> {
+    let steps = RESTARTS;
+    plays(&rt, rt.alloc(), &[], &steps)
+}
+
+/// Restarts of a sender of instance 65535, whose ids go on from 0.
+const RISING: [Step; 4] = [
+    Step::Asks(Ask::Restart(0), Answer::Restarted(0)),
+    Step::Asks(Ask::Restart(65_535), Answer::Used(65_535)),
+    Step::Asks(Ask::Restart(32_767), Answer::Used(32_767)),
+    Step::Asks(Ask::Restart(32_766), Answer::Restarted(32_766)),
+];
+
+#[test]
+fn instances_rise_past_the_last_id(rt: HostRuntime) -> Result<(), Fail> {
+    let steps = RISING;
+    plays_from(&rt, rt.alloc(), 65_535, &[], &steps)
 }

@@ -1,0 +1,12 @@
+//! The words in which rows of tests are written: octets, profiles, commands with their answers, hand-ups and news.
+#![tactic(auto)]
+
+mod asked;
+mod handed;
+mod spelled;
+mod told;
+
+pub use crate::asked::{Answer, Ask, BY, answer_of, job_of};
+pub use crate::handed::{Handed, handed_of};
+pub use crate::spelled::{Runs, Spelled, datagram_of, filled, moment, octets_of, profile_of};
+pub use crate::told::{Told, told_of};
