@@ -11,5 +11,3 @@ mod fed;
 mod pair;
 #[cfg(test)]
 mod pair_tests;
-#[cfg(test)]
-mod receiver_tests;

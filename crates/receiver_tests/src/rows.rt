@@ -1,191 +1,9 @@
 //! A receiver that is given datagrams, octet for octet: what it hands up, acknowledges and asks for.
 
-use crate::pair::profile_of;
-use crate::pair_tests::octets_of;
-use norm_base::{Datagram, Key, Memory, Moment, NodeId, Octets, Sent};
-use norm_order::Up;
-use norm_receiver::Receiver;
-use std::alloc::Global;
-use std::process::Abort;
+use crate::given::{Call, plays};
+use norm_base::Key;
+use row_words::{Handed, Spelled};
 use std::test::Fail;
-
-/// A datagram: a text that spells octets in hexadecimal, and so many octets behind them, each of them this one.
-type Spelled = (&'static str, (usize, u8));
-
-/// What is handed up, with its index; of octets how many there are and the first of them, and of a segment where it begins.
-#[derive(Clone, Copy, PartialEq, Eq)]
-enum Handed {
-    Object(u32, usize, u8),
-    Open(u32),
-    Segment(u32, u32, usize, u8),
-    End(u32),
-    Lost(u32),
-    Nothing,
-}
-
-/// A call of a receiver, with what it has to answer.
-#[derive(Clone, Copy)]
-enum Call {
-    /// A datagram comes at this moment.
-    Deliver(u64, Spelled),
-    /// It comes three times.
-    Thrice(u64, Spelled),
-    /// Each front of it comes that has fewer octets than so many, from none on.
-    Fronts(u64, &'static str, usize),
-    Up(Handed),
-    /// What is sent at this moment, spelled in hexadecimal; `""` where nothing is.
-    Tick(u64, &'static str),
-    Instance(Option<u16>),
-    HasLost(bool),
-}
-
-/// A receiver, and what it wrote last.
-#[derive(Drop)]
-struct Given {
-    receiver: Receiver,
-    out: Datagram,
-}
-
-/// The octets of a datagram.
-fn datagram_of(alloc: Global, (text, behind): Spelled) -> Result<Octets, Fail> {
-    let Some(front) = octets_of(alloc, text)? else {
-        return Ok(Octets::of(Vec::new(alloc)));
-    };
-    let mut octets = front.into_inner();
-    for _ in 0..behind.0 {
-        octets.push(behind.1)?;
-    }
-    Ok(Octets::of(octets))
-}
-
-/// How many octets there are, and the first of them.
-fn front_of(octets: &Octets) -> (usize, u8) {
-    let bytes = octets.bytes();
-    (bytes.len(), bytes.first().copied().unwrap_or(0))
-}
-
-/// A hand-up.
-fn handed_of(up: &Up) -> Handed {
-    match up {
-        Up::Object { index, bytes, .. } => {
-            let (len, first) = front_of(bytes);
-            Handed::Object(*index, len, first)
-        }
-        Up::StreamOpen { index } => Handed::Open(*index),
-        Up::StreamBytes {
-            index,
-            offset,
-            bytes,
-        } => {
-            let (len, first) = front_of(bytes);
-            Handed::Segment(*index, *offset, len, first)
-        }
-        Up::StreamEnd { index } => Handed::End(*index),
-        Up::Lost { index } => Handed::Lost(*index),
-    }
-}
-
-impl Given {
-    /// A datagram comes.
-    fn deliver(&mut self, bytes: &[u8], now: u64) -> Result<(), Memory> {
-        self.receiver.deliver(bytes, Moment(now), 0)
-    }
-
-    /// Each front of a datagram comes that has fewer octets than so many.
-    fn deliver_fronts(&mut self, bytes: &[u8], now: u64, below: usize) -> Result<(), Memory> {
-        for count in 0..below.min(bytes.len()) {
-            self.deliver(&bytes[..count], now)?;
-        }
-        Ok(())
-    }
-
-    /// The next hand-up.
-    fn up(&mut self) -> Handed {
-        match self.receiver.take_up() {
-            Some(up) => handed_of(&up),
-            None => Handed::Nothing,
-        }
-    }
-
-    /// Whether these octets are sent at this moment, or nothing where there are none; all has to be taken before.
-    fn sends(&mut self, now: u64, wanted: &[u8]) -> bool {
-        if self.receiver.ups() > 0 {
-            return false;
-        }
-        match self.receiver.tick(Moment(now), &mut self.out) {
-            Sent::Datagram => self.out.bytes() == wanted,
-            _ => wanted.is_empty(),
-        }
-    }
-
-    /// A datagram comes so often.
-    fn takes(
-        &mut self,
-        alloc: Global,
-        now: u64,
-        spelled: Spelled,
-        times: u32,
-    ) -> Result<bool, Fail> {
-        let octets = datagram_of(alloc, spelled)?;
-        for _ in 0..times {
-            self.deliver(octets.bytes(), now)?;
-        }
-        Ok(!octets.bytes().is_empty())
-    }
-
-    /// Fronts of a datagram come.
-    fn takes_fronts(
-        &mut self,
-        alloc: Global,
-        now: u64,
-        text: &'static str,
-        below: usize,
-    ) -> Result<bool, Fail> {
-        let octets = datagram_of(alloc, (text, (0, 0)))?;
-        self.deliver_fronts(octets.bytes(), now, below)?;
-        Ok(below <= octets.bytes().len())
-    }
-
-    /// Whether this is what is sent.
-    fn is_sent(&mut self, alloc: Global, now: u64, text: &'static str) -> Result<bool, Fail> {
-        let octets = datagram_of(alloc, (text, (0, 0)))?;
-        Ok(self.sends(now, octets.bytes()))
-    }
-
-    /// Makes a call, and says whether it was answered so.
-    fn does(&mut self, alloc: Global, call: Call) -> Result<bool, Fail> {
-        match call {
-            Call::Deliver(now, spelled) => self.takes(alloc, now, spelled, 1),
-            Call::Thrice(now, spelled) => self.takes(alloc, now, spelled, 3),
-            Call::Fronts(now, text, below) => self.takes_fronts(alloc, now, text, below),
-            Call::Up(wanted) => Ok(self.up() == wanted),
-            Call::Tick(now, text) => self.is_sent(alloc, now, text),
-            Call::Instance(wanted) => Ok(self.receiver.instance().map(|id| id.0) == wanted),
-            Call::HasLost(wanted) => Ok(self.receiver.has_lost() == wanted),
-        }
-    }
-}
-
-/// Makes calls in their order, of the receiver with this node id.
-fn plays(
-    rt: &impl Abort,
-    alloc: Global,
-    keys: &[(Key, u32)],
-    node: u32,
-    calls: &[Call],
-) -> Result<(), Fail> {
-    let (Some(profile), Some(node)) = (profile_of(keys), NodeId::of(node)) else {
-        panic!(rt; "no profile");
-    };
-    let receiver = Receiver::new(alloc, &profile, node)?;
-    let out = Datagram::new(alloc)?;
-    let mut given = Given { receiver, out };
-    for (place, call) in calls.iter().enumerate() {
-        let is_so = given.does(alloc, *call)?;
-        assert!(rt; is_so, "call {place}");
-    }
-    Ok(())
-}
 
 /// An object of five octets; a flush that asks node 2 whether all through it was handed up, and the answer that it was.
 const HELLO: Spelled = (
@@ -472,6 +290,136 @@ fn a_datagram_of_an_earlier_instance_changes_nothing(rt: HostRuntime) -> Result<
         Call::Up(Handed::Nothing),
     ];
     plays(&rt, rt.alloc(), &[], 2, &calls)
+}
+
+/// The object and the flush of an instance that follows.
+const RESTARTED: Spelled = (
+    "12080002 00000001 00084041 00050000 00000000 40030000 00000001 00400406",
+    (1, 2),
+);
+
+const FLUSH_OF_EIGHT: &str = "13050003 00000001 00084041 01050000 00000000 00000002";
+
+/// The sender restarts in the middle: what is acknowledged is of the later instance from then on, under the next sequence number, each
+/// time that a flush asks; and an earlier flush that comes late asks nobody.
+#[test]
+fn each_instance_has_its_acknowledgements(rt: HostRuntime) -> Result<(), Fail> {
+    let calls = [
+        Call::Deliver(1000, OBJECT_0),
+        Call::Up(Handed::Object(0, 1, 1)),
+        Call::Tick(1000, ""),
+        Call::Deliver(2000, (FLUSH, (0, 0))),
+        Call::Tick(2000, ANSWER),
+        Call::Tick(3000, ""),
+        Call::Deliver(4000, RESTARTED),
+        Call::Instance(Some(8)),
+        Call::Up(Handed::Object(0, 1, 2)),
+        Call::Up(Handed::Nothing),
+        Call::Tick(4000, ""),
+        Call::Deliver(5000, (FLUSH_OF_EIGHT, (0, 0))),
+        Call::Tick(
+            5000,
+            "15060001 00000002 00000001 00080200 00000000 00000000 05000000 00000000",
+        ),
+        Call::Deliver(6000, (FLUSH, (0, 0))),
+        Call::Tick(6000, ""),
+        Call::Deliver(25_000, (FLUSH_OF_EIGHT, (0, 0))),
+        Call::Tick(
+            25_000,
+            "15060002 00000002 00000001 00080200 00000000 00000000 05000000 00000000",
+        ),
+        Call::HasLost(false),
+    ];
+    plays(&rt, rt.alloc(), &[], 2, &calls)
+}
+
+/// An object of one octet, and the first symbols of one of 128.
+const SMALL: Spelled = (
+    "12080004 00000001 00074001 00050001 00000000 40030000 00000001 00400406",
+    (1, 1),
+);
+
+const HALVES: [Spelled; 2] = [
+    (
+        "12080005 00000001 00074001 00050002 00000000 40030000 00000080 00400406",
+        (64, 3),
+    ),
+    (
+        "12080006 00000001 00074001 00050002 00000001 40030000 00000080 00400406",
+        (64, 3),
+    ),
+];
+
+/// A symbol of the first object is lost, and the next object shows it: later ones wait until the repair comes, and are handed up in order.
+#[test]
+fn later_objects_wait_for_a_repair(rt: HostRuntime) -> Result<(), Fail> {
+    let calls = [
+        Call::Deliver(1000, FIRST),
+        Call::Deliver(3000, THIRD),
+        Call::Deliver(4000, FOURTH),
+        Call::Tick(4000, ""),
+        Call::Deliver(5000, SMALL),
+        Call::Up(Handed::Nothing),
+        Call::Tick(5000, ASKS_FOR_ONE),
+        Call::Deliver(6000, HALVES[0]),
+        Call::Tick(6000, ""),
+        Call::Deliver(7000, HALVES[1]),
+        Call::Up(Handed::Nothing),
+        Call::Tick(7000, ""),
+        Call::Deliver(
+            16_000,
+            (
+                "12080007 00000001 00074001 01050000 00000004 40030000 00000100 00400406",
+                (64, 0x10),
+            ),
+        ),
+        Call::Up(Handed::Object(0, 256, 1)),
+        Call::Up(Handed::Object(1, 1, 1)),
+        Call::Up(Handed::Object(2, 128, 3)),
+        Call::Up(Handed::Nothing),
+        Call::Tick(16_000, ""),
+        Call::HasLost(false),
+    ];
+    plays(&rt, rt.alloc(), &[(Key::K, 0)], 2, &calls)
+}
+
+/// The first object never came, and the window began anew two objects later: that one alone is lost, and what came of the others is
+/// handed up.
+#[test]
+fn what_came_before_the_window_is_handed_up(rt: HostRuntime) -> Result<(), Fail> {
+    let calls = [
+        Call::Deliver(
+            2000,
+            (
+                "12080001 00000001 00074001 00050001 00000000 40030000 00000001 00400406",
+                (1, 2),
+            ),
+        ),
+        Call::Tick(
+            2000,
+            "14060000 00000002 00000001 00070000 00000000 00000000 010c0008 05000000 00000000",
+        ),
+        Call::Deliver(
+            3000,
+            (
+                "12080002 00000001 00074001 00050002 00000000 40030000 00000001 00400406",
+                (1, 3),
+            ),
+        ),
+        Call::Up(Handed::Nothing),
+        Call::Tick(3000, ""),
+        Call::Deliver(
+            13_000,
+            ("13050003 00000001 00074001 03050002 00000000", (0, 0)),
+        ),
+        Call::Up(Handed::Lost(0)),
+        Call::Up(Handed::Object(1, 1, 2)),
+        Call::Up(Handed::Object(2, 1, 3)),
+        Call::Up(Handed::Nothing),
+        Call::Tick(13_000, ""),
+        Call::HasLost(true),
+    ];
+    plays(&rt, rt.alloc(), &[(Key::K, 0)], 2, &calls)
 }
 
 /// A stream of 130 octets: segments of 1, 64, 64 and 1 octets, and its end.
