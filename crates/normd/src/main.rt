@@ -9,6 +9,17 @@ use std::alloc::Global;
 use std::io;
 use std::process::ExitCode;
 
+/// Octets of the block that is freed at the start: some objects of 1 MiB.
+const FREED_FIRST: usize = 8 << 20;
+
+/// Has memory that is freed kept for what comes next. The C library gives it back to the system above a bound that grows with the greatest
+/// block that was freed; at first that is so low that each object of 1 MiB would be made of new pages.
+fn keep_what_is_freed(alloc: Global) -> Result<(), Memory> {
+    let block: Vec<u8> = Vec::with_capacity(alloc, FREED_FIRST)?;
+    drop(block);
+    Ok(())
+}
+
 /// Tells the files the path of the profile that the words ask for, where they ask for one.
 fn tell(
     alloc: Global,
@@ -27,6 +38,9 @@ fn tell(
 /// given the path of.
 fn main(rt: HostRuntime) -> ExitCode {
     let alloc = rt.alloc();
+    if let Err(code) = needed(&rt, keep_what_is_freed(alloc)) {
+        return code;
+    }
     let says = asked_in(&rt);
     let tally = Tally::new();
     let mut fabric = match needed(&rt, HostFabric::new(alloc, rt)) {
