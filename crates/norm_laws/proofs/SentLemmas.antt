@@ -1,6 +1,6 @@
 -- What a sender sends once by itself was sent, so far as it went: kept by each step of a sender.
 use Rattle.std.proofs.Common.{◌≡◌, ℕ, zero, suc, ◌+◌, ◌<◌, ◌≤◌, cond, List, [], ◌∷◌, ◌++◌, length, take, drop, Bool, true, false, Option, None, Some, Result, Ok, Err, refl, sym, ap, ◌∙◌, subst, arith, ◌⊎◌, inl, inr}
-use Rattle.std.specs.Prelude.{map, find, slice_get, ◌==◌, ◌&&◌, ◌||◌, not, nat_lt, nat_le, is_none, is_some}
+use Rattle.std.specs.Prelude.{find, slice_get, ◌==◌, ◌&&◌, ◌||◌, not, nat_lt, nat_le, is_none, is_some}
 use Rattle.std.specs.List.{AllByRecursion}
 use Rattle.std.proofs.lemmas.Bool.{cases_lt}
 use Rattle.std.proofs.lemmas.Bool.Decides.{Decides-eqb, Decides-ltb}
@@ -12,11 +12,7 @@ use Rattle.fec_plan.specs.Points.{Point, point, point_of, position, point_before
 use Rattle.fec_plan.specs.declared.position.Position.{Position}
 use Rattle.fec_plan.proofs.PointLemmas.{behind_point, not_before}
 use Rattle.fec_plan.proofs.PositionLemmas.{positions_same, position_itself}
-use Rattle.norm_ext.specs.Message.{Message, Info as InfoOf, Data, Flush, Eot, Squelch, RepairAdv, AckReq, Opaque, Nack, Ack, Report, AckContent, Mark as Marks, Unread}
-use Rattle.norm_ext.specs.Reading.{decoded}
-use Rattle.norm_ext.specs.Requests.{Request}
 use Rattle.norm_ext.specs.Written.{Written, writes}
-use Rattle.norm_ext.specs.declared.head.Item.{Item}
 use Rattle.norm_order.specs.Entries.{Part, Write, Cut, End, Object, Whole, Stream, Entry}
 use Rattle.norm_order.specs.Segments.{closed_from, unclosed, has_end}
 use Rattle.norm_order.specs.Sets.{is_member, with_member}
@@ -28,21 +24,21 @@ use Rattle.norm_send_rules.specs.Closing.{round_closed}
 use Rattle.norm_send_rules.specs.Commanding.{commanded, answered}
 use Rattle.norm_send_rules.specs.Enqueuing.{open_stream, object_fault, joined}
 use Rattle.norm_send_rules.specs.Flushing.{most_flushes, flushes_for, expired, flushes_oldest, flushes_no_more, flushed, flushes_in_turn, flushes, may_flush}
-use Rattle.norm_send_rules.specs.Hearing.{nack_counts, ack_counts, joined_round, listed_past, rises, credited, credited_by, message_heard, heard}
-use Rattle.norm_send_rules.specs.Marking.{is_no_quorum, most_open, with_watermark, watermark_at, cut_and_marked}
+use Rattle.norm_send_rules.specs.Hearing.{heard}
+use Rattle.norm_send_rules.specs.Marking.{is_no_quorum, cut_and_marked}
 use Rattle.norm_send_rules.specs.Messages.{squelch_message}
 use Rattle.norm_send_rules.specs.Restarting.{is_used, begun_anew}
 use Rattle.norm_send_rules.specs.Room.{size_of, window, has_to_go, can_make_room, drop_after, first_kept, least_kept, blocks_may_go, stream_drop}
 use Rattle.norm_send_rules.specs.Sending.{new_of, new_from, next_new, behind, sends, noted, repairs_next, sends_new}
 use Rattle.norm_send_rules.specs.Streaming.{open_fault, parts_now, with_last, with_parts, used_segments, is_crowded, write_fault, close_fault, grown, cut}
-use Rattle.norm_send_rules.specs.Striking.{strike_fault, without_node, struck_off}
-use Rattle.norm_send_rules.specs.Telling.{told, past_news, done_news, listing_of}
+use Rattle.norm_send_rules.specs.Striking.{strike_fault, struck_off}
+use Rattle.norm_send_rules.specs.Telling.{told}
 use Rattle.norm_send_rules.specs.Ticking.{closed_where_due, sends_further, sends_wanted, sends_first, ticked, is_idle}
 use Rattle.norm_send_rules.specs.Wants.{want_before, want_index}
 use Rattle.norm_send_rules.specs.declared.news.Outcome.TheVariants.{Expired}
-use Rattle.norm_send_rules.specs.Watermarks.{end_where, pending, counted_anew, keeps_oldest, settled, oldest, open_watermarks, watermark_of}
+use Rattle.norm_send_rules.specs.Watermarks.{end_where, pending, oldest}
 use Rattle.norm_send_rules.specs.declared.fault.EnqueueFault.{EnqueueFault}
-use Rattle.norm_send_rules.specs.declared.fault.MarkFault.TheVariants.{TooMany, Quorum}
+use Rattle.norm_send_rules.specs.declared.fault.MarkFault.TheVariants.{Quorum}
 use Rattle.norm_send_rules.specs.declared.fault.SendFault.{SendFault}
 use Rattle.norm_send_rules.specs.declared.fault.SendFault.TheVariants.{Mark, Strike, IdUsed}
 use Rattle.norm_send_rules.specs.declared.fault.StrikeFault.{StrikeFault}
@@ -50,7 +46,6 @@ use Rattle.norm_send_rules.specs.declared.job.Job.{Job}
 use Rattle.norm_send_rules.specs.declared.job.Job.TheVariants as job
 use Rattle.norm_send_rules.specs.declared.job.Receipt.{Receipt}
 use Rattle.norm_send_rules.specs.declared.job.Receipt.TheVariants as receipt
-use Rattle.norm_send_rules.specs.declared.news.News.{News}
 use Rattle.norm_send_rules.specs.declared.want.Want.{Want}
 use Rattle.norm_send_rules.specs.declared.want.Want.TheVariants.{Info, Symbol}
 use Rattle.norm_safety.proofs.CommandSteps.{where_free, first_none}
@@ -64,6 +59,7 @@ use Rattle.norm_laws.specs.SentOnce.{was_sent, sent_once_of, AllSent, SourcesSen
 use Rattle.norm_laws.proofs.WholeOrders.{cut_nothing}
 use Rattle.norm_laws.proofs.StreamNew.{IsPlace, IsNew, new_of_all, all_parts, new_get, place_behind, place_more, place_grown, grown_new}
 use Rattle.norm_laws.proofs.GoneSent.{GoneSent, gone_more, gone_none, gone_joined, gone_last, gone_blocks, once_more, block_there}
+use Rattle.norm_laws.proofs.SentRests.{Leaves, anew_leaves, heard_leaves, told_leaves, marked_leaves, struck_leaves}
 use Rattle.norm_laws.proofs.NewOrder.{clash, all_implied, all_two, all_append, lower_first, first_lower, none_first, none_between, IsAmong, new_among, new_rises, new_split, new_more, first_found, none_found, shapes_drop, shapes_more, shapes_many}
 
 -- ---- what holds of a sender
@@ -87,12 +83,17 @@ record Quiet (old new : SenderState) : Type 0 where
   sent : (at : Position) → is_member position_before at old.sent ≡ true → is_member position_before at new.sent ≡ true
   infos : (index : ℕ) → is_member nat_lt index old.sent_infos ≡ true → is_member nat_lt index new.sent_infos ≡ true
 
+-- one in which the same counts as sent is
+quiet_of : (s t : SenderState) → Leaves s t → Quiet s t
+quiet_of s t h = record {
+  current = h.current;
+  next = h.next;
+  sent = λ at e. ap (is_member position_before at) h.sent ∙ e;
+  infos = λ index e. ap (is_member nat_lt index) h.infos ∙ e;
+}
+
 same_quiet : (s : SenderState) → Quiet s s
 same_quiet s = record { current = refl; next = refl; sent = λ at h. h; infos = λ i h. h }
-
-then_quiet : (a b c : SenderState) → Quiet a b → Quiet b c → Quiet a c
-then_quiet a b c h g =
-    record { current = g.current ∙ h.current; next = g.next ∙ h.next; sent = λ at e. g.sent at (h.sent at e); infos = λ i e. g.infos i (h.infos i e) }
 
 where_quiet : (b : Bool) (s t : SenderState) → Quiet s t → Quiet s (elim b as (λ _. SenderState) [ true ↦ t | false ↦ s ])
 where_quiet true s t h = h
@@ -121,74 +122,11 @@ quiet_so_far p s t q h = record {
 
 -- ---- what is heard and told
 
-anew_quiet : (before old new : SenderState) → Quiet old new → Quiet old (counted_anew before new)
-anew_quiet before old new h = go (keeps_oldest before new)
-  where
-    go : (b : Bool) → Quiet old (elim b as (λ _. SenderState) [ true ↦ new | false ↦ record new { flushes = 0 } ])
-    go true = h
-    go false = record { current = h.current; next = h.next; sent = h.sent; infos = h.infos }
-
-settled_quiet : (old new : SenderState) → Quiet old new → Quiet old (settled new)
-settled_quiet old new h = record { current = h.current; next = h.next; sent = h.sent; infos = h.infos }
-
-joined_quiet : (p : Settings) (s : SenderState) (now : ℕ) (requests : List Request) → Quiet s (joined_round p s now requests)
-joined_quiet p s now [] = same_quiet s
-joined_quiet p s now (r ∷ requests) = record { current = refl; next = refl; sent = λ at h. h; infos = λ i h. h }
-
-credited_quiet : (node : ℕ) (at : Position) (s : SenderState) → Quiet s (credited node at s)
-credited_quiet node at s =
-    let listed : SenderState = record s { listings = map (listed_past node at) s.listings; untold_nodes = with_member nat_lt node s.untold_nodes } in
-    where_quiet (rises node at s) s (counted_anew s (settled listed))
-    (anew_quiet s s (settled listed) (settled_quiet s listed (record { current = refl; next = refl; sent = λ at h. h; infos = λ i h. h })))
-
-credited_by_quiet : (p : Settings) (node : ℕ) (at : Option Position) (s : SenderState) → Quiet s (credited_by p node at s)
-credited_by_quiet p node None s = same_quiet s
-credited_by_quiet p node (Some at) s = where_quiet (is_source (current_shapes p s) at) s _ (credited_quiet node at s)
-
-content_quiet : (p : Settings) (node : ℕ) (at : Item → Option Position) (s : SenderState) (c : AckContent)
-    → Quiet s (elim c as (λ _. SenderState) [ Marks item ↦ credited_by p node (at item) s | Unread octets ↦ s ])
-content_quiet p node at s (Marks item) = credited_by_quiet p node (at item) s
-content_quiet p node at s (Unread octets) = same_quiet s
-
-message_quiet : {E : Type 0} (p : Settings) (s : SenderState) (now : ℕ) (r : Result Message E) → Quiet s (message_heard p s now r)
-message_quiet p s now (Ok (Nack m)) = where_quiet (nack_counts p s m) s _ (joined_quiet p s now m.requests)
-message_quiet p s now (Ok (Ack m)) = where_quiet (ack_counts p s m) s _ (content_quiet p m.source _ s m.content)
-message_quiet p s now (Ok (InfoOf m)) = same_quiet s
-message_quiet p s now (Ok (Data m)) = same_quiet s
-message_quiet p s now (Ok (Flush m)) = same_quiet s
-message_quiet p s now (Ok (Eot m)) = same_quiet s
-message_quiet p s now (Ok (Squelch m)) = same_quiet s
-message_quiet p s now (Ok (RepairAdv m)) = same_quiet s
-message_quiet p s now (Ok (AckReq m)) = same_quiet s
-message_quiet p s now (Ok (Opaque m)) = same_quiet s
-message_quiet p s now (Ok (Report m)) = same_quiet s
-message_quiet p s now (Err e) = same_quiet s
-
 pub heard_so_far : (p : Settings) (s : SenderState) (bytes : List ℕ) (now : ℕ) → SentSoFar p s → SentSoFar p (heard p s bytes now)
-heard_so_far p s bytes now h = quiet_so_far p s (heard p s bytes now) (message_quiet p s now (decoded bytes)) h
+heard_so_far p s bytes now h = quiet_so_far p s (heard p s bytes now) (quiet_of s (heard p s bytes now) (heard_leaves p s bytes now)) h
 
 pub told_so_far : (p : Settings) (s : SenderState) → SentSoFar p s → SentSoFar p (told s).0
-told_so_far p s h = quiet_so_far p s (told s).0 (nodes s.untold_nodes) h
-  where
-    state_of : SenderState × Option News → SenderState
-    state_of step = step.0
-
-    marks : (ms : List ℕ) → Quiet s (state_of (elim ms [
-      | mark ∷ more ↦ (record s { untold_marks = more }, done_news s mark (watermark_of s mark))
-      | [] ↦ (s, None)
-    ]))
-    marks [] = same_quiet s
-    marks (mark ∷ more) = record { current = refl; next = refl; sent = λ at h. h; infos = λ i h. h }
-
-    nodes : (ns : List ℕ) → Quiet s (state_of (elim ns [
-      | node ∷ more ↦ (record s { untold_nodes = more }, past_news node (listing_of s node))
-      | [] ↦ elim s.untold_marks [
-        | mark ∷ more ↦ (record s { untold_marks = more }, done_news s mark (watermark_of s mark))
-        | [] ↦ (s, None)
-      ]
-    ]))
-    nodes (node ∷ more) = record { current = refl; next = refl; sent = λ at h. h; infos = λ i h. h }
-    nodes [] = marks s.untold_marks
+told_so_far p s h = quiet_so_far p s (told s).0 (quiet_of s (told s).0 (told_leaves s)) h
 
 -- ---- an object joins
 
@@ -492,31 +430,10 @@ free_so_far : (p : Settings) (found : Option EnqueueFault) (s after : SenderStat
 free_so_far p None s after receipt h so = h refl
 free_so_far p (Some fault) s after receipt h so = so
 
-marked_quiet : (s : SenderState) (by : Origin) (quorum : Option ℕ) (found : Option Position) → Quiet s (answered Mark (watermark_at s by quorum found)).0
-marked_quiet s by quorum found = at found
-  where
-    state_of : SenderState × Result Receipt SendFault → SenderState
-    state_of step = step.0
-
-    few : (at : Position) (many : Bool) → Quiet s (state_of (answered Mark (elim many [
-      | true ↦ (s, Err (TooMany (length (open_watermarks s))))
-      | false ↦ (with_watermark s by quorum at, Ok (receipt.Mark (length s.watermarks + 1) at))
-    ])))
-    few at true = same_quiet s
-    few at false =
-        let asked : SenderState = record s {
-          watermarks = s.watermarks ++ record { mark = length s.watermarks + 1; by = by; at = at; quorum = quorum; ended = None } ∷ [];
-        } in
-        anew_quiet s s (settled asked) (settled_quiet s asked (record { current = refl; next = refl; sent = λ at h. h; infos = λ i h. h }))
-
-    at : (found : Option Position) → Quiet s (answered Mark (watermark_at s by quorum found)).0
-    at None = same_quiet s
-    at (Some position) = few position (nat_le most_open (length (open_watermarks s)))
-
 cut_so_far : (p : Settings) → InRange p → (s : SenderState) (by : Origin) (quorum : Option ℕ) → DropHolds s → SentSoFar p s
     → SentSoFar p (answered Mark (cut_and_marked p s by quorum)).0
 cut_so_far p range s by quorum drops so =
-    quiet_so_far p (cut p s) (answered Mark (cut_and_marked p s by quorum)).0 (marked_quiet (cut p s) by quorum (last_source (current_shapes p (cut p s))))
+    quiet_so_far p (cut p s) (answered Mark (cut_and_marked p s by quorum)).0 (quiet_of (cut p s) _ (marked_leaves (cut p s) by quorum (last_source (current_shapes p (cut p s)))))
     (cut_stream_so_far p range s drops so)
 
 begun_so_far : (p : Settings) (id : ℕ) (s : SenderState) → SentSoFar p (begun_anew id s)
@@ -590,9 +507,7 @@ command_so_far p range s by (job.Strike node) drops so = go (strike_fault s node
       | None ↦ (struck_off node s, Ok (receipt.Struck node))
     ])))
     go (Some fault) = so
-    go None = quiet_so_far p s (struck_off node s)
-        (anew_quiet s s (settled (without_node node s))
-        (settled_quiet s (without_node node s) (record { current = refl; next = refl; sent = λ at h. h; infos = λ i h. h }))) so
+    go None = quiet_so_far p s (struck_off node s) (quiet_of s (struck_off node s) (struck_leaves node s)) so
 
 -- ---- a tick
 
@@ -656,9 +571,9 @@ no_more_quiet p now w s = go s.round
   where
     go : (round : Option Round) → Quiet s (state_of (elim round [ Some r ↦ (s, None) | None ↦ flushes_oldest p now (expired w.mark s) ]))
     go (Some r) = same_quiet s
-    go None = oldest_quiet p now s (expired w.mark s)
-        (anew_quiet s s (end_where (λ (v : Watermark). v.mark == w.mark) (λ (v : Watermark). Expired (length (pending s v.at))) s)
-        (record { current = refl; next = refl; sent = λ at h. h; infos = λ i h. h }))
+    go None = oldest_quiet p now s (expired w.mark s) (quiet_of s (expired w.mark s)
+        (anew_leaves s s (end_where (λ (v : Watermark). v.mark == w.mark) (λ (v : Watermark). Expired (length (pending s v.at))) s)
+        (record { current = refl; next = refl; sent = refl; infos = refl })))
 
 flushed_quiet : (p : Settings) (now : ℕ) (w : Watermark) (s : SenderState) → Quiet s (flushed p now w s).0
 flushed_quiet p now w s = go (nat_lt s.flushes most_flushes)

@@ -1,5 +1,5 @@
 -- What is heard and told, and each command but a restart, leave what counts as sent.
-use Rattle.std.proofs.Common.{◌≡◌, ℕ, zero, suc, ◌+◌, List, [], ◌∷◌, ◌++◌, length, Bool, true, false, Option, None, Some, Result, Ok, Err, refl}
+use Rattle.std.proofs.Common.{◌≡◌, ℕ, zero, suc, ◌+◌, List, [], ◌∷◌, ◌++◌, length, Bool, true, false, Option, None, Some, Result, Ok, Err, refl, ap, ◌∙◌}
 use Rattle.std.specs.Prelude.{map, nat_lt, nat_le}
 use Rattle.norm_base.specs.Settings.{Settings}
 use Rattle.norm_base.specs.declared.kinds.Kind.TheVariants as kind
@@ -13,7 +13,7 @@ use Rattle.norm_order.specs.Entries.{Write, Cut, End, Whole, Stream}
 use Rattle.norm_order.specs.Segments.{unclosed}
 use Rattle.norm_order.specs.Sets.{with_member}
 use Rattle.norm_order.specs.Shapes.{is_source, last_source}
-use Rattle.norm_send_rules.specs.SenderState.{SenderState}
+use Rattle.norm_send_rules.specs.SenderState.{SenderState, Instance}
 use Rattle.norm_send_rules.specs.InWindow.{current_shapes}
 use Rattle.norm_send_rules.specs.Commanding.{commanded, answered}
 use Rattle.norm_send_rules.specs.Enqueuing.{object_fault, joined}
@@ -36,89 +36,111 @@ use Rattle.norm_send_rules.specs.declared.job.Receipt.TheVariants as receipt
 use Rattle.norm_send_rules.specs.declared.news.News.{News}
 use Rattle.norm_safety.proofs.CommandSteps.{where_free}
 
+-- the same instance and next place, and the same counts as sent
+pub record Leaves (s t : SenderState) : Type 0 where
+  pub current : t.current ≡ s.current
+  pub next : t.next ≡ s.next
+  pub sent : t.sent ≡ s.sent
+  pub infos : t.sent_infos ≡ s.sent_infos
+
 -- the same instance, in which the same counts as sent
 pub record Rests (s t : SenderState) : Type 0 where
   pub id : t.current.id ≡ s.current.id
   pub sent : t.sent ≡ s.sent
   pub infos : t.sent_infos ≡ s.sent_infos
 
+leaves_itself : (s : SenderState) → Leaves s s
+leaves_itself s = record { current = refl; next = refl; sent = refl; infos = refl }
+
+where_leaves : (b : Bool) (s t : SenderState) → Leaves s t → Leaves s (elim b as (λ _. SenderState) [ true ↦ t | false ↦ s ])
+where_leaves true s t h = h
+where_leaves false s t h = leaves_itself s
+
+pub anew_leaves : (before old new : SenderState) → Leaves old new → Leaves old (counted_anew before new)
+anew_leaves before old new h = go (keeps_oldest before new)
+  where
+    go : (b : Bool) → Leaves old (elim b as (λ _. SenderState) [ true ↦ new | false ↦ record new { flushes = 0 } ])
+    go true = h
+    go false = record { current = h.current; next = h.next; sent = h.sent; infos = h.infos }
+
+settled_leaves : (old new : SenderState) → Leaves old new → Leaves old (settled new)
+settled_leaves old new h = record { current = h.current; next = h.next; sent = h.sent; infos = h.infos }
+
 pub rests_itself : (s : SenderState) → Rests s s
 rests_itself s = record { id = refl; sent = refl; infos = refl }
 
-where_rests : (b : Bool) (s t : SenderState) → Rests s t → Rests s (elim b as (λ _. SenderState) [ true ↦ t | false ↦ s ])
-where_rests true s t h = h
-where_rests false s t h = rests_itself s
+rests_of : (s t : SenderState) → Leaves s t → Rests s t
+rests_of s t h = record { id = ap (λ (i : Instance). i.id) h.current; sent = h.sent; infos = h.infos }
 
-anew_rests : (before old new : SenderState) → Rests old new → Rests old (counted_anew before new)
-anew_rests before old new h = go (keeps_oldest before new)
-  where
-    go : (b : Bool) → Rests old (elim b as (λ _. SenderState) [ true ↦ new | false ↦ record new { flushes = 0 } ])
-    go true = h
-    go false = record { id = h.id; sent = h.sent; infos = h.infos }
-
-settled_rests : (old new : SenderState) → Rests old new → Rests old (settled new)
-settled_rests old new h = record { id = h.id; sent = h.sent; infos = h.infos }
+rests_both : (s t u : SenderState) → Rests s t → Rests t u → Rests s u
+rests_both s t u h g = record { id = g.id ∙ h.id; sent = g.sent ∙ h.sent; infos = g.infos ∙ h.infos }
 
 -- ---- what is heard and told
 
-joined_rests : (p : Settings) (s : SenderState) (now : ℕ) (requests : List Request) → Rests s (joined_round p s now requests)
-joined_rests p s now [] = rests_itself s
-joined_rests p s now (r ∷ requests) = record { id = refl; sent = refl; infos = refl }
+joined_leaves : (p : Settings) (s : SenderState) (now : ℕ) (requests : List Request) → Leaves s (joined_round p s now requests)
+joined_leaves p s now [] = leaves_itself s
+joined_leaves p s now (r ∷ requests) = record { current = refl; next = refl; sent = refl; infos = refl }
 
-credited_rests : (node : ℕ) (at : Position) (s : SenderState) → Rests s (credited node at s)
-credited_rests node at s =
+credited_leaves : (node : ℕ) (at : Position) (s : SenderState) → Leaves s (credited node at s)
+credited_leaves node at s =
     let listed : SenderState = record s { listings = map (listed_past node at) s.listings; untold_nodes = with_member nat_lt node s.untold_nodes } in
-    where_rests (rises node at s) s (counted_anew s (settled listed))
-    (anew_rests s s (settled listed) (settled_rests s listed (record { id = refl; sent = refl; infos = refl })))
+    where_leaves (rises node at s) s (counted_anew s (settled listed))
+    (anew_leaves s s (settled listed) (settled_leaves s listed (record { current = refl; next = refl; sent = refl; infos = refl })))
 
-credited_by_rests : (p : Settings) (node : ℕ) (at : Option Position) (s : SenderState) → Rests s (credited_by p node at s)
-credited_by_rests p node None s = rests_itself s
-credited_by_rests p node (Some at) s = where_rests (is_source (current_shapes p s) at) s _ (credited_rests node at s)
+credited_by_leaves : (p : Settings) (node : ℕ) (at : Option Position) (s : SenderState) → Leaves s (credited_by p node at s)
+credited_by_leaves p node None s = leaves_itself s
+credited_by_leaves p node (Some at) s = where_leaves (is_source (current_shapes p s) at) s _ (credited_leaves node at s)
 
-content_rests : (p : Settings) (node : ℕ) (at : Item → Option Position) (s : SenderState) (c : AckContent)
-    → Rests s (elim c as (λ _. SenderState) [ Marks item ↦ credited_by p node (at item) s | Unread octets ↦ s ])
-content_rests p node at s (Marks item) = credited_by_rests p node (at item) s
-content_rests p node at s (Unread octets) = rests_itself s
+content_leaves : (p : Settings) (node : ℕ) (at : Item → Option Position) (s : SenderState) (c : AckContent)
+    → Leaves s (elim c as (λ _. SenderState) [ Marks item ↦ credited_by p node (at item) s | Unread octets ↦ s ])
+content_leaves p node at s (Marks item) = credited_by_leaves p node (at item) s
+content_leaves p node at s (Unread octets) = leaves_itself s
 
-message_rests : {E : Type 0} (p : Settings) (s : SenderState) (now : ℕ) (r : Result Message E) → Rests s (message_heard p s now r)
-message_rests p s now (Ok (Nack m)) = where_rests (nack_counts p s m) s _ (joined_rests p s now m.requests)
-message_rests p s now (Ok (Ack m)) = where_rests (ack_counts p s m) s _ (content_rests p m.source _ s m.content)
-message_rests p s now (Ok (InfoOf m)) = rests_itself s
-message_rests p s now (Ok (Data m)) = rests_itself s
-message_rests p s now (Ok (Flush m)) = rests_itself s
-message_rests p s now (Ok (Eot m)) = rests_itself s
-message_rests p s now (Ok (Squelch m)) = rests_itself s
-message_rests p s now (Ok (RepairAdv m)) = rests_itself s
-message_rests p s now (Ok (AckReq m)) = rests_itself s
-message_rests p s now (Ok (Opaque m)) = rests_itself s
-message_rests p s now (Ok (Report m)) = rests_itself s
-message_rests p s now (Err e) = rests_itself s
+message_leaves : {E : Type 0} (p : Settings) (s : SenderState) (now : ℕ) (r : Result Message E) → Leaves s (message_heard p s now r)
+message_leaves p s now (Ok (Nack m)) = where_leaves (nack_counts p s m) s _ (joined_leaves p s now m.requests)
+message_leaves p s now (Ok (Ack m)) = where_leaves (ack_counts p s m) s _ (content_leaves p m.source _ s m.content)
+message_leaves p s now (Ok (InfoOf m)) = leaves_itself s
+message_leaves p s now (Ok (Data m)) = leaves_itself s
+message_leaves p s now (Ok (Flush m)) = leaves_itself s
+message_leaves p s now (Ok (Eot m)) = leaves_itself s
+message_leaves p s now (Ok (Squelch m)) = leaves_itself s
+message_leaves p s now (Ok (RepairAdv m)) = leaves_itself s
+message_leaves p s now (Ok (AckReq m)) = leaves_itself s
+message_leaves p s now (Ok (Opaque m)) = leaves_itself s
+message_leaves p s now (Ok (Report m)) = leaves_itself s
+message_leaves p s now (Err e) = leaves_itself s
 
-pub heard_rests : (p : Settings) (s : SenderState) (bytes : List ℕ) (now : ℕ) → Rests s (heard p s bytes now)
-heard_rests p s bytes now = message_rests p s now (decoded bytes)
+pub heard_leaves : (p : Settings) (s : SenderState) (bytes : List ℕ) (now : ℕ) → Leaves s (heard p s bytes now)
+heard_leaves p s bytes now = message_leaves p s now (decoded bytes)
 
-pub told_rests : (s : SenderState) → Rests s (told s).0
-told_rests s = nodes s.untold_nodes
+pub told_leaves : (s : SenderState) → Leaves s (told s).0
+told_leaves s = nodes s.untold_nodes
   where
     state_of : SenderState × Option News → SenderState
     state_of step = step.0
 
-    marks : (ms : List ℕ) → Rests s (state_of (elim ms [
+    marks : (ms : List ℕ) → Leaves s (state_of (elim ms [
       | mark ∷ more ↦ (record s { untold_marks = more }, done_news s mark (watermark_of s mark))
       | [] ↦ (s, None)
     ]))
-    marks [] = rests_itself s
-    marks (mark ∷ more) = record { id = refl; sent = refl; infos = refl }
+    marks [] = leaves_itself s
+    marks (mark ∷ more) = record { current = refl; next = refl; sent = refl; infos = refl }
 
-    nodes : (ns : List ℕ) → Rests s (state_of (elim ns [
+    nodes : (ns : List ℕ) → Leaves s (state_of (elim ns [
       | node ∷ more ↦ (record s { untold_nodes = more }, past_news node (listing_of s node))
       | [] ↦ elim s.untold_marks [
         | mark ∷ more ↦ (record s { untold_marks = more }, done_news s mark (watermark_of s mark))
         | [] ↦ (s, None)
       ]
     ]))
-    nodes (node ∷ more) = record { id = refl; sent = refl; infos = refl }
+    nodes (node ∷ more) = record { current = refl; next = refl; sent = refl; infos = refl }
     nodes [] = marks s.untold_marks
+
+pub heard_rests : (p : Settings) (s : SenderState) (bytes : List ℕ) (now : ℕ) → Rests s (heard p s bytes now)
+heard_rests p s bytes now = rests_of s (heard p s bytes now) (heard_leaves p s bytes now)
+
+pub told_rests : (s : SenderState) → Rests s (told s).0
+told_rests s = rests_of s (told s).0 (told_leaves s)
 
 -- ---- a command
 
@@ -138,26 +160,37 @@ cut_rests p s = go (unclosed p.e (parts_now s))
     go zero = rests_itself s
     go (suc n) = record { id = refl; sent = refl; infos = refl }
 
-marked_rests : (s t : SenderState) (by : Origin) (quorum : Option ℕ) (found : Option Position) → Rests s t → Rests s (answered Mark (watermark_at t by quorum found)).0
-marked_rests s t by quorum found h = at found
+pub marked_leaves : (s : SenderState) (by : Origin) (quorum : Option ℕ) (found : Option Position) → Leaves s (answered Mark (watermark_at s by quorum found)).0
+marked_leaves s by quorum found = at found
   where
     state_of : SenderState × Result Receipt SendFault → SenderState
     state_of step = step.0
 
-    few : (at : Position) (many : Bool) → Rests s (state_of (answered Mark (elim many [
-      | true ↦ (t, Err (TooMany (length (open_watermarks t))))
-      | false ↦ (with_watermark t by quorum at, Ok (receipt.Mark (length t.watermarks + 1) at))
+    few : (at : Position) (many : Bool) → Leaves s (state_of (answered Mark (elim many [
+      | true ↦ (s, Err (TooMany (length (open_watermarks s))))
+      | false ↦ (with_watermark s by quorum at, Ok (receipt.Mark (length s.watermarks + 1) at))
     ])))
-    few at true = h
+    few at true = leaves_itself s
     few at false =
-        let asked : SenderState = record t {
-          watermarks = t.watermarks ++ record { mark = length t.watermarks + 1; by = by; at = at; quorum = quorum; ended = None } ∷ [];
+        let asked : SenderState = record s {
+          watermarks = s.watermarks ++ record { mark = length s.watermarks + 1; by = by; at = at; quorum = quorum; ended = None } ∷ [];
         } in
-        anew_rests t s (settled asked) (settled_rests s asked (record { id = h.id; sent = h.sent; infos = h.infos }))
+        anew_leaves s s (settled asked) (settled_leaves s asked (record { current = refl; next = refl; sent = refl; infos = refl }))
 
-    at : (found : Option Position) → Rests s (answered Mark (watermark_at t by quorum found)).0
-    at None = h
-    at (Some position) = few position (nat_le most_open (length (open_watermarks t)))
+    at : (found : Option Position) → Leaves s (answered Mark (watermark_at s by quorum found)).0
+    at None = leaves_itself s
+    at (Some position) = few position (nat_le most_open (length (open_watermarks s)))
+
+pub struck_leaves : (node : ℕ) (s : SenderState) → Leaves s (struck_off node s)
+struck_leaves node s =
+    anew_leaves s s (settled (without_node node s)) (settled_leaves s (without_node node s) (record { current = refl; next = refl; sent = refl; infos = refl }))
+
+-- a cut, and a watermark behind it
+cut_marked : (p : Settings) (s : SenderState) (by : Origin) (quorum : Option ℕ) → Rests s (answered Mark (cut_and_marked p s by quorum)).0
+cut_marked p s by quorum =
+    let at : Option Position = last_source (current_shapes p (cut p s)) in
+    let after : SenderState = (answered Mark (watermark_at (cut p s) by quorum at)).0 in
+    rests_both s (cut p s) after (cut_rests p s) (rests_of (cut p s) after (marked_leaves (cut p s) by quorum at))
 
 pub command_goes : (p : Settings) (s : SenderState) (by : Origin) (job : Job) → Goes s (commanded p s by job).0
 command_goes p s by (job.Data info bytes) =
@@ -169,7 +202,7 @@ command_goes p s by (job.Write bytes) =
     let parts = parts_now s ++ Write by bytes ∷ [] in free_goes (write_fault p s bytes parts) s (grown p s parts) _ (record { id = refl; sent = refl; infos = refl })
 command_goes p s by job.Close =
     let parts = parts_now s ++ End ∷ [] in free_goes (close_fault p s parts) s (grown p s parts) _ (record { id = refl; sent = refl; infos = refl })
-command_goes p s by (job.Mark None) = Same (marked_rests s (cut p s) by None (last_source (current_shapes p (cut p s))) (cut_rests p s))
+command_goes p s by (job.Mark None) = Same (cut_marked p s by None)
 command_goes p s by (job.Mark (Some q)) = go (is_no_quorum p q)
   where
     state_of : SenderState × Result Receipt SendFault → SenderState
@@ -177,7 +210,7 @@ command_goes p s by (job.Mark (Some q)) = go (is_no_quorum p q)
 
     go : (no : Bool) → Goes s (state_of (answered Mark (elim no [ true ↦ (s, Err (Quorum q)) | false ↦ cut_and_marked p s by (Some q) ])))
     go true = Same (rests_itself s)
-    go false = Same (marked_rests s (cut p s) by (Some q) (last_source (current_shapes p (cut p s))) (cut_rests p s))
+    go false = Same (cut_marked p s by (Some q))
 command_goes p s by (job.Restart id) = go (is_used s id) refl
   where
     state_of : SenderState × Result Receipt SendFault → SenderState
@@ -196,4 +229,4 @@ command_goes p s by (job.Strike node) = go (strike_fault s node)
       | None ↦ (struck_off node s, Ok (receipt.Struck node))
     ])))
     go (Some fault) = Same (rests_itself s)
-    go None = Same (anew_rests s s (settled (without_node node s)) (settled_rests s (without_node node s) (record { id = refl; sent = refl; infos = refl })))
+    go None = Same (rests_of s (struck_off node s) (struck_leaves node s))
