@@ -4,14 +4,13 @@ ghost use Rattle.std.specs.Prelude.{IfOk, IfSome};
 ghost use Rattle.norm_script.specs.Scripts.{IsScript};
 
 use crate::fed::FedFabric;
-use crate::pair::profile_of;
-use crate::pair_tests::octets_of;
 use norm_base::{Key, NodeId, Octets};
 use norm_memory::{MemClock, MemFiles, MemSink};
 use norm_node::{run_hub, run_receiver};
 use norm_script::{Script, read};
 use norm_session::run_send;
 use producer_gate::{Board, Through};
+use row_words::{octets_of, profile_of};
 use std::alloc::Global;
 use std::process::Abort;
 use std::sync::Wait;
@@ -30,8 +29,8 @@ struct Left {
 fn network(alloc: Global, list: &[(u32, &str)]) -> Result<FedFabric, Fail> {
     let mut feed: Vec<(NodeId, Octets)> = Vec::new(alloc);
     for (to, text) in list {
-        if let (Some(node), Some(octets)) = (NodeId::of(*to), octets_of(alloc, text)?) {
-            feed.push((node, octets))?;
+        if let Some(node) = NodeId::of(*to) {
+            feed.push((node, octets_of(alloc, text, (0, 0))?))?;
         }
     }
     Ok(FedFabric::of(alloc, feed))
@@ -134,10 +133,8 @@ fn offered(alloc: Global, fabric: &FedFabric, wanted: &[(u32, &str)]) -> Result<
         return Ok(false);
     }
     for ((from, octets), (by, text)) in fabric.offered.iter().zip(wanted) {
-        let Some(spelled) = octets_of(alloc, text)? else {
-            return Ok(false);
-        };
-        if from.number() != *by || octets.bytes() != spelled.bytes() {
+        let wanted = octets_of(alloc, text, (0, 0))?;
+        if from.number() != *by || octets.bytes() != wanted.bytes() {
             return Ok(false);
         }
     }

@@ -1,12 +1,11 @@
 //! A sender in instance 7 and a receiver, node 2, and a network between them that loses and delays what it is told to.
 
 use crate::driven::Driven;
-use norm_base::{
-    Datagram, Given, InstanceId, Key, Memory, Moment, NodeId, Octets, Origin, Profile, Sent,
-};
+use norm_base::{Datagram, InstanceId, Memory, Moment, NodeId, Octets, Origin, Profile, Sent};
 use norm_order::Up;
 use norm_receiver::Receiver;
 use norm_send_rules::{Job, News, Outcome, Receipt, SendFault};
+use row_words::filled;
 use std::alloc::Global;
 
 /// A command.
@@ -72,17 +71,6 @@ pub(crate) struct Pair {
     waiting: Vec<Waiting>,
     pub(crate) offers: Vec<Octets>,
     pub(crate) told: Vec<Told>,
-}
-
-/// Runs of so many octets, each of one octet.
-fn filled(alloc: Global, runs: &[(usize, u8)]) -> Result<Octets, Memory> {
-    let mut octets = Vec::new(alloc);
-    for (count, octet) in runs {
-        for _ in 0..*count {
-            octets.push(*octet)?;
-        }
-    }
-    Ok(Octets::of(octets))
 }
 
 /// What a sender is asked for. `None` where no member has that node id.
@@ -299,15 +287,4 @@ fn copy_of(alloc: Global, octets: &[u8]) -> Result<Octets, Memory> {
     let mut copy = Vec::new(alloc);
     copy.extend_from_slice(octets)?;
     Ok(Octets::of(copy))
-}
-
-/// The profile with symbols of 64 octets and blocks of 4 where a row sets nothing else, and one receiver.
-pub(crate) fn profile_of(keys: &[(Key, u32)]) -> Option<Profile> {
-    let mut given = Given::new();
-    given.set(Key::E, 64);
-    given.set(Key::B, 4);
-    for (key, value) in keys {
-        given.set(*key, *value);
-    }
-    Profile::of(&given)
 }

@@ -1,25 +1,12 @@
 //! Whole runs of a sender and a receiver, turn by turn: what comes of commands, and some of the datagrams, octet for octet.
 
-use crate::pair::{Command, Fate, Pair, Told, profile_of};
-use norm_base::{Key, NodeId, Octets};
+use crate::pair::{Command, Fate, Pair, Told};
+use norm_base::{Key, NodeId};
 use norm_send_rules::Outcome;
+use row_words::{octets_of, profile_of};
 use std::alloc::Global;
 use std::process::Abort;
 use std::test::Fail;
-
-/// The octets that a text spells in hexadecimal, with spaces between them.
-pub(crate) fn octets_of(alloc: Global, text: &str) -> Result<Option<Octets>, Fail> {
-    let mut digits = Vec::new(alloc);
-    for digit in text.as_bytes() {
-        if *digit != b' ' {
-            digits.push(*digit)?;
-        }
-    }
-    match hex::decode(alloc, digits.as_slice()) {
-        Ok(octets) => Ok(Some(Octets::of(octets))),
-        Err(_) => Ok(None),
-    }
-}
 
 /// Whether the offer of this number, from 1 on, is what a text spells, and behind it so many octets, each of them this one.
 fn is_offer(
@@ -29,15 +16,9 @@ fn is_offer(
     front: &str,
     behind: (usize, u8),
 ) -> Result<bool, Fail> {
-    let Some(front) = octets_of(alloc, front)? else {
-        return Ok(false);
-    };
-    let mut wanted = front.into_inner();
-    for _ in 0..behind.0 {
-        wanted.push(behind.1)?;
-    }
+    let wanted = octets_of(alloc, front, behind)?;
     match pair.offers.get(number.saturating_sub(1)) {
-        Some(offer) => Ok(offer.bytes() == wanted.as_slice()),
+        Some(offer) => Ok(offer.bytes() == wanted.bytes()),
         None => Ok(false),
     }
 }
