@@ -17,7 +17,7 @@ use crate::ring::Ring;
 use fec_plan::{Plan, Position};
 use norm_base::{Datagram, Kind, Memory, Octets, Profile};
 use norm_ext::flags;
-use obj_buffer::{Codes, symbol_of};
+use obj_buffer::{CodeTable, Codes, symbol_of};
 use std::alloc::Global;
 use std::marker::Model;
 
@@ -80,10 +80,11 @@ fn unsent_marks(alloc: Global, count: usize) -> Result<Vec<bool>, Memory>
 
 impl Held {
     /// An object of so many octets, 1 to 16,777,216 of them, that lies in the ring from octet `start` on. Nothing of it
-    /// was sent.
+    /// was sent. Its codes are those of the table, where one that is not there is made and kept.
     pub fn new(
         alloc: Global,
         profile: &Profile,
+        table: &mut CodeTable,
         kind: Kind,
         info: Option<Octets>,
         len: u32,
@@ -94,7 +95,7 @@ impl Held {
         ensures { IfOk result (λ held. held ≡ begun_at (cut_of len profile.now.e profile.now.b profile.now.max_n) kind info start) }
     {
         let plan = plan_of(profile, len);
-        let codes = Codes::of(alloc, &plan)?;
+        let codes = Codes::of(alloc, table, &plan)?;
         let symbols = len.div_ceil(u32::from(profile.e));
         let sent = unsent_marks(alloc, symbols as usize)?;
         let last_block = plan.blocks() - 1;
@@ -147,14 +148,13 @@ impl Held {
         ensures next { IsNextIn auto self.now.cut at result }
         ensures id { MatchOption result ⊤ (λ next. next.symbol < 255) }
     {
-        let blocks = self.plan.blocks();
-        if at.block >= blocks {
+        if at.block > self.last_block {
             return None;
         }
         if at.symbol < self.once(auto, at.block) {
             return Some(at);
         }
-        if at.block + 1 == blocks {
+        if at.block == self.last_block {
             return None;
         }
         Some(Position {

@@ -10,6 +10,7 @@ ghost use Rattle.obj_buffer.specs.BufferState.{BufferState, object_of, fti_of};
 
 use crate::codes::Codes;
 use crate::symbol::symbol_of;
+use crate::table::CodeTable;
 use fec_plan::Plan;
 use norm_base::{Datagram, Kind, Memory, Octets, Profile};
 use norm_ext::Fti;
@@ -72,7 +73,7 @@ impl ObjectBuf {
     {
         let len = bytes.len() as u64;
         let plan = plan_of(profile, len);
-        let codes = Codes::of(alloc, &plan)?;
+        let codes = Codes::of(alloc, &mut CodeTable::new(alloc), &plan)?;
         let e = u64::from(profile.e);
         let mut symbols = bytes;
         symbols.resize((len.div_ceil(e) * e) as usize, 0)?;

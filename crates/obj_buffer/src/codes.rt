@@ -2,53 +2,63 @@
 
 ghost use Rattle.std.specs.Prelude.{◌≡◌, ◌<◌, ◌≤◌, IfOk};
 ghost use Rattle.fec_plan.specs.Partition.{blocks};
+ghost use Rattle.std.specs.Arc.{arc_value};
 ghost use Rattle.obj_buffer.specs.Codes.{IsCodeOf};
 
+use crate::table::CodeTable;
 use fec_plan::Plan;
 use norm_base::Memory;
 use rs_block::Code;
 use std::alloc::Global;
 use std::marker::Model;
+use std::sync::Arc;
 
 /// The codes of the blocks of one plan: blocks have one length or two, and the first block has the greater one.
 #[derive(Debug, Drop)]
 pub struct Codes {
     plan: Plan,
-    first: Code,
-    last: Option<Code>,
+    first: Arc<Code, Global>,
+    last: Option<Arc<Code, Global>>,
 }
 
 impl Model for Codes {
     ghost use Rattle.fec_plan.specs.Partition.{Cut};
+    ghost use Rattle.std.specs.Prelude.{option_map};
+    ghost use Rattle.std.specs.Arc.{arc_value};
     ghost use Rattle.obj_buffer.specs.Codes.{AreCodes};
 
     ghost Value = { Cut };
 
     ghost view = { λ c. c.plan };
 
-    ghost invariant = { λ c. AreCodes c.plan c.first c.last };
+    ghost invariant = { λ c. AreCodes c.plan (arc_value c.first) (option_map arc_value c.last) };
 }
 
 /// The code of a block.
 #[tactic(auto, using(fec_plan::proofs::PartitionLemmas::some_sources, fec_plan::proofs::PartitionLemmas::sources_fit))]
-fn code_of(alloc: Global, plan: &Plan, block: u32) -> Result<Code, Memory>
+fn code_of(
+    alloc: Global,
+    table: &mut CodeTable,
+    plan: &Plan,
+    block: u32,
+) -> Result<Arc<Code, Global>, Memory>
     requires { block < blocks plan.now }
-    ensures { IfOk result (IsCodeOf plan.now block) }
+    ensures { IfOk result (λ code. IsCodeOf plan.now block (arc_value code)) }
 {
-    Code::new(alloc, plan.source_len(block), plan.encoded_len(block))
+    table.code(alloc, plan.source_len(block), plan.encoded_len(block))
 }
 
 impl Codes {
-    /// The codes of the plan's blocks.
+    /// The codes of the plan's blocks: those of the table, where one that is not there is made and kept.
     ///
     /// # Errors
     ///
     /// `Memory` where memory runs out.
-    pub fn of(alloc: Global, plan: &Plan) -> Result<Codes, Memory>
+    pub fn of(alloc: Global, table: &mut CodeTable, plan: &Plan) -> Result<Codes, Memory>
         ensures { IfOk result (λ codes. codes ≡ plan.now) }
     {
         let last_block = plan.blocks() - 1;
-        let first = code_of(alloc, plan, 0)?;
+        let first = code_of(alloc, table, plan, 0)?;
         if plan.source_len(last_block) == plan.source_len(0) {
             return Ok(Codes {
                 plan: *plan,
@@ -56,7 +66,7 @@ impl Codes {
                 last: None,
             });
         }
-        let last = code_of(alloc, plan, last_block)?;
+        let last = code_of(alloc, table, plan, last_block)?;
         Ok(Codes {
             plan: *plan,
             first,

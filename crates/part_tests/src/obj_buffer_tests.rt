@@ -3,7 +3,7 @@
 use fec_plan::Plan;
 use norm_base::{Datagram, Given, Key, Kind, Profile};
 use norm_ext::Fti;
-use obj_buffer::{Codes, ObjectBuf, symbol_of};
+use obj_buffer::{CodeTable, Codes, ObjectBuf, symbol_of};
 use std::alloc::{AllocError, Global};
 use std::process::Abort;
 use std::test::Fail;
@@ -105,10 +105,16 @@ fn parity_goes_on_with_the_powers(rt: HostRuntime) -> Result<(), Fail> {
     Ok(())
 }
 
-/// A symbol of the powers, which lie in two pieces: so many symbols in the front, and the others.
-fn symbol_cut_at(rt: &impl Abort, alloc: Global, cut: usize, symbol: u8) -> Result<Datagram, Fail> {
+/// A symbol of the powers, which lie in two pieces: so many symbols in the front, and the others. Its code is the table's.
+fn symbol_cut_at(
+    rt: &impl Abort,
+    alloc: Global,
+    table: &mut CodeTable,
+    cut: usize,
+    symbol: u8,
+) -> Result<Datagram, Fail> {
     let plan = Plan::of(256, 64, 4, 6)?;
-    let codes = Codes::of(alloc, &plan)?;
+    let codes = Codes::of(alloc, table, &plan)?;
     let octets = powers(alloc)?;
     assert!(rt; octets.len() == 256 && cut <= 4);
     assert!(rt; plan.blocks() > 0 && symbol < plan.encoded_len(0));
@@ -120,6 +126,7 @@ fn symbol_cut_at(rt: &impl Abort, alloc: Global, cut: usize, symbol: u8) -> Resu
 
 #[test]
 fn two_pieces_give_the_symbols_of_one(rt: HostRuntime) -> Result<(), Fail> {
+    let mut table = CodeTable::new(rt.alloc());
     for (cut, symbol, octet) in [
         (0, 3, 8),
         (2, 1, 2),
@@ -128,7 +135,7 @@ fn two_pieces_give_the_symbols_of_one(rt: HostRuntime) -> Result<(), Fail> {
         (3, 5, 32),
         (4, 4, 16),
     ] {
-        let out = symbol_cut_at(&rt, rt.alloc(), cut, symbol)?;
+        let out = symbol_cut_at(&rt, rt.alloc(), &mut table, cut, symbol)?;
         assert!(rt;
             out.bytes() == [octet; 64].as_slice(),
             "symbol {symbol} cut at {cut}"

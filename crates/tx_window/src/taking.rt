@@ -57,7 +57,15 @@ impl Window {
             return Err((Some(info), fault));
         }
         let len = len as u32;
-        let Ok(begun) = Held::new(self.alloc, &self.profile, kind, info, len, self.free) else {
+        let Ok(begun) = Held::new(
+            self.alloc,
+            &self.profile,
+            &mut self.codes,
+            kind,
+            info,
+            len,
+            self.free,
+        ) else {
             return Err((None, EnqueueFault::Memory));
         };
         if !reserve(&mut self.held, &mut self.extents) {

@@ -26,6 +26,7 @@ use held_object::{Held, Ring};
 use norm_base::{Datagram, Memory, Profile};
 use norm_ext::Fti;
 use norm_send_rules::Want;
+use obj_buffer::CodeTable;
 use std::alloc::Global;
 use std::collections::VecDeque;
 use std::marker::Model;
@@ -60,6 +61,8 @@ pub struct Window {
     pub(crate) last: Option<Position>,
     /// The least position that all receivers are listed past.
     pub(crate) past: Option<Position>,
+    /// The codes of the blocks of its objects, also of those that were dropped.
+    pub(crate) codes: CodeTable,
 }
 
 impl Model for Window {
@@ -138,6 +141,7 @@ impl Window {
             dropped: 0,
             last: None,
             past: None,
+            codes: CodeTable::new(alloc),
         })
     }
 

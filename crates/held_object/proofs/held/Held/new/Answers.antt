@@ -1,11 +1,17 @@
-use Rattle.std.proofs.Common.{◌-◌, ap, sym, ◌∙◌, length, List, arith}
+use Rattle.std.proofs.Common.{◌≤◌, ◌-◌, subst, ap, sym, ◌∙◌, length, List, arith}
 use Rattle.std.specs.Prelude.{filter, not, Bool}
 use Rattle.std.specs.Int.{div_ceil}
 use Rattle.std.proofs.lemmas.List.{length-replicate}
 use Rattle.norm_base.specs.Settings.{Settings}
 use Rattle.fec_plan.specs.Partition.{Cut, all_symbols, source_symbols}
+use Rattle.fec_plan.proofs.PartitionLemmas.{some_sources}
 use Rattle.held_object.proofs.UnsentLemmas.{all_unsent}
 use Rattle.held_object.proofs.held.Held.new.Goals as goal
+
+pub overflow_sub-last_symbol : goal.overflow_sub-last_symbol
+overflow_sub-last_symbol c =
+    subst (λ n. 1 ≤ n) (sym c.source_len-last_symbol.ensures.exact)
+    (some_sources c.plan_of-plan.result (c.blocks-last_block.result - 1) c.source_len-last_symbol.ensures.sound)
 
 pub invariant_of-result : goal.invariant_of-result
 invariant_of-result c =

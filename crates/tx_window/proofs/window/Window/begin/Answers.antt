@@ -29,8 +29,8 @@ none_begun : (ring : List ℕ) (filled : ℕ) (b : Option HeldObject) → option
 none_begun ring filled None e = refl
 none_begun ring filled (Some h) e = absurd (cc)
 
-pub invariant_of-self : goal.invariant_of-self
-invariant_of-self c =
+pub invariant_of-self-then-not-reserve : goal.invariant_of-self-then-not-reserve
+invariant_of-self-then-not-reserve c =
     let old = c.self.invariant in
     let w = c.self.inside in
     let same = c.reserve.ensures.held in

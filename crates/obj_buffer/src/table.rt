@@ -1,0 +1,81 @@
+//! Codes that were made, shared by all plans with blocks of their lengths.
+
+ghost use Rattle.std.specs.Prelude.{◌≡◌, ◌≤◌, ⊤, IfOk, MatchOption};
+ghost use Rattle.std.specs.Arc.{arc_value};
+
+use norm_base::Memory;
+use rs_block::Code;
+use std::alloc::Global;
+use std::marker::Model;
+use std::sync::Arc;
+
+/// A code that was made, of how many source and encoded symbols.
+#[derive(Debug, Drop)]
+struct Kept {
+    k: u8,
+    n: u8,
+    code: Arc<Code, Global>,
+}
+
+impl Model for Kept {
+    ghost use Rattle.std.specs.Prelude.{◌≡◌};
+    ghost use Rattle.std.specs.Arc.{arc_value};
+    ghost use Rattle.rs_block.specs.Code.{CodeState};
+
+    ghost Value = { CodeState };
+
+    ghost view = { λ c. record { k = c.k; n = c.n } };
+
+    ghost invariant = { λ c. arc_value c.code ≡ record { k = c.k; n = c.n } };
+}
+
+/// The codes that were made so far, so that a code is made once, whatever number of objects has blocks of its length. Under
+/// one profile there is at most one for each length of a block.
+#[derive(Debug, Drop)]
+pub struct CodeTable {
+    kept: Vec<Kept>,
+}
+
+impl CodeTable {
+    /// A table without a code. It takes no memory.
+    pub fn new(alloc: Global) -> CodeTable {
+        CodeTable {
+            kept: Vec::new(alloc),
+        }
+    }
+
+    /// The code of so many source and encoded symbols, where it was made.
+    fn find(&self, k: u8, n: u8) -> Option<&Arc<Code, Global>>
+        ensures { MatchOption result ⊤ (λ code. arc_value code.now ≡ record { k = k; n = n }) }
+    {
+        for kept in &self.kept {
+            if kept.k == k && kept.n == n {
+                return Some(&kept.code);
+            }
+        }
+        None
+    }
+
+    /// The code of `k` source symbols and `n` encoded symbols. It is made where it was not, and kept.
+    ///
+    /// # Errors
+    ///
+    /// `Memory` where memory runs out.
+    pub(crate) fn code(&mut self, alloc: Global, k: u8, n: u8) -> Result<Arc<Code, Global>, Memory>
+        requires some { 1 ≤ k }
+        requires fits { k ≤ n }
+        ensures { IfOk result (λ code. arc_value code ≡ record { k = k; n = n }) }
+    {
+        if let Some(code) = self.find(k, n) {
+            return Ok(Arc::try_clone(code)?);
+        }
+        let code = Arc::new(alloc, Code::new(alloc, k, n)?)?;
+        let kept = Kept {
+            k,
+            n,
+            code: Arc::try_clone(&code)?,
+        };
+        self.kept.push(kept)?;
+        Ok(code)
+    }
+}
