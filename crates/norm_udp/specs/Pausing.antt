@@ -1,5 +1,5 @@
 -- How a network of sockets pauses where nothing is there to be taken: it never waits in a read.
-use Rattle.std.specs.Prelude.{ℕ, ◌+◌, ◌-◌, min, nat_le, true, false, Option, None, Some, if◌then◌else◌}
+use Rattle.std.specs.Prelude.{ℕ, ◌+◌, ◌-◌, min, nat_le, Bool, true, false, not, ◌&&◌, is_none, Option, None, Some, if◌then◌else◌}
 use Rattle.norm_udp.specs.declared.pace.Pace.{Pace}
 use Rattle.norm_udp.specs.declared.pace.Pause.{Pause}
 use Rattle.norm_udp.specs.declared.pace.Pause.TheVariants as pause
@@ -14,11 +14,11 @@ sleep_since None now = 1000
 sleep_since (Some busy) now = if nat_le (now - busy) 10000 then 250 else 1000
 
 -- What is done where nothing is there: a sender that offered since that was last answered looks again; whoever was busy since then answers it at once;
--- and any other sleeps.
-abbrev pub pause_of : Pace → ℕ → Pause
-pause_of p now = elim p.offered [
+-- and any other sleeps, for as long as `sleep_since` says of when it was busy last. Only a sleep asks which moment it is.
+abbrev pub pause_of : Pace → Pause
+pause_of p = elim p.offered [
   | Some offered ↦ pause.Look (look_until p.gap offered)
-  | None ↦ if p.busy then pause.Answer else pause.Sleep (sleep_since p.last now)
+  | None ↦ if p.busy then pause.Answer else pause.Sleep p.last
 ]
 
 -- before anything was offered or taken
@@ -36,3 +36,7 @@ made_busy p = record { gap = p.gap; offered = p.offered; busy = true; last = p.l
 -- it is answered at this moment that nothing is there
 abbrev pub found_empty : Pace → ℕ → Pace
 found_empty p now = record { gap = p.gap; offered = None; busy = false; last = if p.busy then Some now else p.last }
+
+-- nothing was done since it was last answered that nothing is there
+abbrev pub is_answered : Pace → Bool
+is_answered p = is_none p.offered && not p.busy

@@ -2,10 +2,11 @@
 
 ghost use Rattle.std.specs.Prelude.{◌≡◌, [], true, IfOk, IfNone, OnErr};
 ghost use Rattle.norm_base.specs.Faults.{Counts};
+ghost use Rattle.norm_udp.specs.Pausing.{is_answered};
 ghost use Rattle.norm_udp.specs.Untold.{untold};
 
 use crate::cause::SocketCause;
-use crate::pace::{Pace, Pause};
+use crate::pace::{Pace, Pause, sleep_since};
 use crate::socket::BUFFER;
 use crate::sockets::{Open, OpenFault, open_for};
 use norm_base::{Datagram, Fabric, FabricFault, Local, Memory, NodeId, Profile};
@@ -16,6 +17,20 @@ use std::time::{Clock, Duration};
 
 /// How often a sender looks at most, while its gap lasts.
 const MOST_LOOKS: u32 = 16_384;
+
+/// Microseconds between a node's datagrams: the profile's gap where it is the sender alone, and else 0.
+fn gap_of(profile: &Profile, local: &Local) -> u64 {
+    match local {
+        Local::One(node) => {
+            if node.number() == profile.sender {
+                u64::from(profile.gap)
+            } else {
+                0
+            }
+        }
+        Local::All | Local::Hub => 0,
+    }
+}
 
 /// A network of UDP sockets at 127.0.0.1: the hub at the profile's port, and the members behind it, in their order. With all members in
 /// this process each has its socket, and what one offers goes to each other; a member alone offers to the hub; and the hub offers a member's datagram
@@ -89,11 +104,11 @@ impl<R: Net + Clock + Drop> UdpFabric<R> {
     fn note_offer(&mut self)
         ensures { self.new.faults ≡ self.old.faults }
     {
-        if self.open.is_sender() {
+        if self.pace.gap == 0 {
+            self.pace.note_busy();
+        } else {
             let now = self.now();
             self.pace.note_offer_at(now);
-        } else {
-            self.pace.note_busy();
         }
     }
 
@@ -102,44 +117,68 @@ impl<R: Net + Clock + Drop> UdpFabric<R> {
         requires { into.old ≡ [] }
         ensures none { IfOk result (λ node. IfNone node (into.new ≡ [])) }
         ensures err { OnErr result (into.new ≡ []) }
+        ensures pace { self.new.pace ≡ self.old.pace }
         ensures faults { self.new.faults ≡ self.old.faults }
     {
         self.open.look(&mut self.buffer, into)
     }
 
-    /// Looks until a moment.
+    /// Looks until a moment. Where that is over already the clock is read once, and nothing else is done.
     fn look_until(&mut self, until: u64, into: &mut Datagram) -> Result<Option<NodeId>, SocketCause>
         requires { into.old ≡ [] }
         ensures none { IfOk result (λ node. IfNone node (into.new ≡ [])) }
         ensures err { OnErr result (into.new ≡ []) }
+        ensures answered { IfOk result (λ node. IfNone node (is_answered self.new.pace ≡ true)) }
         ensures faults { self.new.faults ≡ self.old.faults }
     {
+        let mut now = self.now();
         for _ in 0..MOST_LOOKS {
-            if self.now() >= until {
-                return Ok(None);
+            if now >= until {
+                break;
             }
             if let Some(node) = self.look(into)? {
                 return Ok(Some(node));
             }
+            now = self.now();
         }
+        self.pace.note_empty(now);
         Ok(None)
     }
 
-    /// Takes a datagram where none is there at once: it pauses, as the last calls ask for, and looks again.
+    /// Sleeps, for as long as goes by when it was busy last, and looks once more.
+    fn look_after_sleep(
+        &mut self,
+        last: Option<u64>,
+        into: &mut Datagram,
+    ) -> Result<Option<NodeId>, SocketCause>
+        requires { into.old ≡ [] }
+        ensures none { IfOk result (λ node. IfNone node (into.new ≡ [])) }
+        ensures err { OnErr result (into.new ≡ []) }
+        ensures pace { self.new.pace ≡ self.old.pace }
+        ensures faults { self.new.faults ≡ self.old.faults }
+    {
+        let micros = sleep_since(last, self.now());
+        thread::sleep(&self.rt, Duration::from_micros(micros));
+        self.look(into)
+    }
+
+    /// Takes a datagram where none is there at once: it pauses, as the last calls ask for, and looks again. Where it still finds nothing
+    /// that is noted; of a node that slept there is nothing to note. The clock is read once, and while a sender looks again once a look.
     fn look_later(&mut self, into: &mut Datagram) -> Result<Option<NodeId>, SocketCause>
         requires { into.old ≡ [] }
         ensures none { IfOk result (λ node. IfNone node (into.new ≡ [])) }
         ensures err { OnErr result (into.new ≡ []) }
+        ensures answered { IfOk result (λ node. IfNone node (is_answered self.new.pace ≡ true)) }
         ensures faults { self.new.faults ≡ self.old.faults }
     {
-        let now = self.now();
-        match self.pace.pause(now) {
-            Pause::Answer => Ok(None),
-            Pause::Look(until) => self.look_until(until, into),
-            Pause::Sleep(micros) => {
-                thread::sleep(&self.rt, Duration::from_micros(micros));
-                self.look(into)
+        match self.pace.pause() {
+            Pause::Answer => {
+                let now = self.now();
+                self.pace.note_empty(now);
+                Ok(None)
             }
+            Pause::Look(until) => self.look_until(until, into),
+            Pause::Sleep(last) => self.look_after_sleep(last, into),
         }
     }
 
@@ -148,6 +187,7 @@ impl<R: Net + Clock + Drop> UdpFabric<R> {
         requires { into.old ≡ [] }
         ensures none { IfOk result (λ node. IfNone node (into.new ≡ [])) }
         ensures err { OnErr result (into.new ≡ []) }
+        ensures answered { IfOk result (λ node. IfNone node (is_answered self.new.pace ≡ true)) }
         ensures faults { self.new.faults ≡ self.old.faults }
     {
         let mut found = self.look(into)?;
@@ -156,9 +196,6 @@ impl<R: Net + Clock + Drop> UdpFabric<R> {
         }
         if found.is_some() {
             self.pace.note_busy();
-        } else {
-            let now = self.now();
-            self.pace.note_empty(now);
         }
         Ok(found)
     }
@@ -171,7 +208,7 @@ impl<R: Net + Clock + Drop> Fabric for UdpFabric<R> {
 
     fn start(&mut self, profile: &Profile, local: Local) -> Result<(), FabricFault> {
         self.close();
-        self.pace = Pace::new(u64::from(profile.gap));
+        self.pace = Pace::new(gap_of(profile, &local));
         match open_for(&self.rt, self.alloc, profile, local) {
             Ok(open) => {
                 self.open = open;

@@ -22,14 +22,14 @@ pub(crate) enum Pause {
     Look(u64),
     /// That nothing is there is answered.
     Answer,
-    /// It is slept so many microseconds, and looked once more.
-    Sleep(u64),
+    /// It is slept, for as long as goes by when it was busy last, and looked once more.
+    Sleep(Option<u64>),
 }
 
 /// What was done since it was last answered that nothing is there, and when before that anything was.
 #[derive(Clone, Copy, Debug)]
 pub(crate) struct Pace {
-    /// Microseconds between a sender's datagrams; 0 at any other node.
+    /// Microseconds between a sender's datagrams; 0 at any other node, of which no moment of an offer is noted.
     pub gap: u64,
     /// When a sender offered last.
     pub offered: Option<u64>,
@@ -46,8 +46,8 @@ fn look_until(gap: u64, offered: u64) -> u64
     offered.saturating_add(gap.min(LONGEST_LOOK))
 }
 
-/// How long a sleep is at this moment.
-fn sleep_since(last: Option<u64>, now: u64) -> u64
+/// How many microseconds a sleep is at this moment.
+pub(crate) fn sleep_since(last: Option<u64>, now: u64) -> u64
     ensures { result ≡ sleep_since last now }
 {
     match last {
@@ -95,14 +95,14 @@ impl Pace {
         self.busy = false;
     }
 
-    /// What is done at this moment, where nothing is there.
-    pub(crate) fn pause(&self, now: u64) -> Pause
-        ensures { result ≡ pause_of self.now now }
+    /// What is done where nothing is there.
+    pub(crate) fn pause(&self) -> Pause
+        ensures { result ≡ pause_of self.now }
     {
         match self.offered {
             Some(offered) => Pause::Look(look_until(self.gap, offered)),
             None if self.busy => Pause::Answer,
-            None => Pause::Sleep(sleep_since(self.last, now)),
+            None => Pause::Sleep(self.last),
         }
     }
 }

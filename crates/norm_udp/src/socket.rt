@@ -1,6 +1,6 @@
 //! Single sockets. None of them ever waits.
 
-ghost use Rattle.std.specs.Prelude.{◌≡◌, [], IfOk, IfNone, OnErr, if◌then◌else◌};
+ghost use Rattle.std.specs.Prelude.{◌≡◌, [], false, IfOk, IfNone, OnErr, if◌then◌else◌};
 
 use crate::cause::SocketCause;
 use crate::loss::is_loss;
@@ -102,8 +102,47 @@ fn put(received: &[u8], into: &mut Datagram) -> bool
     true
 }
 
-/// Receives the next datagram that is no longer than one may be, and says where it came from. `None` where nothing is there.
+/// What becomes of a call that received nothing: it is no fault where only nothing is there.
+fn nothing_there(error: io::Error, own: SocketAddr) -> Result<(), SocketCause> {
+    if is_loss(&error) {
+        return Ok(());
+    }
+    Err(SocketCause::Receive {
+        address: own,
+        error,
+    })
+}
+
+/// Receives the next datagram that is no longer than one may be, from wherever it came. False where nothing is there.
 pub(crate) fn receive(
+    socket: &UdpSocket,
+    own: SocketAddr,
+    buffer: &mut [u8],
+    into: &mut Datagram,
+) -> Result<bool, SocketCause>
+    requires { into.old ≡ [] }
+    ensures none { IfOk result (λ found. found ≡ false → into.new ≡ []) }
+    ensures err { OnErr result (into.new ≡ []) }
+{
+    for _ in 0..MOST_PASSED {
+        match socket.recv(buffer) {
+            Ok(n) => {
+                if put(&buffer[..n], into) {
+                    return Ok(true);
+                }
+            }
+            Err(error) => {
+                nothing_there(error, own)?;
+                return Ok(false);
+            }
+        }
+    }
+    Ok(false)
+}
+
+/// Receives the next datagram that is no longer than one may be, and says where it came from, which costs more than [`receive`].
+/// `None` where nothing is there.
+pub(crate) fn receive_from(
     socket: &UdpSocket,
     own: SocketAddr,
     buffer: &mut [u8],
@@ -120,12 +159,9 @@ pub(crate) fn receive(
                     return Ok(Some(from));
                 }
             }
-            Err(error) if is_loss(&error) => return Ok(None),
             Err(error) => {
-                return Err(SocketCause::Receive {
-                    address: own,
-                    error,
-                });
+                nothing_there(error, own)?;
+                return Ok(None);
             }
         }
     }

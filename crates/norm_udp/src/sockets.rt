@@ -5,7 +5,7 @@ ghost use Rattle.norm_base.specs.Members.{is_node};
 
 use crate::address::{address_at, address_of, gets_copy, is_node, member_at, member_from};
 use crate::cause::SocketCause;
-use crate::socket::{MOST_PASSED, bind, connect, receive, send, send_to};
+use crate::socket::{MOST_PASSED, bind, connect, receive, receive_from, send, send_to};
 use norm_base::{Datagram, Local, Memory, NodeId, Profile};
 use std::alloc::{AllocFailed, Global};
 use std::io::{self, ErrorKind};
@@ -53,7 +53,6 @@ pub(crate) enum Open {
     One {
         member: Member,
         hub: SocketAddr,
-        is_sender: bool,
     },
     /// The hub's, and one that sends to each receiver.
     Hub {
@@ -113,11 +112,7 @@ fn open_one<R: Net>(rt: &R, profile: &Profile, node: NodeId) -> Result<Open, Ope
         }));
     }
     let member = open_own(rt, profile, node)?;
-    Ok(Open::One {
-        member,
-        hub,
-        is_sender: node.number() == profile.sender,
-    })
+    Ok(Open::One { member, hub })
 }
 
 /// Opens the hub's socket, and one to each receiver.
@@ -213,7 +208,7 @@ fn look_among(
 {
     for _ in 0..members.len() {
         if let Some(member) = members.get(*place) {
-            if receive(&member.socket, member.address, buffer, into)?.is_some() {
+            if receive(&member.socket, member.address, buffer, into)? {
                 return Ok(Some(member.node));
             }
         }
@@ -236,7 +231,7 @@ fn receive_from_member(
     ensures err { OnErr result (into.new ≡ []) }
 {
     for _ in 0..MOST_PASSED {
-        let Some(address) = receive(socket, own, buffer, into)? else {
+        let Some(address) = receive_from(socket, own, buffer, into)? else {
             return Ok(None);
         };
         if let Some(node) = member_from(profile, &address) {
@@ -248,17 +243,6 @@ fn receive_from_member(
 }
 
 impl Open {
-    /// Whether the one member in this process is the sender.
-    pub(crate) fn is_sender(&self) -> bool {
-        matches!(
-            self,
-            Open::One {
-                is_sender: true,
-                ..
-            }
-        )
-    }
-
     /// Sends a member's datagram to whom it goes.
     pub(crate) fn send(&self, from: NodeId, bytes: &[u8]) -> Result<(), SocketCause> {
         match self {
@@ -268,7 +252,7 @@ impl Open {
                 members,
                 ..
             } => send_among(profile, members, from, bytes),
-            Open::One { member, hub, .. } => send_to(&member.socket, bytes, *hub),
+            Open::One { member, hub } => send_to(&member.socket, bytes, *hub),
             Open::Hub {
                 profile,
                 socket,
@@ -292,8 +276,8 @@ impl Open {
             Open::Nothing => Ok(None),
             Open::All { members, place, .. } => look_among(members, place, buffer, into),
             Open::One { member, .. } => {
-                let from = receive(&member.socket, member.address, buffer, into)?;
-                Ok(from.map(|_| member.node))
+                let found = receive(&member.socket, member.address, buffer, into)?;
+                Ok(if found { Some(member.node) } else { None })
             }
             Open::Hub {
                 profile,

@@ -14,6 +14,9 @@ const SILENCE: u64 = 10;
 /// How many seconds there are from one line of progress to the next.
 const PAUSE: u64 = 1;
 
+/// The clock is read at one take in so many. Where nothing comes each sleeps a millisecond, so that they are well under a second.
+const TAKES: u32 = 64;
+
 /// The place of a datagram's first octet of a header, and of its flags.
 const FLAGS: usize = 12;
 
@@ -51,7 +54,11 @@ pub struct WatchedFabric<'a, R, F> {
     tally: &'a Tally,
     /// The port that this node takes at, over sockets in a process of its own.
     port: Option<u32>,
-    /// When a datagram was taken last, or the network begun.
+    /// How many takes go by before the clock is read.
+    takes_left: u32,
+    /// Whether a datagram was taken since the clock was read.
+    has_heard: bool,
+    /// The first moment that was read after a datagram was taken last, or at which the network begun.
     heard: Duration,
     /// Whether it was said that nothing came.
     is_silent: bool,
@@ -70,6 +77,8 @@ impl<'a, R: Eprint + Clock, F: Fabric> WatchedFabric<'a, R, F> {
             says,
             tally,
             port: None,
+            takes_left: 0,
+            has_heard: false,
             heard: Duration::ZERO,
             is_silent: false,
             drawn: Duration::ZERO,
@@ -94,6 +103,8 @@ impl<'a, R: Eprint + Clock, F: Fabric> WatchedFabric<'a, R, F> {
         ensures { watched_by self.new ≡ watched_by self.old }
     {
         self.port = port_of(profile, local);
+        self.takes_left = 0;
+        self.has_heard = false;
         self.heard = self.now();
         self.is_silent = false;
         if self.port.is_some() && !matches!(local, Local::Hub) && profile.step != 0 {
@@ -128,16 +139,14 @@ impl<'a, R: Eprint + Clock, F: Fabric> WatchedFabric<'a, R, F> {
         }
     }
 
-    /// A take gave something, or nothing.
-    fn took(&mut self, is_some: bool)
+    /// Reads the clock: whether anything was heard since it was read last, or for ten seconds nothing, and whether progress is to be drawn.
+    fn watch(&mut self, port: u32)
         ensures { watched_by self.new ≡ watched_by self.old }
     {
-        let Some(port) = self.port else {
-            return;
-        };
         let now = self.now();
-        if is_some {
+        if self.has_heard {
             self.heard = now;
+            self.has_heard = false;
             self.is_silent = false;
         } else if !self.is_silent
             && now.saturating_sub(self.heard) >= Duration::from_secs(SILENCE)
@@ -147,6 +156,24 @@ impl<'a, R: Eprint + Clock, F: Fabric> WatchedFabric<'a, R, F> {
             let _ = eprintln!(self.rt; "nothing came to 127.0.0.1:{port} for ten seconds");
         }
         self.draw(now);
+    }
+
+    /// A take gave something, or nothing. The clock is read at the first take, and then at one in [`TAKES`].
+    fn took(&mut self, is_some: bool)
+        ensures { watched_by self.new ≡ watched_by self.old }
+    {
+        let Some(port) = self.port else {
+            return;
+        };
+        if is_some {
+            self.has_heard = true;
+        }
+        if self.takes_left > 0 {
+            self.takes_left -= 1;
+            return;
+        }
+        self.takes_left = TAKES - 1;
+        self.watch(port);
     }
 }
 
