@@ -137,6 +137,7 @@ script 'set receivers 2\n' "$none"
 script '1 mark\n' "no 1 1 nothing-enqueued\n$none"
 script "${set}1 file hi.txt\n" 'enq 1 1 7 0 file 2\nup 2 7 0 file 2 68692e747874 6869\nend objects 1 octets 2 handed 1 lost 0 satisfied 0 expired 0 cut 0\n'
 script '1 file empty\n' "no 1 1 empty\n$none"
+script 'set octets 64\n1 file letter.txt\n' "no 1 1 too-big 141\n$none"
 
 # A file of three symbols to three receivers: the copy of the first is lost to node 2, that of the last to node 3, and one parity symbol
 # repairs both. Worked out from the rules, with the words that the network draws.
@@ -178,6 +179,22 @@ tail -n 1 "$scratch/all" | grep -qx 'end objects 270 octets 71820 handed 4320 lo
     { echo "program: the session of 300 commands ended so"; tail -n 1 "$scratch/all"; exit 1; }
 said 'the session of 300 commands'
 
+# Three files of 1 MiB through a window of two: the ring has room for 1,499 symbols, and the third file goes round its end.
+python3 - "$files" >"$scratch/ups" <<'END'
+import sys
+for index, name in enumerate('abc'):
+    octets = bytes((index + i * i) % 251 for i in range(1048576))
+    open(f'{sys.argv[1]}/{name}', 'wb').write(octets)
+    print('up 2 1', index, 'file 1048576', name.encode().hex(), octets.hex())
+END
+printf '%s\n' 'set e 1400' 'set b 200' 'set octets 2097152' 'set window 2' '1 file a' '1 mark' '1 file b' '1 mark' '1 file c' '1 mark' >"$scratch/in"
+(cd "$files" && exec "$program" session) <"$scratch/in" >"$scratch/all" 2>"$scratch/err"
+ended $? 'three files in a ring' 0
+grep '^up ' "$scratch/all" | cmp -s - "$scratch/ups" || { echo 'program: three files in a ring were handed up otherwise'; exit 1; }
+tail -n 1 "$scratch/all" | grep -qx 'end objects 3 octets 3145728 handed 3 lost 0 satisfied 3 expired 0 cut 0' ||
+    { echo 'program: three files in a ring ended so'; tail -n 1 "$scratch/all"; exit 1; }
+said 'three files in a ring'
+
 # Sessions that come to no summary, or to one that is not whole.
 fails 8 '' "${set}set window 1\nset turns 50\n1 data 01\n1 data 02\n" 'enq 1 1 7 0 data 1\nup 2 7 0 data 1 - 01\nend objects 1 octets 1 handed 1 lost 0 satisfied 0 expired 0 cut 0\nturns spent\n'
 fails 7 '' '1 file none.txt\n' 'absent none.txt\n'
@@ -187,6 +204,8 @@ fails 0 '' "set fabric udp\nset port $((20000 + $$ % 20000))\n1 data 61\n1 mark\
 
 # Commands of streams that are refused.
 fails 0 '' '1 mark\n1 open\n1 data 01\n' 'no 1 1 nothing-enqueued\nenq 1 2 1 0 open\nno 1 3 stream-open 0\nend objects 1 octets 0 handed 0 lost 0 satisfied 0 expired 0 cut 0\n'
+script 'set octets 4096\n1 open\n' "no 1 1 too-big 1048576\n$none"
+script "set e 64\nset b 1\nset blocks 2\n1 open\n1 write $(printf '%0130d' 0)\n" 'enq 1 1 1 0 open\nno 1 2 too-big 65\nend objects 1 octets 0 handed 0 lost 0 satisfied 0 expired 0 cut 0\n'
 fails 0 '' '1 write 41\n1 close\n' 'no 1 1 no-stream\nno 1 2 no-stream\nend objects 0 octets 0 handed 0 lost 0 satisfied 0 expired 0 cut 0\n'
 
 # Lines of a script without a meaning, and why.
