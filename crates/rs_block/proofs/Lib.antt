@@ -4,3 +4,4 @@ pub mod Parts
 pub mod Rows
 pub mod Blocks
 pub mod Functions
+pub mod InPlace

@@ -5,7 +5,7 @@ use Rattle.std.proofs.Math.Nat.{mul-le-mul_right}
 use Rattle.std.proofs.lemmas.Bool.{cases_lt}
 use Rattle.std.proofs.lemmas.List.{get_or-take, get_or-append_right, length-take-le}
 
-before_part : (xs ys zs : List ℕ) (a i : ℕ) → i < a → a ≤ length xs → get_or (take a xs ++ (ys ++ zs)) i 0 ≡ get_or xs i 0
+pub before_part : (xs ys zs : List ℕ) (a i : ℕ) → i < a → a ≤ length xs → get_or (take a xs ++ (ys ++ zs)) i 0 ≡ get_or xs i 0
 before_part xs ys zs a i lt h =
     get_or-append (take a xs) (ys ++ zs) 0 i (omega (arith, length-take-le a xs h)) ∙ get_or-take a xs i 0 lt
 

@@ -4,4 +4,5 @@ pub mod Points
 pub mod Row
 pub mod Code
 pub mod Solver
+pub mod Aside
 pub mod Laws

@@ -1,7 +1,7 @@
 //! Lagrange's formula over GF(2^8): the values of the polynomial of degree below k through k points,
 //! which RFC 5510 section 8.2 computes by matrices.
 
-ghost use Rattle.std.specs.Prelude.{ℕ, ◌≡◌, ◌≢◌, ◌<◌, ◌≤◌, ◌+◌, ◌*◌, EachIndex, bit_xor, length, slice_index};
+ghost use Rattle.std.specs.Prelude.{ℕ, ◌≡◌, ◌≢◌, ◌<◌, ◌≤◌, ◌+◌, ◌*◌, EachIndex, MatchOption, bit_xor, length, slice_index};
 ghost use Rattle.std.specs.List.{AllPairs};
 ghost use Rattle.gf_field.specs.Product.{product};
 ghost use Rattle.gf_field.specs.Power.{power};
@@ -21,6 +21,15 @@ pub fn place_of(id: u8) -> u8
     ensures { result ≡ power id }
 {
     alpha_pow(u32::from(id))
+}
+
+/// Where the id stands among `ids`.
+pub fn position_of(ids: &[u8], id: u8) -> Option<usize>
+    ensures { MatchOption result
+        (EachIndex ids.now (λ i. slice_index ids.now i ≢ id))
+        (λ i. (i < length ids.now) × (slice_index ids.now i ≡ id)) }
+{
+    ids.iter().position(|other| *other == id)
 }
 
 /// The logarithm of the product of the differences of `x` and each place, which is none of them.

@@ -6,6 +6,7 @@
 #![tactic(auto)]
 
 mod encode;
+mod in_place;
 mod interpolation;
 pub mod laws;
 mod solve;

@@ -1,6 +1,6 @@
 //! The source symbols of a block from any k of its symbols, RFC 5510 section 8.3.
 
-ghost use Rattle.std.specs.Prelude.{ℕ, ◌≡◌, ◌≢◌, ◌<◌, ◌≤◌, ◌*◌, ◌+◌, All, AllPairs, EachIndex, IfOk, MatchOption, length, map, slice_index};
+ghost use Rattle.std.specs.Prelude.{ℕ, ◌≡◌, ◌<◌, ◌≤◌, ◌*◌, ◌+◌, All, AllPairs, EachIndex, IfOk, length, map, slice_index};
 ghost use Rattle.norm_base.specs.Sizes.{symbol_room};
 ghost use Rattle.gf_field.specs.Power.{power};
 ghost use Rattle.gf_field.specs.Interpolation.{interpolated};
@@ -8,7 +8,10 @@ ghost use Rattle.rs_block.specs.Codeword.{AreIds, AreSources};
 ghost use Rattle.rs_block.specs.Column.{column};
 ghost use Rattle.rs_block.specs.Points.{AreWeights};
 
-use crate::interpolation::{add_combined, place_of, put_coefficients, symbol_at, weigh};
+use crate::in_place::{put_lacking, set_aside};
+use crate::interpolation::{
+    add_combined, place_of, position_of, put_coefficients, symbol_at, weigh,
+};
 use norm_base::Memory;
 use std::alloc::{AllocError, Global};
 use std::marker::Model;
@@ -30,7 +33,7 @@ impl Model for Solver {
 
     ghost view = { λ s. record { k = s.k; size = s.size } };
 
-    ghost invariant = { λ s. SolverSound s.k s.places.items s.weights.items s.row.items };
+    ghost invariant = { λ s. SolverSound s.k s.size s.places.items s.weights.items s.row.items };
 }
 
 impl Solver {
@@ -81,6 +84,30 @@ impl Solver {
             out,
         );
     }
+
+    /// Puts the k source symbols of a block into their places of the row in which k of its symbols lie: `ids` are the ids
+    /// of these, place by place. A place whose symbol is its own is not written, so a block costs a copy of what lies at
+    /// the others, and a sum for each. `scratch` is room for the row. It takes no memory and cannot fail.
+    pub fn solve_in(&mut self, ids: &[u8], row: &mut [u8], scratch: &mut [u8])
+        requires ids { AreIds self.old.k 255 ids.now }
+        requires row { length row.old ≡ self.old.k * self.old.size }
+        requires room { length row.old ≤ length scratch.old }
+        ensures sources { AreSources self.old.k self.old.size ids.now row.old row.new }
+        ensures same { self.new ≡ self.old }
+    {
+        set_aside(ids, row, self.size, scratch);
+        place(ids, &mut self.places);
+        weigh(&self.places, &mut self.weights);
+        put_lacking(
+            ids,
+            &self.places,
+            &self.weights,
+            self.size,
+            scratch,
+            &mut self.row,
+            row,
+        );
+    }
 }
 
 /// k octets.
@@ -98,15 +125,6 @@ fn place(ids: &[u8], places: &mut [u8])
     for (i, place) in places.iter_mut().enumerate() {
         *place = place_of(ids[i]);
     }
-}
-
-/// Where the id stands among `ids`.
-fn position_of(ids: &[u8], id: u8) -> Option<usize>
-    ensures { MatchOption result
-        (EachIndex ids.now (λ i. slice_index ids.now i ≢ id))
-        (λ i. (i < length ids.now) × (slice_index ids.now i ≡ id)) }
-{
-    ids.iter().position(|other| *other == id)
 }
 
 /// Puts symbol `j` of the block into `out`: a symbol that was given is copied, and another one is summed up by a row,

@@ -93,9 +93,7 @@ fn solve(solver: &mut Solver, ids: &[u8], row: &mut [u8], scratch: &mut [u8])
     if are_own(ids) {
         return;
     }
-    let came = &mut scratch[..row.len()];
-    came.copy_from_slice(row);
-    solver.solve(ids, came, row);
+    solver.solve_in(ids, row, scratch);
 }
 
 /// Puts a symbol that is new into a block that lacks some. As the last one that is lacking comes, the block's source
