@@ -10,12 +10,12 @@ use std::alloc::{AllocError, Global};
 use std::process::Abort;
 use std::test::Fail;
 
-/// Whether the ids rise and are below 255.
+/// Whether the ids differ and are below 255.
 fn are_ids(ids: &[u8]) -> bool
     ensures { IsTrue result → AreIds (length ids.now) 255 ids.now }
 {
     for (i, id) in ids.iter().enumerate() {
-        if *id == 255 || (i > 0 && ids[i - 1] >= *id) {
+        if *id == 255 || ids[..i].contains(id) {
             return false;
         }
     }
@@ -58,6 +58,24 @@ fn solved(
     let mut out = vec![in alloc; 0; ids.len() * size]?;
     solver.solve(ids, symbols, &mut out);
     Ok(out)
+}
+
+/// The source symbols from the symbols with these ids, solved in the row in which they lie.
+fn solved_in(
+    rt: &impl Abort,
+    alloc: Global,
+    size: usize,
+    ids: &[u8],
+    symbols: &[u8],
+) -> Result<Vec<u8>, Fail> {
+    assert!(rt; 1 <= ids.len() && ids.len() < 256 && 1 <= size && size <= 1408);
+    assert!(rt; are_ids(ids));
+    assert_eq!(rt; symbols.len(), ids.len() * size);
+    let mut solver = Solver::new(alloc, ids.len() as u8, size)?;
+    let mut row = symbols.to_vec(alloc)?;
+    let mut scratch = vec![in alloc; 0; symbols.len()]?;
+    solver.solve_in(ids, &mut row, &mut scratch);
+    Ok(row)
 }
 
 /// The value at `x` of the polynomial through the values at the first powers of alpha, by divided differences.
@@ -116,8 +134,23 @@ fn symbols_of_short_codes_are_those_of_the_rows(rt: HostRuntime) -> Result<(), F
 
 #[test]
 fn a_short_block_is_solved(rt: HostRuntime) -> Result<(), Fail> {
-    let sources = solved(&rt, rt.alloc(), 1, &[2, 3], &[0x04, 0x08])?;
+    let alloc = rt.alloc();
+    let sources = solved(&rt, alloc, 1, &[2, 3], &[0x04, 0x08])?;
     assert!(rt; sources.as_slice() == [0x01, 0x02].as_slice());
+    for (ids, symbols) in [
+        ([0, 1, 2], [0x01, 0x04, 0x10]),
+        ([0, 4, 2], [0x01, 0x1d, 0x10]),
+        ([3, 1, 2], [0x40, 0x04, 0x10]),
+        ([4, 1, 0], [0x1d, 0x04, 0x01]),
+        ([2, 0, 1], [0x10, 0x01, 0x04]),
+        ([4, 3, 1], [0x1d, 0x40, 0x04]),
+    ] {
+        let sources = solved_in(&rt, alloc, 1, &ids, &symbols)?;
+        assert!(rt;
+            sources.as_slice() == [0x01, 0x04, 0x10].as_slice(),
+            "{ids:?}"
+        );
+    }
     Ok(())
 }
 
@@ -176,8 +209,35 @@ fn parity_is_the_value_by_divided_differences(rt: HostRuntime) -> Result<(), Fai
     Ok(())
 }
 
-/// The sources from the symbols whose bits are set in the mask.
-fn solved_from(rt: &impl Abort, alloc: Global, mask: u32, symbols: &[u8]) -> Result<Vec<u8>, Fail> {
+/// The symbols as they come to lie in a row from the last one on: at the own place where that is free, and else at the first one that is.
+fn as_they_lie(
+    rt: &impl Abort,
+    alloc: Global,
+    ids: &[u8],
+    symbols: &[u8],
+) -> Result<(Vec<u8>, Vec<u8>), Fail> {
+    let mut places = vec![in alloc; 255u8; ids.len()]?;
+    let mut row = vec![in alloc; 0; ids.len()]?;
+    for (id, symbol) in ids.iter().zip(symbols).rev() {
+        let own = usize::from(*id);
+        let is_free = places.get(own).is_some_and(|other| *other == 255);
+        let first = places.iter().position(|other| *other == 255);
+        let place = if is_free { own } else { first.unwrap_or(0) };
+        assert!(rt; place < places.len() && place < row.len());
+        places[place] = *id;
+        row[place] = *symbol;
+    }
+    Ok((places, row))
+}
+
+/// Whether the symbols whose bits are set in the mask give the source octets, solved into another row and in their own one.
+fn are_solved_from(
+    rt: &impl Abort,
+    alloc: Global,
+    mask: u32,
+    symbols: &[u8],
+    source: &[u8],
+) -> Result<bool, Fail> {
     let mut ids = Vec::new(alloc);
     let mut given = Vec::new(alloc);
     for (id, symbol) in symbols.iter().enumerate() {
@@ -187,7 +247,10 @@ fn solved_from(rt: &impl Abort, alloc: Global, mask: u32, symbols: &[u8]) -> Res
             given.push(*symbol)?;
         }
     }
-    solved(rt, alloc, 1, &ids, &given)
+    let (places, row) = as_they_lie(rt, alloc, &ids, &given)?;
+    let into = solved(rt, alloc, 1, &ids, &given)?;
+    let within = solved_in(rt, alloc, 1, &places, &row)?;
+    Ok(into.as_slice() == source && within.as_slice() == source)
 }
 
 #[test]
@@ -198,11 +261,8 @@ fn every_choice_of_k_symbols_gives_the_sources(rt: HostRuntime) -> Result<(), Fa
         let symbols = encoded(&rt, alloc, k, k + 2, 1, &source)?;
         for mask in 0..(1u32 << (k + 2)) {
             if mask.count_ones() == u32::from(k) {
-                let sources = solved_from(&rt, alloc, mask, &symbols)?;
-                assert!(rt;
-                    sources.as_slice() == source.as_slice(),
-                    "choice {mask} of {k}"
-                );
+                let are_so = are_solved_from(&rt, alloc, mask, &symbols, &source)?;
+                assert!(rt; are_so, "choice {mask} of {k}");
             }
         }
     }
