@@ -10,7 +10,11 @@ rows=0
 
 [ -x "$program" ] || { echo "program: $program is not there: run './build' first"; exit 1; }
 scratch=$(mktemp -d) || exit 1
-trap 'rm -rf "$scratch"' EXIT
+nodes='' sender='' unheard=''
+# shellcheck disable=SC2086 # each is a process of its own
+trap 'kill $nodes $sender $unheard 2>/dev/null; rm -rf "$scratch"' EXIT
+# Sixteen ports for each process, below those that the system gives out itself, and below those of udp_tests.
+port=$((10000 + $$ % 400 * 16))
 files=$scratch/files
 mkdir "$files" "$files/folder" || exit 1
 cp examples/letter.txt checks/sessions/files/* "$files" || exit 1
@@ -83,6 +87,45 @@ ended() {
     rows=$((rows + 1))
     [ "$1" = "$3" ] || { echo "program: $2 ended with status $1, and not $3"; exit 1; }
 }
+
+# awaits FILE TEXT: the text is there within twenty seconds.
+awaits() {
+    tries=0
+    until grep -qs "$2" "$scratch/$1"; do
+        tries=$((tries + 1))
+        [ $tries -le 200 ] || { echo "program: '$2' does not come to $1, which has"; cat "$scratch/$1"; exit 1; }
+        sleep 0.1
+    done
+}
+
+# node NAME WORD..: a node that runs on until `end_nodes`, in a folder of its own. What it writes stands in NAME.out, and what it says in NAME.err.
+node() {
+    folder=$scratch/$1
+    shift
+    mkdir "$folder" || exit 1
+    (cd "$folder" && exec "$program" "$@" </dev/null) >"$folder.out" 2>"$folder.err" &
+    nodes="$nodes $!"
+}
+
+end_nodes() {
+    # shellcheck disable=SC2086 # each is a process of its own
+    kill $nodes
+    # shellcheck disable=SC2086
+    wait $nodes 2>/dev/null
+    nodes=''
+}
+
+# silent FILE..: nothing stands there.
+silent() {
+    for file in "$@"; do
+        [ ! -s "$scratch/$file" ] || { echo "program: $file has"; cat "$scratch/$file"; exit 1; }
+    done
+}
+
+# A receiver to which nothing comes, and which says so after ten seconds: it is looked at behind all other rows.
+printf 'fabric = "udp"\nport = %s\nstep = 0\n' $((port + 8)) >"$scratch/unheard.toml"
+"$program" recv "$scratch/unheard.toml" 2 </dev/null >"$scratch/unheard.out" 2>"$scratch/unheard.err" &
+unheard=$!
 
 # Sessions, and words.
 cp examples/hello.norm "$scratch/in"
@@ -200,7 +243,7 @@ fails 8 '' "${set}set window 1\nset turns 50\n1 data 01\n1 data 02\n" 'enq 1 1 7
 fails 7 '' '1 file none.txt\n' 'absent none.txt\n'
 fails 7 '' "${set}1 data 01\n1 file none.txt\n1 data 02\n" 'enq 1 1 7 0 data 1\nup 2 7 0 data 1 - 01\nabsent none.txt\n'
 fails 7 'cannot use the file ./folder: is a directory\n' '1 file folder\n' 'fault files\n'
-fails 0 '' "set fabric udp\nset port $((20000 + $$ % 20000))\n1 data 61\n1 mark\n" 'enq 1 1 1 0 data 1\nup 2 1 0 data 1 - 61\nmark 1 2 1 1 0 0 0\npast 2 1 0 0 0\ndone 1 satisfied\nend objects 1 octets 1 handed 1 lost 0 satisfied 1 expired 0 cut 0\n'
+fails 0 '' "set fabric udp\nset port $port\n1 data 61\n1 mark\n" 'enq 1 1 1 0 data 1\nup 2 1 0 data 1 - 61\nmark 1 2 1 1 0 0 0\npast 2 1 0 0 0\ndone 1 satisfied\nend objects 1 octets 1 handed 1 lost 0 satisfied 1 expired 0 cut 0\n'
 
 # Commands of streams that are refused.
 fails 0 '' '1 mark\n1 open\n1 data 01\n' 'no 1 1 nothing-enqueued\nenq 1 2 1 0 open\nno 1 3 stream-open 0\nend objects 1 octets 0 handed 0 lost 0 satisfied 0 expired 0 cut 0\n'
@@ -241,52 +284,121 @@ row 'a script of 8,193 empty lines' 3 'refused line 8193\n' session
 reason='line 2: the line has 16501 octets, and a line has at most 16500\n'
 row 'a script with a line of 16,501 octets' 3 'refused line 2\n' session
 
-# Nodes, each in a process of its own: the sender lists both receivers, which put the file that they hand up. They are ended by a signal.
-port=$((20000 + $$ % 20000))
+# Nodes, each in a process of its own, which are ended by a signal. send_letter QUORUM: a sender that sends a file to two receivers and waits for
+# so many; for all where none is said.
+send_letter() {
+    printf '1 file letter.txt\n1 mark%s\n' "$1" >"$scratch/in"
+    (cd "$files" && exec "$program" send "$scratch/profile") <"$scratch/in" >"$scratch/out" 2>"$scratch/err" &
+    sender=$!
+}
+
+# letter_sent NAME QUORUM PART: the sender ends and lists both receivers, PART.2 and PART.3, which put the file and hand it up.
+letter_sent() {
+    wait "$sender"
+    ended $? "$1" 0
+    sender=''
+    said "$1"
+    {
+        printf 'enq 1 1 1 0 file 141\nmark 1 2 1 1 0 0 0%s\ndone 1 satisfied\n' "$2"
+        printf 'end objects 1 octets 141 handed 0 lost 0 satisfied 1 expired 0 cut 0\npast 2 1 0 0 0\npast 3 1 0 0 0\n'
+    } | LC_ALL=C sort >"$scratch/wanted"
+    LC_ALL=C sort "$scratch/out" | cmp -s "$scratch/wanted" - || { echo "program: $1 wrote"; cat "$scratch/out"; exit 1; }
+    for at in 2 3; do
+        cmp -s examples/letter.txt "$scratch/$3.$at/n$at-i1-x0" || { echo "program: of $1 receiver $at put another file"; exit 1; }
+        echo "up $at $up" | cmp -s - "$scratch/$3.$at.out" || { echo "program: of $1 receiver $at wrote"; cat "$scratch/$3.$at.out"; exit 1; }
+    done
+}
+
+# progress FILE: a node said how far it is, on one line that is drawn over itself, and nothing else.
+progress() {
+    line='[0-9]+ octets, [01] objects, [0-9]+ repairs, 0 receivers past the oldest watermark'
+    tr '\r' '\n' <"$scratch/$1" | tail -n +2 | grep -qvxE "$(printf '\033')\\[K$line" && { echo "program: $1 has"; cat "$scratch/$1"; exit 1; }
+    rows=$((rows + 1))
+}
+
 printf 'fabric = "udp"\nport = %s\nreceivers = 2\nstep = 0\n' "$port" >"$scratch/profile"
-mkdir "$scratch/two" "$scratch/three" || exit 1
-"$program" hub "$scratch/profile" </dev/null >"$scratch/hub.out" 2>&1 &
+node still.hub hub ../profile
+node still.2 recv ../profile 2
+export NORMD_PROGRESS=1
+node still.3 recv ../profile 3
+unset NORMD_PROGRESS
+send_letter ''
+letter_sent 'a sender alone' '' still
+awaits still.3.err '141 octets, 1 objects'
+end_nodes
+progress still.3.err
+silent still.hub.out still.hub.err still.2.err
+
+# noise PORT..: two thousand random datagrams to each node, each time the same, as soon as it is there. They come from the place of a receiver that
+# is not there, so that the hub hands them on.
+noise() {
+    python3 - $((port + 4)) "$@" <<'END' || { echo 'program: a node does not take random datagrams'; exit 1; }
+import random, socket, sys, time
+own, *ports = map(int, sys.argv[1:])
+out = socket.socket(socket.AF_INET, socket.SOCK_DGRAM)
+out.bind(('127.0.0.1', own))
+
+def is_there():
+    try:
+        out.send(b'?')
+        out.send(b'?')  # fails where nobody had the first
+    except ConnectionRefusedError:
+        return False
+    return True
+
+for port in ports:
+    out.connect(('127.0.0.1', port))
+    end = time.monotonic() + 20
+    while not is_there():
+        time.sleep(0.01)
+        if time.monotonic() > end:
+            sys.exit(f'nobody is at {port}')
+    draws = random.Random(own - port)
+    for number in range(2000):
+        out.send(draws.randbytes(draws.randrange(1, 1600)))
+        if number % 50 == 0:
+            time.sleep(0.001)
+END
+}
+
+# The hub comes last, so that the file goes through behind the random datagrams of all others.
+printf 'fabric = "udp"\nport = %s\nreceivers = 3\nstep = 0\ngrtt = 200000\nk = 1\n' "$port" >"$scratch/profile"
+node noisy.2 recv ../profile 2
+node noisy.3 recv ../profile 3
+send_letter ' 2'
+noise $((port + 1)) $((port + 2)) $((port + 3))
+node noisy.hub hub ../profile
+noise "$port"
+letter_sent 'a sender amid random datagrams' ' 2' noisy
+end_nodes
+silent noisy.hub.out noisy.hub.err noisy.2.err noisy.3.err
+
+# Ports that another process has.
+python3 - "$port" >"$scratch/held" <<'END' &
+import socket, sys, time
+held = [socket.socket(socket.AF_INET, socket.SOCK_DGRAM) for _ in range(3)]
+for at, it in enumerate(held):
+    it.bind(('127.0.0.1', int(sys.argv[1]) + at))
+print('held', flush=True)
+time.sleep(600)
+END
 nodes=$!
-for node in two 2 three 3; do
-    case $node in
-        two | three) folder=$node ;;
-        *)
-            (cd "$scratch/$folder" && exec "$program" recv ../profile "$node" </dev/null) >"$scratch/$folder.out" 2>&1 &
-            nodes="$nodes $!"
-            ;;
-    esac
-done
-printf '1 file letter.txt\n1 mark\n' >"$scratch/in"
-(cd "$files" && exec "$program" send "$scratch/profile") <"$scratch/in" >"$scratch/out" 2>"$scratch/err"
-status=$?
-mv "$scratch/out" "$scratch/sent"
-mv "$scratch/err" "$scratch/said"
+awaits held held
+
+# taken PORT WORD..
+taken() {
+    reason="cannot bind 127.0.0.1:$1: Address already in use (os error 98)\n"
+    shift
+    row "$1 at a port that is taken" 6 'fault fabric\n' "$@"
+}
+
 : >"$scratch/in"
-(cd "$files" && exec "$program" hub "$scratch/profile") <"$scratch/in" >"$scratch/out" 2>"$scratch/err"
-taken=$?
-# shellcheck disable=SC2086 # each is a process of its own
-kill $nodes
-wait 2>/dev/null
-ended $taken 'a hub whose port is taken' 6
-echo 'fault fabric' | cmp -s - "$scratch/out" || { echo 'program: a hub whose port is taken wrote'; cat "$scratch/out"; exit 1; }
-reason="cannot bind 127.0.0.1:$port: Address already in use (os error 98)\n"
-said 'a hub whose port is taken'
-mv "$scratch/sent" "$scratch/out"
-mv "$scratch/said" "$scratch/err"
-ended $status 'a sender alone' 0
-{
-    printf 'enq 1 1 1 0 file 141\nmark 1 2 1 1 0 0 0\ndone 1 satisfied\n'
-    printf 'end objects 1 octets 141 handed 0 lost 0 satisfied 1 expired 0 cut 0\npast 2 1 0 0 0\npast 3 1 0 0 0\n'
-} | LC_ALL=C sort >"$scratch/wanted"
-LC_ALL=C sort "$scratch/out" | cmp -s "$scratch/wanted" - || { echo 'program: a sender alone wrote'; cat "$scratch/out"; exit 1; }
-said 'a sender alone'
-for node in two:2 three:3; do
-    folder=${node%:*}
-    node=${node#*:}
-    cmp -s examples/letter.txt "$scratch/$folder/n$node-i1-x0" || { echo "program: receiver $node put another file"; exit 1; }
-    echo "up $node $up" | cmp -s - "$scratch/$folder.out" || { echo "program: receiver $node wrote"; cat "$scratch/$folder.out"; exit 1; }
-done
-[ ! -s "$scratch/hub.out" ] || { echo 'program: the hub wrote'; cat "$scratch/hub.out"; exit 1; }
+taken "$port" hub "$scratch/profile"
+taken $((port + 1)) send "$scratch/profile"
+taken $((port + 2)) recv "$scratch/profile" 2
+printf 'set fabric udp\nset port %s\n' "$port" >"$scratch/in"
+taken $((port + 1)) session
+end_nodes
 
 # profile STATUS LINE WHY TEXT: a profile that gives no run. Its turns are few, so that a node that ran would end.
 profile() {
@@ -320,7 +432,9 @@ row 'a hub that hears nothing' 0 '' hub "$scratch/profile"
 row 'a sender with nothing to do' 0 "$none" send "$scratch/profile"
 reason='the node 3 is no receiver of the profile, whose receivers are 2 to 2\n'
 row 'a node that is no receiver' 3 'refused profile\n' recv "$scratch/profile" 3
-row 'a profile that is absent' 7 'absent ../none.toml\n' hub ../none.toml
+row 'a hub without its profile' 7 'absent ../none.toml\n' hub ../none.toml
+row 'a sender without its profile' 7 'absent ../none.toml\n' send ../none.toml
+row 'a receiver without its profile' 7 'absent ../none.toml\n' recv ../none.toml 2
 printf '1 data 61\n1 data 62\n' >"$scratch/in"
 printf 'turns = 1\n' >"$scratch/profile"
 row 'a sender whose turns are spent' 8 'enq 1 1 1 0 data 1\nend objects 1 octets 1 handed 0 lost 0 satisfied 0 expired 0 cut 0\nturns spent\n' send "$scratch/profile"
@@ -334,6 +448,12 @@ row 'a receiver by steps over sockets' 0 '' recv "$scratch/profile" 2
 reason=$step
 row 'a sender by steps over sockets' 0 "$none" send "$scratch/profile"
 row 'a hub by steps over sockets' 0 '' hub "$scratch/profile"
+printf 'fabric = "udp"\nport = %s\nstep = 0\nturns = 1200\n' "$port" >"$scratch/profile"
+NORMD_PROGRESS=1 "$program" hub "$scratch/profile" <"$scratch/in" >"$scratch/out" 2>"$scratch/err"
+ended $? 'a hub that says how far it is' 0
+silent out
+progress err
+[ "$(tail -c 1 "$scratch/err" | od -An -tx1)" = ' 0a' ] || { echo 'program: a hub does not end its line'; cat "$scratch/err"; exit 1; }
 hello=120800000000000100074041000500000000000040030000000000050040406068656c6c6f
 NORMD_LOG=trace "$program" session <examples/hello.norm >"$scratch/out" 2>"$scratch/err"
 ended $? 'a session whose datagrams are traced' 0
@@ -405,4 +525,13 @@ if (ulimit -v 200000) 2>/dev/null; then
     reason='out of memory\n'
     said 'a script that does not fit in memory'
 fi
-echo "program: $rows rows passed"
+
+awaits unheard.err 'nothing came'
+kill "$unheard"
+wait "$unheard" 2>/dev/null
+unheard=''
+cp "$scratch/unheard.err" "$scratch/err"
+reason="nothing came to 127.0.0.1:$((port + 10)) for ten seconds\n"
+said 'a receiver to which nothing comes'
+silent unheard.out
+echo "program: $((rows + 1)) rows passed"
