@@ -1,6 +1,6 @@
 #!/usr/bin/env python3
 """tools/send, tools/receive and tools/bridge with the built program: a folder goes to two receivers over sockets of this machine, and where
-network namespaces can be made, to receivers on other machines, behind bridges; and what is refused.
+network namespaces can be made, to receivers on other machines, behind bridges; and what is refused. examples/cast with a file that goes in pieces.
 
 transfer.py [--program NORMD] [--port PORT] [--machines N] [--gap MICROSECONDS]
 
@@ -11,6 +11,7 @@ import argparse
 import os
 import random
 import shutil
+import signal
 import subprocess
 import sys
 import tempfile
@@ -21,6 +22,8 @@ sys.dont_write_bytecode = True
 ROOT = Path(__file__).resolve().parents[2]
 TOOLS = ROOT / 'tools'
 SECONDS, TAKEN = 60, 3
+# Below the ports that the system gives out itself, and apart from those of other checks. A bridge's lie a hundred above its member's.
+LOWEST, PORTS, PROCESSES = 16400, 128, 28
 
 
 class Unmet(Exception):
@@ -93,6 +96,24 @@ def to_two(program: str, port: int, room: Path) -> str:
             ended(receiver, 0, f'receive {node}')
             holds(there(room / f'in{node}') == files, f'the folder of {node} has what was sent')
     return 'a folder of four files to two receivers'
+
+
+def in_pieces(program: str, port: int, room: Path) -> str:
+    """A file past 16 MiB, the most that one object has, and which is named as a piece of it is at a receiver."""
+    file, kept = room / 'n2-i1-x0', room / 'kept'
+    octets = random.Random(11).randbytes((16 << 20) + 12_345)
+    file.write_bytes(octets)
+    words = [sys.executable, ROOT / 'examples/cast', file, 2, '--keep', kept, '--port', port, '--gap', 60, '--grtt', 50_000, '--program', program]
+    done = subprocess.Popen([str(it) for it in words], stdout=subprocess.PIPE, stderr=subprocess.STDOUT, text=True)
+    try:
+        said = ended(done, 0, 'cast')
+    finally:
+        done.send_signal(signal.SIGINT)  # where it goes on, it ends its nodes
+        done.wait()
+    holds(said.count('the same') == 2, f'each copy is said to be the same: {said}')
+    for node in (2, 3):
+        holds(there(kept / str(node)) == {file.name: octets}, f'the folder of {node} has the copy and nothing else')
+    return 'a file of 17 pieces to two receivers by examples/cast'
 
 
 def refusals(program: str, port: int, room: Path) -> str:
@@ -178,12 +199,12 @@ def over_bridges(program: str, port: int, room: Path, number: int, gap: int) -> 
 def main() -> int:
     parser = argparse.ArgumentParser(description=__doc__, formatter_class=argparse.RawDescriptionHelpFormatter)
     parser.add_argument('--program', default=str(ROOT / 'crates/normd/out/normd'))
-    parser.add_argument('--port', type=int, default=43000 + 20 * (os.getpid() % 100))
+    parser.add_argument('--port', type=int, default=LOWEST + PORTS * (os.getpid() % PROCESSES))
     parser.add_argument('--machines', type=int, default=2)
     parser.add_argument('--gap', type=int, default=60)
     given = parser.parse_args()
     failed = 0
-    for part, more in ((to_two, ()), (refusals, ()), (over_bridges, (given.machines, given.gap))):
+    for part, more in ((to_two, ()), (in_pieces, ()), (refusals, ()), (over_bridges, (given.machines, given.gap))):
         with tempfile.TemporaryDirectory(prefix='transfer-') as room:
             try:
                 said = part(given.program, given.port, Path(room), *more)
