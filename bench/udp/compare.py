@@ -7,7 +7,8 @@ normd's nodes are processes on 127.0.0.1 with the profiles of examples/profiles,
 goes as objects of 1 MiB with a watermark behind each eight, half a window, with every line written to nothing. uftp's members have a network namespace
 each, joined by a bridge; its rate is swept once and its best is run. Files lie in memory (/dev/shm). MB/s is of 1,000,000 octets: normd's
 from the sender's start to the slowest receiver's last octet, uftp's by the time that it tells itself. Medians of the runs, with the least
-and greatest. Beside them: what a receiver's memory came to, and which part of a processor an idle node takes."""
+and greatest. With --no-uftp, and where uftp is not there, a bare copier of datagrams (copier.c) is run in its place, to 4 and 16 receivers without
+loss. Beside them: what a receiver's memory came to, and which part of a processor an idle node takes."""
 from __future__ import annotations
 
 import argparse
@@ -21,14 +22,17 @@ import tempfile
 import time
 from dataclasses import dataclass, field
 from pathlib import Path
+from typing import Callable
 
 HERE = Path(__file__).resolve().parent
 PROFILES = HERE.parent.parent / 'examples/profiles'
 MIB, FROM_WATERMARK = 1 << 20, 8
 ROWS = {(1, 0): 'loopback', (4, 0): 'four', (16, 0): 'many', (1, 5): 'lossy', (4, 5): 'lossy-four', (16, 5): 'lossy-many'}
 WANTED = {(1, 0): 1.4, (4, 0): 1.25, (16, 0): 1.0, (1, 5): 1.6, (4, 5): 1.5, (16, 5): 1.25}
+WANTED_OF_COPIER = {(4, 0): 0.8, (16, 0): 0.8}
 RATES = ('400000', '700000', '1000000', '2000000', '-1')
 SENDER, INSTANCE = 1, 1
+SYMBOL, COPIER_PORT = 1400, 31000
 
 
 @dataclass
@@ -51,7 +55,12 @@ class Bench:
     def library(self) -> Path:
         return self.room / 'rxloss.so'
 
+    @property
+    def copier(self) -> Path:
+        return self.room / 'copier'
+
     def prepare(self) -> None:
+        subprocess.run(['cc', '-O2', '-o', self.copier, HERE / 'copier.c'], check=True)
         subprocess.run(['cc', '-O2', '-shared', '-fPIC', '-o', self.library, HERE / 'rxloss.c', '-ldl'], check=True)
         with self.source.open('wb') as out:
             for _ in range(self.size):
@@ -62,9 +71,9 @@ class Bench:
         return {**os.environ, 'RXLOSS': str(loss), 'LD_PRELOAD': str(self.library)} if loss else dict(os.environ)
 
 
-def profile_of(bench: Bench, name: str, receivers: int) -> str:
+def profile_of(bench: Bench, name: str, receivers: int, **more: object) -> str:
     """The profile's text, with the keys that were asked for in place of its own."""
-    keys = {'receivers': str(receivers), **bench.keys}
+    keys = {'receivers': str(receivers), **bench.keys, **more}
     kept = [it for it in (PROFILES / f'{name}.toml').read_text().splitlines() if it.split(' = ')[0] not in keys]
     return '\n'.join(kept + [f'{key} = {value}' for key, value in keys.items()]) + '\n'
 
@@ -198,35 +207,74 @@ def best_rate(bench: Bench, receivers: int, loss: float) -> str:
     return max(RATES, key=lambda rate: uftp(bench, receivers, loss, rate) or 0)
 
 
+def copied(bench: Bench, receivers: int) -> float | None:
+    """One run of the bare copier. Returns MB/s of the slowest receiver, where each datagram brings a symbol."""
+    running = []
+
+    def start(*words: object) -> subprocess.Popen:
+        running.append(subprocess.Popen([str(it) for it in (bench.copier, *words)], stdout=subprocess.PIPE, text=True))
+        return running[-1]
+
+    takers = [start('receive', COPIER_PORT + 1 + at) for at in range(receivers)]
+    start('copy', COPIER_PORT, receivers)
+    time.sleep(0.5)
+    source = start('send', COPIER_PORT, bench.size * MIB // SYMBOL + 1)
+    try:
+        began = int(source.communicate(timeout=bench.limit)[0])
+        told = [it.communicate(timeout=bench.limit)[0].split() for it in takers]
+        return min(1000 * SYMBOL * int(number) / (int(last) - began) for number, last in told)
+    except (subprocess.TimeoutExpired, ValueError):
+        return None
+    finally:
+        for it in running:
+            it.kill()
+            it.wait()
+
+
 def said_of(figures: list[float | None]) -> str:
     whole = [it for it in figures if it is not None]
     failed = f', {len(figures) - len(whole)} failed' if len(whole) < len(figures) else ''
     return f'{statistics.median(whole):.1f} ({min(whole):.1f} to {max(whole):.1f}{failed})' if whole else 'none came through'
 
 
-def row(bench: Bench, receivers: int, loss: float, with_uftp: bool) -> None:
-    rate = best_rate(bench, receivers, loss) if with_uftp else None
+def peer_of(bench: Bench, receivers: int, loss: int, with_uftp: bool) -> tuple[str, Callable[[], float | None], float] | None:
+    """What a row is compared with: its name, a run of it, and how many times as fast normd is to be."""
+    if with_uftp:
+        rate = best_rate(bench, receivers, loss)
+        return f'uftp at {rate}', lambda: uftp(bench, receivers, loss, rate), WANTED[receivers, loss]
+    if (receivers, loss) in WANTED_OF_COPIER:
+        return 'a bare copier', lambda: copied(bench, receivers), WANTED_OF_COPIER[receivers, loss]
+    return None
+
+
+def row(bench: Bench, receivers: int, loss: int, with_uftp: bool) -> None:
+    peer = peer_of(bench, receivers, loss, with_uftp)
     ours, theirs = [], []
     for _ in range(bench.runs):
         ours.append(normd(bench, receivers, loss))
-        if rate:
-            theirs.append(uftp(bench, receivers, loss, rate))
+        if peer:
+            theirs.append(peer[1]())
     line = f'{receivers} receivers, {loss:g} % lost: normd {said_of(ours)}'
-    if rate:
+    if peer:
         whole = [[it for it in part if it is not None] for part in (ours, theirs)]
         share = statistics.median(whole[0]) / statistics.median(whole[1]) if all(whole) else 0
-        line += f'; uftp at {rate} {said_of(theirs)}; {share:.2f} times, wanted {WANTED[receivers, loss]}'
+        line += f'; {peer[0]} {said_of(theirs)}; {share:.2f} times, wanted {peer[2]}'
     print(line, flush=True)
 
 
 def idle(bench: Bench, seconds: int = 10) -> None:
-    """Which part of a processor the hub and a receiver take where nothing is sent."""
+    """Which part of a processor each node takes where nothing is sent. The sender's second object waits for room, since nobody is asked for the first."""
     room, running = Path(tempfile.mkdtemp(prefix='idle-', dir=bench.room)), {}
-    (room / 'profile.toml').write_text(profile_of(bench, 'loopback', 1))
-    for name, words in {'hub': ['hub', 'profile.toml'], 'receiver': ['recv', 'profile.toml', '2']}.items():
-        running[name] = subprocess.Popen([bench.program, *words], cwd=room, stdin=subprocess.DEVNULL, stdout=subprocess.DEVNULL, stderr=subprocess.DEVNULL)
+    (room / 'profile.toml').write_text(profile_of(bench, 'loopback', 1, window=1))
+    (room / 'script').write_text('1 data 61\n1 data 62\n')
+    for name, words in {'hub': ['hub', 'profile.toml'], 'receiver': ['recv', 'profile.toml', '2'], 'waiting sender': ['send', 'profile.toml']}.items():
+        with (room / 'script').open() as script:
+            running[name] = subprocess.Popen([bench.program, *words], cwd=room, stdin=script, stdout=subprocess.DEVNULL, stderr=subprocess.DEVNULL)
     time.sleep(seconds)
-    for name, (took, memory) in ended(running).items():
+    for name, it in running.items():
+        if it.poll() is not None:
+            print(f'idle {name}: it ended with status {it.returncode}', flush=True)
+    for name, (took, memory) in ended({name: it for name, it in running.items() if it.returncode is None}).items():
         print(f'idle {name}: {100 * took / seconds:.2f} in 100 of a processor, {memory / MIB:.1f} MiB', flush=True)
 
 
