@@ -3,3 +3,4 @@ pub mod StreamLemmas
 pub mod OtherLemmas
 pub mod GrowingLemmas
 pub mod FrontLemmas
+pub mod RepairableLemmas

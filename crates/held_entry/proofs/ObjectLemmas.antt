@@ -58,7 +58,7 @@ lets_go answer false released asked e same is = e
 
 -- ---- what is new next
 
-closed_here : (p : Settings) (kind : Kind) (info : Option (List ℕ)) (octets : List ℕ) (block : ℕ) → IsSound (cut_of (length octets) p.e p.b p.max_n)
+pub closed_here : (p : Settings) (kind : Kind) (info : Option (List ℕ)) (octets : List ℕ) (block : ℕ) → IsSound (cut_of (length octets) p.e p.b p.max_n)
     → block < blocks (cut_of (length octets) p.e p.b p.max_n)
     → closed_in (shape_of p (Whole kind info octets)) block ≡ source_symbols (cut_of (length octets) p.e p.b p.max_n) block
 closed_here p kind info octets block sound there =
@@ -68,7 +68,7 @@ closed_here p kind info octets block sound there =
     full : (size all first : ℕ) → first + size ≤ all → min size (all - first) ≡ size
     full size all first le = omega arith
 
-same_eqb : (n m : ℕ) → n ≡ m → (n == m) ≡ true
+pub same_eqb : (n m : ℕ) → n ≡ m → (n == m) ≡ true
 same_eqb n m e = grind (arith, e)
 
 once_is : (r : EntryReads) (h : HeldObject) (block : ℕ) → IsObject r h → block < blocks h.cut → sent_once r.p (shape_of r.p r.object) block ≡ once r.p.auto h.cut block

@@ -4,3 +4,4 @@ pub mod Places
 pub mod Laws
 pub mod Growing
 pub mod Front
+pub mod Repairable

@@ -10,6 +10,7 @@ mod entry;
 mod front;
 mod growing;
 pub mod laws;
+mod repairable;
 
 pub use crate::entry::HeldEntry;
 pub use crate::front::{close_last, cut_last, may_all_go, write_last};
