@@ -14,3 +14,4 @@ pub mod StandingLemmas
 pub mod GrownLemmas
 pub mod StreamLemmas
 pub mod LawLemmas
+pub mod RepairableLemmas

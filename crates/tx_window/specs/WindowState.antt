@@ -64,6 +64,10 @@ abbrev pub first_block : List HeldEntry → ℕ
 first_block [] = 0
 first_block (e ∷ entries) = first_of e
 
+-- only the first entry may lack a front
+abbrev pub OnlyFirstLacks : List HeldEntry → Type 0
+OnlyFirstLacks entries = (n : ℕ) (e : HeldEntry) → slice_get entries (suc n) ≡ Some e → first_of e ≡ 0
+
 -- the point before which all was dropped
 abbrev pub drop_of : WindowState → Point
 drop_of w = point w.dropped (first_block w.entries)
@@ -89,7 +93,7 @@ pub record StandsFor (w : WindowState) (r : WindowReads) : Type 0 where
   pub next : length r.order ≡ w.dropped + length w.entries
   pub entries : (n : ℕ) (entry : Entry) (e : HeldEntry) → slice_get (drop w.dropped r.order) n ≡ Some entry → slice_get w.entries n ≡ Some e
       → StandsForEntry (entry_reads w r (w.dropped + n) entry.object) e
-  pub whole : (n : ℕ) (e : HeldEntry) → slice_get w.entries (suc n) ≡ Some e → first_of e ≡ 0
+  pub whole : OnlyFirstLacks w.entries
   pub opened : (parts : List Part) → open_of r.order ≡ Some parts → 0 < length w.entries
   pub kept : w.forgotten ≤ length r.order - most_kept
   pub shapes : map without_info (drop w.forgotten (shapes_of w.p r.order)) ≡ w.shapes

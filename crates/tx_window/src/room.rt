@@ -4,9 +4,12 @@ ghost use Rattle.std.specs.Prelude.{ℕ, true, false, Option, ◌≡◌, ◌+◌
 ghost use Rattle.std.specs.Bool.{MatchBool};
 ghost use Rattle.std.specs.VecDeque.{deque_capacity};
 ghost use Rattle.norm_base.specs.Settings.{Settings, InRange};
+ghost use Rattle.fec_plan.specs.Points.{point};
 ghost use Rattle.norm_order.specs.Entries.{Entry};
+ghost use Rattle.norm_order.specs.Shapes.{shapes_of};
 ghost use Rattle.norm_send_rules.specs.SenderState.{SenderState};
-ghost use Rattle.norm_send_rules.specs.Repairable.{is_stream};
+ghost use Rattle.norm_send_rules.specs.InWindow.{stands_behind};
+ghost use Rattle.norm_send_rules.specs.Repairable.{is_stream, encoded_from};
 ghost use Rattle.norm_send_rules.specs.Room.{window, size_of, has_to_go, may_all_go, can_make_room};
 ghost use Rattle.norm_send_rules.specs.Enqueuing.{object_fault, info_length};
 ghost use Rattle.norm_send_rules.specs.Streaming.{open_fault};
@@ -15,7 +18,7 @@ ghost use Rattle.held_entry.specs.Front.{AreEntries};
 ghost use Rattle.held_entry.specs.Places.{held_size};
 ghost use Rattle.tx_window.specs.Taking.{size_fault};
 ghost use Rattle.tx_window.specs.Asked.{joining_fault};
-ghost use Rattle.tx_window.specs.WindowState.{Stands};
+ghost use Rattle.tx_window.specs.WindowState.{Stands, first_block, OnlyFirstLacks};
 ghost use Rattle.tx_window.specs.WindowSound.{all_sizes, is_stream_held};
 
 use crate::extent::Extent;
@@ -50,6 +53,21 @@ pub(crate) fn count_streams(held: &VecDeque<HeldEntry>) -> u32
         }
     }
     streams
+}
+
+/// How many infos and encoded symbols the entries have, each from its first kept block on.
+pub(crate) fn count_repairable(held: &VecDeque<HeldEntry>) -> u64
+    requires { length held.now.items ≤ 65535 }
+    ensures { (ring : List ℕ) (p : Settings) (first : ℕ) (s : SenderState) (entries : List Entry) → AreEntries ring p first entries s held.now.items
+        → OnlyFirstLacks held.now.items
+        → result ≡ length (filter (stands_behind (point first (first_block held.now.items))) (encoded_from first (shapes_of p entries))) }
+{
+    let mut repairable = 0;
+    // Proof: by place, so that the loop's invariant speaks of so many entries.
+    for place in 0..held.len() {
+        repairable += held[place].repairable();
+    }
+    repairable
 }
 
 // Proof: a profile's values are within their ranges.

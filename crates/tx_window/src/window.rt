@@ -8,7 +8,7 @@ ghost use Rattle.norm_order.specs.Shapes.{shape_of, last_source, is_source};
 ghost use Rattle.norm_ext.specs.Laws.{IsNear};
 ghost use Rattle.norm_send_rules.specs.SenderState.{SenderState, sender_opening};
 ghost use Rattle.norm_send_rules.specs.InWindow.{current_shapes, last_index, next_index as next_index_of};
-ghost use Rattle.norm_send_rules.specs.Repairable.{streams};
+ghost use Rattle.norm_send_rules.specs.Repairable.{streams, repairable};
 ghost use Rattle.norm_send_rules.specs.Laws.{next_at};
 ghost use Rattle.norm_send_rules.specs.Sending.{next_new};
 ghost use Rattle.norm_send_rules.specs.declared.want.Want.TheVariants.{Symbol};
@@ -19,7 +19,7 @@ ghost use Rattle.tx_window.specs.Next.{HasNext};
 ghost use Rattle.tx_window.specs.WindowState.{Stands, drop_of};
 
 use crate::extent::{Extent, extent_at, is_closed};
-use crate::room::count_streams;
+use crate::room::{count_repairable, count_streams, hold_range};
 use fec_plan::{Plan, Position};
 use held_entry::HeldEntry;
 use held_object::{Held, Ring};
@@ -316,5 +316,13 @@ impl Window {
         ensures { (s : SenderState) → Stands self.now s → result ≡ streams s }
     {
         count_streams(&self.held)
+    }
+
+    /// How many infos and encoded symbols it has: all that may still have to be repaired.
+    pub fn repairable(&self) -> u64
+        ensures { (s : SenderState) → Stands self.now s → result ≡ repairable self.now.p s }
+    {
+        hold_range(&self.profile);
+        count_repairable(&self.held)
     }
 }
