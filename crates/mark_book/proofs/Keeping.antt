@@ -9,7 +9,7 @@ use Rattle.std.proofs.lemmas.List.{length-map, at_drop_more, drop_all, take_rest
 use Rattle.fec_plan.specs.declared.position.Position.{Position}
 use Rattle.norm_send_rules.specs.declared.news.Outcome.{Outcome}
 use Rattle.mark_book.specs.BookState.{Kept}
-use Rattle.mark_book.specs.BookMoves.{ended_where, is_finished, opened, told_first}
+use Rattle.mark_book.specs.BookMoves.{ended_where, is_finished, open_count, opened, told_first}
 use Rattle.mark_book.specs.BookSound.{AreKept, AreNumbered}
 use Rattle.mark_book.specs.declared.watermarks.Watermarks.TheInside.{Inside}
 use Rattle.mark_book.proofs.Marks.{numbered_after}
@@ -98,9 +98,10 @@ front_of ks done is = ap (λ n. list_all is_finished (take n ks)) is ∙ front_f
 pub within_of : (ks : List Kept) (done : ℕ) → done ≡ prefix_len is_finished ks → done ≤ length ks
 within_of ks done is = let le = front_within ks in omega (arith, is, le)
 
--- watermarks of which some end go on to be kept
-pub kept_ended : (w x : Inside) (test : Kept → Bool) (outcome : Kept → Outcome) → AreKept w → x.all.items ≡ map (ended_where test outcome) w.all.items → x.done ≡ w.done → AreKept x
-kept_ended w x test outcome kept e done =
+-- watermarks of which some end go on to be kept, where it is counted how many are open then
+pub kept_ended : (w x : Inside) (test : Kept → Bool) (outcome : Kept → Outcome) → AreKept w → x.all.items ≡ map (ended_where test outcome) w.all.items → x.done ≡ w.done
+    → x.still_open ≡ open_count (map (ended_where test outcome) w.all.items) → AreKept x
+kept_ended w x test outcome kept e done still_open =
     let many = ap length e ∙ length-map w.all.items (ended_where test outcome) in
     let counted = kept.counted in
     record {
@@ -108,6 +109,7 @@ kept_ended w x test outcome kept e done =
       counted = omega (arith, many, counted);
       within = let le = kept.within in omega (arith, many, done, le);
       done = done ∙ kept.done ∙ sym (ap (prefix_len is_finished) e ∙ front_same (ended_where test outcome) (ended_finished test outcome) w.all.items);
+      still_open = still_open ∙ ap open_count (sym e);
     }
 
 told_front_one : (k : Kept) (ks : List Kept) → is_finished k ≡ true → told_first (k ∷ ks) ≡ k ∷ told_first ks

@@ -4,6 +4,7 @@ pub mod Marks
 pub mod Tellings
 pub mod Keeping
 pub mod Lookups
+pub mod Counts
 pub mod Standing
 pub mod SomeState
 pub mod Members

@@ -119,7 +119,7 @@ number_at (suc i) n m (k ∷ ks) d all lt is =
     go false e rest = rest
 
 -- a front without open watermarks does not matter
-not_open : (some told : Bool) → (some && told) ≡ true → not some ≡ false
+pub not_open : (some told : Bool) → (some && told) ≡ true → not some ≡ false
 not_open true told e = refl
 not_open false told e = absurd (cc)
 
@@ -136,19 +136,6 @@ find_behind (k ∷ ks) (suc from) all =
     go true e rest = absurd (cc)
     go false e rest = rest
 
-filter_behind : (ks : List Kept) (from : ℕ) → list_all is_finished (take from ks) ≡ true
-    → length (filter (λ (k : Kept). is_none k.ended) (drop from ks)) ≡ length (filter (λ (k : Kept). is_none k.ended) ks)
-filter_behind ks zero all = refl
-filter_behind [] (suc from) all = refl
-filter_behind (k ∷ ks) (suc from) all =
-    let parts = and_parts (is_finished k) (list_all is_finished (take from ks)) all in
-    go (is_none k.ended) (not_open (is_some k.ended) (not k.untold) parts.0) (filter_behind ks from parts.1)
-  where
-    go : (b : Bool) → b ≡ false → length (filter (λ (k : Kept). is_none k.ended) (drop from ks)) ≡ length (filter (λ (k : Kept). is_none k.ended) ks)
-        → length (filter (λ (k : Kept). is_none k.ended) (drop from ks)) ≡ length (cond b (k ∷ filter (λ (k : Kept). is_none k.ended) ks) (filter (λ (k : Kept). is_none k.ended) ks))
-    go true e rest = absurd (cc)
-    go false e rest = rest
-
 pub untold_behind_count : (ks : List Kept) (from : ℕ) → list_all is_finished (take from ks) ≡ true
     → length (filter (λ (k : Kept). k.untold) (drop from ks)) ≡ length (filter (λ (k : Kept). k.untold) ks)
 untold_behind_count ks zero all = refl
@@ -162,16 +149,11 @@ untold_behind_count (k ∷ ks) (suc from) all =
     go true e rest = absurd (cc)
     go false e rest = rest
 
--- the first open watermark of the rest of a list, and how many are open there
+-- the first open watermark of the rest of a list, and how many are to be told there
 pub open_of_rest : (now ks : List Kept) (from : ℕ) (r : Option Kept) → now ≡ ks → list_all is_finished (take from ks) ≡ true
     → r ≡ find (λ (k : Kept). is_none k.ended) (mid_of from (length now - from) now) → r ≡ find (λ (k : Kept). is_none k.ended) ks
 open_of_rest now ks from r same finished is =
     is ∙ ap (find (λ (k : Kept). is_none k.ended)) (take_rest now from ∙ ap (drop from) same) ∙ find_behind ks from finished
-
-pub count_of_rest : (now ks : List Kept) (from n : ℕ) → now ≡ ks → list_all is_finished (take from ks) ≡ true
-    → n ≡ length (filter (λ (k : Kept). is_none k.ended) (mid_of from (length now - from) now)) → n ≡ length (filter (λ (k : Kept). is_none k.ended) ks)
-count_of_rest now ks from n same finished is =
-    is ∙ ap (λ xs. length (filter (λ (k : Kept). is_none k.ended) xs)) (take_rest now from ∙ ap (drop from) same) ∙ filter_behind ks from finished
 
 pub untold_of_rest : (now ks : List Kept) (from n : ℕ) → now ≡ ks → list_all is_finished (take from ks) ≡ true
     → n ≡ length (filter (λ (k : Kept). k.untold) (mid_of from (length now - from) now)) → n ≡ length (filter (λ (k : Kept). k.untold) ks)

@@ -42,6 +42,10 @@ ended_where test outcome k = elim (is_none k.ended && test k) [
 abbrev pub is_finished : Kept → Bool
 is_finished k = is_some k.ended && not k.untold
 
+-- how many watermarks are open
+abbrev pub open_count : List Kept → ℕ
+open_count watermarks = length (filter (λ k. is_none k.ended) watermarks)
+
 -- satisfied, where it is open and enough members are listed past it
 abbrev pub settled_by : List Listing → Kept → Kept
 settled_by listings k = ended_where (λ k. is_met_by listings k.quorum k.at) (λ k. Satisfied) k

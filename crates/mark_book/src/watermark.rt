@@ -1,10 +1,10 @@
 //! One watermark of a book.
 
-ghost use Rattle.std.specs.Prelude.{◌≡◌, ◌<◌, ◌^◌, false, is_none, length, option_map};
+ghost use Rattle.std.specs.Prelude.{◌≡◌, ◌<◌, ◌^◌, [], ◌∷◌, false, is_none, length, option_map};
 ghost use Rattle.norm_send_rules.specs.SenderState.{SenderState};
 ghost use Rattle.norm_send_rules.specs.Watermarks as rules;
 ghost use Rattle.mark_book.specs.Answers.{open_watermark};
-ghost use Rattle.mark_book.specs.BookMoves.{settled_by, expired_by, cut_off, is_finished, outcome_by, opened};
+ghost use Rattle.mark_book.specs.BookMoves.{settled_by, expired_by, cut_off, is_finished, outcome_by, open_count, opened};
 
 use crate::listings::Listings;
 use fec_plan::Position;
@@ -81,6 +81,13 @@ impl Watermark {
         ensures { result ≡ is_none self.now.ended }
     {
         self.ended.is_none()
+    }
+
+    /// 1 where the watermark is open, and else 0.
+    pub fn count_open(&self) -> usize
+        ensures { result ≡ open_count (self.now ∷ []) }
+    {
+        if self.is_open() { 1 } else { 0 }
     }
 
     /// Whether the watermark ended, and that was told.

@@ -2,7 +2,7 @@
 
 ghost use Rattle.std.specs.Prelude.{◌≡◌, ◌==◌, ◌<◌, ◌+◌, ◌^◌, ◌++◌, [], ◌∷◌, is_none, map, length, filter, find, MatchResult};
 ghost use Rattle.std.specs.List.{prefix_len};
-ghost use Rattle.mark_book.specs.BookMoves.{settled_by, expired_by, cut_off, is_finished, opened, told_first};
+ghost use Rattle.mark_book.specs.BookMoves.{settled_by, expired_by, cut_off, is_finished, opened, open_count, told_first};
 ghost use Rattle.mark_book.specs.BookSound.{AreNumbered};
 
 use crate::listings::Listings;
@@ -15,11 +15,13 @@ use std::marker::Model;
 /// The most watermarks that 32 bits number.
 const MOST_WATERMARKS: usize = 4_294_967_295;
 
-/// All watermarks that were ever made. Those of the front, which ended and were told, are kept and not looked at again.
+/// All watermarks that were ever made. Those of the front, which ended and were told, are kept and not looked at again. How
+/// many are open is kept beside them, since one that stays open keeps all behind it out of the front.
 #[derive(Debug, Drop)]
 pub struct Watermarks {
     all: Vec<Watermark>,
     done: usize,
+    still_open: usize,
 }
 
 impl Model for Watermarks {
@@ -43,6 +45,7 @@ impl Watermarks {
         Watermarks {
             all: Vec::new(alloc),
             done: 0,
+            still_open: 0,
         }
     }
 
@@ -70,7 +73,7 @@ impl Watermarks {
     pub fn count_open(&self) -> u32
         ensures { result ≡ length (filter (λ k. is_none k.ended) self.now) }
     {
-        count_open(&self.all[self.done..]) as u32
+        self.still_open as u32
     }
 
     /// How many outcomes are to be told.
@@ -94,6 +97,7 @@ impl Watermarks {
         if self.all.push(Watermark::new(mark, at, quorum)).is_err() {
             return Err(Memory);
         }
+        self.still_open += 1;
         Ok(mark)
     }
 
@@ -103,7 +107,8 @@ impl Watermarks {
         ensures settled { self.new ≡ map (settled_by listings.now) self.old }
         ensures numbered { AreNumbered 1 self.old }
     {
-        settle(&mut self.all[self.done..], listings);
+        let still_open = settle(&mut self.all[self.done..], listings);
+        self.still_open = still_open;
     }
 
     /// Gives up the open watermark with this number.
@@ -112,7 +117,8 @@ impl Watermarks {
         ensures expired { self.new ≡ map (expired_by listings.now mark) self.old }
         ensures numbered { AreNumbered 1 self.old }
     {
-        expire(&mut self.all[self.done..], listings, mark);
+        let still_open = expire(&mut self.all[self.done..], listings, mark);
+        self.still_open = still_open;
     }
 
     /// Cuts each open watermark.
@@ -121,6 +127,7 @@ impl Watermarks {
         ensures numbered { AreNumbered 1 self.old }
     {
         cut(&mut self.all[self.done..]);
+        self.still_open = 0;
     }
 
     /// Marks the first watermark whose outcome is to be told as told, and gives it.
@@ -135,24 +142,34 @@ impl Watermarks {
     }
 }
 
-/// Satisfies each open watermark that enough members are past.
-fn settle(watermarks: &mut [Watermark], listings: &Listings)
+/// Satisfies each open watermark that enough members are past, and gives how many are open then.
+fn settle(watermarks: &mut [Watermark], listings: &Listings) -> usize
     requires { length listings.now < 2 ^ 32 }
-    ensures { watermarks.new ≡ map (settled_by listings.now) watermarks.old }
+    ensures settled { watermarks.new ≡ map (settled_by listings.now) watermarks.old }
+    ensures still_open { result ≡ open_count watermarks.new }
 {
+    let mut still_open = 0;
     for watermark in watermarks.iter_mut() {
-        *watermark = watermark.settled(listings);
+        let settled = watermark.settled(listings);
+        still_open += settled.count_open();
+        *watermark = settled;
     }
+    still_open
 }
 
-/// Gives up the open watermark with this number.
-fn expire(watermarks: &mut [Watermark], listings: &Listings, mark: u32)
+/// Gives up the open watermark with this number, and gives how many are open then.
+fn expire(watermarks: &mut [Watermark], listings: &Listings, mark: u32) -> usize
     requires { length listings.now < 2 ^ 32 }
-    ensures { watermarks.new ≡ map (expired_by listings.now mark) watermarks.old }
+    ensures expired { watermarks.new ≡ map (expired_by listings.now mark) watermarks.old }
+    ensures still_open { result ≡ open_count watermarks.new }
 {
+    let mut still_open = 0;
     for watermark in watermarks.iter_mut() {
-        *watermark = watermark.expired(listings, mark);
+        let expired = watermark.expired(listings, mark);
+        still_open += expired.count_open();
+        *watermark = expired;
     }
+    still_open
 }
 
 /// Cuts each open watermark.
@@ -162,16 +179,6 @@ fn cut(watermarks: &mut [Watermark])
     for watermark in watermarks.iter_mut() {
         *watermark = watermark.cut();
     }
-}
-
-/// How many watermarks are open.
-fn count_open(watermarks: &[Watermark]) -> usize
-    ensures { result ≡ length (filter (λ k. is_none k.ended) watermarks.now) }
-{
-    watermarks
-        .iter()
-        .filter(|watermark| watermark.is_open())
-        .count()
 }
 
 /// How many outcomes are to be told.

@@ -1,18 +1,14 @@
-use Rattle.std.proofs.Common.{List, length, ap, ◌∙◌, arith}
-use Rattle.std.specs.Prelude.{is_none, filter}
-use Rattle.mark_book.specs.BookState.{Kept}
-use Rattle.mark_book.proofs.Keeping.{front_of}
-use Rattle.mark_book.proofs.Lookups.{count_of_rest, filter_at_most}
+use Rattle.std.proofs.Common.{◌∙◌, ap, arith}
+use Rattle.mark_book.specs.BookMoves.{open_count}
+use Rattle.mark_book.proofs.Counts.{count_at_most}
 use Rattle.mark_book.proofs.watermarks.Watermarks.count_open.Goals as goal
 
 pub overflow_cast-result : goal.overflow_cast-result
 overflow_cast-result c =
-    let n = count_of_rest _ _ _ _ c.deref.ensures.value (front_of _ _ c.self.invariant.done) c.count_open.ensures in
-    let most = filter_at_most (λ (k : Kept). is_none k.ended) c.self.inside.all.items in
+    let most = count_at_most c.self.inside.all.items in
+    let still = c.self.invariant.still_open in
     let counted = c.self.invariant.counted in
-    omega (arith, n, most, counted)
+    omega (arith, still, most, counted)
 
 pub returns : goal.returns
-returns c =
-    count_of_rest _ _ _ _ c.deref.ensures.value (front_of _ _ c.self.invariant.done) c.count_open.ensures
-    ∙ ap (λ (ks : List Kept). length (filter (λ (k : Kept). is_none k.ended) ks)) c.self.view_is
+returns c = c.self.invariant.still_open ∙ ap open_count c.self.view_is

@@ -2,8 +2,9 @@ use Rattle.std.proofs.Common.{◌≤◌, length, sym, ap, subst, ◌∙◌, arit
 use Rattle.std.specs.Prelude.{find}
 use Rattle.std.specs.List.{prefix_len}
 use Rattle.mark_book.specs.BookState.{Kept}
-use Rattle.mark_book.specs.BookMoves.{told_first, is_finished}
+use Rattle.mark_book.specs.BookMoves.{told_first, is_finished, open_count}
 use Rattle.mark_book.specs.BookSound.{AreNumbered}
+use Rattle.mark_book.proofs.Counts.{count_told}
 use Rattle.mark_book.proofs.Tellings.{told_length, told_numbered, first_stays}
 use Rattle.mark_book.proofs.Keeping.{front_of, told_front, front_within, rest_told, first_of_rest}
 use Rattle.mark_book.proofs.watermarks.Watermarks.tell_first.Goals as goal
@@ -32,6 +33,7 @@ invariant_of-self c =
       counted = omega (arith, many, counted);
       within = omega (arith, many, le);
       done = c.self.invariant.done ∙ ap (prefix_len is_finished) (sym same);
+      still_open = c.self.invariant.still_open ∙ ap open_count (sym same);
     }
 
 pub overflow_add-self : goal.overflow_add-self
@@ -59,6 +61,7 @@ invariant_of-self-2 c =
       counted = omega (arith, many, same, counted);
       within = omega (arith, many, is, le);
       done = is ∙ ap (prefix_len is_finished) (sym e);
+      still_open = c.self.invariant.still_open ∙ sym (ap open_count e ∙ count_told c.self.inside.all.items);
     }
 
 pub returns-clause-first : goal.returns-clause-first
