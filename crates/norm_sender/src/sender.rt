@@ -36,12 +36,27 @@ use tx_window::Window;
 ///
 /// A timer drives it. At each moment it is handed the datagrams that came ([`deliver`](Sender::deliver)) and asked for
 /// the one to send ([`tick`](Sender::tick)); the datagrams may come in any order, and may hold any octets. What changed
-/// of its members is taken by [`news`](Sender::news) until that is `None`. None of these takes memory. A tick costs the
-/// octets of its datagram, and a datagram heard what its requests name. Commands ([`command`](Sender::command)) may come
-/// between any two calls. An object costs its octets, which are copied once, and one that waits for room what is looked at of the
-/// window. A file may come in pieces: [`begin_file`](Sender::begin_file), then [`file_piece`](Sender::file_piece) until all
-/// its octets are there, then [`end_file`](Sender::end_file), or at any time [`leave_file`](Sender::leave_file); from the
-/// first of them to the last no other call may come.
+/// of its members is taken by [`news`](Sender::news) until that is `None`. None of these takes memory. Commands
+/// ([`command`](Sender::command)) may come between any two calls. A file may come in pieces: [`begin_file`](Sender::begin_file),
+/// then [`file_piece`](Sender::file_piece) until all its octets are there, then [`end_file`](Sender::end_file), or at any time
+/// [`leave_file`](Sender::leave_file); from the first of them to the last no other call may come.
+///
+/// What each costs, where the *late watermarks* are those from the first one on that is open or whose end was not told (where one stays
+/// open they grow with the marks that come), and members are 16 at the most:
+///
+/// - A tick costs the octets of its datagram, but for a parity symbol those of all source symbols of its block, which are summed up. The search
+///   for the lowest want passes what is not wanted once a round. A tick that ends a round also goes over the objects between the first and the
+///   last that the round asked for, and of those that it asked for anything of over the blocks and the symbols that are wanted then. One
+///   that may flush looks at the members and the late watermarks.
+/// - A NACK costs what its requests name, of a range the objects in it. An acknowledgement looks at the members and the late watermarks.
+/// - `news`, [`untold`](Sender::untold), a mark and a strike look at the members and the late watermarks. A mark also closes a segment of the
+///   open stream. A restart cuts the late watermarks, and gives up the window entry by entry.
+/// - An object costs its octets, which are copied once, and the marks of its blocks; one that waits for room what is looked at of the window.
+/// - A stream costs its whole buffer as it is opened, and a write the octets that it brings, copied once. A write or the stream's end where
+///   blocks of it go, or went before, goes over the marks of its blocks too.
+/// - [`idle`](Sender::idle) looks at no more than the entries of the window: whether something of one is wanted, where no tick found yet that
+///   nothing is, and whether something of one is new. [`open_requests`](Sender::open_requests), [`flushes`](Sender::flushes) and
+///   [`instance`](Sender::instance) are kept, and are looked for nowhere.
 #[derive(Debug, Drop)]
 pub struct Sender {
     parts: Parts,
