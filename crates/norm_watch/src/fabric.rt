@@ -45,6 +45,15 @@ fn is_repair(datagram: &[u8]) -> bool {
     (kind == 1 || kind == 2) && datagram[FLAGS] & 1 == 1
 }
 
+/// Whether a node counts repairs as it takes them. A receiver does, which offers none; the hub offers each that it takes, and where all members are
+/// in one process each is offered before it is taken.
+fn counts_takes(local: &Local) -> bool {
+    match local {
+        Local::One(_) => true,
+        Local::All | Local::Hub => false,
+    }
+}
+
 /// A network around which a person watches.
 #[derive(Drop)]
 pub struct WatchedFabric<'a, R, F> {
@@ -54,6 +63,8 @@ pub struct WatchedFabric<'a, R, F> {
     tally: &'a Tally,
     /// The port that this node takes at, over sockets in a process of its own.
     port: Option<u32>,
+    /// Whether repairs are counted as they are taken, and not only as they are offered.
+    counts_takes: bool,
     /// How many takes go by before the clock is read.
     takes_left: u32,
     /// Whether a datagram was taken since the clock was read.
@@ -77,6 +88,7 @@ impl<'a, R: Eprint + Clock, F: Fabric> WatchedFabric<'a, R, F> {
             says,
             tally,
             port: None,
+            counts_takes: false,
             takes_left: 0,
             has_heard: false,
             heard: Duration::ZERO,
@@ -103,6 +115,7 @@ impl<'a, R: Eprint + Clock, F: Fabric> WatchedFabric<'a, R, F> {
         ensures { watched_by self.new ≡ watched_by self.old }
     {
         self.port = port_of(profile, local);
+        self.counts_takes = counts_takes(local);
         self.takes_left = 0;
         self.has_heard = false;
         self.heard = self.now();
@@ -124,6 +137,10 @@ impl<'a, R: Eprint + Clock, F: Fabric> WatchedFabric<'a, R, F> {
             wipe(&self.rt, self.tally);
             let _ = eprintln!(self.rt; "{what} {node} {datagram}");
         }
+    }
+
+    /// Counts a datagram that repairs.
+    fn count(&self, octets: &[u8]) {
         if is_repair(octets) {
             self.tally.repair();
         }
@@ -191,6 +208,7 @@ impl<R: Eprint + Clock, F: Fabric> Fabric for WatchedFabric<'_, R, F> {
     fn offer(&mut self, from: NodeId, bytes: &[u8]) -> Result<(), FabricFault> {
         self.fabric.offer(from, bytes)?;
         self.trace("offer", from, bytes);
+        self.count(bytes);
         Ok(())
     }
 
@@ -198,6 +216,9 @@ impl<R: Eprint + Clock, F: Fabric> Fabric for WatchedFabric<'_, R, F> {
         let taken = self.fabric.take(into)?;
         if let Some(node) = taken {
             self.trace("take", node, into.bytes());
+            if self.counts_takes {
+                self.count(into.bytes());
+            }
         }
         self.took(taken.is_some());
         Ok(taken)

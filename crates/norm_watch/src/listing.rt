@@ -47,6 +47,15 @@ fn put(all: &mut [Placed], number: u64, place: u64) {
     }
 }
 
+/// Takes out what stands there by this number.
+fn take_out(all: &mut [Placed], number: u64) {
+    for one in all.iter_mut() {
+        if one.number == number {
+            *one = NONE;
+        }
+    }
+}
+
 impl Listing {
     /// Nobody is listed, and nothing open.
     pub fn new() -> Listing {
@@ -66,13 +75,14 @@ impl Listing {
         put(&mut self.members, node, place_of(index, block, symbol));
     }
 
+    /// A member is struck: it is listed no more.
+    pub fn strike(&mut self, node: u64) {
+        take_out(&mut self.members, node);
+    }
+
     /// A watermark is done.
     pub fn done(&mut self, mark: u64) {
-        for one in self.marks.iter_mut() {
-            if one.number == mark {
-                *one = NONE;
-            }
-        }
+        take_out(&mut self.marks, mark);
     }
 
     /// A new instance begins: nobody is listed, and nothing is open.

@@ -49,9 +49,19 @@ fn words_of(line: &[u8]) -> [&[u8]; MOST_WORDS] {
     words
 }
 
-/// Whether a word is `data` or `file`.
-fn is_object(word: &[u8]) -> bool {
-    word == b"data".as_slice() || word == b"file".as_slice()
+/// Counts what was enqueued or handed up, by its kind and the two words behind it: an object whole, a stream as it opens, and a stream's octets as
+/// they come, whose number stands first where they were enqueued, and behind their offset where they were handed up.
+fn count_part(tally: &Tally, kind: &[u8], first: &[u8], second: &[u8]) {
+    if kind == b"data".as_slice() || kind == b"file".as_slice() {
+        tally.object();
+        tally.octets(number_of(first));
+    } else if kind == b"open".as_slice() {
+        tally.object();
+    } else if kind == b"write".as_slice() {
+        tally.octets(number_of(first));
+    } else if kind == b"bytes".as_slice() {
+        tally.octets(number_of(second));
+    }
 }
 
 impl<'a, R: Eprint, K: Sink> WatchedSink<'a, R, K> {
@@ -74,14 +84,14 @@ impl<'a, R: Eprint, K: Sink> WatchedSink<'a, R, K> {
     }
 }
 
-/// Counts a line: an object that was enqueued or handed up, a watermark, a member that is listed, an instance that begins.
+/// Counts a line: what was enqueued or handed up, a watermark, a member that is listed or struck, an instance that begins.
 fn count(tally: &Tally, listing: &mut Listing, line: &[u8]) {
     let words = words_of(line);
     let first = words[0];
-    if first == b"enq".as_slice() && is_object(words[5]) {
-        tally.object(number_of(words[6]));
-    } else if first == b"up".as_slice() && is_object(words[4]) {
-        tally.object(number_of(words[5]));
+    if first == b"enq".as_slice() {
+        count_part(tally, words[5], words[6], words[7]);
+    } else if first == b"up".as_slice() {
+        count_part(tally, words[4], words[5], words[6]);
     } else if first == b"mark".as_slice() {
         listing.mark(
             number_of(words[4]),
@@ -96,6 +106,8 @@ fn count(tally: &Tally, listing: &mut Listing, line: &[u8]) {
             number_of(words[4]),
             number_of(words[5]),
         );
+    } else if first == b"strike".as_slice() {
+        listing.strike(number_of(words[3]));
     } else if first == b"done".as_slice() {
         listing.done(number_of(words[1]));
     } else if first == b"restart".as_slice() {

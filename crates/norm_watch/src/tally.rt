@@ -2,8 +2,8 @@
 
 use std::cell::Cell;
 
-/// What the sink and the network of a node count together: octets and objects of the lines, repairs of the datagrams, and of the members that are
-/// listed how many are past the oldest open watermark; and whether a line of progress is drawn.
+/// What the sink and the network of a node count together: octets and objects of the lines, a stream as one object, repairs of the datagrams, and
+/// of the members that are listed how many are past the oldest open watermark; and whether a line of progress is drawn.
 #[derive(Drop)]
 pub struct Tally {
     pub(crate) octets: Cell<u64>,
@@ -26,9 +26,13 @@ impl Tally {
         }
     }
 
-    /// An object of so many octets.
-    pub(crate) fn object(&self, octets: u64) {
+    /// An object; its octets are counted beside it.
+    pub(crate) fn object(&self) {
         self.objects.set(self.objects.get().saturating_add(1));
+    }
+
+    /// So many octets of an object.
+    pub(crate) fn octets(&self, octets: u64) {
         self.octets.set(self.octets.get().saturating_add(octets));
     }
 
