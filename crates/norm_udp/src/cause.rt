@@ -11,6 +11,11 @@ pub enum SocketCause {
         address: SocketAddr,
         error: io::Error,
     },
+    /// A socket was connected to this address.
+    Connect {
+        address: SocketAddr,
+        error: io::Error,
+    },
     /// A datagram was sent to this address.
     Send {
         address: SocketAddr,
@@ -27,6 +32,9 @@ impl fmt::Display for SocketCause {
     fn fmt<W: fmt::Write>(&self, f: &mut fmt::Formatter<W>) -> fmt::Result {
         match self {
             SocketCause::Bind { address, error } => write!(f, "cannot bind {address}: {error}"),
+            SocketCause::Connect { address, error } => {
+                write!(f, "cannot connect to {address}: {error}")
+            }
             SocketCause::Send { address, error } => write!(f, "cannot send to {address}: {error}"),
             SocketCause::Receive { address, error } => {
                 write!(f, "cannot receive at {address}: {error}")

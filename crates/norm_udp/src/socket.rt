@@ -26,40 +26,38 @@ fn ask_for_room(socket: &UdpSocket) {
     let _ = unsafe { setsockopt(socket.as_raw_fd(), SOL_SOCKET, SO_RCVBUF, &value, 4) };
 }
 
-/// A socket at this address that never waits.
-fn at<R: Net>(rt: &R, address: SocketAddr) -> io::Result<UdpSocket> {
+/// A socket that is bound to this address and never waits.
+fn bound_to<R: Net>(rt: &R, address: SocketAddr) -> io::Result<UdpSocket> {
     let socket = rt.bind_udp(address)?;
     socket.set_nonblocking(true)?;
     Ok(socket)
 }
 
-/// A socket with a large receive buffer at this address.
-pub(crate) fn bind<R: Net>(rt: &R, address: SocketAddr) -> Result<UdpSocket, SocketCause> {
-    match at(rt, address) {
-        Ok(socket) => {
-            ask_for_room(&socket);
-            Ok(socket)
-        }
+/// A socket at this address.
+fn at<R: Net>(rt: &R, address: SocketAddr) -> Result<UdpSocket, SocketCause> {
+    match bound_to(rt, address) {
+        Ok(socket) => Ok(socket),
         Err(error) => Err(SocketCause::Bind { address, error }),
     }
 }
 
-/// A socket at any port, connected to this address.
-fn connected_to<R: Net>(rt: &R, own: SocketAddr, address: SocketAddr) -> io::Result<UdpSocket> {
-    let socket = at(rt, own)?;
-    socket.connect(address)?;
+/// A socket with a large receive buffer at this address.
+pub(crate) fn bind<R: Net>(rt: &R, address: SocketAddr) -> Result<UdpSocket, SocketCause> {
+    let socket = at(rt, address)?;
+    ask_for_room(&socket);
     Ok(socket)
 }
 
-/// A socket at any port that sends to this address alone.
+/// A socket at this address of its own that sends to another alone.
 pub(crate) fn connect<R: Net>(
     rt: &R,
     own: SocketAddr,
     address: SocketAddr,
 ) -> Result<UdpSocket, SocketCause> {
-    match connected_to(rt, own, address) {
-        Ok(socket) => Ok(socket),
-        Err(error) => Err(SocketCause::Bind { address, error }),
+    let socket = at(rt, own)?;
+    match socket.connect(address) {
+        Ok(()) => Ok(socket),
+        Err(error) => Err(SocketCause::Connect { address, error }),
     }
 }
 
