@@ -8,7 +8,7 @@ use std::process;
 use std::test::Fail;
 
 /// All members in one process, beside another that comes too late for their ports.
-const ALL: [(At, Step); 5] = [
+pub(crate) const ALL: [(At, Step); 5] = [
     (At::Sender, Step::StartAll),
     (At::Hub, Step::StartAll),
     (At::Sender, Step::Offer(1, b"a")),
@@ -16,8 +16,11 @@ const ALL: [(At, Step); 5] = [
     (At::Sender, Step::Take),
 ];
 
+/// What they answer.
+pub(crate) const ALL_ANSWERS: &[u8] = b".!..1b2a2b3a;";
+
 /// A sender, the hub and a receiver; the other receiver is not there.
-const EACH: [(At, Step); 13] = [
+pub(crate) const EACH: [(At, Step); 13] = [
     (At::Sender, Step::StartOne(1)),
     (At::Sender, Step::Offer(1, b"early")),
     (At::Receiver, Step::Take),
@@ -33,8 +36,14 @@ const EACH: [(At, Step); 13] = [
     (At::Sender, Step::Take),
 ];
 
+/// What they answer.
+pub(crate) const EACH_ANSWERS: &[u8] = b"..;...1hello;.2hello;;.;1back;";
+
 /// Three networks of sockets, not yet started.
-fn networks(alloc: Global, rt: HostRuntime) -> Result<Networks<UdpFabric<HostRuntime>>, Memory> {
+pub(crate) fn networks(
+    alloc: Global,
+    rt: HostRuntime,
+) -> Result<Networks<UdpFabric<HostRuntime>>, Memory> {
     Ok(Networks {
         sender: UdpFabric::new(alloc, rt)?,
         hub: UdpFabric::new(alloc, rt)?,
@@ -48,7 +57,7 @@ fn all_members_in_one_process(rt: HostRuntime) -> Result<(), Fail> {
     let profile = profile_of(process::id(rt.process()), 0, FabricKind::Udp)?;
     let mut networks = networks(alloc, rt)?;
     let all = networks.answers(alloc, &profile, &ALL)?;
-    assert!(rt; all.as_slice() == b".!..1b2a2b3a;".as_slice());
+    assert!(rt; all.as_slice() == ALL_ANSWERS);
     assert!(rt; networks.faults() == [0, 1, 0]);
     Ok(())
 }
@@ -59,7 +68,7 @@ fn each_member_in_its_own(rt: HostRuntime) -> Result<(), Fail> {
     let profile = profile_of(process::id(rt.process()), 1, FabricKind::Udp)?;
     let mut networks = networks(alloc, rt)?;
     let all = networks.answers(alloc, &profile, &EACH)?;
-    assert!(rt; all.as_slice() == b"..;...1hello;.2hello;;.;1back;".as_slice());
+    assert!(rt; all.as_slice() == EACH_ANSWERS);
     assert!(rt; networks.faults() == [0, 0, 0]);
     Ok(())
 }
