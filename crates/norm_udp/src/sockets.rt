@@ -2,6 +2,7 @@
 
 ghost use Rattle.std.specs.Prelude.{◌≡◌, [], true, IfOk, IfNone, OnErr};
 ghost use Rattle.norm_base.specs.Members.{is_node};
+ghost use Rattle.norm_udp.specs.Addresses.{gets_copy};
 
 use crate::address::{address_at, address_of, gets_copy, is_node, member_at, member_from};
 use crate::cause::SocketCause;
@@ -145,6 +146,31 @@ pub(crate) fn open_for<R: Net>(
     }
 }
 
+/// Sends a member's datagram to another that gets a copy of it, from this socket. `from` is there for the clause alone.
+fn send_copy(
+    profile: &Profile,
+    socket: &UdpSocket,
+    from: NodeId,
+    to: NodeId,
+    bytes: &[u8],
+) -> Result<(), SocketCause>
+    requires { gets_copy profile.now from to ≡ true }
+{
+    send_to(socket, bytes, address_of(profile, to))
+}
+
+/// Sends a member's datagram to another that gets a copy of it, through the socket that is connected to it. `from` is there for the clause alone.
+fn send_copy_through(
+    profile: &Profile,
+    from: NodeId,
+    to: &Member,
+    bytes: &[u8],
+) -> Result<(), SocketCause>
+    requires { gets_copy profile.now from to.now.node ≡ true }
+{
+    send(&to.socket, bytes, address_of(profile, to.node))
+}
+
 /// Sends a member's datagram from its own socket to each other member.
 fn send_from(
     profile: &Profile,
@@ -154,7 +180,7 @@ fn send_from(
 ) -> Result<(), SocketCause> {
     for to in members {
         if gets_copy(profile, own.node, to.node) {
-            send_to(&own.socket, bytes, to.address)?;
+            send_copy(profile, &own.socket, own.node, to.node, bytes)?;
         }
     }
     Ok(())
@@ -185,12 +211,12 @@ fn send_on(
 ) -> Result<(), SocketCause> {
     for to in receivers {
         if gets_copy(profile, from, to.node) {
-            send(&to.socket, bytes, to.address)?;
+            send_copy_through(profile, from, to, bytes)?;
         }
     }
     let sender = member_at(profile, 0);
     if gets_copy(profile, from, sender) {
-        send_to(hub, bytes, address_of(profile, sender))?;
+        send_copy(profile, hub, from, sender, bytes)?;
     }
     Ok(())
 }
