@@ -12,7 +12,7 @@ use Rattle.norm_order.specs.Sets.{is_member, with_member, Rises, IsRising}
 use Rattle.norm_order.proofs.SetLemmas.{same_sets, numbers}
 use Rattle.nack_union.specs.Slots.{slots, symbol_slot}
 use Rattle.nack_union.specs.More.{is_source_slot, in_run, is_below}
-use Rattle.nack_union.specs.Coverage.{farthest, lies_in_run, is_run_slot, covered_slots, is_in_blocks}
+use Rattle.nack_union.specs.Coverage.{HasSources, farthest, lies_in_run, is_run_slot, covered_slots, is_in_blocks}
 use Rattle.nack_union.proofs.Ranges.{filter_member, filter_with, no_filter, no_member}
 use Rattle.nack_union.proofs.Rising.{rises_filter}
 use Rattle.nack_union.proofs.Filled.{none_past}
@@ -107,6 +107,14 @@ covered_is c ends alone slot = go (cases_lt slot (slots (blocks c.cut)))
     go (inr past) =
         none_past (λ slot. is_member nat_lt slot alone || is_run_slot c ends slot) slot 0 (slots (blocks c.cut)) (omega arith)
         ∙ ap (λ b. b && (is_member nat_lt slot alone || is_run_slot c ends slot)) (sym (le-ltb slot (slots (blocks c.cut)) past))
+
+-- the info is there by itself alone
+pub info_covered : (c : Shape) (ends alone : List ℕ) → is_member nat_lt 0 (covered_slots c ends alone) ≡ is_member nat_lt 0 alone
+info_covered c ends alone = covered_is c ends alone 0 ∙ ap (λ b. b && (is_member nat_lt 0 alone || false)) (lt-ltb 0 (slots (blocks c.cut)) (omega arith)) ∙ or_no (is_member nat_lt 0 alone)
+  where
+    or_no : (a : Bool) → (a || false) ≡ a
+    or_no true = refl
+    or_no false = refl
 
 source_within : (c : Shape) (slot : ℕ) → is_source_slot c slot ≡ true → nat_lt slot (slots (blocks c.cut)) ≡ true
 source_within c zero e = absurd (cc)
@@ -345,3 +353,47 @@ covered_moved c new ends none alone moved n count cut zeros down slot =
     go true false z within = refl
     go false true z within = absurd (let e = within refl in cc)
     go false false z within = refl
+
+-- Where all closed source symbols are among slots, they stay among them as more join, and as a run of all joined.
+or_true : (a b : Bool) → a ≡ true → (a || b) ≡ true
+or_true true b e = refl
+or_true false b e = absurd (cc)
+
+pub sources_stay : (c : Shape) (old new : List ℕ) (more : ℕ → Bool) → ((slot : ℕ) → is_member nat_lt slot new ≡ (is_member nat_lt slot old || more slot))
+    → HasSources c old → HasSources c new
+sources_stay c old new more joined all slot source = joined slot ∙ or_true (is_member nat_lt slot old) (more slot) (all slot source)
+
+pub with_stays : (c : Shape) (slots : List ℕ) (x : ℕ) → HasSources c slots → HasSources c (with_member nat_lt x slots)
+with_stays c slots x = sources_stay c slots (with_member nat_lt x slots) (λ slot. slot == x) (λ slot. with_puts slot x slots)
+
+true_or : (a b : Bool) → b ≡ true → (a || b) ≡ true
+true_or true b e = refl
+true_or false b e = e
+
+both_true : (a b : Bool) → a ≡ true → b ≡ true → (a && b) ≡ true
+both_true true b e f = f
+both_true false b e f = absurd (cc)
+
+-- a closed source symbol lies before the slots behind the room
+source_in_room : (c : Shape) (room slot : ℕ) → ((block : ℕ) → room ≤ block → closed_in c block ≡ 0) → is_source_slot c slot ≡ true → in_run 1 (slots room) slot ≡ true
+source_in_room c room zero behind source = absurd (cc)
+source_in_room c room (suc n) behind source = go (cases_lt (n / 256) room)
+  where
+    some : (a b : Bool) → (a && b) ≡ true → b ≡ true
+    some true b e = e
+    some false b e = absurd (cc)
+
+    go : (n / 256 < room) ⊎ (room ≤ n / 256) → in_run 1 (slots room) (suc n) ≡ true
+    go (inl lt) = both_true _ _ (ap not (le-ltb (suc n) 1 (omega arith))) (lt-ltb (suc n) (slots room) (omega (arith, lt, div-add-mod n 256)))
+    go (inr past) =
+        absurd (let less = ltb-true (n % 256) (closed_in c (n / 256)) (some (nat_lt (n / 256) (blocks c.cut)) _ source) in
+        let none = behind (n / 256) past in omega (arith, less, none))
+
+pub sources_joined : (c : Shape) (old new : List ℕ) (room from to : ℕ) → ((block : ℕ) → room ≤ block → closed_in c block ≡ 0) → from ≤ 1 → slots room ≤ to
+    → ((slot : ℕ) → is_member nat_lt slot new ≡ (is_member nat_lt slot old || (is_source_slot c slot && in_run from to slot))) → HasSources c new
+sources_joined c old new room from to behind low high joined slot source =
+    joined slot
+    ∙ true_or (is_member nat_lt slot old) _ (both_true _ _ source (wider slot (source_in_room c room slot behind source)))
+  where
+    wider : (slot : ℕ) → in_run 1 (slots room) slot ≡ true → in_run from to slot ≡ true
+    wider slot e = grind (arith, nat_tests)

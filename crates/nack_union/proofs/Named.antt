@@ -1,12 +1,16 @@
 -- What flags ask of a named span, part by part, and of the objects of a range.
 use Rattle.std.proofs.Common.{◌≡◌, ℕ, ◌+◌, ◌<◌, ◌≤◌, ◌⊎◌, inl, inr, List, length, set, get_or, Bool, true, false, refl, sym, ap, ◌∙◌, arith, subst}
-use Rattle.std.specs.Prelude.{◌==◌, ◌&&◌, ◌||◌, max}
+use Rattle.std.specs.Prelude.{◌==◌, ◌&&◌, ◌||◌, max, nat_lt, slice_index}
 use Rattle.std.proofs.lemmas.Bool.{cases_eq, cases_lt}
 use Rattle.std.proofs.lemmas.Bool.Decides.{nat_tests}
 use Rattle.std.proofs.lemmas.List.{get_or-set_same, get_or-set_other, get_or_read}
 use Rattle.fec_plan.specs.Points.{position}
 use Rattle.norm_ext.specs.Asking.{Span, lies_in, block_span, object_span, has_flag, segment_flag, block_flag, object_flag, info_flag}
+use Rattle.norm_order.specs.Sets.{is_member}
 use Rattle.norm_order.specs.Shapes.{Shape}
+use Rattle.nack_union.specs.Coverage.{HasSourcesFrom}
+use Rattle.nack_union.specs.Slots.{stands_from}
+use Rattle.nack_union.proofs.Puts.{other_is}
 use Rattle.nack_union.specs.Kept.{Marked, symbols_of_marked}
 use Rattle.nack_union.specs.More.{HasMore, is_source_slot, slot_in, asks_by}
 use Rattle.nack_union.proofs.Mores.{more_by, more_twice}
@@ -72,6 +76,54 @@ named_more flags s index old a b c new f g h i f_is g_is h_is i_is from to one t
     (slot_in index s slot) (slot_in index (block_span s) slot) (slot_in index (object_span s) slot) (old.info && slot == 0)
     (lies_in (position index 0 0) (object_span s)) (in_objects index s from to))
     (λ block. refl)
+
+-- What flags ask for is asked for already where all closed source symbols are, or no flag asks for them, and the info, or none asks for that.
+sought : (g b x c y d z i inf eq l : Bool) → ((g && (((b && x) || (c && y)) || (d && z))) || ((i && (inf && eq)) && l)) ≡ true
+    → ((g ≡ true) × (((b || c) || d) ≡ true)) ⊎ ((i ≡ true) × (inf ≡ true) × (eq ≡ true))
+sought g b x c y d z i inf eq l e = by g b x c y d z e
+  where
+    of_info : (i inf eq : Bool) → ((i && (inf && eq)) && l) ≡ true → (i ≡ true) × (inf ≡ true) × (eq ≡ true)
+    of_info true true true e = (refl, refl, refl)
+    of_info true true false e = absurd (cc)
+    of_info true false eq e = absurd (cc)
+    of_info false inf eq e = absurd (cc)
+
+    by : (g b x c y d z : Bool) → ((g && (((b && x) || (c && y)) || (d && z))) || ((i && (inf && eq)) && l)) ≡ true
+        → ((g ≡ true) × (((b || c) || d) ≡ true)) ⊎ ((i ≡ true) × (inf ≡ true) × (eq ≡ true))
+    by true true x c y d z e = inl (refl, refl)
+    by true false x true y d z e = inl (refl, refl)
+    by true false x false y true z e = inl (refl, refl)
+    by true false x false y false z e = inr (of_info i inf eq e)
+    by false b x c y d z e = inr (of_info i inf eq e)
+
+none_new : (f : ℕ → Bool) (m : Marked) → ((slot : ℕ) → stands_from m.first slot ≡ true → f slot ≡ true → is_member nat_lt slot m.asked ≡ true) → HasMore f (λ block. 0) m m
+none_new f m there = record {
+  rest = refl;
+  asked = λ slot kept. joined (is_member nat_lt slot m.asked) (f slot) (there slot kept);
+  blocks = refl;
+  counted = λ block from lt. let e : slice_index m.counts block ≡ max (slice_index m.counts block) 0 = omega arith in e;
+}
+  where
+    joined : (a b : Bool) → (b ≡ true → a ≡ true) → a ≡ (a || b)
+    joined true b has = refl
+    joined false true has = has refl
+    joined false false has = refl
+
+pub settled_more : (flags : ℕ) (m : Marked) (sources info : Bool) → sources ≡ ((has_flag flags segment_flag || has_flag flags block_flag) || has_flag flags object_flag)
+    → info ≡ has_flag flags info_flag → (sources ≡ true → HasSourcesFrom m.first (symbols_of_marked m) m.asked)
+    → (info ≡ true → m.info ≡ true → is_member nat_lt 0 m.asked ≡ true)
+    → (index : ℕ) (s : Span) → HasMore (asks_by flags s index (symbols_of_marked m) m.info) (λ block. 0) m m
+settled_more flags m sources info sources_is info_is all has index s = none_new _ m there
+  where
+    there : (slot : ℕ) → stands_from m.first slot ≡ true → asks_by flags s index (symbols_of_marked m) m.info slot ≡ true → is_member nat_lt slot m.asked ≡ true
+    there slot kept asks =
+        elim (sought (is_source_slot (symbols_of_marked m) slot) (has_flag flags segment_flag) (slot_in index s slot) (has_flag flags block_flag) (slot_in index (block_span s) slot)
+        (has_flag flags object_flag) (slot_in index (object_span s) slot) (has_flag flags info_flag) m.info (slot == 0) (lies_in (position index 0 0) (object_span s)) asks)
+        [ inl l ↦ all (sources_is ∙ l.1) slot kept l.0 | inr r ↦ first (cases_eq slot 0) r ]
+      where
+        first : (slot ≡ 0) ⊎ (slot ≡ 0 → ⊥) → (has_flag flags info_flag ≡ true) × (m.info ≡ true) × ((slot == 0) ≡ true) → is_member nat_lt slot m.asked ≡ true
+        first (inl e) r = ap (λ n. is_member nat_lt n m.asked) e ∙ has (info_is ∙ r.0) r.1
+        first (inr ne) r = absurd (let f = other_is slot 0 ne in let g = r.2 in cc)
 
 -- a loop over places: one place more
 pub place_done : (P : ℕ → Marked → Marked → Type 0) (old now : List Marked) (from place : ℕ) (here new : Marked) → length now ≡ length old → place < length now

@@ -15,6 +15,7 @@ use Rattle.nack_union.specs.Repairs.{shape_closed, fresh_symbols, fresh_parities
 use Rattle.nack_union.specs.Kept.{from_block}
 use Rattle.nack_union.specs.More.{in_run, is_source_slot, is_encoded_slot, is_slot_of}
 use Rattle.nack_union.specs.Sound.{slots_from}
+use Rattle.nack_union.specs.Coverage.{HasSources, HasSourcesFrom}
 use Rattle.nack_union.proofs.Below.{member_passing, from_place}
 use Rattle.nack_union.proofs.Coverages.{rising}
 use Rattle.nack_union.proofs.Puts.{or_false, by_tests, with_puts, other_is}
@@ -152,6 +153,39 @@ source_at c closed first n sh sound few le =
     (λ past. past_closed c closed (first + (n - 256 * first) / 256) sound few past)
     ∙ ap (λ b. nat_lt b (blocks c) && nat_lt ((n - 256 * first) % 256) (closed_in (shape_closed c closed) b)) high
     ∙ ap (λ r. nat_lt (n / 256) (blocks c) && nat_lt r (closed_in (shape_closed c closed) (n / 256))) low
+
+-- a closed source symbol stays one as its block is numbered from one on
+source_kept : (c : Cut) (closed first n : ℕ) → Shifts c closed first → 256 * first ≤ n → is_source_slot (shape_closed c closed) (suc n) ≡ true
+    → is_source_slot (shape_closed c (closed - symbol_number c first 0)) (suc (n - 256 * first)) ≡ true
+source_kept c closed first n sh le source =
+    let high : n / 256 ≡ first + (n - 256 * first) / 256 = omega (arith, le, div-add-mod n 256, div-add-mod (n - 256 * first) 256) in
+    let low : n % 256 ≡ (n - 256 * first) % 256 = omega (arith, le, div-add-mod n 256, div-add-mod (n - 256 * first) 256) in
+    ap (λ k. nat_lt ((n - 256 * first) / 256) (blocks c) && nat_lt ((n - 256 * first) % 256) k) (sh.closed_is ((n - 256 * first) / 256))
+    ∙ earlier ((n - 256 * first) / 256) first (blocks c) (nat_lt ((n - 256 * first) % 256) (closed_in (shape_closed c closed) (first + (n - 256 * first) / 256)))
+    (sym (ap (λ b. nat_lt b (blocks c) && nat_lt (n % 256) (closed_in (shape_closed c closed) b)) high
+    ∙ ap (λ r. nat_lt (first + (n - 256 * first) / 256) (blocks c) && nat_lt r (closed_in (shape_closed c closed) (first + (n - 256 * first) / 256))) low) ∙ source)
+  where
+    earlier : (q first b : ℕ) (t : Bool) → (nat_lt (first + q) b && t) ≡ true → (nat_lt q b && t) ≡ true
+    earlier q first b t e = go (cases_lt (first + q) b)
+      where
+        go : (first + q < b) ⊎ (b ≤ first + q) → (nat_lt q b && t) ≡ true
+        go (inl lt) = ap (λ x. x && t) (lt-ltb q b (omega (arith, lt)) ∙ sym (lt-ltb (first + q) b lt)) ∙ e
+        go (inr past) = absurd (clash (sym (ap (λ x. x && t) (le-ltb (first + q) b past)) ∙ e))
+
+-- where all closed source symbols are among slots as they are numbered from a block on, those that are kept are among them
+pub sources_kept : (c : Cut) (closed first : ℕ) (slots : List ℕ) → Shifts c closed first → HasSources (shape_closed c (closed - symbol_number c first 0)) slots
+    → HasSourcesFrom first (shape_closed c closed) (slots_from first slots)
+sources_kept c closed first slots sh all zero kept source = absurd (cc)
+sources_kept c closed first slots sh all (suc n) kept source =
+    let behind = stands_behind_start first (suc n) kept (omega arith) in
+    member_from (256 * first) (suc n) slots (omega (arith, behind))
+    ∙ ap (λ k. is_member nat_lt k slots) (let at : suc n - 256 * first ≡ suc (n - 256 * first) = omega (arith, behind) in at)
+    ∙ all (suc (n - 256 * first)) (source_kept c closed first n sh (omega (arith, behind)) source)
+
+-- the info is numbered alike
+pub info_kept : (first : ℕ) (slots : List ℕ) → first ≡ 0 → is_member nat_lt 0 slots ≡ is_member nat_lt 0 (slots_from first slots)
+info_kept first slots none =
+    ap (λ k. is_member nat_lt k slots) (let e : 0 ≡ 0 - 256 * first = omega arith in e) ∙ sym (member_from (256 * first) 0 slots (omega (arith, none)))
 
 pub sources_more : (c : Cut) (closed first from to : ℕ) (old new : List ℕ) → Shifts c closed first → IsSound c → closed ≤ all_symbols c
     → ((slot : ℕ) → is_member nat_lt slot new ≡ (is_member nat_lt slot old || (is_source_slot (shape_closed c (closed - symbol_number c first 0)) slot && in_run (from - 256 * first) (to - 256 * first) slot)))

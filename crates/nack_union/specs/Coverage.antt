@@ -4,7 +4,7 @@ use Rattle.std.specs.List.{range_with_len}
 use Rattle.fec_plan.specs.Partition.{blocks, most_blocks}
 use Rattle.norm_order.specs.Sets.{is_member}
 use Rattle.norm_order.specs.Shapes.{Shape, closed_in, is_full}
-use Rattle.nack_union.specs.Slots.{slots}
+use Rattle.nack_union.specs.Slots.{slots, stands_from}
 use Rattle.nack_union.specs.Repairs.{shape_closed}
 use Rattle.nack_union.specs.More.{is_source_slot}
 use Rattle.nack_union.specs.declared.coverage.Coverage.TheInside.{Inside}
@@ -34,8 +34,16 @@ is_run_slot c ends (suc n) = is_source_slot c (suc n) && lies_in_run ends (n / 2
 unfoldable pub covered_slots : Shape → List ℕ → List ℕ → List ℕ
 covered_slots c ends alone = filter (λ slot. is_member nat_lt slot alone || is_run_slot c ends slot) (range_with_len 0 (slots (blocks c.cut)))
 
+-- all closed source symbols of an object are among slots
+abbrev pub HasSources : Shape → List ℕ → Type 0
+HasSources c members = (slot : ℕ) → is_source_slot c slot ≡ true → is_member nat_lt slot members ≡ true
+
+-- those that are kept from a block on are
+abbrev pub HasSourcesFrom : ℕ → Shape → List ℕ → Type 0
+HasSourcesFrom first c members = (slot : ℕ) → stands_from first slot ≡ true → is_source_slot c slot ≡ true → is_member nat_lt slot members ≡ true
+
 -- There is a place for each slot of the blocks that have room, which are of the object, and an end for each of them; nothing is closed
--- behind them. So many first blocks are whole, as are all that lie in a run.
+-- behind them. So many first blocks are whole, as are all that lie in a run. Where that is known, all closed source symbols are among the slots.
 pub record IsSoundCoverage (m : Inside) : Type 0 where
   pub most : length m.ends.items ≤ most_blocks
   pub within : length m.ends.items ≤ blocks m.plan
@@ -44,6 +52,7 @@ pub record IsSoundCoverage (m : Inside) : Type 0 where
   pub until : m.whole ≤ length m.ends.items
   pub whole : (block : ℕ) → block < m.whole → is_full (shape_closed m.plan m.closed) block ≡ true
   pub runs : (block : ℕ) → lies_in_run m.ends.items block ≡ true → is_full (shape_closed m.plan m.closed) block ≡ true
+  pub complete : m.complete ≡ true → HasSources (shape_closed m.plan m.closed) (covered_slots (shape_closed m.plan m.closed) m.ends.items m.alone.members)
 
 abbrev pub coverage_view : Inside → Covered
 coverage_view m = record { shape = shape_closed m.plan m.closed; room = length m.ends.items; members = covered_slots (shape_closed m.plan m.closed) m.ends.items m.alone.members }

@@ -8,7 +8,7 @@ ghost use Rattle.nack_union.specs.Slots.{slots, symbol_slot};
 ghost use Rattle.nack_union.specs.More.{is_source_slot, in_run};
 ghost use Rattle.nack_union.specs.Kept.{IsRepairable};
 ghost use Rattle.nack_union.specs.Repairs.{shape_closed, counted_slots};
-ghost use Rattle.nack_union.specs.Coverage.{Covered, is_in_blocks, is_run_slot};
+ghost use Rattle.nack_union.specs.Coverage.{Covered, HasSources, is_in_blocks, is_run_slot};
 
 use crate::closed::{closed_len, whole_blocks};
 use crate::mask::Mask;
@@ -20,12 +20,14 @@ use std::alloc::Global;
 use std::marker::Model;
 
 /// The slots of an object, of which so many source symbols are closed, that the open round asks for. A run of whole blocks is kept as its end alone, at the block with which
-/// it begins, and filled as the round closes; all other slots are kept in a set. The first `whole` blocks are whole.
+/// it begins, and filled as the round closes; all other slots are kept in a set. The first `whole` blocks are whole. Where `complete` is set,
+/// all closed source symbols are among them.
 #[derive(Debug, Drop)]
 pub struct Coverage {
     plan: Plan,
     closed: u64,
     whole: u32,
+    complete: bool,
     alone: Mask,
     ends: Vec<u32>,
 }
@@ -92,6 +94,14 @@ fn insert_runs(set: &mut Mask, plan: &Plan, closed: u64, ends: &[u32])
     }
 }
 
+/// Whether what lies from one number up to another lies from a third up to a fourth.
+fn is_within(first: usize, behind: usize, from: usize, to: usize) -> bool
+    ensures from { result ≡ true → from ≤ first }
+    ensures to { result ≡ true → behind ≤ to }
+{
+    from <= first && behind <= to
+}
+
 impl Coverage {
     /// No slot of an object of which so many source symbols are closed, with room for all of so many blocks. None are closed behind them.
     pub fn with_room(
@@ -111,6 +121,7 @@ impl Coverage {
             plan: *plan,
             closed,
             whole: whole.min(room as u32),
+            complete: false,
             alone,
             ends,
         })
@@ -125,6 +136,7 @@ impl Coverage {
         let whole = whole_blocks(&self.plan, closed).min(self.ends.len() as u32);
         self.whole = whole;
         self.closed = closed;
+        self.complete = false;
     }
 
     /// The slots rise. Nothing is done.
@@ -166,8 +178,30 @@ impl Coverage {
         self.ends[first] = end;
     }
 
-    /// Puts the closed source symbols from one slot up to another into them.
-    pub fn insert_sources(&mut self, from: usize, to: usize)
+    /// Whether the info is among them.
+    pub fn has_info(&self) -> bool
+        ensures { result ≡ is_member nat_lt 0 self.now.members }
+    {
+        self.alone.contains(0)
+    }
+
+    /// Whether it is known that all closed source symbols are among them.
+    pub fn is_complete(&self) -> bool
+        ensures { result ≡ true → HasSources self.now.shape self.now.members }
+    {
+        self.complete
+    }
+
+    /// All closed source symbols are among them: from now on that is known.
+    fn note_complete(&mut self)
+        requires { HasSources self.old.shape self.old.members }
+        ensures { self.new ≡ self.old }
+    {
+        self.complete = true;
+    }
+
+    /// Puts the closed source symbols from one slot up to another into them, those of whole blocks as a run.
+    fn insert_between(&mut self, from: usize, to: usize)
         ensures members { (slot : ℕ) → is_member nat_lt slot self.new.members ≡ (is_member nat_lt slot self.old.members || (is_source_slot self.old.shape slot && in_run from to slot)) }
         ensures shape { self.new.shape ≡ self.old.shape }
         ensures room { self.new.room ≡ self.old.room }
@@ -181,6 +215,19 @@ impl Coverage {
         self.insert_part(from, BLOCK * first + 1);
         self.insert_blocks(first, behind);
         self.insert_part(BLOCK * behind + 1, to);
+    }
+
+    /// Puts the closed source symbols from one slot up to another into them.
+    pub fn insert_sources(&mut self, from: usize, to: usize)
+        ensures members { (slot : ℕ) → is_member nat_lt slot self.new.members ≡ (is_member nat_lt slot self.old.members || (is_source_slot self.old.shape slot && in_run from to slot)) }
+        ensures shape { self.new.shape ≡ self.old.shape }
+        ensures room { self.new.room ≡ self.old.room }
+    {
+        let behind = BLOCK * self.ends.len() + 1;
+        self.insert_between(from, to);
+        if is_within(1, behind, from, to) {
+            self.note_complete();
+        }
     }
 
     /// Closes the round: they join the wants of the object, with what the counts of its blocks ask for, and none is left. Says how
@@ -201,6 +248,7 @@ impl Coverage {
         insert_runs(&mut self.alone, &self.plan, self.closed, &self.ends);
         self.ends.fill(0);
         self.alone.rises();
+        self.complete = false;
         ask_counted(&mut self.alone, sent, &self.plan, self.closed, counts);
         wants.take_all(&mut self.alone)
     }
@@ -220,5 +268,6 @@ impl Coverage {
         let gone = self.plan.symbol_number(count, 0);
         self.closed = self.closed.saturating_sub(gone);
         self.whole = self.whole.saturating_sub(count);
+        self.complete = false;
     }
 }

@@ -1,13 +1,14 @@
 //! What a union keeps of one object.
 
-ghost use Rattle.std.specs.Prelude.{◌≡◌, ◌+◌, ◌-◌, ◌*◌, ◌^◌, ◌<◌, ◌≤◌, ◌∷◌, [], nat_lt, IfOk, MatchOption, true, false, ◌==◌, ℕ, length, max, replicate, set, slice_index, ◌&&◌, not, None, Some};
+ghost use Rattle.std.specs.Prelude.{◌≡◌, ◌+◌, ◌-◌, ◌*◌, ◌^◌, ◌<◌, ◌≤◌, ◌∷◌, [], nat_lt, IfOk, MatchOption, true, false, ◌==◌, ℕ, length, max, replicate, set, slice_index, ◌&&◌, ◌||◌, not, None, Some};
 ghost use Rattle.fec_plan.specs.Partition.{all_symbols, blocks, most_blocks};
 ghost use Rattle.norm_order.specs.Shapes.{closed_in};
-ghost use Rattle.norm_order.specs.Sets.{with_member, Rises};
+ghost use Rattle.norm_order.specs.Sets.{is_member, with_member, Rises};
 ghost use Rattle.nack_union.specs.Slots.{slots, stands_from};
 ghost use Rattle.nack_union.specs.More.{HasMore, is_source_slot, is_encoded_slot, in_run, slot_in, slot_from, slot_behind, is_slot_of, count_at as counted_at, kept_count, MoreOf, named_part};
+ghost use Rattle.nack_union.specs.Coverage.{HasSourcesFrom};
 ghost use Rattle.nack_union.specs.Adding.{IsPlanned};
-ghost use Rattle.norm_ext.specs.Asking.{span, block_span, object_span, has_flag};
+ghost use Rattle.norm_ext.specs.Asking.{Span, span, block_span, object_span, has_flag, segment_flag, block_flag, object_flag};
 ghost use Rattle.nack_union.specs.Repairs.{shape_closed};
 ghost use Rattle.nack_union.specs.Kept.{admitted, admitted_stream, CanGrow, closed_marks, moved_on, IsCounted, symbols_of_marked};
 ghost use Rattle.std.specs.List.{list_any};
@@ -134,6 +135,13 @@ fn move_counts(counts: &mut [u8], count: usize)
     'moved: for place in 0..counts.len() {
         counts[place] = count_at(counts, place + gone);
     }
+}
+
+/// Whether flags ask for source symbols: by themselves, by blocks or by objects.
+fn asks_sources(flags: u8) -> bool
+    ensures { result ≡ ((has_flag flags segment_flag || has_flag flags block_flag) || has_flag flags object_flag) }
+{
+    has_flag(flags, WANT_SEGMENT) || has_flag(flags, WANT_BLOCK) || has_flag(flags, WANT_OBJECT)
 }
 
 /// What a request names: from one position to another, both included, and its flags.
@@ -352,8 +360,41 @@ impl Marks {
         }
     }
 
-    /// The round asks for what is named of the object, which has this index.
-    pub fn ask_named(&mut self, index: u32, named: &Named)
+    /// Whether the round asks for all closed source symbols of the object already, as far as that is known, or none are wanted.
+    fn has_sources(&self, wanted: bool) -> bool
+        ensures { result ≡ true → wanted ≡ true → HasSourcesFrom self.now.first (symbols_of_marked self.now) self.now.asked }
+    {
+        if !wanted {
+            return true;
+        }
+        self.asked.is_complete()
+    }
+
+    /// Whether the round asks for the info of the object already, or none is wanted, or the object has none.
+    fn has_info(&self, wanted: bool) -> bool
+        ensures { result ≡ true → wanted ≡ true → self.now.info ≡ true → is_member nat_lt 0 self.now.asked ≡ true }
+    {
+        if !wanted {
+            return true;
+        }
+        if !self.info {
+            return true;
+        }
+        self.asked.has_info()
+    }
+
+    /// Whether the round asks already, as far as that is known, for all that these flags can ask for of the object.
+    fn is_settled(&self, flags: u8) -> bool
+        ensures { result ≡ true → (index : ℕ) (s : Span) → MoreOf (named_part flags s) index self.now self.now }
+    {
+        if !self.has_sources(asks_sources(flags)) {
+            return false;
+        }
+        self.has_info(has_flag(flags, WANT_INFO))
+    }
+
+    /// The round asks for what each of the flags names of the object, which has this index.
+    fn ask_by_flags(&mut self, index: u32, named: &Named)
         requires from { named.now.first.index ≤ index }
         requires to { index ≤ named.now.last.index }
         ensures { MoreOf (named_part named.now.flags (span named.now.first named.now.last)) index self.old self.new }
@@ -365,6 +406,18 @@ impl Marks {
         self.ask_where(has_flag(flags, WANT_BLOCK), index, blocks.0, blocks.1);
         self.ask_where(has_flag(flags, WANT_OBJECT), index, objects.0, objects.1);
         self.ask_info_where(has_flag(flags, WANT_INFO));
+    }
+
+    /// The round asks for what is named of the object, which has this index. Where it asks for all of that already nothing is done.
+    pub fn ask_named(&mut self, index: u32, named: &Named)
+        requires from { named.now.first.index ≤ index }
+        requires to { index ≤ named.now.last.index }
+        ensures { MoreOf (named_part named.now.flags (span named.now.first named.now.last)) index self.old self.new }
+    {
+        if self.is_settled(named.flags) {
+            return;
+        }
+        self.ask_by_flags(index, named);
     }
 
     /// The round asks for an encoded symbol of the object.

@@ -49,4 +49,5 @@ invariant_of-self c =
       until = let until = c.self.invariant.until in omega (arith, until, many);
       whole = c.self.invariant.whole;
       runs = λ block lies. absurd (clash (sym (ap (λ (es : List ℕ). lies_in_run es block) none ∙ no_lies _ block) ∙ lies));
+      complete = λ e. absurd (clash e);
     }

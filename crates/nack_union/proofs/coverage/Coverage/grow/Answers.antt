@@ -1,4 +1,4 @@
-use Rattle.std.proofs.Common.{◌≡◌, ◌≤◌, ℕ, List, length, sym, ap, subst, ◌∙◌, arith}
+use Rattle.std.proofs.Common.{◌≡◌, ◌≤◌, ℕ, List, length, true, false, sym, ap, subst, ◌∙◌, arith}
 use Rattle.norm_order.specs.Shapes.{closed_in}
 use Rattle.nack_union.specs.Repairs.{shape_closed}
 use Rattle.nack_union.specs.Coverage.{Covered}
@@ -6,7 +6,7 @@ use Rattle.nack_union.proofs.Coverages.{covered_grown}
 use Rattle.nack_union.proofs.Wholes.{full_grown}
 use Rattle.nack_union.proofs.coverage.Coverage.grow.Goals as goal
 
-more : (c : goal.After-self-2-1) → c.self.inside.closed ≤ c.args.closed
+more : (c : goal.After-self-3-1) → c.self.inside.closed ≤ c.args.closed
 more c = let is = ap (λ (v : Covered). v.shape.closed) c.self.view_is in let le = c.requires.more in omega (arith, is, le)
 
 pub invariant_of-self : goal.invariant_of-self
@@ -20,7 +20,11 @@ invariant_of-self c =
       until = omega (arith, few);
       whole = λ block lt. c.whole_blocks.ensures.whole block (omega (arith, few, lt));
       runs = λ block lies. (full_grown c.self.inside.plan c.self.inside.closed c.args.closed block (more c) (c.self.invariant.runs block lies)).1;
+      complete = λ e. absurd (clash e);
     }
+  where
+    clash : false ≡ true → ⊥
+    clash h = cc
 
 pub returns : goal.returns
 returns c =

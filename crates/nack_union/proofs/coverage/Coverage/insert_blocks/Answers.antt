@@ -6,7 +6,7 @@ use Rattle.norm_order.specs.Shapes.{is_full}
 use Rattle.nack_union.specs.Repairs.{shape_closed}
 use Rattle.nack_union.specs.More.{is_source_slot}
 use Rattle.nack_union.specs.Coverage.{Covered, is_in_blocks}
-use Rattle.nack_union.proofs.Coverages.{blocks_more, runs_raised}
+use Rattle.nack_union.proofs.Coverages.{blocks_more, runs_raised, sources_stay}
 use Rattle.nack_union.proofs.coverage.Coverage.insert_blocks.Goals as goal
 
 -- the block is one of those that have room
@@ -28,6 +28,10 @@ invariant_of-self c =
       runs = λ block lies.
           runs_raised (shape_closed c.self.inside.plan c.self.inside.closed) c.self.inside.ends.items c.args.first c.args.behind c.max-end.result block within raised
           c.self.invariant.runs (subst (λ (v : Covered). (block : ℕ) → block < c.args.behind → is_full v.shape block ≡ true) (sym c.self.view_is) c.requires.whole) lies;
+      complete = λ e.
+          sources_stay (shape_closed c.self.inside.plan c.self.inside.closed) _ _ (λ slot. is_source_slot (shape_closed c.self.inside.plan c.self.inside.closed) slot && is_in_blocks c.args.first c.args.behind slot)
+          (blocks_more (shape_closed c.self.inside.plan c.self.inside.closed) c.self.inside.ends.items c.self.inside.alone.members _ c.args.first c.args.behind within
+          (ap (λ n. set c.self.inside.ends.items c.args.first n) raised)) (c.self.invariant.complete e);
     }
 
 pub returns-clause-members : goal.returns-clause-members

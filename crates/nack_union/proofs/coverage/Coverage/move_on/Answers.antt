@@ -37,6 +37,7 @@ invariant_of-self c =
           ∙ full_shifted c.self.inside.plan c.self.inside.closed c.args.count block stream
           ∙ c.self.invariant.whole (c.args.count + block) (let down = c.saturating_sub-self-inside-2.ensures in omega (arith, lt, down));
       runs = λ block lies. absurd (clash (sym (ap (λ (es : List ℕ). lies_in_run es block) none ∙ no_lies _ block) ∙ lies));
+      complete = λ e. absurd (clash e);
     }
 
 pub returns-clause-members : goal.returns-clause-members

@@ -33,4 +33,5 @@ invariant_of-result c =
       until = omega (arith, as_many, few);
       whole = λ block lt. c.whole_blocks-whole.ensures.whole block (omega (arith, few, lt));
       runs = λ block lies. absurd (clash (sym (ap (λ (es : List ℕ). lies_in_run es block) none ∙ no_lies c.args.room block) ∙ lies));
+      complete = λ e. absurd (clash e);
     }
