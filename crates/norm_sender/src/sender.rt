@@ -7,6 +7,7 @@ ghost use Rattle.norm_send_rules.specs.SenderState.{SenderState, sender_opening}
 ghost use Rattle.norm_send_rules.specs.Commanding.{commanded};
 ghost use Rattle.norm_send_rules.specs.Hearing.{heard};
 ghost use Rattle.norm_send_rules.specs.Marking.{marked};
+ghost use Rattle.norm_send_rules.specs.Repairable.{repairable};
 ghost use Rattle.norm_send_rules.specs.Restarting.{restarted};
 ghost use Rattle.norm_send_rules.specs.Striking.{strikes};
 ghost use Rattle.norm_send_rules.specs.Telling.{told};
@@ -300,6 +301,13 @@ impl Sender {
         ensures { (s : SenderState) → Stands self.now s → result ≡ s.flushes }
     {
         self.parts.flushes()
+    }
+
+    /// How many infos and encoded symbols its window has: all that may still have to be repaired.
+    pub fn repairable(&self) -> u64
+        ensures { (s : SenderState) → Stands self.now s → result ≡ repairable self.now.p s }
+    {
+        self.parts.window.repairable()
     }
 
     /// The current instance.

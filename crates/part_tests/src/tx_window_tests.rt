@@ -96,6 +96,10 @@ impl Standing {
         (self.window.streams(), self.window.segments())
     }
 
+    fn repairable(&self) -> u64 {
+        self.window.repairable()
+    }
+
     /// Begins an object, of which a piece comes and so many octets are missing as another instance begins. Whether it was begun.
     fn cut_short(&mut self, piece: &[u8], missing: u32) -> bool {
         let len = piece.len() as u64 + u64::from(missing);
@@ -181,6 +185,8 @@ enum Step {
     EndCut(Option<At>),
     /// How many streams there are, and how many segments of the last one are closed.
     Streams(u32, u32),
+    /// How many infos and encoded symbols there are.
+    Repairable(u64),
     /// An object of which so many octets come, and so many are missing as another instance begins. Whether it was begun.
     CutShort(usize, u32, bool),
     End(Option<At>),
@@ -327,6 +333,7 @@ fn does(alloc: Global, window: &mut Standing, step: Step) -> Result<bool, Memory
         Step::Front(index, block) => Ok(window.first() == (index, block)),
         Step::EndCut(at) => Ok(window.end_cut() == at.map(position)),
         Step::Streams(count, segments) => Ok(window.streams() == (count, segments)),
+        Step::Repairable(count) => Ok(window.repairable() == count),
         Step::Opens(_) | Step::Writes(..) | Step::Cut | Step::Closes(_) | Step::CutShort(..) => {
             does_stream(alloc, window, step)
         }
@@ -368,6 +375,21 @@ fn profile_of(rt: &impl Abort, mode: Mode, sizes: (u32, u32, u32), most: (u32, u
     Profile { mode, ..profile }
 }
 
+/// Makes calls in their order, of a window under a profile.
+fn play_under(
+    rt: &impl Abort,
+    alloc: Global,
+    profile: &Profile,
+    steps: &[Step],
+) -> Result<(), Memory> {
+    let mut window = Standing::new(alloc, profile)?;
+    for (place, step) in steps.iter().enumerate() {
+        let is_so = does(alloc, &mut window, *step)?;
+        assert!(rt; is_so, "call {place}");
+    }
+    Ok(())
+}
+
 /// Makes calls in their order, of a window for symbols, blocks and encoded symbols of these sizes, and at most so many objects
 /// and octets.
 fn play(
@@ -379,12 +401,7 @@ fn play(
     steps: &[Step],
 ) -> Result<(), Memory> {
     let profile = profile_of(rt, mode, sizes, most);
-    let mut window = Standing::new(alloc, &profile)?;
-    for (place, step) in steps.iter().enumerate() {
-        let is_so = does(alloc, &mut window, *step)?;
-        assert!(rt; is_so, "call {place}");
-    }
-    Ok(())
+    play_under(rt, alloc, &profile, steps)
 }
 
 /// Makes calls in their order, of a window with room for streams of two blocks, of one segment of 64 octets each.
@@ -394,12 +411,7 @@ fn play_stream(rt: &impl Abort, alloc: Global, mode: Mode, steps: &[Step]) -> Re
         blocks: 2,
         ..profile
     };
-    let mut window = Standing::new(alloc, &profile)?;
-    for (place, step) in steps.iter().enumerate() {
-        let is_so = does(alloc, &mut window, *step)?;
-        assert!(rt; is_so, "call {place}");
-    }
-    Ok(())
+    play_under(rt, alloc, &profile, steps)
 }
 
 /// A window without objects.
@@ -716,6 +728,47 @@ const CUTS: [Step; 14] = [
 fn what_fills_is_cut_once(rt: HostRuntime) -> Result<(), Fail> {
     let steps = CUTS;
     play_stream(&rt, rt.alloc(), Mode::Drop, &steps)?;
+    Ok(())
+}
+
+/// Of five symbols in blocks of 2, 2 and 1 the encoded ones are 3, 3 and 1; of two with an info 3 and 1; and of a stream's blocks 3
+/// where two segments are closed, else the closed ones. A front that went takes the objects before the stream with it.
+const LEFT: [Step; 24] = [
+    Step::Repairable(0),
+    Step::Enqueue(0, 257, Ok(0)),
+    Step::Repairable(7),
+    Step::Enqueue(3, 65, Ok(1)),
+    Step::Repairable(11),
+    Step::Opens(Ok(2)),
+    Step::Repairable(11),
+    Step::Writes(128, Ok((2, 0))),
+    Step::Repairable(14),
+    Step::Writes(65, Ok((2, 128))),
+    Step::Repairable(15),
+    Step::Cut,
+    Step::Repairable(17),
+    Step::SendAll(0),
+    Step::SendAll(1),
+    Step::SendInfo(1, true),
+    Step::SendAll(2),
+    Step::Repairable(17),
+    Step::Writes(64, Ok((2, 193))),
+    Step::Front(2, 1),
+    Step::Repairable(4),
+    Step::Closes(Ok(2)),
+    Step::Repairable(6),
+    Step::Streams(1, 6),
+];
+
+#[test]
+fn what_is_left_to_repair_is_counted(rt: HostRuntime) -> Result<(), Fail> {
+    let steps = LEFT;
+    let profile = profile_of(&rt, Mode::Drop, (64, 2, 3), (3, 578));
+    let profile = Profile {
+        blocks: 2,
+        ..profile
+    };
+    play_under(&rt, rt.alloc(), &profile, &steps)?;
     Ok(())
 }
 
