@@ -1,6 +1,6 @@
 -- What was heard stays in order as it grows.
 use Rattle.std.proofs.Common.{◌≡◌, ℕ, ◌<◌, ◌≤◌, ◌⊎◌, inl, inr, List, [], ◌∷◌, Bool, true, false, not, refl, sym, ap, subst, ◌∙◌, arith}
-use Rattle.std.specs.Prelude.{max, if◌then◌else◌, Result, Ok, Err, IfOk, OnErr}
+use Rattle.std.specs.Prelude.{max, if◌then◌else◌}
 use Rattle.std.specs.Bool.{Decides}
 use Rattle.std.proofs.lemmas.Bool.{cases_lt}
 use Rattle.std.proofs.lemmas.Bool.Decides.{Decides-ltb, Decides-eqb, Decides-and, Decides-or}
@@ -85,7 +85,7 @@ joined_proper x y h = go (position_before x.last y.last) (position_before y.firs
     go true false e f = le_trans x.first x.last y.last h (lt_after x.last y.last e)
     go true true e f = le_trans y.first x.first y.last (lt_after y.first x.first f) (le_trans x.first x.last y.last h (lt_after x.last y.last e))
 
-apart_with : (x : Span) (spans : List Span) → position_before x.last x.first ≡ false → AreApart spans → AreApart (with_span x spans)
+pub apart_with : (x : Span) (spans : List Span) → position_before x.last x.first ≡ false → AreApart spans → AreApart (with_span x spans)
 unfolding with_span
 apart_with x [] h all = (h, tt, tt)
 apart_with x (y ∷ spans) h all =
@@ -181,7 +181,7 @@ behind_before : (a b : Point) (counts : List Count) → point_before a b ≡ tru
 behind_before a b [] h all = tt
 behind_before a b (c ∷ counts) h all = (point_trans a b c.of h all.0, behind_before a b counts h all.1)
 
-rise_with : (c : Count) (counts : List Count) → Rise counts → Rise (with_count c counts)
+pub rise_with : (c : Count) (counts : List Count) → Rise counts → Rise (with_count c counts)
 unfolding with_count
 rise_with c [] all = (tt, tt)
 rise_with c (x ∷ counts) all = go (same_point c.of x.of) (point_before c.of x.of) refl refl (rise_with c counts all.1)
@@ -193,14 +193,3 @@ rise_with c (x ∷ counts) all = go (same_point c.of x.of) (point_before c.of x.
     go true d e f more = (all.0, all.1)
     go false true e f more = ((f, behind_before c.of x.of counts f all.0), all)
     go false false e f more = (behind_with x.of c counts (point_other c.of x.of e f) all.0, more)
-
--- ---- what a call leaves
-
-pub apart_after : {A E : Type 0} (r : Result A E) (x : Span) (old new : List Span) → position_before x.last x.first ≡ false → AreApart old
-    → IfOk r (λ _. new ≡ with_span x old) → OnErr r (new ≡ old) → AreApart new
-apart_after (Ok a) x old new proper h put refused = subst AreApart (sym put) (apart_with x old proper h)
-apart_after (Err e) x old new proper h put refused = subst AreApart (sym refused) h
-
-pub rise_after : {A E : Type 0} (r : Result A E) (c : Count) (old new : List Count) → Rise old → IfOk r (λ _. new ≡ with_count c old) → OnErr r (new ≡ old) → Rise new
-rise_after (Ok a) c old new h put refused = subst Rise (sym put) (rise_with c old h)
-rise_after (Err e) c old new h put refused = subst Rise (sym refused) h

@@ -1,7 +1,7 @@
 -- What is heard of requests, piece by piece.
 use Rattle.std.proofs.Common.{◌≡◌, ℕ, ◌<◌, List, [], ◌∷◌, ◌++◌, map, fold, length, cond, Bool, true, false, Option, Some, None, refl, sym, ap, ◌∙◌, arith}
 use Rattle.std.specs.Prelude.{◌||◌, filter, flat_map, slice_get, drop}
-use Rattle.std.proofs.lemmas.List.{map-id}
+use Rattle.std.proofs.lemmas.List.{map-id, append_assoc}
 use Rattle.std.proofs.lemmas.List.Sums.{fold-append}
 use Rattle.norm_base.specs.Settings.{Settings}
 use Rattle.fec_plan.specs.declared.position.Position.{Position}
@@ -11,8 +11,8 @@ use Rattle.norm_ext.specs.Requests.{Request, RequestItem}
 use Rattle.norm_ext.specs.declared.head.Item.{Item}
 use Rattle.norm_ext.specs.declared.kinds.Form.{Form}
 use Rattle.norm_ext.specs.declared.kinds.Form.TheVariants as form
-use Rattle.norm_receive_rules.specs.Heard.{with_proper}
-use Rattle.norm_receiver.specs.Overhearing.{widened, with_spans, count_at, items_spans, pairs_spans}
+use Rattle.norm_receive_rules.specs.Heard.{Heard, with_proper, with_count, asked_infos, heard_nothing, heard_also}
+use Rattle.norm_receiver.specs.Overhearing.{widened, with_spans, count_at, items_spans, pairs_spans, asked_also, asked_all, noted}
 use Rattle.norm_receiver.specs.declared.overhearing.Width.{Width}
 use Rattle.norm_receiver.specs.declared.overhearing.Width.TheVariants as width
 
@@ -22,8 +22,8 @@ one_more : (w : Width) (old : List Span) (x : Span) (spans : List Span)
 one_more w old x spans = go (is_proper x)
   where
     go : (b : Bool) → with_spans w (with_spans w old (cond b (x ∷ []) [])) (filter is_proper spans) ≡ with_spans w old (cond b (x ∷ filter is_proper spans) (filter is_proper spans))
-    go true = refl
-    go false = refl
+    go true = append_assoc old (widened w x ∷ []) (map (widened w) (filter is_proper spans))
+    go false = append_assoc old [] (map (widened w) (filter is_proper spans))
 
 both_more : (w : Width) (old : List Span) (a b : Option Position) (first last : Position) (spans : List Span) → Some (first, last) ≡ both_of a b
     → with_spans w (with_spans w old (filter is_proper (span first last ∷ []))) (filter is_proper spans) ≡ with_spans w old (filter is_proper (pair_span a b ++ spans))
@@ -94,16 +94,16 @@ of_erasures p known r is flags =
 
 -- all spans that a request asks for, one kind after another
 pub all_widths : (old a b new : List Span) (r : Named)
-    → a ≡ fold with_proper old (where_flag r.flags segment_flag (map (widened width.Symbols) (named_spans r)))
-    → b ≡ fold with_proper a (where_flag r.flags block_flag (map (widened width.Blocks) (named_spans r)))
-    → new ≡ fold with_proper b (where_flag r.flags object_flag (map (widened width.Objects) (named_spans r)))
-    → new ≡ fold with_proper old (asked_spans r)
+    → a ≡ old ++ where_flag r.flags segment_flag (map (widened width.Symbols) (named_spans r))
+    → b ≡ a ++ where_flag r.flags block_flag (map (widened width.Blocks) (named_spans r))
+    → new ≡ b ++ where_flag r.flags object_flag (map (widened width.Objects) (named_spans r))
+    → new ≡ old ++ asked_spans r
 all_widths old a b new r first second third =
     third
-    ∙ ap (λ (t : List Span). fold with_proper t objects) second
-    ∙ ap (λ (t : List Span). fold with_proper (fold with_proper t blocks) objects) (first ∙ ap (λ (t : List Span). fold with_proper old (where_flag r.flags segment_flag t)) (map-id (named_spans r)))
-    ∙ ap (λ (t : List Span). fold with_proper t objects) (sym (fold-append with_proper old symbols blocks))
-    ∙ sym (fold-append with_proper old (symbols ++ blocks) objects)
+    ∙ ap (λ (t : List Span). t ++ objects) second
+    ∙ ap (λ (t : List Span). (t ++ blocks) ++ objects) (first ∙ ap (λ (t : List Span). old ++ where_flag r.flags segment_flag t) (map-id (named_spans r)))
+    ∙ ap (λ (t : List Span). t ++ objects) (append_assoc old symbols blocks)
+    ∙ append_assoc old (symbols ++ blocks) objects
   where
     symbols : List Span
     symbols = where_flag r.flags segment_flag (named_spans r)
@@ -113,6 +113,27 @@ all_widths old a b new r first second third =
 
     objects : List Span
     objects = where_flag r.flags object_flag (map object_span (named_spans r))
+
+-- a request that was read is heard as one that is heard by itself
+noted_more : (heard asked : Heard) (r : Named) → noted heard (asked_also asked r) ≡ heard_also (noted heard asked) r
+noted_more heard asked r =
+    ap (λ (spans : List Span). record { symbols = spans; infos = fold with_proper heard.infos (asked.infos ++ asked_infos r); counts = fold with_more heard.counts (asked.counts ++ asked_counts r) })
+    (fold-append with_proper heard.symbols asked.symbols (asked_spans r))
+    ∙ ap (λ (spans : List Span). record { symbols = fold with_proper (fold with_proper heard.symbols asked.symbols) (asked_spans r); infos = spans; counts = fold with_more heard.counts (asked.counts ++ asked_counts r) })
+    (fold-append with_proper heard.infos asked.infos (asked_infos r))
+    ∙ ap (λ (counts : List Count). record { symbols = fold with_proper (fold with_proper heard.symbols asked.symbols) (asked_spans r); infos = fold with_proper (fold with_proper heard.infos asked.infos) (asked_infos r); counts = counts })
+    (fold-append with_more heard.counts asked.counts (asked_counts r))
+  where
+    with_more : List Count → Count → List Count
+    with_more counts c = with_count c counts
+
+noted_on : (heard asked : Heard) (rs : List Named) → noted heard (fold asked_also asked rs) ≡ fold heard_also (noted heard asked) rs
+noted_on heard asked [] = refl
+noted_on heard asked (r ∷ rs) = noted_on heard (asked_also asked r) rs ∙ ap (λ (h : Heard). fold heard_also h rs) (noted_more heard asked r)
+
+-- requests that were read are heard as if each were heard by itself
+pub noted_all : (heard : Heard) (rs : List Named) → noted heard (asked_all rs) ≡ fold heard_also heard rs
+noted_all heard rs = noted_on heard heard_nothing rs
 
 -- the first of some requests, and those behind it
 pub request_front : (rs : List Request) (r : Request) (rest : List Request) → Some r ≡ slice_get rs 0 → rest ≡ drop 1 rs → rs ≡ r ∷ rest

@@ -37,6 +37,7 @@ impl Parts {
             hold,
             heard: self.heard.anew(),
             numbers: self.numbers.entering(instance),
+            asked: self.asked.anew(),
         })
     }
 

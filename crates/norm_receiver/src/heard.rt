@@ -1,16 +1,20 @@
 //! What a receiver heard others ask for while it backs off (RFC 5401 section 3.2.2).
 
-ghost use Rattle.std.specs.Prelude.{◌≡◌, ◌≤◌, ◌-◌, ◌&&◌, [], nat_le, length, IfOk, OnErr, false, max};
+ghost use Rattle.std.specs.Prelude.{◌≡◌, ◌≤◌, ◌<◌, ◌+◌, ◌&&◌, nat_le, length, fold, vec_capacity, IfOk, OnErr, IsTrue, max};
 ghost use Rattle.fec_plan.specs.Points.{position_before, point_before, same_point};
-ghost use Rattle.norm_receive_rules.specs.Heard.{heard_nothing, joined, with_span, with_count};
-ghost use Rattle.norm_receive_rules.specs.HeardNeeds.{is_asked, asks_as_many, covers};
+ghost use Rattle.norm_receive_rules.specs.Heard.{heard_nothing, joined, with_span, with_proper, with_count};
 ghost use Rattle.norm_receiver.specs.Orderly.{AreApart, Rise};
+ghost use Rattle.norm_receiver.specs.Overhearing.{most_heard, noted, IsBounded};
 
-use crate::searching::{asks_as_many, covers, first_count, first_span, is_asked};
+use crate::asked::Asked;
+use crate::searching::{first_count, first_span};
 use fec_plan::{Point, Position};
 use norm_base::Memory;
 use std::alloc::Global;
 use std::marker::Model;
+
+/// So many spans of each kind, and so many counts, are kept of what was heard.
+const MOST_HEARD: usize = 4096;
 
 /// From one position to another, both included.
 #[derive(Clone, Copy, Debug)]
@@ -53,18 +57,16 @@ impl Span {
     }
 }
 
-/// One span more: what lies before it stays before it, what lies behind it behind, and it takes in all that it meets.
-///
-/// # Errors
-///
-/// `Memory` where memory runs out; then nothing changes.
-fn put_span(spans: &mut Vec<Span>, span: Span) -> Result<(), Memory>
-    requires { AreApart spans.old.items }
-    ensures put { IfOk result (λ _. spans.new.items ≡ with_span span spans.old.items) }
-    ensures refused { OnErr result (spans.new.items ≡ spans.old.items) }
+/// One span more, for which there is room: what lies before it stays before it, what lies behind it behind, and it takes in
+/// all that it meets.
+fn put_span(spans: &mut Vec<Span>, span: Span)
+    requires ordered { AreApart spans.old.items }
+    requires room { length spans.old.items < vec_capacity spans.old }
+    ensures put { spans.new.items ≡ with_span span spans.old.items }
+    ensures few { length spans.new.items ≤ length spans.old.items + 1 }
+    ensures room { vec_capacity spans.old ≤ vec_capacity spans.new }
 {
     let mut place = first_span(spans.as_slice(), span.first);
-    spans.reserve(1)?;
     let mut more = span;
     while place < spans.len() {
         let other = spans[place];
@@ -72,14 +74,44 @@ fn put_span(spans: &mut Vec<Span>, span: Span) -> Result<(), Memory>
             place += 1;
         } else if more.ends_before(&other) {
             spans.insert(place, more).unwrap();
-            return Ok(());
+            return;
         } else {
             more = more.joined(&other);
             spans.remove(place);
         }
     }
     spans.push(more).unwrap();
-    Ok(())
+}
+
+/// One span more, for which there is room, where it does not end before it begins.
+fn put_proper(spans: &mut Vec<Span>, span: Span)
+    requires ordered { AreApart spans.old.items }
+    requires room { length spans.old.items < vec_capacity spans.old }
+    ensures put { spans.new.items ≡ with_proper spans.old.items span }
+    ensures ordered { AreApart spans.new.items }
+    ensures few { length spans.new.items ≤ length spans.old.items + 1 }
+    ensures room { vec_capacity spans.old ≤ vec_capacity spans.new }
+{
+    if span.last.is_before(&span.first) {
+        return;
+    }
+    put_span(spans, span);
+}
+
+/// These spans more, for which there is room.
+fn note_spans(spans: &mut Vec<Span>, more: &[Span])
+    requires ordered { AreApart spans.old.items }
+    requires room { length spans.old.items + length more.now ≤ vec_capacity spans.old }
+    ensures noted { spans.new.items ≡ fold with_proper spans.old.items more.now }
+    ensures ordered { AreApart spans.new.items }
+    ensures few { length spans.new.items ≤ length spans.old.items + length more.now }
+{
+    let mut rest = more;
+    // Proof: the label names the loop for its invariant.
+    'noting: while let Some((span, behind)) = rest.split_first() {
+        put_proper(spans, *span);
+        rest = behind;
+    }
 }
 
 /// So many symbols of a block.
@@ -132,206 +164,73 @@ impl Count {
     }
 }
 
-/// One count more: of each block the greatest is kept.
-///
-/// # Errors
-///
-/// `Memory` where memory runs out; then nothing changes.
-fn put_count(counts: &mut Vec<Count>, count: Count) -> Result<(), Memory>
-    requires { Rise counts.old.items }
-    ensures put { IfOk result (λ _. counts.new.items ≡ with_count count counts.old.items) }
-    ensures refused { OnErr result (counts.new.items ≡ counts.old.items) }
+/// One count more, for which there is room: of each block the greatest is kept.
+fn put_count(counts: &mut Vec<Count>, count: Count)
+    requires ordered { Rise counts.old.items }
+    requires room { length counts.old.items < vec_capacity counts.old }
+    ensures put { counts.new.items ≡ with_count count counts.old.items }
+    ensures ordered { Rise counts.new.items }
+    ensures few { length counts.new.items ≤ length counts.old.items + 1 }
+    ensures room { vec_capacity counts.old ≤ vec_capacity counts.new }
 {
     let mut place = first_count(counts.as_slice(), count.of);
-    counts.reserve(1)?;
     while place < counts.len() {
         let other = counts[place];
         if count.is_of(&other) {
             counts[place] = other.greater(&count);
-            return Ok(());
+            return;
         }
         if count.is_before(&other) {
             counts.insert(place, count).unwrap();
-            return Ok(());
+            return;
         }
         place += 1;
     }
     counts.push(count).unwrap();
-    Ok(())
 }
 
-/// Spans of which no two share a position, in order, so that they can be searched.
-#[derive(Debug, Drop)]
-pub(crate) struct Spans {
-    list: Vec<Span>,
-}
-
-impl Model for Spans {
-    ghost use Rattle.std.specs.Prelude.{List};
-    ghost use Rattle.norm_ext.specs.Asking.{Span as Stretch};
-    ghost use Rattle.norm_receiver.specs.Orderly.{AreApart};
-
-    ghost Value = { List Stretch };
-
-    ghost view = { λ x. x.list.items };
-
-    ghost invariant = { λ x. AreApart x.list.items };
-}
-
-impl Spans {
-    /// None. It takes no memory.
-    fn new(alloc: Global) -> Spans
-        ensures { result ≡ [] }
-    {
-        Spans {
-            list: Vec::new(alloc),
-        }
-    }
-
-    /// The same once more, beside them.
-    ///
-    /// # Errors
-    ///
-    /// `Memory` where memory runs out.
-    fn copy(&self, alloc: Global) -> Result<Spans, Memory>
-        ensures { IfOk result (λ copy. copy ≡ self.now) }
-    {
-        let list = self.list.as_slice().to_vec(alloc)?;
-        Ok(Spans { list })
-    }
-
-    /// All are forgotten.
-    fn clear(&mut self)
-        ensures { self.new ≡ [] }
-    {
-        self.list.clear();
-    }
-
-    /// How many they are.
-    pub fn len(&self) -> usize
-        ensures { result ≡ length self.now }
-    {
-        self.list.len()
-    }
-
-    /// One span more, which does not end before it begins.
-    ///
-    /// # Errors
-    ///
-    /// `Memory` where memory runs out; then nothing changes.
-    pub fn put(&mut self, span: Span) -> Result<(), Memory>
-        requires { position_before span.last span.first ≡ false }
-        ensures { IfOk result (λ _. self.new ≡ with_span span self.old) }
-    {
-        put_span(&mut self.list, span)
-    }
-
-    /// Whether a position lies in one of them.
-    pub fn has(&self, at: Position) -> bool
-        ensures { result ≡ is_asked self.now at }
-    {
-        is_asked(self.list.as_slice(), at)
-    }
-
-    /// Whether all source symbols of an object from one to another lie in them, where its blocks have so many.
-    pub fn cover(&self, width: u16, first: Position, last: Position) -> bool
-        requires few { width ≤ 256 }
-        requires object { first.index ≡ last.index }
-        requires symbol { last.symbol ≡ width - 1 }
-        ensures { result ≡ covers width first last self.now }
-    {
-        covers(self.list.as_slice(), width, first, last)
+/// These counts more, for which there is room.
+fn note_counts(counts: &mut Vec<Count>, more: &[Count])
+    requires ordered { Rise counts.old.items }
+    requires room { length counts.old.items + length more.now ≤ vec_capacity counts.old }
+    ensures noted { counts.new.items ≡ fold (λ counts c. with_count c counts) counts.old.items more.now }
+    ensures ordered { Rise counts.new.items }
+    ensures few { length counts.new.items ≤ length counts.old.items + length more.now }
+{
+    let mut rest = more;
+    // Proof: the label names the loop for its invariant.
+    'noting: while let Some((count, behind)) = rest.split_first() {
+        put_count(counts, *count);
+        rest = behind;
     }
 }
 
-/// Counts of blocks, in the order of these, so that they can be searched.
-#[derive(Debug, Drop)]
-pub(crate) struct Counts {
-    list: Vec<Count>,
+/// Whether so many, and so many more, are within the bound on what is kept.
+fn are_kept(kept: usize, more: usize) -> bool
+    ensures { IsTrue result → kept + more ≤ most_heard }
+{
+    kept <= MOST_HEARD && more <= MOST_HEARD - kept
 }
 
-impl Model for Counts {
-    ghost use Rattle.std.specs.Prelude.{List};
-    ghost use Rattle.norm_ext.specs.Asking.{Count as Lacking};
-    ghost use Rattle.norm_receiver.specs.Orderly.{Rise};
-
-    ghost Value = { List Lacking };
-
-    ghost view = { λ x. x.list.items };
-
-    ghost invariant = { λ x. Rise x.list.items };
-}
-
-impl Counts {
-    /// None. It takes no memory.
-    fn new(alloc: Global) -> Counts
-        ensures { result ≡ [] }
-    {
-        Counts {
-            list: Vec::new(alloc),
-        }
-    }
-
-    /// The same once more, beside them.
-    ///
-    /// # Errors
-    ///
-    /// `Memory` where memory runs out.
-    fn copy(&self, alloc: Global) -> Result<Counts, Memory>
-        ensures { IfOk result (λ copy. copy ≡ self.now) }
-    {
-        let list = self.list.as_slice().to_vec(alloc)?;
-        Ok(Counts { list })
-    }
-
-    /// All are forgotten.
-    fn clear(&mut self)
-        ensures { self.new ≡ [] }
-    {
-        self.list.clear();
-    }
-
-    /// How many they are.
-    pub fn len(&self) -> usize
-        ensures { result ≡ length self.now }
-    {
-        self.list.len()
-    }
-
-    /// One count more: of each block the greatest is kept.
-    ///
-    /// # Errors
-    ///
-    /// `Memory` where memory runs out; then nothing changes.
-    pub fn put(&mut self, count: Count) -> Result<(), Memory>
-        ensures { IfOk result (λ _. self.new ≡ with_count count self.old) }
-    {
-        put_count(&mut self.list, count)
-    }
-
-    /// Whether one asks for as many symbols of a block.
-    pub fn ask_as_many(&self, at: Point, wanted: u8) -> bool
-        ensures { result ≡ asks_as_many self.now at wanted }
-    {
-        asks_as_many(self.list.as_slice(), at, wanted)
-    }
-}
-
-/// What others asked for: source symbols and infos as spans, and of each block the greatest count, all in order.
+/// What others asked for: source symbols and infos as spans of which no two share a position, and of each block the greatest
+/// count, all in order, so that they can be searched.
 #[derive(Debug, Drop)]
 pub(crate) struct Heard {
     alloc: Global,
-    pub symbols: Spans,
-    pub infos: Spans,
-    pub counts: Counts,
+    pub symbols: Vec<Span>,
+    pub infos: Vec<Span>,
+    pub counts: Vec<Count>,
 }
 
 impl Model for Heard {
     ghost use Rattle.norm_receive_rules.specs.Heard.{Heard as Meaning};
+    ghost use Rattle.norm_receiver.specs.Orderly.{IsOrderly};
 
     ghost Value = { Meaning };
 
-    ghost view = { λ h. record { symbols = h.symbols; infos = h.infos; counts = h.counts } };
+    ghost view = { λ h. record { symbols = h.symbols.items; infos = h.infos.items; counts = h.counts.items } };
+
+    ghost invariant = { λ h. IsOrderly (record { symbols = h.symbols.items; infos = h.infos.items; counts = h.counts.items }) };
 }
 
 impl Heard {
@@ -341,9 +240,9 @@ impl Heard {
     {
         Heard {
             alloc,
-            symbols: Spans::new(alloc),
-            infos: Spans::new(alloc),
-            counts: Counts::new(alloc),
+            symbols: Vec::new(alloc),
+            infos: Vec::new(alloc),
+            counts: Vec::new(alloc),
         }
     }
 
@@ -354,28 +253,43 @@ impl Heard {
         Heard::new(self.alloc)
     }
 
-    /// The same once more, beside it.
-    ///
-    /// # Errors
-    ///
-    /// `Memory` where memory runs out.
-    pub fn copy(&self) -> Result<Heard, Memory>
-        ensures { IfOk result (λ copy. copy ≡ self.now) }
-    {
-        Ok(Heard {
-            alloc: self.alloc,
-            symbols: self.symbols.copy(self.alloc)?,
-            infos: self.infos.copy(self.alloc)?,
-            counts: self.counts.copy(self.alloc)?,
-        })
-    }
-
-    /// All is forgotten.
+    /// All is forgotten. The room stays.
     pub fn clear(&mut self)
         ensures { self.new ≡ heard_nothing }
     {
         self.symbols.clear();
         self.infos.clear();
         self.counts.clear();
+    }
+
+    /// All that requests ask for more is heard, once there is room for it.
+    ///
+    /// # Errors
+    ///
+    /// `Memory` where memory runs out, or more would be kept than the bound; then nothing changes.
+    pub fn note(&mut self, asked: &Asked) -> Result<(), Memory>
+        ensures heard { IfOk result (λ _. self.new ≡ noted self.old asked.now) }
+        ensures bounded { IfOk result (λ _. IsBounded self.new) }
+        ensures refused { OnErr result (self.new ≡ self.old) }
+    {
+        let symbols = asked.symbols.as_slice();
+        let infos = asked.infos.as_slice();
+        let counts = asked.counts.as_slice();
+        if !are_kept(self.symbols.len(), symbols.len()) {
+            return Err(Memory);
+        }
+        if !are_kept(self.infos.len(), infos.len()) {
+            return Err(Memory);
+        }
+        if !are_kept(self.counts.len(), counts.len()) {
+            return Err(Memory);
+        }
+        self.symbols.reserve(symbols.len())?;
+        self.infos.reserve(infos.len())?;
+        self.counts.reserve(counts.len())?;
+        note_spans(&mut self.symbols, symbols);
+        note_spans(&mut self.infos, infos);
+        note_counts(&mut self.counts, counts);
+        Ok(())
     }
 }

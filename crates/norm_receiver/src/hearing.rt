@@ -9,6 +9,7 @@ ghost use Rattle.norm_receiver.specs.Delivering.{adv_heard, nack_heard};
 ghost use Rattle.norm_receiver.specs.ReceiverKept.{Stands};
 ghost use Rattle.norm_receiver.specs.Inside.{kept_of};
 
+use crate::overhearing::hear_requests;
 use crate::parts::Parts;
 use norm_base::Memory;
 use norm_ext::{CmdHead, requests_of as requests_in};
@@ -27,10 +28,13 @@ impl Parts {
             return Ok(());
         }
         let requests = requests_in(requests);
-        self.heard = self
-            .heard
-            .with_requests(&self.profile, self.numbers.known, requests)?;
-        Ok(())
+        hear_requests(
+            &mut self.heard,
+            &mut self.asked,
+            &self.profile,
+            self.numbers.known,
+            requests,
+        )
     }
 
     /// A NACK: it counts where it is of another node, to this sender and of this instance.

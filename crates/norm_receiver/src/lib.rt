@@ -2,6 +2,7 @@
 #![tactic(auto)]
 
 mod acknowledging;
+mod asked;
 mod asking;
 mod delivering;
 mod entering;

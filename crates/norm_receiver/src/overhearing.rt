@@ -1,14 +1,16 @@
-//! What a receiver hears others ask for while it backs off (RFC 5401 section 3.2.2, RFC 5740 section 5.3).
+//! What a receiver hears others ask for while it backs off (RFC 5401 section 3.2.2, RFC 5740 section 5.3): requests are read as
+//! a whole, and then heard.
 
-ghost use Rattle.std.specs.Prelude.{◌≡◌, ◌<◌, ◌||◌, [], ◌∷◌, IfOk, IsTrue, filter, fold, map};
+ghost use Rattle.std.specs.Prelude.{◌≡◌, ◌<◌, ◌||◌, [], ◌∷◌, ◌++◌, IfOk, OnErr, filter, fold, map};
 ghost use Rattle.norm_ext.specs.Asking.{span, is_proper, named, named_spans, asked_spans, asked_counts, where_flag, has_flag, segment_flag, block_flag};
 ghost use Rattle.fec_plan.specs.Points.{point_of};
 ghost use Rattle.norm_ext.specs.RequestView.{request_of};
 ghost use Rattle.norm_ext.specs.Requests.{items_named};
-ghost use Rattle.norm_receive_rules.specs.Heard.{with_proper, with_count, asked_infos, heard_also};
-ghost use Rattle.norm_receiver.specs.Overhearing.{widened, with_spans, with_counts, items_spans, pairs_spans, IsBounded};
+ghost use Rattle.norm_receive_rules.specs.Heard.{asked_infos, heard_also};
+ghost use Rattle.norm_receiver.specs.Overhearing.{widened, with_spans, with_counts, items_spans, pairs_spans, asked_also, asked_all, IsBounded};
 
-use crate::heard::{Count, Counts, Heard, Span, Spans};
+use crate::asked::Asked;
+use crate::heard::{Count, Heard, Span};
 use fec_plan::{Point, Position};
 use norm_base::{Memory, Profile};
 use norm_ext::flags::{WANT_BLOCK, WANT_INFO, WANT_OBJECT, WANT_SEGMENT};
@@ -19,9 +21,6 @@ use norm_ext::{Form, Request, Requests};
 const LAST_BLOCK: u32 = 16_777_215;
 
 const LAST_SYMBOL: u8 = 255;
-
-/// So many spans of each kind, and so many counts, are kept of what was heard.
-const MOST_HEARD: usize = 4096;
 
 /// How much of what a request names counts: the symbols themselves, their blocks, or their objects.
 #[derive(Clone, Copy, Debug)]
@@ -59,31 +58,21 @@ fn widened(width: Width, first: Position, last: Position) -> Span
     }
 }
 
-/// One span more, where its first end is not after its last.
-fn put_proper(spans: &mut Spans, span: Span) -> Result<(), Memory>
-    ensures { IfOk result (λ _. spans.new ≡ with_proper spans.old span) }
-{
-    if span.last.is_before(&span.first) {
-        return Ok(());
-    }
-    spans.put(span)
-}
-
 /// What items name, each by itself.
 fn hear_items(
-    spans: &mut Spans,
+    spans: &mut Vec<Span>,
     profile: &Profile,
     known: u32,
     width: Width,
     items: &[u8],
 ) -> Result<(), Memory>
-    ensures { IfOk result (λ _. spans.new ≡ with_spans width spans.old (items_spans profile.now known (items_named items.now))) }
+    ensures { IfOk result (λ _. spans.new.items ≡ with_spans width spans.old.items (items_spans profile.now known (items_named items.now))) }
 {
     let mut rest = items;
     // Proof: the label names the loop for its invariant.
     'items: while let Some((item, behind)) = split_item(rest) {
         if let Some(at) = position_of(profile, known, item) {
-            put_proper(spans, widened(width, at, at))?;
+            spans.push(widened(width, at, at))?;
         }
         rest = behind;
     }
@@ -91,24 +80,30 @@ fn hear_items(
 }
 
 /// What two positions name as the ends of a range, where it is not empty.
-fn put_pair(spans: &mut Spans, width: Width, first: Position, last: Position) -> Result<(), Memory>
-    ensures { IfOk result (λ _. spans.new ≡ with_spans width spans.old (filter is_proper (span first last ∷ []))) }
+fn put_pair(
+    spans: &mut Vec<Span>,
+    width: Width,
+    first: Position,
+    last: Position,
+) -> Result<(), Memory>
+    ensures { IfOk result (λ _. spans.new.items ≡ with_spans width spans.old.items (filter is_proper (span first last ∷ []))) }
 {
     if last.is_before(&first) {
         return Ok(());
     }
-    put_proper(spans, widened(width, first, last))
+    spans.push(widened(width, first, last))?;
+    Ok(())
 }
 
 /// What pairs of items name, where a range is not empty.
 fn hear_ranges(
-    spans: &mut Spans,
+    spans: &mut Vec<Span>,
     profile: &Profile,
     known: u32,
     width: Width,
     items: &[u8],
 ) -> Result<(), Memory>
-    ensures { IfOk result (λ _. spans.new ≡ with_spans width spans.old (filter is_proper (pairs_spans profile.now known (items_named items.now)))) }
+    ensures { IfOk result (λ _. spans.new.items ≡ with_spans width spans.old.items (filter is_proper (pairs_spans profile.now known (items_named items.now)))) }
 {
     let mut rest = items;
     // Proof: the label names the loop for its invariant.
@@ -123,13 +118,13 @@ fn hear_ranges(
 
 /// What a request names, so wide.
 fn hear_named(
-    spans: &mut Spans,
+    spans: &mut Vec<Span>,
     profile: &Profile,
     known: u32,
     width: Width,
     request: &Request<'_>,
 ) -> Result<(), Memory>
-    ensures { IfOk result (λ _. spans.new ≡ with_spans width spans.old (named_spans (named profile.now known (request_of request.now)))) }
+    ensures { IfOk result (λ _. spans.new.items ≡ with_spans width spans.old.items (named_spans (named profile.now known (request_of request.now)))) }
 {
     match request.form {
         Form::Items => hear_items(spans, profile, known, width, request.items),
@@ -150,18 +145,18 @@ fn count_at(at: Position) -> Count
 
 /// The counts that items say.
 fn hear_counts(
-    counts: &mut Counts,
+    counts: &mut Vec<Count>,
     profile: &Profile,
     known: u32,
     items: &[u8],
 ) -> Result<(), Memory>
-    ensures { IfOk result (λ _. counts.new ≡ with_counts counts.old (items_spans profile.now known (items_named items.now))) }
+    ensures { IfOk result (λ _. counts.new.items ≡ with_counts counts.old.items (items_spans profile.now known (items_named items.now))) }
 {
     let mut rest = items;
     // Proof: the label names the loop for its invariant.
     'items: while let Some((item, behind)) = split_item(rest) {
         if let Some(at) = position_of(profile, known, item) {
-            counts.put(count_at(at))?;
+            counts.push(count_at(at))?;
         }
         rest = behind;
     }
@@ -170,14 +165,14 @@ fn hear_counts(
 
 /// What a request names, so wide, where its flags have this one.
 fn hear_where(
-    spans: &mut Spans,
+    spans: &mut Vec<Span>,
     profile: &Profile,
     known: u32,
     kind: (u8, Width),
     request: &Request<'_>,
 ) -> Result<(), Memory>
     requires { 0 < kind.0 }
-    ensures { IfOk result (λ _. spans.new ≡ fold with_proper spans.old (where_flag request.now.flags kind.0 (map (widened kind.1) (named_spans (named profile.now known (request_of request.now)))))) }
+    ensures { IfOk result (λ _. spans.new.items ≡ spans.old.items ++ (where_flag request.now.flags kind.0 (map (widened kind.1) (named_spans (named profile.now known (request_of request.now)))))) }
 {
     if !has_flag(request.flags, kind.0) {
         return Ok(());
@@ -187,12 +182,12 @@ fn hear_where(
 
 /// The spans of source symbols that a request asks for.
 fn hear_symbols(
-    spans: &mut Spans,
+    spans: &mut Vec<Span>,
     profile: &Profile,
     known: u32,
     request: &Request<'_>,
 ) -> Result<(), Memory>
-    ensures { IfOk result (λ _. spans.new ≡ fold with_proper spans.old (asked_spans (named profile.now known (request_of request.now)))) }
+    ensures { IfOk result (λ _. spans.new.items ≡ spans.old.items ++ (asked_spans (named profile.now known (request_of request.now)))) }
 {
     hear_where(
         spans,
@@ -214,12 +209,12 @@ fn hear_symbols(
 
 /// The infos that a request asks for.
 fn hear_infos(
-    spans: &mut Spans,
+    spans: &mut Vec<Span>,
     profile: &Profile,
     known: u32,
     request: &Request<'_>,
 ) -> Result<(), Memory>
-    ensures { IfOk result (λ _. spans.new ≡ fold with_proper spans.old (asked_infos (named profile.now known (request_of request.now)))) }
+    ensures { IfOk result (λ _. spans.new.items ≡ spans.old.items ++ (asked_infos (named profile.now known (request_of request.now)))) }
 {
     hear_where(spans, profile, known, (WANT_INFO, Width::Objects), request)
 }
@@ -233,12 +228,12 @@ fn wants_symbols(flags: u8) -> bool
 
 /// The counts that a request asks for.
 fn hear_lacking(
-    counts: &mut Counts,
+    counts: &mut Vec<Count>,
     profile: &Profile,
     known: u32,
     request: &Request<'_>,
 ) -> Result<(), Memory>
-    ensures { IfOk result (λ _. counts.new ≡ fold (λ counts c. with_count c counts) counts.old (asked_counts (named profile.now known (request_of request.now)))) }
+    ensures { IfOk result (λ _. counts.new.items ≡ counts.old.items ++ (asked_counts (named profile.now known (request_of request.now)))) }
 {
     match request.form {
         Form::Items | Form::Ranges => Ok(()),
@@ -251,65 +246,71 @@ fn hear_lacking(
     }
 }
 
-impl Heard {
-    /// A request more. Where memory runs out, some of it may have been heard.
-    fn hear_request(
+impl Asked {
+    /// A request more. Where memory runs out, some of it may have been read.
+    fn read_request(
         &mut self,
         profile: &Profile,
         known: u32,
         request: &Request<'_>,
     ) -> Result<(), Memory>
-        ensures { IfOk result (λ _. self.new ≡ heard_also self.old (named profile.now known (request_of request.now))) }
+        ensures { IfOk result (λ _. self.new ≡ asked_also self.old (named profile.now known (request_of request.now))) }
     {
         hear_symbols(&mut self.symbols, profile, known, request)?;
         hear_infos(&mut self.infos, profile, known, request)?;
         hear_lacking(&mut self.counts, profile, known, request)
     }
 
-    /// These requests more. Where memory runs out, some of them may have been heard.
-    fn hear_requests(
+    /// These requests more. Where memory runs out, some of them may have been read.
+    fn read_requests(
         &mut self,
         profile: &Profile,
         known: u32,
         requests: Requests<'_>,
     ) -> Result<(), Memory>
-        ensures { IfOk result (λ _. self.new ≡ fold heard_also self.old (map (named profile.now known) requests.entry)) }
+        ensures { IfOk result (λ _. self.new ≡ fold asked_also self.old (map (named profile.now known) requests.entry)) }
     {
         // Proof: the label names the loop for its invariant.
         'requests: for request in requests {
-            self.hear_request(profile, known, &request)?;
+            self.read_request(profile, known, &request)?;
         }
         Ok(())
     }
 
-    /// Whether it is within the bound on what is kept.
-    fn is_bounded(&self) -> bool
-        ensures { IsTrue result → IsBounded self.now }
-    {
-        self.symbols.len() <= MOST_HEARD
-            && self.infos.len() <= MOST_HEARD
-            && self.counts.len() <= MOST_HEARD
-    }
-
-    /// It and these requests more, beside it.
+    /// All that these requests ask for, in place of what was asked for before.
     ///
     /// # Errors
     ///
-    /// `Memory` where memory runs out, or more would be kept than the bound.
-    pub(crate) fn with_requests(
-        &self,
+    /// `Memory` where memory runs out.
+    pub(crate) fn read(
+        &mut self,
         profile: &Profile,
         known: u32,
         requests: Requests<'_>,
-    ) -> Result<Heard, Memory>
-        ensures heard { IfOk result (λ more. more ≡ fold heard_also self.now (map (named profile.now known) requests.entry)) }
-        ensures bounded { IfOk result IsBounded }
+    ) -> Result<(), Memory>
+        ensures { IfOk result (λ _. self.new ≡ asked_all (map (named profile.now known) requests.entry)) }
     {
-        let mut more = self.copy()?;
-        more.hear_requests(profile, known, requests)?;
-        if !more.is_bounded() {
-            return Err(Memory);
-        }
-        Ok(more)
+        self.clear();
+        self.read_requests(profile, known, requests)
     }
+}
+
+/// These requests more are heard, and the room in which they are read holds them then.
+///
+/// # Errors
+///
+/// `Memory` where memory runs out, or more would be kept than the bound; what was heard is then as it was.
+pub(crate) fn hear_requests(
+    heard: &mut Heard,
+    asked: &mut Asked,
+    profile: &Profile,
+    known: u32,
+    requests: Requests<'_>,
+) -> Result<(), Memory>
+    ensures heard { IfOk result (λ _. heard.new ≡ fold heard_also heard.old (map (named profile.now known) requests.entry)) }
+    ensures bounded { IfOk result (λ _. IsBounded heard.new) }
+    ensures refused { OnErr result (heard.new ≡ heard.old) }
+{
+    asked.read(profile, known, requests)?;
+    heard.note(asked)
 }

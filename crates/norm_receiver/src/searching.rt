@@ -46,7 +46,7 @@ pub(crate) fn first_count(counts: &[Count], at: Point) -> usize
 }
 
 /// Whether a position lies in one of these spans.
-pub(crate) fn is_asked(spans: &[Span], at: Position) -> bool
+fn is_asked(spans: &[Span], at: Position) -> bool
     requires { AreApart spans.now }
     ensures { result ≡ is_asked spans.now at }
 {
@@ -59,7 +59,7 @@ pub(crate) fn is_asked(spans: &[Span], at: Position) -> bool
 }
 
 /// Whether one of these counts asks for as many symbols of a block.
-pub(crate) fn asks_as_many(counts: &[Count], at: Point, wanted: u8) -> bool
+fn asks_as_many(counts: &[Count], at: Point, wanted: u8) -> bool
     requires { Rise counts.now }
     ensures { result ≡ asks_as_many counts.now at wanted }
 {
@@ -90,7 +90,7 @@ fn symbol_behind(width: u16, at: Position) -> Position
 }
 
 /// Whether all source symbols of an object from one to another were asked for, where its blocks have so many.
-pub(crate) fn covers(spans: &[Span], width: u16, first: Position, last: Position) -> bool
+fn covers(spans: &[Span], width: u16, first: Position, last: Position) -> bool
     requires ordered { AreApart spans.now }
     requires few { width ≤ 256 }
     requires object { first.index ≡ last.index }
@@ -125,14 +125,14 @@ impl Heard {
             block: 0,
             symbol: 0,
         };
-        self.infos.has(at)
+        is_asked(self.infos.as_slice(), at)
     }
 
     /// Whether a source symbol was asked for.
     pub fn has_symbol(&self, at: Position) -> bool
         ensures { result ≡ is_asked self.now.symbols at }
     {
-        self.symbols.has(at)
+        is_asked(self.symbols.as_slice(), at)
     }
 
     /// Whether all source symbols from a block of an object to another were asked for, where the blocks have so many.
@@ -152,7 +152,7 @@ impl Heard {
             block: last,
             symbol: width.saturating_sub(1) as u8,
         };
-        self.symbols.cover(width, begin, end)
+        covers(self.symbols.as_slice(), width, begin, end)
     }
 
     /// Whether all of an object of which nothing is known was asked for, and its info. Its blocks may be of any width.
@@ -167,7 +167,7 @@ impl Heard {
         requires { IsBlock at.block }
         ensures { result ≡ (asks_as_many self.now.counts at wanted || blocks_heard self.now width at.index at.block at.block) }
     {
-        self.counts.ask_as_many(at, wanted)
+        asks_as_many(self.counts.as_slice(), at, wanted)
             || self.has_blocks(u16::from(width), at.index, at.block, at.block)
     }
 

@@ -7,6 +7,7 @@ ghost use Rattle.norm_receive_rules.specs.Taking.{took};
 ghost use Rattle.norm_receiver.specs.ReceiverKept.{Stands};
 ghost use Rattle.norm_receiver.specs.Inside.{kept_of};
 
+use crate::asked::Asked;
 use crate::heard::Heard;
 use crate::numbers::Numbers;
 use crate::parts::Parts;
@@ -27,6 +28,7 @@ impl Parts {
             hold,
             heard: Heard::new(alloc),
             numbers: Numbers::new(node),
+            asked: Asked::new(alloc),
         })
     }
 

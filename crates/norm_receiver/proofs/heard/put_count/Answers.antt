@@ -1,8 +1,10 @@
-use Rattle.std.proofs.Common.{◌≡◌, ◌<◌, ◌≤◌, List, true, sym, ap, subst, ◌∙◌, arith, rules, length, set}
+use Rattle.std.proofs.Common.{◌≡◌, ◌<◌, ◌≤◌, List, true, refl, sym, ap, subst, ◌∙◌, arith, rules, length, set}
 use Rattle.std.specs.List.{AllWithin}
 use Rattle.fec_plan.specs.Points.{point_before}
 use Rattle.norm_ext.specs.Asking.{Count}
 use Rattle.norm_receive_rules.specs.Heard.{with_count}
+use Rattle.norm_receiver.specs.Orderly.{Rise}
+use Rattle.norm_receiver.proofs.OrderLemmas.{rise_with}
 use Rattle.norm_receiver.proofs.SpanLemmas.{edited}
 use Rattle.norm_receiver.proofs.CountLemmas.{count_past, count_on, count_here, count_same, count_last}
 use Rattle.norm_receiver.proofs.heard.put_count.Goals as goal
@@ -24,12 +26,19 @@ returns-then-is_before-clause-put c =
     ∙ c.loop-place.invariant.whole
     ∙ ap (with_count c.args.count) c.loop-place.invariant.same
 
+pub returns-then-is_of-clause-ordered : goal.returns-then-is_of-clause-ordered
+returns-then-is_of-clause-ordered c = subst Rise (sym (returns-then-is_of-clause-put c)) (rise_with c.args.count c.args.counts.now.items c.requires.ordered)
+
+pub returns-then-is_before-clause-ordered : goal.returns-then-is_before-clause-ordered
+returns-then-is_before-clause-ordered c = subst Rise (sym (returns-then-is_before-clause-put c)) (rise_with c.args.count c.args.counts.now.items c.requires.ordered)
+
 pub loop-place-preserved : goal.loop-place-preserved
 loop-place-preserved c =
     let lt : c.loop-place.place < length c.loop-place.counts.items = omega (arith, c.loop-place-test.true, c.len.ensures, c.loop-place.counts.ok) in
     record {
       within = omega arith;
       room = c.loop-place.invariant.room;
+      kept = c.loop-place.invariant.kept;
       same = c.loop-place.invariant.same;
       whole =
           sym (count_on c.args.count c.loop-place.counts.items c.loop-place.place c.index.result.now lt c.index.ensures
@@ -45,17 +54,20 @@ returns-clause-put c =
     ∙ c.loop-place.invariant.whole
     ∙ ap (with_count c.args.count) c.loop-place.invariant.same
 
+pub returns-clause-ordered : goal.returns-clause-ordered
+returns-clause-ordered c = subst Rise (sym (returns-clause-put c)) (rise_with c.args.count c.args.counts.now.items c.requires.ordered)
+
 pub loop-place-init : goal.loop-place-init
 loop-place-init c =
     let all : c.as_slice.result.now ≡ c.args.counts.now.items = c.as_slice.ensures.value in
-    let kept : c.reserve.new.self.items ≡ c.args.counts.now.items = c.reserve.ensures.items in
     let place : c.first_count-place.result ≤ length c.as_slice.result.now = c.first_count-place.ensures.bound in
     record {
-      within = omega (arith, ap length all, ap length kept, place);
-      room = search rules;
-      same = kept;
+      within = omega (arith, ap length all, place);
+      room = c.requires.room;
+      kept = omega arith;
+      same = refl;
       whole =
-          count_past c.args.count c.reserve.new.self.items c.first_count-place.result
-          (subst (λ (xs : List Count). AllWithin (λ (y : Count). point_before y.of c.args.count.of ≡ true) xs 0 c.first_count-place.result) (all ∙ sym kept)
+          count_past c.args.count c.args.counts.now.items c.first_count-place.result
+          (subst (λ (xs : List Count). AllWithin (λ (y : Count). point_before y.of c.args.count.of ≡ true) xs 0 c.first_count-place.result) all
           (subst (λ (x : Count). AllWithin (λ (y : Count). point_before y.of x.of ≡ true) c.as_slice.result.now 0 c.first_count-place.result) c.count.view_is c.first_count-place.ensures.before));
     }

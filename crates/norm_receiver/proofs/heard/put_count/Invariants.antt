@@ -8,6 +8,7 @@ abbrev pub invariant-loop-place : goal.invariant-loop-place
 invariant-loop-place l = record {
   within : l.place ≤ length l.counts.items;
   room : length l.counts.items < vec_capacity l.counts;
+  kept : vec_capacity l.fn.counts ≤ vec_capacity l.counts;
   same : l.counts.items ≡ l.fn.counts.items;
   whole : take l.place l.counts.items ++ with_count l.count (drop l.place l.counts.items) ≡ with_count l.count l.counts.items;
 }

@@ -12,6 +12,8 @@ loop-place-preserved-then-ends_before c =
     record {
       within = omega arith;
       room = c.loop-place.invariant.room;
+      few = c.loop-place.invariant.few;
+      kept = c.loop-place.invariant.kept;
       whole =
           sym (span_on c.loop-place.more c.loop-place.spans.items c.loop-place.place c.index.result.now lt c.index.ensures (sym c.ends_before.ensures ∙ c.if-ends_before.true))
           ∙ c.loop-place.invariant.whole;
@@ -31,6 +33,8 @@ loop-place-preserved c =
     record {
       within = omega (arith, c.remove.ensures.len, c.remove.new.self.ok, c.loop-place.spans.ok);
       room = omega (arith, c.remove.ensures.len, c.remove.ensures.capacity, c.remove.new.self.ok, c.loop-place.spans.ok, c.loop-place.invariant.room);
+      few = omega (arith, c.remove.ensures.len, c.remove.new.self.ok, c.loop-place.spans.ok, c.loop-place.invariant.few);
+      kept = omega (arith, c.remove.ensures.capacity, c.loop-place.invariant.kept);
       whole =
           sym (span_taken_in c.joined-more.result c.loop-place.spans.items c.remove.new.self.items c.loop-place.place lt c.remove.ensures.items)
           ∙ ap (λ (z : Span). take c.loop-place.place c.loop-place.spans.items ++ with_span z (drop (c.loop-place.place + 1) c.loop-place.spans.items)) c.joined-more.ensures
@@ -49,14 +53,14 @@ returns-clause-put c =
 pub loop-place-init : goal.loop-place-init
 loop-place-init c =
     let all : c.as_slice.result.now ≡ c.args.spans.now.items = c.as_slice.ensures.value in
-    let kept : c.reserve.new.self.items ≡ c.args.spans.now.items = c.reserve.ensures.items in
     let place : c.first_span-place.result ≤ length c.as_slice.result.now = c.first_span-place.ensures.bound in
     record {
-      within = omega (arith, ap length all, ap length kept, place);
-      room = search rules;
+      within = omega (arith, ap length all, place);
+      room = c.requires.room;
+      few = omega arith;
+      kept = omega arith;
       whole =
-          ap (λ (xs : List Span). take c.first_span-place.result xs ++ with_span c.args.span (drop c.first_span-place.result xs)) kept
-          ∙ span_past c.args.span c.args.spans.now.items c.first_span-place.result
+          span_past c.args.span c.args.spans.now.items c.first_span-place.result
           (subst (λ (xs : List Span). AllWithin (λ (y : Span). position_before y.last c.args.span.first ≡ true) xs 0 c.first_span-place.result) all
           (subst (λ (x : Span). AllWithin (λ (y : Span). position_before y.last x.first ≡ true) c.as_slice.result.now 0 c.first_span-place.result) c.span.view_is c.first_span-place.ensures.before));
     }

@@ -8,6 +8,8 @@ abbrev pub invariant-loop-place : goal.invariant-loop-place
 invariant-loop-place l = record {
   within : l.place ≤ length l.spans.items;
   room : length l.spans.items < vec_capacity l.spans;
+  few : length l.spans.items ≤ length l.fn.spans.items;
+  kept : vec_capacity l.fn.spans ≤ vec_capacity l.spans;
   whole : take l.place l.spans.items ++ with_span l.more (drop l.place l.spans.items) ≡ with_span l.fn.span l.fn.spans.items;
 }
 

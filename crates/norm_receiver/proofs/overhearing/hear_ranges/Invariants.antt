@@ -8,8 +8,8 @@ use Rattle.norm_receiver.proofs.overhearing.hear_ranges.Given as goal
 
 abbrev pub invariant-pairs : goal.invariant-pairs
 invariant-pairs l =
-    with_spans l.width l.spans (filter is_proper (pairs_spans l.profile l.known (items_named l.rest)))
-    ≡ with_spans l.width l.initial.spans (filter is_proper (pairs_spans l.profile l.known (items_named l.initial.rest)))
+    with_spans l.width l.spans.items (filter is_proper (pairs_spans l.profile l.known (items_named l.rest)))
+    ≡ with_spans l.width l.initial.spans.items (filter is_proper (pairs_spans l.profile l.known (items_named l.initial.rest)))
 
 abbrev pub decreases-pairs : goal.decreases-pairs
 decreases-pairs l = length (items_named l.rest)
