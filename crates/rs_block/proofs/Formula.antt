@@ -26,7 +26,7 @@ use Rattle.gf_field.proofs.Places.{elements_of_octets}
 use Rattle.gf_field.proofs.Polynomials.{difference-pos}
 use Rattle.gf_field.proofs.Interpolations.{Among, all_among, differences-lt, differences-others, others-same, others-other}
 
-drop_next : (xs : List ℕ) (i : ℕ) → i < length xs → drop i xs ≡ get_or xs i 0 ∷ drop (i + 1) xs
+pub drop_next : (xs : List ℕ) (i : ℕ) → i < length xs → drop i xs ≡ get_or xs i 0 ∷ drop (i + 1) xs
 drop_next xs i h = drop-cons xs i 0 h ∙ ap (λ n. get_or xs i 0 ∷ drop n xs) (let e : suc i ≡ i + 1 = omega arith in e)
 
 -- ---- the logarithm of the product of all differences

@@ -5,3 +5,4 @@ pub mod Rows
 pub mod Blocks
 pub mod Functions
 pub mod InPlace
+pub mod WeightLemmas

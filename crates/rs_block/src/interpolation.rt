@@ -14,7 +14,7 @@ ghost use Rattle.rs_block.specs.Row.{coefficients, combined};
 use gf_field::{add_scaled, alpha_log, alpha_pow};
 
 /// The order of alpha: exponents count up to it.
-const ORDER: u32 = 255;
+pub const ORDER: u32 = 255;
 
 /// The place of the symbol with this id.
 pub fn place_of(id: u8) -> u8
@@ -64,7 +64,7 @@ fn others_log(places: &[u8], place: u8) -> u32
 
 /// The logarithm of the weight of a place: what its coefficient has for its denominator, inverted.
 #[tactic(auto, using(crate::proofs::Formula::weight_is))]
-fn weight_log(places: &[u8], place: u8) -> u8
+pub fn weight_log(places: &[u8], place: u8) -> u8
     requires { length places.now ≤ 255 }
     ensures { power result ≡ weight_at places.now place }
 {

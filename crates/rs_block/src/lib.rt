@@ -10,6 +10,7 @@ mod in_place;
 mod interpolation;
 pub mod laws;
 mod solve;
+mod weights;
 
 pub use encode::Code;
 pub use solve::Solver;

@@ -12,6 +12,7 @@ use crate::in_place::{put_lacking, set_aside};
 use crate::interpolation::{
     add_combined, place_of, position_of, put_coefficients, symbol_at, weigh,
 };
+use crate::weights::weigh_by_ids;
 use norm_base::Memory;
 use std::alloc::{AllocError, Global};
 use std::marker::Model;
@@ -97,7 +98,7 @@ impl Solver {
     {
         set_aside(ids, row, self.size, scratch);
         place(ids, &mut self.places);
-        weigh(&self.places, &mut self.weights);
+        weigh_by_ids(ids, &self.places, &mut self.weights);
         put_lacking(
             ids,
             &self.places,
