@@ -17,7 +17,7 @@ pub enum Ask {
 }
 
 /// What a command is answered.
-#[derive(Clone, Copy, PartialEq, Eq)]
+#[derive(Clone, Copy, Debug, PartialEq, Eq)]
 pub enum Answer {
     /// The object has this index and so many octets.
     Taken(u32, u64),
@@ -33,12 +33,16 @@ pub enum Answer {
     /// The stream has no room; its first kept block.
     Crowded(u32),
     NoStream,
+    /// The stream with this index is open.
+    StreamOpen(u32),
     /// The window has no room; its first object.
     Full(u32),
     NothingEnqueued,
     /// This id was an instance before.
     Used(u16),
-    /// What no row wants.
+    /// It was refused for a cause that has no word here.
+    Refused(SendFault),
+    /// It was obeyed, with a receipt that no row wants.
     Other,
 }
 
@@ -85,8 +89,9 @@ fn turned_away_by(fault: EnqueueFault) -> Answer {
     match fault {
         EnqueueFault::Stream(StreamFault::Full { first }) => Answer::Crowded(first),
         EnqueueFault::NoStream => Answer::NoStream,
+        EnqueueFault::StreamOpen { index } => Answer::StreamOpen(index),
         EnqueueFault::WindowFull { first } => Answer::Full(first),
-        _ => Answer::Other,
+        fault => Answer::Refused(SendFault::Enqueue(fault)),
     }
 }
 
@@ -94,7 +99,7 @@ fn turned_away_by(fault: EnqueueFault) -> Answer {
 fn unmarked_by(fault: MarkFault) -> Answer {
     match fault {
         MarkFault::NothingEnqueued => Answer::NothingEnqueued,
-        _ => Answer::Other,
+        fault => Answer::Refused(SendFault::Mark(fault)),
     }
 }
 
@@ -104,7 +109,7 @@ fn refused_by(fault: SendFault) -> Answer {
         SendFault::Enqueue(fault) => turned_away_by(fault),
         SendFault::Mark(fault) => unmarked_by(fault),
         SendFault::IdUsed { instance } => Answer::Used(instance.0),
-        _ => Answer::Other,
+        fault => Answer::Refused(fault),
     }
 }
 

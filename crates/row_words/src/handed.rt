@@ -4,7 +4,7 @@ use norm_base::Octets;
 use norm_order::Up;
 
 /// What is handed up, with its index; of octets how many there are and the first of them, and of a segment where it begins.
-#[derive(Clone, Copy, PartialEq, Eq)]
+#[derive(Clone, Copy, Debug, PartialEq, Eq)]
 pub enum Handed {
     Object(u32, usize, u8),
     Open(u32),

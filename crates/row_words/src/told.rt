@@ -3,7 +3,7 @@
 use norm_send_rules::{News, Outcome};
 
 /// What is told.
-#[derive(Clone, Copy, PartialEq, Eq)]
+#[derive(Clone, Copy, Debug, PartialEq, Eq)]
 pub enum Told {
     /// A member is listed past this index, block and symbol.
     Past(u32, (u32, u32, u8)),
