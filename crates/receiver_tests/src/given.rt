@@ -2,7 +2,10 @@
 
 use norm_base::{Datagram, Key, Memory, Moment, NodeId, Octets, Sent};
 use norm_receiver::Receiver;
-use row_words::{Handed, Spelled, datagram_of, handed_of, octets_of, profile_of};
+use row_words::{
+    Difference, Handed, Spelled, datagram_of, handed_differ, handed_of, octets_differ, octets_of,
+    profile_of, unless,
+};
 use std::alloc::Global;
 use std::process::Abort;
 use std::test::Fail;
@@ -49,14 +52,14 @@ impl Given {
         handed_of(self.receiver.take_up())
     }
 
-    /// Whether these octets are sent at this moment, or nothing where there are none; all has to be taken before.
-    fn sends(&mut self, now: u64, wanted: &[u8]) -> bool {
+    /// How what is sent at this moment differs from these octets, of which there are none where nothing is; all has to be taken before.
+    fn sends(&mut self, alloc: Global, now: u64, wanted: &[u8]) -> Result<Difference, Memory> {
         if self.receiver.ups() > 0 {
-            return false;
+            return unless(alloc, false, "not all was taken");
         }
         match self.receiver.tick(Moment(now), &mut self.out) {
-            Sent::Datagram => self.out.bytes() == wanted,
-            _ => wanted.is_empty(),
+            Sent::Datagram => octets_differ(alloc, self.out.bytes(), wanted),
+            _ => octets_differ(alloc, &[], wanted),
         }
     }
 
@@ -88,22 +91,45 @@ impl Given {
         Ok(below <= octets.bytes().len())
     }
 
-    /// Whether this is what is sent.
-    fn is_sent(&mut self, alloc: Global, now: u64, text: &'static str) -> Result<bool, Fail> {
+    /// How what is sent differs from what a text spells.
+    fn is_sent(
+        &mut self,
+        alloc: Global,
+        now: u64,
+        text: &'static str,
+    ) -> Result<Difference, Memory> {
         let octets = octets_of(alloc, text, (0, 0))?;
-        Ok(octets.bytes().is_empty() == text.is_empty() && self.sends(now, octets.bytes()))
+        if octets.bytes().is_empty() && !text.is_empty() {
+            return unless(alloc, false, "no octets are spelled");
+        }
+        self.sends(alloc, now, octets.bytes())
     }
 
-    /// Makes a call, and says whether it was answered so.
-    fn does(&mut self, alloc: Global, call: Call) -> Result<bool, Fail> {
+    /// Makes a call, and says how what it came to differs from what was wanted.
+    fn does(&mut self, alloc: Global, call: Call) -> Result<Difference, Fail> {
         match call {
-            Call::Deliver(now, spelled) => self.takes(alloc, now, spelled, 1),
-            Call::Thrice(now, spelled) => self.takes(alloc, now, spelled, 3),
-            Call::Fronts(now, text, below) => self.takes_fronts(alloc, now, text, below),
-            Call::Up(wanted) => Ok(self.up() == wanted),
-            Call::Tick(now, text) => self.is_sent(alloc, now, text),
-            Call::Instance(wanted) => Ok(self.receiver.instance().map(|id| id.0) == wanted),
-            Call::HasLost(wanted) => Ok(self.receiver.has_lost() == wanted),
+            Call::Deliver(now, spelled) => {
+                let is_so = self.takes(alloc, now, spelled, 1)?;
+                Ok(unless(alloc, is_so, "no octets are spelled")?)
+            }
+            Call::Thrice(now, spelled) => {
+                let is_so = self.takes(alloc, now, spelled, 3)?;
+                Ok(unless(alloc, is_so, "no octets are spelled")?)
+            }
+            Call::Fronts(now, text, below) => {
+                let is_so = self.takes_fronts(alloc, now, text, below)?;
+                Ok(unless(alloc, is_so, "it has fewer octets")?)
+            }
+            Call::Up(wanted) => Ok(handed_differ(alloc, self.up(), wanted)?),
+            Call::Tick(now, text) => Ok(self.is_sent(alloc, now, text)?),
+            Call::Instance(wanted) => {
+                let is_so = self.receiver.instance().map(|id| id.0) == wanted;
+                Ok(unless(alloc, is_so, "another instance, or none")?)
+            }
+            Call::HasLost(wanted) => {
+                let is_so = self.receiver.has_lost() == wanted;
+                Ok(unless(alloc, is_so, "something was lost, or nothing")?)
+            }
         }
     }
 }
@@ -123,8 +149,9 @@ pub(crate) fn plays(
     let out = Datagram::new(alloc)?;
     let mut given = Given { receiver, out };
     for (place, call) in calls.iter().enumerate() {
-        let is_so = given.does(alloc, *call)?;
-        assert!(rt; is_so, "call {place}");
+        if let Some(difference) = given.does(alloc, *call)? {
+            panic!(rt; "call {place}: {difference}");
+        }
     }
     Ok(())
 }

@@ -168,6 +168,43 @@ fn what_another_node_asks_for_is_not_asked_again(rt: HostRuntime) -> Result<(), 
     plays(&rt, rt.alloc(), &keys, 3, &calls)
 }
 
+/// Node 3 lost another symbol than node 2, whose request comes behind its own: the same repair makes the object whole, and the next flush is
+/// acknowledged.
+#[test]
+fn a_repair_for_both_is_acknowledged(rt: HostRuntime) -> Result<(), Fail> {
+    let calls = [
+        Call::Deliver(1000, FIRST),
+        Call::Deliver(2000, SECOND),
+        Call::Deliver(4000, FOURTH),
+        Call::Tick(4000, ""),
+        Call::Deliver(5000, (FLUSH_OF_TWO, (0, 0))),
+        Call::Tick(
+            5000,
+            "14060000 00000003 00000001 00070000 00000000 00000000 03010008 05000000 00000001",
+        ),
+        Call::Deliver(6000, (ASKS_FOR_ONE, (0, 0))),
+        Call::Tick(6000, ""),
+        Call::Deliver(16_000, PARITY),
+        Call::Up(Handed::Object(0, 256, 1)),
+        Call::Up(Handed::Nothing),
+        Call::Tick(16_000, ""),
+        Call::Deliver(
+            25_000,
+            (
+                "13050006 00000001 00074001 01050000 00000003 00000002 00000003",
+                (0, 0),
+            ),
+        ),
+        Call::Tick(
+            25_000,
+            "15060001 00000003 00000001 00070200 00000000 00000000 05000000 00000003",
+        ),
+        Call::HasLost(false),
+    ];
+    let keys = [(Key::Receivers, 2), (Key::K, 0)];
+    plays(&rt, rt.alloc(), &keys, 3, &calls)
+}
+
 /// Of a block that lacks three, three are asked for, whichever they are; and they may come in any order.
 #[test]
 fn three_lost_symbols_are_asked_for_by_their_number(rt: HostRuntime) -> Result<(), Fail> {
@@ -246,6 +283,70 @@ fn what_the_sender_dropped_is_lost(rt: HostRuntime) -> Result<(), Fail> {
             ),
         ),
         Call::Tick(14_000, ""),
+    ];
+    plays(&rt, rt.alloc(), &[(Key::K, 0)], 2, &calls)
+}
+
+/// An object, a flush and a squelch whose ids lie behind what 16 bits name from index 0 on: they name an index below 0, which is none.
+const OBJECT_OF_NONE: Spelled = (
+    "12080001 00000001 00074001 00058000 00000000 40030000 00000001 00400406",
+    (1, 2),
+);
+
+const FLUSH_OF_NONE: Spelled = (
+    "13050002 00000001 00074001 0105ffff 00000000 00000002",
+    (0, 0),
+);
+
+const SQUELCH_OF_NONE: Spelled = ("13050003 00000001 00074001 03058000 00000000", (0, 0));
+
+/// What names nothing begins no instance.
+#[test]
+fn an_id_that_names_nothing_begins_nothing(rt: HostRuntime) -> Result<(), Fail> {
+    let calls = [
+        Call::Deliver(1000, OBJECT_OF_NONE),
+        Call::Deliver(1000, FLUSH_OF_NONE),
+        Call::Deliver(1000, SQUELCH_OF_NONE),
+        Call::Instance(None),
+        Call::Up(Handed::Nothing),
+        Call::Tick(1000, ""),
+        Call::HasLost(false),
+    ];
+    plays(&rt, rt.alloc(), &[(Key::K, 0)], 2, &calls)
+}
+
+/// Nor does it hand up, acknowledge, lose or ask for anything. The greatest id that names an index makes the node ask for all before it, as
+/// many as fit.
+#[test]
+fn an_id_that_names_nothing_changes_nothing(rt: HostRuntime) -> Result<(), Fail> {
+    let calls = [
+        Call::Deliver(
+            1000,
+            (
+                "12080000 00000001 00074001 00050000 00000000 40030000 00000001 00400406",
+                (1, 1),
+            ),
+        ),
+        Call::Up(Handed::Object(0, 1, 1)),
+        Call::Deliver(2000, OBJECT_OF_NONE),
+        Call::Deliver(2000, FLUSH_OF_NONE),
+        Call::Deliver(2000, SQUELCH_OF_NONE),
+        Call::Instance(Some(7)),
+        Call::Up(Handed::Nothing),
+        Call::Tick(2000, ""),
+        Call::HasLost(false),
+        Call::Deliver(
+            3000,
+            (
+                "12080004 00000001 00074001 00057fff 00000000 40030000 00000001 00400406",
+                (1, 3),
+            ),
+        ),
+        Call::Up(Handed::Nothing),
+        Call::Tick(
+            3000,
+            "14060000 00000002 00000001 00070000 00000000 00000000 010c0038 05000001 00000000 05000002 00000000 05000003 00000000 05000004 00000000 05000005 00000000 05000006 00000000 05000007 00000000",
+        ),
     ];
     plays(&rt, rt.alloc(), &[(Key::K, 0)], 2, &calls)
 }
