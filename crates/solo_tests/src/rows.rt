@@ -338,7 +338,7 @@ fn a_restart_ends_a_stream(rt: HostRuntime) -> Result<(), Fail> {
 
 /// A file that comes in two pieces, one that is given up, and a restart behind it.
 const MID_FILE: [Step; 11] = [
-    Step::InTwo(&[(1, 0x68), (1, 0x69)], 1, Answer::Taken(0, 2)),
+    Step::InTwo(0x61, &[(1, 0x68), (1, 0x69)], 1, Answer::Taken(0, 2)),
     Step::Sends(
         1,
         "11070000 00000001 00074041 14050000 40030000 00000002 00400406 61",
@@ -354,7 +354,7 @@ const MID_FILE: [Step; 11] = [
     Step::Asks(Ask::Restart(8), Answer::Restarted(8)),
     Step::Asks(Ask::Mark, Answer::NothingEnqueued),
     Step::Waits(4),
-    Step::InTwo(&[(1, 0x68), (1, 0x69)], 2, Answer::Taken(0, 2)),
+    Step::InTwo(0x61, &[(1, 0x68), (1, 0x69)], 2, Answer::Taken(0, 2)),
     Step::Sends(
         5,
         "11070002 00000001 00084041 14050000 40030000 00000002 00400406 61",
@@ -526,4 +526,302 @@ const RISING: [Step; 4] = [
 fn instances_rise_past_the_last_id(rt: HostRuntime) -> Result<(), Fail> {
     let steps = RISING;
     plays_from(&rt, rt.alloc(), 65_535, &[], &steps)
+}
+
+/// A symbol of the only block of object 0 is asked for by node 2, and by node 3.
+const NACK_2: &str =
+    "14060000 00000002 00000001 00070000 00000000 00000000 03010008 05000000 00000001";
+
+const NACK_3: &str =
+    "14060000 00000003 00000001 00070000 00000000 00000000 03010008 05000000 00000001";
+
+/// Both lost a symbol, not the same one: one symbol of parity repairs both, and both are listed behind the second flush.
+const REPAIRED: [Step; 22] = [
+    Step::Asks(
+        Ask::Data(&[(64, 1), (64, 2), (64, 4), (64, 8)]),
+        Answer::Taken(0, 256),
+    ),
+    Step::Sends(
+        1,
+        "12080000 00000001 00074001 00050000 00000000 40030000 00000100 00400406",
+        (64, 1),
+    ),
+    Step::Asks(Ask::Mark, Answer::Marked(1, (0, 0, 3))),
+    Step::SendsMany(2, 1, 3),
+    Step::Sends(
+        5,
+        "13050004 00000001 00074001 01050000 00000003 00000002 00000003",
+        (0, 0),
+    ),
+    Step::Waits(6),
+    Step::Hears(6, NACK_2),
+    Step::Hears(6, NACK_3),
+    Step::Waits(7),
+    Step::Waits(15),
+    Step::Sends(
+        16,
+        "12080005 00000001 00074001 01050000 00000004 40030000 00000100 00400406",
+        (64, 0x10),
+    ),
+    Step::Waits(17),
+    Step::Waits(24),
+    Step::Sends(
+        25,
+        "13050006 00000001 00074001 01050000 00000003 00000002 00000003",
+        (0, 0),
+    ),
+    Step::Waits(26),
+    Step::Hears(
+        26,
+        "15060001 00000002 00000001 00070200 00000000 00000000 05000000 00000003",
+    ),
+    Step::Tells(Told::Past(2, (0, 0, 3))),
+    Step::Tells(Told::Nothing),
+    Step::Hears(
+        26,
+        "15060001 00000003 00000001 00070200 00000000 00000000 05000000 00000003",
+    ),
+    Step::Tells(Told::Past(3, (0, 0, 3))),
+    Step::Tells(Told::Done(1, Outcome::Satisfied)),
+    Step::Tells(Told::Nothing),
+];
+
+#[test]
+fn one_repair_serves_two_members(rt: HostRuntime) -> Result<(), Fail> {
+    let steps = REPAIRED;
+    plays(&rt, rt.alloc(), &[(Key::Receivers, 2), (Key::K, 0)], &steps)
+}
+
+/// Two symbols of the only block of object 0 are asked for by node 3.
+const NACK_OF_TWO: &str =
+    "14060000 00000003 00000001 00070000 00000000 00000000 03010008 05000000 00000002";
+
+/// The greater of two counts is answered by both symbols of parity. Then none is left, and a count of one is answered by all sources.
+const NO_PARITY_LEFT: [Step; 16] = [
+    Step::Asks(
+        Ask::Data(&[(64, 1), (64, 2), (64, 4), (64, 8)]),
+        Answer::Taken(0, 256),
+    ),
+    Step::SendsMany(1, 1, 4),
+    Step::Hears(5, NACK_2),
+    Step::Hears(5, NACK_OF_TWO),
+    Step::Waits(14),
+    Step::Sends(
+        15,
+        "12080004 00000001 00074001 01050000 00000004 40030000 00000100 00400406",
+        (64, 0x10),
+    ),
+    Step::Sends(
+        16,
+        "12080005 00000001 00074001 01050000 00000005 40030000 00000100 00400406",
+        (64, 0x20),
+    ),
+    Step::Waits(17),
+    Step::Hears(
+        17,
+        "14060001 00000002 00000001 00070000 00000000 00000000 03010008 05000000 00000001",
+    ),
+    Step::Waits(26),
+    Step::Sends(
+        27,
+        "12080006 00000001 00074001 03050000 00000000 40030000 00000100 00400406",
+        (64, 1),
+    ),
+    Step::Sends(
+        28,
+        "12080007 00000001 00074001 03050000 00000001 40030000 00000100 00400406",
+        (64, 2),
+    ),
+    Step::Sends(
+        29,
+        "12080008 00000001 00074001 03050000 00000002 40030000 00000100 00400406",
+        (64, 4),
+    ),
+    Step::Sends(
+        30,
+        "12080009 00000001 00074001 03050000 00000003 40030000 00000100 00400406",
+        (64, 8),
+    ),
+    Step::Waits(31),
+    Step::Waits(42),
+];
+
+#[test]
+fn sources_are_sent_where_no_parity_is_left(rt: HostRuntime) -> Result<(), Fail> {
+    let steps = NO_PARITY_LEFT;
+    plays(&rt, rt.alloc(), &[(Key::Receivers, 2), (Key::K, 0)], &steps)
+}
+
+/// Commands that come too early or at the wrong time, each with its cause.
+const REFUSED: [Step; 8] = [
+    Step::Asks(Ask::Mark, Answer::NothingEnqueued),
+    Step::Asks(Ask::Write(&[(1, 0x41)]), Answer::NoStream),
+    Step::Asks(Ask::Close, Answer::NoStream),
+    Step::Asks(Ask::Open, Answer::Opened(0)),
+    Step::Asks(Ask::Data(&[(1, 1)]), Answer::StreamOpen(0)),
+    Step::InTwo(0x61, &[(2, 1)], 1, Answer::StreamOpen(0)),
+    Step::Asks(Ask::Open, Answer::StreamOpen(0)),
+    Step::Waits(1),
+];
+
+#[test]
+fn a_refused_command_has_its_cause(rt: HostRuntime) -> Result<(), Fail> {
+    let steps = REFUSED;
+    plays(&rt, rt.alloc(), &[], &steps)
+}
+
+/// The member lost an object that was dropped, and confirms nothing: twenty flushes, 20 milliseconds apart, and the watermark expires.
+const EXPIRED: [Step; 19] = [
+    Step::Asks(Ask::Data(&[(1, 1)]), Answer::Taken(0, 1)),
+    Step::SendsMany(1, 1, 1),
+    Step::Asks(Ask::Data(&[(1, 2)]), Answer::Taken(1, 1)),
+    Step::SendsMany(2, 1, 1),
+    Step::Asks(Ask::Mark, Answer::Marked(1, (1, 0, 0))),
+    Step::Sends(
+        3,
+        "13050002 00000001 00074001 01050001 00000000 00000002",
+        (0, 0),
+    ),
+    Step::Hears(
+        3,
+        "14060000 00000002 00000001 00070000 00000000 00000000 010c0008 05000000 00000000",
+    ),
+    Step::Waits(12),
+    Step::Sends(13, "13050003 00000001 00074001 03050001 00000000", (0, 0)),
+    Step::Waits(22),
+    Step::Sends(
+        23,
+        "13050004 00000001 00074001 01050001 00000000 00000002",
+        (0, 0),
+    ),
+    Step::SendsMany(43, 20, 17),
+    Step::Waits(382),
+    Step::Sends(
+        383,
+        "13050016 00000001 00074001 01050001 00000000 00000002",
+        (0, 0),
+    ),
+    Step::Waits(402),
+    Step::Tells(Told::Nothing),
+    Step::Waits(403),
+    Step::Tells(Told::Done(1, Outcome::Expired { left: 1 })),
+    Step::Tells(Told::Nothing),
+];
+
+#[test]
+fn a_watermark_expires_behind_twenty_flushes(rt: HostRuntime) -> Result<(), Fail> {
+    let steps = EXPIRED;
+    let keys = [(Key::K, 0), (Key::Mode, 1), (Key::Window, 1)];
+    plays(&rt, rt.alloc(), &keys, &steps)
+}
+
+/// Files of 1,048,576 octets: the first, the second and the last symbol are each of one octet over and over, and so are all between.
+const FILE_A: Runs = &[(1400, 0xa0), (1400, 0xa1), (1_044_400, 0xa2), (1376, 0xa3)];
+
+const FILE_B: Runs = &[(1400, 0xb0), (1400, 0xb1), (1_044_400, 0xb2), (1376, 0xb3)];
+
+const FILE_C: Runs = &[(1400, 0xc0), (1400, 0xc1), (1_044_400, 0xc2), (1376, 0xc3)];
+
+/// A window of two such files, whose ring has 1,499 slots: the third waits for the first, and lies in the last slot and the first 748.
+const THREE_FILES: [Step; 35] = [
+    Step::InTwo(0x61, FILE_A, 700_001, Answer::Taken(0, 1_048_576)),
+    Step::Asks(Ask::Mark, Answer::Marked(1, (0, 3, 186))),
+    Step::InTwo(0x62, FILE_B, 1400, Answer::Taken(1, 1_048_576)),
+    Step::Asks(Ask::Mark, Answer::Marked(2, (1, 3, 186))),
+    Step::InTwo(0x63, FILE_C, 1399, Answer::Full(0)),
+    Step::Sends(
+        1,
+        "11070000 00000001 00074041 14050000 40030000 00100000 0578c8ff 61",
+        (0, 0),
+    ),
+    Step::Sends(
+        2,
+        "12080001 00000001 00074041 14050000 00000000 40030000 00100000 0578c8ff",
+        (1400, 0xa0),
+    ),
+    Step::SendsMany(3, 1, 747),
+    Step::Sends(
+        750,
+        "120802ed 00000001 00074041 14050000 000003ba 40030000 00100000 0578c8ff",
+        (1376, 0xa3),
+    ),
+    Step::SendsMany(751, 1, 749),
+    Step::Sends(
+        1500,
+        "120805db 00000001 00074041 14050001 000003ba 40030000 00100000 0578c8ff",
+        (1376, 0xb3),
+    ),
+    Step::Sends(
+        1501,
+        "130505dc 00000001 00074041 01050000 000003ba 00000002",
+        (0, 0),
+    ),
+    Step::InTwo(0x63, FILE_C, 1399, Answer::Full(0)),
+    Step::Hears(
+        1502,
+        "15060000 00000002 00000001 00070200 00000000 00000000 05000000 000003ba",
+    ),
+    Step::Tells(Told::Past(2, (0, 3, 186))),
+    Step::Tells(Told::Done(1, Outcome::Satisfied)),
+    Step::InTwo(0x63, FILE_C, 1399, Answer::Taken(2, 1_048_576)),
+    Step::Asks(Ask::Mark, Answer::Marked(3, (2, 3, 186))),
+    Step::Sends(
+        1502,
+        "110705dd 00000001 00074041 14050002 40030000 00100000 0578c8ff 63",
+        (0, 0),
+    ),
+    Step::Sends(
+        1503,
+        "120805de 00000001 00074041 14050002 00000000 40030000 00100000 0578c8ff",
+        (1400, 0xc0),
+    ),
+    Step::Sends(
+        1504,
+        "120805df 00000001 00074041 14050002 00000001 40030000 00100000 0578c8ff",
+        (1400, 0xc1),
+    ),
+    Step::SendsMany(1505, 1, 746),
+    Step::Sends(
+        2251,
+        "120808ca 00000001 00074041 14050002 000003ba 40030000 00100000 0578c8ff",
+        (1376, 0xc3),
+    ),
+    Step::Sends(
+        2252,
+        "130508cb 00000001 00074041 01050001 000003ba 00000002",
+        (0, 0),
+    ),
+    Step::Hears(
+        2253,
+        "15060001 00000002 00000001 00070200 00000000 00000000 05000001 000003ba",
+    ),
+    Step::Tells(Told::Past(2, (1, 3, 186))),
+    Step::Tells(Told::Done(2, Outcome::Satisfied)),
+    Step::Waits(2271),
+    Step::Sends(
+        2272,
+        "130508cc 00000001 00074041 01050002 000003ba 00000002",
+        (0, 0),
+    ),
+    Step::Tells(Told::Nothing),
+    Step::Hears(
+        2273,
+        "15060002 00000002 00000001 00070200 00000000 00000000 05000002 000003ba",
+    ),
+    Step::Tells(Told::Past(2, (2, 3, 186))),
+    Step::Tells(Told::Done(3, Outcome::Satisfied)),
+    Step::Tells(Told::Nothing),
+    Step::Waits(2293),
+];
+
+#[test]
+fn a_third_file_waits_for_the_first(rt: HostRuntime) -> Result<(), Fail> {
+    let steps = THREE_FILES;
+    let keys = [
+        (Key::E, 1400),
+        (Key::B, 200),
+        (Key::Octets, 2_097_152),
+        (Key::Window, 2),
+    ];
+    plays(&rt, rt.alloc(), &keys, &steps)
 }

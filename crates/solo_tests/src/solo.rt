@@ -1,10 +1,11 @@
 //! A sender alone, call by call: what each command is answered, what each tick sends, and what is told.
 
 use crate::driven::Driven;
-use norm_base::{Datagram, InstanceId, Key, Moment, Octets, Sent};
+use norm_base::{Datagram, InstanceId, Key, Memory, Moment, Octets, Sent};
 use norm_send_rules::Job;
 use row_words::{
-    Answer, Ask, BY, Runs, Told, answer_of, filled, job_of, moment, octets_of, profile_of, told_of,
+    Answer, Ask, BY, Difference, Runs, Told, answer_of, answers_differ, filled, job_of, moment,
+    octets_differ, octets_of, profile_of, told_differ, told_of, unless,
 };
 use std::alloc::Global;
 use std::process::Abort;
@@ -14,12 +15,14 @@ use std::test::Fail;
 #[derive(Clone, Copy)]
 pub(crate) enum Step {
     Asks(Ask, Answer),
-    /// A file of such octets under the name `a`, in two pieces, of which the first has so many.
-    InTwo(Runs, usize, Answer),
-    /// A file under that name of which such octets come, and that is given up where so many are missing; whether it was begun.
+    /// A file of such octets under the name of this one letter, in two pieces, of which the first has so many.
+    InTwo(u8, Runs, usize, Answer),
+    /// A file of which such octets come, and that is given up where so many are missing; whether it was begun.
     GivesUp(Runs, u32, bool),
     /// A tick at a moment sends these octets, spelled as a text, and so many octets behind them.
     Sends(u64, &'static str, (usize, u8)),
+    /// So many ticks, the first at a moment and each so many milliseconds behind the one before, send a datagram each.
+    SendsMany(u64, u64, u64),
     /// A tick at a moment sends nothing.
     Waits(u64),
     /// A datagram comes at a moment.
@@ -37,7 +40,7 @@ struct Solo {
     out: Datagram,
 }
 
-/// The name of a file.
+/// The name of a file that is given up.
 const NAME: Runs = &[(1, 0x61)];
 
 impl Solo {
@@ -47,8 +50,14 @@ impl Solo {
     }
 
     /// What a file in two pieces comes to.
-    fn in_two(&mut self, alloc: Global, runs: Runs, first: usize) -> Result<Answer, Fail> {
-        let name = filled(alloc, NAME)?;
+    fn in_two(
+        &mut self,
+        alloc: Global,
+        letter: u8,
+        runs: Runs,
+        first: usize,
+    ) -> Result<Answer, Fail> {
+        let name = filled(alloc, &[(1, letter)])?;
         let octets = filled(alloc, runs)?;
         let came = self.sender.file_in_two(BY, name, octets.bytes(), first);
         Ok(answer_of(came))
@@ -60,10 +69,31 @@ impl Solo {
         Ok(self.sender.file_given_up(name, octets.bytes(), more))
     }
 
-    /// Whether a tick sends exactly these octets.
-    fn sends(&mut self, now: Moment, wanted: &Octets) -> bool {
-        let sent = self.sender.tick(now, &mut self.out);
-        sent == Sent::Datagram && self.out.bytes() == wanted.bytes()
+    /// What a tick sends; no octets where it sends nothing.
+    fn sent(&mut self, now: Moment) -> &[u8] {
+        match self.sender.tick(now, &mut self.out) {
+            Sent::Datagram => self.out.bytes(),
+            _ => &[],
+        }
+    }
+
+    /// How what a tick sends differs from these octets.
+    fn sends(&mut self, alloc: Global, now: Moment, wanted: &Octets) -> Result<Difference, Memory> {
+        if wanted.bytes().is_empty() {
+            return unless(alloc, false, "no octets are spelled");
+        }
+        octets_differ(alloc, self.sent(now), wanted.bytes())
+    }
+
+    /// Whether so many ticks send a datagram each, the first at this moment and each so many milliseconds behind the one before.
+    fn sends_many(&mut self, first: u64, every: u64, count: u64) -> bool {
+        for number in 0..count {
+            let at = first.saturating_add(number.saturating_mul(every));
+            if self.sender.tick(moment(at), &mut self.out) != Sent::Datagram {
+                return false;
+            }
+        }
+        true
     }
 
     /// What is told next.
@@ -88,30 +118,49 @@ impl Solo {
         !bytes.is_empty()
     }
 
-    /// Makes a call, and says whether it was answered so.
-    fn does(&mut self, alloc: Global, step: Step) -> Result<bool, Fail> {
+    /// Gives a command or a file, and says how what it came to differs from what was wanted.
+    fn asks(&mut self, alloc: Global, step: Step) -> Result<Difference, Fail> {
         match step {
             Step::Asks(ask, answer) => {
                 let job = job_of(alloc, ask)?;
-                Ok(self.answers(job) == answer)
+                Ok(answers_differ(alloc, self.answers(job), answer)?)
             }
-            Step::InTwo(runs, first, answer) => Ok(self.in_two(alloc, runs, first)? == answer),
-            Step::GivesUp(runs, more, answer) => Ok(self.gives_up(alloc, runs, more)? == answer),
+            Step::InTwo(letter, runs, first, answer) => {
+                let came = self.in_two(alloc, letter, runs, first)?;
+                Ok(answers_differ(alloc, came, answer)?)
+            }
+            Step::GivesUp(runs, more, answer) => {
+                let is_so = self.gives_up(alloc, runs, more)? == answer;
+                Ok(unless(alloc, is_so, "it was begun, or was not")?)
+            }
+            _ => Ok(None),
+        }
+    }
+
+    /// Makes a call, and says how what it came to differs from what was wanted.
+    fn does(&mut self, alloc: Global, step: Step) -> Result<Difference, Fail> {
+        match step {
+            Step::Asks(..) | Step::InTwo(..) | Step::GivesUp(..) => self.asks(alloc, step),
             Step::Sends(at, front, behind) => {
                 let wanted = octets_of(alloc, front, behind)?;
-                Ok(self.sends(moment(at), &wanted))
+                Ok(self.sends(alloc, moment(at), &wanted)?)
             }
-            Step::Waits(at) => Ok(self.sender.tick(moment(at), &mut self.out) == Sent::Nothing),
+            Step::SendsMany(first, every, count) => {
+                let is_so = self.sends_many(first, every, count);
+                Ok(unless(alloc, is_so, "a tick sent nothing")?)
+            }
+            Step::Waits(at) => Ok(octets_differ(alloc, self.sent(moment(at)), &[])?),
             Step::Hears(at, text) => {
                 let octets = octets_of(alloc, text, (0, 0))?;
                 self.sender.deliver(octets.bytes(), moment(at));
-                Ok(true)
+                Ok(None)
             }
             Step::HearsFronts(at, text, is_idle) => {
                 let octets = octets_of(alloc, text, (0, 0))?;
-                Ok(self.are_unmoved(&octets, moment(at), is_idle))
+                let is_so = self.are_unmoved(&octets, moment(at), is_idle);
+                Ok(unless(alloc, is_so, "a front changed something")?)
             }
-            Step::Tells(told) => Ok(self.told() == told),
+            Step::Tells(wanted) => Ok(told_differ(alloc, self.told(), wanted)?),
         }
     }
 }
@@ -132,8 +181,9 @@ pub(crate) fn plays_from(
         out: Datagram::new(alloc)?,
     };
     for (place, step) in steps.iter().enumerate() {
-        let is_so = solo.does(alloc, *step)?;
-        assert!(rt; is_so, "call {place}");
+        if let Some(difference) = solo.does(alloc, *step)? {
+            panic!(rt; "call {place}: {difference}");
+        }
     }
     Ok(())
 }
