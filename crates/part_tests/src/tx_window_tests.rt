@@ -100,10 +100,10 @@ impl Standing {
         self.window.repairable()
     }
 
-    /// Begins an object, of which a piece comes and so many octets are missing as another instance begins. Whether it was begun.
-    fn cut_short(&mut self, piece: &[u8], missing: u32) -> bool {
+    /// Begins a file, of which a piece comes and so many octets are missing as another instance begins. Whether it was begun.
+    fn cut_short(&mut self, name: Octets, piece: &[u8], missing: u32) -> bool {
         let len = piece.len() as u64 + u64::from(missing);
-        match self.window.begin(Kind::Data, None, len) {
+        match self.window.begin(Kind::File, Some(name), len) {
             Ok(()) => {
                 self.window.fill(piece);
                 self.window.clear();
@@ -187,7 +187,7 @@ enum Step {
     Streams(u32, u32),
     /// How many infos and encoded symbols there are.
     Repairable(u64),
-    /// An object of which so many octets come, and so many are missing as another instance begins. Whether it was begun.
+    /// A file of which so many octets come, and so many are missing as another instance begins. Whether it was begun.
     CutShort(usize, u32, bool),
     End(Option<At>),
     /// The length and the flags that messages say of an object, and its blocks.
@@ -293,7 +293,7 @@ fn send_many(alloc: Global, window: &mut Standing, count: u32) -> Result<(), Mem
     Ok(())
 }
 
-/// Makes a call of the open stream, or of an object that is cut short, and says whether it was answered so.
+/// Makes a call of the open stream, or of a file that is cut short, and says whether it was answered so.
 fn does_stream(alloc: Global, window: &mut Standing, step: Step) -> Result<bool, Memory> {
     match step {
         Step::Opens(answer) => Ok(window.open_stream() == answer),
@@ -307,8 +307,9 @@ fn does_stream(alloc: Global, window: &mut Standing, step: Step) -> Result<bool,
         }
         Step::Closes(answer) => Ok(window.close_stream() == answer),
         Step::CutShort(len, missing, answer) => {
+            let name = octets_of(alloc, 1, 1)?;
             let octets = octets_of(alloc, window.e, len)?;
-            Ok(window.cut_short(octets.bytes(), missing) == answer)
+            Ok(window.cut_short(name, octets.bytes(), missing) == answer)
         }
         _ => Ok(false),
     }
@@ -430,8 +431,10 @@ fn a_new_window_has_no_symbol(rt: HostRuntime) -> Result<(), Fail> {
     Ok(())
 }
 
-/// The first fault that applies: of no octets, of too many, of too large an info, of a full window.
-const OFFERS: [Step; 9] = [
+/// The first fault that applies: of no octets, of too many, of too large an info, of a full window; and of a stream whose buffer would
+/// be too large, 16 blocks of four segments.
+const OFFERS: [Step; 10] = [
+    Step::Opens(Err(EnqueueFault::TooBig { len: 4096 })),
     Step::Enqueue(65, 0, Err(EnqueueFault::Empty)),
     Step::Enqueue(65, 193, Err(EnqueueFault::TooBig { len: 193 })),
     Step::Enqueue(65, 192, Err(EnqueueFault::InfoTooBig { len: 65 })),
@@ -772,8 +775,9 @@ fn what_is_left_to_repair_is_counted(rt: HostRuntime) -> Result<(), Fail> {
     Ok(())
 }
 
-/// Another instance begins in the middle of a stream, and in the middle of an object.
-const MIDDLE: [Step; 15] = [
+/// Another instance begins in the middle of a stream, and in the middle of a file. Without a stream a write of nothing, or of too much, is
+/// refused for that.
+const MIDDLE: [Step; 17] = [
     Step::Opens(Ok(0)),
     Step::Writes(64, Ok((0, 0))),
     Step::Writes(1, Ok((0, 64))),
@@ -781,6 +785,8 @@ const MIDDLE: [Step; 15] = [
     Step::Front(0, 0),
     Step::End(None),
     Step::Streams(0, 0),
+    Step::Writes(0, Err(EnqueueFault::Empty)),
+    Step::Writes(65, Err(EnqueueFault::TooBig { len: 65 })),
     Step::Writes(64, Err(EnqueueFault::NoStream)),
     Step::Closes(Err(EnqueueFault::NoStream)),
     Step::CutShort(64, 1, true),
