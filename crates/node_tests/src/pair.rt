@@ -4,7 +4,7 @@ use crate::driven::Driven;
 use norm_base::{Datagram, InstanceId, Memory, Moment, NodeId, Octets, Origin, Profile, Sent};
 use norm_order::Up;
 use norm_receiver::Receiver;
-use norm_send_rules::{Job, News, Outcome, Receipt, SendFault};
+use norm_send_rules::{Job, MarkFault, News, Outcome, Receipt, SendFault, StrikeFault};
 use row_words::filled;
 use std::alloc::Global;
 
@@ -34,7 +34,7 @@ pub(crate) enum Fate {
 }
 
 /// What came of a run, in its order.
-#[derive(Clone, Copy, PartialEq, Eq)]
+#[derive(Clone, Copy, Debug, PartialEq, Eq)]
 pub(crate) enum Told {
     /// An object has this index and length.
     Object(u32, u64),
@@ -42,8 +42,12 @@ pub(crate) enum Told {
     Mark(u32, u32),
     Restarted(u16),
     Struck(u32),
-    /// A command was refused for good.
-    Refused,
+    /// A watermark of this quorum was refused for good.
+    NoQuorum(u32),
+    /// This node was not struck, as no other member is left.
+    LastMember(u32),
+    /// A command was refused for good, for another cause.
+    Refused(SendFault),
     /// The object with this index was handed up: how many octets it has, and the first of them.
     Up(u32, usize, u8),
     Lost(u32),
@@ -51,6 +55,8 @@ pub(crate) enum Told {
     Past(u32, u32),
     /// A watermark ended.
     Done(u32, Outcome),
+    /// Something of a stream, of which no row has one.
+    Other,
 }
 
 /// A datagram under way.
@@ -100,7 +106,16 @@ fn receipt_of(receipt: Receipt) -> Told {
         Receipt::Mark { mark, at } => Told::Mark(mark, at.index),
         Receipt::Restarted { instance } => Told::Restarted(instance.0),
         Receipt::Struck { node } => Told::Struck(node.number()),
-        _ => Told::Refused,
+        _ => Told::Other,
+    }
+}
+
+/// Why a command was refused for good.
+fn refusal_of(fault: SendFault) -> Told {
+    match fault {
+        SendFault::Mark(MarkFault::Quorum { q }) => Told::NoQuorum(q),
+        SendFault::Strike(StrikeFault::LastMember { node }) => Told::LastMember(node.number()),
+        fault => Told::Refused(fault),
     }
 }
 
@@ -113,7 +128,7 @@ fn up_of(up: &Up) -> Told {
             Told::Up(*index, octets.len(), first)
         }
         Up::Lost { index } => Told::Lost(*index),
-        _ => Told::Refused,
+        _ => Told::Other,
     }
 }
 
@@ -172,7 +187,7 @@ impl Pair {
             Ok(receipt) => self.told.push(receipt_of(receipt))?,
             Err(SendFault::Memory) => return Err(Memory),
             Err(fault) if fault.may_wait() => return Ok(true),
-            Err(_) => self.told.push(Told::Refused)?,
+            Err(fault) => self.told.push(refusal_of(fault))?,
         }
         Ok(false)
     }

@@ -3,23 +3,23 @@
 use crate::pair::{Command, Fate, Pair, Told};
 use norm_base::{Key, NodeId};
 use norm_send_rules::Outcome;
-use row_words::{octets_of, profile_of};
+use row_words::{Difference, octets_differ, octets_of, profile_of, unless};
 use std::alloc::Global;
 use std::process::Abort;
 use std::test::Fail;
 
-/// Whether the offer of this number, from 1 on, is what a text spells, and behind it so many octets, each of them this one.
-fn is_offer(
+/// How the offer of this number, from 1 on, differs from what a text spells, and behind it so many octets, each of them this one.
+fn offers_differ(
     alloc: Global,
     pair: &Pair,
     number: usize,
     front: &str,
     behind: (usize, u8),
-) -> Result<bool, Fail> {
+) -> Result<Difference, Fail> {
     let wanted = octets_of(alloc, front, behind)?;
     match pair.offers.get(number.saturating_sub(1)) {
-        Some(offer) => Ok(offer.bytes() == wanted.bytes()),
-        None => Ok(false),
+        Some(offer) => Ok(octets_differ(alloc, offer.bytes(), wanted.bytes())?),
+        None => Ok(unless(alloc, false, "it was not made")?),
     }
 }
 
@@ -43,12 +43,16 @@ fn gives(
     let mut pair = Pair::new(alloc, &profile, node)?;
     pair.run(alloc, commands, fates, turns)?;
     for (number, front, behind) in offers {
-        let is_so = is_offer(alloc, &pair, *number, front, *behind)?;
-        assert!(rt; is_so, "offer {number}");
+        if let Some(difference) = offers_differ(alloc, &pair, *number, front, *behind)? {
+            panic!(rt; "offer {number}: {difference}");
+        }
     }
     for (place, wanted) in told.iter().enumerate() {
         let came = pair.told.get(place).copied();
-        assert!(rt; came == Some(*wanted), "line {place}");
+        assert!(rt;
+            came == Some(*wanted),
+            "line {place}: {wanted:?} was wanted, and {came:?} came"
+        );
     }
     let count = pair.told.len();
     assert!(rt; count == told.len(), "{count} lines");
@@ -119,6 +123,43 @@ fn one_lost_symbol_is_repaired_by_parity(rt: HostRuntime) -> Result<(), Fail> {
         &commands,
         &fates,
         30,
+        &offers,
+        &told,
+    )
+}
+
+#[test]
+fn later_objects_wait_for_a_repair(rt: HostRuntime) -> Result<(), Fail> {
+    let keys = [(Key::K, 0)];
+    let fates = [Fate::Lost(2)];
+    let offers = [
+        (
+            6,
+            "14060000 00000002 00000001 00070000 00000000 00000000 03010008 05000000 00000001",
+            (0, 0),
+        ),
+        (
+            9,
+            "12080007 00000001 00074001 01050000 00000004 40030000 00000100 00400406",
+            (64, 0x10),
+        ),
+    ];
+    let told = [
+        Told::Object(0, 256),
+        Told::Object(1, 1),
+        Told::Object(2, 128),
+        Told::Up(0, 256, 1),
+        Told::Up(1, 1, 1),
+        Told::Up(2, 128, 3),
+    ];
+    let commands = [FOUR, Command::Data(&[(1, 1)]), Command::Data(&[(128, 3)])];
+    gives(
+        &rt,
+        rt.alloc(),
+        &keys,
+        &commands,
+        &fates,
+        17,
         &offers,
         &told,
     )
@@ -272,7 +313,7 @@ fn a_quorum_of_one_is_satisfied_by_one(rt: HostRuntime) -> Result<(), Fail> {
         Told::Object(0, 1),
         Told::Up(0, 1, 1),
         Told::Mark(1, 0),
-        Told::Refused,
+        Told::NoQuorum(3),
         Told::Past(2, 0),
         Told::Done(1, Outcome::Satisfied),
     ];
@@ -294,7 +335,7 @@ fn nobody_waits_for_the_struck(rt: HostRuntime) -> Result<(), Fail> {
         Told::Struck(3),
         Told::Past(2, 0),
         Told::Done(1, Outcome::Satisfied),
-        Told::Refused,
+        Told::LastMember(2),
     ];
     let commands = [
         Command::Data(&[(1, 1)]),
