@@ -46,8 +46,8 @@ pub(crate) enum Told {
     NoQuorum(u32),
     /// This node was not struck, as no other member is left.
     LastMember(u32),
-    /// A command was refused for good, for another cause.
-    Refused(SendFault),
+    /// A command was refused for good, for a cause that no row wants.
+    Refused,
     /// The object with this index was handed up: how many octets it has, and the first of them.
     Up(u32, usize, u8),
     Lost(u32),
@@ -115,7 +115,7 @@ fn refusal_of(fault: SendFault) -> Told {
     match fault {
         SendFault::Mark(MarkFault::Quorum { q }) => Told::NoQuorum(q),
         SendFault::Strike(StrikeFault::LastMember { node }) => Told::LastMember(node.number()),
-        fault => Told::Refused(fault),
+        _ => Told::Refused,
     }
 }
 

@@ -37,11 +37,21 @@ pub enum Answer {
     StreamOpen(u32),
     /// The window has no room; its first object.
     Full(u32),
+    /// There are no octets.
+    Empty,
+    /// So many octets are too many.
+    TooBig(u64),
+    /// No index is left for an object.
+    IdsSpent,
+    /// After so many octets the stream takes no more.
+    Spent(u32),
     NothingEnqueued,
+    /// So many watermarks are open.
+    TooMany(u32),
     /// This id was an instance before.
     Used(u16),
-    /// It was refused for a cause that has no word here.
-    Refused(SendFault),
+    /// It was refused for a cause that no row wants.
+    Refused,
     /// It was obeyed, with a receipt that no row wants.
     Other,
 }
@@ -84,14 +94,26 @@ fn answer_by(receipt: Receipt) -> Answer {
     }
 }
 
+/// Why a stream takes no more.
+fn blocked_by(fault: StreamFault) -> Answer {
+    match fault {
+        StreamFault::Full { first } => Answer::Crowded(first),
+        StreamFault::Spent { octets } => Answer::Spent(octets),
+        StreamFault::Closed => Answer::Refused,
+    }
+}
+
 /// Why nothing was enqueued.
 fn turned_away_by(fault: EnqueueFault) -> Answer {
     match fault {
-        EnqueueFault::Stream(StreamFault::Full { first }) => Answer::Crowded(first),
+        EnqueueFault::Empty => Answer::Empty,
+        EnqueueFault::TooBig { len } => Answer::TooBig(len),
+        EnqueueFault::IdsSpent => Answer::IdsSpent,
+        EnqueueFault::Stream(fault) => blocked_by(fault),
         EnqueueFault::NoStream => Answer::NoStream,
         EnqueueFault::StreamOpen { index } => Answer::StreamOpen(index),
         EnqueueFault::WindowFull { first } => Answer::Full(first),
-        fault => Answer::Refused(SendFault::Enqueue(fault)),
+        _ => Answer::Refused,
     }
 }
 
@@ -99,7 +121,8 @@ fn turned_away_by(fault: EnqueueFault) -> Answer {
 fn unmarked_by(fault: MarkFault) -> Answer {
     match fault {
         MarkFault::NothingEnqueued => Answer::NothingEnqueued,
-        fault => Answer::Refused(SendFault::Mark(fault)),
+        MarkFault::TooMany { count } => Answer::TooMany(count),
+        _ => Answer::Refused,
     }
 }
 
@@ -109,7 +132,7 @@ fn refused_by(fault: SendFault) -> Answer {
         SendFault::Enqueue(fault) => turned_away_by(fault),
         SendFault::Mark(fault) => unmarked_by(fault),
         SendFault::IdUsed { instance } => Answer::Used(instance.0),
-        fault => Answer::Refused(fault),
+        _ => Answer::Refused,
     }
 }
 
