@@ -110,11 +110,27 @@ fn receipt_of(receipt: Receipt) -> Told {
     }
 }
 
+/// Why a watermark was refused for good.
+fn unmarked_by(fault: MarkFault) -> Told {
+    match fault {
+        MarkFault::Quorum { q } => Told::NoQuorum(q),
+        _ => Told::Refused,
+    }
+}
+
+/// Why a node was not struck.
+fn unstruck_by(fault: StrikeFault) -> Told {
+    match fault {
+        StrikeFault::LastMember { node } => Told::LastMember(node.number()),
+        StrikeFault::NotMember { .. } => Told::Refused,
+    }
+}
+
 /// Why a command was refused for good.
 fn refusal_of(fault: SendFault) -> Told {
     match fault {
-        SendFault::Mark(MarkFault::Quorum { q }) => Told::NoQuorum(q),
-        SendFault::Strike(StrikeFault::LastMember { node }) => Told::LastMember(node.number()),
+        SendFault::Mark(fault) => unmarked_by(fault),
+        SendFault::Strike(fault) => unstruck_by(fault),
         _ => Told::Refused,
     }
 }
