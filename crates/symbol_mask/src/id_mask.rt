@@ -1,0 +1,50 @@
+//! The ids of a block's symbols as bits of four words.
+
+ghost use Rattle.std.specs.Prelude.{◌≡◌, [], nat_lt};
+ghost use Rattle.norm_order.specs.Sets.{with_member, is_member};
+
+use std::marker::Model;
+
+/// The ids of an octet by words of 64 bits.
+const WORDS: usize = 4;
+
+/// A set of ids of symbols of one block. It lies in itself, and takes no memory beside.
+#[derive(Debug, Drop)]
+pub struct IdMask {
+    words: [u64; WORDS],
+}
+
+impl Model for IdMask {
+    ghost use Rattle.std.specs.Prelude.{◌≡◌, ℕ, List, length};
+
+    ghost Value = { List ℕ };
+
+    ghost use Rattle.symbol_mask.specs.Words.{places_of};
+
+    ghost view = { λ m. (places_of 256 m.words).members };
+
+    ghost invariant = { λ m. length m.words ≡ 4 };
+}
+
+impl IdMask {
+    /// The empty set.
+    pub fn new() -> IdMask
+        ensures { result ≡ [] }
+    {
+        IdMask { words: [0; WORDS] }
+    }
+
+    /// Whether an id is a member.
+    pub fn contains(&self, id: u8) -> bool
+        ensures { result ≡ is_member nat_lt id self.now }
+    {
+        self.words[usize::from(id) / 64] >> (id % 64) & 1 == 1
+    }
+
+    /// Puts an id into the set.
+    pub fn insert(&mut self, id: u8)
+        ensures { self.new ≡ with_member nat_lt id self.old }
+    {
+        self.words[usize::from(id) / 64] |= 1 << (id % 64);
+    }
+}
