@@ -13,11 +13,12 @@ use Rattle.norm_order.proofs.SetLemmas.{all_with}
 use Rattle.nack_union.specs.Slots.{symbol_slot}
 use Rattle.nack_union.specs.Repairs.{shape_closed, fresh_parities, repair_slots, counted_slots}
 use Rattle.nack_union.specs.Kept.{IsRepairable}
-use Rattle.nack_union.specs.More.{in_run, is_source_slot}
+use Rattle.nack_union.specs.More.{is_source_slot}
+use Rattle.symbol_mask.specs.Words.{in_run}
 use Rattle.nack_union.specs.Sound.{HasNumber}
 use Rattle.nack_union.proofs.Counted.{encoded_fits, ids_take, ids_filter, ids_range}
-use Rattle.nack_union.proofs.Puts.{by_tests}
-use Rattle.nack_union.proofs.Ranges.{no_member}
+use Rattle.symbol_mask.proofs.Puts.{by_tests}
+use Rattle.symbol_mask.proofs.Ranges.{no_member}
 use Rattle.nack_union.proofs.Streams.{Shifts}
 use Rattle.nack_union.proofs.Wholes.{past_closed}
 

@@ -11,14 +11,15 @@ use Rattle.nack_union.specs.Repairs.{shape_closed}
 use Rattle.norm_order.specs.Sets.{is_member, with_member, Rises, IsRising}
 use Rattle.norm_order.proofs.SetLemmas.{same_sets, numbers}
 use Rattle.nack_union.specs.Slots.{slots, symbol_slot}
-use Rattle.nack_union.specs.More.{is_source_slot, in_run, is_below}
+use Rattle.nack_union.specs.More.{is_source_slot, is_below}
+use Rattle.symbol_mask.specs.Words.{in_run}
 use Rattle.nack_union.specs.Coverage.{HasSources, farthest, lies_in_run, is_run_slot, covered_slots, is_in_blocks}
-use Rattle.nack_union.proofs.Ranges.{filter_member, filter_with, no_filter, no_member}
-use Rattle.nack_union.proofs.Rising.{rises_filter}
-use Rattle.nack_union.proofs.Filled.{none_past}
+use Rattle.symbol_mask.proofs.Ranges.{filter_member, filter_with, no_filter, no_member}
+use Rattle.symbol_mask.proofs.Rises.{rises_filter}
+use Rattle.symbol_mask.proofs.Filled.{none_past}
 use Rattle.nack_union.proofs.Counted.{same_within}
 use Rattle.nack_union.proofs.Wholes.{full_grown}
-use Rattle.nack_union.proofs.Puts.{with_puts, same_is, other_is, or_false}
+use Rattle.symbol_mask.proofs.Puts.{with_puts, same_is, other_is, or_false}
 
 -- the farthest of one end more
 pub farthest_more : (ends : List ℕ) (n : ℕ) → farthest (take (suc n) ends) ≡ max (farthest (take n ends)) (get_or ends n 0)

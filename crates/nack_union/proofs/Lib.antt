@@ -1,5 +1,3 @@
-pub mod Ranges
-pub mod Bits
 pub mod Counting
 pub mod Orders
 pub mod Dropped
@@ -26,8 +24,6 @@ pub mod Risen
 pub mod AskedCounts
 pub mod Added
 pub mod Early
-pub mod Puts
-pub mod Filled
 pub mod Runs
 pub mod Coverages
 pub mod Quiet
@@ -47,9 +43,7 @@ pub mod Retired
 pub mod Grown
 pub mod Rooms
 pub mod Open
-pub mod Moved
 pub mod Shifted
-pub mod Below
 pub mod Fronts
 pub mod Streams
 pub mod Numbered

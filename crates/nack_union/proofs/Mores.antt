@@ -9,7 +9,7 @@ use Rattle.std.proofs.lemmas.Bool.{cases_eq, lt-ltb}
 use Rattle.std.proofs.lemmas.List.{length-set, get_or-set_same, get_or-set_other}
 use Rattle.nack_union.specs.Kept.{Marked, symbols_of_marked}
 use Rattle.nack_union.specs.More.{HasMore, kept_count, count_at}
-use Rattle.nack_union.proofs.Puts.{with_puts, or_false, same_is, other_is}
+use Rattle.symbol_mask.proofs.Puts.{with_puts, or_false, same_is, other_is}
 
 pub one_slot : (f : ℕ → Bool) (x : ℕ) (old new : Marked) → new ≡ record old { asked = with_member nat_lt x old.asked }
     → ((slot : ℕ) → f slot ≡ (slot == x)) → HasMore f (λ block. 0) old new

@@ -10,7 +10,7 @@ use Rattle.norm_order.specs.Sets.{is_member}
 use Rattle.norm_order.specs.Shapes.{Shape}
 use Rattle.nack_union.specs.Coverage.{HasSourcesFrom}
 use Rattle.nack_union.specs.Slots.{stands_from}
-use Rattle.nack_union.proofs.Puts.{other_is}
+use Rattle.symbol_mask.proofs.Puts.{other_is}
 use Rattle.nack_union.specs.Kept.{Marked, symbols_of_marked}
 use Rattle.nack_union.specs.More.{HasMore, is_source_slot, slot_in, asks_by}
 use Rattle.nack_union.proofs.Mores.{more_by, more_twice}

@@ -13,13 +13,14 @@ use Rattle.norm_order.proofs.SetLemmas.{same_sets, numbers}
 use Rattle.nack_union.specs.Slots.{symbol_slot, stands_from}
 use Rattle.nack_union.specs.Repairs.{shape_closed, fresh_symbols, fresh_parities, repair_slots, counted_slots}
 use Rattle.nack_union.specs.Kept.{from_block}
-use Rattle.nack_union.specs.More.{in_run, is_source_slot, is_encoded_slot, is_slot_of}
+use Rattle.nack_union.specs.More.{is_source_slot, is_encoded_slot, is_slot_of}
+use Rattle.symbol_mask.specs.Words.{in_run}
 use Rattle.nack_union.specs.Sound.{slots_from}
 use Rattle.nack_union.specs.Coverage.{HasSources, HasSourcesFrom}
-use Rattle.nack_union.proofs.Below.{member_passing, from_place}
+use Rattle.symbol_mask.proofs.Below.{member_passing, from_place}
 use Rattle.nack_union.proofs.Coverages.{rising}
-use Rattle.nack_union.proofs.Puts.{or_false, by_tests, with_puts, other_is}
-use Rattle.nack_union.proofs.Ranges.{same_filter, no_member}
+use Rattle.symbol_mask.proofs.Puts.{or_false, by_tests, with_puts, other_is}
+use Rattle.symbol_mask.proofs.Ranges.{same_filter, no_member}
 use Rattle.nack_union.proofs.Idle.{zeros}
 use Rattle.nack_union.proofs.Shifted.{member_up, none_before, member_from, with_all_up, rises_up, run_from}
 use Rattle.nack_union.proofs.Streams.{Shifts, encoded_is}

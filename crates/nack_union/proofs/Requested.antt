@@ -8,7 +8,7 @@ use Rattle.fec_plan.specs.Points.{position}
 use Rattle.fec_plan.specs.declared.position.Position.{Position}
 use Rattle.norm_ext.specs.Asking.{Span, lies_in, block_span, object_span, has_flag, segment_flag, block_flag, object_flag, info_flag, where_flag, is_proper}
 use Rattle.nack_union.specs.More.{is_source_slot, is_encoded_slot, asks_by, named_part, symbol_part, part_where, items_part, ranges_part}
-use Rattle.nack_union.proofs.Puts.{or_false, other_is}
+use Rattle.symbol_mask.proofs.Puts.{or_false, other_is}
 
 any_append : {X : Type 0} (f : X → Bool) (xs ys : List X) → list_any f (xs ++ ys) ≡ (list_any f xs || list_any f ys)
 any_append f [] ys = refl

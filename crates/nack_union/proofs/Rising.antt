@@ -1,7 +1,6 @@
--- The slots of a set rise, and so do the wants that are listed of sets.
-use Rattle.std.proofs.Common.{◌≡◌, ℕ, zero, suc, ◌+◌, ◌<◌, ◌⊎◌, inl, inr, subst, List, [], ◌∷◌, ◌++◌, map, length, get_or, Bool, true, false, sym, ◌∙◌, arith, cond}
-use Rattle.std.specs.Prelude.{filter}
-use Rattle.std.specs.List.{range_with_len, AllByRecursion}
+-- The wants that are listed of rising sets rise.
+use Rattle.std.proofs.Common.{◌≡◌, ℕ, suc, ◌+◌, ◌<◌, ◌⊎◌, inl, inr, subst, List, [], ◌∷◌, ◌++◌, map, length, get_or, true, sym, ◌∙◌, arith}
+use Rattle.std.specs.List.{AllByRecursion}
 use Rattle.std.proofs.lemmas.Bool.{lt-ltb, cases_eq}
 use Rattle.std.proofs.lemmas.List.{get_or_read}
 use Rattle.norm_order.specs.Sets.{Rises}
@@ -10,29 +9,7 @@ use Rattle.norm_send_rules.specs.Wants.{want_before}
 use Rattle.norm_send_rules.specs.declared.want.Want.{Want}
 use Rattle.nack_union.specs.Slots.{want_at}
 use Rattle.nack_union.specs.Kept.{Marked, listed}
-use Rattle.nack_union.specs.Words.{has_bit, places_of}
 use Rattle.nack_union.proofs.Orders.{same_order, earlier}
-
-above : (p : ℕ → Bool) (x a n : ℕ) → x < a → AllByRecursion (λ y. x < y) (filter p (range_with_len a n))
-above p x a zero lt = tt
-above p x a (suc n) lt = go (p a) (above p x (a + 1) n (omega arith))
-  where
-    go : (b : Bool) → AllByRecursion (λ y. x < y) (filter p (range_with_len (a + 1) n))
-        → AllByRecursion (λ y. x < y) (cond b (a ∷ filter p (range_with_len (a + 1) n)) (filter p (range_with_len (a + 1) n)))
-    go true rest = (lt, rest)
-    go false rest = rest
-
-pub rises_filter : (p : ℕ → Bool) (a n : ℕ) → Rises (filter p (range_with_len a n))
-rises_filter p a zero = tt
-rises_filter p a (suc n) = go (p a) (rises_filter p (a + 1) n) (above p a (a + 1) n (omega arith))
-  where
-    go : (b : Bool) → Rises (filter p (range_with_len (a + 1) n)) → AllByRecursion (λ y. a < y) (filter p (range_with_len (a + 1) n))
-        → Rises (cond b (a ∷ filter p (range_with_len (a + 1) n)) (filter p (range_with_len (a + 1) n)))
-    go true rest all = (all, rest)
-    go false rest all = rest
-
-pub set_rises : (words : List ℕ) (n : ℕ) → Rises (places_of n words).members
-set_rises words n = rises_filter (has_bit words) 0 n
 
 both_all : (w : Want) (xs ys : List Want) → AllByRecursion (λ other. want_before w other ≡ true) xs → AllByRecursion (λ other. want_before w other ≡ true) ys
     → AllByRecursion (λ other. want_before w other ≡ true) (xs ++ ys)

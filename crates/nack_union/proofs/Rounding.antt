@@ -15,7 +15,7 @@ use Rattle.nack_union.specs.Rounds.{asked_of, wants_closed, new_wants}
 use Rattle.nack_union.proofs.Rooms.{rooms_closed}
 use Rattle.nack_union.proofs.Closings.{all_closed}
 use Rattle.nack_union.proofs.Counted.{asked_are}
-use Rattle.nack_union.proofs.Counting.{length-with_member, more}
+use Rattle.symbol_mask.proofs.Counting.{length-with_member, more}
 use Rattle.nack_union.proofs.Members.{sent_is}
 
 same_shapes : (ms : List Marked) → map shape_of_marked (map closed_marks ms) ≡ map shape_of_marked ms

@@ -6,7 +6,8 @@ use Rattle.std.proofs.lemmas.Bool.{cases_eq, cases_lt}
 use Rattle.std.proofs.Math.Nat.{div-add-mod}
 use Rattle.fec_plan.specs.Partition.{blocks}
 use Rattle.norm_order.specs.Shapes.{Shape, closed_in}
-use Rattle.nack_union.specs.More.{in_run, is_source_slot, is_below}
+use Rattle.nack_union.specs.More.{is_source_slot, is_below}
+use Rattle.symbol_mask.specs.Words.{in_run}
 
 -- a symbol of the block that comes next, or of another
 plain_more : (n m k j b from to low high : ℕ) → j ≤ 256 → b < m → (n / 256 ≡ b → k ≡ j) → low ≡ max (256 * b + 0 + 1) from → high ≡ min (256 * b + 0 + 1 + j) to

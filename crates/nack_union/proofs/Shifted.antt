@@ -5,7 +5,7 @@ use Rattle.std.specs.List.{AllByRecursion}
 use Rattle.std.proofs.lemmas.Bool.{lt-ltb, le-ltb}
 use Rattle.std.proofs.lemmas.Bool.Decides.{nat_tests}
 use Rattle.norm_order.specs.Sets.{with_member, with_members, is_member, Rises}
-use Rattle.nack_union.specs.More.{in_run}
+use Rattle.symbol_mask.specs.Words.{in_run}
 
 -- the members from a number on
 abbrev pub moved_up : ℕ → List ℕ → List ℕ

@@ -9,10 +9,11 @@ use Rattle.norm_order.specs.Shapes.{Shape, closed_in, encoded_in}
 use Rattle.fec_plan.specs.Points.{position, position_before}
 use Rattle.fec_plan.specs.declared.position.Position.{Position}
 use Rattle.norm_ext.specs.Asking.{span, lies_in}
-use Rattle.nack_union.proofs.Puts.{same_is, other_is}
+use Rattle.symbol_mask.proofs.Puts.{same_is, other_is}
 use borrow.Author.Tests.{ltb-true}
 use Rattle.nack_union.specs.Slots.{symbol_slot}
-use Rattle.nack_union.specs.More.{in_run, is_source_slot, is_encoded_slot, slot_in, slot_from, slot_behind, is_slot_of}
+use Rattle.nack_union.specs.More.{is_source_slot, is_encoded_slot, slot_in, slot_from, slot_behind, is_slot_of}
+use Rattle.symbol_mask.specs.Words.{in_run}
 
 start_here : (i n fi b s : ℕ) → s < 256 → i ≡ fi
     → not (nat_lt (suc n) (256 * b + s + 1)) ≡ not (position_before (position i (n / 256) (n % 256)) (position fi b s))

@@ -17,7 +17,7 @@ use Rattle.nack_union.specs.Adding.{asks_slot, is_asked_slot, HasAsked, HasAdded
 use Rattle.nack_union.specs.Earliest.{earliest_with}
 use Rattle.nack_union.specs.More.{kept_count, HasPart, MoreOf, part_where, counts_part, items_part, ranges_part, request_part, requests_part, named_part, symbol_part}
 use Rattle.nack_union.proofs.AskedCounts.{most, most_from, greatest_both}
-use Rattle.nack_union.proofs.Puts.{or_false}
+use Rattle.symbol_mask.proofs.Puts.{or_false}
 use Rattle.nack_union.proofs.Requested.{begins, any_spans, any_where, same_symbol, items_slot, items_info, ranges_slot, ranges_info, no_infos, none_asked}
 
 guard : (b s x e y : Bool) → (((b && s) && x) || ((b && e) && y)) ≡ (b && ((s && x) || (e && y)))

@@ -1,5 +1,3 @@
-pub mod Places
-pub mod Words
 pub mod Slots
 pub mod Repairs
 pub mod Kept

@@ -1,5 +1,5 @@
 -- What calls add to what the open round asks for, slot by slot and block by block.
-use Rattle.std.specs.Prelude.{ℕ, zero, suc, ◌≡◌, ◌+◌, ◌<◌, ◌≤◌, ◌/◌, ◌%◌, ◌==◌, ◌&&◌, ◌||◌, length, max, Bool, true, false, nat_lt, not, get_or, slice_index, List, [], ◌∷◌}
+use Rattle.std.specs.Prelude.{ℕ, zero, suc, ◌≡◌, ◌+◌, ◌<◌, ◌≤◌, ◌/◌, ◌%◌, ◌==◌, ◌&&◌, ◌||◌, length, max, Bool, true, false, nat_lt, get_or, slice_index, List, [], ◌∷◌}
 use Rattle.fec_plan.specs.Partition.{blocks}
 use Rattle.fec_plan.specs.Points.{position}
 use Rattle.fec_plan.specs.declared.position.Position.{Position}
@@ -9,10 +9,6 @@ use Rattle.norm_ext.specs.Asking.{Span, Named, is_proper, lies_in, block_span, o
 use Rattle.norm_order.specs.Sets.{is_member}
 use Rattle.norm_order.specs.Shapes.{Shape, closed_in, encoded_in}
 use Rattle.nack_union.specs.Kept.{Marked, Kept, symbols_of_marked}
-
--- from one number up to another
-abbrev pub in_run : ℕ → ℕ → ℕ → Bool
-in_run from to n = not (nat_lt n from) && nat_lt n to
 
 -- the slot of a closed source symbol
 abbrev pub is_source_slot : Shape → ℕ → Bool

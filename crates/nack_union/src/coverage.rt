@@ -5,19 +5,20 @@ ghost use Rattle.fec_plan.specs.Partition.{blocks, most_blocks, symbol_number};
 ghost use Rattle.norm_order.specs.Shapes.{closed_in, is_full};
 ghost use Rattle.norm_order.specs.Sets.{with_member, with_members, is_member, Rises};
 ghost use Rattle.nack_union.specs.Slots.{slots, symbol_slot};
-ghost use Rattle.nack_union.specs.More.{is_source_slot, in_run};
+ghost use Rattle.nack_union.specs.More.{is_source_slot};
+ghost use Rattle.symbol_mask.specs.Words.{in_run};
 ghost use Rattle.nack_union.specs.Kept.{IsRepairable};
 ghost use Rattle.nack_union.specs.Repairs.{shape_closed, counted_slots};
 ghost use Rattle.nack_union.specs.Coverage.{Covered, HasSources, is_in_blocks, is_run_slot};
 
 use crate::closed::{closed_len, whole_blocks};
-use crate::mask::Mask;
 use crate::repairs::ask_counted;
 use crate::slots::{BLOCK, slot_of};
 use fec_plan::Plan;
 use norm_base::Memory;
 use std::alloc::Global;
 use std::marker::Model;
+use symbol_mask::Mask;
 
 /// The slots of an object, of which so many source symbols are closed, that the open round asks for. A run of whole blocks is kept as its end alone, at the block with which
 /// it begins, and filled as the round closes; all other slots are kept in a set. The first `whole` blocks are whole. Where `complete` is set,

@@ -5,7 +5,8 @@ ghost use Rattle.fec_plan.specs.Partition.{all_symbols, blocks, most_blocks};
 ghost use Rattle.norm_order.specs.Shapes.{closed_in};
 ghost use Rattle.norm_order.specs.Sets.{is_member, with_member, Rises};
 ghost use Rattle.nack_union.specs.Slots.{slots, stands_from};
-ghost use Rattle.nack_union.specs.More.{HasMore, is_source_slot, is_encoded_slot, in_run, slot_in, slot_from, slot_behind, is_slot_of, count_at as counted_at, kept_count, MoreOf, named_part};
+ghost use Rattle.nack_union.specs.More.{HasMore, is_source_slot, is_encoded_slot, slot_in, slot_from, slot_behind, is_slot_of, count_at as counted_at, kept_count, MoreOf, named_part};
+ghost use Rattle.symbol_mask.specs.Words.{in_run};
 ghost use Rattle.nack_union.specs.Coverage.{HasSourcesFrom};
 ghost use Rattle.nack_union.specs.Adding.{IsPlanned};
 ghost use Rattle.norm_ext.specs.Asking.{Span, span, block_span, object_span, has_flag, segment_flag, block_flag, object_flag};
@@ -15,7 +16,6 @@ ghost use Rattle.std.specs.List.{list_any};
 
 use crate::closed::{all_symbols, closed_len, encoded_len};
 use crate::coverage::Coverage;
-use crate::mask::Mask;
 use crate::slots::{BLOCK, slot_of};
 use fec_plan::{Plan, Position};
 use norm_base::Memory;
@@ -23,6 +23,7 @@ use norm_ext::flags::{WANT_BLOCK, WANT_INFO, WANT_OBJECT, WANT_SEGMENT};
 use norm_ext::items::has_flag;
 use std::alloc::Global;
 use std::marker::Model;
+use symbol_mask::Mask;
 
 /// The greatest number of a block.
 const LAST_BLOCK: u32 = 16_777_215;

@@ -9,9 +9,9 @@ ghost use Rattle.nack_union.specs.Kept.{IsRepairable};
 ghost use Rattle.nack_union.specs.Repairs.{shape_closed, fresh_symbols, repair_slots, counted_slots};
 
 use crate::closed::{closed_len, encoded_len};
-use crate::mask::Mask;
 use crate::slots::slot_of;
 use fec_plan::Plan;
+use symbol_mask::Mask;
 
 /// How many of a block's symbols from one up to another were never sent.
 fn count_fresh(sent: &Mask, block: u32, from: u8, to: u8) -> u8

@@ -6,10 +6,10 @@ use Rattle.fec_plan.specs.Partition.{blocks}
 use Rattle.norm_order.specs.Shapes.{closed_in}
 use Rattle.nack_union.specs.Repairs.{shape_closed}
 use Rattle.nack_union.specs.Coverage.{farthest}
-use Rattle.nack_union.specs.More.{in_run}
+use Rattle.symbol_mask.specs.Words.{in_run}
 use Rattle.nack_union.specs.Slots.{symbol_slot}
 use Rattle.nack_union.proofs.Coverages.{farthest_more, run_step, no_block, all_blocks}
-use Rattle.nack_union.proofs.Puts.{or_false}
+use Rattle.symbol_mask.proofs.Puts.{or_false}
 use Rattle.nack_union.proofs.Wholes.{sources_most}
 use Rattle.nack_union.proofs.coverage.insert_runs.Goals as goal
 

@@ -6,8 +6,8 @@ use Rattle.norm_order.specs.Sets.{is_member}
 use Rattle.fec_plan.specs.Partition.{blocks}
 use Rattle.norm_order.specs.Shapes.{closed_in}
 use Rattle.nack_union.specs.Repairs.{shape_closed}
-use Rattle.nack_union.specs.More.{in_run}
-use Rattle.nack_union.proofs.Puts.{or_false}
+use Rattle.symbol_mask.specs.Words.{in_run}
+use Rattle.symbol_mask.proofs.Puts.{or_false}
 use Rattle.nack_union.proofs.Runs.{blocks_none, blocks_end, slot_more}
 use Rattle.nack_union.proofs.coverage.insert_sources.Goals as goal
 

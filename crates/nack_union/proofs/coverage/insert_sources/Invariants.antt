@@ -2,7 +2,8 @@ use Rattle.std.proofs.Common.{◌≡◌, ◌≤◌, ℕ, nat_lt}
 use Rattle.std.specs.Prelude.{◌||◌, ◌&&◌, max}
 use Rattle.norm_order.specs.Sets.{is_member}
 use Rattle.nack_union.specs.Repairs.{shape_closed}
-use Rattle.nack_union.specs.More.{in_run, is_source_slot, is_below}
+use Rattle.nack_union.specs.More.{is_source_slot, is_below}
+use Rattle.symbol_mask.specs.Words.{in_run}
 use Rattle.nack_union.proofs.coverage.insert_sources.Given as goal
 
 abbrev pub invariant-runs : goal.invariant-runs

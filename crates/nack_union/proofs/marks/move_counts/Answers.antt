@@ -1,5 +1,5 @@
 use Rattle.std.proofs.Common.{arith}
-use Rattle.nack_union.proofs.Moved.{word_moved, word_left, all_moved}
+use Rattle.symbol_mask.proofs.Moved.{word_moved, word_left, all_moved}
 use Rattle.nack_union.proofs.marks.move_counts.Goals as goal
 
 pub moved-preserved : goal.moved-preserved

@@ -1,6 +1,6 @@
 use Rattle.std.proofs.Common.{nat_lt, ap, sym, ◌∙◌, arith}
 use Rattle.norm_order.specs.Sets.{with_member, is_member}
-use Rattle.nack_union.specs.Places.{Places}
+use Rattle.symbol_mask.specs.Places.{Places}
 use Rattle.nack_union.proofs.Freshness.{asked_new, asked_old}
 use Rattle.nack_union.proofs.repairs.ask_fresh.Goals as goal
 use Rattle.nack_union.proofs.repairs.ask_fresh.Goals.{then-not-contains, else-not-contains}

@@ -2,7 +2,8 @@ use Rattle.std.proofs.Common.{ap, ◌∙◌, nat_lt}
 use Rattle.std.specs.Prelude.{◌||◌, ◌&&◌}
 use Rattle.norm_order.specs.Sets.{is_member}
 use Rattle.nack_union.specs.Repairs.{shape_closed}
-use Rattle.nack_union.specs.More.{is_source_slot, in_run}
+use Rattle.nack_union.specs.More.{is_source_slot}
+use Rattle.symbol_mask.specs.Words.{in_run}
 use Rattle.nack_union.specs.Coverage.{Covered}
 use Rattle.nack_union.proofs.Coverages.{part_more, sources_stay}
 use Rattle.nack_union.proofs.coverage.Coverage.insert_part.Goals as goal

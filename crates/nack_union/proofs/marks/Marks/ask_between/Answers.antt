@@ -2,7 +2,8 @@ use Rattle.std.proofs.Common.{◌+◌, ◌*◌, refl, ap, ◌∙◌}
 use Rattle.std.specs.Prelude.{◌&&◌}
 use Rattle.fec_plan.specs.Partition.{blocks}
 use Rattle.nack_union.specs.Kept.{Marked, symbols_of_marked}
-use Rattle.nack_union.specs.More.{in_run, is_source_slot, slot_from, slot_behind}
+use Rattle.nack_union.specs.More.{is_source_slot, slot_from, slot_behind}
+use Rattle.symbol_mask.specs.Words.{in_run}
 use Rattle.nack_union.proofs.Mores.{more_by}
 use Rattle.nack_union.proofs.Spans.{in_span}
 use Rattle.nack_union.proofs.marks.Marks.ask_between.Goals as goal

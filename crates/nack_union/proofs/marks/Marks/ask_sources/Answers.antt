@@ -6,7 +6,8 @@ use Rattle.norm_order.specs.Shapes.{Shape}
 use Rattle.nack_union.specs.Repairs.{shape_closed}
 use Rattle.nack_union.specs.Kept.{Marked}
 use Rattle.nack_union.specs.Sound.{marks_view, slots_from}
-use Rattle.nack_union.specs.More.{is_source_slot, in_run, HasMore}
+use Rattle.nack_union.specs.More.{is_source_slot, HasMore}
+use Rattle.symbol_mask.specs.Words.{in_run}
 use Rattle.nack_union.proofs.Numbered.{sources_more}
 use Rattle.nack_union.proofs.Streams.{shifts}
 use Rattle.nack_union.proofs.Bounds.{sources_named}

@@ -12,7 +12,7 @@ use Rattle.std.specs.List.{AllByRecursion}
 use Rattle.norm_order.specs.Sets.{with_members}
 use Rattle.nack_union.specs.Repairs.{counted_slots}
 use Rattle.nack_union.specs.Kept.{closed_marks, IsCounted, IsRepairable}
-use Rattle.nack_union.proofs.Ranges.{no_member}
+use Rattle.symbol_mask.proofs.Ranges.{no_member}
 use Rattle.nack_union.proofs.Closings.{idle_stays}
 use Rattle.nack_union.proofs.Idle.{idle_counted, zeros}
 use Rattle.nack_union.proofs.Numbered.{blank, zeros_joined, length-padded, closed_up, counted_plain, count_behind, no_count}

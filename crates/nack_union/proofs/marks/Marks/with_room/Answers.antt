@@ -8,7 +8,7 @@ use Rattle.nack_union.specs.Coverage.{Covered}
 use Rattle.nack_union.specs.Kept.{Marked}
 use Rattle.nack_union.specs.Sound.{slots_from}
 use Rattle.nack_union.proofs.Idle.{zeros}
-use Rattle.nack_union.proofs.Ranges.{no_member}
+use Rattle.symbol_mask.proofs.Ranges.{no_member}
 use Rattle.nack_union.proofs.Streams.{number_zero}
 use Rattle.std.specs.List.{AllByRecursion}
 use Rattle.nack_union.specs.Sound.{HasNumber}
