@@ -1,5 +1,6 @@
 pub mod Solving
 pub mod Inserting
+pub mod Masks
 pub mod BlockLemmas
 pub mod StreamLemmas
 pub mod FitLemmas

@@ -1,11 +1,11 @@
 -- What a block keeps, and what it is seen as.
 use Rattle.std.specs.Prelude.{ℕ, ◌≡◌, ◌<◌, ◌≤◌, ◌+◌, ◌-◌, ◌==◌, List, [], ◌∷◌, map, take, length, min, nat_lt, true, false}
-use Rattle.std.specs.List.{AllByRecursion}
+use Rattle.std.specs.List.{AllByRecursion, list_any}
 use Rattle.norm_base.specs.Sizes.{symbol_room}
 use Rattle.gf_field.specs.Element.{AreElements}
 use Rattle.gf_field.specs.Symbol.{encoded_symbol, solved_sources}
 use Rattle.norm_ext.specs.Numbers.{number}
-use Rattle.norm_order.specs.Sets.{Rises}
+use Rattle.norm_order.specs.Sets.{Rises, is_member}
 use Rattle.norm_order.specs.Symbols.{padded}
 use Rattle.rx_stream.specs.BlockState.{Came, BlockState}
 
@@ -49,6 +49,15 @@ pub record BlockSound (k size : ℕ) (ids : List ℕ) (rows : List (List ℕ)) :
   pub sizes : AllByRecursion (λ (row : List ℕ). length row ≡ size) rows
   pub octets : AllByRecursion AreElements rows
   pub whole : AreWhole k size ids (coded k size ids rows)
+
+-- the set has these ids and no others
+abbrev pub IsMaskOf : List ℕ → List ℕ → Type 0
+IsMaskOf members ids = (id : ℕ) → is_member nat_lt id members ≡ list_any (λ (x : ℕ). x == id) ids
+
+-- what a block keeps is sound, and its mask is that of its ids
+pub record BlockKept (k size : ℕ) (ids members : List ℕ) (rows : List (List ℕ)) : Type 0 where
+  pub sound : BlockSound k size ids rows
+  pub mask : IsMaskOf members ids
 
 abbrev pub block_of : ℕ → ℕ → List ℕ → List (List ℕ) → BlockState
 block_of k size ids rows = record { k = k; size = size; came = listed k size ids (coded k size ids rows) }

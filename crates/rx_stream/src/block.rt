@@ -1,11 +1,12 @@
 //! The symbols of one block, which are solved in place.
 
-ghost use Rattle.std.specs.Prelude.{ℕ, true, false, List, [], ◌≡◌, ◌≢◌, ◌==◌, ◌<◌, ◌≤◌, ◌-◌, ◌+◌, MatchOption, EachIndex, IfSome, OnErr, OnOk, IfOk, is_some, length, insert, option_copied, slice_index};
-ghost use Rattle.std.specs.List.{AllByRecursion, list_any};
+ghost use Rattle.std.specs.Prelude.{ℕ, true, false, List, [], ◌≡◌, ◌≢◌, ◌==◌, ◌<◌, ◌≤◌, ◌-◌, ◌+◌, MatchOption, EachIndex, IfSome, OnErr, OnOk, IfOk, is_some, length, insert, option_copied, nat_lt, slice_index};
+ghost use Rattle.std.specs.Bool.{Decides};
+ghost use Rattle.std.specs.List.{AllByRecursion};
 ghost use Rattle.norm_base.specs.Sizes.{symbol_room};
 ghost use Rattle.gf_field.specs.Element.{AreElements};
 ghost use Rattle.gf_field.specs.Symbol.{AreIds, AreSymbols};
-ghost use Rattle.norm_order.specs.Sets.{Rises};
+ghost use Rattle.norm_order.specs.Sets.{Rises, with_member};
 ghost use Rattle.rx_stream.specs.BlockState.{empty_block, end_in_block, has_id, is_end_at, lacks, source_of};
 ghost use Rattle.rx_stream.specs.BlockMoves.{IsPlace, IsRow, MayCome, with_came};
 ghost use Rattle.rx_stream.specs.BlockSound.{settled};
@@ -16,6 +17,7 @@ use norm_base::Memory;
 use std::alloc::Global;
 use std::marker::Model;
 use std::mem;
+use symbol_mask::IdMask;
 
 /// What is held of a block: [`put`](Block::put) keeps a symbol that is new while some are lacking, and as the last one that
 /// is lacking comes, the block's source symbols come to lie in its rows.
@@ -26,19 +28,21 @@ pub struct Block {
     size: usize,
     /// The ids of the symbols that came, in order.
     ids: Vec<u8>,
+    /// The same ids as a set, which tells in constant time whether one came.
+    mask: IdMask,
     /// A row for each of them: its octets, or where none is lacking those of a source symbol.
     rows: Vec<Row>,
 }
 
 impl Model for Block {
     ghost use Rattle.rx_stream.specs.BlockState.{BlockState};
-    ghost use Rattle.rx_stream.specs.BlockSound.{block_of, BlockSound};
+    ghost use Rattle.rx_stream.specs.BlockSound.{block_of, BlockKept};
 
     ghost Value = { BlockState };
 
     ghost view = { λ b. block_of b.k b.size b.ids.items b.rows.items };
 
-    ghost invariant = { λ b. BlockSound b.k b.size b.ids.items b.rows.items };
+    ghost invariant = { λ b. BlockKept b.k b.size b.ids.items b.mask b.rows.items };
 }
 
 /// Whether an id is above all of these, as that of a symbol that comes in order is: the last of them tells.
@@ -77,40 +81,38 @@ fn position_of(ids: &[u8], id: u8) -> Option<usize>
     ids.iter().position(|other| *other == id)
 }
 
-/// Whether an id is among ids that rise. For one that comes in order it takes constant time.
-fn lies_in(ids: &[u8], id: u8) -> bool
-    requires { Rises ids.now }
-    ensures { result ≡ list_any (λ (x : ℕ). x == id) ids.now }
-{
-    if is_above_all(ids, id) {
-        return false;
-    }
-    ids.contains(&id)
-}
-
 /// Puts an id, and its row, where they belong.
-fn keep(ids: &mut Vec<u8>, rows: &mut Vec<Row>, id: u8, row: Row) -> Result<usize, Memory>
+fn keep(
+    ids: &mut Vec<u8>,
+    mask: &mut IdMask,
+    rows: &mut Vec<Row>,
+    id: u8,
+    row: Row,
+) -> Result<usize, Memory>
     requires rows { length rows.old.items ≡ length ids.old.items }
     requires rising { Rises ids.old.items }
     ensures place { IfOk result (λ place. IsPlace id ids.old.items place) }
     ensures ids { IfOk result (λ place. ids.new.items ≡ insert ids.old.items place id) }
+    ensures mask { IfOk result (λ place. mask.new ≡ with_member nat_lt id mask.old) }
     ensures rows { IfOk result (λ place. rows.new.items ≡ insert rows.old.items place row) }
     ensures refused { OnErr result ((ids.new.items ≡ ids.old.items) × (rows.new.items ≡ rows.old.items)) }
+    ensures unmasked { OnErr result (mask.new ≡ mask.old) }
 {
     let place = place_for(ids, id);
     ids.reserve(1)?;
     rows.insert(place, row)?;
     ids.insert(place, id).unwrap();
+    mask.insert(id);
     Ok(place)
 }
 
-/// Whether each source symbol came, where as many symbols came as there are source symbols.
+/// Whether each id is its own place, as where a block's source symbols came and no other.
 fn are_own(ids: &[u8]) -> bool
     requires { Rises ids.now }
-    ensures { result ≡ true → EachIndex ids.now (λ i. slice_index ids.now i ≡ i) }
+    ensures { Decides result (EachIndex ids.now (λ i. slice_index ids.now i ≡ i)) }
 {
     if ids.is_empty() {
-        return false;
+        return true;
     }
     // The ids rise, so that the last one says it of all.
     let last = ids.len() - 1;
@@ -152,15 +154,16 @@ impl Block {
             k,
             size,
             ids: Vec::new(alloc),
+            mask: IdMask::new(),
             rows: Vec::new(alloc),
         }
     }
 
-    /// Whether the symbol with an id came.
+    /// Whether the symbol with an id came. It takes constant time.
     pub fn has(&self, id: u8) -> bool
         ensures { result ≡ has_id self.now id }
     {
-        lies_in(&self.ids, id)
+        self.mask.contains(id)
     }
 
     /// How many symbols are lacking to as many as there are source symbols.
@@ -190,7 +193,7 @@ impl Block {
         ensures same { scratch.new ≡ scratch.old }
     {
         let row = Row::of(alloc, payload, self.size)?;
-        keep(&mut self.ids, &mut self.rows, id, row)?;
+        keep(&mut self.ids, &mut self.mask, &mut self.rows, id, row)?;
         settle(self.k, &self.ids, &mut self.rows, scratch);
         Ok(())
     }

@@ -11,7 +11,7 @@ pub returns-then-is_empty : goal.returns-then-is_empty
 returns-then-is_empty c =
     subst (λ (b : BlockState). None ≡ end_in_block c.args.most b) c.self.view_is
     (sym (no_end c.args.most (block_of c.self.inside.k c.self.inside.size c.self.inside.ids.items c.self.inside.rows.items)
-    (none_came c.self.inside.k c.self.inside.size c.self.inside.ids.items c.self.inside.rows.items (let n = eqb-true (vec_len c.self.inside.ids) 0 (sym c.is_empty.ensures ∙ c.if-is_empty.true) in omega (arith, n, c.self.inside.ids.ok))) c.self.invariant.some))
+    (none_came c.self.inside.k c.self.inside.size c.self.inside.ids.items c.self.inside.rows.items (let n = eqb-true (vec_len c.self.inside.ids) 0 (sym c.is_empty.ensures ∙ c.if-is_empty.true) in omega (arith, n, c.self.inside.ids.ok))) c.self.invariant.sound.some))
 
 pub returns-then-is_end : goal.returns-then-is_end
 returns-then-is_end c =

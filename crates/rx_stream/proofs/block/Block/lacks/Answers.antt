@@ -7,4 +7,4 @@ pub returns-clause-exact : goal.returns-clause-exact
 returns-clause-exact c =
     subst (λ (b : BlockState). c.self.inside.k - c.len.result ≡ lacks b) c.self.view_is
     (ap (λ n. c.self.inside.k - n) (let e : c.len.result ≡ length c.self.inside.ids.items = omega (arith, c.len.ensures, c.self.inside.ids.ok) in e)
-    ∙ sym (block_lacks c.self.inside.k c.self.inside.size c.self.inside.ids.items c.self.inside.rows.items c.self.invariant.count))
+    ∙ sym (block_lacks c.self.inside.k c.self.inside.size c.self.inside.ids.items c.self.inside.rows.items c.self.invariant.sound.count))

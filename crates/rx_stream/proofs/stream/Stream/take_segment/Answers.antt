@@ -1,6 +1,7 @@
 use Rattle.std.proofs.Common.{◌≡◌, ◌<◌, ◌+◌, ℕ, List, [], ◌∷◌, ◌++◌, length, get_or, take, drop, true, sym, ap, subst, ◌∙◌, arith, rules, Some, None, Option, Bor}
 use Rattle.std.specs.Prelude.{min, is_some, option_copied, IfSome}
 use Rattle.std.specs.Option.{IsSome}
+use Rattle.std.proofs.lemmas.List.{get_or_default}
 use Rattle.std.specs.List.{AllByRecursion}
 use Rattle.fec_plan.specs.Partition.{Cut, source_symbols}
 use Rattle.norm_ext.specs.Numbers.{number}
@@ -11,9 +12,10 @@ use Rattle.rx_stream.specs.BlockMoves.{IsRow}
 use Rattle.rx_stream.specs.StreamMoves.{left, passed}
 use Rattle.rx_stream.specs.StreamSound.{stream_of}
 use Rattle.rx_stream.specs.StreamState.{StreamState, alone}
+use Rattle.rx_stream.proofs.HandingLemmas.{begun_whole}
 use Rattle.rx_stream.proofs.LeftLemmas.{left_next, left_passed}
 use Rattle.rx_stream.proofs.StreamLemmas.{next_row, passed_block}
-use Rattle.rx_stream.proofs.SegmentLemmas.{there_by, none_row, next_value, size_first, first_named, octets_next, sound_next, sound_passed}
+use Rattle.rx_stream.proofs.SegmentLemmas.{there_by, none_row, next_value, size_first, k_first, first_named, octets_next, sound_next, sound_passed}
 use Rattle.rx_stream.proofs.stream.Stream.take_segment.Goals as goal
 
 pub unwrap-row-requires : goal.unwrap-row-requires
@@ -46,6 +48,19 @@ overflow_add-self-2 c =
     let lt = first_named c.self.inside.index c.self.inside.first c.self.inside.fti.b (c.self.inside.fti.e + 8) c.self.inside.symbol c.self.inside.ring.items c.index.result.now c.self.invariant.named c.self.invariant.blocks some
     (let n = c.self.invariant.next in omega (arith, n)) c.index.ensures there in
     omega (arith, lt)
+
+pub shift-requires-clause-there : goal.shift-requires-clause-there
+shift-requires-clause-there c = λ d symbol lt.
+    let some : 0 < length c.self.inside.ring.items = (let n = c.self.invariant.some in omega (arith, n)) in
+    let there : is_some (source_of c.index.result.now c.self.inside.symbol) ≡ true =
+    ap (λ (o : Option (List ℕ)). is_some o) (sym (next_value (record { index = c.self.inside.index; fti = c.self.inside.fti; flags = c.self.inside.flags; seen = c.self.inside.seen }) c.self.inside.info c.self.inside.first c.self.inside.symbol c.self.inside.ring.items c.index.result.now c.self.invariant.stream c.self.invariant.blocks some c.index.ensures))
+    ∙ subst (λ (o : StreamState). is_some (next_segment (alone o) o.plan) ≡ true) (sym c.self.view_is)
+    (there_by (next_segment (alone c.args.self.now) c.args.self.now.plan) (λ symbol. c.args.len ≡ min (number 2 0 symbol) c.args.self.now.plan.fti.e) c.requires) in
+    let same : get_or c.self.inside.ring.items 0 d ≡ c.index.result.now = get_or_default c.self.inside.ring.items 0 d c.index.result.now some ∙ sym c.index.ensures in
+    let count = c.source_len-count.ensures.exact ∙ ap (λ (x : Cut). source_symbols x 0) c.self.invariant.cut_is in
+    let blocks = k_first c.self.inside.fti.b (c.self.inside.fti.e + 8) c.self.inside.ring.items d c.self.invariant.blocks some in
+    begun_whole c.self.inside.symbol c.self.inside.ring.items d some c.self.invariant.begun
+    (ap (λ (b : BlockState). is_some (source_of b c.self.inside.symbol)) same ∙ there) symbol (omega (arith, lt, blocks, count, c.if-self-count.false))
 
 pub invariant_of-self : goal.invariant_of-self
 invariant_of-self c =
