@@ -29,6 +29,7 @@ EDITS = {
     'rx_entries/an_object_is_handed_up_again_when_its_fti_comes_anew': 'norm_receive_rules/HandingUp',
     'rx_hold/the_last_symbol_is_handed_up_with_its_padding': 'norm_receive_rules/HandingUp',
     'rx_stream/a_block_waits_for_all_sources': 'norm_receive_rules/BlockValue',
+    'rx_stream/a_segment_is_handed_up_with_its_padding': 'norm_receive_rules/HandingUp',
     'stream_buffer/a_cut_segment_begins_at_its_end': 'norm_order/Segments',
     'stream_buffer/parity_is_sent_of_a_block_that_is_not_closed': 'norm_order/Symbols',
     'tx_window/a_dropped_symbol_is_zeros': 'tx_window/Asked',
