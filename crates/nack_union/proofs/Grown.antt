@@ -254,7 +254,6 @@ streams_grow u s parts m stands there cut info more =
           (holds_grown u.p s u.kept (asked_so_far s) parts k m stands.holds here of_cut of_info of_closed);
       collects = subst (λ (x : Marked). Collects u.p (v x) (with_parts parts s) (asked_so_far s)) same
           (collects_grown u.p s u.kept (asked_so_far s) parts k m stands.holds here of_cut of_info of_closed stands.collects);
-      idle = stands.idle;
     }
 
 -- a union whose last object, a stream, grew stands for the state whose stream did

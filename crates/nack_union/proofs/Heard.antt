@@ -36,14 +36,13 @@ so_far p s now = go s.round
     go None = refl
 
 pub stands_heard : (p : Settings) (u : Kept) (s : SenderState) (now : ℕ) (requests : List Request) → Holds p u s → Collects p u s (asked_so_far s ++ map (asked_now p s) requests)
-    → (idle : Bool) → (idle ≡ true → s.wants ≡ []) → Stands (record { p = p; kept = u; idle = idle }) (joined_round p s now requests)
-stands_heard p u s now [] h c idle none = record { holds = h; collects = subst (λ (asked : List Asked). Collects p u s asked) (append-nil (asked_so_far s)) c; idle = none }
-stands_heard p u s now (r ∷ requests) h c idle none =
-    subst (λ (asked : List Asked). Stands (record { p = p; kept = u; idle = idle }) (record s { round = Some (record (round_at p s now) { asked = asked ++ map (asked_now p s) (r ∷ requests) }) }))
+    → Stands (record { p = p; kept = u }) (joined_round p s now requests)
+stands_heard p u s now [] h c = record { holds = h; collects = subst (λ (asked : List Asked). Collects p u s asked) (append-nil (asked_so_far s)) c }
+stands_heard p u s now (r ∷ requests) h c =
+    subst (λ (asked : List Asked). Stands (record { p = p; kept = u }) (record s { round = Some (record (round_at p s now) { asked = asked ++ map (asked_now p s) (r ∷ requests) }) }))
     (so_far p s now) (record {
       holds = holds_asked p u _ (asked_so_far s ++ map (asked_now p s) (r ∷ requests)) h;
       collects = collects_asked p u _ (asked_so_far s ++ map (asked_now p s) (r ∷ requests)) (asked_so_far s ++ map (asked_now p s) (r ∷ requests)) c;
-      idle = none;
     })
 
 -- what was asked so far is what the open round was asked

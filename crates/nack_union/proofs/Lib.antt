@@ -49,3 +49,4 @@ pub mod Streams
 pub mod Numbered
 pub mod Fronting
 pub mod Bounds
+pub mod Wanting

@@ -1,12 +1,12 @@
 -- A union whose first objects, and first blocks of the next, are gone.
 use Rattle.std.proofs.Common.{◌≡◌, ℕ, ◌+◌, ◌-◌, ◌<◌, ◌≤◌, ◌⊎◌, inl, inr, List, drop, false, None, Some, ap, subst, ◌∙◌, arith}
-use Rattle.std.specs.Prelude.{filter, slice_get}
+use Rattle.std.specs.Prelude.{slice_get}
 use Rattle.std.proofs.lemmas.Bool.{cases_lt}
 use Rattle.std.proofs.lemmas.Option.{slice_get_within, get_or_from_slice_get}
 use Rattle.fec_plan.specs.Points.{point}
 use Rattle.norm_send_rules.specs.SenderState.{SenderState, Asked}
 use Rattle.norm_send_rules.specs.Dropping.{dropped_to}
-use Rattle.norm_send_rules.specs.InWindow.{stands_behind, current_shapes}
+use Rattle.norm_send_rules.specs.InWindow.{current_shapes}
 use Rattle.norm_base.specs.Settings.{Settings}
 use Rattle.nack_union.specs.Kept.{Kept, Marked, Holds, MayRetire, asked_so_far, retired, moved_front, shape_of_marked}
 use Rattle.nack_union.specs.Collected.{Collects}
@@ -44,7 +44,6 @@ pub retired_stands : (u : UnionState) (s : SenderState) (index block : ℕ) → 
 retired_stands u s index block may st = record {
   holds = holds_retired u.p u.kept s index block may st.holds;
   collects = collected_retired u.p u.kept s (asked_so_far s) index block may st.holds st.collects;
-  idle = λ e. ap (filter (stands_behind (point index block))) (st.idle e);
 }
 
 -- the law

@@ -29,7 +29,7 @@ ghost use Rattle.std.specs.Bool.{MatchBool};
 ghost use Rattle.nack_union.specs.Rounds.{new_wants, wants_closed};
 ghost use Rattle.nack_union.specs.Earliest.{is_before_window, earliest_with, items_spans, pairs_spans};
 ghost use Rattle.nack_union.specs.Collected.{Collects};
-ghost use Rattle.nack_union.specs.CollectionSound.{AreQuiet};
+ghost use Rattle.nack_union.specs.CollectionSound.{AreQuiet, wanting};
 
 use crate::asking::{ask_range, hold_all};
 use crate::earliest::{earliest_of, is_early, lesser};
@@ -46,7 +46,8 @@ use std::marker::Model;
 
 /// The wants and the sent symbols of the objects of a window, and what the open round asks for. Objects are admitted at its
 /// end and retired from its front. Outside of the places from `low` up to `high` the round asks for nothing. `earliest` is
-/// the first point from which its requests count. Of the objects before the place `quiet` nothing is wanted.
+/// the first point from which its requests count. Of the objects before the place `quiet` nothing is wanted, and of so many
+/// as `wanting` says something is.
 #[derive(Debug, Drop)]
 pub struct Collection {
     alloc: Global,
@@ -56,6 +57,7 @@ pub struct Collection {
     high: usize,
     earliest: Option<Point>,
     quiet: usize,
+    wanting: usize,
 }
 
 /// What the closing of a round says.
@@ -93,11 +95,11 @@ fn first_wanted(objects: &[Marks], from: usize) -> Option<usize>
     None
 }
 
-/// Whether something of some object is wanted.
-fn is_some_wanted(objects: &[Marks]) -> bool
-    ensures { result ≡ list_any (λ m. nat_lt 0 (length m.wants)) objects.now }
+/// Of how many objects something is wanted.
+fn count_wanted(objects: &[Marks]) -> usize
+    ensures { result ≡ wanting objects.now }
 {
-    objects.iter().any(|object| object.is_wanted())
+    objects.iter().filter(|object| object.is_wanted()).count()
 }
 
 /// Drops so many objects from the front.
@@ -161,6 +163,7 @@ impl Collection {
             high: 0,
             earliest: None,
             quiet: 0,
+            wanting: 0,
         }
     }
 
@@ -225,6 +228,8 @@ impl Collection {
         requires { 0 < length self.old.objects }
         ensures { (m : Marked) (u : Kept) → self.old ≡ with_object m u → self.new ≡ u }
     {
+        let last = self.objects.len() - 1;
+        self.wanting -= usize::from(self.objects[last].is_wanted());
         self.objects.pop();
     }
 
@@ -240,6 +245,7 @@ impl Collection {
         self.high = 0;
         self.earliest = None;
         self.quiet = 0;
+        self.wanting = 0;
     }
 
     /// Drops all objects before an index, and says whether one of them was wanted.
@@ -250,13 +256,14 @@ impl Collection {
         ensures dropped { result ≡ list_any (λ m. nat_lt 0 (length m.wants)) (take (index - self.old.first) self.old.objects) }
     {
         let count = (index - self.first) as usize;
-        let dropped = is_some_wanted(&self.objects[..count]);
+        let gone = count_wanted(&self.objects[..count]);
         drop_front(&mut self.objects, count);
         self.first = index;
         self.low = self.low.saturating_sub(count);
         self.high = self.high.saturating_sub(count);
         self.quiet = self.quiet.saturating_sub(count);
-        dropped
+        self.wanting -= gone;
+        gone > 0
     }
 
     /// Keeps the first object, a stream, from a block on, and says whether something was wanted before.
@@ -268,7 +275,11 @@ impl Collection {
         ensures gone { result ≡ any_gone block self.old.objects }
     {
         let object = &mut self.objects[0];
-        object.move_on(block)
+        let before = usize::from(object.is_wanted());
+        let gone = object.move_on(block);
+        let after = usize::from(object.is_wanted());
+        self.wanting = self.wanting - before + after;
+        gone
     }
 
     /// Keeps the first object from a block on, and says whether something was wanted before.
@@ -493,7 +504,7 @@ impl Collection {
     pub fn is_wanted(&self) -> bool
         ensures { (p : Settings) (s : SenderState) → Holds p self.now s → result ≡ nat_lt 0 (length s.wants) }
     {
-        is_some_wanted(&self.objects)
+        self.wanting > 0
     }
 
     /// Takes out the lowest want. `None` exactly where there is none.
@@ -504,10 +515,14 @@ impl Collection {
             → MatchOption result ((s.wants ≡ []) × Holds p self.new s)
             (λ want. (rest : List Wanted) × (s.wants ≡ want ∷ rest) × Holds p self.new (record s { wants = rest })) }
     {
+        if self.wanting == 0 {
+            return None;
+        }
         let place = first_wanted(&self.objects, self.quiet)?;
         self.quiet = place;
         let object = &mut self.objects[place];
         let slot = object.take_lowest()?;
+        self.wanting -= usize::from(!object.is_wanted());
         Some(want_of(self.first + place as u32, slot))
     }
 
@@ -527,7 +542,10 @@ impl Collection {
     {
         let high = self.high.min(self.objects.len());
         let low = self.low.min(high);
+        let before = count_wanted(&self.objects[low..high]);
         let queued = close_all(&mut self.objects[low..high]);
+        let after = count_wanted(&self.objects[low..high]);
+        self.wanting = self.wanting - before + after;
         self.low = high;
         self.high = high;
         self.quiet = self.quiet.min(low);

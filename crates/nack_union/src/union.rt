@@ -34,8 +34,6 @@ use std::marker::Model;
 pub struct Union {
     profile: Profile,
     collection: Collection,
-    /// It is known that nothing is wanted.
-    idle: bool,
 }
 
 impl Model for Union {
@@ -43,7 +41,7 @@ impl Model for Union {
 
     ghost Value = { UnionState };
 
-    ghost view = { λ u. record { p = u.profile; kept = u.collection; idle = u.idle } };
+    ghost view = { λ u. record { p = u.profile; kept = u.collection } };
 }
 
 impl Union {
@@ -56,7 +54,6 @@ impl Union {
         Union {
             profile: *profile,
             collection,
-            idle: true,
         }
     }
 
@@ -112,7 +109,6 @@ impl Union {
         ensures profile { self.new.p ≡ self.old.p }
     {
         self.collection.clear();
-        self.idle = true;
     }
 
     /// Drops all before a point, and says whether that took away a want.
@@ -155,9 +151,6 @@ impl Union {
     pub fn is_wanted(&self) -> bool
         ensures { (s : SenderState) → Stands self.now s → result ≡ nat_lt 0 (length s.wants) }
     {
-        if self.idle {
-            return false;
-        }
         self.collection.is_wanted()
     }
 
@@ -167,14 +160,7 @@ impl Union {
             (λ want. (rest : List Wanted) × (s.wants ≡ want ∷ rest) × Stands self.new (record s { wants = rest })) }
         ensures profile { self.new.p ≡ self.old.p }
     {
-        if self.idle {
-            return None;
-        }
-        let want = self.collection.next();
-        if want.is_none() {
-            self.idle = true;
-        }
-        want
+        self.collection.next()
     }
 
     /// Closes the open round: what it asked for is wanted, of a counted block the lowest parity symbols that were never
@@ -187,8 +173,6 @@ impl Union {
             × (result.early ≡ list_any (λ a. asks_early s.current.drop a.request) r.asked) }
         ensures profile { self.new.p ≡ self.old.p }
     {
-        let closed = self.collection.close_round();
-        self.idle = false;
-        closed
+        self.collection.close_round()
     }
 }

@@ -4,9 +4,10 @@ use Rattle.std.specs.Vec.{with_items}
 use Rattle.std.proofs.lemmas.List.{with_items_is}
 use Rattle.norm_ext.specs.Asking.{span}
 use Rattle.nack_union.specs.Kept.{Kept, Marked}
-use Rattle.nack_union.specs.CollectionSound.{AreIdle, AreQuiet}
+use Rattle.nack_union.specs.CollectionSound.{AreIdle, AreQuiet, wanting}
 use Rattle.nack_union.specs.More.{HasPart, MoreOf, named_part}
 use Rattle.nack_union.proofs.Quiet.{quiet_kept}
+use Rattle.nack_union.proofs.Wanting.{wanting_kept}
 use Rattle.nack_union.proofs.Outside.{named_in_all, idle_kept}
 use Rattle.nack_union.proofs.collection.Collection.ask_named.Goals as goal
 
@@ -49,6 +50,9 @@ invariant_of-self c = record {
   quiet = subst (AreQuiet c.self.inside.quiet) (sym (now c))
       (quiet_kept c.self.inside.quiet c.self.inside.objects.items c.ask_range.new.objects (same_length c)
       (λ k d lt. ap (λ (m : Marked). m.wants) (each c k d lt).rest) c.self.invariant.quiet);
+  counted =
+      c.self.invariant.counted
+      ∙ sym (ap wanting (now c) ∙ wanting_kept c.self.inside.objects.items c.ask_range.new.objects (same_length c) (λ k d lt. ap (λ (m : Marked). m.wants) (each c k d lt).rest));
 }
 
 pub returns : goal.returns

@@ -1,10 +1,11 @@
-use Rattle.std.proofs.Common.{subst, sym, ap, List, [], ◌∷◌, ◌+◌, length, arith}
+use Rattle.std.proofs.Common.{subst, sym, ap, List, [], ◌∷◌, ◌+◌, length, ◌∙◌, arith}
 use Rattle.std.proofs.lemmas.List.{length-append}
 use Rattle.nack_union.specs.Kept.{Kept, Marked, Holds}
 use Rattle.norm_send_rules.specs.Enqueuing.{with_entry}
-use Rattle.nack_union.specs.CollectionSound.{AreIdle, AreQuiet}
+use Rattle.nack_union.specs.CollectionSound.{AreIdle, AreQuiet, wanting}
 use Rattle.nack_union.proofs.Idle.{idle_pushed}
 use Rattle.nack_union.proofs.Quiet.{quiet_pushed}
+use Rattle.nack_union.proofs.Wanting.{wanting_pushed}
 use Rattle.nack_union.specs.Collected.{Collects}
 use Rattle.nack_union.proofs.Windows.{collects_admitted}
 use Rattle.nack_union.proofs.Standing.{stands_admitted}
@@ -22,6 +23,7 @@ invariant_of-self-2 c = record {
       (idle_pushed c.self.inside.low c.self.inside.high c.self.inside.objects.items c.args.marks c.self.invariant.idle (c.requires.fresh.asked, c.requires.fresh.counts));
   quiet = subst (AreQuiet c.self.inside.quiet) (sym c.in_ok-push.ensures.items)
       (quiet_pushed c.self.inside.quiet c.self.inside.objects.items c.args.marks c.self.invariant.quiet c.requires.fresh.wants);
+  counted = c.self.invariant.counted ∙ sym (ap wanting c.in_ok-push.ensures.items ∙ wanting_pushed c.self.inside.objects.items c.args.marks c.requires.fresh.wants);
 }
 
 pub returns-clause-collects : goal.returns-clause-collects
@@ -36,4 +38,5 @@ invariant_of-self c = record {
   few = let few = c.self.invariant.few in let same = ap length c.in_err-push.ensures.items in omega (arith, few, same);
   idle = subst (AreIdle c.self.inside.low c.self.inside.high) (sym c.in_err-push.ensures.items) c.self.invariant.idle;
   quiet = subst (AreQuiet c.self.inside.quiet) (sym c.in_err-push.ensures.items) c.self.invariant.quiet;
+  counted = c.self.invariant.counted ∙ ap wanting (sym c.in_err-push.ensures.items);
 }

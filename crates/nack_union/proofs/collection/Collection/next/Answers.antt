@@ -1,4 +1,4 @@
-use Rattle.std.proofs.Common.{◌≡◌, ℕ, List, [], ◌∷◌, length, false, Bool, subst, sym, ap, ◌∙◌}
+use Rattle.std.proofs.Common.{◌≡◌, ◌+◌, ℕ, List, [], ◌∷◌, length, get_or, cond, false, Bool, subst, sym, ap, ◌∙◌, arith}
 use Rattle.std.specs.Prelude.{nat_lt, position, Option, MatchOption}
 use Rattle.std.proofs.lemmas.List.Quantifiers.{position-Some}
 use Rattle.fec_plan.specs.Partition.{stream_cut}
@@ -11,11 +11,17 @@ use Rattle.std.specs.List.{AllByRecursion}
 use Rattle.norm_send_rules.specs.InWindow.{next_index}
 use Rattle.nack_union.specs.Collected.{IsKnownIn}
 use Rattle.nack_union.proofs.Collections.{collects_kept, known_kept}
+use Rattle.nack_union.proofs.Wanting.{one, other_is_one, wanting_set, wanting_same, none_wanting}
 use Rattle.nack_union.proofs.Standing.{stands_next, stands_idle}
 use Rattle.nack_union.proofs.collection.Collection.next.Goals as goal
 
 abbrev wanted : Marked → Bool
 wanted m = nat_lt 0 (length m.wants)
+
+pub returns-then-self-eq0-clause-first : goal.returns-then-self-eq0-clause-first
+returns-then-self-eq0-clause-first c = λ p s st.
+    let d : Marked = admitted (stream_cut 0 0 0) false in
+    (stands_idle p s _ d (none_wanting c.self.inside.objects.items d (sym c.self.invariant.counted ∙ c.if-self-eq0.true)) (subst (λ (u : Kept). Holds p u s) (sym c.self.view_is) st), st)
 
 pub returns-in_err-place-clause-first : goal.returns-in_err-place-clause-first
 returns-in_err-place-clause-first c = λ p s st.
@@ -66,6 +72,7 @@ invariant_of-self c =
       idle = idle_set c.self.inside.low c.self.inside.high c.in_ok-place.place c.self.inside.objects.items c.take_lowest.new.self c.index_mut-object.result.now
           within (ap (λ (m : Marked). m.asked) same) (ap (λ (m : Marked). m.counts) same) c.self.invariant.idle;
       quiet = quiet_set c.self.inside.objects.items c.in_ok-place.place c.take_lowest.new.self (quiet_before c.self.inside.objects.items c.in_ok-place.place found);
+      counted = c.self.invariant.counted ∙ sym (wanting_same c.self.inside.objects.items c.in_ok-place.place c.take_lowest.new.self c.index_mut-object.result.now within (ap (λ (m : Marked). m.wants) same));
     }
 
 pub invariant_of-self-2 : goal.invariant_of-self-2
@@ -78,4 +85,12 @@ invariant_of-self-2 c =
       idle = idle_set c.self.inside.low c.self.inside.high c.in_ok-place.place c.self.inside.objects.items c.take_lowest.new.self c.index_mut-object.result.now
           within (sym (ap (λ (m : Marked). m.asked) same)) (sym (ap (λ (m : Marked). m.counts) same)) c.self.invariant.idle;
       quiet = quiet_set c.self.inside.objects.items c.in_ok-place.place c.take_lowest.new.self (quiet_before c.self.inside.objects.items c.in_ok-place.place found);
+      counted =
+          let was = c.self.invariant.counted in
+          let all = wanting_set c.self.inside.objects.items c.in_ok-place.place c.take_lowest.new.self c.index_mut-object.result.now within in
+          let here : one (get_or c.self.inside.objects.items c.in_ok-place.place c.index_mut-object.result.now) ≡ 1 =
+          ap (λ b. cond b 1 0) (position-Some wanted c.self.inside.objects.items c.in_ok-place.place c.index_mut-object.result.now found).1 in
+          let gone : c.from.result + one c.take_lowest.new.self ≡ 1 =
+          other_is_one c.take_lowest.new.self c.is_wanted.result c.from.result c.from.ensures c.is_wanted.ensures in
+          omega (arith, was, all, here, gone);
     }

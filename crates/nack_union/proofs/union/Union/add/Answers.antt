@@ -9,5 +9,5 @@ pub returns-clause-stands : goal.returns-clause-stands
 returns-clause-stands c = λ s now stands.
     let u = c.self.inside in
     let here = subst (λ (v : UnionState). Stands v s) (sym c.self.view_is) stands in
-    subst (λ (v : UnionState). Stands (record { p = u.profile; kept = c.add.new.self; idle = u.idle }) (joined_round v.p s now c.args.requests)) c.self.view_is
-    (stands_heard u.profile c.add.new.self s now c.args.requests (c.add.ensures.stands s here.holds) (c.add.ensures.collects s (asked_so_far s) here.holds here.collects) u.idle here.idle)
+    subst (λ (v : UnionState). Stands (record { p = u.profile; kept = c.add.new.self }) (joined_round v.p s now c.args.requests)) c.self.view_is
+    (stands_heard u.profile c.add.new.self s now c.args.requests (c.add.ensures.stands s here.holds) (c.add.ensures.collects s (asked_so_far s) here.holds here.collects))

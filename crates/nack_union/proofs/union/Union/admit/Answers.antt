@@ -13,5 +13,4 @@ returns-clause-stands c = λ entry shape s stands.
     record {
       holds = c.in_ok-admit.ensures.stands u.profile s entry here.holds (subst (λ (v : UnionState). shape_of v.p entry.object ≡ shape_of_marked (admitted c.args.plan.now c.args.info)) (sym c.self.view_is) shape) (room_object u.profile c.args.plan.now c.args.info);
       collects = c.in_ok-admit.ensures.collects u.profile s (asked_so_far s) entry here.holds here.collects;
-      idle = here.idle;
     }

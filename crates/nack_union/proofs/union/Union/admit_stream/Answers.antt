@@ -13,5 +13,4 @@ returns-clause-stands c = λ entry shape s stands.
     record {
       holds = c.in_ok-admit_stream.ensures.stands u.profile s entry here.holds (subst (λ (v : UnionState). shape_of v.p entry.object ≡ shape_of_marked (admitted_stream c.args.plan.now v.p.blocks)) (sym c.self.view_is) shape) (room_stream u.profile c.args.plan.now);
       collects = c.in_ok-admit_stream.ensures.collects u.profile s (asked_so_far s) entry here.holds here.collects;
-      idle = here.idle;
     }

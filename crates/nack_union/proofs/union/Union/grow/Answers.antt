@@ -8,7 +8,7 @@ use Rattle.nack_union.proofs.union.Union.grow.Goals as goal
 pub grow-requires-clause-last : goal.grow-requires-clause-last
 grow-requires-clause-last c =
     subst (λ (n : ℕ). OfLast (CanGrow n) c.self.inside.collection) (sym c.from.ensures)
-    (last_can_grow c.args.segments (record { p = c.self.inside.profile; kept = c.self.inside.collection; idle = c.self.inside.idle })
+    (last_can_grow c.args.segments (record { p = c.self.inside.profile; kept = c.self.inside.collection })
     (subst (λ (u : UnionState). OfLast (MayGrow u.p c.args.segments) u.kept) (sym c.self.view_is) c.requires.last))
 
 pub returns-clause-exact : goal.returns-clause-exact
@@ -18,7 +18,7 @@ returns-clause-exact c = λ m is.
     ∙ ap (λ (u : UnionState). record u { kept = grown_to c.args.segments m u.kept }) c.self.view_is
   where
     held : Kept → UnionState
-    held k = record { p = c.self.inside.profile; kept = k; idle = c.self.inside.idle }
+    held k = record { p = c.self.inside.profile; kept = k }
 
 pub returns-clause-stands : goal.returns-clause-stands
 returns-clause-stands c = λ parts is s stands.

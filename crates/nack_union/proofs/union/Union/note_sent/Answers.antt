@@ -7,4 +7,4 @@ pub returns-clause-stands : goal.returns-clause-stands
 returns-clause-stands c = λ s stands.
     let u = c.self.inside in
     let here = subst (λ (v : UnionState). Stands v s) (sym c.self.view_is) stands in
-    record { holds = c.note_sent.ensures.stands u.profile s here.holds; collects = c.note_sent.ensures.collects u.profile s (asked_so_far s) here.collects; idle = here.idle }
+    record { holds = c.note_sent.ensures.stands u.profile s here.holds; collects = c.note_sent.ensures.collects u.profile s (asked_so_far s) here.collects }

@@ -1,9 +1,6 @@
-use Rattle.std.proofs.Common.{ap, sym, subst}
+use Rattle.std.proofs.Common.{sym, subst}
 use Rattle.nack_union.specs.Kept.{MayRetire, asked_so_far}
 use Rattle.nack_union.specs.UnionState.{UnionState, Stands}
-use Rattle.std.specs.Prelude.{filter}
-use Rattle.fec_plan.specs.Points.{point}
-use Rattle.norm_send_rules.specs.InWindow.{stands_behind}
 use Rattle.nack_union.proofs.union.Union.retire.Goals as goal
 
 pub retire-requires : goal.retire-requires
@@ -16,7 +13,6 @@ returns-clause-stands c = λ s stands.
     record {
       holds = (c.retire.ensures.stands u.profile s here.holds).0;
       collects = c.retire.ensures.collects u.profile s (asked_so_far s) here.holds here.collects;
-      idle = λ e. ap (filter (stands_behind (point c.args.index c.args.block))) (here.idle e);
     }
 
 pub returns-clause-wanted : goal.returns-clause-wanted
