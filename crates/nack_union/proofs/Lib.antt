@@ -50,3 +50,4 @@ pub mod Numbered
 pub mod Fronting
 pub mod Bounds
 pub mod Wanting
+pub mod Planned

@@ -6,7 +6,7 @@ use Rattle.fec_plan.specs.Partition.{IsSound, blocks, all_symbols, encoding_symb
 use Rattle.fec_plan.specs.Points.{point, position}
 use Rattle.fec_plan.specs.declared.position.Position.{Position}
 use Rattle.norm_ext.specs.Asking.{Named, asks_source, asks_info, asked_symbols, asked_counts}
-use Rattle.norm_order.specs.Sets.{is_member}
+use Rattle.norm_order.specs.Sets.{is_member, Rises}
 use Rattle.norm_order.specs.Shapes.{Shape, closed_in, encoded_in}
 use Rattle.norm_send_rules.specs.Closing.{greatest}
 use Rattle.norm_send_rules.specs.Laws.{Rise}
@@ -55,7 +55,7 @@ pub record HasAdded (requests : List Named) (old new : Kept) : Type 0 where
 
 -- What holds of each object: nothing is wrong with its cut, no more symbols are closed than it has, and all that it has
 -- where it has a length; its symbols' ids have 8 bits, each block of which something is closed has a count, and what is asked for is of
--- what is kept.
+-- what is kept, and rises.
 pub record IsPlanned (m : Marked) : Type 0 where
   pub sound : IsSound m.cut
   pub closed : m.closed ≤ all_symbols m.cut
@@ -63,3 +63,4 @@ pub record IsPlanned (m : Marked) : Type 0 where
   pub few : (block : ℕ) → encoding_symbols m.cut block ≤ 255
   pub counts : (block : ℕ) → length m.counts ≤ block → closed_in (shape_of_marked m) block ≡ 0
   pub kept : (slot : ℕ) → is_member nat_lt slot m.asked ≡ true → stands_from m.first slot ≡ true
+  pub rises : Rises m.asked

@@ -6,7 +6,6 @@ ghost use Rattle.nack_union.specs.Kept.{Marked};
 ghost use Rattle.nack_union.specs.More.{MoreOf, named_part};
 ghost use Rattle.nack_union.specs.Adding.{IsPlanned};
 ghost use Rattle.std.specs.List.{AllByRecursion};
-ghost use Rattle.norm_order.specs.Sets.{Rises};
 
 use crate::marks::{Marks, Named};
 use fec_plan::Position;
@@ -20,20 +19,10 @@ pub fn ask_range(objects: &mut [Marks], first: u32, from: usize, to: usize, name
     ensures each { (k : ℕ) (d : Marked) → k < length objects.old → from ≤ k → k < to
         → MoreOf (named_part named.flags (span named.first named.last)) (first + k) (get_or objects.old k d) (get_or objects.new k d) }
     ensures rest { (k : ℕ) (d : Marked) → (k < from) ⊎ (to ≤ k) → get_or objects.new k d ≡ get_or objects.old k d }
+    ensures planned { AllByRecursion IsPlanned objects.old → AllByRecursion IsPlanned objects.new }
 {
     // Proof: the label names the loop for its invariant.
     'places: for place in from..to {
         objects[place].ask_named(first + place as u32, &named);
-    }
-}
-
-/// What holds of each object of a window. Nothing is done.
-pub fn hold_all(objects: &[Marks])
-    ensures planned { AllByRecursion IsPlanned objects.now }
-    ensures rise { AllByRecursion (λ m. Rises m.asked) objects.now }
-{
-    // Proof: the label names the loop for its invariant.
-    'objects: for object in objects {
-        object.hold();
     }
 }

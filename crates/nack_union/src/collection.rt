@@ -31,7 +31,7 @@ ghost use Rattle.nack_union.specs.Earliest.{is_before_window, earliest_with, ite
 ghost use Rattle.nack_union.specs.Collected.{Collects};
 ghost use Rattle.nack_union.specs.CollectionSound.{AreQuiet, wanting};
 
-use crate::asking::{ask_range, hold_all};
+use crate::asking::ask_range;
 use crate::earliest::{earliest_of, is_early, lesser};
 use crate::marks::{Marks, Named};
 use crate::slots::{slot_of, want_of};
@@ -209,6 +209,7 @@ impl Collection {
             → Collects p self.old s asked → Collects p self.new (with_entry entry s) asked) }
         ensures memory { IsErr result → self.new ≡ self.old }
     {
+        marks.hold();
         self.objects.push(marks)?;
         Ok(())
     }
@@ -221,6 +222,7 @@ impl Collection {
     {
         let object = &mut self.objects[(index - self.first) as usize];
         object.grow(closed);
+        object.hold();
     }
 
     /// Takes back the last `admit`, where nothing was called since.
@@ -277,6 +279,7 @@ impl Collection {
         let object = &mut self.objects[0];
         let before = usize::from(object.is_wanted());
         let gone = object.move_on(block);
+        object.hold();
         let after = usize::from(object.is_wanted());
         self.wanting = self.wanting - before + after;
         gone
@@ -319,7 +322,6 @@ impl Collection {
         ensures collects { (p : Settings) (s : SenderState) (asked : List Asked) → Collects p self.old s asked → Collects p self.new (noted (Symbol at) s) asked }
     {
         let object = &mut self.objects[(at.index - self.first) as usize];
-        object.hold();
         object.note_sent(slot_of(at.block, at.symbol));
     }
 
@@ -342,7 +344,9 @@ impl Collection {
             let place = (at.index - self.first) as usize;
             self.low = self.low.min(place);
             self.high = self.high.max(place + 1);
-            self.objects[place].ask_symbol(at.block, at.symbol);
+            let object = &mut self.objects[place];
+            object.ask_symbol(at.block, at.symbol);
+            object.hold();
         }
     }
 
@@ -354,7 +358,9 @@ impl Collection {
             let place = (at.index - self.first) as usize;
             self.low = self.low.min(place);
             self.high = self.high.max(place + 1);
-            self.objects[place].count_block(at.block, at.symbol);
+            let object = &mut self.objects[place];
+            object.count_block(at.block, at.symbol);
+            object.hold();
         }
     }
 
@@ -494,10 +500,11 @@ impl Collection {
         ensures collects { (s : SenderState) (asked : List Asked) → Holds profile.now self.old s → Collects profile.now self.old s asked
             → Collects profile.now self.new s (asked ++ map (asked_now profile.now s) requests.entry) }
     {
+        // Proof: what is kept is looked at before and after, and with it that it is sound.
+        let _ = &self.objects;
         let known = self.known();
-        hold_all(&self.objects);
         self.ask_requests(profile, known, requests);
-        hold_all(&self.objects);
+        let _ = &self.objects;
     }
 
     /// Whether anything is wanted.

@@ -3,7 +3,7 @@
 ghost use Rattle.std.specs.Prelude.{◌≡◌, ◌+◌, ◌-◌, ◌*◌, ◌^◌, ◌<◌, ◌≤◌, ◌∷◌, [], nat_lt, IfOk, MatchOption, true, false, ◌==◌, ℕ, length, max, replicate, set, slice_index, ◌&&◌, ◌||◌, not, None, Some};
 ghost use Rattle.fec_plan.specs.Partition.{all_symbols, blocks, most_blocks};
 ghost use Rattle.norm_order.specs.Shapes.{closed_in};
-ghost use Rattle.norm_order.specs.Sets.{is_member, with_member, Rises};
+ghost use Rattle.norm_order.specs.Sets.{is_member, with_member};
 ghost use Rattle.nack_union.specs.Slots.{slots, stands_from};
 ghost use Rattle.nack_union.specs.More.{HasMore, is_source_slot, is_encoded_slot, slot_in, slot_from, slot_behind, is_slot_of, count_at as counted_at, kept_count, MoreOf, named_part};
 ghost use Rattle.symbol_mask.specs.Words.{in_run};
@@ -256,10 +256,9 @@ impl Marks {
         BLOCK * self.first as usize
     }
 
-    /// What holds of each object. Nothing is done.
+    /// Nothing is done: it says what holds of each object, for the invariant of a collection.
     pub fn hold(&self)
-        ensures planned { IsPlanned self.now }
-        ensures rises { Rises self.now.asked }
+        ensures { IsPlanned self.now }
     {
         self.plan.blocks();
         self.plan.encoded_len(0);
@@ -413,12 +412,14 @@ impl Marks {
     pub fn ask_named(&mut self, index: u32, named: &Named)
         requires from { named.now.first.index ≤ index }
         requires to { index ≤ named.now.last.index }
-        ensures { MoreOf (named_part named.now.flags (span named.now.first named.now.last)) index self.old self.new }
+        ensures more { MoreOf (named_part named.now.flags (span named.now.first named.now.last)) index self.old self.new }
+        ensures planned { IsPlanned self.old → IsPlanned self.new }
     {
         if self.is_settled(named.flags) {
             return;
         }
         self.ask_by_flags(index, named);
+        self.hold();
     }
 
     /// The round asks for an encoded symbol of the object.

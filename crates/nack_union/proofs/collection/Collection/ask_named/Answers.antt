@@ -3,7 +3,9 @@ use Rattle.std.specs.Prelude.{min}
 use Rattle.std.specs.Vec.{with_items}
 use Rattle.std.proofs.lemmas.List.{with_items_is}
 use Rattle.norm_ext.specs.Asking.{span}
+use Rattle.std.specs.List.{AllByRecursion}
 use Rattle.nack_union.specs.Kept.{Kept, Marked}
+use Rattle.nack_union.specs.Adding.{IsPlanned}
 use Rattle.nack_union.specs.CollectionSound.{AreIdle, AreQuiet, wanting}
 use Rattle.nack_union.specs.More.{HasPart, MoreOf, named_part}
 use Rattle.nack_union.proofs.Quiet.{quiet_kept}
@@ -53,6 +55,9 @@ invariant_of-self c = record {
   counted =
       c.self.invariant.counted
       ∙ sym (ap wanting (now c) ∙ wanting_kept c.self.inside.objects.items c.ask_range.new.objects (same_length c) (λ k d lt. ap (λ (m : Marked). m.wants) (each c k d lt).rest));
+  planned =
+      subst (AllByRecursion IsPlanned) (sym (now c))
+      (c.ask_range.ensures.planned (subst (AllByRecursion IsPlanned) (sym c.deref_mut.ensures.value) c.self.invariant.planned));
 }
 
 pub returns : goal.returns

@@ -11,6 +11,8 @@ use Rattle.nack_union.specs.Rounds.{wants_closed, new_wants}
 use Rattle.nack_union.specs.CollectionSound.{AreIdle, AreQuiet, wanting}
 use Rattle.nack_union.proofs.Idle.{idle_outside, closed_range, counted_range, new_range, closed_are_idle}
 use Rattle.nack_union.proofs.Quiet.{quiet_closed}
+use Rattle.nack_union.specs.Adding.{IsPlanned}
+use Rattle.nack_union.proofs.Planned.{all_closed}
 use Rattle.nack_union.proofs.Wanting.{wanting_closed, wanting_range}
 use Rattle.nack_union.proofs.Rounding.{stands_closed, all_queued}
 use Rattle.norm_send_rules.specs.declared.want.Want.{Want}
@@ -74,6 +76,7 @@ invariant_of-self c = record {
       let low = wanting_range c.self.inside.objects.items c.min-low.result (c.min-high.result - c.min-low.result) in
       let left = ap wanting (now c) in
       omega (arith, was, all, low, left, some_before c, some_after c);
+  planned = subst (AllByRecursion IsPlanned) (sym (now c)) (all_closed c.self.inside.objects.items c.self.invariant.planned);
 }
 
 pub returns-clause-closed : goal.returns-clause-closed

@@ -4,6 +4,9 @@ use Rattle.std.specs.List.{list_any}
 use Rattle.std.proofs.lemmas.List.{get_or-drop, length-drop}
 use Rattle.nack_union.specs.Kept.{Kept, Marked}
 use Rattle.nack_union.specs.CollectionSound.{IsIdle, AreIdle, AreQuiet, wanting}
+use Rattle.std.specs.List.{AllByRecursion}
+use Rattle.nack_union.specs.Adding.{IsPlanned}
+use Rattle.nack_union.proofs.Planned.{planned_drop}
 use Rattle.nack_union.proofs.Wanting.{any_wanting, wanting_parts}
 use Rattle.nack_union.proofs.collection.Collection.drop_objects.Goals as goal
 
@@ -60,4 +63,5 @@ invariant_of-self c = record {
       let less = gone c in
       let left = ap wanting c.drop_front.ensures in
       omega (arith, all, was, less, left);
+  planned = subst (AllByRecursion IsPlanned) (sym c.drop_front.ensures) (planned_drop (c.args.index - c.self.inside.first) c.self.inside.objects.items c.self.invariant.planned);
 }

@@ -4,6 +4,7 @@ use Rattle.nack_union.specs.Kept.{Kept, Marked, CanGrow, OfLast, grown_to}
 use Rattle.nack_union.proofs.Heard.{there_at}
 use Rattle.nack_union.proofs.Quiet.{quiet_same, idle_set, few_set}
 use Rattle.nack_union.proofs.Wanting.{wanting_same}
+use Rattle.nack_union.proofs.Planned.{planned_set}
 use Rattle.nack_union.proofs.collection.Collection.grow.Goals as goal
 
 -- the index is that of the last object
@@ -55,4 +56,5 @@ invariant_of-self c =
           lt (ap (λ (m : Marked). m.wants) same ∙ ap (λ (m : Marked). m.wants) was) c.self.invariant.quiet;
       counted = c.self.invariant.counted ∙ sym (wanting_same c.self.inside.objects.items (c.args.index - c.self.inside.first) c.grow.new.self c.index_mut-object.result.now
           lt (ap (λ (m : Marked). m.wants) same ∙ ap (λ (m : Marked). m.wants) was));
+      planned = planned_set c.self.inside.objects.items (c.args.index - c.self.inside.first) c.grow.new.self c.self.invariant.planned c.hold.ensures;
     }

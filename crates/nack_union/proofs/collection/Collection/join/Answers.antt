@@ -6,6 +6,9 @@ use Rattle.nack_union.specs.CollectionSound.{AreIdle, AreQuiet, wanting}
 use Rattle.nack_union.proofs.Idle.{idle_pushed}
 use Rattle.nack_union.proofs.Quiet.{quiet_pushed}
 use Rattle.nack_union.proofs.Wanting.{wanting_pushed}
+use Rattle.std.specs.List.{AllByRecursion}
+use Rattle.nack_union.specs.Adding.{IsPlanned}
+use Rattle.nack_union.proofs.Planned.{planned_pushed}
 use Rattle.nack_union.specs.Collected.{Collects}
 use Rattle.nack_union.proofs.Windows.{collects_admitted}
 use Rattle.nack_union.proofs.Standing.{stands_admitted}
@@ -24,6 +27,7 @@ invariant_of-self-2 c = record {
   quiet = subst (AreQuiet c.self.inside.quiet) (sym c.in_ok-push.ensures.items)
       (quiet_pushed c.self.inside.quiet c.self.inside.objects.items c.args.marks c.self.invariant.quiet c.requires.fresh.wants);
   counted = c.self.invariant.counted ∙ sym (ap wanting c.in_ok-push.ensures.items ∙ wanting_pushed c.self.inside.objects.items c.args.marks c.requires.fresh.wants);
+  planned = subst (AllByRecursion IsPlanned) (sym c.in_ok-push.ensures.items) (planned_pushed c.self.inside.objects.items c.args.marks c.self.invariant.planned c.hold.ensures);
 }
 
 pub returns-clause-collects : goal.returns-clause-collects
@@ -39,4 +43,5 @@ invariant_of-self c = record {
   idle = subst (AreIdle c.self.inside.low c.self.inside.high) (sym c.in_err-push.ensures.items) c.self.invariant.idle;
   quiet = subst (AreQuiet c.self.inside.quiet) (sym c.in_err-push.ensures.items) c.self.invariant.quiet;
   counted = c.self.invariant.counted ∙ ap wanting (sym c.in_err-push.ensures.items);
+  planned = subst (AllByRecursion IsPlanned) (sym c.in_err-push.ensures.items) c.self.invariant.planned;
 }

@@ -4,6 +4,7 @@ use Rattle.nack_union.specs.Kept.{Kept, Marked, MayMoveOn, moved_front, any_gone
 use Rattle.nack_union.specs.CollectionSound.{AreIdle, AreQuiet}
 use Rattle.nack_union.proofs.Heard.{there_at}
 use Rattle.nack_union.proofs.Quiet.{few_set}
+use Rattle.nack_union.proofs.Planned.{planned_set}
 use Rattle.nack_union.proofs.Wanting.{one, one_is, wanting_set, wanting_one}
 use Rattle.nack_union.proofs.Fronting.{set_front, gone_front, idle_front, quiet_front}
 use Rattle.nack_union.proofs.collection.Collection.move_first.Goals as goal
@@ -53,6 +54,7 @@ invariant_of-self c =
           let after : c.from-after.result ≡ one c.move_on-gone.new.self = one_is c.move_on-gone.new.self c.is_wanted-2.result c.from-after.result c.from-after.ensures c.is_wanted-2.ensures in
           let low = wanting_one c.self.inside.objects.items 0 c.index_mut-object.result.now (some _ _ c.self.view_is c.requires.some) in
           omega (arith, was, all, before, after, low);
+      planned = planned_set c.self.inside.objects.items 0 c.move_on-gone.new.self c.self.invariant.planned c.hold.ensures;
     }
 
 pub move_on-gone-requires-clause-most : goal.move_on-gone-requires-clause-most

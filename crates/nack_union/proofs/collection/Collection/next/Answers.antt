@@ -11,6 +11,9 @@ use Rattle.std.specs.List.{AllByRecursion}
 use Rattle.norm_send_rules.specs.InWindow.{next_index}
 use Rattle.nack_union.specs.Collected.{IsKnownIn}
 use Rattle.nack_union.proofs.Collections.{collects_kept, known_kept}
+use Rattle.nack_union.specs.Adding.{IsPlanned}
+use Rattle.nack_union.proofs.Came.{all_at}
+use Rattle.nack_union.proofs.Planned.{planned_set, planned_wants}
 use Rattle.nack_union.proofs.Wanting.{one, other_is_one, wanting_set, wanting_same, none_wanting}
 use Rattle.nack_union.proofs.Standing.{stands_next, stands_idle}
 use Rattle.nack_union.proofs.collection.Collection.next.Goals as goal
@@ -35,6 +38,13 @@ returns-in_err-place-clause-first c = λ p s st.
 
 pub returns-in_err-slot-clause-first : goal.returns-in_err-slot-clause-first
 returns-in_err-slot-clause-first c = λ p s st.
+    let at = ap (position wanted) (sym c.deref.ensures.value) ∙ sym c.first_wanted.ensures ∙ c.in_ok-place.was in
+    let there = (position-Some wanted c.self.inside.objects.items c.in_ok-place.place c.index_mut-object.result.now at).1 in
+    let none = ap (λ (xs : List ℕ). nat_lt 0 (length xs)) (sym c.in_err-slot.ensures.0 ∙ ap (λ (m : Marked). m.wants) c.index_mut-object.ensures.value) in
+    absurd (cc)
+
+pub returns-in_err-slot-clause-collects : goal.returns-in_err-slot-clause-collects
+returns-in_err-slot-clause-collects c = λ p s asked rest col.
     let at = ap (position wanted) (sym c.deref.ensures.value) ∙ sym c.first_wanted.ensures ∙ c.in_ok-place.was in
     let there = (position-Some wanted c.self.inside.objects.items c.in_ok-place.place c.index_mut-object.result.now at).1 in
     let none = ap (λ (xs : List ℕ). nat_lt 0 (length xs)) (sym c.in_err-slot.ensures.0 ∙ ap (λ (m : Marked). m.wants) c.index_mut-object.ensures.value) in
@@ -73,6 +83,8 @@ invariant_of-self c =
           within (ap (λ (m : Marked). m.asked) same) (ap (λ (m : Marked). m.counts) same) c.self.invariant.idle;
       quiet = quiet_set c.self.inside.objects.items c.in_ok-place.place c.take_lowest.new.self (quiet_before c.self.inside.objects.items c.in_ok-place.place found);
       counted = c.self.invariant.counted ∙ sym (wanting_same c.self.inside.objects.items c.in_ok-place.place c.take_lowest.new.self c.index_mut-object.result.now within (ap (λ (m : Marked). m.wants) same));
+      planned = planned_set c.self.inside.objects.items c.in_ok-place.place c.take_lowest.new.self c.self.invariant.planned
+          (subst IsPlanned (sym same) (all_at c.self.inside.objects.items c.in_ok-place.place c.index_mut-object.result.now c.self.invariant.planned within));
     }
 
 pub invariant_of-self-2 : goal.invariant_of-self-2
@@ -93,4 +105,7 @@ invariant_of-self-2 c =
           let gone : c.from.result + one c.take_lowest.new.self ≡ 1 =
           other_is_one c.take_lowest.new.self c.is_wanted.result c.from.result c.from.ensures c.is_wanted.ensures in
           omega (arith, was, all, here, gone);
+      planned = planned_set c.self.inside.objects.items c.in_ok-place.place c.take_lowest.new.self c.self.invariant.planned
+          (planned_wants _ c.take_lowest.new.self.wants
+          (subst IsPlanned same (all_at c.self.inside.objects.items c.in_ok-place.place c.index_mut-object.result.now c.self.invariant.planned within)));
     }

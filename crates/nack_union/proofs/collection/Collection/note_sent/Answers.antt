@@ -11,6 +11,11 @@ use Rattle.nack_union.specs.Collected.{Collects}
 use Rattle.std.specs.List.{AllByRecursion}
 use Rattle.norm_send_rules.specs.InWindow.{next_index}
 use Rattle.nack_union.specs.Collected.{IsKnownIn}
+use Rattle.nack_union.specs.Adding.{IsPlanned}
+use Rattle.nack_union.proofs.Came.{all_at}
+use Rattle.nack_union.proofs.Planned.{planned_set, planned_sent}
+use Rattle.nack_union.proofs.Quiet.{quiet_same, idle_set, few_set}
+use Rattle.nack_union.proofs.Wanting.{wanting_same}
 use Rattle.nack_union.proofs.Collections.{collects_kept, known_kept}
 use Rattle.nack_union.proofs.Standing.{stands_noted}
 use Rattle.nack_union.proofs.collection.Collection.note_sent.Goals as goal
@@ -66,7 +71,7 @@ note_sent-requires-clause-within c =
     let encoded = subst (λ (u : Kept). IsEncodedIn u c.args.at) (sym view) c.requires in
     let there = there_at items (c.at.inside.index - c.self.inside.first) m (omega (arith, first, many, encoded.first, encoded.object, at)) c.index_mut-object.ensures.value in
     subst (λ n. n < slots (length m.counts)) (sym (c.slot_of.ensures.slot ∙ ap (λ (x : Position). symbol_slot x.block x.symbol) c.at.view_is))
-    (slot_there m c.args.at.block c.args.at.symbol c.hold.ensures.planned
+    (slot_there m c.args.at.block c.args.at.symbol (subst IsPlanned (sym c.index_mut-object.ensures.value) (all_at items (c.at.inside.index - c.self.inside.first) m c.self.invariant.planned (omega (arith, first, many, encoded.first, encoded.object, at))))
     (encoded.symbol m (subst (λ (x : Position). slice_get items (x.index - c.self.inside.first) ≡ Some m) c.at.view_is there))
     (subst (λ (x : Position). x.symbol < 256) c.at.view_is c.slot_of.ensures.named))
 
@@ -86,3 +91,27 @@ note_sent-requires-clause-kept c =
 
 pub note_sent-requires-clause-symbol : goal.note_sent-requires-clause-symbol
 note_sent-requires-clause-symbol c = let at = c.slot_of.ensures.slot in omega (arith, at)
+
+pub invariant_of-self : goal.invariant_of-self
+invariant_of-self c =
+    let items = c.self.inside.objects.items in
+    let i = c.at.inside.index - c.self.inside.first in
+    let m = c.index_mut-object.result.now in
+    let first = ap (λ (u : Kept). u.first) c.self.view_is in
+    let many = ap (λ (u : Kept). length u.objects) c.self.view_is in
+    let at = ap (λ (x : Position). x.index) c.at.view_is in
+    let from = c.requires.first in
+    let to = c.requires.object in
+    let lt : i < length items = omega (arith, first, many, from, to, at) in
+    let same = c.note_sent.ensures in
+    let was = c.index_mut-object.ensures.value in
+    let wants = ap (λ (x : Marked). x.wants) same ∙ ap (λ (x : Marked). x.wants) was in
+    record {
+      few = few_set c.self.inside.first items i c.note_sent.new.self c.self.invariant.few;
+      idle = idle_set c.self.inside.low c.self.inside.high i items c.note_sent.new.self m lt
+          (ap (λ (x : Marked). x.asked) same ∙ ap (λ (x : Marked). x.asked) was) (ap (λ (x : Marked). x.counts) same ∙ ap (λ (x : Marked). x.counts) was) c.self.invariant.idle;
+      quiet = quiet_same c.self.inside.quiet items i c.note_sent.new.self m lt wants c.self.invariant.quiet;
+      counted = c.self.invariant.counted ∙ sym (wanting_same items i c.note_sent.new.self m lt wants);
+      planned = planned_set items i c.note_sent.new.self c.self.invariant.planned
+          (subst IsPlanned (sym same) (planned_sent m _ (subst IsPlanned (sym was) (all_at items i m c.self.invariant.planned lt))));
+    }

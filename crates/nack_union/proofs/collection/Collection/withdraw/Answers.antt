@@ -2,6 +2,9 @@ use Rattle.std.proofs.Common.{◌≡◌, ◌+◌, ◌-◌, ◌<◌, ℕ, List, l
 use Rattle.std.proofs.lemmas.List.{get_or-take, length-take}
 use Rattle.nack_union.specs.Kept.{Kept, Marked}
 use Rattle.nack_union.specs.CollectionSound.{IsIdle, AreIdle, AreQuiet, wanting}
+use Rattle.std.specs.List.{AllByRecursion}
+use Rattle.nack_union.specs.Adding.{IsPlanned}
+use Rattle.nack_union.proofs.Planned.{planned_take}
 use Rattle.nack_union.proofs.Wanting.{one, one_is, wanting_last}
 use Rattle.nack_union.proofs.collection.Collection.withdraw.Goals as goal
 
@@ -45,4 +48,5 @@ invariant_of-self c = record {
       (one_is c.index.result.now c.is_wanted.result c.from.result c.from.ensures c.is_wanted.ensures) in
       let left = ap wanting c.pop.ensures.rest in
       omega (arith, all, left);
+  planned = subst (AllByRecursion IsPlanned) (sym c.pop.ensures.rest) (planned_take (c.self.inside.objects.len - 1) c.self.inside.objects.items c.self.invariant.planned);
 }

@@ -1,6 +1,4 @@
 use Rattle.std.proofs.Common.{◌≡◌, ℕ, ◌*◌, ◌≤◌, ◌⊎◌, inl, inr, Bool, false, subst, arith}
-use Rattle.norm_order.specs.Sets.{Rises}
-use Rattle.nack_union.specs.Kept.{Marked}
 use Rattle.fec_plan.specs.Partition.{encoding_symbols}
 use Rattle.nack_union.specs.Adding.{IsPlanned}
 use Rattle.nack_union.proofs.Numbered.{kept_from, length-padded}
@@ -13,8 +11,8 @@ plain_or_first : {P : Type 0} {Q : Type 0} {R : Type 0} {S : Type 0} (first : �
 plain_or_first first info (inl e) plain = inl e
 plain_or_first first info (inr both) plain = inr (plain both.1).2
 
-pub returns-clause-planned : goal.returns-clause-planned
-returns-clause-planned c =
+pub returns : goal.returns
+returns c =
     let few : encoding_symbols c.self.inside.plan 0 ≤ 255 = let top = c.encoded_len.type_inv in let is = c.encoded_len.ensures in omega (arith, top, is) in
     subst IsPlanned c.self.view_is (record {
       sound = c.blocks-2.ensures.sound;
@@ -25,7 +23,5 @@ returns-clause-planned c =
       kept = λ slot here.
           kept_from c.self.inside.first slot c.self.inside.asked.members
           (plain_or_first c.self.inside.first c.self.inside.info c.self.invariant.moves c.self.invariant.plain) here;
+      rises = rises_up (256 * c.self.inside.first) c.self.inside.asked.members c.rises.ensures;
     })
-
-pub returns-clause-rises : goal.returns-clause-rises
-returns-clause-rises c = subst (λ (m : Marked). Rises m.asked) c.self.view_is (rises_up (256 * c.self.inside.first) c.self.inside.asked.members c.rises.ensures)
