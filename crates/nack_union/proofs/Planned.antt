@@ -1,10 +1,14 @@
 -- What holds of each object of a window holds as one of them becomes another, as objects join and leave, and as their round closes.
-use Rattle.std.proofs.Common.{ℕ, zero, suc, List, [], ◌∷◌, ◌++◌, map, length, take, drop, set, arith}
+use Rattle.std.proofs.Common.{◌≡◌, ℕ, zero, suc, List, [], ◌∷◌, ◌++◌, map, length, take, drop, set, Some, subst, arith}
 use Rattle.std.specs.List.{AllByRecursion}
 use Rattle.std.proofs.lemmas.List.{length-replicate}
+use Rattle.std.specs.Prelude.{slice_get}
+use Rattle.std.proofs.lemmas.Option.{slice_get_within, get_or_from_slice_get}
+use Rattle.fec_plan.specs.Partition.{IsSound}
 use Rattle.norm_order.specs.Sets.{is_member, Rises}
 use Rattle.nack_union.specs.Kept.{Marked, closed_marks}
 use Rattle.nack_union.specs.Adding.{IsPlanned}
+use Rattle.nack_union.proofs.Came.{all_at}
 
 pub planned_set : (ms : List Marked) (i : ℕ) (new : Marked) → AllByRecursion IsPlanned ms → IsPlanned new → AllByRecursion IsPlanned (set ms i new)
 planned_set [] i new all one = tt
@@ -53,3 +57,7 @@ all_closed (m ∷ ms) all = (planned_closed m all.0, all_closed ms all.1)
 pub all_rise : (ms : List Marked) → AllByRecursion IsPlanned ms → AllByRecursion (λ m. Rises m.asked) ms
 all_rise [] all = tt
 all_rise (m ∷ ms) all = (all.0.rises, all_rise ms all.1)
+
+-- the cut of an object that is there
+pub sound_at : (ms : List Marked) (k : ℕ) (m : Marked) → AllByRecursion IsPlanned ms → slice_get ms k ≡ Some m → IsSound m.cut
+sound_at ms k m all there = subst (λ (x : Marked). IsSound x.cut) (get_or_from_slice_get ms k m m there) (all_at ms k m all (slice_get_within ms k m there)).sound

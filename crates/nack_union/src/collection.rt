@@ -2,7 +2,7 @@
 
 ghost use Rattle.std.specs.Prelude.{◌≡◌, ◌<◌, ◌≤◌, ◌+◌, ◌-◌, ◌^◌, ◌∷◌, ◌++◌, [], length, IfOk, IsErr, MatchOption, None, Some, false, ℕ, List, nat_lt, position, slice_get, drop, take, not, map, min, max};
 ghost use Rattle.norm_base.specs.Settings.{Settings};
-ghost use Rattle.fec_plan.specs.Partition.{blocks};
+ghost use Rattle.fec_plan.specs.Partition.{IsSound};
 ghost use Rattle.norm_order.specs.Entries.{Entry};
 ghost use Rattle.norm_order.specs.Shapes.{shape_of};
 ghost use Rattle.norm_send_rules.specs.SenderState.{SenderState, Asked, Round, sender_opening};
@@ -318,6 +318,7 @@ impl Collection {
         requires { IsEncodedIn self.old at }
         ensures exact { (m : Marked) → slice_get self.old.objects (at.index - self.old.first) ≡ Some m
             → self.new ≡ with_marks at.index (record m { sent = with_member nat_lt (symbol_slot at.block at.symbol) m.sent }) self.old }
+        ensures sound { (m : Marked) → slice_get self.old.objects (at.index - self.old.first) ≡ Some m → IsSound m.cut }
         ensures stands { (p : Settings) (s : SenderState) → Holds p self.old s → Holds p self.new (noted (Symbol at) s) }
         ensures collects { (p : Settings) (s : SenderState) (asked : List Asked) → Collects p self.old s asked → Collects p self.new (noted (Symbol at) s) asked }
     {

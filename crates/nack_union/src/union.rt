@@ -2,6 +2,7 @@
 
 ghost use Rattle.std.specs.Prelude.{◌≡◌, ◌<◌, ◌+◌, ◌-◌, ◌∷◌, [], length, IfOk, IsErr, MatchOption, None, Some, ℕ, List, slice_get, not, min, nat_lt};
 ghost use Rattle.std.specs.List.{list_any};
+ghost use Rattle.fec_plan.specs.Partition.{IsSound};
 ghost use Rattle.fec_plan.specs.Points.{point};
 ghost use Rattle.norm_order.specs.Entries.{Entry, Part, Stream};
 ghost use Rattle.norm_order.specs.Shapes.{shape_of};
@@ -122,10 +123,11 @@ impl Union {
         self.collection.retire(index, block)
     }
 
-    /// Notes that an encoded symbol of an object of the window was sent.
+    /// Notes that an encoded symbol of an object of the window was sent. Nothing is wrong with the cut of that object.
     pub fn note_sent(&mut self, at: Position)
         requires { IsEncodedIn self.old.kept at }
         ensures stands { UnionMoves self.old self.new (noted (Symbol at)) }
+        ensures sound { (m : Marked) → slice_get self.old.kept.objects (at.index - self.old.kept.first) ≡ Some m → IsSound m.cut }
         ensures profile { self.new.p ≡ self.old.p }
     {
         self.collection.note_sent(at);

@@ -13,7 +13,7 @@ use Rattle.norm_send_rules.specs.InWindow.{next_index}
 use Rattle.nack_union.specs.Collected.{IsKnownIn}
 use Rattle.nack_union.specs.Adding.{IsPlanned}
 use Rattle.nack_union.proofs.Came.{all_at}
-use Rattle.nack_union.proofs.Planned.{planned_set, planned_sent}
+use Rattle.nack_union.proofs.Planned.{planned_set, planned_sent, sound_at}
 use Rattle.nack_union.proofs.Quiet.{quiet_same, idle_set, few_set}
 use Rattle.nack_union.proofs.Wanting.{wanting_same}
 use Rattle.nack_union.proofs.Collections.{collects_kept, known_kept}
@@ -115,3 +115,7 @@ invariant_of-self c =
       planned = planned_set items i c.note_sent.new.self c.self.invariant.planned
           (subst IsPlanned (sym same) (planned_sent m _ (subst IsPlanned (sym was) (all_at items i m c.self.invariant.planned lt))));
     }
+
+pub returns-clause-sound : goal.returns-clause-sound
+returns-clause-sound c = λ m there.
+    sound_at c.args.self.now.objects (c.args.at.index - c.args.self.now.first) m (subst (λ (u : Kept). AllByRecursion IsPlanned u.objects) c.self.view_is c.self.invariant.planned) there
