@@ -5,13 +5,17 @@ use Rattle.std.specs.List.{range_with_len, list_all}
 use Rattle.std.specs.Int.{div_ceil}
 use Rattle.std.proofs.lemmas.Bool.{cases_lt}
 use Rattle.std.proofs.lemmas.List.Folds.{list_all-append, list_all-map}
+use Rattle.std.proofs.lemmas.List.FromFn.{length-map-range_with_len}
+use Rattle.std.proofs.lemmas.List.Sums.{prefix_len-le-length}
 use Rattle.std.proofs.lemmas.Nat.{div-mul-add, mod-mul-add, div-add-mod'}
 use Rattle.std.proofs.Math.Nat.{mod-lt}
 use Rattle.std.proofs.lemmas.Grind.{div_ceil_times}
 use Rattle.std.proofs.Math.Nat.{mul-le-mul_right, div-mul-le_self}
 use Rattle.norm_base.specs.Settings.{Settings}
+use Rattle.norm_base.specs.declared.kinds.Mode.{Mode}
 use Rattle.norm_base.specs.declared.kinds.Mode.TheVariants as mode
 use Rattle.fec_plan.specs.Points.{Position, position, position_before, reached_by}
+use Rattle.fec_plan.proofs.PositionLemmas.{Behind, behind, reached, behind_both}
 use Rattle.norm_order.specs.Entries.{Part, Stream}
 use Rattle.norm_order.specs.Sets.{is_member}
 use Rattle.norm_order.specs.Shapes.{shape_of, symbols_of, sources_in, last_in, is_full}
@@ -19,8 +23,10 @@ use Rattle.norm_send_rules.specs.SenderState.{SenderState}
 use Rattle.norm_send_rules.specs.Watermarks.{all_past}
 use Rattle.norm_send_rules.specs.Room.{all_sent, is_released, block_may_go}
 use Rattle.stream_buffer.specs.StreamState.{StreamState, closed_segments}
-use Rattle.held_stream.specs.HeldState.{HeldState, Knows, place_of, was_sent}
+use Rattle.held_stream.specs.HeldState.{HeldState, Knows, place_of, was_sent, run_of}
 use Rattle.held_stream.proofs.RangeLemmas.{place_is, range_split, marks_dropped, marks_taken, all_pass, all_same, times_less}
+use Rattle.held_stream.proofs.MarkLemmas.{run_set, run_covers}
+use Rattle.held_stream.proofs.GrowingLemmas.{both_left, both_right, one_of_all, gone_sent}
 use Rattle.held_stream.proofs.KnowsLemmas.{closed_of, counted, full_is, not_full, first_by}
 
 -- ---- one block
@@ -53,14 +59,8 @@ passes_last : (x y : Bool) → y ≡ true → (x && y) ≡ x
 passes_last true y e = e
 passes_last false y e = refl
 
--- a block that is not full may not go
-pub stays_open : (p : Settings) (s : SenderState) (index : ℕ) (parts : List Part) (block : ℕ) → 0 < p.b → closed_of p parts < block * p.b + p.b
-    → block_may_go p s index (shape_of p (Stream parts)) block ≡ false
-stays_open p s index parts block some lt =
-    ap (λ b. (b && all_sent s (symbols_of index p.b block)) && is_released p s (Some (position index block (p.b - 1)))) (not_full p parts block some lt)
-
--- and another one goes where its segments were sent
-pub goes_sent : (p : Settings) (s : SenderState) (index : ℕ) (parts : List Part) (h : HeldState) (block : ℕ) → Knows p index parts s.sent h
+-- a block that the mode lets go goes where its segments are closed and were sent
+goes_sent : (p : Settings) (s : SenderState) (index : ℕ) (parts : List Part) (h : HeldState) (block : ℕ) → Knows p index parts s.sent h
     → h.buffer.first * p.b ≤ block * p.b → block * p.b + p.b ≤ closed_of p parts → is_released p s (Some (position index block (p.b - 1))) ≡ true
     → block_may_go p s index (shape_of p (Stream parts)) block ≡ list_all (λ b. b) (take p.b (drop (block * p.b - h.buffer.first * p.b) h.sent))
 goes_sent p s index parts h block knows low full released =
@@ -107,29 +107,139 @@ last_below n g b some same few more = go (cases_lt ((n - 1) / g) 16777216)
         go_on (inl lt) many low = omega (arith, many, low, few, same, lt)
         go_on (inr le) many low = more (omega (arith, le))
 
--- the marks of a block that is closed are there
-pub run_fits : (s : StreamState) (block f g n : ℕ) → f ≡ s.first → g ≡ s.cut.b → s.first ≤ block → block * g + g ≤ closed_segments s → n ≡ length s.rows → (block - f) * g + g ≤ n
-run_fits s block f g n f-is g-is le closed long =
-    let same : (block - f) * g ≡ block * s.cut.b - s.first * s.cut.b = ap (λ k. (block - k) * g) f-is ∙ ap (λ k. (block - s.first) * k) g-is ∙ times_less block s.first s.cut.b le in
-    let all : block * g ≡ block * s.cut.b = ap (λ k. block * k) g-is in
-    let low : s.first * s.cut.b ≤ block * s.cut.b = mul-le-mul_right s.cut.b le in
-    omega (arith, same, all, low, closed, long, g-is)
-
 -- ---- blocks in a row
 
--- the first of some blocks passes, or does not
-pub one_passes : (f : ℕ → Bool) (block to : ℕ) → block < to → f block ≡ true → list_all f (range_with_len block (to - block)) ≡ list_all f (range_with_len (block + 1) (to - (block + 1)))
-one_passes f block to lt is =
-    ap (λ n. list_all f (range_with_len block n)) (let e : to - block ≡ suc (to - (block + 1)) = omega (arith, lt) in e)
-    ∙ ap (λ b. b && list_all f (range_with_len (block + 1) (to - (block + 1)))) is
-
-pub one_fails : (f : ℕ → Bool) (block to : ℕ) → block < to → f block ≡ false → list_all f (range_with_len block (to - block)) ≡ false
-one_fails f block to lt is =
-    ap (λ n. list_all f (range_with_len block n)) (let e : to - block ≡ suc (to - (block + 1)) = omega (arith, lt) in e)
-    ∙ ap (λ b. b && list_all f (range_with_len (block + 1) (to - (block + 1)))) is
-
+-- before the first block that is kept there is none
 pub none_left : (f : ℕ → Bool) (block to : ℕ) → to ≤ block → list_all f (range_with_len block (to - block)) ≡ true
 none_left f block to le = ap (λ n. list_all f (range_with_len block n)) (let e : to - block ≡ zero = omega (arith, le) in e)
+
+-- who is past a block's last symbol is past that of each before it
+released_before : (p : Settings) (s : SenderState) (index : ℕ) (past : Option Position) (block last symbol : ℕ) → ((q : Position) → all_past s q ≡ reached_by past q) → block ≤ last
+    → is_released p s (Some (position index last symbol)) ≡ true → is_released p s (Some (position index block symbol)) ≡ true
+released_before p s index past block last symbol is le = go p.mode
+  where
+    nearer_by : (block < last) ⊎ (last ≤ block) → Behind (position index last symbol) (position index block symbol)
+    nearer_by (inl lt) = inr (refl, inl lt)
+    nearer_by (inr ge) = inr (refl, inr (let same : block ≡ last = omega (arith, le, ge) in same, let e : symbol ≤ symbol = omega arith in e))
+
+    passes : (o : Option Position) → reached_by o (position index last symbol) ≡ true → reached_by o (position index block symbol) ≡ true
+    passes None e = absurd (cc)
+    passes (Some q) e =
+        reached q (position index block symbol)
+        (behind_both q (position index last symbol) (position index block symbol) (behind q (position index last symbol) e) (nearer_by (cases_lt block last)))
+
+    go : (m : Mode) → (elim m as (λ v. Bool) [ mode.Hold ↦ all_past s (position index last symbol) | mode.Drop ↦ true ]) ≡ true
+        → (elim m as (λ v. Bool) [ mode.Hold ↦ all_past s (position index block symbol) | mode.Drop ↦ true ]) ≡ true
+    go mode.Hold e = is (position index block symbol) ∙ passes past (sym (is (position index last symbol)) ∙ e)
+    go mode.Drop e = refl
+
+-- how many segments the kept blocks before one have
+front_long : (p : Settings) (index : ℕ) (parts : List Part) (sent : List Position) (h : HeldState) (to : ℕ) → Knows p index parts sent h → h.buffer.first < to
+    → h.buffer.first * p.b + (to - h.buffer.first) * p.b ≡ to * p.b
+front_long p index parts sent h to knows some =
+    let less : (to - h.buffer.first) * p.b ≡ to * p.b - h.buffer.first * p.b = times_less to h.buffer.first p.b (omega (arith, some)) in
+    let le : h.buffer.first * p.b ≤ to * p.b = mul-le-mul_right p.b (omega (arith, some)) in
+    omega (arith, less, le)
+
+-- there is a mark for each segment from the first kept one on
+marks_long : (p : Settings) (index : ℕ) (parts : List Part) (sent : List Position) (h : HeldState) → Knows p index parts sent h → h.buffer.first * p.b + length h.sent ≡ closed_of p parts
+marks_long p index parts sent h knows =
+    omega (
+      arith,
+      ap length knows.marks,
+      length-map-range_with_len (was_sent index p.b sent) (h.buffer.first * p.b) (length h.buffer.rows),
+      counted p parts h.buffer knows.buffer,
+      first_by p parts h.buffer knows.buffer,
+    )
+
+-- the kept blocks before one, as the rules ask of each
+abbrev pub front : Settings → SenderState → ℕ → List Part → HeldState → ℕ → Bool
+front p s index parts h to = list_all (block_may_go p s index (shape_of p (Stream parts))) (range_with_len h.buffer.first (to - h.buffer.first))
+
+-- where they may all go, the last of them may
+last_goes : (p : Settings) (s : SenderState) (index : ℕ) (parts : List Part) (h : HeldState) (to : ℕ) → h.buffer.first < to → front p s index parts h to ≡ true
+    → block_may_go p s index (shape_of p (Stream parts)) (to - 1) ≡ true
+last_goes p s index parts h to some all =
+    one_of_all (block_may_go p s index (shape_of p (Stream parts))) h.buffer.first (to - h.buffer.first) (to - 1) all (omega (arith, some)) (omega (arith, some))
+
+-- where their segments were all sent, they may go exactly where the mode lets the last of them go
+pub front_released : (p : Settings) (s : SenderState) (index : ℕ) (parts : List Part) (h : HeldState) (past : Option Position) (to : ℕ) → 0 < p.b → Knows p index parts s.sent h
+    → ((q : Position) → all_past s q ≡ reached_by past q) → h.buffer.first < to → (to - h.buffer.first) * p.b ≤ run_of h.sent
+    → front p s index parts h to ≡ is_released p s (Some (position index (to - 1) (p.b - 1)))
+front_released p s index parts h past to some knows is more sent = go (is_released p s (Some (position index (to - 1) (p.b - 1)))) refl
+  where
+    closed : to * p.b ≤ closed_of p parts
+    closed = omega (arith, sent, prefix_len-le-length (λ b. b) h.sent, marks_long p index parts s.sent h knows, front_long p index parts s.sent h to knows more)
+
+    one : is_released p s (Some (position index (to - 1) (p.b - 1))) ≡ true → (block : ℕ) → h.buffer.first ≤ block → block < h.buffer.first + (to - h.buffer.first)
+        → block_may_go p s index (shape_of p (Stream parts)) block ≡ true
+    one e block low high =
+        let next : (block + 1) * p.b ≡ block * p.b + p.b = omega arith in
+        let up : (block + 1) * p.b ≤ to * p.b = mul-le-mul_right p.b (omega (arith, high, more)) in
+        let from : h.buffer.first * p.b ≤ block * p.b = mul-le-mul_right p.b low in
+        goes_sent p s index parts h block knows from (omega (arith, next, up, closed))
+        (released_before p s index past block (to - 1) (p.b - 1) is (omega (arith, high, more)) e)
+        ∙ run_set h.sent (block * p.b - h.buffer.first * p.b) p.b (omega (arith, next, up, from, sent, front_long p index parts s.sent h to knows more))
+
+    go : (b : Bool) → is_released p s (Some (position index (to - 1) (p.b - 1))) ≡ b → front p s index parts h to ≡ b
+    go true e = all_pass (block_may_go p s index (shape_of p (Stream parts))) h.buffer.first (to - h.buffer.first) (one e)
+    go false e = by (front p s index parts h to) refl
+      where
+        by : (b : Bool) → front p s index parts h to ≡ b → b ≡ false
+        by false f = refl
+        by true f = absurd (
+            let may = both_right (is_full (shape_of p (Stream parts)) (to - 1) && all_sent s (symbols_of index p.b (to - 1))) (is_released p s (Some (position index (to - 1) (p.b - 1))))
+            (last_goes p s index parts h to more f) in
+            cc)
+
+-- and where one was not, they may not all go
+pub front_unsent : (p : Settings) (s : SenderState) (index : ℕ) (parts : List Part) (h : HeldState) (to : ℕ) → 0 < p.b → Knows p index parts s.sent h
+    → h.buffer.first < to → run_of h.sent < (to - h.buffer.first) * p.b → front p s index parts h to ≡ false
+front_unsent p s index parts h to some knows more short = go (front p s index parts h to) refl
+  where
+    n : ℕ
+    n = (to - h.buffer.first) * p.b
+
+    closed : front p s index parts h to ≡ true → to * p.b ≤ closed_of p parts
+    closed all = by (cases_lt (closed_of p parts) ((to - 1) * p.b + p.b))
+      where
+        full : is_full (shape_of p (Stream parts)) (to - 1) ≡ true
+        full =
+            both_left (is_full (shape_of p (Stream parts)) (to - 1)) (all_sent s (symbols_of index p.b (to - 1)))
+            (both_left (is_full (shape_of p (Stream parts)) (to - 1) && all_sent s (symbols_of index p.b (to - 1))) (is_released p s (Some (position index (to - 1) (p.b - 1))))
+            (last_goes p s index parts h to more all))
+
+        by : (closed_of p parts < (to - 1) * p.b + p.b) ⊎ ((to - 1) * p.b + p.b ≤ closed_of p parts) → to * p.b ≤ closed_of p parts
+        by (inl lt) = absurd (let whole = full in let open_ = not_full p parts (to - 1) some lt in cc)
+        by (inr le) =
+            let whole : to * p.b ≡ (to - 1 + 1) * p.b = ap (λ k. k * p.b) (let e : to ≡ to - 1 + 1 = omega (arith, more) in e) in
+            let next : (to - 1 + 1) * p.b ≡ (to - 1) * p.b + p.b = omega arith in
+            omega (arith, le, whole, next)
+
+    covered : front p s index parts h to ≡ true → n ≤ run_of h.sent
+    covered all =
+        let within : h.buffer.first * p.b + n ≤ closed_of p parts = omega (arith, closed all, front_long p index parts s.sent h to knows more) in
+        let there : n ≤ length h.buffer.rows = omega (arith, within, counted p parts h.buffer knows.buffer, first_by p parts h.buffer knows.buffer) in
+        run_covers h.sent n (omega (arith, within, marks_long p index parts s.sent h knows))
+        (ap (λ (bs : List Bool). list_all (λ b. b) (take n bs)) knows.marks
+        ∙ ap (list_all (λ (b : Bool). b)) (marks_taken index p.b s.sent (h.buffer.first * p.b) (length h.buffer.rows) n there)
+        ∙ list_all-map (λ b. b) (was_sent index p.b s.sent) (range_with_len (h.buffer.first * p.b) n)
+        ∙ all_pass (was_sent index p.b s.sent) (h.buffer.first * p.b) n
+        (λ number low high. gone_sent p s index parts h to some knows all number (omega (arith, high, front_long p index parts s.sent h to knows more))))
+
+    go : (b : Bool) → front p s index parts h to ≡ b → b ≡ false
+    go false e = refl
+    go true e = absurd (let le = covered e in omega (arith, le, short))
+
+-- how many segments the code counts
+pub front_count : (s : StreamState) (to x g : ℕ) → x ≡ s.first → g ≡ s.cut.b → (to - x) * g ≡ (to - s.first) * s.cut.b
+front_count s to x g x-is g-is = ap (λ n. (to - n) * g) x-is ∙ ap (λ n. (to - s.first) * n) g-is
+
+-- the segments of blocks that were sent are closed
+pub front_closed : (h : HeldState) (to run : ℕ) → (to - h.buffer.first) * h.buffer.cut.b ≤ run → run ≤ length h.buffer.rows → h.buffer.first < to → to * h.buffer.cut.b ≤ closed_segments h.buffer
+front_closed h to run sent le some =
+    let less : (to - h.buffer.first) * h.buffer.cut.b ≡ to * h.buffer.cut.b - h.buffer.first * h.buffer.cut.b = times_less to h.buffer.first h.buffer.cut.b (omega (arith, some)) in
+    omega (arith, less, sent, le)
 
 -- ---- all segments
 

@@ -24,15 +24,15 @@ use Rattle.held_stream.specs.Growing.{has_room, growing_fault, Grows}
 
 -- ---- what went was sent
 
-both_left : (a b : Bool) → (a && b) ≡ true → a ≡ true
+pub both_left : (a b : Bool) → (a && b) ≡ true → a ≡ true
 both_left true b e = refl
 both_left false b e = absurd (cc)
 
-both_right : (a b : Bool) → (a && b) ≡ true → b ≡ true
+pub both_right : (a b : Bool) → (a && b) ≡ true → b ≡ true
 both_right true b e = e
 both_right false b e = absurd (cc)
 
-one_of_all : (f : ℕ → Bool) (a n k : ℕ) → list_all f (range_with_len a n) ≡ true → a ≤ k → k < a + n → f k ≡ true
+pub one_of_all : (f : ℕ → Bool) (a n k : ℕ) → list_all f (range_with_len a n) ≡ true → a ≤ k → k < a + n → f k ≡ true
 one_of_all f a zero k e low high = absurd (omega arith)
 one_of_all f a (suc n) k e low high =
     go (cases_lt a k) (λ lt. one_of_all f (a + 1) n k (both_right (f a) (list_all f (range_with_len (a + 1) n)) e) (omega (arith, lt)) (omega (arith, high)))

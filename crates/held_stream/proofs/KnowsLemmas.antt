@@ -159,6 +159,13 @@ gone_is s new x y g x-is y-is g-is b-is le =
     ∙ times_less new.first s.first s.cut.b le
     ∙ ap (λ n. new.first * n - s.first * s.cut.b) (sym b-is)
 
+-- so many marks that go are set, where those of all blocks are that may go
+pub gone_set : (s new : StreamState) (x y g may_go run : ℕ) → x ≡ new.first → y ≡ s.first → g ≡ s.cut.b → new.first ≤ max s.first may_go → (may_go - s.first) * s.cut.b ≤ run → (x - y) * g ≤ run
+gone_set s new x y g may_go run x-is y-is g-is low sent =
+    let same : (x - y) * g ≡ (new.first - s.first) * s.cut.b = ap (λ n. (n - y) * g) x-is ∙ ap (λ n. (new.first - n) * g) y-is ∙ ap (λ n. (new.first - s.first) * n) g-is in
+    let le : (new.first - s.first) * s.cut.b ≤ (may_go - s.first) * s.cut.b = mul-le-mul_right s.cut.b (omega (arith, low)) in
+    omega (arith, same, le, sent)
+
 -- what the stream is where the buffer accepted
 pub went : {X : Type 0} (p : Settings) (parts more : List Part) (may_go : ℕ) (value x : X) (old new : StreamState) → Answers p parts more may_go value old new (Ok x)
     → Goes p parts more old new

@@ -1,6 +1,6 @@
 -- A stream of the window: what it is seen as, and for which streams it stands, with what was sent of them.
 use Rattle.std.specs.Prelude.{ℕ, ◌≡◌, ◌*◌, ◌/◌, ◌%◌, ◌<◌, List, length, map, Bool, true, nat_lt}
-use Rattle.std.specs.List.{range_with_len}
+use Rattle.std.specs.List.{range_with_len, prefix_len}
 use Rattle.norm_base.specs.Settings.{Settings}
 use Rattle.fec_plan.specs.Points.{Position, position, position_before}
 use Rattle.norm_order.specs.Entries.{Part, Stream}
@@ -12,6 +12,10 @@ use Rattle.stream_buffer.specs.StreamState.{StreamState, StandsFor}
 pub record HeldState : Type 0 where
   pub buffer : StreamState
   pub sent : List Bool
+
+-- how many of some marks are set in a row from the first on
+abbrev pub run_of : List Bool → ℕ
+run_of marks = prefix_len (λ b. b) marks
 
 -- where a segment stands, of a stream whose blocks have b
 abbrev pub place_of : ℕ → ℕ → ℕ → Position

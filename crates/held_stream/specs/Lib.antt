@@ -1,4 +1,5 @@
 pub mod HeldState
+pub mod MarksState
 pub mod HeldSound
 pub mod Growing
 pub mod Laws

@@ -16,15 +16,14 @@ ghost use Rattle.norm_send_rules.specs.SenderState.{SenderState};
 ghost use Rattle.norm_send_rules.specs.Watermarks.{all_past};
 ghost use Rattle.norm_send_rules.specs.Room.{all_sent, block_may_go};
 ghost use Rattle.stream_buffer.specs.StreamState.{StandsFor, Answers, closed_segments, with_cut, is_there, octets_of};
-ghost use Rattle.held_stream.specs.HeldState.{HeldState, Knows, AllSent};
+ghost use Rattle.held_stream.specs.HeldState.{HeldState, Knows, AllSent, run_of};
 ghost use Rattle.held_stream.specs.Growing.{has_room, Grows};
 
-use crate::marks::{are_sent, follow};
+use crate::marks::Marks;
 use fec_plan::{Plan, Position, reached_by};
 use norm_base::{Datagram, Memory, Mode, Profile};
 use norm_send_rules::StreamFault;
 use std::alloc::Global;
-use std::collections::VecDeque;
 use std::marker::Model;
 use stream_buffer::StreamBuf;
 
@@ -35,7 +34,7 @@ use stream_buffer::StreamBuf;
 pub struct HeldStream {
     buffer: StreamBuf,
     /// For each closed segment from the first kept block on, whether it was sent.
-    sent: VecDeque<bool>,
+    marks: Marks,
     /// Segments of a block.
     b: u8,
 }
@@ -73,10 +72,10 @@ impl HeldStream {
     {
         let buffer = StreamBuf::new(alloc, profile)?;
         let room = usize::from(profile.blocks) * usize::from(profile.b);
-        let sent = VecDeque::with_capacity(alloc, room)?;
+        let marks = Marks::new(alloc, room)?;
         Ok(HeldStream {
             buffer,
-            sent,
+            marks,
             b: profile.b,
         })
     }
@@ -143,6 +142,7 @@ impl HeldStream {
     fn put(&mut self, bytes: &[u8], may_go: u32) -> Result<u32, StreamFault>
         requires some { 1 ≤ length bytes.now }
         requires closed { may_go * self.old.buffer.cut.b ≤ closed_segments self.old.buffer }
+        requires sent { (may_go - self.old.buffer.first) * self.old.buffer.cut.b ≤ run_of self.old.sent }
         ensures answer { (p : Settings) (parts : List Part) (by : Origin) → StandsFor p parts self.old.buffer
             → Answers p parts (Write by bytes.now ∷ []) may_go self.old.buffer.octets self.old.buffer self.new.buffer result }
         ensures knows { OnOk result ((p : Settings) (index : ℕ) (parts : List Part) (by : Origin) (sent : List Place) → Knows p index parts sent self.old
@@ -155,7 +155,7 @@ impl HeldStream {
             Ok(offset) => {
                 let gone = (self.buffer.first_block() - first) as usize * usize::from(self.b);
                 let kept = self.buffer.kept();
-                follow(&mut self.sent, gone, kept);
+                self.marks.follow(gone, kept);
                 Ok(offset)
             }
         }
@@ -169,12 +169,13 @@ impl HeldStream {
     {
         self.buffer.cut();
         let kept = self.buffer.kept();
-        follow(&mut self.sent, 0, kept);
+        self.marks.follow(0, kept);
     }
 
     /// Ends the stream, where blocks below `may_go`, whose segments were all sent, may be given up for room.
     fn end(&mut self, may_go: u32) -> Result<(), StreamFault>
         requires closed { may_go * self.old.buffer.cut.b ≤ closed_segments self.old.buffer }
+        requires sent { (may_go - self.old.buffer.first) * self.old.buffer.cut.b ≤ run_of self.old.sent }
         ensures answer { (p : Settings) (parts : List Part) → StandsFor p parts self.old.buffer
             → Answers p parts (End ∷ []) may_go tt self.old.buffer self.new.buffer result }
         ensures knows { OnOk result ((p : Settings) (index : ℕ) (parts : List Part) (sent : List Place) → Knows p index parts sent self.old
@@ -187,7 +188,7 @@ impl HeldStream {
             Ok(()) => {
                 let gone = (self.buffer.first_block() - first) as usize * usize::from(self.b);
                 let kept = self.buffer.kept();
-                follow(&mut self.sent, gone, kept);
+                self.marks.follow(gone, kept);
                 Ok(())
             }
         }
@@ -206,40 +207,34 @@ impl HeldStream {
         }
         let first = self.buffer.first_block();
         let place = (block - first) as usize * usize::from(self.b) + usize::from(symbol);
-        if place >= self.sent.len() {
+        if place >= self.marks.len() {
             return;
         }
-        self.sent[place] = true;
+        self.marks.note(place);
     }
 
-    /// Whether a kept block of the stream with this index may go.
-    fn block_may_go(
-        &self,
-        profile: &Profile,
-        index: u32,
-        past: &Option<Position>,
-        block: u32,
-    ) -> bool
-        requires { self.now.buffer.first ≤ block }
+    /// Whether the kept blocks before this one, of which there is one, may all go, of the stream with this index. It is asked
+    /// of all of them at once: how many segments were sent in a row, and whether every member is listed past the last.
+    fn front_may_go(&self, profile: &Profile, index: u32, past: &Option<Position>, to: u32) -> bool
+        requires { self.now.buffer.first < to }
         ensures exact { (s : SenderState) (parts : List Part) → Knows profile.now index parts s.sent self.now
             → ((at : Place) → all_past s at ≡ reached_by past.now at)
-            → result ≡ block_may_go profile.now s index (shape_of profile.now (Stream parts)) block }
-        ensures closed { result ≡ true → block * self.now.buffer.cut.b + self.now.buffer.cut.b ≤ closed_segments self.now.buffer }
+            → result ≡ list_all (block_may_go profile.now s index (shape_of profile.now (Stream parts))) (range_with_len self.now.buffer.first (to - self.now.buffer.first)) }
+        ensures run { result ≡ true → (to - self.now.buffer.first) * self.now.buffer.cut.b ≤ run_of self.now.sent }
+        ensures closed { result ≡ true → to * self.now.buffer.cut.b ≤ closed_segments self.now.buffer }
     {
-        let b = usize::from(self.b);
-        if block as usize * b + b > self.buffer.segments() as usize {
+        let blocks = to - self.buffer.first_block();
+        if !self.marks.are_sent(blocks as usize * usize::from(self.b)) {
             return false;
         }
+        // Proof: how many segments can be closed is known of each buffer that was asked, and so that 24 bits number the last block.
+        let _closed = self.buffer.segments();
         let last = Position {
             index,
-            block,
+            block: to - 1,
             symbol: self.b - 1,
         };
-        if !is_released(profile, past, last) {
-            return false;
-        }
-        let from = (block - self.buffer.first_block()) as usize * b;
-        are_sent(&self.sent, from, from + b)
+        is_released(profile, past, last)
     }
 
     /// Whether the kept blocks before this one may all go, of the stream with this index, where all members are listed past
@@ -257,14 +252,10 @@ impl HeldStream {
             → result ≡ list_all (block_may_go profile.now s index (shape_of profile.now (Stream parts))) (range_with_len self.now.buffer.first (to - self.now.buffer.first)) }
         ensures closed { result ≡ true → to * self.now.buffer.cut.b ≤ closed_segments self.now.buffer }
     {
-        let first = self.buffer.first_block();
-        // Proof: by block, so that the loop's invariant speaks of so many blocks.
-        for block in first..to {
-            if !self.block_may_go(profile, index, past, block) {
-                return false;
-            }
+        if to <= self.buffer.first_block() {
+            return true;
         }
-        true
+        self.front_may_go(profile, index, past, to)
     }
 
     /// The blocks below this one may be given up for room, where the first that is kept then is `least`. `before` says
@@ -281,6 +272,7 @@ impl HeldStream {
             → ((at : Place) → all_past s at ≡ reached_by past.now at)
             → nat_lt (max self.now.buffer.first result) least ≡ not (has_room profile.now s index parts self.now.buffer.first before least) }
         ensures closed { result * self.now.buffer.cut.b ≤ closed_segments self.now.buffer }
+        ensures run { (result - self.now.buffer.first) * self.now.buffer.cut.b ≤ run_of self.now.sent }
         ensures sent { (s : SenderState) (parts : List Part) → Knows profile.now index parts s.sent self.now
             → ((at : Place) → all_past s at ≡ reached_by past.now at) → AllSent profile.now index s.sent result }
     {
@@ -290,7 +282,7 @@ impl HeldStream {
         if least <= self.buffer.first_block() {
             return 0;
         }
-        if !self.blocks_may_go(profile, index, past, least) {
+        if !self.front_may_go(profile, index, past, least) {
             return 0;
         }
         least
@@ -351,7 +343,7 @@ impl HeldStream {
         ensures { (p : Settings) (s : SenderState) (index : ℕ) (parts : List Part) → Knows p index parts s.sent self.now
             → result ≡ all_sent s (sources_in index (shape_of p (Stream parts))) }
     {
-        are_sent(&self.sent, 0, self.sent.len())
+        self.marks.all_sent()
     }
 
     /// The last of so many segments, where the stream has this index. `None` exactly where there is none.

@@ -1,6 +1,5 @@
-use Rattle.std.proofs.Common.{◌≡◌, ◌-◌, ap, ◌∙◌, arith, Bool}
+use Rattle.std.proofs.Common.{◌≡◌, ap, ◌∙◌, arith}
 use Rattle.std.specs.List.{list_all}
-use Rattle.std.proofs.lemmas.List.{take_all}
 use Rattle.fec_plan.specs.Partition.{Cut}
 use Rattle.held_stream.specs.HeldState.{HeldState}
 use Rattle.held_stream.proofs.GoingLemmas.{all_sent_is}
@@ -9,7 +8,6 @@ use Rattle.held_stream.proofs.stream.HeldStream.is_sent.Goals as goal
 pub returns : goal.returns
 returns c = λ p s index parts knows.
     let b : c.self.inside.b ≡ p.b = c.self.invariant.b ∙ ap (λ (v : HeldState). v.buffer.cut.b) c.self.view_is ∙ ap (λ (k : Cut). k.b) knows.buffer.cut in
-    c.are_sent.ensures
-    ∙ ap (list_all (λ (x : Bool). x)) (take_all (c.len.result - 0) c.self.inside.sent.items (omega (arith, c.len.ensures, c.self.inside.sent.ok.0)))
+    c.all_sent.ensures
     ∙ ap (λ (v : HeldState). list_all (λ x. x) v.sent) c.self.view_is
     ∙ all_sent_is p s index parts c.args.self.now (omega (arith, b, c.self.invariant.some)) knows

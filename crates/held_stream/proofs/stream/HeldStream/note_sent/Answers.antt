@@ -2,6 +2,7 @@ use Rattle.std.proofs.Common.{◌≡◌, ◌+◌, ◌-◌, ◌*◌, ◌≤◌, a
 use Rattle.std.proofs.Math.Nat.{mul-le-mul_right}
 use Rattle.fec_plan.specs.Partition.{Cut}
 use Rattle.held_stream.specs.HeldState.{HeldState, Knows}
+use Rattle.held_stream.specs.MarksState.{MarksState}
 use Rattle.held_stream.specs.HeldSound.{held_view}
 use Rattle.held_stream.proofs.RangeLemmas.{place_at}
 use Rattle.held_stream.proofs.NotedLemmas.{noted_parity, noted_segment, never_open}
@@ -21,7 +22,7 @@ returns-then-place-len-clause-knows c = λ p index parts sent knows encoded.
     (omega (arith, b, c.if-symbol-self.false)) here encoded
     (place_at c.self.inside.buffer.first c.args.block p.b c.first_block-first.result c.from.result c.from-2.result c.args.symbol c.first_block-first.ensures (c.from.ensures ∙ b) c.from-2.ensures
     (mul-le-mul_right p.b first) first)
-    (omega (arith, c.if-place-len.true, c.len.ensures, c.self.inside.sent.ok.0, c.self.invariant.marks)))
+    (omega (arith, c.if-place-len.true, c.len.ensures, c.self.invariant.marks)))
 
 pub returns-clause-knows : goal.returns-clause-knows
 returns-clause-knows c = λ p index parts sent knows encoded.
@@ -32,4 +33,4 @@ returns-clause-knows c = λ p index parts sent knows encoded.
     (omega (arith, b, c.self.invariant.some)) (omega (arith, b, c.if-symbol-self.false)) here encoded
     (place_at c.self.inside.buffer.first c.args.block p.b c.first_block-first.result c.from.result c.from-2.result c.args.symbol c.first_block-first.ensures (c.from.ensures ∙ b) c.from-2.ensures
     (mul-le-mul_right p.b first) first)
-    refl refl
+    refl (ap (λ (m : MarksState). m.sent) c.note.ensures)
