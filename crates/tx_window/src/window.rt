@@ -256,7 +256,8 @@ impl Window {
         }
     }
 
-    /// The first info or kept symbol that is sent by itself, of the entries from an index on. `None` where there is none.
+    /// The first info or kept symbol that is sent by itself, of the entries from an index on. `None` where there is none. It looks at
+    /// one entry: none but an open stream of which no closed segment is kept has nothing, and nothing stands behind that.
     fn first_new(&self, index: u32) -> Option<Want>
         requires { self.now.dropped ≤ index }
         ensures exact { (s : SenderState) → Stands self.now s → result ≡ next_new self.now.p (next_at index s) }
@@ -288,7 +289,7 @@ impl Window {
     }
 
     /// The next new info or symbol, where none before this one is: the first from there on that was not dropped. A symbol
-    /// that is answered has another id behind it.
+    /// that is answered has another id behind it. It looks at the entry there, and at one more where that has nothing left.
     pub fn next_new(&self, from: Want) -> Option<Want>
         ensures exact { (s : SenderState) → Stands self.now s → s.next ≡ from → result ≡ next_new self.now.p s }
         ensures id { MatchOption result ⊤ HasNext }
