@@ -32,6 +32,21 @@ none_free ids each = sym (length-filter (λ id. id == 255) ids) ∙ ap length (n
         ap (λ b. cond b (x ∷ filter (λ id. id == 255) xs) (filter (λ id. id == 255) xs)) (ne_eqb x 255 (each 0 (omega arith)))
         ∙ none_of xs (λ i lt. each (suc i) (omega arith))
 
+-- where none is free, each place has a symbol
+pub all_taken : (ids : List ℕ) → free_places ids ≡ 0 → (i d : ℕ) → i < length ids → get_or ids i d ≢ 255
+all_taken ids none i d lt = taken ids (length-filter (λ id. id == 255) ids ∙ none) i lt
+  where
+    taken : (ids : List ℕ) → length (filter (λ id. id == 255) ids) ≡ 0 → (i : ℕ) → i < length ids → get_or ids i d ≢ 255
+    taken [] none i lt e = absurd (omega arith)
+    taken (x ∷ xs) none i lt e = go (x == 255) refl none i lt e (taken xs)
+      where
+        go : (b : Bool) → (x == 255) ≡ b → length (cond b (x ∷ filter (λ id. id == 255) xs) (filter (λ id. id == 255) xs)) ≡ 0
+            → (i : ℕ) → i < length (x ∷ xs) → get_or (x ∷ xs) i d ≡ 255
+            → (length (filter (λ id. id == 255) xs) ≡ 0 → (i : ℕ) → i < length xs → get_or xs i d ≢ 255) → ⊥
+        go true same none i lt e rest = absurd (omega (arith, none))
+        go false same none zero lt e rest = absurd (cc (same, eq-eqb x 255 e))
+        go false same none (suc i) lt e rest = rest none i (omega arith) e
+
 pub some_free : (ids : List ℕ) (o : Option ℕ) → 0 < free_places ids
     → MatchOption o (EachIndex ids (λ i. slice_index ids i ≢ 255)) (λ i. (i < length ids) × (slice_index ids i ≡ 255)) → IsSome o
 some_free ids (Some i) some found = refl

@@ -1,9 +1,9 @@
 -- Of a block that is solved, each symbol that was there is the encoded one of the sources that are there now.
 use Rattle.std.proofs.Common.{◌≡◌, ℕ, zero, suc, ◌+◌, ◌*◌, ◌<◌, ◌≤◌, ◌⊎◌, inl, inr, List, [], ◌∷◌, length, take, drop, get_or, Option, Some, None, Bool, true, false, refl, sym, ap, ◌∙◌, subst, arith}
-use Rattle.std.specs.Prelude.{◌||◌, ◌==◌, ◌≢◌, is_some, slice_index, EachIndex, MatchOption}
+use Rattle.std.specs.Prelude.{◌||◌, ◌==◌, ◌≢◌, slice_index, EachIndex}
 use Rattle.std.specs.List.{AllByRecursion}
-use Rattle.std.proofs.lemmas.Bool.{eqb-true, eq-eqb, cases_lt, ne_eqb}
-use Rattle.std.proofs.lemmas.List.{length-take, length-drop, get_or-take, get_or-drop, get_or_past}
+use Rattle.std.proofs.lemmas.Bool.{eqb-true, eq-eqb, cases_lt, cases_order, ne_eqb}
+use Rattle.std.proofs.lemmas.List.{length-take, length-drop, get_or-take, get_or-drop, get_or_default, get_or_past}
 use Rattle.std.proofs.Math.Nat.{suc-mul}
 use Rattle.gf_field.specs.Element.{AreElements}
 use Rattle.gf_field.specs.Symbol.{AreSymbols, AreIds, encoded_symbol, given}
@@ -15,8 +15,8 @@ use Rattle.gf_field.proofs.Places.{elements_of_octets}
 use Rattle.rs_block.proofs.Formula.{length-column, get_or-column}
 use Rattle.rs_block.proofs.Words.{column-octets, codeword_exists}
 use Rattle.rs_block.proofs.Functions.{function_laws}
-use Rattle.rx_hold.specs.Places.{pieces, has_id, free_places, encoded_among, symbol_in, with_one}
-use Rattle.rx_hold.proofs.FreePlaces.{length-pieces, concat_pieces, none_free}
+use Rattle.rx_hold.specs.Places.{AreApart, pieces, has_id, free_places, encoded_among, symbol_in, with_one}
+use Rattle.rx_hold.proofs.FreePlaces.{all_taken, concat_pieces, length-pieces}
 
 -- where each source symbol lies at its own place, the row is the sources
 pub own_sources : (k size : ℕ) (ids row : List ℕ) → AreIds k 255 ids → EachIndex ids (λ i. slice_index ids i ≡ i) → AreOctets row → AreSources k size ids row row
@@ -156,14 +156,30 @@ put_done k size q ids after row kept solved x count count' are none lacks long l
     ∙ with_one_same q id x (given ids (pieces size k row)) (symbol_in size ids row)
     (ap (λ n. given ids (pieces size n row) id) (sym count) ∙ sym (open_in size ids row id (omega (arith, lacks))))
 
-pub put_last : (shape : SolverState) (size q : ℕ) (ids after row kept solved x : List ℕ) (o : Option ℕ) → shape ≡ record { k = length ids; size = size } → length ids ≤ 255
-    → length after ≡ length ids → AreIds shape.k 255 after → free_places ids ≡ free_places after + 1
-    → MatchOption o (EachIndex after (λ i. slice_index after i ≢ 255)) (λ i. (i < length after) × (slice_index after i ≡ 255)) → is_some o ≡ false
+-- the ids of a block of which no place is free are different ones of symbols
+pub taken_ids : (ids : List ℕ) → AreApart ids → AreOctets ids → free_places ids ≡ 0 → AreIds (length ids) 255 ids
+taken_ids ids apart octets none = record {
+  count = refl;
+  different = λ i j d before there same.
+      absurd (all_taken ids none i d (omega (arith, before, there)) (apart i j d before there same));
+  below = λ i d lt.
+      let small = octets i in
+      let zero_is = get_or_default ids i d 0 lt in
+      let other = all_taken ids none i d lt in
+      less_of (cases_order (get_or ids i d) 255) other small zero_is;
+}
+  where
+    less_of : {n m : ℕ} → (n ≡ 255) ⊎ ((n < 255) ⊎ (255 < n)) → n ≢ 255 → m < 256 → n ≡ m → n < 255
+    less_of (inl e) other small is = absurd (other e)
+    less_of (inr (inl less)) other small is = less
+    less_of (inr (inr more)) other small is = absurd (omega (arith, more, small, is))
+
+pub put_last : (shape : SolverState) (size q : ℕ) (ids after row kept solved x : List ℕ) → shape ≡ record { k = length ids; size = size } → length ids ≤ 255
+    → length after ≡ length ids → AreIds shape.k 255 after → free_places ids ≡ free_places after + 1 → free_places after ≡ 0
     → length row ≡ length ids * size → length kept ≡ length row → length solved ≡ length kept → AreOctets solved → AreSources shape.k shape.size after kept solved
     → ((id : ℕ) → id < 255 → given after (pieces size (length ids) kept) id ≡ with_one q x (given ids (pieces size (length ids) row)) id)
     → (id : ℕ) → id < 255 → symbol_in size after solved id ≡ with_one q x (symbol_in size ids row) id
-put_last shape size q ids after row kept solved x (Some i) is most count are lacks found none long kept_long solved_long octets sources symbols = absurd (cc none)
-put_last shape size q ids after row kept solved x None is most count are lacks found none long kept_long solved_long octets sources symbols =
-    put_done (length ids) size q ids after row kept solved x refl count (subst (λ (s : SolverState). AreIds s.k 255 after) is are) (none_free after found) lacks
+put_last shape size q ids after row kept solved x is most count are lacks none long kept_long solved_long octets sources symbols =
+    put_done (length ids) size q ids after row kept solved x refl count (subst (λ (s : SolverState). AreIds s.k 255 after) is are) none lacks
     (kept_long ∙ long) (solved_long ∙ kept_long ∙ long) most octets
     (subst (λ (s : SolverState). AreSources s.k s.size after kept solved) is sources) symbols

@@ -9,7 +9,7 @@ use Rattle.gf_field.specs.Element.{AreElements}
 use Rattle.norm_order.specs.Sets.{with_member}
 use Rattle.norm_order.specs.Symbols.{padded}
 use Rattle.norm_receive_rules.specs.Holding.{Held}
-use Rattle.norm_receive_rules.specs.Plans.{cut_of_plan, holds, is_done}
+use Rattle.norm_receive_rules.specs.Plans.{cut_of_plan, holds, is_done, lacking}
 use Rattle.norm_receive_rules.specs.Putting.{held_before}
 use Rattle.rx_hold.specs.BlockState.{held_at}
 use Rattle.rx_hold.specs.ObjectState.{ObjectState, alone}
@@ -22,7 +22,7 @@ use Rattle.rx_hold.specs.declared.object.Object.TheInside.{Inside}
 use Rattle.rx_hold.specs.declared.rows.Rows.{Rows}
 use Rattle.rx_hold.proofs.Cuts.{sent_most}
 use Rattle.rx_hold.proofs.Listed.{object_with}
-use Rattle.rx_hold.proofs.ObjectLemmas.{object_holds, object_done}
+use Rattle.rx_hold.proofs.ObjectLemmas.{object_holds, object_done, object_lacking}
 use Rattle.rx_hold.proofs.OneMore.{Comes, each_then, none_there, sent_of}
 
 -- ---- a symbol that is news
@@ -70,6 +70,17 @@ news x o block q payload sound is small new lacks fits =
     less_of : {n m : ℕ} → (n < m) ⊎ (m ≤ n) → (m - n == 0) ≡ false → n < m
     less_of (inl lt) e = lt
     less_of {n = n} {m = m} (inr le) e = absurd (cc (e, eq-eqb (m - n) 0 (let none : m - n ≡ 0 = omega (arith, le) in none)))
+
+-- as many places are free as the rules say are lacking
+pub free_are : (x : Inside) (o : ObjectState) (block q : ℕ) (payload : List ℕ) (n : ℕ) → IsObject x → object_view x ≡ o → IsNews x block q payload
+    → n ≡ lacking (alone o) o.plan block → free_places (block_ids x.rows.plan x.rows.ids.items block) ≡ n
+free_are x o block q payload n sound seen is told =
+    let b : IsBlock x.index x.rows.plan x.rows.ids.items x.rows.octets.items x.counts.items block = sound.each block is.within in
+    let count = b.count in
+    let same : n ≡ source_symbols x.rows.plan block - slice_index x.counts.items block =
+    told ∙ subst (λ (v : ObjectState). lacking (alone v) v.plan block ≡ source_symbols x.rows.plan block - slice_index x.counts.items block) seen
+    (object_lacking x block sound is.within) in
+    omega (arith, same, count)
 
 -- ---- the counts
 

@@ -83,7 +83,9 @@ fn are_own(ids: &[u8]) -> bool
 
 /// Puts the source symbols of a block of which no place is free into their places. `scratch` is room for the row.
 fn solve(solver: &mut Solver, ids: &[u8], row: &mut [u8], scratch: &mut [u8])
-    requires ids { AreIds solver.old.k 255 ids.now }
+    requires count { length ids.now ≡ solver.old.k }
+    requires apart { AreApart ids.now }
+    requires full { free_places ids.now ≡ 0 }
     requires row { length row.old ≡ solver.old.k * solver.old.size }
     requires room { length row.old ≤ length scratch.old }
     ensures sources { AreSources solver.old.k solver.old.size ids.now row.old row.new }
@@ -96,7 +98,7 @@ fn solve(solver: &mut Solver, ids: &[u8], row: &mut [u8], scratch: &mut [u8])
     solver.solve_in(ids, row, scratch);
 }
 
-/// Puts a symbol that is new into a block that lacks some. As the last one that is lacking comes, the block's source
+/// Puts a symbol that is new into a block that lacks so many. As the last one that is lacking comes, the block's source
 /// symbols come to lie at their places. The solver is for the block's number of source symbols and their size, and
 /// `scratch` is room for the row.
 pub fn put(
@@ -106,13 +108,15 @@ pub fn put(
     size: usize,
     symbol: u8,
     payload: &[u8],
+    lacking: u8,
     scratch: &mut [u8],
 )
     requires solver { solver.old ≡ record { k = length ids.old; size = size } }
     requires most { length ids.old ≤ 255 }
     requires id { symbol < 255 }
     requires new { has_id symbol ids.old ≡ false }
-    requires lacks { 0 < free_places ids.old }
+    requires some { 1 ≤ lacking }
+    requires lacks { free_places ids.old ≡ lacking }
     requires apart { AreApart ids.old }
     requires row { length row.old ≡ length ids.old * size }
     requires fits { length payload.now ≤ size }
@@ -123,7 +127,7 @@ pub fn put(
     ensures same { solver.new ≡ solver.old }
 {
     keep(ids, row, size, symbol, payload);
-    if first_free(ids).is_some() {
+    if lacking > 1 {
         return;
     }
     solve(solver, ids, row, scratch);

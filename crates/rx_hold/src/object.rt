@@ -266,7 +266,8 @@ impl Object {
         requires scratch { self.old.plan.fti.b * self.old.plan.fti.e ≤ length scratch.old }
         ensures { self.new ≡ offered_to put.Kept block symbol payload.now self.old }
     {
-        self.rows.put(block, symbol, payload, scratch);
+        let lacking = self.lacking(block);
+        self.rows.put(block, symbol, payload, lacking, scratch);
         self.counts[block as usize] += 1;
         self.short = next_short(&self.rows.plan, &self.counts, self.short);
     }

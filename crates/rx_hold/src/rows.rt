@@ -45,7 +45,7 @@ fn end_of(plan: &Plan, block: u32) -> usize
     start_of(plan, block) + usize::from(plan.source_len(block))
 }
 
-/// Puts a symbol that is new into a block that lacks some, and solves the block that is whole by it. The solver is for
+/// Puts a symbol that is new into a block that lacks so many, and solves the block that is whole by it. The solver is for
 /// blocks of as many source symbols.
 fn put_at(
     plan: &Plan,
@@ -55,6 +55,7 @@ fn put_at(
     block: u32,
     symbol: u8,
     payload: &[u8],
+    lacking: u8,
     scratch: &mut [u8],
 )
     requires object { is_some plan.now.l ≡ true }
@@ -65,7 +66,8 @@ fn put_at(
     requires solver { solver.old ≡ record { k = source_symbols plan.now block; size = plan.now.e } }
     requires id { symbol < 255 }
     requires new { has_id symbol (block_ids plan.now ids.old block) ≡ false }
-    requires lacks { 0 < free_places (block_ids plan.now ids.old block) }
+    requires some { 1 ≤ lacking }
+    requires lacks { free_places (block_ids plan.now ids.old block) ≡ lacking }
     requires apart { AreApart (block_ids plan.now ids.old block) }
     requires fits { length payload.now ≤ plan.now.e }
     requires room { plan.now.b * plan.now.e ≤ length scratch.old }
@@ -81,7 +83,7 @@ fn put_at(
     let end = end_of(plan, block);
     let own = &mut ids[start..end];
     let row = &mut octets[start * size..end * size];
-    block::put(solver, own, row, size, symbol, payload, scratch);
+    block::put(solver, own, row, size, symbol, payload, lacking, scratch);
 }
 
 impl Rows {
@@ -124,14 +126,15 @@ impl Rows {
         block::lies_in(&self.ids[start..end], symbol)
     }
 
-    /// Puts a symbol that is new into a block that lacks some, and solves the block that is whole by it. `scratch` is room
+    /// Puts a symbol that is new into a block that lacks so many, and solves the block that is whole by it. `scratch` is room
     /// for the symbols of a block. It takes no memory.
-    pub fn put(&mut self, block: u32, symbol: u8, payload: &[u8], scratch: &mut [u8])
+    pub fn put(&mut self, block: u32, symbol: u8, payload: &[u8], lacking: u8, scratch: &mut [u8])
         requires rows { AreRows self.old }
         requires block { block < blocks self.old.plan }
         requires id { symbol < 255 }
         requires new { has_id symbol (block_ids self.old.plan self.old.ids.items block) ≡ false }
-        requires lacks { 0 < free_places (block_ids self.old.plan self.old.ids.items block) }
+        requires some { 1 ≤ lacking }
+        requires lacks { free_places (block_ids self.old.plan self.old.ids.items block) ≡ lacking }
         requires apart { AreApart (block_ids self.old.plan self.old.ids.items block) }
         requires fits { length payload.now ≤ self.old.plan.e }
         requires room { self.old.plan.b * self.old.plan.e ≤ length scratch.old }
@@ -154,6 +157,7 @@ impl Rows {
                 block,
                 symbol,
                 payload,
+                lacking,
                 scratch,
             );
             return;
@@ -166,6 +170,7 @@ impl Rows {
             block,
             symbol,
             payload,
+            lacking,
             scratch,
         );
     }

@@ -5,16 +5,24 @@ use Rattle.fec_plan.specs.Partition.{blocks, source_symbols}
 use Rattle.gf_field.proofs.Places.{elements_of_octets}
 use Rattle.rx_hold.proofs.Cuts.{few_sources}
 use Rattle.rx_hold.proofs.ObjectLemmas.{read_at}
-use Rattle.rx_hold.proofs.ThenLemmas.{news, counts_done, counts_most, object_then, view_then}
+use Rattle.rx_hold.proofs.ThenLemmas.{news, counts_done, counts_most, free_are, object_then, view_then}
 use Rattle.rx_hold.proofs.object.Object.put.Goals as goal
 
 pub put-requires-clause-new : goal.put-requires-clause-new
 put-requires-clause-new c =
     let n = news c.self.inside c.args.self.now c.args.block c.args.symbol c.args.payload.now c.self.invariant c.self.view_is c.requires.id c.requires.new c.requires.lacks c.requires.fits in n.new
 
+pub put-requires-clause-some : goal.put-requires-clause-some
+put-requires-clause-some c =
+    let n = news c.self.inside c.args.self.now c.args.block c.args.symbol c.args.payload.now c.self.invariant c.self.view_is c.requires.id c.requires.new c.requires.lacks c.requires.fits in
+    let free = n.free in
+    let same = free_are c.self.inside c.args.self.now c.args.block c.args.symbol c.args.payload.now c.lacking-lacking.result c.self.invariant c.self.view_is n c.lacking-lacking.ensures in
+    omega (arith, free, same)
+
 pub put-requires-clause-lacks : goal.put-requires-clause-lacks
 put-requires-clause-lacks c =
-    let n = news c.self.inside c.args.self.now c.args.block c.args.symbol c.args.payload.now c.self.invariant c.self.view_is c.requires.id c.requires.new c.requires.lacks c.requires.fits in n.free
+    let n = news c.self.inside c.args.self.now c.args.block c.args.symbol c.args.payload.now c.self.invariant c.self.view_is c.requires.id c.requires.new c.requires.lacks c.requires.fits in
+    free_are c.self.inside c.args.self.now c.args.block c.args.symbol c.args.payload.now c.lacking-lacking.result c.self.invariant c.self.view_is n c.lacking-lacking.ensures
 
 pub put-requires-clause-apart : goal.put-requires-clause-apart
 put-requires-clause-apart c =
