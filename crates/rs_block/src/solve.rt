@@ -17,7 +17,7 @@ use norm_base::Memory;
 use std::alloc::{AllocError, Global};
 use std::marker::Model;
 
-/// Room to solve blocks of k source symbols: all memory that solving takes is made once.
+/// Room to solve blocks of at most k source symbols: all memory that solving takes is made once.
 #[derive(Debug, Drop)]
 pub struct Solver {
     k: u8,
@@ -86,29 +86,67 @@ impl Solver {
         );
     }
 
-    /// Puts the k source symbols of a block into their places of the row in which k of its symbols lie: `ids` are the ids
-    /// of these, place by place. A place whose symbol is its own is not written, so a block costs a copy of what lies at
-    /// the others, and a sum for each. `scratch` is room for the row. It takes no memory and cannot fail.
+    /// Puts the source symbols of a block of at most k of them into their places of the row in which as many of its symbols
+    /// lie: `ids` are the ids of these, place by place. A place whose symbol is its own is not written, so a block costs a copy
+    /// of what lies at the others, and a sum for each. `scratch` is room for the row. It takes no memory and cannot fail.
     pub fn solve_in(&mut self, ids: &[u8], row: &mut [u8], scratch: &mut [u8])
-        requires ids { AreIds self.old.k 255 ids.now }
-        requires row { length row.old ≡ self.old.k * self.old.size }
+        requires some { 1 ≤ length ids.now }
+        requires few { length ids.now ≤ self.old.k }
+        requires ids { AreIds (length ids.now) 255 ids.now }
+        requires row { length row.old ≡ length ids.now * self.old.size }
         requires room { length row.old ≤ length scratch.old }
-        ensures sources { AreSources self.old.k self.old.size ids.now row.old row.new }
+        ensures sources { AreSources (length ids.now) self.old.size ids.now row.old row.new }
         ensures same { self.new ≡ self.old }
     {
-        set_aside(ids, row, self.size, scratch);
-        place(ids, &mut self.places);
-        weigh_by_ids(ids, &self.places, &mut self.weights);
-        put_lacking(
+        solve_row(
             ids,
-            &self.places,
-            &self.weights,
             self.size,
-            scratch,
+            &mut self.places,
+            &mut self.weights,
             &mut self.row,
+            scratch,
             row,
         );
     }
+}
+
+/// Puts the source symbols of a block into their places of the row in which its symbols lie, with room for the places, the
+/// weights and the coefficients of at least as many symbols.
+fn solve_row(
+    ids: &[u8],
+    size: usize,
+    places: &mut [u8],
+    weights: &mut [u8],
+    coefficients: &mut [u8],
+    scratch: &mut [u8],
+    row: &mut [u8],
+)
+    requires some { 1 ≤ length ids.now }
+    requires few { length ids.now ≤ 255 }
+    requires ids { AreIds (length ids.now) 255 ids.now }
+    requires short { size ≤ symbol_room }
+    requires places { length ids.now ≤ length places.old }
+    requires weights { length ids.now ≤ length weights.old }
+    requires coefficients { length ids.now ≤ length coefficients.old }
+    requires row { length row.old ≡ length ids.now * size }
+    requires room { length row.old ≤ length scratch.old }
+    ensures { AreSources (length ids.now) size ids.now row.old row.new }
+{
+    let count = ids.len();
+    let places = &mut places[..count];
+    let weights = &mut weights[..count];
+    set_aside(ids, row, size, scratch);
+    place(ids, places);
+    weigh_by_ids(ids, places, weights);
+    put_lacking(
+        ids,
+        places,
+        weights,
+        size,
+        scratch,
+        &mut coefficients[..count],
+        row,
+    );
 }
 
 /// k octets.
