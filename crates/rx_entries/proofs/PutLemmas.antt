@@ -186,11 +186,12 @@ sum_least g [] i seat e = absurd (cc)
 sum_least g (x ∷ ring) zero seat e = (let same : g x ≡ g (Some seat) = ap g e in omega (arith, same, sum_by-cons g x ring))
 sum_least g (x ∷ ring) (suc i) seat e = (let rest = sum_least g ring i seat e in omega (arith, rest, sum_by-cons g x ring))
 
-pub may_offer : (f : Front) (i block long : ℕ) (solver : SolverState) → IsFront f → HasRoom 1 f → (i ≡ 0 → (point_of_front f).block ≤ block) → f.profile.b * f.profile.e ≤ long
-    → solver ≡ record { k = f.profile.b; size = f.profile.e + 8 } → MatchOption (at_place f.ring.items i) ⊤ (λ (seat : Seat). MayOffer seat block long solver)
-may_offer f i block long solver front room reached row scratch = go (at_place f.ring.items i) refl
+pub may_offer : (f : Front) (i block : ℕ) (solver scratch : SolverState) → IsFront f → HasRoom 1 f → (i ≡ 0 → (point_of_front f).block ≤ block)
+    → solver ≡ record { k = f.profile.b; size = f.profile.e } → scratch ≡ record { k = f.profile.b; size = f.profile.e + 8 }
+    → MatchOption (at_place f.ring.items i) ⊤ (λ (seat : Seat). MayOffer seat block solver scratch)
+may_offer f i block solver scratch front room reached lent streams = go (at_place f.ring.items i) refl
   where
-    go : (found : Option Seat) → at_place f.ring.items i ≡ found → MatchOption found ⊤ (λ (seat : Seat). MayOffer seat block long solver)
+    go : (found : Option Seat) → at_place f.ring.items i ≡ found → MatchOption found ⊤ (λ (seat : Seat). MayOffer seat block solver scratch)
     go None e = tt
     go (Some seat) e =
         let is = front.seats i seat e in
@@ -198,9 +199,9 @@ may_offer f i block long solver front room reached row scratch = go (at_place f.
         record {
           kind = is.kind;
           reached = by i refl is.later;
-          row = subst (λ b. b * o.plan.fti.e ≤ long) (sym is.entry.b) (subst (λ n. f.profile.b * n ≤ long) is.entry.profile.e row);
-          scratch =
-              scratch ∙ ap (λ b. record { k = b; size = f.profile.e + 8 }) (sym is.entry.b)
+          lent = lent ∙ ap (λ b. record { k = b; size = f.profile.e }) (sym is.entry.b) ∙ ap (λ n. record { k = o.plan.fti.b; size = n }) is.entry.profile.e;
+          streams =
+              streams ∙ ap (λ b. record { k = b; size = f.profile.e + 8 }) (sym is.entry.b)
               ∙ ap (λ n. record { k = o.plan.fti.b; size = n + 8 }) is.entry.profile.e;
           count = (let least = sum_least waiting_at f.ring.items i seat e in let all = front.waiting in let x : f.ups.ok ≡ f.ups.ok = refl in let y : f.ups.small ≡ f.ups.small = refl in omega (arith, least, all, room, f.ups.ok, f.ups.small));
         }

@@ -1,15 +1,15 @@
 -- What a hold keeps, and what it is seen as.
-use Rattle.std.specs.Prelude.{◌≡◌, ◌+◌, ◌*◌, ◌≤◌, [], false, length}
+use Rattle.std.specs.Prelude.{◌≡◌, ◌+◌, [], false}
 use Rattle.norm_base.specs.Settings.{Settings}
 use Rattle.fec_plan.specs.Points.{position}
 use Rattle.rx_hold.specs.EntryHold.{EntryHold}
 use Rattle.rx_entries.specs.FrontSound.{IsFront, front_view}
 use Rattle.rx_entries.specs.declared.hold.Hold.TheInside.{Inside}
 
--- besides what its front keeps, there is room for the symbols of a block of either kind
+-- besides what its front keeps, there is room to solve the blocks of either kind
 pub record IsSoundHold (h : Inside) : Type 0 where
   pub front : IsFront h.front
-  pub row : h.front.profile.b * h.front.profile.e ≤ length h.row.items
+  pub room : h.room ≡ record { k = h.front.profile.b; size = h.front.profile.e }
   pub scratch : h.scratch ≡ record { k = h.front.profile.b; size = h.front.profile.e + 8 }
 
 abbrev pub hold_view : Inside → EntryHold

@@ -19,7 +19,7 @@ use fec_plan::{PayloadId, Plan};
 use norm_base::{Memory, Octets, Profile};
 use norm_order::Up;
 use norm_receive_rules::{Missing, Put};
-use rx_hold::Entry;
+use rx_hold::{Entry, Room};
 use rx_stream::Scratch;
 use std::alloc::Global;
 use std::collections::VecDeque;
@@ -198,14 +198,14 @@ impl Front {
         place: usize,
         id: PayloadId,
         payload: &[u8],
-        row: &mut [u8],
+        room: &mut Room,
         scratch: &mut Scratch,
     ) -> Result<Put, Memory>
         requires front { IsFront self.old }
         requires room { HasRoom 1 self.old }
         requires place { place < 256 }
         requires reached { place ≡ 0 → (point_of_front self.old).block ≤ id.block }
-        requires row { self.old.profile.b * self.old.profile.e ≤ length row.old }
+        requires lent { room.old ≡ record { k = self.old.profile.b; size = self.old.profile.e } }
         requires scratch { scratch.old ≡ record { k = self.old.profile.b; size = self.old.profile.e + 8 } }
         ensures sound { IsFront self.new }
         ensures profile { self.new.profile ≡ self.old.profile }
@@ -213,11 +213,11 @@ impl Front {
             → (word ≡ put_of self.old.profile s (position (self.old.point + place) id.block id.symbol) payload.now)
             × StandsFor (front_view self.new) (with_symbol word (position (self.old.point + place) id.block id.symbol) payload.now s)) }
         ensures refused { OnErr result (front_view self.new ≡ front_view self.old) }
-        ensures row { length row.new ≡ length row.old }
+        ensures lent { room.new ≡ room.old }
         ensures scratch { scratch.new ≡ scratch.old }
     {
         let is_stream = is_stream_at(&self.ring, place);
-        let word = offer_at(&mut self.ring, place, id, payload, row, scratch)?;
+        let word = offer_at(&mut self.ring, place, id, payload, room, scratch)?;
         self.waiting += counted(is_stream, word);
         Ok(word)
     }
@@ -317,11 +317,11 @@ impl Front {
         index: u32,
         id: PayloadId,
         payload: &[u8],
-        row: &mut [u8],
+        room: &mut Room,
         scratch: &mut Scratch,
     ) -> Result<Put, Memory>
         requires front { IsFront self.old }
-        requires row { self.old.profile.b * self.old.profile.e ≤ length row.old }
+        requires lent { room.old ≡ record { k = self.old.profile.b; size = self.old.profile.e } }
         requires scratch { scratch.old ≡ record { k = self.old.profile.b; size = self.old.profile.e + 8 } }
         ensures sound { IsFront self.new }
         ensures profile { self.new.profile ≡ self.old.profile }
@@ -329,7 +329,7 @@ impl Front {
             → (word ≡ put_of self.old.profile s (position index id.block id.symbol) payload.now)
             × StandsFor (front_view self.new) (with_symbol word (position index id.block id.symbol) payload.now s)) }
         ensures refused { OnErr result (front_view self.new ≡ front_view self.old) }
-        ensures row { length row.new ≡ length row.old }
+        ensures lent { room.new ≡ room.old }
         ensures scratch { scratch.new ≡ scratch.old }
     {
         if index < self.point {
@@ -343,6 +343,6 @@ impl Front {
             return Ok(Put::Had);
         }
         self.reserve(1)?;
-        self.offer(place, id, payload, row, scratch)
+        self.offer(place, id, payload, room, scratch)
     }
 }

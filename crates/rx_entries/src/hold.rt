@@ -29,6 +29,7 @@ use norm_base::{Memory, Profile};
 use norm_ext::Fti;
 use norm_order::Up;
 use norm_receive_rules::{Fit, Missing, Put};
+use rx_hold::Room;
 use rx_stream::Scratch;
 use std::alloc::Global;
 use std::collections::VecDeque;
@@ -66,9 +67,9 @@ impl Place {
 pub struct Hold {
     alloc: Global,
     front: Front,
-    /// Room for the symbols of a block of data or a file.
-    row: Vec<u8>,
-    /// Room for those of a stream's block.
+    /// Room to solve the blocks of data and files.
+    room: Room,
+    /// Room to solve those of streams.
     scratch: Scratch,
 }
 
@@ -99,7 +100,7 @@ impl Hold {
         let mut ring = VecDeque::with_capacity(alloc, PLACES)?;
         fill(&mut ring);
         let size = usize::from(profile.e);
-        let row = vec![in alloc; 0; usize::from(profile.b) * size]?;
+        let room = Room::new(alloc, profile.b, size)?;
         let scratch = Scratch::new(alloc, profile.b, size + SEGMENT_PLACE)?;
         Ok(Hold {
             alloc,
@@ -112,7 +113,7 @@ impl Hold {
                 ups: VecDeque::new(alloc),
                 lost: false,
             },
-            row,
+            room,
             scratch,
         })
     }
@@ -279,7 +280,7 @@ impl Hold {
         ensures refused { OnErr result (self.new ≡ self.old) }
     {
         self.front
-            .put(index, id, payload, &mut self.row, &mut self.scratch)
+            .put(index, id, payload, &mut self.room, &mut self.scratch)
     }
 
     /// The transmission information of an object, and its flags, come: where they fit and are new, the object is taken up. Data and

@@ -12,7 +12,7 @@ use norm_base::{Memory, Octets};
 use norm_ext::flags::STREAM;
 use norm_ext::items::has_flag;
 use norm_receive_rules::Put;
-use rx_hold::Entry;
+use rx_hold::{Entry, Room};
 use rx_stream::Scratch;
 use std::collections::VecDeque;
 
@@ -86,18 +86,18 @@ impl Seat {
         &mut self,
         id: PayloadId,
         payload: &[u8],
-        row: &mut [u8],
+        room: &mut Room,
         scratch: &mut Scratch,
     ) -> Result<Put, Memory>
-        requires { MayOffer self.old id.block (length row.old) scratch.old }
+        requires { MayOffer self.old id.block room.old scratch.old }
         ensures word { IfOk result (λ word. GetsWord (Some self.old) word id.block id.symbol payload.now) }
         ensures offered { IfOk result (λ word. IsOffered word id.block id.symbol payload.now self.old self.new) }
         ensures refused { OnErr result (IsSame self.old self.new) }
-        ensures row { length row.new ≡ length row.old }
+        ensures room { room.new ≡ room.old }
         ensures scratch { scratch.new ≡ scratch.old }
     {
         let is_stream = self.says_stream();
-        let word = self.entry.offer(id, payload, row, scratch)?;
+        let word = self.entry.offer(id, payload, room, scratch)?;
         self.waiting += counted(is_stream, word);
         Ok(word)
     }
@@ -129,20 +129,20 @@ pub fn offer_at(
     place: usize,
     id: PayloadId,
     payload: &[u8],
-    row: &mut [u8],
+    room: &mut Room,
     scratch: &mut Scratch,
 ) -> Result<Put, Memory>
     requires place { place < length ring.old.items }
-    requires may { MatchOption (at_place ring.old.items place) ⊤ (λ seat. MayOffer seat id.block (length row.old) scratch.old) }
+    requires may { MatchOption (at_place ring.old.items place) ⊤ (λ seat. MayOffer seat id.block room.old scratch.old) }
     ensures word { IfOk result (λ word. GetsWord (at_place ring.old.items place) word id.block id.symbol payload.now) }
     ensures items { IfOk result (λ word. Becomes ring.old.items ring.new.items place (IsOffered word id.block id.symbol payload.now)) }
     ensures refused { OnErr result (Becomes ring.old.items ring.new.items place IsSame) }
     ensures capacity { deque_capacity ring.new ≡ deque_capacity ring.old }
-    ensures row { length row.new ≡ length row.old }
+    ensures room { room.new ≡ room.old }
     ensures scratch { scratch.new ≡ scratch.old }
 {
     match &mut ring[place] {
-        Some(seat) => seat.offer(id, payload, row, scratch),
+        Some(seat) => seat.offer(id, payload, room, scratch),
         None => Ok(Put::Away),
     }
 }

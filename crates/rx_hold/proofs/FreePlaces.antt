@@ -47,6 +47,11 @@ all_taken ids none i d lt = taken ids (length-filter (λ id. id == 255) ids ∙ 
         go false same none zero lt e rest = absurd (cc (same, eq-eqb x 255 e))
         go false same none (suc i) lt e rest = rest none i (omega arith) e
 
+-- where a place is free, there is one
+pub some_places : (ids : List ℕ) → 1 ≤ free_places ids → 1 ≤ length ids
+some_places [] some = absurd (omega (arith, some, length-filter (λ id. id == 255) []))
+some_places (x ∷ xs) some = omega arith
+
 pub some_free : (ids : List ℕ) (o : Option ℕ) → 0 < free_places ids
     → MatchOption o (EachIndex ids (λ i. slice_index ids i ≢ 255)) (λ i. (i < length ids) × (slice_index ids i ≡ 255)) → IsSome o
 some_free ids (Some i) some found = refl

@@ -11,7 +11,7 @@ use Rattle.rx_hold.specs.Places.{symbol_in, with_one}
 use Rattle.rx_hold.specs.Rows.{start_of, end_of, block_ids, block_row, coded_symbol, with_coded}
 use Rattle.rx_hold.proofs.Listed.{coded_here, coded_there}
 use Rattle.rx_hold.proofs.SolvedLemmas.{with_one_same}
-use Rattle.rx_hold.proofs.Cuts.{ends_before, ends_within, few_sources}
+use Rattle.rx_hold.proofs.Cuts.{ends_before, ends_within}
 
 -- a list after a write to a part of it
 abbrev pub written : ℕ → ℕ → List ℕ → List ℕ → List ℕ
@@ -159,13 +159,6 @@ row_long s e z le =
 
 pub sources_are : (c : Cut) (block s e : ℕ) → s ≡ start_of c block → e ≡ end_of c block → e - s ≡ source_symbols c block
 sources_are c block s e at to = omega (arith, at, to)
-
--- a block's octets are no more than room is asked for
-pub room_enough : (c : Cut) (block s e z : ℕ) → IsSound c → is_some c.l ≡ true → s ≡ start_of c block → e ≡ end_of c block → z ≡ c.e → (e - s) * z ≤ c.b * c.e
-room_enough c block s e z sound object at to wide =
-    let count : (e - s) * z ≡ source_symbols c block * c.e = ap (λ n. n * z) (sources_are c block s e at to) ∙ ap (λ n. source_symbols c block * n) wide in
-    let few : source_symbols c block * c.e ≤ c.b * c.e = mul-le-mul_right c.e (few_sources c block sound object) in
-    omega (arith, count, few)
 
 pub starts_within : (c : Cut) (block s e : ℕ) (ids : List ℕ) → s ≡ start_of c block → e ≡ end_of c block → e ≤ length ids → s ≤ length ids
 starts_within c block s e ids at to within = omega (arith, at, to, within)

@@ -8,7 +8,6 @@ use Rattle.std.proofs.Math.Nat.{suc-mul}
 use Rattle.gf_field.specs.Element.{AreElements}
 use Rattle.gf_field.specs.Symbol.{AreSymbols, AreIds, encoded_symbol, given}
 use Rattle.norm_base.specs.Octets.{AreOctets}
-use Rattle.rs_block.specs.Solver.{SolverState}
 use Rattle.rs_block.specs.Column.{column}
 use Rattle.rs_block.specs.Codeword.{Codeword, AreSources, GoesThroughAt, IsSymbol}
 use Rattle.gf_field.proofs.Places.{elements_of_octets}
@@ -174,12 +173,12 @@ taken_ids ids apart octets none = record {
     less_of (inr (inl less)) other small is = less
     less_of (inr (inr more)) other small is = absurd (omega (arith, more, small, is))
 
-pub put_last : (shape : SolverState) (size q : ℕ) (ids after row kept solved x : List ℕ) → shape ≡ record { k = length ids; size = size } → length ids ≤ 255
-    → length after ≡ length ids → AreIds shape.k 255 after → free_places ids ≡ free_places after + 1 → free_places after ≡ 0
-    → length row ≡ length ids * size → length kept ≡ length row → length solved ≡ length kept → AreOctets solved → AreSources shape.k shape.size after kept solved
+pub put_last : (width size q : ℕ) (ids after row kept solved x : List ℕ) → width ≡ size → length ids ≤ 255
+    → length after ≡ length ids → AreIds (length after) 255 after → free_places ids ≡ free_places after + 1 → free_places after ≡ 0
+    → length row ≡ length ids * size → length kept ≡ length row → length solved ≡ length kept → AreOctets solved → AreSources (length after) width after kept solved
     → ((id : ℕ) → id < 255 → given after (pieces size (length ids) kept) id ≡ with_one q x (given ids (pieces size (length ids) row)) id)
     → (id : ℕ) → id < 255 → symbol_in size after solved id ≡ with_one q x (symbol_in size ids row) id
-put_last shape size q ids after row kept solved x is most count are lacks none long kept_long solved_long octets sources symbols =
-    put_done (length ids) size q ids after row kept solved x refl count (subst (λ (s : SolverState). AreIds s.k 255 after) is are) none lacks
+put_last width size q ids after row kept solved x wide most count are lacks none long kept_long solved_long octets sources symbols =
+    put_done (length ids) size q ids after row kept solved x refl count (subst (λ n. AreIds n 255 after) count are) none lacks
     (kept_long ∙ long) (solved_long ∙ kept_long ∙ long) most octets
-    (subst (λ (s : SolverState). AreSources s.k s.size after kept solved) is sources) symbols
+    (subst (λ n. AreSources n size after kept solved) count (subst (λ n. AreSources (length after) n after kept solved) wide sources)) symbols

@@ -8,3 +8,4 @@ pub mod ObjectSound
 pub mod Told
 pub mod EntryState
 pub mod EntryHold
+pub mod RoomSound

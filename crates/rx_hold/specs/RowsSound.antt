@@ -1,6 +1,6 @@
 -- What the rows of an object's blocks keep.
-use Rattle.std.specs.Prelude.{ℕ, ◌≡◌, ◌≤◌, ◌-◌, ◌*◌, List, take, length, true, is_some}
-use Rattle.fec_plan.specs.Partition.{Cut, IsSound, blocks, source_symbols, all_symbols, sent_octets}
+use Rattle.std.specs.Prelude.{ℕ, ◌≡◌, ◌≤◌, ◌*◌, List, take, length, true, is_some}
+use Rattle.fec_plan.specs.Partition.{Cut, IsSound, all_symbols, sent_octets}
 use Rattle.gf_field.specs.Element.{AreElements}
 use Rattle.norm_order.specs.Symbols.{padded}
 use Rattle.rx_hold.specs.declared.rows.Rows.{Rows}
@@ -11,13 +11,10 @@ pub record IsCoded (c : Cut) (block id : ℕ) (symbol : List ℕ) : Type 0 where
   pub octets : AreElements symbol
   pub zeros : padded c.e (take (sent_octets c block id) symbol) ≡ symbol
 
--- There is a place for each source symbol of an object. The solvers are for the first and the last block, and each block is
--- as long as one of these.
+-- There is a place for each source symbol of an object.
 pub record AreRows (r : Rows) : Type 0 where
   pub sound : IsSound r.plan
   pub object : is_some r.plan.l ≡ true
   pub most : all_symbols r.plan * r.plan.e ≤ 16778616
   pub octets : length r.octets.items ≡ all_symbols r.plan * r.plan.e
   pub ids : length r.ids.items ≡ all_symbols r.plan
-  pub large : r.large ≡ record { k = source_symbols r.plan 0; size = r.plan.e }
-  pub small : r.small ≡ record { k = source_symbols r.plan (blocks r.plan - 1); size = r.plan.e }

@@ -8,7 +8,7 @@ ghost use Rattle.rs_block.specs.Codeword.{AreSources};
 ghost use Rattle.norm_order.specs.Symbols.{padded};
 ghost use Rattle.rx_hold.specs.Places.{AreApart, free_places, has_id, pieces, symbol_in, with_one};
 
-use rs_block::Solver;
+use crate::room::Room;
 
 /// The id of a place where no symbol lies.
 pub const FREE: u8 = 255;
@@ -81,37 +81,36 @@ fn are_own(ids: &[u8]) -> bool
     true
 }
 
-/// Puts the source symbols of a block of which no place is free into their places. `scratch` is room for the row.
-fn solve(solver: &mut Solver, ids: &[u8], row: &mut [u8], scratch: &mut [u8])
-    requires count { length ids.now ≡ solver.old.k }
+/// Puts the source symbols of a block of which no place is free into their places.
+fn solve(room: &mut Room, ids: &[u8], row: &mut [u8])
+    requires some { 1 ≤ length ids.now }
+    requires few { length ids.now ≤ room.old.k }
     requires apart { AreApart ids.now }
     requires full { free_places ids.now ≡ 0 }
-    requires row { length row.old ≡ solver.old.k * solver.old.size }
-    requires room { length row.old ≤ length scratch.old }
-    ensures sources { AreSources solver.old.k solver.old.size ids.now row.old row.new }
-    ensures different { AreIds solver.old.k 255 ids.now }
-    ensures same { solver.new ≡ solver.old }
+    requires row { length row.old ≡ length ids.now * room.old.size }
+    ensures sources { AreSources (length ids.now) room.old.size ids.now row.old row.new }
+    ensures different { AreIds (length ids.now) 255 ids.now }
+    ensures same { room.new ≡ room.old }
 {
     if are_own(ids) {
         return;
     }
-    solver.solve_in(ids, row, scratch);
+    room.solve_in(ids, row);
 }
 
 /// Puts a symbol that is new into a block that lacks so many. As the last one that is lacking comes, the block's source
-/// symbols come to lie at their places. The solver is for the block's number of source symbols and their size, and
-/// `scratch` is room for the row.
+/// symbols come to lie at their places. There is room to solve blocks of as many source symbols of this size.
 pub fn put(
-    solver: &mut Solver,
+    room: &mut Room,
     ids: &mut [u8],
     row: &mut [u8],
     size: usize,
     symbol: u8,
     payload: &[u8],
     lacking: u8,
-    scratch: &mut [u8],
 )
-    requires solver { solver.old ≡ record { k = length ids.old; size = size } }
+    requires size { room.old.size ≡ size }
+    requires few { length ids.old ≤ room.old.k }
     requires most { length ids.old ≤ 255 }
     requires id { symbol < 255 }
     requires new { has_id symbol ids.old ≡ false }
@@ -120,15 +119,14 @@ pub fn put(
     requires apart { AreApart ids.old }
     requires row { length row.old ≡ length ids.old * size }
     requires fits { length payload.now ≤ size }
-    requires room { length row.old ≤ length scratch.old }
     ensures symbols { (id : ℕ) → id < 255 → symbol_in size ids.new row.new id ≡ with_one symbol (padded size payload.now) (symbol_in size ids.old row.old) id }
     ensures lacks { free_places ids.old ≡ free_places ids.new + 1 }
     ensures apart { AreApart ids.new }
-    ensures same { solver.new ≡ solver.old }
+    ensures same { room.new ≡ room.old }
 {
     keep(ids, row, size, symbol, payload);
     if lacking > 1 {
         return;
     }
-    solve(solver, ids, row, scratch);
+    solve(room, ids, row);
 }

@@ -9,6 +9,7 @@ ghost use Rattle.norm_receive_rules.specs.Putting.{put_by};
 ghost use Rattle.rx_hold.specs.EntryState.{IsOfKind, IsOfProfile, alone_in, entry_of, with_seen, with_word};
 
 use crate::object::Object;
+use crate::room::Room;
 use fec_plan::{PayloadId, Plan};
 use norm_base::{Memory, Octets};
 use norm_ext::Fti;
@@ -131,7 +132,7 @@ impl Entry {
     }
 
     /// A symbol comes, of a block that was not handed up whole: it is kept where it is news, and a block of which none is
-    /// lacking then is solved. `row` is room for the symbols of a block of data or a file, and `scratch` for those of a stream.
+    /// lacking then is solved: of data or a file in `room`, and of a stream in `scratch`.
     ///
     /// # Errors
     ///
@@ -140,23 +141,23 @@ impl Entry {
         &mut self,
         id: PayloadId,
         payload: &[u8],
-        row: &mut [u8],
+        room: &mut Room,
         scratch: &mut Scratch,
     ) -> Result<Put, Memory>
         requires kind { IsOfKind self.old }
         requires reached { (entry_of self.old).point.block ≤ id.block }
-        requires row { (entry_of self.old).plan.fti.b * (entry_of self.old).plan.fti.e ≤ length row.old }
+        requires room { room.old ≡ record { k = (entry_of self.old).plan.fti.b; size = (entry_of self.old).plan.fti.e } }
         requires scratch { scratch.old ≡ record { k = (entry_of self.old).plan.fti.b; size = (entry_of self.old).plan.fti.e + 8 } }
         ensures word { IfOk result (λ word. (p : Settings) → IsOfProfile p (entry_of self.old)
             → word ≡ put_by p (alone_in (entry_of self.old)) (entry_of self.old).plan (position (entry_of self.old).plan.index id.block id.symbol) payload.now) }
         ensures state { IfOk result (λ word. entry_of self.new ≡ with_word word id.block id.symbol payload.now (entry_of self.old)) }
         ensures refused { OnErr result (entry_of self.new ≡ entry_of self.old) }
         ensures kind { IsOfKind self.new }
-        ensures row { length row.new ≡ length row.old }
+        ensures room { room.new ≡ room.old }
         ensures scratch { scratch.new ≡ scratch.old }
     {
         match self {
-            Entry::Object(object) => Ok(object.offer(id.block, id.symbol, payload, row)),
+            Entry::Object(object) => Ok(object.offer(id.block, id.symbol, payload, room)),
             Entry::Stream(stream) => stream.offer(id.block, id.symbol, payload, scratch),
         }
     }

@@ -3,13 +3,15 @@
 //!
 //! An `Object` keeps the symbols of its blocks, of which any k give the block's source symbols back (RFC 5510 section 8.3),
 //! and gives its octets away as it is whole. It stands on `Rows`, its blocks one behind the other, which put each symbol
-//! into its block by the functions of `block`.
+//! into its block by the functions of `block`. A [`Room`] to solve blocks stands once for all objects of a profile.
 #![tactic(auto)]
 
 mod block;
 mod entry;
 mod object;
+mod room;
 mod rows;
 
 pub use crate::entry::Entry;
 pub use crate::object::Object;
+pub use crate::room::Room;

@@ -18,6 +18,7 @@ ghost use Rattle.rx_hold.specs.Places.{AreApart, free_places, has_id};
 ghost use Rattle.rx_hold.specs.Rows.{block_ids, coded_symbol, with_coded, start_of};
 
 use crate::block::FREE;
+use crate::room::Room;
 use crate::rows::Rows;
 use fec_plan::Plan;
 use norm_base::{Kind, Memory, Octets};
@@ -258,27 +259,28 @@ impl Object {
     }
 
     /// Keeps a symbol that is not held, of a block that is not done.
-    fn put(&mut self, block: u32, symbol: u8, payload: &[u8], scratch: &mut [u8])
+    fn put(&mut self, block: u32, symbol: u8, payload: &[u8], room: &mut Room)
         requires id { symbol < 255 }
         requires new { holds (alone self.old) (position self.old.plan.index block symbol) ≡ false }
         requires lacks { is_done (alone self.old) self.old.plan block ≡ false }
         requires fits { is_payload (cut_of_plan self.old.plan) block symbol payload.now ≡ true }
-        requires scratch { self.old.plan.fti.b * self.old.plan.fti.e ≤ length scratch.old }
-        ensures { self.new ≡ offered_to put.Kept block symbol payload.now self.old }
+        requires room { room.old ≡ record { k = self.old.plan.fti.b; size = self.old.plan.fti.e } }
+        ensures state { self.new ≡ offered_to put.Kept block symbol payload.now self.old }
+        ensures same { room.new ≡ room.old }
     {
         let lacking = self.lacking(block);
-        self.rows.put(block, symbol, payload, lacking, scratch);
+        self.rows.put(block, symbol, payload, lacking, room);
         self.counts[block as usize] += 1;
         self.short = next_short(&self.rows.plan, &self.counts, self.short);
     }
 
-    /// A symbol of the object comes: it is kept where it is news, and a block that is done by it is solved. `scratch` is
-    /// room for the symbols of a block. It takes no memory.
-    pub fn offer(&mut self, block: u32, symbol: u8, payload: &[u8], scratch: &mut [u8]) -> Put
-        requires scratch { self.old.plan.fti.b * self.old.plan.fti.e ≤ length scratch.old }
+    /// A symbol of the object comes: it is kept where it is news, and a block that is done by it is solved in the room that is
+    /// lent. It takes no memory.
+    pub fn offer(&mut self, block: u32, symbol: u8, payload: &[u8], room: &mut Room) -> Put
+        requires room { room.old ≡ record { k = self.old.plan.fti.b; size = self.old.plan.fti.e } }
         ensures word { (p : Settings) → result ≡ put_by p (alone self.old) self.old.plan (position self.old.plan.index block symbol) payload.now }
         ensures state { self.new ≡ offered_to result block symbol payload.now self.old }
-        ensures size { length scratch.new ≡ length scratch.old }
+        ensures same { room.new ≡ room.old }
     {
         if self.holds(block, symbol) {
             return Put::Had;
@@ -289,7 +291,7 @@ impl Object {
         if !self.fits(block, symbol, payload) {
             return Put::Unfit;
         }
-        self.put(block, symbol, payload, scratch);
+        self.put(block, symbol, payload, room);
         Put::Kept
     }
 

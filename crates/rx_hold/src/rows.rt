@@ -1,16 +1,16 @@
 //! The blocks of an object, one behind the other in one buffer.
 
 ghost use Rattle.std.specs.Prelude.{ℕ, ◌≡◌, ◌≢◌, ◌<◌, ◌≤◌, ◌*◌, ◌+◌, ◌^◌, IfOk, Some, is_some, true, false, length, replicate};
-ghost use Rattle.fec_plan.specs.Partition.{blocks, source_symbols, all_symbols};
+ghost use Rattle.fec_plan.specs.Partition.{blocks, all_symbols};
 ghost use Rattle.norm_order.specs.Symbols.{padded};
 ghost use Rattle.rx_hold.specs.Places.{AreApart, free_places, has_id};
 ghost use Rattle.rx_hold.specs.Rows.{block_ids, coded_symbol, with_coded, start_of, end_of};
 ghost use Rattle.rx_hold.specs.RowsSound.{AreRows};
 
 use crate::block::{self, FREE};
+use crate::room::Room;
 use fec_plan::Plan;
 use norm_base::Memory;
-use rs_block::Solver;
 use std::alloc::Global;
 
 /// A place for each source symbol of an object, block by block.
@@ -22,10 +22,6 @@ pub struct Rows {
     pub octets: Vec<u8>,
     /// For each place the id of the symbol that lies there.
     pub ids: Vec<u8>,
-    /// The solver of blocks that are as long as the first.
-    pub large: Solver,
-    /// The solver of blocks that are as long as the last.
-    pub small: Solver,
 }
 
 /// The first place of a block.
@@ -45,45 +41,42 @@ fn end_of(plan: &Plan, block: u32) -> usize
     start_of(plan, block) + usize::from(plan.source_len(block))
 }
 
-/// Puts a symbol that is new into a block that lacks so many, and solves the block that is whole by it. The solver is for
-/// blocks of as many source symbols.
+/// Puts a symbol that is new into a block that lacks so many, and solves the block that is whole by it.
 fn put_at(
     plan: &Plan,
-    solver: &mut Solver,
+    room: &mut Room,
     ids: &mut [u8],
     octets: &mut [u8],
     block: u32,
     symbol: u8,
     payload: &[u8],
     lacking: u8,
-    scratch: &mut [u8],
 )
     requires object { is_some plan.now.l ≡ true }
     requires block { block < blocks plan.now }
     requires octets { length octets.old ≡ all_symbols plan.now * plan.now.e }
     requires ids { length ids.old ≡ all_symbols plan.now }
     requires most { all_symbols plan.now * plan.now.e ≤ 16778616 }
-    requires solver { solver.old ≡ record { k = source_symbols plan.now block; size = plan.now.e } }
+    requires room { room.old ≡ record { k = plan.now.b; size = plan.now.e } }
     requires id { symbol < 255 }
     requires new { has_id symbol (block_ids plan.now ids.old block) ≡ false }
     requires some { 1 ≤ lacking }
     requires lacks { free_places (block_ids plan.now ids.old block) ≡ lacking }
     requires apart { AreApart (block_ids plan.now ids.old block) }
     requires fits { length payload.now ≤ plan.now.e }
-    requires room { plan.now.b * plan.now.e ≤ length scratch.old }
     ensures symbols { (b id : ℕ) → b < blocks plan.now → id < 255 → coded_symbol plan.now ids.new octets.new b id
         ≡ with_coded block symbol (padded plan.now.e payload.now) (coded_symbol plan.now ids.old octets.old) b id }
     ensures others { (b : ℕ) → b ≢ block → block_ids plan.now ids.new b ≡ block_ids plan.now ids.old b }
     ensures lacks { free_places (block_ids plan.now ids.old block) ≡ free_places (block_ids plan.now ids.new block) + 1 }
     ensures apart { AreApart (block_ids plan.now ids.new block) }
-    ensures same { solver.new ≡ solver.old }
+    ensures same { room.new ≡ room.old }
 {
     let size = usize::from(plan.e());
     let start = start_of(plan, block);
     let end = end_of(plan, block);
     let own = &mut ids[start..end];
     let row = &mut octets[start * size..end * size];
-    block::put(solver, own, row, size, symbol, payload, lacking, scratch);
+    block::put(room, own, row, size, symbol, payload, lacking);
 }
 
 impl Rows {
@@ -104,14 +97,10 @@ impl Rows {
         let places = end_of(plan, last);
         let octets = vec![in alloc; 0; places * size]?;
         let ids = vec![in alloc; FREE; places]?;
-        let large = Solver::new(alloc, plan.source_len(0), size)?;
-        let small = Solver::new(alloc, plan.source_len(last), size)?;
         Ok(Rows {
             plan: *plan,
             octets,
             ids,
-            large,
-            small,
         })
     }
 
@@ -126,9 +115,8 @@ impl Rows {
         block::lies_in(&self.ids[start..end], symbol)
     }
 
-    /// Puts a symbol that is new into a block that lacks so many, and solves the block that is whole by it. `scratch` is room
-    /// for the symbols of a block. It takes no memory.
-    pub fn put(&mut self, block: u32, symbol: u8, payload: &[u8], lacking: u8, scratch: &mut [u8])
+    /// Puts a symbol that is new into a block that lacks so many, and solves the block that is whole by it. It takes no memory.
+    pub fn put(&mut self, block: u32, symbol: u8, payload: &[u8], lacking: u8, room: &mut Room)
         requires rows { AreRows self.old }
         requires block { block < blocks self.old.plan }
         requires id { symbol < 255 }
@@ -137,7 +125,7 @@ impl Rows {
         requires lacks { free_places (block_ids self.old.plan self.old.ids.items block) ≡ lacking }
         requires apart { AreApart (block_ids self.old.plan self.old.ids.items block) }
         requires fits { length payload.now ≤ self.old.plan.e }
-        requires room { self.old.plan.b * self.old.plan.e ≤ length scratch.old }
+        requires room { room.old ≡ record { k = self.old.plan.b; size = self.old.plan.e } }
         ensures plan { self.new.plan ≡ self.old.plan }
         ensures rows { AreRows self.new }
         ensures symbols { (b id : ℕ) → b < blocks self.old.plan → id < 255
@@ -147,31 +135,17 @@ impl Rows {
         ensures lacks { free_places (block_ids self.old.plan self.old.ids.items block)
             ≡ free_places (block_ids self.old.plan self.new.ids.items block) + 1 }
         ensures apart { AreApart (block_ids self.old.plan self.new.ids.items block) }
+        ensures same { room.new ≡ room.old }
     {
-        if self.plan.source_len(block) == self.plan.source_len(0) {
-            put_at(
-                &self.plan,
-                &mut self.large,
-                &mut self.ids,
-                &mut self.octets,
-                block,
-                symbol,
-                payload,
-                lacking,
-                scratch,
-            );
-            return;
-        }
         put_at(
             &self.plan,
-            &mut self.small,
+            room,
             &mut self.ids,
             &mut self.octets,
             block,
             symbol,
             payload,
             lacking,
-            scratch,
         );
     }
 }

@@ -1,9 +1,10 @@
 use Rattle.std.proofs.Common.{◌≡◌, ◌*◌, ◌≤◌, ℕ, arith, sym, subst, ap, ◌∙◌, length}
 use Rattle.fec_plan.specs.Partition.{Cut}
 use Rattle.norm_order.specs.Symbols.{padded}
+use Rattle.rs_block.specs.Solver.{SolverState}
 use Rattle.rx_hold.specs.Places.{AreApart}
 use Rattle.rx_hold.proofs.Cuts.{few_sources}
-use Rattle.rx_hold.proofs.RowLemmas.{put_symbols, ids_there, ids_elsewhere, ordered, ids_within, octets_within, part_long, row_long, starts_within, sources_are, room_enough}
+use Rattle.rx_hold.proofs.RowLemmas.{put_symbols, ids_there, ids_elsewhere, ordered, ids_within, octets_within, part_long, row_long, starts_within, sources_are}
 use Rattle.rx_hold.proofs.rows.put_at.Goals as goal
 
 pub slice_bounds-own-end : goal.slice_bounds-own-end
@@ -34,19 +35,18 @@ put-requires-clause-row c =
     ∙ row_long s e z (ordered cut c.args.block s e c.start_of-start.ensures.exact c.end_of-end.ensures)
     ∙ ap (λ n. n * z) (sym (part_long s e c.args.ids.now places))
 
-pub put-requires-clause-room : goal.put-requires-clause-room
-put-requires-clause-room c =
-    let s : ℕ = c.start_of-start.result in
-    let e : ℕ = c.end_of-end.result in
-    let z : ℕ = c.from-size.result in
+pub put-requires-clause-size : goal.put-requires-clause-size
+put-requires-clause-size c = ap (λ (r : SolverState). r.size) c.requires.room ∙ sym (c.from-size.ensures ∙ c.e.ensures.exact)
+
+pub put-requires-clause-few : goal.put-requires-clause-few
+put-requires-clause-few c =
     let cut : Cut = c.args.plan.now in
-    let wide : z ≡ cut.e = c.from-size.ensures ∙ c.e.ensures.exact in
-    let within = octets_within cut c.args.block e z c.args.octets.now c.e.ensures.sound c.requires.object c.requires.block c.end_of-end.ensures wide c.requires.octets in
-    let long = part_long (s * z) (e * z) c.args.octets.now within in
-    let same = row_long s e z (ordered cut c.args.block s e c.start_of-start.ensures.exact c.end_of-end.ensures) in
-    let enough = room_enough cut c.args.block s e z c.e.ensures.sound c.requires.object c.start_of-start.ensures.exact c.end_of-end.ensures wide in
-    let room : cut.b * cut.e ≤ length c.args.scratch.now = c.requires.room in
-    omega (arith, long, same, enough, room)
+    let within = ids_within cut c.args.block c.end_of-end.result c.args.ids.now c.e.ensures.sound c.requires.object c.requires.block c.end_of-end.ensures c.requires.ids in
+    let long = part_long c.start_of-start.result c.end_of-end.result c.args.ids.now within in
+    let count = sources_are cut c.args.block c.start_of-start.result c.end_of-end.result c.start_of-start.ensures.exact c.end_of-end.ensures in
+    let few = few_sources cut c.args.block c.e.ensures.sound c.requires.object in
+    let room = ap (λ (r : SolverState). r.k) c.requires.room in
+    omega (arith, long, count, few, room)
 
 pub returns-clause-symbols : goal.returns-clause-symbols
 returns-clause-symbols c =

@@ -8,7 +8,7 @@ invariant_of-self c = record {
   front =
       empty_sound _ c.fill.ensures.items (omega (arith, c.fill.ensures.capacity, c.clear.ensures.capacity, c.self.invariant.front.places_room)) refl refl c.self.invariant.front.most
       c.clear-2.ensures.items;
-  row = c.self.invariant.row;
+  room = c.self.invariant.room;
   scratch = c.self.invariant.scratch;
 }
 

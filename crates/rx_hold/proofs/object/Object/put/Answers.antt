@@ -72,8 +72,8 @@ invariant_of-self c =
     (subst (λ xs. (b : ℕ) → b < c.next_short-self-inside.result → slice_index xs b ≡ source_symbols c.put.new.self.plan b) c.deref.ensures.value c.next_short-self-inside.ensures.done)
     (subst (λ xs. c.next_short-self-inside.result < blocks c.put.new.self.plan → slice_index xs c.next_short-self-inside.result < source_symbols c.put.new.self.plan c.next_short-self-inside.result) c.deref.ensures.value c.next_short-self-inside.ensures.short)
 
-pub returns : goal.returns
-returns c =
+pub returns-clause-state : goal.returns-clause-state
+returns-clause-state c =
     let n = news c.self.inside c.args.self.now c.args.block c.args.symbol c.args.payload.now c.self.invariant c.self.view_is c.requires.id c.requires.new c.requires.lacks c.requires.fits in
     view_then c.self.inside c.args.self.now c.put.new.self (with_item c.self.inside.counts c.args.block (c.index_mut.result.now + 1)) c.next_short-self-inside.result c.args.block c.args.symbol c.args.payload.now c.self.invariant c.self.view_is n
     c.put.ensures.plan c.put.ensures.symbols

@@ -1,18 +1,14 @@
 use Rattle.std.proofs.Common.{◌≡◌, ◌-◌, ◌*◌, ℕ, arith, ap, ◌∙◌, length, replicate}
 use Rattle.std.specs.Prelude.{is_some, true}
 use Rattle.std.proofs.lemmas.List.{length-replicate}
-use Rattle.rs_block.specs.Solver.{SolverState}
-use Rattle.fec_plan.specs.Partition.{Cut, IsSound, blocks, source_symbols, all_symbols}
+use Rattle.fec_plan.specs.Partition.{Cut, IsSound, blocks, all_symbols}
 use Rattle.rx_hold.specs.Rows.{end_of}
-use Rattle.rx_hold.proofs.Cuts.{last_ends, some_blocks_of, some_sources, few_octets}
+use Rattle.rx_hold.proofs.Cuts.{last_ends, some_blocks_of, few_octets}
 use Rattle.rx_hold.proofs.rows.Rows.new.Goals as goal
 
 -- the places of all blocks
 places_are : (c : Cut) (places n : ℕ) → IsSound c → is_some c.l ≡ true → n ≡ blocks c → places ≡ end_of c (n - 1) → places ≡ all_symbols c
 places_are c places n sound object count is = is ∙ ap (λ m. end_of c (m - 1)) count ∙ last_ends c sound object (some_blocks_of c sound)
-
-shaped : (k size n e : ℕ) → k ≡ n → size ≡ e → ◌≡◌ {A = SolverState} (record { k = k; size = size }) (record { k = n; size = e })
-shaped k size n e p q = ap (λ m. record { k = m; size = size }) p ∙ ap (λ m. record { k = n; size = m }) q
 
 pub overflow_mul-places : goal.overflow_mul-places
 overflow_mul-places c =
@@ -22,12 +18,6 @@ overflow_mul-places c =
     let same : c.end_of-places.result * c.from-size.result ≡ all_symbols cut * cut.e =
     ap (λ n. n * c.from-size.result) all ∙ ap (λ n. all_symbols cut * n) (c.from-size.ensures ∙ c.e.ensures.exact) in
     record { fits = omega (arith, same, few) }
-
-pub new-requires-2-clause-some : goal.new-requires-2-clause-some
-new-requires-2-clause-some c =
-    let some = some_sources c.args.plan.now (c.blocks-last.result - 1) c.e.ensures.sound c.requires.object in
-    let is = c.source_len-2.ensures.exact in
-    omega (arith, some, is)
 
 pub returns-clause-free : goal.returns-clause-free
 returns-clause-free c =
@@ -47,7 +37,4 @@ returns-clause-rows c =
       most = few_octets cut c.e.ensures.sound c.requires.object c.requires.most;
       octets = ap length (c.in_ok-octets.ensures.items_if_clones_equal (λ y e. e)) ∙ length-replicate {A = ℕ} (c.end_of-places.result * c.from-size.result) 0 ∙ same;
       ids = ap length (c.in_ok-ids.ensures.items_if_clones_equal (λ y e. e)) ∙ length-replicate {A = ℕ} c.end_of-places.result 255 ∙ all;
-      large = c.in_ok-large.ensures ∙ shaped c.source_len.result c.from-size.result (source_symbols cut 0) cut.e c.source_len.ensures.exact wide;
-      small = c.in_ok-small.ensures ∙ shaped c.source_len-2.result c.from-size.result (source_symbols cut (blocks cut - 1)) cut.e
-          (c.source_len-2.ensures.exact ∙ ap (λ n. source_symbols cut (n - 1)) c.blocks-last.ensures.exact) wide;
     }
