@@ -8,13 +8,13 @@ use Rattle.norm_receive_rules.specs.Heard.{with_count}
 use Rattle.norm_receiver.proofs.OrderLemmas.{point_past}
 
 -- a count more before these, by what the two comparisons say
-abbrev put_by : Count → Count → List Count → Bool → Bool → List Count
+abbrev pub put_by : Count → Count → List Count → Bool → Bool → List Count
 put_by c x counts same before = elim same [
   | true ↦ record x { lacking = max x.lacking c.lacking } ∷ counts
   | false ↦ elim before [ true ↦ c ∷ x ∷ counts | false ↦ x ∷ with_count c counts ]
 ]
 
-with_more : (c x : Count) (counts : List Count) → with_count c (x ∷ counts) ≡ put_by c x counts (same_point c.of x.of) (point_before c.of x.of)
+pub with_more : (c x : Count) (counts : List Count) → with_count c (x ∷ counts) ≡ put_by c x counts (same_point c.of x.of) (point_before c.of x.of)
 unfolding with_count
 with_more c x counts = refl
 

@@ -13,3 +13,4 @@ pub mod TickingLemmas
 pub mod BlockLemmas
 pub mod StreamLemmas
 pub mod SeenLemmas
+pub mod FreshLemmas

@@ -1,5 +1,5 @@
 -- What was heard stays in order as it grows.
-use Rattle.std.proofs.Common.{◌≡◌, ℕ, ◌<◌, ◌≤◌, ◌⊎◌, inl, inr, List, [], ◌∷◌, Bool, true, false, not, refl, sym, ap, subst, ◌∙◌, arith}
+use Rattle.std.proofs.Common.{◌≡◌, ℕ, ◌<◌, ◌≤◌, ◌⊎◌, inl, inr, List, [], ◌∷◌, Bool, true, false, not, refl, sym, ap, ◌∙◌, arith}
 use Rattle.std.specs.Prelude.{max, if◌then◌else◌}
 use Rattle.std.specs.Bool.{Decides}
 use Rattle.std.proofs.lemmas.Bool.{cases_lt}
@@ -115,6 +115,9 @@ pub points_same : (a b : Point) → same_point a b ≡ true → a ≡ b
 points_same a b e =
     let both = (same_decides a b).0 e in
     ap (λ (n : ℕ). record { index = n; block = a.block }) both.0 ∙ ap (λ (n : ℕ). record { index = b.index; block = n }) both.1
+
+pub same_itself : (a : Point) → same_point a a ≡ true
+same_itself a = (same_decides a a).1 (refl, refl)
 
 before_all : (a b c : Point) → IsBefore a b → IsBefore b c → IsBefore a c
 before_all a b c (inl h) (inl k) = inl (omega arith)

@@ -35,12 +35,12 @@ spans_parted at (x ∷ spans) all zero (suc j) d le lt h =
 spans_parted at (x ∷ spans) all (suc i) zero d le lt h = absurd (omega arith)
 spans_parted at (x ∷ spans) all (suc i) (suc j) d le lt h = spans_parted at spans all.2 i j d (omega arith) (omega arith) h
 
-apart_from : (i : ℕ) (spans : List Span) → AreApart spans → AreApart (drop i spans)
+pub apart_from : (i : ℕ) (spans : List Span) → AreApart spans → AreApart (drop i spans)
 apart_from zero spans all = all
 apart_from (suc i) [] all = tt
 apart_from (suc i) (x ∷ spans) all = apart_from i spans all.2
 
-rest_from : {X : Type 0} (xs : List X) (i : ℕ) (y : X) → i < length xs → y ≡ get_or xs i y → drop i xs ≡ y ∷ drop (i + 1) xs
+pub rest_from : {X : Type 0} (xs : List X) (i : ℕ) (y : X) → i < length xs → y ≡ get_or xs i y → drop i xs ≡ y ∷ drop (i + 1) xs
 rest_from xs i y lt is = drop_more xs i y lt ∙ ap (λ z. z ∷ drop (i + 1) xs) (sym is)
 
 none_of : (a : Bool) → (a && false) ≡ false

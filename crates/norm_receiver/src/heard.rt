@@ -1,12 +1,13 @@
 //! What a receiver heard others ask for while it backs off (RFC 5401 section 3.2.2).
 
-ghost use Rattle.std.specs.Prelude.{◌≡◌, ◌≤◌, ◌<◌, ◌+◌, ◌&&◌, nat_le, length, fold, vec_capacity, IfOk, OnErr, IsTrue, max};
+ghost use Rattle.std.specs.Prelude.{◌≡◌, ◌≤◌, ◌<◌, ◌+◌, ◌&&◌, nat_le, length, fold, vec_capacity, IfOk, OnErr, IsTrue, max, not};
 ghost use Rattle.fec_plan.specs.Points.{position_before, point_before, same_point};
 ghost use Rattle.norm_receive_rules.specs.Heard.{heard_nothing, joined, with_span, with_proper, with_count};
 ghost use Rattle.norm_receiver.specs.Orderly.{AreApart, Rise};
 ghost use Rattle.norm_receiver.specs.Overhearing.{most_heard, noted, IsBounded};
 
 use crate::asked::Asked;
+use crate::fresh::{fresh_counts, fresh_spans};
 use crate::searching::{first_count, first_span};
 use fec_plan::{Point, Position};
 use norm_base::Memory;
@@ -47,6 +48,13 @@ impl Span {
             first: self.first.nearer(other.first),
             last,
         }
+    }
+
+    /// Whether all of another lies in it.
+    pub fn takes_in(&self, other: &Span) -> bool
+        ensures { result ≡ (not (position_before other.now.first self.now.first) && not (position_before self.now.last other.now.last)) }
+    {
+        !other.first.is_before(&self.first) && !self.last.is_before(&other.last)
     }
 
     /// Whether it ends before another begins.
@@ -262,7 +270,7 @@ impl Heard {
         self.counts.clear();
     }
 
-    /// All that requests ask for more is heard, once there is room for it.
+    /// All that requests ask for more is heard, once there is room for it. Where all of it was heard before, no room is taken.
     ///
     /// # Errors
     ///
@@ -272,9 +280,9 @@ impl Heard {
         ensures bounded { IfOk result (λ _. IsBounded self.new) }
         ensures refused { OnErr result (self.new ≡ self.old) }
     {
-        let symbols = asked.symbols.as_slice();
-        let infos = asked.infos.as_slice();
-        let counts = asked.counts.as_slice();
+        let symbols = fresh_spans(self.symbols.as_slice(), asked.symbols.as_slice());
+        let infos = fresh_spans(self.infos.as_slice(), asked.infos.as_slice());
+        let counts = fresh_counts(self.counts.as_slice(), asked.counts.as_slice());
         if !are_kept(self.symbols.len(), symbols.len()) {
             return Err(Memory);
         }

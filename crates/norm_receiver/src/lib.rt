@@ -7,6 +7,7 @@ mod asking;
 mod delivering;
 mod entering;
 mod feedback;
+mod fresh;
 mod heard;
 mod hearing;
 mod nacking;
