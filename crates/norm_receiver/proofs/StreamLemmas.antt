@@ -25,7 +25,7 @@ use Rattle.rx_hold.specs.EntryHold.{EntryHold, StandsFor as HoldStands}
 use Rattle.rx_hold.specs.EntryState.{EntryState}
 use Rattle.rx_hold.specs.Told.{missing_at, missing_by, plan_at}
 use Rattle.norm_receiver.specs.Quiet.{is_nil}
-use Rattle.norm_receiver.specs.Streams.{end_run, flush_run, missing_in, missing_of, rest_at, rest_of, sources, unheld, wanted_of, wants_by, wants_of}
+use Rattle.norm_receiver.specs.Streams.{end_run, flush_run, is_quiet_to_flush, missing_in, missing_of, rest_at, rest_of, sources, unheld, wanted_of, wants_by, wants_of}
 use Rattle.norm_receiver.specs.Walking.{Walked, walk_need, walk_on, walk_where}
 use Rattle.norm_receiver.specs.declared.stream_needs.Run.{Run}
 use Rattle.norm_receiver.specs.declared.stream_needs.StreamWants.{StreamWants}
@@ -482,3 +482,34 @@ quiet_stream h farthest flush s index cut plan wants counts flushed ended stands
     stream_nil h.p farthest flush s plan wants counts flushed ended
     (of_some (λ (x : Plan). wants ≡ wants_of h.p farthest flush s x) (plan_of s index) plan found wants_is) (done_first h s index plan stands found)
     (counts_are s index cut plan wants.due counts found known no_length few counted) flushed_is ended_is
+
+-- whether nothing is needed of it up to a flush, as it was looked through
+pub quiet_front : (p : Settings) (farthest : Option Point) (flush : Option Position) (s : Holding) (index : ℕ) (cut : Cut) (plan : Plan) (seen due : ℕ) (within : Option Position)
+    (counts flushed : Bool) → plan_of s index ≡ Some plan → Some cut ≡ plan_at s index → cut.l ≡ None → seen ≡ plan.seen → within ≡ flush_in flush index
+    → due ≡ stream_due seen within → IsBlock due
+    → IfSome (plan_of s index) (λ x. due ≤ blocks (cut_of_plan x) → counts ≡ is_nil (counts_from s x due 0))
+    → flushed ≡ is_nil (sources (missing_of s plan (flush_run cut within)))
+    → (counts && flushed) ≡ is_quiet_to_flush s plan (wants_of p farthest flush s plan)
+quiet_front p farthest flush s index cut plan seen due within counts flushed found known no_length seen_is within_is due_is few counted flushed_is =
+    let own : plan.index ≡ index = index_of_found index s.plans plan found in
+    let here : within ≡ flush_in flush plan.index = within_is ∙ ap (λ n. flush_in flush n) (sym own) in
+    ap (λ b. b && flushed) (counts_are s index cut plan due counts found known no_length few counted)
+    ∙ ap (λ b. is_nil (counts_from s plan due 0) && b) flushed_is
+    ∙ ap (λ n. is_nil (counts_from s plan n 0) && is_nil (sources (missing_of s plan (flush_run cut within)))) (due_is ∙ ap (λ n. stream_due n within) seen_is)
+    ∙ ap (λ c. is_nil (counts_from s plan (stream_due plan.seen within) 0) && is_nil (sources (missing_of s plan (flush_run c within)))) (cut_same cut (plan_of s index) plan found known)
+    ∙ ap (λ (o : Option Position). is_nil (counts_from s plan (stream_due plan.seen o) 0) && is_nil (sources (missing_of s plan (flush_run (cut_of_plan plan) o)))) here
+
+-- what is needed behind a flush, where it was looked through
+pub quiet_behind : (h : EntryHold) (farthest : Option Point) (flush : Option Position) (s : Holding) (index : ℕ) (plan : Plan) (wants : StreamWants) (front ended : Bool)
+    → HoldStands h s → plan_of s index ≡ Some plan → wants ≡ wants_of h.p farthest flush s plan
+    → front ≡ is_quiet_to_flush s plan (wants_of h.p farthest flush s plan) → ended ≡ is_nil (sources (missing_of s plan wants.ended))
+    → (front && (ended && is_none wants.rest)) ≡ is_nil (stream_needs h.p farthest flush s plan)
+quiet_behind h farthest flush s index plan wants front ended stands found wants_is front_is ended_is =
+    ap (λ b. b && (ended && is_none wants.rest)) (front_is ∙ ap (λ (w : StreamWants). is_quiet_to_flush s plan w) (sym wants_is))
+    ∙ three (is_nil (counts_from s plan wants.due 0)) (is_nil (sources (missing_of s plan wants.flushed))) ended (is_none wants.rest)
+    ∙ stream_nil h.p farthest flush s plan wants (is_nil (counts_from s plan wants.due 0)) (is_nil (sources (missing_of s plan wants.flushed))) ended wants_is (done_first h s index plan stands found) refl refl ended_is
+  where
+    three : (a b c d : Bool) → ((a && b) && (c && d)) ≡ (a && ((b && c) && d))
+    three true true c d = refl
+    three true false c d = refl
+    three false b c d = refl

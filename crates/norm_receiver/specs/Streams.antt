@@ -8,11 +8,12 @@ use Rattle.fec_plan.specs.Points.{IsBlock, Point, position}
 use Rattle.fec_plan.specs.declared.position.Position.{Position}
 use Rattle.norm_receive_rules.specs.Holding.{Holding, Plan}
 use Rattle.norm_receive_rules.specs.Lazy.{Lazy, lazily}
-use Rattle.norm_receive_rules.specs.Needs.{Need, Source, Rest, is_covered}
+use Rattle.norm_receive_rules.specs.Needs.{Need, Source, Rest, counts_from, is_covered}
 use Rattle.norm_receive_rules.specs.Plans.{cut_of_plan, holds}
 use Rattle.norm_receive_rules.specs.StreamNeeds.{end_of, flush_in, is_behind, last_block, missing_symbols, open_block, stream_due}
 use Rattle.rx_hold.specs.EntryHold.{EntryHold}
 use Rattle.norm_receiver.specs.PlanOf.{IsPlanOf}
+use Rattle.norm_receiver.specs.Quiet.{is_nil}
 use Rattle.norm_receiver.specs.declared.stream_needs.Run.{Run}
 use Rattle.norm_receiver.specs.declared.stream_needs.StreamWants.{StreamWants}
 
@@ -85,6 +86,10 @@ wants_of p farthest flush s plan =
 -- what of that is needed of these source symbols and of the rest
 abbrev pub wanted_of : Holding → Plan → StreamWants → List Need
 wanted_of s plan w = map Source (missing_of s plan w.flushed ++ missing_of s plan w.ended) ++ rest_of plan.index w.rest
+
+-- nothing of that is needed of the blocks that are due, nor of the source symbols up to a flush
+abbrev pub is_quiet_to_flush : Holding → Plan → StreamWants → Bool
+is_quiet_to_flush s plan w = is_nil (counts_from s plan w.due 0) && is_nil (sources (missing_of s plan w.flushed))
 
 -- Each block of it has 24 bits.
 pub record AreBlocks (w : StreamWants) : Type 0 where

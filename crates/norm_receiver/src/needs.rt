@@ -161,7 +161,8 @@ pub(crate) fn last_known(numbers: &Numbers) -> u64
     u64::from(seen.max(flushed)) + 1
 }
 
-/// Whether nothing is needed of what is held, by these numbers.
+/// Whether nothing is needed of what is held, by these numbers. Of an object that the sender is past something is needed, or it would
+/// have been handed up: so where all was that can be, the first object is the last that is looked at.
 pub(crate) fn is_all_quiet(hold: &Hold, numbers: &Numbers) -> bool
     ensures { (s : Holding) → HoldStands hold.now s → HasSeenBlocks s → result ≡ is_nil (needs_by hold.now.p numbers.now.farthest numbers.now.flush s) }
 {

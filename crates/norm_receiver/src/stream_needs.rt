@@ -10,7 +10,7 @@ ghost use Rattle.rx_entries.specs.Asked.{end_at};
 ghost use Rattle.rx_hold.specs.EntryHold.{StandsFor as HoldStands};
 ghost use Rattle.norm_receiver.specs.Quiet.{is_nil};
 ghost use Rattle.norm_receiver.specs.ReceiverKept.{HasSeenBlocks};
-ghost use Rattle.norm_receiver.specs.Streams.{AreBlocks, IsStreamOf, end_run, flush_run, missing_in, missing_of, rest_at, sources, symbols_named, wants_of};
+ghost use Rattle.norm_receiver.specs.Streams.{AreBlocks, IsStreamOf, end_run, flush_run, missing_in, is_quiet_to_flush, missing_of, rest_at, sources, symbols_named, wants_of};
 
 use crate::needs::{is_covered, is_done_before};
 use crate::numbers::{FlushPlace, Numbers};
@@ -281,19 +281,31 @@ fn is_nowhere(rest: &Option<u32>) -> bool
     rest.is_none()
 }
 
-/// Whether nothing is needed of a stream behind its info.
+/// Whether nothing is needed of a stream's blocks that are due and of the source symbols up to a flush. Its end is not looked for.
+fn is_quiet_to_flush(hold: &Hold, numbers: &Numbers, index: u32, plan: &Plan) -> bool
+    requires { IsStreamOf hold.now index plan.now }
+    ensures { (s : Holding) → HoldStands hold.now s → HasSeenBlocks s → IfSome (plan_of s index) (λ found.
+        result ≡ is_quiet_to_flush s found (wants_of hold.now.p numbers.now.farthest numbers.now.flush s found)) }
+{
+    let within = flush_in(&numbers.flush, index);
+    let due = stream_due(block_seen(hold, index), &within);
+    if !is_done_before(hold, index, due) {
+        return false;
+    }
+    are_there(hold, index, plan, flush_run(plan, &within))
+}
+
+/// Whether nothing is needed of a stream behind its info. The end is looked for only where all is there up to the flush: then
+/// few blocks are held from the next segment's on.
 pub(crate) fn is_stream_quiet(hold: &Hold, numbers: &Numbers, index: u32, plan: &Plan) -> bool
     requires { IsStreamOf hold.now index plan.now }
     ensures { (s : Holding) → HoldStands hold.now s → HasSeenBlocks s → IfSome (plan_of s index) (λ found.
         result ≡ is_nil (stream_needs hold.now.p numbers.now.farthest numbers.now.flush s found)) }
 {
+    if !is_quiet_to_flush(hold, numbers, index, plan) {
+        return false;
+    }
     let wants = stream_wants(hold, numbers, index, plan);
-    if !is_done_before(hold, index, wants.due) {
-        return false;
-    }
-    if !are_there(hold, index, plan, wants.flushed) {
-        return false;
-    }
     if !are_there(hold, index, plan, wants.ended) {
         return false;
     }
