@@ -11,9 +11,9 @@ use Rattle.norm_receive_rules.specs.Plans.{cut_of_plan, says_stream, says_info, 
 use Rattle.norm_receive_rules.specs.Heard.{Heard}
 use Rattle.norm_receive_rules.specs.HeardNeeds.{width_of, is_heard, asks_as_many, blocks_heard, info_heard}
 use Rattle.norm_receive_rules.specs.Lazy.{Lazy, Nil, Next, lazily}
-use Rattle.norm_receive_rules.specs.Needs.{Need, Object, ObjectInfo, Symbols, object_needs, is_covered, info_needs, blocks_due, counts_from, unknown_needs}
+use Rattle.norm_receive_rules.specs.Needs.{Need, Object, ObjectInfo, Symbols, is_covered, info_needs, counts_from, unknown_needs}
 use Rattle.norm_receive_rules.specs.AllNeeds.{planned_needs, needs_of, needs_from}
-use Rattle.norm_receive_rules.specs.StreamNeeds.{stream_needs, last_block}
+use Rattle.norm_receive_rules.specs.StreamNeeds.{last_block}
 use Rattle.norm_receive_rules.specs.declared.words.Missing.{Missing}
 use Rattle.norm_receive_rules.specs.declared.words.Missing.TheVariants as missing
 use Rattle.rx_hold.specs.Told.{IsFirstShort, flags_at, plan_at, missing_at, missing_by}

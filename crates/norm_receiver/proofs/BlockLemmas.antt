@@ -1,5 +1,5 @@
 -- The greatest block seen of each stream stays one that messages name, whatever comes.
-use Rattle.std.proofs.Common.{◌≡◌, ℕ, Bool, true, false, cond, refl, sym, ap, subst, ◌∙◌, Option, Some, None, List, [], ◌∷◌, map, ◌<◌, arith}
+use Rattle.std.proofs.Common.{◌≡◌, ℕ, Bool, true, false, cond, refl, sym, subst, Option, Some, None, List, [], ◌∷◌, map, arith}
 use Rattle.std.specs.Prelude.{◌==◌, ◌&&◌, find, max}
 use Rattle.std.specs.List.{AllByRecursion}
 use Rattle.norm_base.specs.Settings.{Settings}

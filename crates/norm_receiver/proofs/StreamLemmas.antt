@@ -1,10 +1,10 @@
 -- What is needed of a stream, as a NACK goes through it, and whether anything is.
 use Rattle.std.proofs.Common.{◌≡◌, ℕ, zero, suc, cond, ◌+◌, ◌-◌, ◌<◌, ◌≤◌, ◌⊎◌, inl, inr, List, [], ◌∷◌, ◌++◌, map, Bool, true, false, not, Option, Some, None, refl, sym, ap, subst, ◌∙◌, arith}
-use Rattle.std.specs.Prelude.{find, min, max, nat_lt, nat_le, ◌==◌, ◌&&◌, ◌||◌, is_some, is_none, IfSome, option_map}
+use Rattle.std.specs.Prelude.{min, nat_lt, nat_le, ◌==◌, ◌&&◌, ◌||◌, is_none, IfSome, option_map}
 use Rattle.std.proofs.lemmas.Bool.{cases_lt, eqb-true, leb-false, le-ltb, ltb-true, ne_eqb}
 use Rattle.std.proofs.lemmas.List.{map-append}
 use Rattle.norm_base.specs.Settings.{Settings}
-use Rattle.fec_plan.specs.Partition.{Cut, blocks, most_blocks, source_symbols}
+use Rattle.fec_plan.specs.Partition.{Cut, blocks, source_symbols}
 use Rattle.fec_plan.specs.Points.{IsBlock, Point, point, point_before, point_of, position}
 use Rattle.fec_plan.specs.declared.position.Position.{Position}
 use Rattle.norm_ext.specs.declared.fti.Fti.{Fti}
@@ -12,10 +12,10 @@ use Rattle.norm_receive_rules.specs.Heard.{Heard}
 use Rattle.norm_receive_rules.specs.HeardNeeds.{blocks_heard, is_heard, width_of}
 use Rattle.norm_receive_rules.specs.Holding.{Holding, Plan}
 use Rattle.norm_receive_rules.specs.Laws.{IsAtStart, IsPassed, PassedBy}
-use Rattle.norm_receive_rules.specs.Lazy.{Lazy, Nil, Next, followed_by, lazily}
+use Rattle.norm_receive_rules.specs.Lazy.{Lazy, Nil, Next, lazily}
 use Rattle.norm_receive_rules.specs.Needs.{Need, Symbols, Source, Rest, counts_from, farthest_index, is_covered}
-use Rattle.norm_receive_rules.specs.Plans.{cut_by, cut_of_plan, first_block, holds, is_done, lacking, plan_of, says_stream}
-use Rattle.norm_receive_rules.specs.StreamNeeds.{earlier_needs, end_of, end_symbols, flush_in, flush_symbols, is_behind, last_block, last_symbols, missing_symbols, open_block, rest_needs, stream_due, stream_end_needs, stream_needs}
+use Rattle.norm_receive_rules.specs.Plans.{cut_of_plan, first_block, holds, is_done, lacking, plan_of, says_stream}
+use Rattle.norm_receive_rules.specs.StreamNeeds.{earlier_needs, end_of, end_symbols, flush_in, is_behind, last_block, missing_symbols, open_block, rest_needs, stream_due, stream_end_needs, stream_needs}
 use Rattle.norm_receive_rules.specs.declared.words.Missing.{Missing}
 use Rattle.norm_receive_rules.specs.declared.words.Missing.TheVariants as missing
 use Rattle.norm_receive_rules.proofs.PassedLemmas.{or_false}

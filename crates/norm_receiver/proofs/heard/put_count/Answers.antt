@@ -1,4 +1,4 @@
-use Rattle.std.proofs.Common.{◌≡◌, ◌<◌, ◌≤◌, List, true, refl, sym, ap, subst, ◌∙◌, arith, rules, length, set}
+use Rattle.std.proofs.Common.{◌≡◌, ◌<◌, ◌≤◌, List, true, refl, sym, ap, subst, ◌∙◌, arith, length, set}
 use Rattle.std.specs.List.{AllWithin}
 use Rattle.fec_plan.specs.Points.{point_before}
 use Rattle.norm_ext.specs.Asking.{Count}

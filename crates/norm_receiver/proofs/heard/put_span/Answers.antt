@@ -1,4 +1,4 @@
-use Rattle.std.proofs.Common.{◌≡◌, ◌<◌, ◌≤◌, List, true, sym, ap, subst, ◌∙◌, arith, rules, length, take, drop, ◌++◌, ◌+◌}
+use Rattle.std.proofs.Common.{◌≡◌, ◌<◌, ◌≤◌, List, true, sym, ap, subst, ◌∙◌, arith, length, take, drop, ◌++◌, ◌+◌}
 use Rattle.std.specs.List.{AllWithin}
 use Rattle.fec_plan.specs.Points.{position_before}
 use Rattle.norm_receive_rules.specs.Heard.{with_span}

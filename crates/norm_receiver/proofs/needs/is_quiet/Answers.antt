@@ -1,5 +1,5 @@
 use Rattle.std.proofs.Common.{sym, ◌∙◌, true, false}
-use Rattle.norm_receiver.proofs.NeedLemmas.{quiet_no_flags, quiet_no_info, quiet_no_cut, quiet_rest}
+use Rattle.norm_receiver.proofs.NeedLemmas.{quiet_no_flags, quiet_no_info, quiet_rest}
 use Rattle.norm_receiver.proofs.StreamLemmas.{stream_in}
 use Rattle.norm_receiver.proofs.needs.is_quiet.Goals as goal
 

@@ -1,5 +1,5 @@
 -- None is missing exactly where none is from this symbol on.
-use Rattle.std.proofs.Common.{◌≡◌, ◌≤◌, ◌-◌, false}
+use Rattle.std.proofs.Common.{◌≡◌, ◌-◌, false}
 use Rattle.fec_plan.specs.Points.{point, point_before, point_of}
 use Rattle.norm_receive_rules.specs.Holding.{Holding}
 use Rattle.norm_receive_rules.specs.Plans.{plan_of}

@@ -3,7 +3,7 @@ use Rattle.norm_receive_rules.specs.Holding.{Plan}
 use Rattle.norm_receive_rules.specs.Lazy.{lazily}
 use Rattle.norm_receive_rules.specs.Plans.{plan_of}
 use Rattle.norm_receiver.specs.Streams.{missing_of, rest_of, sources}
-use Rattle.norm_receiver.specs.Walking.{Walked, IsAt, walk_on}
+use Rattle.norm_receiver.specs.Walking.{IsAt, walk_on}
 use Rattle.norm_receiver.proofs.AskLemmas.{of_some, with_some}
 use Rattle.norm_receiver.proofs.parts.Parts.ask_behind.Goals as goal
 

@@ -5,7 +5,7 @@ use Rattle.norm_receive_rules.specs.Needs.{Source}
 use Rattle.norm_receive_rules.specs.Plans.{plan_of, holds}
 use Rattle.norm_receiver.specs.Streams.{missing_in, sources, unheld}
 use Rattle.norm_receiver.specs.Walking.{Walked, IsAt, walk_on, walk_where}
-use Rattle.norm_receiver.proofs.AskLemmas.{for_some, of_some, with_some}
+use Rattle.norm_receiver.proofs.AskLemmas.{for_some}
 use Rattle.norm_receiver.proofs.StreamLemmas.{missing_open, no_symbols, none_missing, walk_on_symbol}
 use Rattle.norm_receiver.proofs.WalkLemmas.{goes_begun, goes_more, goes_full, goes_ended}
 use Rattle.norm_receiver.proofs.parts.Parts.ask_run.Goals as goal

@@ -1,4 +1,4 @@
-use Rattle.std.proofs.Common.{◌≡◌, ap, sym, subst, ◌∙◌}
+use Rattle.std.proofs.Common.{◌≡◌, ap, subst, ◌∙◌}
 use Rattle.norm_base.specs.Settings.{Settings}
 use Rattle.norm_receive_rules.specs.HeardNeeds.{is_heard}
 use Rattle.norm_receive_rules.specs.Holding.{Plan}
@@ -8,7 +8,6 @@ use Rattle.norm_receive_rules.specs.Plans.{plan_of}
 use Rattle.norm_receiver.specs.Streams.{missing_of, rest_of, sources, wants_of}
 use Rattle.norm_receiver.specs.Walking.{Walked, IsAt, walk_on}
 use Rattle.norm_receiver.specs.declared.numbers.Numbers.{Numbers}
-use Rattle.norm_receiver.specs.declared.stream_needs.StreamWants.{StreamWants}
 use Rattle.norm_receiver.proofs.AskLemmas.{of_some, with_some}
 use Rattle.norm_receiver.proofs.NeedLemmas.{index_of_found}
 use Rattle.norm_receiver.proofs.StreamLemmas.{done_first, due_within, stream_walked}
