@@ -7,7 +7,8 @@ ghost use Rattle.norm_program.specs.Ends.{EndsEarly, IsTextEnding, Prepared};
 ghost use Rattle.norm_script.specs.Reading.{commands_of};
 ghost use Rattle.norm_script.specs.Scripts.{IsScript};
 
-use crate::program::{read_input, refused_line, say};
+use crate::input::read_input;
+use crate::last_line::{refused_line, say};
 use crate::status::Ending;
 use norm_base::{Memory, Profile, Sink, Source};
 use norm_script::{Refusal, Script, ScriptFault, Why, read, read_commands};

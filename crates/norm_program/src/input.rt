@@ -1,16 +1,18 @@
 //! The input, read whole.
 
-ghost use Rattle.std.specs.Prelude.{◌≡◌, IfOk};
+ghost use Rattle.std.specs.Prelude.{◌≡◌, IfOk, IfErr, OnOk};
 ghost use Rattle.norm_program.specs.declared.input.InputFault.TheVariants as fault;
 ghost use Rattle.norm_program.specs.InputCause.{ReadCause};
-ghost use Rattle.norm_program.specs.Ends.{IsInput};
+ghost use Rattle.norm_program.specs.Ends.{IsInput, IsReadEnding};
 
-use norm_base::{Failed, Source};
+use crate::last_line::say;
+use crate::status::Ending;
+use norm_base::{Failed, Sink, Source};
 use std::alloc::{AllocError, Global};
 
 /// Why the input was not read whole.
 #[derive(Clone, Copy, Debug, PartialEq, Eq)]
-pub(crate) enum InputFault {
+enum InputFault {
     /// A read failed.
     Read,
     /// There was no memory.
@@ -34,7 +36,7 @@ impl From<Failed> for InputFault {
 }
 
 /// All of the input's octets.
-pub(crate) fn read_all<S: Source>(alloc: Global, input: &mut S) -> Result<Vec<u8>, InputFault>
+fn read_all<S: Source>(alloc: Global, input: &mut S) -> Result<Vec<u8>, InputFault>
     ensures octets { IfOk result (λ text. IsInput text.items (S.left input.old) (S.left input.new)) }
     ensures cause { ReadCause result (S.fault_count input.old) (S.fault_count input.new) }
 {
@@ -46,5 +48,27 @@ pub(crate) fn read_all<S: Source>(alloc: Global, input: &mut S) -> Result<Vec<u8
             return Ok(text);
         }
         text.extend_from_slice(buffer.split_at(n).0)?;
+    }
+}
+
+/// Reads the input whole, or says that a read of it failed.
+pub(crate) fn read_input<S: Source, K: Sink>(
+    alloc: Global,
+    input: &mut S,
+    output: &mut K,
+) -> Result<Vec<u8>, Ending>
+    ensures text { IfOk result (λ text. IsInput text.items (S.left input.old) (S.left input.new)) }
+    ensures unwritten { OnOk result (K.pieces output.new ≡ K.pieces output.old) }
+    ensures quiet { OnOk result ((S.fault_count input.new ≡ S.fault_count input.old) × (K.fault_count output.new ≡ K.fault_count output.old)) }
+    ensures ending { IfErr result (λ ending. IsReadEnding ending (S.fault_count input.old) (S.fault_count input.new)
+        (K.pieces output.old) (K.pieces output.new) (K.fault_count output.old) (K.fault_count output.new)) }
+{
+    match read_all(alloc, input) {
+        Ok(text) => Ok(text),
+        Err(InputFault::Memory) => Err(Ending::Memory),
+        Err(InputFault::Read) => {
+            say(output, b"fault read\n");
+            Err(Ending::Read)
+        }
     }
 }

@@ -1,18 +1,22 @@
-//! The program as a library: its words (`words`; what they ask for says `norm_words`), its input (`input`), what each command does
-//! (`program` with `asked`, `show`, `generate`), and the statuses (`status`). `normd` makes the real objects, reads the words by `arguments`, and ends with what `run` answers;
+//! The program as a library: what its words ask for and how that ends it (`program`), each command (`session`, `show`, `generate`, `send`,
+//! `recv`, `hub`), its words (`words`; what they ask for says `norm_words`), its input (`input`), the last line that it writes
+//! (`last_line`) and the statuses (`status`). `normd` makes the real objects, reads the words by `arguments`, and ends with what `run` answers;
 //! `run` does for its words what `norm_main` does, which programs and tests call over objects of their own. What stands on
 //! standard error is in `reason`.
 #![tactic(auto)]
 
-mod asked;
 mod boarded;
 mod commands;
 mod generate;
+mod hub;
 mod input;
-mod nodes;
+mod last_line;
 mod profiles;
 mod program;
 mod reason;
+mod recv;
+mod send;
+mod session;
 mod show;
 mod status;
 mod words;

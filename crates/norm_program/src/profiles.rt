@@ -5,7 +5,7 @@ ghost use Rattle.norm_base.specs.Network.{Network};
 ghost use Rattle.norm_profile.specs.Loading.{IsOfFile, IsUnloaded, FileCause};
 ghost use Rattle.norm_program.specs.NodeEnds.{IsRefusing, IsUnloadedEnding, IsLoading};
 
-use crate::program::{say, say_absent};
+use crate::last_line::{say, say_absent};
 use crate::status::{Ending, ProfileFault};
 use norm_base::{Files, Profile, Sink, Text};
 use norm_profile::{LoadFault, load_profile};

@@ -3,7 +3,7 @@
 ghost use Rattle.norm_program.specs.Ends.{Called, outside};
 ghost use Rattle.norm_program.specs.ShowEnds.{ShowEnds, IsLineEnding};
 
-use crate::program::{refused_line, say};
+use crate::last_line::{refused_line, say};
 use crate::status::Ending;
 use norm_base::{Sink, Source};
 use norm_show::{NoDatagram, ShowFault};

@@ -1,5 +1,5 @@
 use Rattle.norm_program.proofs.SayLemmas.{says}
-use Rattle.norm_program.proofs.program.say.Goals as goal
+use Rattle.norm_program.proofs.last_line.say.Goals as goal
 
 pub returns : goal.returns
 returns g c =

@@ -2,7 +2,7 @@ use Rattle.std.proofs.Common.{inl}
 use Rattle.norm_program.specs.Ends.{called_as, outside}
 use Rattle.norm_program.specs.NodeEnds.{EndsReceiver}
 use Rattle.norm_program.proofs.NodeLemmas.{loaded_ends, unloaded_ends}
-use Rattle.norm_program.proofs.nodes.end_receive.Goals as goal
+use Rattle.norm_program.proofs.recv.end_receive.Goals as goal
 
 -- under the profile
 pub returns-in-Ok : goal.returns-in-Ok

@@ -2,7 +2,7 @@ use Rattle.std.proofs.Common.{inl}
 use Rattle.norm_program.specs.Ends.{called_as, outside}
 use Rattle.norm_program.specs.NodeEnds.{EndsSender}
 use Rattle.norm_program.proofs.NodeLemmas.{loaded_ends, unloaded_ends}
-use Rattle.norm_program.proofs.nodes.end_send.Goals as goal
+use Rattle.norm_program.proofs.send.end_send.Goals as goal
 
 -- under the profile
 pub returns-in-Ok-clause-ends : goal.returns-in-Ok-clause-ends

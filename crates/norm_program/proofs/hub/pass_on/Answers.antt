@@ -1,6 +1,6 @@
 use Rattle.std.proofs.Common.{ℕ}
 use Rattle.norm_program.proofs.NodeLemmas.{passed, hub_stopped}
-use Rattle.norm_program.proofs.nodes.pass_on.Goals as goal
+use Rattle.norm_program.proofs.hub.pass_on.Goals as goal
 
 -- where a hub ran
 pub returns-in-Ok : goal.returns-in-Ok

@@ -1,6 +1,6 @@
 use Rattle.std.proofs.Common.{◌∙◌, sym}
 use Rattle.norm_program.proofs.AskedLemmas.{asked_is}
-use Rattle.norm_program.proofs.program.read_text.Goals as goal
+use Rattle.norm_program.proofs.session.read_text.Goals as goal
 
 -- what is read can be run, with the options too
 pub returns-in-Ok-Ok-clause-script : goal.returns-in-Ok-Ok-clause-script

@@ -2,7 +2,7 @@ use Rattle.std.proofs.Common.{ℕ}
 use Rattle.norm_program.specs.Asked.{Sender}
 use Rattle.norm_program.specs.Ends.{called_as}
 use Rattle.norm_program.proofs.EndingLemmas.{last_ends, stopped_ends}
-use Rattle.norm_program.proofs.nodes.send.Goals as goal
+use Rattle.norm_program.proofs.send.send.Goals as goal
 
 -- where a fault stopped the session
 pub returns-clause-ends : goal.returns-clause-ends

@@ -1,7 +1,7 @@
 use Rattle.std.proofs.Common.{◌∙◌, sym, ℕ}
 use Rattle.norm_program.specs.Ends.{called_as}
 use Rattle.norm_program.proofs.NodeLemmas.{receiver_stopped}
-use Rattle.norm_program.proofs.nodes.receive.Goals as goal
+use Rattle.norm_program.proofs.recv.receive.Goals as goal
 
 -- where a fault stopped the run
 pub returns-in-Err : goal.returns-in-Err

@@ -1,6 +1,6 @@
 use Rattle.norm_program.specs.Asked.{Members}
 use Rattle.norm_program.proofs.EndingLemmas.{text_ended}
-use Rattle.norm_program.proofs.program.prepare.Goals as goal
+use Rattle.norm_program.proofs.session.prepare.Goals as goal
 
 -- where the text is no script
 pub returns-clause-ending : goal.returns-clause-ending

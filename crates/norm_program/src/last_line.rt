@@ -1,0 +1,83 @@
+//! The last line that the program writes, and the ending that goes with it.
+
+ghost use Rattle.std.specs.Prelude.{◌≡◌, string_bytes, IfOk};
+ghost use Rattle.norm_program.specs.Ends.{refused_line, absent_line, Says, IsLastEnding, IsAbsentEnding, IsStoppedEnding};
+
+use crate::status::Ending;
+use norm_base::{Failed, Sink, Text};
+use norm_session::SessionFault;
+use std::alloc::{AllocError, Global};
+
+/// Writes a last line. A failed write leaves a front of it and raises the count, and decides nothing.
+pub(crate) fn say<K: Sink>(output: &mut K, line: &[u8])
+    ensures { Says (K.pieces output.old) (K.pieces output.new) (K.fault_count output.old) (K.fault_count output.new) line.now }
+{
+    let _ = output.write(line);
+}
+
+/// The line that refuses line `n` of the input.
+#[tactic(auto, unfolding(crate::specs::Ends::refused_line))]
+pub(crate) fn refused_line(alloc: Global, n: u64) -> Result<String, AllocError>
+    ensures { IfOk result (λ text. string_bytes text ≡ refused_line n) }
+{
+    format!(in alloc; "refused line {n}\n")
+}
+
+/// The line that says which file is absent.
+#[tactic(auto, unfolding(crate::specs::Ends::absent_line))]
+fn absent_line(alloc: Global, name: &str) -> Result<String, AllocError>
+    ensures { IfOk result (λ text. string_bytes text ≡ absent_line name.now) }
+{
+    format!(in alloc; "absent {name}\n")
+}
+
+/// How a session that ran ended: one that spent its turns says so.
+pub(crate) fn end_session<K: Sink>(whole: bool, output: &mut K) -> Ending
+    ensures { IsLastEnding result whole (K.pieces output.old) (K.pieces output.new)
+        (K.fault_count output.old) (K.fault_count output.new) }
+{
+    if whole {
+        return Ending::Done;
+    }
+    match output.write(b"turns spent\n") {
+        Ok(()) => Ending::Spent,
+        Err(Failed) => Ending::Write,
+    }
+}
+
+/// Says which file is absent, and how that ends the program.
+pub(crate) fn say_absent<K: Sink>(alloc: Global, name: Text, output: &mut K) -> Ending
+    ensures { IsAbsentEnding result name (K.pieces output.old) (K.pieces output.new)
+        (K.fault_count output.old) (K.fault_count output.new) }
+{
+    let text = name.into_inner();
+    match absent_line(alloc, &text) {
+        Ok(line) => {
+            say(output, line.as_bytes());
+            Ending::Absent {
+                name: Text::of(text),
+            }
+        }
+        Err(_) => Ending::Memory,
+    }
+}
+
+/// How a session that a fault stopped ends the program.
+pub(crate) fn stop_session<K: Sink>(alloc: Global, fault: SessionFault, output: &mut K) -> Ending
+    ensures { IsStoppedEnding fault result (K.pieces output.old) (K.pieces output.new)
+        (K.fault_count output.old) (K.fault_count output.new) }
+{
+    match fault {
+        SessionFault::Memory => Ending::Memory,
+        SessionFault::Write => Ending::Write,
+        SessionFault::Fabric => {
+            say(output, b"fault fabric\n");
+            Ending::Fabric
+        }
+        SessionFault::Files => {
+            say(output, b"fault files\n");
+            Ending::Files
+        }
+        SessionFault::Absent { name } => say_absent(alloc, name, output),
+    }
+}

@@ -1,0 +1,122 @@
+//! `session`: the script that the input is, with what the words put in place of its keys, run by all members.
+
+ghost use Rattle.std.specs.Prelude.{◌≡◌, Ok, IfOk, IfErr, OnOk};
+ghost use Rattle.norm_program.specs.Asked.{Members, profile_with, script_asked, script_with};
+ghost use Rattle.norm_program.specs.Ends.{outside, called_as, Prepared, IsTextEnding, EndsEarly, EndsScript};
+ghost use Rattle.norm_script.specs.Scripts.{IsScript};
+ghost use Rattle.norm_words.specs.Fits.{FitsOptions};
+
+use crate::boarded::run_session;
+use crate::input::read_input;
+use crate::last_line::{end_session, refused_line, say, stop_session};
+use crate::status::Ending;
+use norm_base::{Clock, Fabric, Files, Memory, Profile, Sink, Source};
+use norm_script::{Script, read};
+use norm_words::Options;
+use std::alloc::Global;
+use std::sync::Wait;
+use std::thread::Threads;
+
+/// A profile with what the options give in place of its own.
+fn profile_with(profile: Profile, options: Options) -> Profile
+    requires { FitsOptions options }
+    ensures { result ≡ profile_with options profile }
+{
+    Profile {
+        chance: options.chance.unwrap_or(profile.chance),
+        turns: options.turns.unwrap_or(profile.turns),
+        ..profile
+    }
+}
+
+/// A script with what the options give in place of its keys.
+fn script_with(script: Script, options: Options) -> Script
+    requires { FitsOptions options }
+    ensures { result ≡ script_with options script }
+{
+    let Script { profile, lines } = script;
+    let profile = profile_with(profile, options);
+    Script { profile, lines }
+}
+
+/// Reads the script that the text is, and puts the options in place of its keys.
+fn read_text<K: Sink>(
+    alloc: Global,
+    text: &[u8],
+    options: Options,
+    output: &mut K,
+) -> Result<Script, Ending>
+    requires { FitsOptions options }
+    ensures script { IfOk result (λ script. (script_asked options text.now ≡ Ok script) × IsScript script) }
+    ensures unwritten { OnOk result (K.pieces output.new ≡ K.pieces output.old) }
+    ensures quiet { OnOk result (K.fault_count output.new ≡ K.fault_count output.old) }
+    ensures ending { IfErr result (λ ending. IsTextEnding (Members options) ending text.now (K.pieces output.old) (K.pieces output.new)
+        (K.fault_count output.old) (K.fault_count output.new)) }
+{
+    match read(alloc, text) {
+        Ok(Ok(script)) => Ok(script_with(script, options)),
+        Ok(Err(refusal)) => {
+            let line = refused_line(alloc, u64::from(refusal.line))?;
+            say(output, line.as_bytes());
+            Err(Ending::Refused { refusal })
+        }
+        Err(Memory) => Err(Ending::Memory),
+    }
+}
+
+/// What there is to run: the script that the input is, with the options in place of its keys.
+fn prepare<S: Source, K: Sink>(
+    alloc: Global,
+    options: Options,
+    input: &mut S,
+    output: &mut K,
+) -> Result<Script, Ending>
+    requires { FitsOptions options }
+    ensures ready { IfOk result (λ script. Prepared (Members options) script (S.left input.old) (S.left input.new)) }
+    ensures runnable { IfOk result IsScript }
+    ensures unwritten { OnOk result (K.pieces output.new ≡ K.pieces output.old) }
+    ensures quiet { OnOk result ((S.fault_count input.new ≡ S.fault_count input.old) × (K.fault_count output.new ≡ K.fault_count output.old)) }
+    ensures ending { IfErr result (λ ending. EndsEarly (Members options) ending (S.left input.old) (S.left input.new)
+        (K.pieces output.old) (K.pieces output.new) (S.fault_count input.old) (S.fault_count input.new)
+        (K.fault_count output.old) (K.fault_count output.new)) }
+{
+    let text = read_input(alloc, input, output)?;
+    read_text(alloc, &text, options, output)
+}
+
+/// How a session with these options ends the program; what each ending says is in `Ends`. It leaves the contents of the files as they
+/// were. Only the session itself is handed the runtime.
+pub(crate) fn run_input<
+    R: Threads + Wait + Sync,
+    S: Source,
+    K: Sink,
+    F: Fabric,
+    D: Files,
+    C: Clock,
+>(
+    rt: &R,
+    alloc: Global,
+    options: Options,
+    input: &mut S,
+    output: &mut K,
+    fabric: &mut F,
+    files: &mut D,
+    clock: &mut C,
+) -> Ending
+    requires { FitsOptions options }
+    ensures ends { EndsScript (Members options) result
+        (outside (S.left input.old) (K.pieces output.old) (S.fault_count input.old) (K.fault_count output.old)
+        (called_as (F.told fabric.old) (D.contents files.old) (C.moments clock.old) (F.fault_count fabric.old) (D.fault_count files.old)))
+        (outside (S.left input.new) (K.pieces output.new) (S.fault_count input.new) (K.fault_count output.new)
+        (called_as (F.told fabric.new) (D.contents files.new) (C.moments clock.new) (F.fault_count fabric.new) (D.fault_count files.new))) }
+    ensures files { D.contents files.new ≡ D.contents files.old }
+{
+    let script = match prepare(alloc, options, input, output) {
+        Ok(script) => script,
+        Err(ending) => return ending,
+    };
+    match run_session(rt, alloc, &script, output, fabric, files, clock) {
+        Ok(ended) => end_session(ended.whole, output),
+        Err(fault) => stop_session(alloc, fault, output),
+    }
+}
