@@ -102,7 +102,7 @@ pub record SpentUnsaid (a : Asked) (before after : Outside) : Type 0 where
   pub session : RanSession a before after false unsaid
   pub output : GainsFront unsaid after.written (codes "turns spent\n")
 
--- A line is the input's first that has no meaning, or none that can be run today.
+-- A line is the input's first that has no meaning.
 pub record RefusedLine (a : Asked) (before after : Outside) (refusal : Refusal) : Type 0 where
   pub text : List ℕ
   pub input : IsInput text before.input after.input

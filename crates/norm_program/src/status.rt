@@ -66,7 +66,7 @@ pub enum Ending {
     Memory,
     /// The words are no command.
     Words,
-    /// A line of the script has no meaning, or is none that a session can run today.
+    /// A line of the script has no meaning.
     Refused { refusal: Refusal },
     /// A line to be shown, of this number, spells no datagram.
     Line { number: u64, why: NoDatagram },
