@@ -9,14 +9,16 @@ ghost use Rattle.norm_memory.specs.Networks.{started, next_answer};
 
 use norm_base::{Datagram, Fabric, FabricFault, FabricKind, Local, Memory, NodeId, Profile};
 use norm_memory::{ChanceFabric, DirectFabric};
-use norm_udp::{SocketCause, UdpFabric};
+use norm_udp::{Senders, SocketCause, UdpFabric};
 use std::alloc::Global;
 use std::marker::Model;
 use std::net::Net;
+use std::sync::Wait;
+use std::thread::Threads;
 use std::time::Clock;
 
 /// Begins a session over the network that the profile names, with no socket of another open.
-fn begin<R: Net + Clock + Drop>(
+fn begin<R: Net + Wait + Clock + Drop>(
     direct: &mut DirectFabric,
     chance: &mut ChanceFabric,
     udp: &mut UdpFabric<R>,
@@ -55,7 +57,7 @@ impl<R> Model for HostFabric<R> {
     ghost view = { λ f. record { starts = f.starts.items; kind = f.kind; direct = f.direct; chance = f.chance; faults = f.faults } };
 }
 
-impl<R: Net + Clock + Drop> HostFabric<R> {
+impl<R: Net + Wait + Clock + Drop> HostFabric<R> {
     /// A network that was not started, and has no member. Its sockets are those of this process.
     ///
     /// # Errors
@@ -92,7 +94,22 @@ impl<R: Net + Clock + Drop> HostFabric<R> {
     }
 }
 
-impl<R: Net + Clock + Drop> Fabric for HostFabric<R> {
+impl<R: Net + Threads + Wait + Clock + Copy + Send + Drop + 'static> HostFabric<R> {
+    /// Starts threads that send over sockets, for a hub and for a sender alone, as many as this machine has processors for. It comes before
+    /// `start`.
+    ///
+    /// # Errors
+    ///
+    /// `Memory` where memory runs out, or no thread can be made; then each node sends by itself.
+    pub fn start_threads(&mut self, alloc: Global, rt: R) -> Result<(), Memory>
+        ensures { self.new ≡ self.old }
+    {
+        self.udp.send_by(Senders::start(alloc, rt)?);
+        Ok(())
+    }
+}
+
+impl<R: Net + Wait + Clock + Drop> Fabric for HostFabric<R> {
     ghost told = { host_told };
 
     ghost fault_count = { λ s. s.faults };

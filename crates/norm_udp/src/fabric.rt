@@ -7,11 +7,13 @@ ghost use Rattle.norm_udp.specs.Untold.{untold};
 
 use crate::cause::SocketCause;
 use crate::pace::{Pace, Pause, sleep_since};
+use crate::senders::Senders;
 use crate::socket::BUFFER;
 use crate::sockets::{Open, OpenFault, open_for};
 use norm_base::{Datagram, Fabric, FabricFault, Local, Memory, NodeId, Profile};
 use std::alloc::Global;
 use std::net::Net;
+use std::sync::Wait;
 use std::thread;
 use std::time::{Clock, Duration};
 
@@ -40,6 +42,7 @@ fn gap_of(profile: &Profile, local: &Local) -> u64 {
 pub struct UdpFabric<R> {
     rt: R,
     alloc: Global,
+    senders: Senders,
     open: Open,
     pace: Pace,
     buffer: Vec<u8>,
@@ -47,7 +50,7 @@ pub struct UdpFabric<R> {
     cause: Option<SocketCause>,
 }
 
-impl<R: Net + Clock + Drop> UdpFabric<R> {
+impl<R: Net + Wait + Clock + Drop> UdpFabric<R> {
     /// A network that was not started: nothing is taken, and what is offered goes nowhere.
     ///
     /// # Errors
@@ -59,6 +62,7 @@ impl<R: Net + Clock + Drop> UdpFabric<R> {
         Ok(UdpFabric {
             rt,
             alloc,
+            senders: Senders::none(alloc),
             open: Open::Nothing,
             pace: Pace::new(0),
             buffer: vec![in alloc; 0u8; BUFFER]?,
@@ -67,10 +71,18 @@ impl<R: Net + Clock + Drop> UdpFabric<R> {
         })
     }
 
-    /// Closes all sockets.
+    /// Has these threads send what the hub offers, and what a sender alone does. It comes before `start`.
+    pub fn send_by(&mut self, senders: Senders)
+        ensures { self.new.faults ≡ self.old.faults }
+    {
+        self.senders = senders;
+    }
+
+    /// Closes all sockets. What a thread has to send still goes.
     pub fn close(&mut self)
         ensures { self.new.faults ≡ self.old.faults }
     {
+        self.senders.leave(&self.rt);
         self.open = Open::Nothing;
     }
 
@@ -201,7 +213,7 @@ impl<R: Net + Clock + Drop> UdpFabric<R> {
     }
 }
 
-impl<R: Net + Clock + Drop> Fabric for UdpFabric<R> {
+impl<R: Net + Wait + Clock + Drop> Fabric for UdpFabric<R> {
     ghost told = { λ _. untold };
 
     ghost fault_count = { λ s. s.faults };
@@ -209,7 +221,7 @@ impl<R: Net + Clock + Drop> Fabric for UdpFabric<R> {
     fn start(&mut self, profile: &Profile, local: Local) -> Result<(), FabricFault> {
         self.close();
         self.pace = Pace::new(gap_of(profile, &local));
-        match open_for(&self.rt, self.alloc, profile, local) {
+        match open_for(&self.rt, self.alloc, &self.senders, profile, local) {
             Ok(open) => {
                 self.open = open;
                 Ok(())
@@ -224,7 +236,7 @@ impl<R: Net + Clock + Drop> Fabric for UdpFabric<R> {
 
     fn offer(&mut self, from: NodeId, bytes: &[u8]) -> Result<(), FabricFault> {
         self.note_offer();
-        if let Err(cause) = self.open.send(from, bytes) {
+        if let Err(cause) = self.open.send(&self.rt, &self.senders, from, bytes) {
             self.keep(cause);
             return Err(FabricFault::Failed);
         }

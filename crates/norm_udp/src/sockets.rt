@@ -1,16 +1,21 @@
 //! The sockets that are open, by which members are in this process.
 
-ghost use Rattle.std.specs.Prelude.{◌≡◌, [], true, IfOk, IfNone, OnErr};
-ghost use Rattle.norm_base.specs.Members.{is_node};
+ghost use Rattle.std.specs.Prelude.{◌≡◌, ◌≤◌, [], true, length, IfOk, IfNone, OnErr};
+ghost use Rattle.norm_base.specs.Sizes.{datagram_room};
 ghost use Rattle.norm_udp.specs.Addresses.{gets_copy};
 
 use crate::address::{address_at, address_of, gets_copy, is_node, member_at, member_from};
 use crate::cause::SocketCause;
-use crate::socket::{MOST_PASSED, bind, connect, receive, receive_from, send, send_to};
+use crate::member::{Member, open_own, open_way};
+use crate::senders::Senders;
+use crate::socket::{MOST_PASSED, bind, receive, receive_from, send_to};
+use crate::way::{Way, send_copies};
 use norm_base::{Datagram, Local, Memory, NodeId, Profile};
 use std::alloc::{AllocFailed, Global};
 use std::io::{self, ErrorKind};
 use std::net::{Net, SocketAddr, UdpSocket};
+use std::sync::Wait;
+use std::time::Clock;
 
 /// Why sockets were not opened.
 #[derive(Debug, Drop)]
@@ -25,18 +30,16 @@ impl<T: Drop> From<AllocFailed<T>> for OpenFault {
     }
 }
 
+impl From<Memory> for OpenFault {
+    fn from(_refused: Memory) -> OpenFault {
+        OpenFault::Memory
+    }
+}
+
 impl From<SocketCause> for OpenFault {
     fn from(cause: SocketCause) -> OpenFault {
         OpenFault::Socket(cause)
     }
-}
-
-/// A member, its address, and a socket that is at the address or sends to it.
-#[derive(Debug, Drop)]
-pub(crate) struct Member {
-    node: NodeId,
-    address: SocketAddr,
-    socket: UdpSocket,
 }
 
 /// The sockets that are open.
@@ -50,44 +53,20 @@ pub(crate) enum Open {
         members: Vec<Member>,
         place: usize,
     },
-    /// One member's, which sends to the hub.
+    /// One member's, which sends to the hub: the sender's by a thread, where there is one.
     One {
         member: Member,
         hub: SocketAddr,
+        threads: usize,
     },
-    /// The hub's, and one that sends to each receiver.
+    /// The hub's, and one that sends to each receiver: by so many threads, or by itself.
     Hub {
         profile: Profile,
         address: SocketAddr,
         socket: UdpSocket,
         receivers: Vec<Member>,
+        threads: usize,
     },
-}
-
-/// Opens a member's own socket.
-fn open_own<R: Net>(rt: &R, profile: &Profile, node: NodeId) -> Result<Member, SocketCause>
-    requires { is_node profile.now node ≡ true }
-{
-    let address = address_of(profile, node);
-    let socket = bind(rt, address)?;
-    Ok(Member {
-        node,
-        address,
-        socket,
-    })
-}
-
-/// Opens a socket that sends to a member.
-fn open_way<R: Net>(rt: &R, profile: &Profile, node: NodeId) -> Result<Member, SocketCause>
-    requires { is_node profile.now node ≡ true }
-{
-    let address = address_of(profile, node);
-    let socket = connect(rt, address_at(0), address)?;
-    Ok(Member {
-        node,
-        address,
-        socket,
-    })
 }
 
 /// Opens each member's own socket.
@@ -103,8 +82,29 @@ fn open_all<R: Net>(rt: &R, alloc: Global, profile: &Profile) -> Result<Open, Op
     })
 }
 
+/// Has a thread send for a sender, where there is one. Says how many do.
+fn share_sending<R: Wait + Clock>(
+    rt: &R,
+    senders: &Senders,
+    member: &Member,
+    hub: SocketAddr,
+) -> usize {
+    if senders.count() == 0 {
+        return 0;
+    }
+    match member.socket.try_clone() {
+        Ok(socket) => usize::from(senders.tell(rt, 0, Way::Hub { socket, hub })),
+        Err(_) => 0,
+    }
+}
+
 /// Opens one member's socket. A node that is none of the profile has no address.
-fn open_one<R: Net>(rt: &R, profile: &Profile, node: NodeId) -> Result<Open, OpenFault> {
+fn open_one<R: Net + Wait + Clock>(
+    rt: &R,
+    senders: &Senders,
+    profile: &Profile,
+    node: NodeId,
+) -> Result<Open, OpenFault> {
     let hub = address_at(profile.port);
     if !is_node(profile, node) {
         return Err(OpenFault::Socket(SocketCause::Bind {
@@ -113,36 +113,95 @@ fn open_one<R: Net>(rt: &R, profile: &Profile, node: NodeId) -> Result<Open, Ope
         }));
     }
     let member = open_own(rt, profile, node)?;
-    Ok(Open::One { member, hub })
+    let threads = if node.number() == profile.sender {
+        share_sending(rt, senders, &member, hub)
+    } else {
+        0
+    };
+    Ok(Open::One {
+        member,
+        hub,
+        threads,
+    })
+}
+
+/// Opens a socket to each receiver from a place on, so many places apart.
+fn open_ways<R: Net>(
+    rt: &R,
+    alloc: Global,
+    profile: &Profile,
+    from: usize,
+    apart: usize,
+) -> Result<Vec<Member>, OpenFault>
+    requires { 1 ≤ apart }
+{
+    let mut receivers = Vec::new(alloc);
+    for place in 0..u32::from(profile.receivers) {
+        if place as usize % apart == from {
+            receivers.push(open_way(rt, profile, profile.receiver(place))?)?;
+        }
+    }
+    Ok(receivers)
+}
+
+/// Has so many threads send to the receivers, each to as many as another.
+fn share_copying<R: Net + Wait + Clock>(
+    rt: &R,
+    alloc: Global,
+    senders: &Senders,
+    profile: &Profile,
+    threads: usize,
+) -> Result<(), OpenFault> {
+    for place in 0..threads {
+        let receivers = open_ways(rt, alloc, profile, place, threads)?;
+        let way = Way::Copies {
+            profile: *profile,
+            receivers,
+        };
+        if !senders.tell(rt, place, way) {
+            return Err(OpenFault::Memory);
+        }
+    }
+    Ok(())
 }
 
 /// Opens the hub's socket, and one to each receiver.
-fn open_hub<R: Net>(rt: &R, alloc: Global, profile: &Profile) -> Result<Open, OpenFault> {
+fn open_hub<R: Net + Wait + Clock>(
+    rt: &R,
+    alloc: Global,
+    senders: &Senders,
+    profile: &Profile,
+) -> Result<Open, OpenFault> {
     let address = address_at(profile.port);
     let socket = bind(rt, address)?;
-    let mut receivers = Vec::new(alloc);
-    for i in 0..u32::from(profile.receivers) {
-        receivers.push(open_way(rt, profile, profile.receiver(i))?)?;
-    }
+    let threads = senders.count().min(usize::from(profile.receivers));
+    share_copying(rt, alloc, senders, profile, threads)?;
+    let receivers = if threads == 0 {
+        open_ways(rt, alloc, profile, 0, 1)?
+    } else {
+        Vec::new(alloc)
+    };
     Ok(Open::Hub {
         profile: *profile,
         address,
         socket,
         receivers,
+        threads,
     })
 }
 
 /// Opens the sockets of these members.
-pub(crate) fn open_for<R: Net>(
+pub(crate) fn open_for<R: Net + Wait + Clock>(
     rt: &R,
     alloc: Global,
+    senders: &Senders,
     profile: &Profile,
     local: Local,
 ) -> Result<Open, OpenFault> {
     match local {
         Local::All => open_all(rt, alloc, profile),
-        Local::One(node) => open_one(rt, profile, node),
-        Local::Hub => open_hub(rt, alloc, profile),
+        Local::One(node) => open_one(rt, senders, profile, node),
+        Local::Hub => open_hub(rt, alloc, senders, profile),
     }
 }
 
@@ -157,18 +216,6 @@ fn send_copy(
     requires { gets_copy profile.now from to ≡ true }
 {
     send_to(socket, bytes, address_of(profile, to))
-}
-
-/// Sends a member's datagram to another that gets a copy of it, through the socket that is connected to it. `from` is there for the clause alone.
-fn send_copy_through(
-    profile: &Profile,
-    from: NodeId,
-    to: &Member,
-    bytes: &[u8],
-) -> Result<(), SocketCause>
-    requires { gets_copy profile.now from to.now.node ≡ true }
-{
-    send(&to.socket, bytes, address_of(profile, to.node))
 }
 
 /// Sends a member's datagram from its own socket to each other member.
@@ -201,19 +248,13 @@ fn send_among(
     Ok(())
 }
 
-/// Sends a member's datagram from the hub to each other member.
-fn send_on(
+/// Sends a receiver's datagram from the hub to the sender. The sender's own goes to receivers alone.
+fn send_back(
     profile: &Profile,
     hub: &UdpSocket,
-    receivers: &[Member],
     from: NodeId,
     bytes: &[u8],
 ) -> Result<(), SocketCause> {
-    for to in receivers {
-        if gets_copy(profile, from, to.node) {
-            send_copy_through(profile, from, to, bytes)?;
-        }
-    }
     let sender = member_at(profile, 0);
     if gets_copy(profile, from, sender) {
         send_copy(profile, hub, from, sender, bytes)?;
@@ -269,8 +310,16 @@ fn receive_from_member(
 }
 
 impl Open {
-    /// Sends a member's datagram to whom it goes.
-    pub(crate) fn send(&self, from: NodeId, bytes: &[u8]) -> Result<(), SocketCause> {
+    /// Sends a member's datagram to whom it goes, or has a thread send it.
+    pub(crate) fn send<R: Wait + Clock>(
+        &self,
+        rt: &R,
+        senders: &Senders,
+        from: NodeId,
+        bytes: &[u8],
+    ) -> Result<(), SocketCause>
+        requires { length bytes.now ≤ datagram_room }
+    {
         match self {
             Open::Nothing => Ok(()),
             Open::All {
@@ -278,13 +327,27 @@ impl Open {
                 members,
                 ..
             } => send_among(profile, members, from, bytes),
-            Open::One { member, hub } => send_to(&member.socket, bytes, *hub),
+            Open::One {
+                member,
+                hub,
+                threads,
+            } => {
+                if *threads == 0 {
+                    return send_to(&member.socket, bytes, *hub);
+                }
+                senders.post(rt, *threads, from, bytes)
+            }
             Open::Hub {
                 profile,
                 socket,
                 receivers,
+                threads,
                 ..
-            } => send_on(profile, socket, receivers, from, bytes),
+            } => {
+                senders.post(rt, *threads, from, bytes)?;
+                send_copies(profile, receivers, from, bytes)?;
+                send_back(profile, socket, from, bytes)
+            }
         }
     }
 

@@ -7,7 +7,11 @@ use norm_program::{WordsFault, arguments, needed, path_asked, run, say_cause};
 use norm_watch::{Tally, WatchedFabric, WatchedSink, asked_in, end_progress};
 use std::alloc::Global;
 use std::io;
+use std::net::Net;
 use std::process::ExitCode;
+use std::sync::Wait;
+use std::thread::Threads;
+use std::time::Clock;
 
 /// Octets of the block that is freed at the start: some objects of 1 MiB.
 const FREED_FIRST: usize = 8 << 20;
@@ -34,6 +38,30 @@ fn tell(
     Ok(())
 }
 
+/// Whether the words ask for a hub or for a sender, which send much.
+fn sends_much(words: &Result<Vec<String>, WordsFault>) -> bool {
+    match words {
+        Ok(words) => match words.first() {
+            Some(word) => word.as_str() == "hub" || word.as_str() == "send",
+            None => false,
+        },
+        Err(_) => false,
+    }
+}
+
+/// The network of the process, with threads that send where the words ask for a node that sends much. Where none can be made it sends by itself.
+fn network<R: Net + Threads + Wait + Clock + Copy + Send + Drop + 'static>(
+    rt: R,
+    alloc: Global,
+    words: &Result<Vec<String>, WordsFault>,
+) -> Result<HostFabric<R>, Memory> {
+    let mut fabric = HostFabric::new(alloc, rt)?;
+    if sends_much(words) {
+        let _ = fabric.start_threads(alloc, rt);
+    }
+    Ok(fabric)
+}
+
 /// Makes the real objects, and runs the program on them. Its files are those of the folder that it runs in, and the profile that it is
 /// given the path of.
 fn main(rt: HostRuntime) -> ExitCode {
@@ -43,7 +71,8 @@ fn main(rt: HostRuntime) -> ExitCode {
     }
     let says = asked_in(&rt);
     let tally = Tally::new();
-    let mut fabric = match needed(&rt, HostFabric::new(alloc, rt)) {
+    let words = arguments(&rt);
+    let mut fabric = match needed(&rt, network(rt, alloc, &words)) {
         Ok(fabric) => WatchedFabric::of(rt, fabric, says, &tally),
         Err(code) => return code,
     };
@@ -51,7 +80,6 @@ fn main(rt: HostRuntime) -> ExitCode {
         Ok(files) => files,
         Err(code) => return code,
     };
-    let words = arguments(&rt);
     if let Err(code) = needed(&rt, tell(alloc, &words, &mut files)) {
         return code;
     }

@@ -11,12 +11,12 @@ use std::test::Fail;
 const LOWEST: u32 = 20_000;
 
 /// How many tests a process has, and how many ports each has for itself: the hub's, and its three members'.
-const TESTS: u32 = 7;
+const TESTS: u32 = 8;
 
 const PORTS: u32 = 4;
 
 /// How many processes in a row have ports of their own.
-const PROCESSES: u32 = 450;
+const PROCESSES: u32 = 390;
 
 /// How often it is looked for what has come. A look where nothing is there lasts a millisecond at most.
 const LOOKS: u32 = 16;

@@ -5,11 +5,17 @@ use crate::sockets::{ALL, ALL_ANSWERS, EACH, EACH_ANSWERS};
 use norm_base::{FabricKind, Memory};
 use norm_host::HostFabric;
 use std::alloc::Global;
+use std::net::Net;
 use std::process;
+use std::sync::Wait;
 use std::test::Fail;
+use std::time::Clock;
 
 /// Three networks that no profile named yet.
-fn networks(alloc: Global, rt: HostRuntime) -> Result<Networks<HostFabric<HostRuntime>>, Memory> {
+fn networks<R: Net + Wait + Clock + Copy + Drop>(
+    alloc: Global,
+    rt: R,
+) -> Result<Networks<HostFabric<R>>, Memory> {
     Ok(Networks {
         sender: HostFabric::new(alloc, rt)?,
         hub: HostFabric::new(alloc, rt)?,

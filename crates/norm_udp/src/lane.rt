@@ -1,0 +1,157 @@
+//! A lane: datagrams on their way from a node to a thread that sends them. What lies in it has memory of its own from the start.
+
+ghost use Rattle.std.specs.Prelude.{◌≤◌, length};
+ghost use Rattle.norm_base.specs.Sizes.{datagram_room};
+
+use crate::cause::SocketCause;
+use crate::way::Way;
+use crossbeam_queue::ArrayQueue;
+use norm_base::{Datagram, Memory, NodeId};
+use std::alloc::Global;
+use std::sync::Wait;
+use std::sync::atomic::{AtomicBool, Ordering};
+use std::thread;
+use std::thread::Parker;
+use std::time::{Clock, Duration};
+
+/// How many datagrams lie in a lane at most.
+const PLACES: usize = 512;
+
+/// Microseconds of a sleep of a thread that finds nothing to send, and of a node that finds no place.
+const SLEEP: u64 = 50;
+
+/// How often a thread sleeps before it rests until it is woken, and a node before it gives a datagram up.
+const MOST_SLEEPS: u32 = 200;
+
+/// What lies in a lane: where the thread sends from here on, or a member's datagram, and on the way back what its sending failed at.
+#[derive(Drop)]
+pub(crate) struct Posted {
+    pub(crate) way: Option<Way>,
+    pub(crate) from: NodeId,
+    pub(crate) datagram: Datagram,
+    pub(crate) failed: Option<SocketCause>,
+}
+
+/// What a node and a thread that sends for it share. The node takes a place for what it posts, and the thread gives it back.
+#[derive(Drop)]
+pub(crate) struct Lane {
+    /// What the thread has to send, in the order that it was offered.
+    posted: ArrayQueue<Posted>,
+    /// Places of which nothing is to be sent any more.
+    places: ArrayQueue<Posted>,
+    rest: Parker,
+    /// Whether nothing will be offered any more.
+    over: AtomicBool,
+}
+
+fn sleep<R: Clock>(rt: &R) {
+    thread::sleep(rt, Duration::from_micros(SLEEP));
+}
+
+impl Lane {
+    /// An empty lane.
+    pub(crate) fn new<R: Wait>(rt: &R, alloc: Global) -> Result<Lane, Memory> {
+        let places = ArrayQueue::new(alloc, PLACES)?;
+        for _ in 0..PLACES {
+            let place = Posted {
+                way: None,
+                from: NodeId::of(1).unwrap(),
+                datagram: Datagram::new(alloc)?,
+                failed: None,
+            };
+            places.force_push(rt, place);
+        }
+        Ok(Lane {
+            posted: ArrayQueue::new(alloc, PLACES)?,
+            places,
+            rest: Parker::new(),
+            over: AtomicBool::new(false),
+        })
+    }
+
+    /// A place, once there is one. `None` where none became free in some ten milliseconds.
+    fn place<R: Wait + Clock>(&self, rt: &R) -> Option<Posted> {
+        for _ in 0..MOST_SLEEPS {
+            if let Some(place) = self.places.pop(rt) {
+                return Some(place);
+            }
+            sleep(rt);
+        }
+        None
+    }
+
+    /// Puts what was written into a place into the lane.
+    fn put<R: Wait>(&self, rt: &R, place: Posted) {
+        self.posted.force_push(rt, place);
+        self.rest.unpark();
+    }
+
+    /// Tells the thread where it sends from here on. Where the thread falls behind for long it is not told, which is false.
+    pub(crate) fn tell<R: Wait + Clock>(&self, rt: &R, way: Way) -> bool {
+        let Some(mut place) = self.place(rt) else {
+            return false;
+        };
+        place.way = Some(way);
+        place.failed = None;
+        self.put(rt, place);
+        true
+    }
+
+    /// Puts a member's datagram into the lane. Where the thread falls behind for long it is lost.
+    ///
+    /// # Errors
+    ///
+    /// What the thread failed at as it sent an earlier one.
+    pub(crate) fn post<R: Wait + Clock>(
+        &self,
+        rt: &R,
+        from: NodeId,
+        bytes: &[u8],
+    ) -> Result<(), SocketCause>
+        requires { length bytes.now ≤ datagram_room }
+    {
+        let Some(mut place) = self.place(rt) else {
+            return Ok(());
+        };
+        if let Some(cause) = place.failed.take() {
+            self.free(rt, place);
+            return Err(cause);
+        }
+        place.from = from;
+        place.datagram.clear();
+        place.datagram.push(bytes);
+        self.put(rt, place);
+        Ok(())
+    }
+
+    /// What was posted next.
+    pub(crate) fn next<R: Wait>(&self, rt: &R) -> Option<Posted> {
+        self.posted.pop(rt)
+    }
+
+    /// Gives back the place of what was done.
+    pub(crate) fn free<R: Wait>(&self, rt: &R, place: Posted) {
+        self.places.force_push(rt, place);
+    }
+
+    /// Waits for something to send, where so many sleeps have passed since there was any. Says how many have then.
+    pub(crate) fn wait<R: Wait + Clock>(&self, rt: &R, sleeps: u32) -> u32 {
+        if sleeps < MOST_SLEEPS {
+            sleep(rt);
+            return sleeps + 1;
+        }
+        self.rest.park(rt);
+        0
+    }
+
+    /// Nothing will be offered any more: the thread ends once it has sent what lies here.
+    pub(crate) fn end(&self) {
+        self.over.store(true, Ordering::SeqCst);
+        self.rest.unpark();
+    }
+
+    /// Whether nothing will be offered any more.
+    pub(crate) fn is_over(&self) -> bool {
+        self.over.load(Ordering::SeqCst)
+    }
+}

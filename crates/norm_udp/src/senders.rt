@@ -1,0 +1,156 @@
+//! Threads that send for a node, each from a lane of its own.
+
+ghost use Rattle.std.specs.Prelude.{◌≤◌, length};
+ghost use Rattle.norm_base.specs.Sizes.{datagram_room};
+
+use crate::cause::SocketCause;
+use crate::lane::{Lane, Posted};
+use crate::way::Way;
+use norm_base::{Memory, NodeId};
+use std::alloc::Global;
+use std::sync::{Arc, Wait};
+use std::thread;
+use std::thread::Threads;
+use std::time::Clock;
+
+/// Of each so many processors one is for a thread that sends.
+const PROCESSORS_EACH: usize = 2;
+
+/// A machine with fewer processors has no thread that sends.
+const LEAST_PROCESSORS: usize = 4;
+
+/// How many threads send at most.
+const MOST_THREADS: usize = 4;
+
+/// Does what was posted next: the thread sends another way from here on, or sends a datagram. The place is given back, with what failed.
+fn follow<R: Wait>(rt: &R, lane: &Lane, way: Way, posted: Posted) -> Way {
+    let mut posted = posted;
+    let way = match posted.way.take() {
+        Some(other) => other,
+        None => {
+            posted.failed = way.send(posted.from, posted.datagram.bytes()).err();
+            way
+        }
+    };
+    lane.free(rt, posted);
+    way
+}
+
+/// Does what is posted to a lane until that is over.
+fn serve<R: Wait + Clock>(rt: &R, lane: &Lane) {
+    let mut way = Way::Nowhere;
+    let mut sleeps = 0;
+    for _ in rt.forever() {
+        if let Some(posted) = lane.next(rt) {
+            way = follow(rt, lane, way, posted);
+            sleeps = 0;
+        } else if lane.is_over() {
+            break;
+        } else {
+            sleeps = lane.wait(rt, sleeps);
+        }
+    }
+}
+
+/// How many threads send on this machine: none where it has few processors.
+fn threads_here<R: Threads>(rt: &R) -> usize {
+    let processors = match thread::available_parallelism(rt) {
+        Ok(number) => number.get(),
+        Err(_) => 1,
+    };
+    if processors < LEAST_PROCESSORS {
+        return 0;
+    }
+    (processors / PROCESSORS_EACH).min(MOST_THREADS)
+}
+
+/// Threads that send what a hub or a sender offers, and what each is told by. As it is dropped, each thread ends once it has sent what
+/// was offered.
+pub struct Senders(Vec<Arc<Lane>>);
+
+impl Drop for Senders {
+    fn drop(self) {
+        let Senders(lanes) = self;
+        for lane in &lanes {
+            lane.end();
+        }
+    }
+}
+
+impl Senders {
+    /// None: each node sends by itself. It takes no memory.
+    pub fn none(alloc: Global) -> Senders {
+        Senders(Vec::new(alloc))
+    }
+
+    /// As many as this machine has processors for, and none where it has fewer than four.
+    ///
+    /// # Errors
+    ///
+    /// `Memory` where memory runs out, or no thread can be made.
+    pub fn start<R: Threads + Wait + Clock + Copy + Send + Drop + 'static>(
+        alloc: Global,
+        rt: R,
+    ) -> Result<Senders, Memory> {
+        let mut senders = Senders::none(alloc);
+        for _ in 0..threads_here(&rt) {
+            senders.add(alloc, rt)?;
+        }
+        Ok(senders)
+    }
+
+    /// Starts one more.
+    fn add<R: Threads + Wait + Clock + Copy + Send + Drop + 'static>(
+        &mut self,
+        alloc: Global,
+        rt: R,
+    ) -> Result<(), Memory> {
+        let lane = Arc::new(alloc, Lane::new(&rt, alloc)?)?;
+        let theirs = Arc::try_clone(&lane)?;
+        self.0.push(lane)?;
+        if thread::spawn(&rt, move || serve(&rt, &theirs)).is_err() {
+            return Err(Memory);
+        }
+        Ok(())
+    }
+
+    /// How many there are.
+    pub(crate) fn count(&self) -> usize {
+        self.0.len()
+    }
+
+    /// Tells the thread at a place where it sends from here on. False where there is none, or it is not told.
+    pub(crate) fn tell<R: Wait + Clock>(&self, rt: &R, place: usize, way: Way) -> bool {
+        match self.0.get(place) {
+            Some(lane) => lane.tell(rt, way),
+            None => false,
+        }
+    }
+
+    /// Has the first threads, so many, send a member's datagram.
+    ///
+    /// # Errors
+    ///
+    /// What one of them failed at before.
+    pub(crate) fn post<R: Wait + Clock>(
+        &self,
+        rt: &R,
+        threads: usize,
+        from: NodeId,
+        bytes: &[u8],
+    ) -> Result<(), SocketCause>
+        requires { length bytes.now ≤ datagram_room }
+    {
+        for lane in self.0.iter().take(threads) {
+            lane.post(rt, from, bytes)?;
+        }
+        Ok(())
+    }
+
+    /// Has no thread send anywhere.
+    pub(crate) fn leave<R: Wait + Clock>(&self, rt: &R) {
+        for lane in &self.0 {
+            lane.tell(rt, Way::Nowhere);
+        }
+    }
+}
