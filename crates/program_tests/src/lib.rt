@@ -1,5 +1,5 @@
-//! Tests of what stands beside the program: the outside in memory and of the process, scripts, shown datagrams and journals, a module
-//! for each crate. No other code stands here.
+//! Tests of what stands beside the program: the outside in memory and of the process, scripts, shown datagrams, journals and what a person
+//! sees of a node, a module for each crate. No other code stands here.
 #![tactic(auto)]
 
 #[cfg(test)]
@@ -16,3 +16,5 @@ mod record;
 mod script;
 #[cfg(test)]
 mod show;
+#[cfg(test)]
+mod watch;

@@ -1,0 +1,406 @@
+//! What a person sees of a node at work: rows of calls of a watched network and a watched sink, over a standard error that is kept and a clock
+//! that is set.
+
+ghost use Rattle.std.specs.Prelude.{None, false};
+
+use norm_base::{
+    DATAGRAM_ROOM, Datagram, Fabric, FabricFault, FabricKind, Given, Key, Local, NodeId, Profile,
+    Sink,
+};
+use norm_memory::MemSink;
+use norm_watch::{Says, Tally, WatchedFabric, WatchedSink, end_progress};
+use std::alloc::Global;
+use std::cell::{Cell, RefCell};
+use std::fmt::{Display, Write};
+use std::io::{self, ErrorKind};
+use std::test::Fail;
+use std::time::{Clock, Duration};
+
+/// Standard error, as far as it was written, and a clock that stands until it is set on.
+#[derive(Drop)]
+struct Seen {
+    said: RefCell<String>,
+    seconds: Cell<u64>,
+}
+
+impl Seen {
+    /// Adds a value and what ends it.
+    fn add<D: Display + Drop>(&self, value: D, end: &str) -> io::Result<()> {
+        let Ok(mut said) = self.said.try_borrow_mut() else {
+            return Err(io::Error::from(ErrorKind::Other));
+        };
+        match write!(said, "{value}{end}") {
+            Ok(()) => Ok(()),
+            Err(_) => Err(io::Error::from(ErrorKind::OutOfMemory)),
+        }
+    }
+}
+
+impl Eprint for Seen {
+    fn eprint<D: Display + Drop>(&self, value: D) -> io::Result<()> {
+        self.add(value, "")
+    }
+
+    fn eprintln<D: Display + Drop>(&self, value: D) -> io::Result<()> {
+        self.add(value, "\n")
+    }
+}
+
+impl Clock for Seen {
+    fn monotonic(&self) -> io::Result<Duration> {
+        Ok(Duration::from_secs(self.seconds.get()))
+    }
+
+    fn since_1970(&self) -> io::Result<Duration> {
+        self.monotonic()
+    }
+}
+
+/// A network that gives what is laid there, once, and is offered anything.
+#[derive(Drop)]
+struct Laid<'a> {
+    next: &'a Cell<&'static [u8]>,
+}
+
+impl Fabric for Laid<'_> {
+    ghost told = { λ _. record { starts = None; offered = None; answers = None; honest = false } };
+
+    ghost fault_count = { λ _. 0 };
+
+    fn start(&mut self, _profile: &Profile, _local: Local) -> Result<(), FabricFault> {
+        Ok(())
+    }
+
+    fn offer(&mut self, _from: NodeId, _bytes: &[u8]) -> Result<(), FabricFault> {
+        Ok(())
+    }
+
+    fn take(&mut self, into: &mut Datagram) -> Result<Option<NodeId>, FabricFault> {
+        into.clear();
+        let octets = self.next.get();
+        let Some(node) = NodeId::of(2) else {
+            return Ok(None);
+        };
+        if octets.is_empty() || octets.len() > into.room() {
+            return Ok(None);
+        }
+        into.push(octets);
+        self.next.set(b"");
+        Ok(Some(node))
+    }
+
+    fn faults(&self) -> u64 {
+        0
+    }
+}
+
+/// What happens to a node.
+#[derive(Clone, Copy)]
+enum Step {
+    /// So many seconds go by.
+    Waits(u64),
+    /// It takes until the clock was read once, and nothing comes.
+    Looks,
+    /// It takes a datagram.
+    Takes(&'static [u8]),
+    /// Member 2 offers a datagram.
+    Offers(&'static [u8]),
+    /// It writes a line.
+    Writes(&'static [u8]),
+    /// It is done.
+    Ends,
+}
+
+/// A node of a profile with this network and step, the hub where its number is 0; what it is to say, what happens to it, and all that it says.
+struct Row {
+    fabric: FabricKind,
+    step: u32,
+    node: u32,
+    says: Says,
+    steps: &'static [Step],
+    said: &'static str,
+}
+
+/// The hub's port; the sender's is the one behind it, and then come those of the receivers.
+const PORT: u32 = 7_000;
+
+/// The clock is read once in so many takes.
+const TAKES: u32 = 64;
+
+const NOTHING: Says = Says {
+    progress: false,
+    trace: false,
+    beside: false,
+};
+
+const TRACE: Says = Says {
+    trace: true,
+    ..NOTHING
+};
+
+const PROGRESS: Says = Says {
+    progress: true,
+    ..NOTHING
+};
+
+/// The header of a DATA of an object, with the flag of a repair and without.
+const REPAIR: &[u8] = b"\x12\x08\0\0\0\0\0\x01\0\x07\0\x01\x01\x05\0\0";
+
+const SOURCE: &[u8] = b"\x12\x08\0\0\0\0\0\x01\0\x07\0\x01\0\x05\0\0";
+
+const ROWS: [Row; 10] = [
+    // Nine seconds are no silence; it is said once, and again after something came.
+    Row {
+        fabric: FabricKind::Udp,
+        step: 0,
+        node: 2,
+        says: NOTHING,
+        steps: &[
+            Step::Looks,
+            Step::Waits(9),
+            Step::Looks,
+            Step::Waits(1),
+            Step::Looks,
+            Step::Waits(20),
+            Step::Looks,
+            Step::Takes(SOURCE),
+            Step::Looks,
+            Step::Waits(10),
+            Step::Looks,
+            Step::Ends,
+        ],
+        said: "nothing came to 127.0.0.1:7002 for ten seconds\nnothing came to 127.0.0.1:7002 for ten seconds\n",
+    },
+    // The hub has no moments, so that its step is none of its own.
+    Row {
+        fabric: FabricKind::Udp,
+        step: 1000,
+        node: 0,
+        says: NOTHING,
+        steps: &[Step::Waits(10), Step::Looks],
+        said: "nothing came to 127.0.0.1:7000 for ten seconds\n",
+    },
+    Row {
+        fabric: FabricKind::Udp,
+        step: 1000,
+        node: 1,
+        says: NOTHING,
+        steps: &[],
+        said: "the profile's step is 1000: over sockets it is to be 0, so that the clock gives the moments\n",
+    },
+    // In memory nobody waits for anyone.
+    Row {
+        fabric: FabricKind::Direct,
+        step: 1000,
+        node: 2,
+        says: PROGRESS,
+        steps: &[Step::Waits(20), Step::Looks, Step::Ends],
+        said: "",
+    },
+    Row {
+        fabric: FabricKind::Udp,
+        step: 0,
+        node: 2,
+        says: TRACE,
+        steps: &[Step::Takes(b"\x12\xab"), Step::Offers(b"\x00\x0f")],
+        said: "take 2 12ab\noffer 2 000f\n",
+    },
+    Row {
+        fabric: FabricKind::Udp,
+        step: 0,
+        node: 2,
+        says: NOTHING,
+        steps: &[
+            Step::Takes(REPAIR),
+            Step::Offers(SOURCE),
+            Step::Writes(b"up 2 7 0 data 5 - 68656c6c6f\n"),
+            Step::Waits(5),
+            Step::Looks,
+            Step::Ends,
+        ],
+        said: "",
+    },
+    // A receiver counts repairs as it takes them, and draws once a second.
+    Row {
+        fabric: FabricKind::Udp,
+        step: 0,
+        node: 2,
+        says: PROGRESS,
+        steps: &[
+            Step::Waits(5),
+            Step::Takes(SOURCE),
+            Step::Takes(REPAIR),
+            Step::Writes(b"up 2 7 0 data 5 - 68656c6c6f\n"),
+            Step::Looks,
+            Step::Waits(1),
+            Step::Looks,
+            Step::Writes(b"up 2 7 1 open\n"),
+            Step::Writes(b"up 2 7 1 bytes 0 3 616263\n"),
+            Step::Writes(b"up 2 7 1 end\n"),
+            Step::Waits(1),
+            Step::Looks,
+            Step::Ends,
+            Step::Ends,
+        ],
+        said: "\r\x1b[K0 octets, 0 objects, 0 repairs, 0 receivers past the oldest watermark\r\x1b[K5 octets, 1 objects, 1 repairs, 0 receivers past the oldest watermark\r\x1b[K8 octets, 2 objects, 1 repairs, 0 receivers past the oldest watermark\n",
+    },
+    // Of two receivers one is past the watermark, and both are once it is done; then one is struck.
+    Row {
+        fabric: FabricKind::Udp,
+        step: 0,
+        node: 1,
+        says: PROGRESS,
+        steps: &[
+            Step::Looks,
+            Step::Writes(b"enq 1 1 7 0 data 256\n"),
+            Step::Writes(b"enq 1 2 7 1 open\n"),
+            Step::Writes(b"enq 1 3 7 1 write 4 0\n"),
+            Step::Writes(b"mark 1 4 7 1 1 0 0\n"),
+            Step::Writes(b"past 2 7 0 0 3\n"),
+            Step::Writes(b"past 3 7 1 0 0\n"),
+            Step::Offers(SOURCE),
+            Step::Offers(REPAIR),
+            Step::Waits(1),
+            Step::Looks,
+            Step::Writes(b"done 1 satisfied\n"),
+            Step::Waits(1),
+            Step::Looks,
+            Step::Writes(b"strike 1 5 2\n"),
+            Step::Waits(1),
+            Step::Looks,
+            Step::Ends,
+        ],
+        said: "\r\x1b[K260 octets, 2 objects, 1 repairs, 1 receivers past the oldest watermark\r\x1b[K260 octets, 2 objects, 1 repairs, 2 receivers past the oldest watermark\r\x1b[K260 octets, 2 objects, 1 repairs, 1 receivers past the oldest watermark\n",
+    },
+    // What is said beside progress comes in its place.
+    Row {
+        fabric: FabricKind::Udp,
+        step: 0,
+        node: 2,
+        says: Says {
+            trace: true,
+            ..PROGRESS
+        },
+        steps: &[
+            Step::Waits(1),
+            Step::Looks,
+            Step::Offers(b"\x0f"),
+            Step::Ends,
+        ],
+        said: "\r\x1b[K0 octets, 0 objects, 0 repairs, 0 receivers past the oldest watermark\r\x1b[Koffer 2 0f\n",
+    },
+    // So do lines of output that go to the same terminal.
+    Row {
+        fabric: FabricKind::Udp,
+        step: 0,
+        node: 2,
+        says: Says {
+            beside: true,
+            ..PROGRESS
+        },
+        steps: &[
+            Step::Waits(1),
+            Step::Looks,
+            Step::Writes(b"up 2 7 0 lost\n"),
+            Step::Ends,
+        ],
+        said: "\r\x1b[K0 octets, 0 objects, 0 repairs, 0 receivers past the oldest watermark\r\x1b[K",
+    },
+];
+
+/// A row's profile.
+fn profile_of(row: &Row) -> Result<Profile, Fail> {
+    let mut given = Given::new();
+    given.set(Key::Receivers, 2);
+    given.set(Key::Fabric, row.fabric as u32);
+    given.set(Key::Port, PORT);
+    given.set(Key::Step, row.step);
+    Ok(Profile::of(&given).ok_or("no profile")?)
+}
+
+/// A node that is watched, and what is seen of it.
+#[derive(Drop)]
+struct Watched<'a> {
+    seen: &'a Seen,
+    next: &'a Cell<&'static [u8]>,
+    tally: &'a Tally,
+    fabric: WatchedFabric<'a, &'a Seen, Laid<'a>>,
+    sink: WatchedSink<'a, &'a Seen, MemSink>,
+    into: Datagram,
+}
+
+impl Watched<'_> {
+    /// A take.
+    fn takes(&mut self) -> Result<(), FabricFault> {
+        self.fabric.take(&mut self.into)?;
+        Ok(())
+    }
+
+    /// An offer of member 2.
+    fn offers(&mut self, octets: &[u8]) -> Result<(), FabricFault> {
+        match NodeId::of(2) {
+            Some(node) if octets.len() <= DATAGRAM_ROOM => self.fabric.offer(node, octets),
+            _ => Ok(()),
+        }
+    }
+
+    /// Lets something happen to the node.
+    fn does(&mut self, step: Step) -> Result<(), Fail> {
+        match step {
+            Step::Waits(seconds) => {
+                let now = self.seen.seconds.get();
+                self.seen.seconds.set(now.saturating_add(seconds));
+            }
+            Step::Looks => {
+                for _ in 0..TAKES {
+                    self.takes()?;
+                }
+            }
+            Step::Takes(octets) => {
+                self.next.set(octets);
+                self.takes()?;
+            }
+            Step::Offers(octets) => self.offers(octets)?,
+            Step::Writes(line) => {
+                let _ = self.sink.write(line);
+            }
+            Step::Ends => end_progress(&self.seen, self.tally),
+        }
+        Ok(())
+    }
+}
+
+/// All that a row's node says.
+fn said_by(alloc: Global, row: &Row) -> Result<String, Fail> {
+    let seen = Seen {
+        said: RefCell::new(String::new(alloc)),
+        seconds: Cell::new(0),
+    };
+    let next: Cell<&'static [u8]> = Cell::new(b"");
+    let tally = Tally::new();
+    let sink = MemSink::of(Vec::new(alloc), Vec::new(alloc));
+    let mut watched = Watched {
+        seen: &seen,
+        next: &next,
+        tally: &tally,
+        fabric: WatchedFabric::of(&seen, Laid { next: &next }, row.says, &tally),
+        sink: WatchedSink::of(&seen, sink, row.says, &tally),
+        into: Datagram::new(alloc)?,
+    };
+    let local = NodeId::of(row.node).map_or(Local::Hub, Local::One);
+    watched.fabric.start(&profile_of(row)?, local)?;
+    for step in row.steps {
+        watched.does(*step)?;
+    }
+    drop(watched);
+    Ok(seen.said.into_inner())
+}
+
+#[test]
+fn a_node_says_how_it_is(rt: HostRuntime) -> Result<(), Fail> {
+    for (at, row) in ROWS.iter().enumerate() {
+        let said = said_by(rt.alloc(), row)?;
+        assert!(rt; said.as_str() == row.said, "row {at}: {said:?}");
+    }
+    Ok(())
+}
