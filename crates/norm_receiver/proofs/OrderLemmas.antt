@@ -17,7 +17,7 @@ clash e = absurd (go e)
     go : false ≡ true → ⊥
     go e = cc
 
-not_so : (b : Bool) → not b ≡ true → b ≡ false
+pub not_so : (b : Bool) → not b ≡ true → b ≡ false
 not_so true e = clash e
 not_so false e = refl
 

@@ -1,11 +1,28 @@
 //! What of all that requests ask for was not heard before: only that needs room.
 
-ghost use Rattle.std.specs.Prelude.{◌≡◌, ◌≤◌, fold, length, IsTrue};
+ghost use Rattle.std.specs.Prelude.{◌≡◌, fold, true, IsTrue};
+ghost use Rattle.std.specs.List.{AllWithin};
+ghost use Rattle.fec_plan.specs.Points.{position_before};
+ghost use Rattle.norm_ext.specs.Asking.{is_proper};
 ghost use Rattle.norm_receive_rules.specs.Heard.{with_proper, with_count};
 ghost use Rattle.norm_receiver.specs.Orderly.{AreApart, Rise};
 
 use crate::heard::{Count, Span};
 use crate::searching::{first_count, first_span};
+
+/// Whether all of a span lies in the one of these at a place, before which all end before it: then it adds nothing.
+pub(crate) fn has_at(spans: &[Span], place: usize, span: &Span) -> bool
+    requires ordered { AreApart spans.now }
+    requires before { AllWithin (λ other. position_before other.last span.now.first ≡ true) spans.now 0 place }
+    requires proper { is_proper span.now ≡ true }
+    ensures { IsTrue result → with_proper spans.now span.now ≡ spans.now }
+{
+    if place >= spans.len() {
+        return false;
+    }
+    let other = spans[place];
+    other.takes_in(span)
+}
 
 /// Whether all of a span lies in one of these, or it ends before it begins: then it adds nothing.
 fn has_span(spans: &[Span], span: &Span) -> bool
@@ -15,12 +32,7 @@ fn has_span(spans: &[Span], span: &Span) -> bool
     if span.last.is_before(&span.first) {
         return true;
     }
-    let place = first_span(spans, span.first);
-    if place >= spans.len() {
-        return false;
-    }
-    let other = spans[place];
-    other.takes_in(span)
+    has_at(spans, first_span(spans, span.first), span)
 }
 
 /// Whether as many symbols of a count's block are counted: then it adds nothing.

@@ -1,13 +1,14 @@
 //! What a receiver heard others ask for while it backs off (RFC 5401 section 3.2.2).
 
-ghost use Rattle.std.specs.Prelude.{◌≡◌, ◌≤◌, ◌<◌, ◌+◌, ◌&&◌, nat_le, length, fold, vec_capacity, IfOk, OnErr, IsTrue, max, not};
+ghost use Rattle.std.specs.Prelude.{◌≡◌, ◌≤◌, ◌<◌, ◌+◌, ◌&&◌, nat_le, length, fold, vec_capacity, IfOk, OnErr, true, IsTrue, max, not};
 ghost use Rattle.fec_plan.specs.Points.{position_before, point_before, same_point};
+ghost use Rattle.norm_ext.specs.Asking.{is_proper};
 ghost use Rattle.norm_receive_rules.specs.Heard.{heard_nothing, joined, with_span, with_proper, with_count};
 ghost use Rattle.norm_receiver.specs.Orderly.{AreApart, Rise};
 ghost use Rattle.norm_receiver.specs.Overhearing.{most_heard, noted, IsBounded};
 
 use crate::asked::Asked;
-use crate::fresh::{fresh_counts, fresh_spans};
+use crate::fresh::{fresh_counts, fresh_spans, has_at};
 use crate::searching::{first_count, first_span};
 use fec_plan::{Point, Position};
 use norm_base::Memory;
@@ -66,15 +67,19 @@ impl Span {
 }
 
 /// One span more, for which there is room: what lies before it stays before it, what lies behind it behind, and it takes in
-/// all that it meets.
+/// all that it meets. Nothing is moved where it lies in one of them.
 fn put_span(spans: &mut Vec<Span>, span: Span)
     requires ordered { AreApart spans.old.items }
+    requires proper { is_proper span ≡ true }
     requires room { length spans.old.items < vec_capacity spans.old }
     ensures put { spans.new.items ≡ with_span span spans.old.items }
     ensures few { length spans.new.items ≤ length spans.old.items + 1 }
     ensures room { vec_capacity spans.old ≤ vec_capacity spans.new }
 {
     let mut place = first_span(spans.as_slice(), span.first);
+    if has_at(spans.as_slice(), place, &span) {
+        return;
+    }
     let mut more = span;
     while place < spans.len() {
         let other = spans[place];
