@@ -55,8 +55,8 @@ use tx_window::Window;
 /// - An object costs its octets, which are copied once, and the marks of its blocks; one that waits for room what is looked at of the window.
 /// - A stream costs its whole buffer as it is opened, and a write the octets that it brings, copied once. A write or the stream's end where
 ///   blocks of it go, or went before, goes over the marks of its blocks too.
-/// - [`idle`](Sender::idle) looks at no more than the entries of the window: whether something of one is wanted, where no tick found yet that
-///   nothing is, and whether something of one is new. [`open_requests`](Sender::open_requests), [`flushes`](Sender::flushes) and
+/// - [`idle`](Sender::idle) takes constant time: how many objects have wants, and whether a squelch is due or a round open, are kept, and two entries
+///   of the window at most tell whether something is new. [`open_requests`](Sender::open_requests), [`flushes`](Sender::flushes) and
 ///   [`instance`](Sender::instance) are kept, and are looked for nowhere.
 #[derive(Debug, Drop)]
 pub struct Sender {
