@@ -6,6 +6,8 @@ mod driven;
 #[cfg(test)]
 mod fronts;
 #[cfg(test)]
-mod rows;
+mod objects;
 #[cfg(test)]
 mod solo;
+#[cfg(test)]
+mod streams;
