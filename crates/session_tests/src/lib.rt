@@ -6,6 +6,8 @@ mod disturbed;
 #[cfg(test)]
 mod failing;
 #[cfg(test)]
+mod members;
+#[cfg(test)]
 mod program;
 #[cfg(test)]
 mod words;
