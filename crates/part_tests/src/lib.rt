@@ -12,4 +12,8 @@ mod obj_buffer_tests;
 #[cfg(test)]
 mod stream_buffer_tests;
 #[cfg(test)]
+mod tx_window_stream_tests;
+#[cfg(test)]
 mod tx_window_tests;
+#[cfg(test)]
+mod window_steps;

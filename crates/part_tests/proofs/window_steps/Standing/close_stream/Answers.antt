@@ -1,5 +1,5 @@
 use Rattle.norm_send_rules.specs.Streaming.{closed}
-use Rattle.part_tests.proofs.tx_window_tests.Standing.close_stream.Goals as goal
+use Rattle.part_tests.proofs.window_steps.Standing.close_stream.Goals as goal
 
 pub invariant_of-self : goal.invariant_of-self
 invariant_of-self c =

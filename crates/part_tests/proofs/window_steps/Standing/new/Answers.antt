@@ -1,5 +1,5 @@
 use Rattle.norm_send_rules.specs.SenderState.{sender_opening}
-use Rattle.part_tests.proofs.tx_window_tests.Standing.new.Goals as goal
+use Rattle.part_tests.proofs.window_steps.Standing.new.Goals as goal
 
 pub invariant_of-standing : goal.invariant_of-standing
 invariant_of-standing c = record {

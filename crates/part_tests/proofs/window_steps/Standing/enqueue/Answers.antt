@@ -2,8 +2,8 @@ use Rattle.std.proofs.Common.{refl, sym, subst}
 use Rattle.norm_base.specs.declared.node.Origin.{Origin}
 use Rattle.norm_send_rules.specs.Enqueuing.{enqueued}
 use Rattle.tx_window.specs.Standing.{IsStanding}
-use Rattle.part_tests.proofs.tx_window_tests.Standing.enqueue.Goals as goal
-use Rattle.part_tests.proofs.tx_window_tests.Standing.enqueue.Goals.{in-Ok, in-Err}
+use Rattle.part_tests.proofs.window_steps.Standing.enqueue.Goals as goal
+use Rattle.part_tests.proofs.window_steps.Standing.enqueue.Goals.{in-Ok, in-Err}
 
 pub invariant_of-self : goal.invariant_of-self
 invariant_of-self c =

@@ -1,5 +1,5 @@
 use Rattle.norm_send_rules.specs.Restarting.{begun_anew}
-use Rattle.part_tests.proofs.tx_window_tests.Standing.clear.Goals as goal
+use Rattle.part_tests.proofs.window_steps.Standing.clear.Goals as goal
 
 pub invariant_of-self : goal.invariant_of-self
 invariant_of-self c = record {

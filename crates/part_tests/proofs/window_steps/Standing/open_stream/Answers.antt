@@ -7,7 +7,7 @@ use Rattle.norm_send_rules.specs.declared.fault.EnqueueFault.{EnqueueFault}
 use Rattle.tx_window.specs.Standing.{IsStanding}
 use Rattle.tx_window.specs.Taking.{IsOpened}
 use Rattle.tx_window.specs.WindowState.{WindowState, Stands}
-use Rattle.part_tests.proofs.tx_window_tests.Standing.open_stream.Goals as goal
+use Rattle.part_tests.proofs.window_steps.Standing.open_stream.Goals as goal
 
 stays : (w new : WindowState) (r : Result ℕ EnqueueFault) → IsStanding w
     → IfOk r (λ index. (s : SenderState) (by : Origin) → Stands w s → IsOpened w.p s by index new) → (IsErr r → new ≡ w)

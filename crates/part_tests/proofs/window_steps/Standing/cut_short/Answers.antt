@@ -1,7 +1,7 @@
 use Rattle.std.proofs.Common.{◌+◌, length}
 use Rattle.norm_send_rules.specs.Restarting.{begun_anew}
 use Rattle.tx_window.specs.Taking.{room_made}
-use Rattle.part_tests.proofs.tx_window_tests.Standing.cut_short.Goals as goal
+use Rattle.part_tests.proofs.window_steps.Standing.cut_short.Goals as goal
 
 pub invariant_of-self : goal.invariant_of-self
 invariant_of-self c =

@@ -3,7 +3,7 @@ use Rattle.norm_send_rules.specs.Sending.{noted}
 use Rattle.norm_send_rules.specs.declared.want.Want.TheVariants.{Symbol}
 use Rattle.tx_window.specs.Asked.{AnswersAt}
 use Rattle.tx_window.proofs.LawLemmas.{may_note}
-use Rattle.part_tests.proofs.tx_window_tests.Standing.send.Goals as goal
+use Rattle.part_tests.proofs.window_steps.Standing.send.Goals as goal
 
 pub note_sent-requires : goal.note_sent-requires
 note_sent-requires c =

@@ -1,6 +1,6 @@
 use Rattle.norm_base.specs.declared.node.Origin.{Origin}
 use Rattle.norm_send_rules.specs.Streaming.{wrote}
-use Rattle.part_tests.proofs.tx_window_tests.Standing.write.Goals as goal
+use Rattle.part_tests.proofs.window_steps.Standing.write.Goals as goal
 
 pub invariant_of-self : goal.invariant_of-self
 invariant_of-self c =

@@ -1,7 +1,7 @@
 use Rattle.std.proofs.Common.{◌∙◌}
 use Rattle.norm_send_rules.specs.Sending.{noted}
 use Rattle.norm_send_rules.specs.declared.want.Want.TheVariants.{Info}
-use Rattle.part_tests.proofs.tx_window_tests.Standing.send_info.Goals as goal
+use Rattle.part_tests.proofs.window_steps.Standing.send_info.Goals as goal
 
 pub invariant_of-self : goal.invariant_of-self
 invariant_of-self c =
