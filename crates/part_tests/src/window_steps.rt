@@ -241,7 +241,7 @@ fn offer(
     Ok(window.enqueue(Kind::File, name, bytes))
 }
 
-/// Where there was no memory for it, the same is asked again: the window is as it was.
+/// Where there was no memory for it, the same is asked again: the window is as it was, and answers what it does with memory.
 fn enqueued(
     alloc: Global,
     window: &mut Standing,
@@ -251,6 +251,29 @@ fn enqueued(
         Err(EnqueueFault::Memory) => offer(alloc, window, sizes),
         answer => Ok(answer),
     }
+}
+
+/// The same of a stream that is opened.
+fn opened(window: &mut Standing) -> Result<u32, EnqueueFault> {
+    match window.open_stream() {
+        Err(EnqueueFault::Memory) => window.open_stream(),
+        answer => answer,
+    }
+}
+
+/// And of a file that is begun and cut short, where nothing but memory was in its way.
+fn cut_short(
+    alloc: Global,
+    window: &mut Standing,
+    piece: &[u8],
+    missing: u32,
+) -> Result<bool, Memory> {
+    let len = piece.len() as u64 + u64::from(missing);
+    let was_begun = window.cut_short(octets_of(alloc, 1, 1)?, piece, missing);
+    if was_begun || window.object_fault(1, len).is_some() {
+        return Ok(was_begun);
+    }
+    Ok(window.cut_short(octets_of(alloc, 1, 1)?, piece, missing))
 }
 
 /// How many octets a symbol is sent with, and the first of them.
@@ -285,7 +308,7 @@ fn says(window: &Standing, index: u32) -> Option<(u64, u8, u32)> {
 fn send_many(alloc: Global, window: &mut Standing, count: u32) -> Result<(), Memory> {
     let mut out = Datagram::new(alloc)?;
     for _ in 0..count {
-        if let Ok(index) = offer(alloc, window, (0, 1))? {
+        if let Ok(index) = enqueued(alloc, window, (0, 1))? {
             window.send(position((index, 0, 0)), &mut out);
         }
     }
@@ -295,7 +318,7 @@ fn send_many(alloc: Global, window: &mut Standing, count: u32) -> Result<(), Mem
 /// Makes a call of the open stream, or of a file that is cut short, and says whether it was answered so.
 fn does_stream(alloc: Global, window: &mut Standing, step: Step) -> Result<bool, Memory> {
     match step {
-        Step::Opens(answer) => Ok(window.open_stream() == answer),
+        Step::Opens(answer) => Ok(opened(window) == answer),
         Step::Writes(len, answer) => {
             let octets = octets_of(alloc, window.e, len)?;
             Ok(window.write(octets.bytes()) == answer)
@@ -306,9 +329,8 @@ fn does_stream(alloc: Global, window: &mut Standing, step: Step) -> Result<bool,
         }
         Step::Closes(answer) => Ok(window.close_stream() == answer),
         Step::CutShort(len, missing, answer) => {
-            let name = octets_of(alloc, 1, 1)?;
             let octets = octets_of(alloc, window.e, len)?;
-            Ok(window.cut_short(name, octets.bytes(), missing) == answer)
+            Ok(cut_short(alloc, window, octets.bytes(), missing)? == answer)
         }
         _ => Ok(false),
     }
