@@ -59,7 +59,9 @@ pub enum Step {
     Clear,
     Up(Handed),
     /// The next hand-up is the object of three symbols that are known from outside.
-    UpKnown(u32),
+    UpThree(u32),
+    /// It is that of two.
+    UpTwo(u32),
     /// The hand-up point.
     HandUp(At),
     HasLost(bool),
@@ -208,12 +210,25 @@ fn next_up(hold: &mut Hold) -> Handed {
     }
 }
 
-/// Whether the next hand-up is the object of three symbols: 64 octets, 64 octets, and one.
-fn is_known(hold: &mut Hold, wanted: u32) -> bool {
+/// The object of three symbols that are known from outside: 64 octets, 64 octets, and one.
+fn three_symbols() -> [u8; 129] {
     let mut octets = [0; 129];
     octets[0] = 0x01;
     octets[64] = 0x04;
     octets[128] = 0x10;
+    octets
+}
+
+/// The object of two: 64 octets, and one.
+fn two_symbols() -> [u8; 65] {
+    let mut octets = [0; 65];
+    octets[0] = 0x01;
+    octets[64] = 0x02;
+    octets
+}
+
+/// Whether the next hand-up is an object of these octets.
+fn is_known(hold: &mut Hold, wanted: u32, octets: &[u8]) -> bool {
     match hold.next_up() {
         Some(
             Up::Object {
@@ -222,7 +237,7 @@ fn is_known(hold: &mut Hold, wanted: u32) -> bool {
                 info: None,
                 bytes,
             },
-        ) => index == wanted && bytes.bytes() == octets.as_slice(),
+        ) => index == wanted && bytes.bytes() == octets,
         _ => false,
     }
 }
@@ -361,7 +376,8 @@ fn moves(hold: &mut Hold, step: Step) -> Result<bool, Memory> {
             Ok(true)
         }
         Step::Up(up) => Ok(next_up(hold) == up),
-        Step::UpKnown(index) => Ok(is_known(hold, index)),
+        Step::UpThree(index) => Ok(is_known(hold, index, &three_symbols())),
+        Step::UpTwo(index) => Ok(is_known(hold, index, &two_symbols())),
         _ => Ok(tells(hold, step)),
     }
 }

@@ -221,6 +221,45 @@ fn any_three_of_five_symbols_give_the_segments_in_any_order(rt: HostRuntime) -> 
     Ok(())
 }
 
+/// The octets of a block of two source symbols and two of parity that is known from outside.
+const KNOWN_OF_TWO: [u8; 4] = [0x01, 0x02, 0x04, 0x08];
+
+/// A symbol of the block of two segments of 64 octets, of which the first is the known one, as the offset is.
+fn known_of_two(symbol: u8, word: Put) -> Step {
+    let octet = KNOWN_OF_TWO[usize::from(symbol % 4)];
+    Step::Segment((0, 0, symbol % 4), (64, octet, octet), 72, word)
+}
+
+/// Two of the four symbols come in this order, each twice, and all that can be is handed up after each.
+fn two_in_order(first: u8, second: u8) -> [Step; 12] {
+    [
+        Step::Fit(0, (0, 64, 2, 4), 32, Fit::Taken),
+        known_of_two(first, Put::Kept),
+        known_of_two(first, Put::Had),
+        Step::Advance,
+        known_of_two(second, Put::Kept),
+        known_of_two(second, Put::Had),
+        Step::Advance,
+        Step::Up(Handed::Open(0)),
+        Step::Up(Handed::Segment(0, 0x01, 64, 0x01)),
+        Step::Up(Handed::Segment(0, 0x02, 64, 0x02)),
+        Step::Up(Handed::Nothing),
+        Step::HandUp((0, 1, 0)),
+    ]
+}
+
+#[test]
+fn any_two_of_four_symbols_give_the_segments_in_any_order(rt: HostRuntime) -> Result<(), Fail> {
+    for order in 0..16u8 {
+        let (first, second) = (order / 4, order % 4);
+        if first != second {
+            let steps = two_in_order(first, second);
+            play(&rt, rt.alloc(), (64, 2, 4, 1600, 4), &steps)?;
+        }
+    }
+    Ok(())
+}
+
 /// The end of a stream that no symbol says: all three segments are of no octets, so parity is as they are.
 const END_BY_PARITY: [Step; 9] = [
     Step::Fit(0, (0, 64, 3, 5), 32, Fit::Taken),

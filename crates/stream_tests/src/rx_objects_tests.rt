@@ -93,10 +93,14 @@ fn an_info_gets_its_word(rt: HostRuntime) -> Result<(), Fail> {
     Ok(())
 }
 
-/// Objects that come thrice and in disorder are handed up once.
-const THRICE: [Step; 17] = [
+/// Objects that come thrice and in disorder, all copies of the second before those of the first, are handed up once, behind the
+/// first copy of the first.
+const THRICE: [Step; 26] = [
     Step::Fit(1, (1, 64, 2, 4), 0, Fit::Taken),
     Step::Put((1, 0, 0), 1, 2, Put::Kept),
+    Step::Advance,
+    Step::Fit(1, (1, 64, 2, 4), 0, Fit::Known),
+    Step::Put((1, 0, 0), 1, 2, Put::Had),
     Step::Advance,
     Step::Fit(1, (1, 64, 2, 4), 0, Fit::Known),
     Step::Put((1, 0, 0), 1, 2, Put::Had),
@@ -105,11 +109,17 @@ const THRICE: [Step; 17] = [
     Step::Fit(0, (1, 64, 2, 4), 0, Fit::Taken),
     Step::Put((0, 0, 0), 1, 1, Put::Kept),
     Step::Advance,
-    Step::Fit(0, (1, 64, 2, 4), 0, Fit::Known),
-    Step::Put((0, 0, 0), 1, 1, Put::Had),
-    Step::Put((1, 0, 0), 1, 2, Put::Had),
     Step::Up(Handed::Object(0, 1, 1)),
     Step::Up(Handed::Object(1, 1, 2)),
+    Step::Up(Handed::Nothing),
+    Step::Fit(0, (1, 64, 2, 4), 0, Fit::Known),
+    Step::Put((0, 0, 0), 1, 1, Put::Had),
+    Step::Advance,
+    Step::Fit(0, (1, 64, 2, 4), 0, Fit::Known),
+    Step::Put((0, 0, 0), 1, 1, Put::Had),
+    Step::Advance,
+    Step::Put((1, 0, 0), 1, 2, Put::Had),
+    Step::Advance,
     Step::Up(Handed::Nothing),
     Step::HasLost(false),
 ];
@@ -234,7 +244,7 @@ fn in_order(first: u8, second: u8, third: u8) -> [Step; 12] {
         known_symbol(third, Put::Had),
         Step::FirstShort(0, None),
         Step::Advance,
-        Step::UpKnown(0),
+        Step::UpThree(0),
         Step::Up(Handed::Nothing),
     ]
 }
@@ -246,6 +256,44 @@ fn any_three_of_five_symbols_give_the_object_in_any_order(rt: HostRuntime) -> Re
         if first != second && first != third && second != third {
             let steps = in_order(first, second, third);
             play(&rt, rt.alloc(), (64, 3, 5, 200, 2), &steps)?;
+        }
+    }
+    Ok(())
+}
+
+/// A symbol of the block of 2 source symbols and 2 of parity that is known from outside: its first octet is the power of alpha
+/// with its id.
+fn known_of_two(symbol: u8, word: Put) -> Step {
+    match symbol {
+        0 => Step::Put((0, 0, 0), 64, 0x01, word),
+        1 => Step::Put((0, 0, 1), 1, 0x02, word),
+        2 => Step::Put((0, 0, 2), 64, 0x04, word),
+        _ => Step::Put((0, 0, 3), 64, 0x08, word),
+    }
+}
+
+/// Two of the four symbols come in this order, each twice.
+fn two_in_order(first: u8, second: u8) -> [Step; 9] {
+    [
+        Step::Fit(0, (65, 64, 2, 4), 0, Fit::Taken),
+        known_of_two(first, Put::Kept),
+        known_of_two(first, Put::Had),
+        Step::FirstShort(0, Some(0)),
+        known_of_two(second, Put::Kept),
+        known_of_two(second, Put::Had),
+        Step::Advance,
+        Step::UpTwo(0),
+        Step::Up(Handed::Nothing),
+    ]
+}
+
+#[test]
+fn any_two_of_four_symbols_give_the_object_in_any_order(rt: HostRuntime) -> Result<(), Fail> {
+    for order in 0..16u8 {
+        let (first, second) = (order / 4, order % 4);
+        if first != second {
+            let steps = two_in_order(first, second);
+            play(&rt, rt.alloc(), (64, 2, 4, 200, 2), &steps)?;
         }
     }
     Ok(())
