@@ -76,6 +76,11 @@ impl<R: Net + Wait + Clock + Drop> HostFabric<R> {
         })
     }
 
+    /// Waits until threads have sent all that was offered, for some seconds at most: before the process ends, and they with it.
+    pub fn drain(&self) {
+        self.udp.drain();
+    }
+
     /// What the last failed call was about. `None` before one.
     pub fn cause(&self) -> Option<&SocketCause> {
         self.udp.cause()

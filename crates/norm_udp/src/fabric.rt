@@ -86,6 +86,11 @@ impl<R: Net + Wait + Clock + Drop> UdpFabric<R> {
         self.open = Open::Nothing;
     }
 
+    /// Waits until threads have sent all that was offered, for some seconds at most: before the process ends, and they with it.
+    pub fn drain(&self) {
+        self.senders.drain(&self.rt);
+    }
+
     /// What the last failed call was about. `None` before one.
     pub fn cause(&self) -> Option<&SocketCause> {
         self.cause.as_ref()

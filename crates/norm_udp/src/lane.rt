@@ -23,6 +23,9 @@ const SLEEP: u64 = 50;
 /// How often a thread sleeps before it rests until it is woken, and a node before it gives a datagram up.
 const MOST_SLEEPS: u32 = 200;
 
+/// How often a node that ends sleeps at most while what it posted is sent.
+const MOST_DRAINING: u32 = 100_000;
+
 /// What lies in a lane: where the thread sends from here on, or a member's datagram, and on the way back what its sending failed at.
 #[derive(Drop)]
 pub(crate) struct Posted {
@@ -132,6 +135,16 @@ impl Lane {
     /// Gives back the place of what was done.
     pub(crate) fn free<R: Wait>(&self, rt: &R, place: Posted) {
         self.places.force_push(rt, place);
+    }
+
+    /// Waits until all that was posted is done, for some seconds at most.
+    pub(crate) fn drain<R: Wait + Clock>(&self, rt: &R) {
+        for _ in 0..MOST_DRAINING {
+            if self.places.len(rt) == PLACES {
+                return;
+            }
+            sleep(rt);
+        }
     }
 
     /// Waits for something to send, where so many sleeps have passed since there was any. Says how many have then.

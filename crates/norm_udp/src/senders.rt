@@ -147,6 +147,13 @@ impl Senders {
         Ok(())
     }
 
+    /// Waits until all that was offered is sent, for some seconds at most.
+    pub(crate) fn drain<R: Wait + Clock>(&self, rt: &R) {
+        for lane in &self.0 {
+            lane.drain(rt);
+        }
+    }
+
     /// Has no thread send anywhere.
     pub(crate) fn leave<R: Wait + Clock>(&self, rt: &R) {
         for lane in &self.0 {

@@ -96,6 +96,7 @@ fn main(rt: HostRuntime) -> ExitCode {
         &mut files,
         &mut clock,
     );
+    fabric.watched().drain();
     end_progress(&rt, &tally);
     say_cause(&rt, input.cause());
     say_cause(&rt, output.watched().cause());
