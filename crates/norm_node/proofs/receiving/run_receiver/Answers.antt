@@ -1,4 +1,6 @@
+use Rattle.std.proofs.lemmas.Result.{err_from_is_err_and}
 use Rattle.norm_node.specs.Shown.{outside}
+use Rattle.norm_session.proofs.CauseLemmas.{network_cause}
 use Rattle.norm_node.proofs.FaultLemmas.{if_err, on_ok}
 use Rattle.norm_node.proofs.RunLemmas.{receiver_runs, receiver_stops}
 use Rattle.norm_node.proofs.receiving.run_receiver.Goals as goal
@@ -16,3 +18,9 @@ returns-clause-stops g c =
     if_err c.turns.result
     (λ e. receiver_stops c.args.profile.now c.args.node c.in_ok-run.run' e before _ (g.F.Fabric.told c.start.new.self) c.in_ok-start.ensures.ok
     c.in_ok-run.ensures.begun) c.turns.ensures.stops
+
+pub returns-in_err-start-clause-cause : goal.returns-in_err-start-clause-cause
+returns-in_err-start-clause-cause g c =
+    let exit = err_from_is_err_and c.from_residual-in_err-start.result c.from_residual-in_err-start.ensures.1 in
+    network_cause _ (Unit {0}) c.from_residual-in_err-start.result exit.0 c.in_err-start.field-0.0 _ _ exit.1 exit.2 c.in_err-start.ensures.cause
+    (g.K.Sink.fault_count c.args.output.now) (g.D.Files.fault_count c.args.files.now)
