@@ -25,3 +25,4 @@ pub mod EntryKept
 pub mod EntryHands
 pub mod EntryMoves
 pub mod EntryBlocks
+pub mod MaskLemmas

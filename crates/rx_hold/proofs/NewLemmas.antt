@@ -27,7 +27,7 @@ zeros n = replicate n 0
 own_part : (n i j : ℕ) → j ≤ n → i ≤ j → slice_range (frees n) i j ≡ frees (j - i)
 own_part n i j within le = ap (take (j - i)) (drop-replicate i n 255) ∙ take-replicate (j - i) (n - i) 255 (omega (arith, within, le))
 
-free_ids : (c : Cut) (block : ℕ) → IsSound c → is_some c.l ≡ true → block < blocks c → block_ids c (frees (all_symbols c)) block ≡ frees (source_symbols c block)
+pub free_ids : (c : Cut) (block : ℕ) → IsSound c → is_some c.l ≡ true → block < blocks c → block_ids c (frees (all_symbols c)) block ≡ frees (source_symbols c block)
 free_ids c block sound object lt =
     own_part (all_symbols c) (start_of c block) (end_of c block) (ends_within c block sound object lt) (omega arith)
     ∙ ap (λ n. frees n) (let e : end_of c block - start_of c block ≡ source_symbols c block = omega arith in e)
@@ -39,7 +39,7 @@ all_kept (suc k) = ap (λ xs. 255 ∷ xs) (all_kept k)
 all_free : (k : ℕ) → free_places (frees k) ≡ k
 all_free k = sym (length-filter (λ (id : ℕ). id == 255) (frees k)) ∙ ap length (all_kept k) ∙ length-replicate {A = ℕ} k 255
 
-none_has : (id k : ℕ) → id < 255 → has_id id (frees k) ≡ false
+pub none_has : (id k : ℕ) → id < 255 → has_id id (frees k) ≡ false
 none_has id zero small = refl
 none_has id (suc k) small = ap (λ b. b || has_id id (frees k)) (ne_eqb 255 id (λ e. omega (arith, e, small))) ∙ none_has id k small
 

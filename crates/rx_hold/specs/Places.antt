@@ -1,7 +1,8 @@
 -- What lies in the places of a block: symbols in a row, and beside them their ids (RFC 5510 section 8).
-use Rattle.std.specs.Prelude.{ℕ, zero, suc, ◌≡◌, ◌==◌, List, [], ◌∷◌, take, drop, Bool, true, false, Option, Some, None, length}
+use Rattle.std.specs.Prelude.{ℕ, zero, suc, ◌≡◌, ◌==◌, ◌<◌, nat_lt, List, [], ◌∷◌, take, drop, Bool, true, false, Option, Some, None, length}
 use Rattle.std.specs.List.{AllPairs, count_by, list_any}
 use Rattle.gf_field.specs.Symbol.{given, encoded_symbol}
+use Rattle.norm_order.specs.Sets.{is_member}
 
 -- the symbols in a row of so many places
 unfoldable pub pieces : ℕ → ℕ → List ℕ → List (List ℕ)
@@ -19,6 +20,10 @@ AreApart ids = AllPairs (λ x y. x ≡ y → x ≡ 255) ids
 -- the symbol with an id lies there
 abbrev pub has_id : ℕ → List ℕ → Bool
 has_id id ids = list_any (λ (i : ℕ). i == id) ids
+
+-- a set has the ids that lie there
+abbrev pub IsMaskOf : List ℕ → List ℕ → Type 0
+IsMaskOf members ids = (id : ℕ) → id < 255 → is_member nat_lt id members ≡ has_id id ids
 
 -- the encoded symbol of these sources, where its id is one of these
 abbrev pub encoded_among : ℕ → List ℕ → List (List ℕ) → ℕ → Option (List ℕ)

@@ -23,13 +23,6 @@ fn put_padded(place: &mut [u8], payload: &[u8])
     back.fill(0);
 }
 
-/// Whether a symbol lies in a block.
-pub fn lies_in(ids: &[u8], symbol: u8) -> bool
-    ensures { result ≡ has_id symbol ids.now }
-{
-    ids.contains(&symbol)
-}
-
 /// The first place that is free. `None` exactly where none is.
 fn first_free(ids: &[u8]) -> Option<usize>
     ensures { MatchOption result (EachIndex ids.now (λ i. slice_index ids.now i ≢ 255)) (λ i. (i < length ids.now) × (slice_index ids.now i ≡ 255)) }

@@ -1,6 +1,6 @@
 //! The blocks of an object, one behind the other in one buffer.
 
-ghost use Rattle.std.specs.Prelude.{ℕ, ◌≡◌, ◌≢◌, ◌<◌, ◌≤◌, ◌*◌, ◌+◌, ◌^◌, IfOk, Some, is_some, true, false, length, replicate};
+ghost use Rattle.std.specs.Prelude.{ℕ, [], ◌≡◌, ◌≢◌, ◌<◌, ◌≤◌, ◌*◌, ◌+◌, ◌^◌, IfOk, Some, is_some, true, false, length, replicate};
 ghost use Rattle.fec_plan.specs.Partition.{blocks, all_symbols};
 ghost use Rattle.norm_order.specs.Symbols.{padded};
 ghost use Rattle.rx_hold.specs.Places.{AreApart, free_places, has_id};
@@ -12,6 +12,7 @@ use crate::room::Room;
 use fec_plan::Plan;
 use norm_base::Memory;
 use std::alloc::Global;
+use symbol_mask::IdMask;
 
 /// A place for each source symbol of an object, block by block.
 #[derive(Debug, Drop)]
@@ -22,6 +23,8 @@ pub struct Rows {
     pub octets: Vec<u8>,
     /// For each place the id of the symbol that lies there.
     pub ids: Vec<u8>,
+    /// For each block the ids of its places as a set.
+    pub masks: Vec<IdMask>,
 }
 
 /// The first place of a block.
@@ -39,6 +42,17 @@ fn end_of(plan: &Plan, block: u32) -> usize
     ensures { result ≡ end_of plan.now block }
 {
     start_of(plan, block) + usize::from(plan.source_len(block))
+}
+
+/// So many empty sets.
+fn empty_masks(alloc: Global, count: u32) -> Result<Vec<IdMask>, Memory>
+    ensures { IfOk result (λ masks. masks.items ≡ replicate count []) }
+{
+    let mut masks = Vec::with_capacity(alloc, count as usize)?;
+    for _ in 0..count {
+        masks.push(IdMask::new())?;
+    }
+    Ok(masks)
 }
 
 /// Puts a symbol that is new into a block that lacks so many, and solves the block that is whole by it.
@@ -97,22 +111,23 @@ impl Rows {
         let places = end_of(plan, last);
         let octets = vec![in alloc; 0; places * size]?;
         let ids = vec![in alloc; FREE; places]?;
+        let masks = empty_masks(alloc, plan.blocks())?;
         Ok(Rows {
             plan: *plan,
             octets,
             ids,
+            masks,
         })
     }
 
-    /// Whether a symbol lies in a block.
+    /// Whether a symbol lies in a block. It takes constant time.
     pub fn holds(&self, block: u32, symbol: u8) -> bool
         requires rows { AreRows self.now }
         requires block { block < blocks self.now.plan }
+        requires id { symbol < 255 }
         ensures { result ≡ has_id symbol (block_ids self.now.plan self.now.ids.items block) }
     {
-        let start = start_of(&self.plan, block);
-        let end = end_of(&self.plan, block);
-        block::lies_in(&self.ids[start..end], symbol)
+        self.masks[block as usize].contains(symbol)
     }
 
     /// Puts a symbol that is new into a block that lacks so many, and solves the block that is whole by it. It takes no memory.
@@ -147,5 +162,6 @@ impl Rows {
             payload,
             lacking,
         );
+        self.masks[block as usize].insert(symbol);
     }
 }

@@ -16,6 +16,13 @@ returns-then-block-blocks c = go c.then-block-blocks.either
         subst (λ (o : ObjectState). false ≡ holds (alone o) (position o.plan.index c.args.block c.args.symbol)) c.self.view_is
         (sym (holds_none c.self.inside c.args.block c.args.symbol (let e = both.1 in omega (arith, e))))
 
+pub holds-requires-clause-id : goal.holds-requires-clause-id
+holds-requires-clause-id c =
+    let byte = c.ranges.symbol in
+    let fits = byte.fits in
+    let other = c.if-symbol-eq-FREE.false in
+    omega (arith, fits, other)
+
 pub returns : goal.returns
 returns c =
     let byte = c.ranges.symbol in

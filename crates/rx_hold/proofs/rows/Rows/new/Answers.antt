@@ -1,9 +1,10 @@
-use Rattle.std.proofs.Common.{◌≡◌, ◌-◌, ◌*◌, ℕ, arith, ap, ◌∙◌, length, replicate}
+use Rattle.std.proofs.Common.{◌≡◌, ◌-◌, ◌*◌, ℕ, List, [], arith, ap, ◌∙◌, length, replicate}
 use Rattle.std.specs.Prelude.{is_some, true}
 use Rattle.std.proofs.lemmas.List.{length-replicate}
 use Rattle.fec_plan.specs.Partition.{Cut, IsSound, blocks, all_symbols}
 use Rattle.rx_hold.specs.Rows.{end_of}
 use Rattle.rx_hold.proofs.Cuts.{last_ends, some_blocks_of, few_octets}
+use Rattle.rx_hold.proofs.MaskLemmas.{none_came}
 use Rattle.rx_hold.proofs.rows.Rows.new.Goals as goal
 
 -- the places of all blocks
@@ -37,4 +38,7 @@ returns-clause-rows c =
       most = few_octets cut c.e.ensures.sound c.requires.object c.requires.most;
       octets = ap length (c.in_ok-octets.ensures.items_if_clones_equal (λ y e. e)) ∙ length-replicate {A = ℕ} (c.end_of-places.result * c.from-size.result) 0 ∙ same;
       ids = ap length (c.in_ok-ids.ensures.items_if_clones_equal (λ y e. e)) ∙ length-replicate {A = ℕ} c.end_of-places.result 255 ∙ all;
+      masks = ap length c.in_ok-masks.ensures ∙ length-replicate {A = List ℕ} c.blocks-2.result [] ∙ c.blocks-2.ensures.exact;
+      came = none_came cut c.in_ok-ids.ids.items c.in_ok-masks.masks.items c.blocks-2.result c.e.ensures.sound c.requires.object
+          (c.in_ok-ids.ensures.items_if_clones_equal (λ y e. e) ∙ ap (λ n. replicate n 255) all) c.in_ok-masks.ensures;
     }
