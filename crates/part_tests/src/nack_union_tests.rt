@@ -1,8 +1,11 @@
 //! Unions of one object or stream: what their rounds ask for, early requests, a front that went, and the largest object.
 
-ghost use Rattle.std.specs.Prelude.{◌≡◌, ◌∷◌, [], false, true};
+ghost use Rattle.std.specs.Prelude.{◌≡◌, ◌<◌, ◌^◌, ◌∷◌, [], false, true};
+ghost use Rattle.norm_base.specs.Settings.{defaults};
 ghost use Rattle.fec_plan.specs.Partition.{cut_of, stream_cut};
-ghost use Rattle.nack_union.specs.Kept.{admitted, MayRetire};
+ghost use Rattle.fec_plan.specs.Points.{position};
+ghost use Rattle.norm_order.specs.Shapes.{encoded_in};
+ghost use Rattle.nack_union.specs.Kept.{admitted, shape_of_marked, MayRetire};
 
 use fec_plan::{PayloadId, Plan, Position};
 use nack_union::{Closed, Union, Want};
@@ -300,14 +303,21 @@ fn a_want_answers_a_count(rt: HostRuntime) {
     play(&rt, one_block(&rt, rt.alloc()), &calls);
 }
 
+/// A symbol of the first block of the first object.
+fn symbol_at(symbol: u8) -> Position
+    ensures { result ≡ position 0 0 symbol }
+{
+    Position {
+        index: 0,
+        block: 0,
+        symbol,
+    }
+}
+
 /// A union of which a parity symbol was sent.
 fn parity_sent(rt: &impl Abort, alloc: Global) -> Union {
     let mut union = one_block(rt, alloc);
-    union.note_sent(Position {
-        index: 0,
-        block: 0,
-        symbol: 4,
-    });
+    union.note_sent(symbol_at(4));
     union
 }
 
@@ -328,6 +338,51 @@ const SENT: [Call; 9] = [
 fn what_was_sent_is_not_fresh(rt: HostRuntime) {
     let calls = SENT;
     play(&rt, parity_sent(&rt, rt.alloc()), &calls);
+}
+
+/// A union under the default profile, with an object of so many octets without info, of whose first block two symbols were sent.
+fn two_sent(rt: &impl Abort, alloc: Global, len: u64, first: u8, second: u8) -> Union
+    requires len { len < 2 ^ 48 }
+    requires first { first < encoded_in (shape_of_marked (admitted (cut_of len defaults.e defaults.b defaults.max_n) false)) 0 }
+    requires second { second < encoded_in (shape_of_marked (admitted (cut_of len defaults.e defaults.b defaults.max_n) false)) 0 }
+{
+    let profile = Profile::default();
+    let mut union = Union::new(alloc, &profile);
+    let plan = Plan::of(len, profile.e, profile.b, profile.max_n).expect(rt, "a plan");
+    match union.admit(0, &plan, false) {
+        Ok(()) => {
+            union.note_sent(symbol_at(first));
+            union.note_sent(symbol_at(second));
+            union
+        }
+        Err(Memory) => panic!(rt; "no memory for an object"),
+    }
+}
+
+/// Where both parity symbols of four source symbols were sent, a count of one asks for all of these.
+const ALL_SENT: [Call; 7] = [
+    Call::Count(0, 1),
+    Call::Closes(4, false),
+    Call::Gives((0, 0, 0)),
+    Call::Gives((0, 0, 1)),
+    Call::Gives((0, 0, 2)),
+    Call::Gives((0, 0, 3)),
+    Call::GivesNothing,
+];
+
+/// Of six source symbols a third parity symbol is left.
+const ONE_LEFT: [Call; 3] = [
+    Call::Count(0, 1),
+    Call::Closes(1, false),
+    Call::Gives((0, 0, 8)),
+];
+
+#[test]
+fn a_count_asks_for_parity_that_is_left(rt: HostRuntime) {
+    let calls = ALL_SENT;
+    play(&rt, two_sent(&rt, rt.alloc(), 4_096, 4, 5), &calls);
+    let calls = ONE_LEFT;
+    play(&rt, two_sent(&rt, rt.alloc(), 6_144, 6, 7), &calls);
 }
 
 /// A union whose first object was dropped, and whether that took a want.
