@@ -53,8 +53,12 @@ enum Call {
     TellsNothing,
 }
 
+/// Asks for a watermark, and once more where memory was refused: then the book is as it was.
 fn request(book: &mut Book, at: Option<At>, quorum: Option<u32>) -> Result<u32, MarkFault> {
-    book.request(at.map(position), quorum)
+    match book.request(at.map(position), quorum) {
+        Err(MarkFault::Memory) => book.request(at.map(position), quorum),
+        answer => answer,
+    }
 }
 
 fn strike(book: &mut Book, node: NodeId) -> Result<(), StrikeFault> {
