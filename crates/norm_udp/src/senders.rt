@@ -41,10 +41,12 @@ fn serve<R: Wait + Clock>(rt: &R, lane: &Lane) {
     let mut way = Way::Nowhere;
     let mut sleeps = 0;
     for _ in rt.forever() {
+        // Asked first: what was posted before the lane was over is seen by the look behind it.
+        let over = lane.is_over();
         if let Some(posted) = lane.next(rt) {
             way = follow(rt, lane, way, posted);
             sleeps = 0;
-        } else if lane.is_over() {
+        } else if over {
             break;
         } else {
             sleeps = lane.wait(rt, sleeps);
