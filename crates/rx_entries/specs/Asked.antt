@@ -33,9 +33,3 @@ end_at p s index = elim (plan_of s index) [
 abbrev pub end_in : Settings → Entry → Option Position
 end_in p (kinds.Object o) = None
 end_in p (kinds.Stream o) = end_of p (alone o) o.plan
-
--- What an answer of the first block from one on that is not done says: each one before it is done, and it is not; or none is
--- lacking, where there is none.
-pub record IsShortFrom (s : Holding) (plan : Plan) (from : ℕ) (first : Option ℕ) : Type 0 where
-  pub before : (block : ℕ) → from ≤ block → block < unwrap_or first (blocks (cut_of_plan plan)) → is_done s plan block ≡ true
-  pub short : IfSome first (λ block. (from ≤ block) × (block < blocks (cut_of_plan plan)) × (is_done s plan block ≡ false))

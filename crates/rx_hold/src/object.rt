@@ -15,6 +15,7 @@ ghost use Rattle.norm_receive_rules.specs.declared.words.Put.TheVariants as put;
 ghost use Rattle.rx_hold.specs.ObjectState.{empty_object, alone, offered_to, short_blocks};
 ghost use Rattle.rx_hold.specs.Offering.{is_payload};
 ghost use Rattle.rx_hold.specs.Places.{AreApart, free_places, has_id};
+ghost use Rattle.rx_stream.specs.Short.{IsShortFrom};
 ghost use Rattle.rx_hold.specs.Rows.{block_ids, coded_symbol, with_coded, start_of};
 
 use crate::block::FREE;
@@ -225,6 +226,21 @@ impl Object {
     {
         if self.short < self.rows.plan.blocks() {
             return Some(self.short);
+        }
+        None
+    }
+
+    /// The first block behind one that lacks symbols that lacks symbols too. `None` where each is done.
+    pub fn next_short(&self, block: u32) -> Option<u32>
+        requires block { block < blocks (cut_of_plan self.now.plan) }
+        requires short { is_done (alone self.now) self.now.plan block ≡ false }
+        ensures { IsShortFrom (alone self.now) self.now.plan (block + 1) result }
+    {
+        let plan = self.plan();
+        for next in block + 1..plan.blocks() {
+            if self.lacking(next) > 0 {
+                return Some(next);
+            }
         }
         None
     }

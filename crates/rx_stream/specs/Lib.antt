@@ -5,3 +5,4 @@ pub mod BlockMoves
 pub mod StreamState
 pub mod StreamSound
 pub mod StreamMoves
+pub mod Short

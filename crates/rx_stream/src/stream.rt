@@ -16,6 +16,7 @@ ghost use Rattle.norm_receive_rules.specs.Putting.{is_far, is_misfit, is_segment
 ghost use Rattle.norm_receive_rules.specs.declared.words.Put.TheVariants as put_word;
 ghost use Rattle.rx_stream.specs.BlockState.{BlockState, empty_block, source_of};
 ghost use Rattle.rx_stream.specs.StreamState.{StreamState, alone, empty_stream, IsOf};
+ghost use Rattle.rx_stream.specs.Short.{IsShortFrom};
 ghost use Rattle.rx_stream.specs.BlockMoves.{IsRow, IsSent, MayCome, with_came};
 ghost use Rattle.rx_stream.specs.StreamMoves.{MayKeep, fits_cut, handed_on, left, left_behind, next_up, passed, shape_of};
 
@@ -340,6 +341,38 @@ impl Stream {
         ensures { result ≡ is_done (alone self.now) self.now.plan block }
     {
         self.lacking(block) == 0
+    }
+
+    /// The first block from this one on that lacks symbols.
+    fn short_from(&self, from: u32) -> Option<u32>
+        requires { self.now.point.block ≤ from }
+        ensures { IsShortFrom (alone self.now) self.now.plan from result }
+    {
+        let plan = self.plan();
+        for block in from..plan.blocks() {
+            if self.lacking(block) > 0 {
+                return Some(block);
+            }
+        }
+        None
+    }
+
+    /// The first block from the next segment's on that lacks symbols. It looks at one block more than there is room for, at most.
+    pub fn first_short(&self) -> Option<u32>
+        ensures { IsShortFrom (alone self.now) self.now.plan self.now.point.block result }
+    {
+        self.short_from(self.first)
+    }
+
+    /// The first block behind one that lacks symbols that lacks symbols too. It looks at one block more than there is room for, at
+    /// most.
+    pub fn next_short(&self, block: u32) -> Option<u32>
+        requires reached { self.now.point.block ≤ block }
+        requires block { block < blocks (cut_of_plan self.now.plan) }
+        requires short { is_done (alone self.now) self.now.plan block ≡ false }
+        ensures { IsShortFrom (alone self.now) self.now.plan (block + 1) result }
+    {
+        self.short_from(block + 1)
     }
 
     /// Whether there is no room for a block.
