@@ -237,6 +237,7 @@ impl Object {
         ensures { IsShortFrom (alone self.now) self.now.plan (block + 1) result }
     {
         let plan = self.plan();
+        prove!(block < plan.blocks());
         for next in block + 1..plan.blocks() {
             if self.lacking(next) > 0 {
                 return Some(next);

@@ -372,6 +372,8 @@ impl Stream {
         requires short { is_done (alone self.now) self.now.plan block ≡ false }
         ensures { IsShortFrom (alone self.now) self.now.plan (block + 1) result }
     {
+        let plan = self.plan();
+        prove!(block < plan.blocks());
         self.short_from(block + 1)
     }
 
