@@ -20,11 +20,11 @@ use Rattle.rs_block.proofs.Words.{any_k_determine, one_word, symbol_from_formula
 
 -- ---- symbols in a row
 
-length-concat : (size : ℕ) (symbols : List (List ℕ)) → AllByRecursion (λ s. length s ≡ size) symbols → length (concat symbols) ≡ length symbols * size
+pub length-concat : (size : ℕ) (symbols : List (List ℕ)) → AllByRecursion (λ s. length s ≡ size) symbols → length (concat symbols) ≡ length symbols * size
 length-concat size [] h = omega arith
 length-concat size (s ∷ ss) h = omega (arith, length-append s (concat ss), h.0, length-concat size ss h.1, suc-mul (length ss) size)
 
-concat-at : (size i t : ℕ) (symbols : List (List ℕ)) → AllByRecursion (λ s. length s ≡ size) symbols → i < length symbols → t < size → get_or (concat symbols) (i * size + t) 0 ≡ get_or (get_or symbols i []) t 0
+pub concat-at : (size i t : ℕ) (symbols : List (List ℕ)) → AllByRecursion (λ s. length s ≡ size) symbols → i < length symbols → t < size → get_or (concat symbols) (i * size + t) 0 ≡ get_or (get_or symbols i []) t 0
 concat-at size i t [] h lt t_lt = absurd (omega arith)
 concat-at size zero t (s ∷ ss) h lt t_lt =
     ap (λ n. get_or (s ++ concat ss) n 0) (let e : 0 * size + t ≡ t = omega arith in e)
@@ -34,7 +34,7 @@ concat-at size (suc i) t (s ∷ ss) h lt t_lt =
     ∙ ap (λ n. get_or (concat ss) n 0) (let e : suc i * size + t - size ≡ i * size + t = omega (arith, suc-mul i size) in e)
     ∙ concat-at size i t ss h.1 (omega arith) t_lt
 
-concat-octets : (symbols : List (List ℕ)) → AllByRecursion AreElements symbols → (i : ℕ) → get_or (concat symbols) i 0 < 256
+pub concat-octets : (symbols : List (List ℕ)) → AllByRecursion AreElements symbols → (i : ℕ) → get_or (concat symbols) i 0 < 256
 concat-octets symbols h = each_octet (concat symbols) (octets symbols h)
   where
     joined : (xs ys : List ℕ) → AreElements xs → AreElements ys → AreElements (xs ++ ys)

@@ -5,4 +5,5 @@ pub mod Rows
 pub mod Blocks
 pub mod Functions
 pub mod InPlace
+pub mod InRows
 pub mod WeightLemmas

@@ -17,7 +17,7 @@ use gf_field::add_scaled;
 use norm_base::SYMBOL_ROOM;
 
 /// Puts a symbol into place `i` of a row.
-fn put_symbol(row: &mut [u8], size: usize, i: usize, symbol: &[u8])
+pub fn put_symbol(row: &mut [u8], size: usize, i: usize, symbol: &[u8])
     requires size { length symbol.now ≡ size }
     requires within { i * size + size ≤ length row.old }
     ensures here { (t : ℕ) → t < size → slice_index row.new (i * size + t) ≡ slice_index symbol.now t }
@@ -40,17 +40,18 @@ pub fn set_aside(ids: &[u8], row: &[u8], size: usize, aside: &mut [u8])
     }
 }
 
-/// Symbol `i` of those that came, from where it lies.
-fn came_at<'a>(ids: &[u8], row: &'a [u8], aside: &'a [u8], size: usize, i: usize) -> &'a [u8]
+/// Symbol `i` of those that came, from where it lies. `own` is what stands at its place.
+pub fn came_at<'a>(ids: &[u8], own: &'a [u8], aside: &'a [u8], size: usize, i: usize) -> &'a [u8]
     requires within { i < length ids.now }
-    requires row { length row.now ≡ length ids.now * size }
-    requires room { length row.now ≤ length aside.now }
+    requires own { length own.now ≡ size }
+    requires room { i * size + size ≤ length aside.now }
     ensures len { length result.now ≡ size }
-    ensures octets { (symbols : List ℕ) → LieIn size ids.now symbols row.now aside.now
+    ensures octets { (symbols row : List ℕ) → LieIn size ids.now symbols row aside.now
+        → ((t : ℕ) → t < size → slice_index own.now t ≡ slice_index row (i * size + t))
         → EachIndex result.now (λ t. slice_index result.now t ≡ slice_index symbols (i * size + t)) }
 {
     if usize::from(ids[i]) == i {
-        return symbol_at(row, size, i);
+        return own;
     }
     symbol_at(aside, size, i)
 }
@@ -67,7 +68,8 @@ fn add_all(coefficients: &[u8], ids: &[u8], row: &[u8], aside: &[u8], out: &mut 
 {
     let size = out.len();
     for (i, coefficient) in coefficients.iter().enumerate() {
-        add_scaled(out, came_at(ids, row, aside, size, i), *coefficient);
+        let own = symbol_at(row, size, i);
+        add_scaled(out, came_at(ids, own, aside, size, i), *coefficient);
     }
 }
 
@@ -97,7 +99,7 @@ fn recover_from(
 {
     let size = out.len();
     match position_of(ids, j) {
-        Some(i) => out.copy_from_slice(came_at(ids, row, aside, size, i)),
+        Some(i) => out.copy_from_slice(came_at(ids, symbol_at(row, size, i), aside, size, i)),
         None => {
             put_coefficients(places, weights, place_of(j), coefficients);
             out.fill(0);

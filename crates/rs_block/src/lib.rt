@@ -7,10 +7,13 @@
 
 mod encode;
 mod in_place;
+mod in_rows;
 mod interpolation;
 pub mod laws;
+mod row;
 mod solve;
 mod weights;
 
 pub use encode::Code;
+pub use row::Row;
 pub use solve::Solver;

@@ -4,14 +4,17 @@ ghost use Rattle.std.specs.Prelude.{ℕ, ◌≡◌, ◌<◌, ◌≤◌, ◌*◌,
 ghost use Rattle.norm_base.specs.Sizes.{symbol_room};
 ghost use Rattle.gf_field.specs.Power.{power};
 ghost use Rattle.gf_field.specs.Interpolation.{interpolated};
+ghost use Rattle.gf_field.specs.Symbol.{AreSymbols, solved_sources};
 ghost use Rattle.rs_block.specs.Codeword.{AreIds, AreSources};
 ghost use Rattle.rs_block.specs.Column.{column};
 ghost use Rattle.rs_block.specs.Points.{AreWeights};
 
 use crate::in_place::{put_lacking, set_aside};
+use crate::in_rows::{put_lacking_rows, set_rows_aside};
 use crate::interpolation::{
     add_combined, place_of, position_of, put_coefficients, symbol_at, weigh,
 };
+use crate::row::Row;
 use crate::weights::weigh_by_ids;
 use norm_base::Memory;
 use std::alloc::{AllocError, Global};
@@ -108,6 +111,29 @@ impl Solver {
             row,
         );
     }
+
+    /// The same for symbols in rows of their own: puts the source symbols of the block into its rows, row by row. `aside` is room
+    /// for as many symbols, behind one another. A row whose symbol is its own is not written. It takes no memory and cannot fail.
+    pub fn solve_rows(&mut self, ids: &[u8], rows: &mut [Row], aside: &mut [u8])
+        requires some { 1 ≤ length ids.now }
+        requires few { length ids.now ≤ self.old.k }
+        requires ids { AreIds (length ids.now) 255 ids.now }
+        requires rows { AreSymbols (length ids.now) self.old.size rows.old }
+        requires room { length ids.now * self.old.size ≤ length aside.old }
+        ensures sources { rows.new ≡ solved_sources self.old.size ids.now rows.old }
+        ensures symbols { AreSymbols (length ids.now) self.old.size rows.new }
+        ensures same { self.new ≡ self.old }
+    {
+        solve_in_rows(
+            ids,
+            self.size,
+            &mut self.places,
+            &mut self.weights,
+            &mut self.row,
+            aside,
+            rows,
+        );
+    }
 }
 
 /// Puts the source symbols of a block into their places of the row in which its symbols lie, with room for the places, the
@@ -146,6 +172,46 @@ fn solve_row(
         scratch,
         &mut coefficients[..count],
         row,
+    );
+}
+
+/// Puts the source symbols of a block into the rows of its symbols, with room for the places, the weights and the coefficients
+/// of at least as many symbols.
+fn solve_in_rows(
+    ids: &[u8],
+    size: usize,
+    places: &mut [u8],
+    weights: &mut [u8],
+    coefficients: &mut [u8],
+    aside: &mut [u8],
+    rows: &mut [Row],
+)
+    requires some { 1 ≤ length ids.now }
+    requires few { length ids.now ≤ 255 }
+    requires ids { AreIds (length ids.now) 255 ids.now }
+    requires short { size ≤ symbol_room }
+    requires places { length ids.now ≤ length places.old }
+    requires weights { length ids.now ≤ length weights.old }
+    requires coefficients { length ids.now ≤ length coefficients.old }
+    requires rows { AreSymbols (length ids.now) size rows.old }
+    requires room { length ids.now * size ≤ length aside.old }
+    ensures sources { rows.new ≡ solved_sources size ids.now rows.old }
+    ensures symbols { AreSymbols (length ids.now) size rows.new }
+{
+    let count = ids.len();
+    let places = &mut places[..count];
+    let weights = &mut weights[..count];
+    set_rows_aside(ids, rows, size, aside);
+    place(ids, places);
+    weigh_by_ids(ids, places, weights);
+    put_lacking_rows(
+        ids,
+        places,
+        weights,
+        size,
+        aside,
+        &mut coefficients[..count],
+        rows,
     );
 }
 

@@ -11,7 +11,7 @@ loop-i-preserved c = λ symbols lie.
     c.loop-i.out c.add_scaled.new.dst c.came_at.result.now
     c.loop-i-test.true
     (λ t lt. c.add_scaled.ensures t (omega arith))
-    (λ t lt. c.came_at.ensures.octets symbols lie t (omega arith))
+    (λ t lt. c.came_at.ensures.octets symbols c.args.row.now lie (λ u within. c.symbol_at-own.ensures.octets u (omega arith)) t (omega arith))
     (c.loop-i.invariant symbols lie)
 
 pub returns : goal.returns

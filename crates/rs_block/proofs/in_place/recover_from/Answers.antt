@@ -17,7 +17,7 @@ pub returns-in-Some : goal.returns-in-Some
 returns-in-Some c = λ symbols octets lie t lt.
     let within : t < length c.args.out.now = omega arith in
     ap (λ xs. get_or xs t 0) c.copy_from_slice.ensures.after
-    ∙ c.came_at.ensures.octets symbols lie t (omega arith)
+    ∙ c.came_at.ensures.octets symbols c.args.row.now lie (λ u below. c.symbol_at.ensures.octets u (omega arith)) t (omega arith)
     ∙ given_octet c.args.ids.now symbols (length c.args.out.now) c.in-Some.i c.args.j t c.requires.ids
     octets c.in-Some.ensures.0 c.in-Some.ensures.1
 
