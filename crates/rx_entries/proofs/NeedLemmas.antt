@@ -1,6 +1,6 @@
--- The first block of an object that is not done, and how far a stream was seen, from what a front has.
+-- The first block of an object that is not done, the next one, and how far a stream was seen, from what a front has.
 use Rattle.std.proofs.Common.{◌≡◌, ℕ, zero, suc, ◌+◌, ◌-◌, ◌<◌, ◌≤◌, ◌⊎◌, inl, inr, Bool, true, false, cond, refl, sym, ap, ◌∙◌, subst, arith, Option, Some, None, ◌∷◌}
-use Rattle.std.specs.Prelude.{IfSome, filter, nat_lt, not, option_map, slice_get, ◌==◌, ◌&&◌, ◌||◌}
+use Rattle.std.specs.Prelude.{IfSome, MatchOption, filter, nat_lt, not, option_map, slice_get, ◌==◌, ◌&&◌, ◌||◌}
 use Rattle.std.specs.List.{range_with_len}
 use Rattle.std.proofs.lemmas.Bool.{cases_lt, cases_order, eqb-true, le-ltb}
 use Rattle.fec_plan.specs.Partition.{blocks}
@@ -19,12 +19,13 @@ use Rattle.rx_hold.proofs.EntryLemmas.{AreAlikeAt, done_at}
 use Rattle.rx_hold.proofs.EntryStands.{alike_at, placed_at}
 use Rattle.rx_hold.proofs.EntryWords.{first_at_place, is_ahead}
 use Rattle.rx_hold.proofs.FirstLemmas.{first_short_says}
-use Rattle.rx_entries.specs.Asked.{IsShortFrom, seen_at, seen_in}
+use Rattle.rx_stream.specs.Short.{IsShortFrom}
+use Rattle.rx_entries.specs.Asked.{IsShort, IsShortIn, seen_at, seen_in}
 use Rattle.rx_entries.specs.Seats.{begins_at, state_of, states_of}
 use Rattle.rx_entries.specs.FrontSound.{IsFront, front_view, point_of_front}
 use Rattle.rx_entries.specs.declared.front.Front.{Front}
 use Rattle.rx_entries.specs.declared.ring.Seat.{Seat}
-use Rattle.rx_entries.proofs.ReadLemmas.{read_none, read_plan}
+use Rattle.rx_entries.proofs.ReadLemmas.{looked_up, read_none, read_plan}
 use Rattle.rx_entries.proofs.SeatLemmas.{far, placed, state_at, state_seat}
 
 -- ---- the first of a range that a filter keeps
@@ -77,35 +78,36 @@ object_short o first is = go first (first_short_says (alone o) o.plan first is)
     go (Some j) h = record { before = λ block le lt. h.before block lt; short = (omega arith, h.short.0, h.short.1) }
 
 module _ (f : Front) (s : Holding) (index : ℕ) (front : IsFront f) (stands : StandsFor (front_view f) s) (reached : f.point ≤ index) where
+  at : f.point + (index - f.point) ≡ index
+  at = omega (arith, reached)
+
+  own : (o : EntryState) → entry_at (states_of f.ring.items) (index - f.point) ≡ Some o → o.plan.index ≡ index
+  own o e = (placed_at f.profile f.point (index - f.point) (states_of f.ring.items) o (placed f.profile f.point f.ring.items front.seats) e).index ∙ at
+
+  point_is : s.point.index ≡ f.point
+  point_is = ap (λ (x : Position). x.index) stands.point
+
+  first_point : (o : EntryState) → entry_at (states_of f.ring.items) (index - f.point) ≡ Some o → index - f.point ≡ 0 → s.point.block ≡ o.point.block
+  first_point o e here =
+      ap (λ (x : Position). x.block) stands.point
+      ∙ ap (λ (found : Option EntryState). (begins_at f.point found).block) (ap (entry_at (states_of f.ring.items)) (sym here) ∙ e)
+
+  -- from the next block on, those are done that are of the object by itself
+  done_here : (o : EntryState) → entry_at (states_of f.ring.items) (index - f.point) ≡ Some o → (block : ℕ) → o.point.block ≤ block → is_done s o.plan block ≡ is_done (alone_in o) o.plan block
+  done_here o e block le =
+      done_at s (alone_in o) o.plan block
+      (subst (λ n. AreAlikeAt s (alone_in o) n block) (sym (own o e))
+      (alike_at f.profile (point_of_front f) (states_of f.ring.items) f.ups.items f.lost s (placed f.profile f.point f.ring.items front.seats) stands index (index - f.point) block o at e
+      (is_ahead s index block (omega (arith, point_is, reached)) (λ here. let b = first_point o e (omega (arith, here, point_is)) in omega (arith, b, le)))
+      (first_at_place f.profile (point_of_front f) (states_of f.ring.items) f.ups.items f.lost s (placed f.profile f.point f.ring.items front.seats) (far f.profile f.point f.ring.items front.seats) stands index
+      (index - f.point) o at e)))
+
   pub read_first : (o : EntryState) (first : Option ℕ) → entry_at (states_of f.ring.items) (index - f.point) ≡ Some o → IsShortFrom (alone_in o) o.plan o.point.block first
       → first ≡ first_short_at s index
   read_first o first e is =
-      short_is s (alone_in o) o.plan o.point.block first (early (index - f.point) refl) same is
+      short_is s (alone_in o) o.plan o.point.block first (early (index - f.point) refl) (done_here o e) is
       ∙ sym (ap (λ (found : Option Plan). elim found as (λ _. Option ℕ) [ Some plan ↦ slice_get (short_of s plan) 0 | None ↦ None ]) (read_plan f s index front stands reached o e))
     where
-      at : f.point + (index - f.point) ≡ index
-      at = omega (arith, reached)
-
-      own : o.plan.index ≡ index
-      own = (placed_at f.profile f.point (index - f.point) (states_of f.ring.items) o (placed f.profile f.point f.ring.items front.seats) e).index ∙ at
-
-      point_is : s.point.index ≡ f.point
-      point_is = ap (λ (x : Position). x.index) stands.point
-
-      first_point : index - f.point ≡ 0 → s.point.block ≡ o.point.block
-      first_point here =
-          ap (λ (x : Position). x.block) stands.point
-          ∙ ap (λ (found : Option EntryState). (begins_at f.point found).block) (ap (entry_at (states_of f.ring.items)) (sym here) ∙ e)
-
-      same : (block : ℕ) → o.point.block ≤ block → is_done s o.plan block ≡ is_done (alone_in o) o.plan block
-      same block le =
-          done_at s (alone_in o) o.plan block
-          (subst (λ n. AreAlikeAt s (alone_in o) n block) (sym own)
-          (alike_at f.profile (point_of_front f) (states_of f.ring.items) f.ups.items f.lost s (placed f.profile f.point f.ring.items front.seats) stands index (index - f.point) block o at e
-          (is_ahead s index block (omega (arith, point_is, reached)) (λ here. let b = first_point (omega (arith, here, point_is)) in omega (arith, b, le)))
-          (first_at_place f.profile (point_of_front f) (states_of f.ring.items) f.ups.items f.lost s (placed f.profile f.point f.ring.items front.seats) (far f.profile f.point f.ring.items front.seats) stands index
-          (index - f.point) o at e)))
-
       early : (i : ℕ) → index - f.point ≡ i → (block : ℕ) → block < o.point.block → is_done s o.plan block ≡ true
       early zero here block lt =
           let found : plan_of s s.point.index ≡ Some o.plan =
@@ -113,8 +115,8 @@ module _ (f : Front) (s : Holding) (index : ℕ) (front : IsFront f) (stands : S
           by (says_stream o.plan.flags) (subst (PassedBy f.profile s) found stands.passed)
         where
           by : (b : Bool) → elim b as (λ _. Type 0) [ true ↦ IsPassed f.profile s o.plan | false ↦ IsAtStart s ] → is_done s o.plan block ≡ true
-          by true is = is.done block (let b = first_point here in omega (arith, b, lt))
-          by false is = absurd (let none = is.block in let b = first_point here in omega (arith, none, b, lt))
+          by true is = is.done block (let b = first_point o e here in omega (arith, b, lt))
+          by false is = absurd (let none = is.block in let b = first_point o e here in omega (arith, none, b, lt))
       early (suc i) here block lt =
           let there = state_seat (at_place f.ring.items (index - f.point)) o (sym (state_at f.ring.items (index - f.point)) ∙ e) in
           let none = ((front.seats (index - f.point) there.0 there.1).later (omega (arith, here))).0 in
@@ -123,6 +125,20 @@ module _ (f : Front) (s : Holding) (index : ℕ) (front : IsFront f) (stands : S
 
   pub read_no_first : entry_at (states_of f.ring.items) (index - f.point) ≡ None → None ≡ first_short_at s index
   read_no_first e = sym (ap (λ (found : Option Plan). elim found as (λ _. Option ℕ) [ Some plan ↦ slice_get (short_of s plan) 0 | None ↦ None ]) (read_none f s index front stands reached e))
+
+  pub read_next : (o : EntryState) (block : ℕ) (next : Option ℕ) → entry_at (states_of f.ring.items) (index - f.point) ≡ Some o → o.point.block ≤ block
+      → IsShortFrom (alone_in o) o.plan (block + 1) next → IfSome (plan_of s index) (λ plan. IsShortFrom s plan (block + 1) next)
+  read_next o block next e le is =
+      subst (λ (found : Option Plan). IfSome found (λ plan. IsShortFrom s plan (block + 1) next)) (sym (read_plan f s index front stands reached o e)) (go next is)
+    where
+      go : (found : Option ℕ) → IsShortFrom (alone_in o) o.plan (block + 1) found → IsShortFrom s o.plan (block + 1) found
+      go None h = record { before = λ b up lt. done_here o e b (omega (arith, le, up)) ∙ h.before b up lt; short = tt }
+      go (Some j) h =
+          let short = h.short in
+          record {
+            before = λ b up lt. done_here o e b (omega (arith, le, up)) ∙ h.before b up lt;
+            short = (short.0, short.1, done_here o e j (let up = short.0 in omega (arith, le, up)) ∙ short.2);
+          }
 
   -- what stands at the place of an index
   abbrev kind_at : Option Seat → Option Entry
@@ -160,10 +176,10 @@ module _ (f : Front) (s : Holding) (index : ℕ) (front : IsFront f) (stands : S
 
 -- ---- it is not of a block that was handed up whole
 
-pub short_ahead : (f : Front) (index : ℕ) (o : EntryState) (t : Holding) (plan : Plan) (first : Option ℕ) → f.point ≤ index → entry_at (states_of f.ring.items) (index - f.point) ≡ Some o
-    → IsShortFrom t plan o.point.block first → IfSome first (λ block. point_before (point index block) (point_of (point_of_front f)) ≡ false)
-short_ahead f index o t plan None reached e short = tt
-short_ahead f index o t plan (Some block) reached e short =
+pub short_ahead : (f : Front) (index from : ℕ) (o : EntryState) (t : Holding) (plan : Plan) (first : Option ℕ) → f.point ≤ index → entry_at (states_of f.ring.items) (index - f.point) ≡ Some o
+    → o.point.block ≤ from → IsShortFrom t plan from first → IfSome first (λ block. point_before (point index block) (point_of (point_of_front f)) ≡ false)
+short_ahead f index from o t plan None reached e up short = tt
+short_ahead f index from o t plan (Some block) reached e up short =
     ap (λ b. b || (index == f.point && nat_lt block (point_of_front f).block)) (le-ltb index f.point reached) ∙ go (index == f.point) refl
   where
     go : (b : Bool) → (index == f.point) ≡ b → (b && nat_lt block (point_of_front f).block) ≡ false
@@ -173,4 +189,27 @@ short_ahead f index o t plan (Some block) reached e short =
         let is : (point_of_front f).block ≡ o.point.block =
         ap (λ (found : Option EntryState). (begins_at f.point found).block) (ap (entry_at (states_of f.ring.items)) (sym first_place) ∙ e) in
         let le = short.short.0 in
-        le-ltb block (point_of_front f).block (omega (arith, is, le))
+        le-ltb block (point_of_front f).block (omega (arith, is, le, up))
+
+pub short_behind : (t : Holding) (plan : Plan) (block : ℕ) (next : Option ℕ) → IsShortFrom t plan (block + 1) next → IfSome next (λ n. block < n)
+short_behind t plan block None short = tt
+short_behind t plan block (Some n) short = (let le = short.short.0 in omega (arith, le))
+
+-- ---- it is one of the hold's that lacks symbols
+
+pub short_in : (f : Front) (index from : ℕ) (o : EntryState) (first : Option ℕ) → IsFront f → f.point ≤ index → entry_at (states_of f.ring.items) (index - f.point) ≡ Some o
+    → o.point.block ≤ from → IsShortFrom (alone_in o) o.plan from first → IfSome first (λ block. IsShortIn (front_view f) index block)
+short_in f index from o None front reached e up short = tt
+short_in f index from o (Some block) front reached e up short =
+    subst (λ (found : Option EntryState). MatchOption found ⊥ (λ (x : EntryState). IsShort x block)) (sym (looked_up f index front reached ∙ e))
+    (record { reached = (let le = short.short.0 in omega (arith, le, up)); within = short.short.1; lacks = short.short.2 })
+
+pub short_there : (f : Front) (index block : ℕ) (o : EntryState) → IsFront f → f.point ≤ index → entry_at (states_of f.ring.items) (index - f.point) ≡ Some o
+    → IsShortIn (front_view f) index block → IsShort o block
+short_there f index block o front reached e short =
+    subst (λ (found : Option EntryState). MatchOption found ⊥ (λ (x : EntryState). IsShort x block)) (looked_up f index front reached ∙ e) short
+
+pub short_nowhere : {Q : Type 0} (f : Front) (index block : ℕ) → IsFront f → f.point ≤ index → entry_at (states_of f.ring.items) (index - f.point) ≡ None
+    → IsShortIn (front_view f) index block → Q
+short_nowhere f index block front reached e short =
+    absurd (subst (λ (found : Option EntryState). MatchOption found ⊥ (λ (x : EntryState). IsShort x block)) (looked_up f index front reached ∙ e) short)

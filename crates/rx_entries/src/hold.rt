@@ -1,6 +1,6 @@
 //! What a receiver holds of objects that it did not hand up yet.
 
-ghost use Rattle.std.specs.Prelude.{ℕ, ◌≡◌, ◌<◌, ◌≤◌, [], IfOk, IfNone, IfSome, MatchOption, OnErr, is_some, length, not, option_map, false, ⊤};
+ghost use Rattle.std.specs.Prelude.{ℕ, ◌≡◌, ◌<◌, ◌≤◌, ◌+◌, [], IfOk, IfNone, IfSome, MatchOption, OnErr, is_some, length, not, option_map, false, ⊤};
 ghost use Rattle.fec_plan.specs.Partition.{blocks};
 ghost use Rattle.fec_plan.specs.Payload.{Name};
 ghost use Rattle.fec_plan.specs.Points.{point as point_at, point_of, point_before, position, position_before};
@@ -17,7 +17,8 @@ ghost use Rattle.norm_receive_rules.specs.Taking.{up_taken};
 ghost use Rattle.norm_receive_rules.specs.declared.words.Fit.TheVariants as fit_word;
 ghost use Rattle.rx_hold.specs.EntryHold.{StandsFor};
 ghost use Rattle.rx_hold.specs.Told.{IsFirstShort, first_short_at, flags_at, missing_at, plan_at};
-ghost use Rattle.rx_entries.specs.Asked.{end_at, seen_at};
+ghost use Rattle.rx_stream.specs.Short.{IsShortFrom};
+ghost use Rattle.rx_entries.specs.Asked.{IsShortIn, end_at, seen_at};
 ghost use Rattle.rx_entries.specs.FrontSound.{IsUnused, flags_in, plan_in};
 ghost use Rattle.rx_entries.specs.Handing.{IsSettled};
 ghost use Rattle.rx_entries.specs.HoldSound.{empty_hold};
@@ -209,8 +210,21 @@ impl Hold {
         ensures exact { (s : Holding) → StandsFor self.now s → result ≡ first_short_at s index }
         ensures first { (s : Holding) → StandsFor self.now s → IfSome (plan_of s index) (λ plan. IsFirstShort s plan result) }
         ensures ahead { IfSome result (λ block. point_before (point_at index block) (point_of self.now.point) ≡ false) }
+        ensures short { IfSome result (λ block. IsShortIn self.now index block) }
     {
         self.front.first_short(index)
+    }
+
+    /// The first block of an object behind one that lacks symbols that lacks symbols too. `None` where each is done.
+    pub fn next_short(&self, index: u32, block: u32) -> Option<u32>
+        requires reached { self.now.point.index ≤ index }
+        requires short { IsShortIn self.now index block }
+        ensures next { (s : Holding) → StandsFor self.now s → IfSome (plan_of s index) (λ plan. IsShortFrom s plan (block + 1) result) }
+        ensures behind { IfSome result (λ next. block < next) }
+        ensures ahead { IfSome result (λ next. point_before (point_at index next) (point_of self.now.point) ≡ false) }
+        ensures short { IfSome result (λ next. IsShortIn self.now index next) }
+    {
+        self.front.next_short(index, block)
     }
 
     /// The greatest block that was seen of a stream. `None` exactly where no stream has the index.

@@ -1,7 +1,7 @@
 //! What a receiver asks of what it holds to say what it needs (RFC 5740 section 5.3): the first block that is not done, how far a stream
 //! was seen, and where it ends.
 
-ghost use Rattle.std.specs.Prelude.{◌≡◌, ◌≤◌, IfSome, false, option_map};
+ghost use Rattle.std.specs.Prelude.{◌≡◌, ◌≤◌, ◌<◌, ◌+◌, IfSome, false, option_map};
 ghost use Rattle.norm_base.specs.Settings.{Settings};
 ghost use Rattle.fec_plan.specs.Payload.{Name};
 ghost use Rattle.fec_plan.specs.Points.{point as point_at, point_before, point_of, position};
@@ -10,29 +10,14 @@ ghost use Rattle.norm_receive_rules.specs.Plans.{plan_of};
 ghost use Rattle.rx_hold.specs.EntryHold.{StandsFor};
 ghost use Rattle.rx_hold.specs.EntryState.{alone_in, entry_of};
 ghost use Rattle.rx_hold.specs.Told.{IsFirstShort, first_short_at};
-ghost use Rattle.rx_stream.specs.StreamState.{alone};
-ghost use Rattle.rx_entries.specs.Asked.{IsShortFrom, end_at, end_in, seen_at, seen_in};
+ghost use Rattle.rx_stream.specs.Short.{IsShortFrom};
+ghost use Rattle.rx_entries.specs.Asked.{IsShort, IsShortIn, end_at, end_in, seen_at, seen_in};
 ghost use Rattle.rx_entries.specs.FrontSound.{IsFront, front_view, point_of_front};
 
 use crate::front::Front;
 use crate::ring::entry_at;
 use fec_plan::PayloadId;
 use rx_hold::Entry;
-use rx_stream::Stream;
-
-/// The first block of a stream, from its next segment's on, that lacks symbols. It looks at one block more than there is room for, at
-/// most.
-fn first_short_of(stream: &Stream) -> Option<u32>
-    ensures { IsShortFrom (alone stream.now) stream.now.plan stream.now.point.block result }
-{
-    let plan = stream.plan();
-    for block in stream.first_block()..plan.blocks() {
-        if stream.lacking(block) > 0 {
-            return Some(block);
-        }
-    }
-    None
-}
 
 /// The first block of an object, from its next one on, that lacks symbols.
 fn first_short_in(entry: &Entry) -> Option<u32>
@@ -40,7 +25,18 @@ fn first_short_in(entry: &Entry) -> Option<u32>
 {
     match entry {
         Entry::Object(object) => object.first_short(),
-        Entry::Stream(stream) => first_short_of(stream),
+        Entry::Stream(stream) => stream.first_short(),
+    }
+}
+
+/// The first block behind one that lacks symbols that lacks symbols too.
+fn next_short_in(entry: &Entry, block: u32) -> Option<u32>
+    requires { IsShort (entry_of entry.now) block }
+    ensures { IsShortFrom (alone_in (entry_of entry.now)) (entry_of entry.now).plan (block + 1) result }
+{
+    match entry {
+        Entry::Object(object) => object.next_short(block),
+        Entry::Stream(stream) => stream.next_short(block),
     }
 }
 
@@ -73,9 +69,26 @@ impl Front {
         ensures exact { (s : Holding) → StandsFor (front_view self.now) s → result ≡ first_short_at s index }
         ensures first { (s : Holding) → StandsFor (front_view self.now) s → IfSome (plan_of s index) (λ plan. IsFirstShort s plan result) }
         ensures ahead { IfSome result (λ block. point_before (point_at index block) (point_of (point_of_front self.now)) ≡ false) }
+        ensures short { IfSome result (λ block. IsShortIn (front_view self.now) index block) }
     {
         match self.entry(index) {
             Some(entry) => first_short_in(entry),
+            None => None,
+        }
+    }
+
+    /// The first block of an object behind one that lacks symbols that lacks symbols too. `None` where each is done.
+    pub fn next_short(&self, index: u32, block: u32) -> Option<u32>
+        requires front { IsFront self.now }
+        requires reached { self.now.point ≤ index }
+        requires short { IsShortIn (front_view self.now) index block }
+        ensures next { (s : Holding) → StandsFor (front_view self.now) s → IfSome (plan_of s index) (λ plan. IsShortFrom s plan (block + 1) result) }
+        ensures behind { IfSome result (λ next. block < next) }
+        ensures ahead { IfSome result (λ next. point_before (point_at index next) (point_of (point_of_front self.now)) ≡ false) }
+        ensures short { IfSome result (λ next. IsShortIn (front_view self.now) index next) }
+    {
+        match self.entry(index) {
+            Some(entry) => next_short_in(entry, block),
             None => None,
         }
     }

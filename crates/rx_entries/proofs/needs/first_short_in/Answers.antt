@@ -1,7 +1,7 @@
 use Rattle.std.proofs.Common.{sym, subst}
 use Rattle.rx_hold.specs.EntryState.{alone_in, entry_of}
 use Rattle.rx_hold.specs.declared.entry.Entry.{Entry}
-use Rattle.rx_entries.specs.Asked.{IsShortFrom}
+use Rattle.rx_stream.specs.Short.{IsShortFrom}
 use Rattle.rx_entries.proofs.NeedLemmas.{object_short}
 use Rattle.rx_entries.proofs.needs.first_short_in.Goals as goal
 
@@ -12,4 +12,4 @@ returns-in-Object c =
 
 pub returns-in-Stream : goal.returns-in-Stream
 returns-in-Stream c =
-    subst (λ (k : Entry). IsShortFrom (alone_in (entry_of k)) (entry_of k).plan (entry_of k).point.block c.first_short_of.result) (sym c.in-Stream.is) c.first_short_of.ensures
+    subst (λ (k : Entry). IsShortFrom (alone_in (entry_of k)) (entry_of k).plan (entry_of k).point.block c.first_short-in-Stream.result) (sym c.in-Stream.is) c.first_short-in-Stream.ensures
