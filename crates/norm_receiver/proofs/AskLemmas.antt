@@ -1,7 +1,7 @@
 -- What is needed of an object, and of all objects, as a NACK goes through it.
 use Rattle.std.proofs.Common.{◌≡◌, ℕ, zero, suc, ◌+◌, ◌-◌, ◌<◌, ◌≤◌, ◌⊎◌, inl, inr, List, [], ◌∷◌, Bool, true, false, not, Option, Some, None, refl, sym, ap, subst, ◌∙◌, arith}
 use Rattle.std.specs.Prelude.{◌==◌, ◌&&◌, ◌||◌, nat_lt, is_some, IfSome, option_map}
-use Rattle.std.proofs.lemmas.Bool.{cases_lt, eqb-true, le-ltb, ltb-false}
+use Rattle.std.proofs.lemmas.Bool.{cases_lt, eqb-true}
 use Rattle.norm_base.specs.Settings.{Settings}
 use Rattle.fec_plan.specs.Partition.{Cut, blocks, source_symbols}
 use Rattle.fec_plan.specs.Points.{Point, point, point_before}
@@ -16,6 +16,7 @@ use Rattle.norm_receive_rules.specs.AllNeeds.{planned_needs, needs_of, needs_fro
 use Rattle.norm_receive_rules.specs.StreamNeeds.{last_block}
 use Rattle.norm_receive_rules.specs.declared.words.Missing.{Missing}
 use Rattle.norm_receive_rules.specs.declared.words.Missing.TheVariants as missing
+use Rattle.rx_stream.specs.Short.{IsShortFrom}
 use Rattle.rx_hold.specs.Told.{IsFirstShort, flags_at, plan_at, missing_at, missing_by}
 use Rattle.norm_receiver.specs.Walking.{Walked, walk_need, walk_where, walk_lacking, walk_on}
 use Rattle.norm_receiver.proofs.NeedLemmas.{cut_same, index_of_found, its_info, no_plan, rest_by}
@@ -67,25 +68,36 @@ counts_passed p s plan (suc k) (suc n) first v all le =
     ∙ counts_passed p s plan k n (suc first) v (λ block a lt. all block (omega arith) (omega arith)) (omega arith)
     ∙ counts_at p s plan (n - k) (suc n - suc k) (suc first + k) (first + suc k) v (omega arith) (omega arith)
 
--- from the first block that is not done
-pub counts_begun : (p : Settings) (s : Holding) (plan : Plan) (due first : ℕ) (v : Walked) → IsFirstShort s plan (Some first)
-    → walk_on p (counts_from s plan due 0) v ≡ walk_on p (counts_from s plan (due - first) first) v
-counts_begun p s plan due first v is = go (cases_lt first due)
-  where
-    go : (first < due) ⊎ (due ≤ first) → walk_on p (counts_from s plan due 0) v ≡ walk_on p (counts_from s plan (due - first) first) v
-    go (inl lt) =
-        counts_passed p s plan first due 0 v (λ block a below. is.before block (omega arith)) (omega arith)
-        ∙ counts_at p s plan (due - first) (due - first) (0 + first) first v refl (omega arith)
-    go (inr ge) =
-        counts_passed p s plan due due 0 v (λ block a below. is.before block (omega arith)) (omega arith)
-        ∙ ap (λ l. walk_on p l v) (counts_end s plan (due - due) (0 + due) (omega arith) ∙ sym (counts_end s plan (due - first) first (omega arith)))
+-- what is asked for of the blocks before this one, from a block that lacks symbols on, where there is one
+abbrev pub counts_left : Holding → Plan → ℕ → Option ℕ → Lazy Need
+counts_left s plan due short = elim short [ Some block ↦ counts_from s plan (due - block) block | None ↦ Nil ]
 
-pub counts_quiet : (p : Settings) (s : Holding) (plan : Plan) (due : ℕ) (v : Walked) → IsFirstShort s plan None → due ≤ blocks (cut_of_plan plan)
-    → walk_on p (counts_from s plan due 0) v ≡ v
-counts_quiet p s plan due v is le =
-    counts_passed p s plan due due 0 v (λ block a below. is.before block (omega arith)) (omega arith)
-    ∙ ap (λ l. walk_on p l v) (counts_end s plan (due - due) (0 + due) (omega arith))
-    ∙ walk_none p v
+-- up to the next block that lacks symbols nothing is asked for
+counts_skipped : (p : Settings) (s : Holding) (plan : Plan) (due from : ℕ) (next : Option ℕ) (v : Walked) → from ≤ due → due ≤ blocks (cut_of_plan plan) → IsShortFrom s plan from next
+    → walk_on p (counts_from s plan (due - from) from) v ≡ walk_on p (counts_left s plan due next) v
+counts_skipped p s plan due from None v le most is =
+    counts_passed p s plan (due - from) (due - from) from v (λ block a below. is.before block a (omega (arith, most, below, le))) (omega arith)
+    ∙ ap (λ l. walk_on p l v) (counts_end s plan (due - from - (due - from)) (from + (due - from)) (omega arith))
+counts_skipped p s plan due from (Some next) v le most is = go (cases_lt next due)
+  where
+    go : (next < due) ⊎ (due ≤ next) → walk_on p (counts_from s plan (due - from) from) v ≡ walk_on p (counts_from s plan (due - next) next) v
+    go (inl lt) =
+        let up : from ≤ next = is.short.0 in
+        counts_passed p s plan (next - from) (due - from) from v (λ block a below. is.before block a (omega (arith, up, below))) (omega (arith, up, lt))
+        ∙ counts_at p s plan (due - from - (next - from)) (due - next) (from + (next - from)) next v (omega (arith, up, lt)) (omega (arith, up))
+    go (inr ge) =
+        counts_passed p s plan (due - from) (due - from) from v (λ block a below. is.before block a (omega (arith, le, below, ge))) (omega arith)
+        ∙ ap (λ l. walk_on p l v) (counts_end s plan (due - from - (due - from)) (from + (due - from)) (omega arith) ∙ sym (counts_end s plan (due - next) next (omega (arith, ge))))
+
+-- from the first block that lacks symbols
+pub counts_begun : (p : Settings) (s : Holding) (plan : Plan) (due : ℕ) (first : Option ℕ) (v : Walked) → due ≤ blocks (cut_of_plan plan) → IsFirstShort s plan first
+    → walk_on p (counts_from s plan due 0) v ≡ walk_on p (counts_left s plan due first) v
+counts_begun p s plan due first v most is =
+    counts_at p s plan due (due - 0) 0 0 v (omega arith) refl ∙ counts_skipped p s plan due 0 first v (omega arith) most (go first is)
+  where
+    go : (found : Option ℕ) → IsFirstShort s plan found → IsShortFrom s plan 0 found
+    go None h = record { before = λ block le lt. h.before block lt; short = tt }
+    go (Some j) h = record { before = λ block le lt. h.before block lt; short = (omega arith, h.short.0, h.short.1) }
 
 pub counts_step : (p : Settings) (s : Holding) (plan : Plan) (due block : ℕ) (v : Walked) → block < due
     → walk_on p (counts_from s plan (due - block) block) v ≡ walk_on p (counts_from s plan (due - (block + 1)) (block + 1)) (walk_lacking p plan block (lacking s plan block) v)
@@ -94,19 +106,33 @@ counts_step p s plan due block v lt =
     ∙ counts_next p s plan (due - (block + 1)) block v
     ∙ counts_at p s plan (due - (block + 1)) (due - (block + 1)) (suc block) (block + 1) (walk_lacking p plan block (lacking s plan block) v) refl (omega arith)
 
-pub counts_over : (s : Holding) (plan : Plan) (due block : ℕ) → due ≤ block → counts_from s plan (due - block) block ≡ Nil
-counts_over s plan due block le = counts_end s plan (due - block) block (omega arith)
+-- from a block that lacks symbols to the next one
+pub counts_more : (p : Settings) (s : Holding) (plan : Plan) (due block : ℕ) (short next : Option ℕ) (v : Walked) → short ≡ Some block → block < due → due ≤ blocks (cut_of_plan plan)
+    → IsShortFrom s plan (block + 1) next
+    → walk_on p (counts_left s plan due short) v ≡ walk_on p (counts_left s plan due next) (walk_lacking p plan block (lacking s plan block) v)
+counts_more p s plan due block short next v here lt most is =
+    ap (λ found. walk_on p (counts_left s plan due found) v) here
+    ∙ counts_step p s plan due block v lt
+    ∙ counts_skipped p s plan due (block + 1) next (walk_lacking p plan block (lacking s plan block) v) (omega (arith, lt)) most is
+
+pub counts_over : (s : Holding) (plan : Plan) (due block : ℕ) (short : Option ℕ) → short ≡ Some block → due ≤ block → counts_left s plan due short ≡ Nil
+counts_over s plan due block short here le = ap (counts_left s plan due) here ∙ counts_end s plan (due - block) block (omega arith)
+
+pub counts_none : (s : Holding) (plan : Plan) (due : ℕ) (short : Option ℕ) → short ≡ None → counts_left s plan due short ≡ Nil
+counts_none s plan due short here = ap (counts_left s plan due) here
+
+-- so many blocks are left at most
+abbrev pub blocks_left : ℕ → Option ℕ → ℕ
+blocks_left due short = elim short [ Some block ↦ due - block | None ↦ 0 ]
+
+pub fewer_left : (due block : ℕ) (short next : Option ℕ) → short ≡ Some block → block < due → IfSome next (λ n. block < n) → blocks_left due next < blocks_left due short
+fewer_left due block short next here lt behind = subst (λ (o : Option ℕ). blocks_left due next < blocks_left due o) (sym here) (go next behind)
+  where
+    go : (found : Option ℕ) → IfSome found (λ n. block < n) → blocks_left due found < due - block
+    go None h = omega (arith, lt)
+    go (Some n) h = omega (arith, h, lt)
 
 -- ---- a block
-
--- the block behind one that was not handed up whole was not either
-pub further_ahead : (index block : ℕ) (at : Point) → point_before (point index block) at ≡ false → point_before (point index (block + 1)) at ≡ false
-further_ahead index block at = go (nat_lt index at.index) (index == at.index)
-  where
-    go : (earlier here : Bool) → (earlier || (here && nat_lt block at.block)) ≡ false → (earlier || (here && nat_lt (block + 1) at.block)) ≡ false
-    go true here h = h
-    go false false h = h
-    go false true h = (let le = ltb-false block at.block h in le-ltb (block + 1) at.block (omega (arith, le)))
 
 abbrev missing_of : Holding → ℕ → Option Plan → Missing
 missing_of s block found = elim found [ Some plan ↦ missing_by (lacking s plan block) | None ↦ missing.Unseen ]

@@ -101,7 +101,7 @@ impl Parts {
         }
     }
 
-    /// Asks for what is lacking of the blocks of an object before this one.
+    /// Asks for what is lacking of the blocks of an object before this one. Of these it looks at those that lack symbols, and at no other.
     pub(crate) fn ask_blocks(
         &self,
         index: u32,
@@ -120,16 +120,16 @@ impl Parts {
             → IfSome (plan_of s.holding index) (λ found. IsAt self.now.profile (is_heard s.knows.heard s.holding) asking.new out.new front
             (walk_on self.now.profile (counts_from s.holding found due 0) w)) }
     {
-        let Some(first) = self.hold.first_short(index) else {
-            return;
-        };
-        let mut block = first;
-        while block < due {
+        let mut short = self.hold.first_short(index);
+        while let Some(block) = short {
+            if block >= due {
+                return;
+            }
             if asking.full {
                 return;
             }
             self.ask_block(index, block, plan, asking, out);
-            block += 1;
+            short = self.hold.next_short(index, block);
         }
     }
 
