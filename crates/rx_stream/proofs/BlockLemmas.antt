@@ -18,7 +18,8 @@ use Rattle.norm_order.specs.Symbols.{padded}
 use Rattle.rx_stream.specs.BlockState.{Came, came_before, has_id, lacks, came_under, source_of}
 use Rattle.rx_stream.specs.BlockSound.{sent_of, part_of, came_as, coded, listed, AreWhole, BlockSound, block_of, settled}
 use Rattle.rx_stream.specs.BlockMoves.{IsPlace, IsSent, IsCoded, IsRow, MayCome, with_came}
-use Rattle.rx_stream.proofs.Solving.{AreLong, long_at, encoded_again}
+use Rattle.rs_block.proofs.InRows.{AreLong, long_at}
+use Rattle.rx_stream.proofs.Solving.{encoded_again}
 use Rattle.rx_stream.proofs.Inserting.{IsNew, listed_more, below_more, sizes_more, octets_more, whole_more, rises_more, one_more, pair_at, risen, are_ids}
 
 -- ---- ids

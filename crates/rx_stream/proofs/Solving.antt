@@ -1,142 +1,154 @@
 -- Symbols in rows, solved in place.
-use Rattle.std.proofs.Common.{◌≡◌, ◌-◌, ℕ, zero, suc, ◌+◌, ◌*◌, ◌<◌, ◌≤◌, List, [], ◌∷◌, ◌++◌, length, map, take, drop, get_or, refl, sym, ap, ◌∙◌, subst, arith}
-use Rattle.std.specs.List.{AllByRecursion, concat}
-use Rattle.std.proofs.Math.Nat.{suc-mul}
-use Rattle.std.proofs.Math.ListN.{get_or-append}
-use Rattle.std.proofs.lemmas.List.{get_or-append_right, length-append, length-map, length-take, length-drop, take_at, drop_at, append_assoc, drop-drop, take-append-drop, get_or-map, ext_get_or}
+use Rattle.std.proofs.Common.{◌≡◌, ◌≢◌, ℕ, zero, suc, ◌+◌, ◌*◌, ◌<◌, ◌≤◌, ◌⊎◌, inl, inr, List, [], ◌∷◌, length, map, get_or, refl, sym, ap, ◌∙◌, subst, arith}
+use Rattle.std.specs.List.{AllByRecursion, concat, swap}
+use Rattle.std.proofs.Math.ListN.{set}
+use Rattle.std.proofs.lemmas.Bool.{cases_order, ne_eqb}
+use Rattle.std.proofs.lemmas.Bool.Decides.{Decides-eqb}
+use Rattle.std.specs.Prelude.{IsPermutation, nat_eq}
+use Rattle.std.proofs.lemmas.List.{get_or-map, length-map, ext_get_or}
+use Rattle.std.proofs.lemmas.List.Edits.{Swapped, swap_is, swapped_from_swap, length-swap}
+use Rattle.std.proofs.lemmas.List.Sorted.{All-permutation}
+use Rattle.std.proofs.lemmas.Map.Keys.{IsDistinct-IsPermutation}
+use Rattle.std.proofs.lemmas.Map.Made.{AllPairs-from_IsDistinct}
 use Rattle.gf_field.specs.Element.{AreElements}
 use Rattle.gf_field.specs.Symbol.{AreSymbols, AreIds, encoded_symbol, solved_sources}
-use Rattle.gf_field.proofs.Places.{elements_of_octets}
+use Rattle.gf_field.proofs.Places.{distinct_from_pairs}
 use Rattle.gf_field.proofs.Symbols.{length-solved_sources, solved_sources-sizes}
-use Rattle.rs_block.specs.Codeword.{AreSources, GoesThroughAt}
-use Rattle.rs_block.proofs.Functions.{function_laws}
+use Rattle.rs_block.specs.Codeword.{GoesThroughAt}
+use Rattle.rs_block.proofs.Functions.{concat-at, function_laws, length-concat}
+use Rattle.rs_block.proofs.InRows.{AreLong, long_at, same_rows}
+use Rattle.rx_stream.specs.SameBlock.{SameBlock}
 
--- the sizes of rows
-abbrev pub AreLong : ℕ → List (List ℕ) → Type 0
-AreLong size rows = AllByRecursion (λ (row : List ℕ). length row ≡ size) rows
+-- ---- symbols that change places
 
-pub length_rows : (size : ℕ) (rows : List (List ℕ)) → AreLong size rows → length (concat rows) ≡ length rows * size
-length_rows size [] all = omega arith
-length_rows size (r ∷ rows) all = omega (arith, length-append r (concat rows), all.0, length_rows size rows all.1, suc-mul (length rows) size)
-
--- rows of one size are known by their octets
-pub same_rows : (size : ℕ) (xs ys : List (List ℕ)) → AreLong size xs → AreLong size ys → length xs ≡ length ys → concat xs ≡ concat ys → xs ≡ ys
-same_rows size [] [] a b n e = refl
-same_rows size [] (y ∷ ys) a b n e = absurd (omega arith)
-same_rows size (x ∷ xs) [] a b n e = absurd (omega arith)
-same_rows size (x ∷ xs) (y ∷ ys) a b n e =
-    let first : x ≡ y = sym (take_at x (concat xs) size a.0) ∙ ap (take size) e ∙ take_at y (concat ys) size b.0 in
-    let rest : concat xs ≡ concat ys = sym (drop_at x (concat xs) size a.0) ∙ ap (drop size) e ∙ drop_at y (concat ys) size b.0 in
-    ap (λ r. r ∷ xs) first ∙ ap (λ rs. y ∷ rs) (same_rows size xs ys a.1 b.1 (omega arith) rest)
-
-pub long_at : (size : ℕ) (rows : List (List ℕ)) → AreLong size rows → (i : ℕ) (d : List ℕ) → i < length rows → length (get_or rows i d) ≡ size
-long_at size [] all i d lt = absurd (omega arith)
-long_at size (r ∷ rows) all zero d lt = all.0
-long_at size (r ∷ rows) all (suc i) d lt = long_at size rows all.1 i d (omega arith)
-
--- ---- rows put behind one another
-
-long_take : (size i : ℕ) (rows : List (List ℕ)) → AreLong size rows → AreLong size (take i rows)
-long_take size zero rows all = tt
-long_take size (suc i) [] all = tt
-long_take size (suc i) (r ∷ rows) all = (all.0, long_take size i rows all.1)
-
-concat_more : (i : ℕ) (rows : List (List ℕ)) (d : List ℕ) → i < length rows → concat (take (suc i) rows) ≡ concat (take i rows) ++ get_or rows i d
-concat_more i [] d lt = absurd (omega arith)
-concat_more zero (r ∷ rows) d lt = append_nothing r
+flips : (x y : ℕ) → nat_eq x y ≡ nat_eq y x
+flips x y = go (cases_order x y)
   where
-    append_nothing : (xs : List ℕ) → xs ++ [] ≡ xs
-    append_nothing [] = refl
-    append_nothing (x ∷ xs) = ap (λ ys. x ∷ ys) (append_nothing xs)
-concat_more (suc i) (r ∷ rows) d lt =
-    ap (λ xs. r ++ xs) (concat_more i rows d (omega arith)) ∙ sym (append_assoc r (concat (take i rows)) (get_or rows i d))
+    go : (x ≡ y) ⊎ ((x < y) ⊎ (y < x)) → nat_eq x y ≡ nat_eq y x
+    go (inl e) = ap (λ z. nat_eq z y) e ∙ ap (λ z. nat_eq y z) (sym e)
+    go (inr (inl lt)) = ne_eqb x y (λ e. omega (arith, e, lt)) ∙ sym (ne_eqb y x (λ e. omega (arith, e, lt)))
+    go (inr (inr lt)) = ne_eqb x y (λ e. omega (arith, e, lt)) ∙ sym (ne_eqb y x (λ e. omega (arith, e, lt)))
 
-pub gathered : (size i w : ℕ) (rows : List (List ℕ)) (row octets out first : List ℕ) → AreLong size rows → i < length rows → out ≡ concat (take i rows) ++ drop (i * size) first
-    → octets ≡ row → row ≡ get_or rows i row → w ≡ size
-    → take (i * size) out ++ (octets ++ drop w (drop (i * size) out)) ≡ concat (take (i + 1) rows) ++ drop ((i + 1) * size) first
-gathered size i w rows row octets out first all lt is same read wide =
-    let front : List ℕ = concat (take i rows) in
-    let long : length front ≡ i * size = length_rows size (take i rows) (long_take size i rows all) ∙ ap (λ n. n * size) (let n : length (take i rows) ≡ i = omega (arith, length-take i rows, lt) in n) in
-    let taken : take (i * size) out ≡ front = ap (take (i * size)) is ∙ take_at front (drop (i * size) first) (i * size) long in
-    let rest : drop (i * size) out ≡ drop (i * size) first = ap (drop (i * size)) is ∙ drop_at front (drop (i * size) first) (i * size) long in
-    let behind : drop w (drop (i * size) first) ≡ drop ((i + 1) * size) first =
-    ap (λ n. drop n (drop (i * size) first)) wide ∙ drop-drop size (i * size) first ∙ ap (λ n. drop n first) (let e : i * size + size ≡ (i + 1) * size = omega (arith, suc-mul i size) in e) in
-    ap (λ xs. xs ++ (octets ++ drop w (drop (i * size) out))) taken
-    ∙ ap (λ xs. front ++ (octets ++ drop w xs)) rest
-    ∙ ap (λ xs. front ++ (octets ++ xs)) behind
-    ∙ ap (λ xs. front ++ (xs ++ drop ((i + 1) * size) first)) (same ∙ read)
-    ∙ sym (append_assoc front (get_or rows i row) (drop ((i + 1) * size) first))
-    ∙ ap (λ xs. xs ++ drop ((i + 1) * size) first) (sym (concat_more i rows row lt) ∙ ap (λ n. concat (take n rows)) (let e : suc i ≡ i + 1 = omega arith in e))
+-- where the symbol at i came to lie
+record LiesAt (k i : ℕ) (ids : List ℕ) (rows : List (List ℕ)) (moved_ids : List ℕ) (moved_rows : List (List ℕ)) : Type 0 where
+  pub place : ℕ
+  pub within : place < k
+  pub id : get_or moved_ids place 0 ≡ get_or ids i 0
+  pub row : get_or moved_rows place [] ≡ get_or rows i []
 
-pub all_gathered : (size i : ℕ) (rows : List (List ℕ)) (out first : List ℕ) → length rows ≤ i → i ≤ length rows → length first ≡ length rows * size
-    → out ≡ concat (take i rows) ++ drop (i * size) first → out ≡ concat rows
-all_gathered size i rows out first le ge long is =
-    let whole : i ≡ length rows = omega arith in
-    is ∙ ap (λ n. concat (take n rows) ++ drop (n * size) first) whole
-    ∙ ap (λ xs. concat xs ++ drop (length rows * size) first) (whole_take rows)
-    ∙ ap (λ n. concat rows ++ drop n first) (sym long)
-    ∙ ap (λ xs. concat rows ++ xs) (whole_drop first)
-    ∙ nothing (concat rows)
+-- symbols that all lie in some row still give the same sources
+moved_sources : (k size : ℕ) (ids moved_ids : List ℕ) (rows moved_rows : List (List ℕ)) → k ≤ 255 → AreIds k 255 ids → AreIds k 255 moved_ids
+    → AreSymbols k size rows → AreSymbols k size moved_rows → ((i : ℕ) → i < k → LiesAt k i ids rows moved_ids moved_rows)
+    → solved_sources size moved_ids moved_rows ≡ solved_sources size ids rows
+moved_sources k size ids moved_ids rows moved_rows most are moved_are symbols moved_symbols at =
+    same_rows size sources (solved_sources size ids rows) sizes (solved_sources-sizes k size ids rows symbols)
+    (count ∙ sym are.count ∙ sym (length-solved_sources size ids rows))
+    (function_laws.solved_only k size ids rows (concat sources) most symbols are (length-concat size sources sizes ∙ ap (λ n. n * size) count)
+    (λ t t_lt.
+    let g : GoesThroughAt k size moved_ids (concat moved_rows) (concat sources) t = function_laws.solved k size moved_ids moved_rows most moved_symbols moved_are t t_lt in
+    record {
+      word = g.word;
+      is = g.is;
+      meets = λ i lt. met g.word t t_lt g.meets i lt (at i lt);
+    }))
   where
-    whole_take : (xs : List (List ℕ)) → take (length xs) xs ≡ xs
-    whole_take [] = refl
-    whole_take (x ∷ xs) = ap (λ ys. x ∷ ys) (whole_take xs)
+    sources : List (List ℕ)
+    sources = solved_sources size moved_ids moved_rows
 
-    whole_drop : (xs : List ℕ) → drop (length xs) xs ≡ []
-    whole_drop [] = refl
-    whole_drop (x ∷ xs) = whole_drop xs
+    sizes : AreLong size (solved_sources size moved_ids moved_rows)
+    sizes = solved_sources-sizes k size moved_ids moved_rows moved_symbols
 
-    nothing : (xs : List ℕ) → xs ++ [] ≡ xs
-    nothing [] = refl
-    nothing (x ∷ xs) = ap (λ ys. x ∷ ys) (nothing xs)
+    count : length (solved_sources size moved_ids moved_rows) ≡ k
+    count = length-solved_sources size moved_ids moved_rows ∙ moved_are.count
 
--- ---- octets put into rows
+    met : (word : List ℕ) (t : ℕ) → t < size → ((i : ℕ) → i < k → get_or word (get_or moved_ids i 0) 0 ≡ get_or (concat moved_rows) (i * size + t) 0)
+        → (i : ℕ) → i < k → LiesAt k i ids rows moved_ids moved_rows → get_or word (get_or ids i 0) 0 ≡ get_or (concat rows) (i * size + t) 0
+    met word t t_lt meets i lt h =
+        ap (λ n. get_or word n 0) (sym h.id) ∙ meets h.place h.within
+        ∙ concat-at size h.place t moved_rows moved_symbols.sizes (let n = moved_symbols.count in let m = h.within in omega (arith, n, m)) t_lt
+        ∙ ap (λ s. get_or s t 0) h.row
+        ∙ sym (concat-at size i t rows symbols.sizes (let n = symbols.count in omega (arith, n, lt)) t_lt)
 
-pub scattered : (size : ℕ) (rows : List (List ℕ)) (octets : List ℕ) → AreLong size rows → length octets ≡ length rows * size
-    → ((k : ℕ) (d : List ℕ) → k < length rows → get_or rows k d ≡ take size (drop (k * size) octets)) → concat rows ≡ octets
-scattered size [] [] all long put = refl
-scattered size [] (x ∷ octets) all long put = absurd (omega arith)
-scattered size (r ∷ rows) octets all long put =
-    let first : r ≡ take size octets = put 0 [] (omega arith) ∙ ap (λ n. take size (drop n octets)) (let e : 0 * size ≡ 0 = omega arith in e) in
-    ap (λ xs. xs ++ concat rows) first
-    ∙ ap (λ xs. take size octets ++ xs)
-    (scattered size rows (drop size octets) all.1 (omega (arith, length-drop size octets, long, suc-mul (length rows) size))
-    (λ k d lt. put (suc k) d (omega arith) ∙ ap (λ n. take size (drop n octets)) (let e : suc k * size ≡ size + k * size = omega (arith, suc-mul k size) in e)
-    ∙ ap (take size) (sym (drop-drop (k * size) size octets))))
-    ∙ take-append-drop size octets
+all_at : {X : Type 0} (P : X → Type 0) (xs : List X) (i : ℕ) (d : X) → AllByRecursion P xs → i < length xs → P (get_or xs i d)
+all_at P [] i d all lt = absurd (omega arith)
+all_at P (x ∷ xs) zero d all lt = all.0
+all_at P (x ∷ xs) (suc i) d all lt = all_at P xs i d all.1 (omega arith)
 
-pub elements_rows : (rows : List (List ℕ)) → AreElements (concat rows) → AllByRecursion AreElements rows
-elements_rows [] all = tt
-elements_rows (r ∷ rows) all = (front r (concat rows) all, elements_rows rows (back r (concat rows) all))
+all_set : {X : Type 0} (P : X → Type 0) (xs : List X) (i : ℕ) (x : X) → AllByRecursion P xs → P x → AllByRecursion P (set xs i x)
+all_set P [] i x all one = tt
+all_set P (y ∷ ys) zero x all one = (one, all.1)
+all_set P (y ∷ ys) (suc i) x all one = (all.0, all_set P ys i x all.1 one)
+
+all_swapped : (P : List ℕ → Type 0) (xs : List (List ℕ)) (a b : ℕ) → AllByRecursion P xs → a < length xs → b < length xs → AllByRecursion P (swap xs a b)
+all_swapped P xs a b all a_lt b_lt =
+    subst (AllByRecursion P) (swap_is xs a b [] a_lt b_lt)
+    (all_set P (set xs a (get_or xs b [])) b (get_or xs a []) (all_set P xs a (get_or xs b []) all (all_at P xs b [] all b_lt)) (all_at P xs a [] all a_lt))
+
+-- where two that change places come to lie
+swapped_at : (k a b i : ℕ) (ids moved_ids : List ℕ) (rows moved_rows : List (List ℕ)) → a < k → b < k → i < k
+    → Swapped (λ n. get_or ids n 0) (λ n. get_or moved_ids n 0) a b → Swapped (λ n. get_or rows n []) (λ n. get_or moved_rows n []) a b
+    → LiesAt k i ids rows moved_ids moved_rows
+swapped_at k a b i ids moved_ids rows moved_rows a_lt b_lt lt p q = go (cases_order i a) (cases_order i b)
   where
-    front : (xs ys : List ℕ) → AreElements (xs ++ ys) → AreElements xs
-    front [] ys all = tt
-    front (x ∷ xs) ys all = (all.0, front xs ys all.1)
+    away : (i ≢ a) → (i ≢ b) → LiesAt k i ids rows moved_ids moved_rows
+    away x y = record { place = i; within = lt; id = p.2 i x y; row = q.2 i x y }
 
-    back : (xs ys : List ℕ) → AreElements (xs ++ ys) → AreElements ys
-    back [] ys all = all
-    back (x ∷ xs) ys all = back xs ys all.1
+    go : (i ≡ a) ⊎ ((i < a) ⊎ (a < i)) → (i ≡ b) ⊎ ((i < b) ⊎ (b < i)) → LiesAt k i ids rows moved_ids moved_rows
+    go (inl e) other = record {
+      place = b;
+      within = b_lt;
+      id = p.1 ∙ ap (λ n. get_or ids n 0) (sym e);
+      row = q.1 ∙ ap (λ n. get_or rows n []) (sym e);
+    }
+    go (inr x) (inl e) = record {
+      place = a;
+      within = a_lt;
+      id = p.0 ∙ ap (λ n. get_or ids n 0) (sym e);
+      row = q.0 ∙ ap (λ n. get_or rows n []) (sym e);
+    }
+    go (inr (inl x)) (inr (inl y)) = away (λ e. omega (arith, e, x)) (λ e. omega (arith, e, y))
+    go (inr (inl x)) (inr (inr y)) = away (λ e. omega (arith, e, x)) (λ e. omega (arith, e, y))
+    go (inr (inr x)) (inr (inl y)) = away (λ e. omega (arith, e, x)) (λ e. omega (arith, e, y))
+    go (inr (inr x)) (inr (inr y)) = away (λ e. omega (arith, e, x)) (λ e. omega (arith, e, y))
 
-pub scattered_elements : (rows : List (List ℕ)) (octets : List ℕ) → concat rows ≡ octets → ((i : ℕ) → get_or octets i 0 < 256) → AllByRecursion AreElements rows
-scattered_elements rows octets is bytes = elements_rows rows (subst AreElements (sym is) (elements_of_octets octets bytes))
+pub same_kept : (k size : ℕ) (ids : List ℕ) (rows : List (List ℕ)) → AreIds k 255 ids → AreSymbols k size rows → SameBlock k size ids rows ids rows
+same_kept k size ids rows are symbols = record { ids_are = are; symbols_are = symbols; sources = refl }
+
+pub same_on : (k size : ℕ) (ids moved_ids last_ids : List ℕ) (rows moved_rows last_rows : List (List ℕ)) → SameBlock k size ids rows moved_ids moved_rows
+    → SameBlock k size moved_ids moved_rows last_ids last_rows → SameBlock k size ids rows last_ids last_rows
+same_on k size ids moved_ids last_ids rows moved_rows last_rows p q =
+    record { ids_are = q.ids_are; symbols_are = q.symbols_are; sources = q.sources ∙ p.sources }
+
+pub same_swapped : (k size a b : ℕ) (ids moved_ids : List ℕ) (rows moved_rows : List (List ℕ)) → k ≤ 255 → AreIds k 255 ids → AreSymbols k size rows → a < k → b < k
+    → moved_ids ≡ swap ids a b → IsPermutation ids moved_ids → moved_rows ≡ swap rows a b → SameBlock k size ids rows moved_ids moved_rows
+same_swapped k size a b ids moved_ids rows moved_rows most are symbols a_lt b_lt ids_is other_order rows_is =
+    record {
+      ids_are = moved_are;
+      symbols_are = moved_symbols;
+      sources = moved_sources k size ids moved_ids rows moved_rows most are moved_are symbols moved_symbols
+          (λ i lt.
+          swapped_at k a b i ids moved_ids rows moved_rows a_lt b_lt lt
+          (swapped_from_swap ids moved_ids a b 0 (omega (arith, are.count, a_lt)) (omega (arith, are.count, b_lt)) ids_is)
+          (swapped_from_swap rows moved_rows a b [] (omega (arith, symbols.count, a_lt)) (omega (arith, symbols.count, b_lt)) rows_is));
+    }
+  where
+    moved_are : AreIds k 255 moved_ids
+    moved_are = record {
+      count = ap (λ xs. length xs) ids_is ∙ length-swap ids a b ∙ are.count;
+      different = AllPairs-from_IsDistinct Decides-eqb moved_ids
+          (IsDistinct-IsPermutation nat_eq flips ids moved_ids other_order (distinct_from_pairs ids are.different));
+      below = All-permutation (λ j. j < 255) ids moved_ids other_order are.below;
+    }
+
+    moved_symbols : AreSymbols k size moved_rows
+    moved_symbols = subst (AreSymbols k size) (sym rows_is)
+        (record {
+          count = length-swap rows a b ∙ symbols.count;
+          sizes = all_swapped (λ (s : List ℕ). length s ≡ size) rows a b symbols.sizes (omega (arith, symbols.count, a_lt)) (omega (arith, symbols.count, b_lt));
+          octets = all_swapped AreElements rows a b symbols.octets (omega (arith, symbols.count, a_lt)) (omega (arith, symbols.count, b_lt));
+        })
 
 -- ---- solving
-
-pub solved_rows : (k size : ℕ) (ids : List ℕ) (rows new : List (List ℕ)) (came out : List ℕ) → k ≤ 255 → AreIds k 255 ids → AreSymbols k size rows → came ≡ concat rows
-    → AreSources k size ids came out → length out ≡ k * size → concat new ≡ out → AreLong size new → length new ≡ k → new ≡ solved_sources size ids rows
-solved_rows k size ids rows new came out most are symbols is sources long put sizes count =
-    same_rows size new (solved_sources size ids rows) sizes (solved_sources-sizes k size ids rows symbols)
-    (count ∙ sym are.count ∙ sym (length-solved_sources size ids rows))
-    (put ∙ function_laws.solved_only k size ids rows out most symbols are long (subst (λ xs. AreSources k size ids xs out) is sources))
-
-octet_in : (size : ℕ) (xs : List (List ℕ)) (i t : ℕ) → AreLong size xs → i < length xs → t < size → get_or (concat xs) (i * size + t) 0 ≡ get_or (get_or xs i []) t 0
-octet_in size [] i t all lt t_lt = absurd (omega arith)
-octet_in size (x ∷ xs) zero t all lt t_lt =
-    ap (λ n. get_or (x ++ concat xs) n 0) (let e : 0 * size + t ≡ t = omega arith in e) ∙ get_or-append x (concat xs) 0 t (omega (arith, all.0, t_lt))
-octet_in size (x ∷ xs) (suc i) t all lt t_lt =
-    get_or-append_right x (concat xs) size (suc i * size + t) 0 all.0 (omega (arith, suc-mul i size))
-    ∙ ap (λ n. get_or (concat xs) n 0) (let e : suc i * size + t - size ≡ i * size + t = omega (arith, suc-mul i size) in e)
-    ∙ octet_in size xs i t all.1 (omega arith) t_lt
 
 -- what came is encoded of the sources that it gives
 pub encoded_again : (k size : ℕ) (ids : List ℕ) (rows : List (List ℕ)) → k ≤ 255 → AreIds k 255 ids → AreSymbols k size rows
@@ -153,7 +165,7 @@ encoded_again k size ids rows most are symbols elements =
     record {
       word = g.word;
       is = g.is;
-      octet = sym (octet_in size rows i t symbols.sizes (omega (arith, symbols.count, are.count, within)) t_lt) ∙ sym (g.meets i (omega (arith, are.count, within)));
+      octet = sym (concat-at size i t rows symbols.sizes (omega (arith, symbols.count, are.count, within)) t_lt) ∙ sym (g.meets i (omega (arith, are.count, within)));
     })))
   where
     sources : List (List ℕ)

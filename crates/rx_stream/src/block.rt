@@ -11,9 +11,10 @@ ghost use Rattle.rx_stream.specs.BlockState.{empty_block, end_in_block, has_id, 
 ghost use Rattle.rx_stream.specs.BlockMoves.{IsPlace, IsRow, MayCome, with_came};
 ghost use Rattle.rx_stream.specs.BlockSound.{settled};
 
-use crate::row::Row;
+use crate::row::{coded_row, segment_len};
 use crate::scratch::Scratch;
 use norm_base::Memory;
+use rs_block::Row;
 use std::alloc::Global;
 use std::marker::Model;
 use std::mem;
@@ -192,7 +193,7 @@ impl Block {
         ensures refused { OnErr result (self.new ≡ self.old) }
         ensures same { scratch.new ≡ scratch.old }
     {
-        let row = Row::of(alloc, payload, self.size)?;
+        let row = coded_row(alloc, payload, self.size)?;
         keep(&mut self.ids, &mut self.mask, &mut self.rows, id, row)?;
         settle(self.k, &self.ids, &mut self.rows, scratch);
         Ok(())
@@ -220,7 +221,7 @@ impl Block {
         ensures { result ≡ is_end_at most self.now symbol }
     {
         match self.row(symbol) {
-            Some(row) => row.segment_len(most) == 0,
+            Some(row) => segment_len(row, most) == 0,
             None => false,
         }
     }

@@ -12,6 +12,6 @@ mod scratch;
 mod stream;
 
 pub use crate::block::Block;
-pub use crate::row::Row;
 pub use crate::scratch::Scratch;
 pub use crate::stream::Stream;
+pub use rs_block::Row;

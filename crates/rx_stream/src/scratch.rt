@@ -1,14 +1,14 @@
 //! Room to solve blocks.
 
-ghost use Rattle.std.specs.Prelude.{ℕ, List, ◌≡◌, ◌≤◌, ◌*◌, IfOk, length};
-ghost use Rattle.std.specs.List.{AllByRecursion, concat};
+ghost use Rattle.std.specs.Prelude.{ℕ, ◌≡◌, ◌<◌, ◌≤◌, ◌*◌, IfOk, length};
+ghost use Rattle.std.specs.List.{AllByRecursion};
 ghost use Rattle.norm_base.specs.Sizes.{symbol_room};
 ghost use Rattle.gf_field.specs.Element.{AreElements};
 ghost use Rattle.gf_field.specs.Symbol.{AreIds, AreSymbols, solved_sources};
+ghost use Rattle.rx_stream.specs.SameBlock.{SameBlock};
 
-use crate::row::Row;
 use norm_base::Memory;
-use rs_block::Solver;
+use rs_block::{Row, Solver};
 use std::alloc::Global;
 use std::marker::Model;
 
@@ -16,12 +16,10 @@ use std::marker::Model;
 #[derive(Debug, Drop)]
 pub struct Scratch {
     solver: Solver,
-    /// Octets of a symbol.
-    size: usize,
-    /// The symbols that came of a block, in a row.
-    came: Vec<u8>,
-    /// Its source symbols, in a row.
-    sources: Vec<u8>,
+    /// The ids of the symbols of a block, as these lie in its rows.
+    ids: Vec<u8>,
+    /// The symbols that do not lie in their own rows, as many octets as a block has.
+    aside: Vec<u8>,
 }
 
 impl Model for Scratch {
@@ -32,55 +30,57 @@ impl Model for Scratch {
 
     ghost view = { λ s. s.solver };
 
-    ghost invariant = { λ s. ScratchSound s.solver s.size s.came.items s.sources.items };
+    ghost invariant = { λ s. ScratchSound s.solver s.ids.items s.aside.items };
 }
 
-/// Puts the octets of rows behind one another.
-fn gather(rows: &[Row], size: usize, out: &mut [u8])
-    requires sizes { AllByRecursion (λ (row : List ℕ). length row ≡ size) rows.now }
-    requires room { length out.old ≡ length rows.now * size }
-    ensures { out.new ≡ concat rows.now }
+/// Moves a symbol to its own row, where it is a source symbol, and the one that lies there to its place.
+fn move_home(ids: &mut [u8], rows: &mut [Row], from: usize)
+    requires within { from < length ids.old }
+    requires count { length rows.old ≡ length ids.old }
+    ensures { (k size : ℕ) → k ≤ 255 → AreIds k 255 ids.old → AreSymbols k size rows.old
+        → SameBlock k size ids.old rows.old ids.new rows.new }
 {
-    for (i, row) in rows.iter().enumerate() {
-        out[i * size..i * size + size].copy_from_slice(row.octets());
+    let place = usize::from(ids[from]);
+    if place >= ids.len() {
+        return;
+    }
+    ids.swap(from, place);
+    rows.swap(from, place);
+}
+
+/// Moves each source symbol to its own row, where the ids rise. From the last one on, none is moved away again.
+fn move_all_home(ids: &mut [u8], rows: &mut [Row])
+    requires { length rows.old ≡ length ids.old }
+    ensures { (k size : ℕ) → k ≤ 255 → AreIds k 255 ids.old → AreSymbols k size rows.old
+        → SameBlock k size ids.old rows.old ids.new rows.new }
+{
+    let count = ids.len();
+    for behind in 0..count {
+        move_home(ids, rows, count - 1 - behind);
     }
 }
 
-/// Puts octets that stand behind one another into rows.
-fn scatter(octets: &[u8], size: usize, rows: &mut [Row])
-    requires sizes { AllByRecursion (λ (row : List ℕ). length row ≡ size) rows.old }
-    requires room { length octets.now ≡ length rows.old * size }
-    ensures octets { concat rows.new ≡ octets.now }
-    ensures sizes { AllByRecursion (λ (row : List ℕ). length row ≡ size) rows.new }
-    ensures elements { AllByRecursion AreElements rows.new }
-{
-    for (i, row) in rows.iter_mut().enumerate() {
-        row.copy(&octets[i * size..i * size + size]);
-    }
-}
-
-/// Solves a block in the rows of k of its symbols.
-fn solve_rows(
+/// Solves a block in the rows of k of its symbols. `moved` is room for k ids.
+fn solve_in_rows(
     solver: &mut Solver,
     ids: &[u8],
     rows: &mut [Row],
-    size: usize,
-    came: &mut [u8],
-    sources: &mut [u8],
+    moved: &mut [u8],
+    aside: &mut [u8],
 )
-    requires ids { AreIds solver.old.k 255 ids.now }
-    requires rows { AreSymbols solver.old.k size rows.old }
-    requires size { size ≡ solver.old.size }
+    requires some { 1 ≤ solver.old.k }
     requires few { solver.old.k ≤ 255 }
-    requires came { length came.old ≡ solver.old.k * size }
-    requires sources { length sources.old ≡ solver.old.k * size }
-    ensures rows { rows.new ≡ solved_sources size ids.now rows.old }
+    requires ids { AreIds solver.old.k 255 ids.now }
+    requires rows { AreSymbols solver.old.k solver.old.size rows.old }
+    requires moved { length moved.old ≡ solver.old.k }
+    requires aside { length aside.old ≡ solver.old.k * solver.old.size }
+    ensures rows { rows.new ≡ solved_sources solver.old.size ids.now rows.old }
     ensures elements { AllByRecursion AreElements rows.new }
     ensures same { solver.new ≡ solver.old }
 {
-    gather(rows, size, came);
-    solver.solve(ids, came, sources);
-    scatter(sources, size, rows);
+    moved.copy_from_slice(ids);
+    move_all_home(moved, rows);
+    solver.solve_rows(moved, rows, aside);
 }
 
 impl Scratch {
@@ -98,18 +98,13 @@ impl Scratch {
         ensures { IfOk result (λ scratch. scratch ≡ record { k = k; size = size }) }
     {
         let solver = Solver::new(alloc, k, size)?;
-        let came = vec![in alloc; 0; usize::from(k) * size]?;
-        let sources = vec![in alloc; 0; usize::from(k) * size]?;
-        Ok(Scratch {
-            solver,
-            size,
-            came,
-            sources,
-        })
+        let ids = vec![in alloc; 0; usize::from(k)]?;
+        let aside = vec![in alloc; 0; usize::from(k) * size]?;
+        Ok(Scratch { solver, ids, aside })
     }
 
     /// Puts the source symbols of a block into the rows of k of its symbols, in order. `ids` are the ids of these symbols.
-    /// It takes no memory.
+    /// It takes no memory. Where the ids rise, only the rows are written whose own source symbol did not come.
     pub fn solve(&mut self, ids: &[u8], rows: &mut [Row])
         requires ids { AreIds self.old.k 255 ids.now }
         requires rows { AreSymbols self.old.k self.old.size rows.old }
@@ -117,13 +112,6 @@ impl Scratch {
         ensures elements { AllByRecursion AreElements rows.new }
         ensures same { self.new ≡ self.old }
     {
-        solve_rows(
-            &mut self.solver,
-            ids,
-            rows,
-            self.size,
-            &mut self.came,
-            &mut self.sources,
-        );
+        solve_in_rows(&mut self.solver, ids, rows, &mut self.ids, &mut self.aside);
     }
 }

@@ -21,13 +21,14 @@ ghost use Rattle.rx_stream.specs.BlockMoves.{IsRow, IsSent, MayCome, with_came};
 ghost use Rattle.rx_stream.specs.StreamMoves.{MayKeep, fits_cut, handed_on, left, left_behind, next_up, passed, shape_of};
 
 use crate::block::Block;
-use crate::row::Row;
+use crate::row::{coded_row, offset_of, segment_len, segment_of};
 use crate::scratch::Scratch;
 use fec_plan::{MOST_BLOCKS, PayloadId, Plan};
 use norm_base::{Memory, Octets};
 use norm_ext::{Fti, read_16};
 use norm_order::Up;
 use norm_receive_rules::Put;
+use rs_block::Row;
 use std::alloc::Global;
 use std::collections::VecDeque;
 use std::marker::Model;
@@ -175,7 +176,7 @@ fn spare_rows(alloc: Global, count: u8, size: usize) -> Result<Vec<Row>, Memory>
 {
     let mut rows = Vec::with_capacity(alloc, usize::from(count))?;
     for _spare in 0..count {
-        rows.push(Row::of(alloc, &[], size)?)?;
+        rows.push(coded_row(alloc, &[], size)?)?;
     }
     Ok(rows)
 }
@@ -191,7 +192,7 @@ fn copy_of(row: &Row, spares: &mut Vec<Row>, len: usize) -> Octets
 {
     let mut spare = spares.pop().unwrap();
     spare.copy(row.octets());
-    spare.segment(len)
+    segment_of(spare, len)
 }
 
 impl Stream {
@@ -515,11 +516,11 @@ impl Stream {
         let Some(row) = self.next() else {
             return None;
         };
-        let len = row.segment_len(self.plan.e());
+        let len = segment_len(row, self.plan.e());
         if len == 0 {
             return Some(Up::StreamEnd { index });
         }
-        let offset = row.offset();
+        let offset = offset_of(row);
         let bytes = self.take_segment(len);
         Some(Up::StreamBytes {
             index,

@@ -9,13 +9,13 @@ use Rattle.rx_stream.proofs.stream.Stream.hand_up.Goals as goal
 
 pub returns-clause-up : goal.returns-clause-up
 returns-clause-up c = λ p same.
-    up_bytes p c.args.self.now c.self.inside.index c.segment_len-len.result c.offset-offset.result c.in-Some.row.now c.take_segment-bytes.result same
+    up_bytes p c.args.self.now c.self.inside.index c.segment_len-len.result c.offset_of-offset.result c.in-Some.row.now c.take_segment-bytes.result same
     (ap (λ (o : StreamState). o.point.index) c.self.view_is)
     (sym c.has_its_info.ensures ∙ c.if-not-has_its_info.false)
     c.in-Some.ensures.coded
     (c.segment_len-len.ensures ∙ ap (min (number 2 0 c.in-Some.row.now)) (c.e.ensures.exact ∙ ap (λ (x : Cut). x.e) c.self.invariant.cut_is ∙ ap (λ (o : StreamState). o.plan.fti.e) c.self.view_is))
     c.if-len-eq0.false
-    c.offset-offset.ensures
+    c.offset_of-offset.ensures
     c.take_segment-bytes.ensures.octets
 
 pub returns-then-len-eq0-clause-fewer : goal.returns-then-len-eq0-clause-fewer

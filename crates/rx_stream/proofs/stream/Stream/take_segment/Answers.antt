@@ -7,7 +7,7 @@ use Rattle.fec_plan.specs.Partition.{Cut, source_symbols}
 use Rattle.norm_ext.specs.Numbers.{number}
 use Rattle.norm_receive_rules.specs.HandingUp.{next_segment}
 use Rattle.rx_stream.specs.BlockState.{BlockState, source_of}
-use Rattle.rx_stream.specs.declared.row.Row.{Row}
+use Rattle.rs_block.specs.declared.row.Row.{Row}
 use Rattle.rx_stream.specs.BlockMoves.{IsRow}
 use Rattle.rx_stream.specs.StreamMoves.{left, passed}
 use Rattle.rx_stream.specs.StreamSound.{stream_of}
