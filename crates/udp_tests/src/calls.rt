@@ -1,5 +1,5 @@
-//! Networks, driven through their trait by a table of steps, and what they answered as a text, which a test compares: so a network's own
-//! contract leads to no goal here.
+//! Networks, driven through their trait by a table of steps, and what they answered as a text, which is compared with the wanted one: so a network's
+//! own contract leads to no goal here.
 
 use norm_base::{
     DATAGRAM_ROOM, Datagram, Fabric, FabricFault, FabricKind, Given, Key, Local, NodeId, Profile,
@@ -11,15 +11,18 @@ use std::test::Fail;
 const LOWEST: u32 = 20_000;
 
 /// How many tests a process has, and how many ports each has for itself: the hub's, and its three members'.
-const TESTS: u32 = 8;
+const TESTS: u32 = 16;
 
 const PORTS: u32 = 4;
 
 /// How many processes in a row have ports of their own.
-const PROCESSES: u32 = 390;
+const PROCESSES: u32 = 199;
 
 /// How often it is looked for what has come. A look where nothing is there lasts a millisecond at most.
 const LOOKS: u32 = 16;
+
+/// Octets of the longest datagram, of which a text has one letter.
+pub(crate) const LONGEST: usize = 1_500;
 
 /// One of the three networks of a test.
 #[derive(Clone, Copy)]
@@ -29,28 +32,30 @@ pub(crate) enum At {
     Receiver,
 }
 
-/// What is done with a network: it is started with all members, with one or as the hub, a member offers octets, or what came is taken.
+/// What is done with a network: it is started with all members, with one or as the hub, or with all by a profile that names a network in
+/// memory; a member offers octets; or what came is taken.
 #[derive(Clone, Copy)]
 pub(crate) enum Step {
     StartAll,
     StartOne(u32),
     StartHub,
+    StartInMemory,
     Offer(u32, &'static [u8]),
     Take,
 }
 
 /// The hub's port in a test of a process.
-fn port_of(process: u32, test: u32) -> u32 {
-    LOWEST + PORTS * (process % PROCESSES * TESTS + test % TESTS)
+pub(crate) fn port_of(process: u32, test: u32) -> u16 {
+    (LOWEST + PORTS * (process % PROCESSES * TESTS + test % TESTS)) as u16
 }
 
-/// A profile of two receivers over a network of this kind, at the ports of this process and this test.
-pub(crate) fn profile_of(process: u32, test: u32, kind: FabricKind) -> Result<Profile, Fail> {
+/// A profile of two receivers over a network of this kind, with the hub at this port.
+fn profile_of(port: u16, kind: FabricKind) -> Option<Profile> {
     let mut given = Given::new();
     given.set(Key::Receivers, 2);
     given.set(Key::Fabric, kind as u32);
-    given.set(Key::Port, port_of(process, test));
-    Ok(Profile::of(&given).ok_or("no profile")?)
+    given.set(Key::Port, u32::from(port));
+    Profile::of(&given)
 }
 
 /// `.` for a call that was Ok, and `!` for one that failed.
@@ -61,12 +66,20 @@ fn mark(done: Result<(), FabricFault>) -> u8 {
     }
 }
 
-/// What a start of these members answered. `?` stands for a number that names no member.
-fn started<F: Fabric>(fabric: &mut F, profile: &Profile, local: Option<Local>) -> u8 {
-    match local {
-        Some(local) => mark(fabric.start(profile, local)),
-        None => b'?',
+/// A number below ten as its digit.
+fn digit(number: u64) -> u8 {
+    match u8::try_from(number) {
+        Ok(small) if small < 10 => b'0' + small,
+        _ => b'?',
     }
+}
+
+/// What a start of these members answered. `?` stands for a number that names no member, and for no profile.
+fn started<F: Fabric>(fabric: &mut F, port: u16, kind: FabricKind, local: Option<Local>) -> u8 {
+    let (Some(profile), Some(local)) = (profile_of(port, kind), local) else {
+        return b'?';
+    };
+    mark(fabric.start(&profile, local))
 }
 
 /// What an offer answered. `?` stands for a number that names no member, and for too many octets.
@@ -77,17 +90,28 @@ fn offered<F: Fabric>(fabric: &mut F, number: u32, octets: &[u8]) -> u8 {
     }
 }
 
-/// Adds what a take gives: the digit of the node and the octets.
+/// Adds a datagram: the digit of the node and the octets, or `L` for the longest ones.
+fn add_datagram(node: NodeId, octets: &[u8], all: &mut Vec<u8>) -> Result<(), FabricFault> {
+    all.push(digit(u64::from(node.number())))?;
+    if octets.len() == LONGEST {
+        all.push(b'L')?;
+    } else {
+        all.extend_from_slice(octets)?;
+    }
+    Ok(())
+}
+
+/// Adds what a take gives: a datagram, nothing, or `!` where it failed.
 fn take<F: Fabric>(
     fabric: &mut F,
     into: &mut Datagram,
     all: &mut Vec<u8>,
 ) -> Result<(), FabricFault> {
-    if let Some(node) = fabric.take(into)? {
-        all.push(b'0'.wrapping_add(u8::try_from(node.number()).unwrap_or(0)))?;
-        all.extend_from_slice(into.bytes())?;
+    match fabric.take(into) {
+        Ok(Some(node)) => add_datagram(node, into.bytes(), all),
+        Ok(None) => Ok(()),
+        Err(_) => Ok(all.push(b'!')?),
     }
-    Ok(())
 }
 
 /// Adds what is taken in a few looks, and `;`.
@@ -101,11 +125,15 @@ fn taken<F: Fabric>(alloc: Global, fabric: &mut F, all: &mut Vec<u8>) -> Result<
 }
 
 /// What a step that takes nothing answered.
-fn called<F: Fabric>(fabric: &mut F, profile: &Profile, step: Step) -> u8 {
+fn called<F: Fabric>(fabric: &mut F, port: u16, step: Step) -> u8 {
     match step {
-        Step::StartAll => started(fabric, profile, Some(Local::All)),
-        Step::StartOne(number) => started(fabric, profile, NodeId::of(number).map(Local::One)),
-        Step::StartHub => started(fabric, profile, Some(Local::Hub)),
+        Step::StartAll => started(fabric, port, FabricKind::Udp, Some(Local::All)),
+        Step::StartOne(number) => {
+            let node = NodeId::of(number);
+            started(fabric, port, FabricKind::Udp, node.map(Local::One))
+        }
+        Step::StartHub => started(fabric, port, FabricKind::Udp, Some(Local::Hub)),
+        Step::StartInMemory => started(fabric, port, FabricKind::Direct, Some(Local::All)),
         Step::Offer(number, octets) => offered(fabric, number, octets),
         Step::Take => b'?',
     }
@@ -115,20 +143,21 @@ fn called<F: Fabric>(fabric: &mut F, profile: &Profile, step: Step) -> u8 {
 fn take_step<F: Fabric>(
     alloc: Global,
     fabric: &mut F,
-    profile: &Profile,
+    port: u16,
     step: Step,
     all: &mut Vec<u8>,
 ) -> Result<(), FabricFault> {
     if matches!(step, Step::Take) {
         return taken(alloc, fabric, all);
     }
-    all.push(called(fabric, profile, step))?;
+    all.push(called(fabric, port, step))?;
     Ok(())
 }
 
-/// The networks of a test.
+/// The networks of a test, at ports from the hub's on.
 #[derive(Drop)]
 pub(crate) struct Networks<F> {
+    pub(crate) port: u16,
     pub(crate) sender: F,
     pub(crate) hub: F,
     pub(crate) receiver: F,
@@ -139,38 +168,62 @@ impl<F: Fabric> Networks<F> {
     fn take_step_at(
         &mut self,
         alloc: Global,
-        profile: &Profile,
         at: At,
         step: Step,
         all: &mut Vec<u8>,
     ) -> Result<(), FabricFault> {
         match at {
-            At::Sender => take_step(alloc, &mut self.sender, profile, step, all),
-            At::Hub => take_step(alloc, &mut self.hub, profile, step, all),
-            At::Receiver => take_step(alloc, &mut self.receiver, profile, step, all),
+            At::Sender => take_step(alloc, &mut self.sender, self.port, step, all),
+            At::Hub => take_step(alloc, &mut self.hub, self.port, step, all),
+            At::Receiver => take_step(alloc, &mut self.receiver, self.port, step, all),
         }
     }
 
-    /// What these steps answered.
-    pub(crate) fn answers(
+    /// Adds what these steps answered.
+    pub(crate) fn take_steps(
         &mut self,
         alloc: Global,
-        profile: &Profile,
         steps: &[(At, Step)],
-    ) -> Result<Vec<u8>, FabricFault> {
-        let mut all = Vec::new(alloc);
+        all: &mut Vec<u8>,
+    ) -> Result<(), FabricFault> {
         for (at, step) in steps {
-            self.take_step_at(alloc, profile, *at, *step, &mut all)?;
+            self.take_step_at(alloc, *at, *step, all)?;
         }
+        Ok(())
+    }
+
+    /// Adds a blank, and how many calls of each failed.
+    fn add_faults(&self, all: &mut Vec<u8>) -> Result<(), FabricFault> {
+        all.push(b' ')?;
+        all.push(digit(self.sender.faults()))?;
+        all.push(digit(self.hub.faults()))?;
+        all.push(digit(self.receiver.faults()))?;
+        Ok(())
+    }
+
+    /// What these steps answered, a blank, and how many calls of each failed until then.
+    fn answers(&mut self, alloc: Global, steps: &[(At, Step)]) -> Result<Vec<u8>, FabricFault> {
+        let mut all = Vec::new(alloc);
+        self.take_steps(alloc, steps, &mut all)?;
+        self.add_faults(&mut all)?;
         Ok(all)
     }
 
-    /// How many calls of each failed.
-    pub(crate) fn faults(&self) -> [u64; 3] {
-        [
-            self.sender.faults(),
-            self.hub.faults(),
-            self.receiver.faults(),
-        ]
+    /// Compares what these steps answered, and how many calls of each failed until then, with what is wanted.
+    ///
+    /// # Errors
+    ///
+    /// What they answered, where that is something else.
+    pub(crate) fn compare(
+        &mut self,
+        alloc: Global,
+        steps: &[(At, Step)],
+        wanted: &[u8],
+    ) -> Result<(), Fail> {
+        let all = self.answers(alloc, steps)?;
+        if all.as_slice() == wanted {
+            return Ok(());
+        }
+        Err(Fail::new(all.as_slice().escape_ascii()))
     }
 }

@@ -1,8 +1,8 @@
 //! The network that a profile names, where that is of sockets: what is asked of sockets is asked of it.
 
-use crate::calls::{At, Networks, Step, profile_of};
-use crate::sockets::{ALL, ALL_ANSWERS, EACH, EACH_ANSWERS};
-use norm_base::{FabricKind, Memory};
+use crate::calls::{At, Networks, Step, port_of};
+use crate::sockets::{EACH, EACH_ANSWERS};
+use norm_base::Memory;
 use norm_host::HostFabric;
 use std::alloc::Global;
 use std::net::Net;
@@ -11,42 +11,54 @@ use std::sync::Wait;
 use std::test::Fail;
 use std::time::Clock;
 
+/// All members in one process, beside another, which gets their ports once the next profile of the first one names a network in memory.
+const ALL_AND_NEXT: [(At, Step); 7] = [
+    (At::Sender, Step::StartAll),
+    (At::Hub, Step::StartAll),
+    (At::Sender, Step::Offer(1, b"a")),
+    (At::Sender, Step::Offer(3, b"b")),
+    (At::Sender, Step::Take),
+    (At::Sender, Step::StartInMemory),
+    (At::Hub, Step::StartAll),
+];
+
+/// What they answer.
+const ALL_AND_NEXT_ANSWERS: &[u8] = b".!..1b2a2b3a;.. 010";
+
 /// Three networks that no profile named yet.
-fn networks<R: Net + Wait + Clock + Copy + Drop>(
+pub(crate) fn networks<R: Net + Wait + Clock + Copy + Drop>(
     alloc: Global,
     rt: R,
+    port: u16,
 ) -> Result<Networks<HostFabric<R>>, Memory> {
     Ok(Networks {
+        port,
         sender: HostFabric::new(alloc, rt)?,
         hub: HostFabric::new(alloc, rt)?,
         receiver: HostFabric::new(alloc, rt)?,
     })
 }
 
-/// One has the ports until the next profile names a network in memory.
+/// Compares what the networks of profiles answer to these steps with what is wanted.
+fn compare<R: Net + Wait + Clock + Copy + Drop>(
+    alloc: Global,
+    rt: R,
+    port: u16,
+    steps: &[(At, Step)],
+    wanted: &[u8],
+) -> Result<(), Fail> {
+    let mut networks = networks(alloc, rt, port)?;
+    networks.compare(alloc, steps, wanted)
+}
+
 #[test]
 fn all_members_in_one_process_by_a_profile(rt: HostRuntime) -> Result<(), Fail> {
-    let alloc = rt.alloc();
-    let number = process::id(rt.process());
-    let profile = profile_of(number, 2, FabricKind::Udp)?;
-    let in_memory = profile_of(number, 2, FabricKind::Direct)?;
-    let mut networks = networks(alloc, rt)?;
-    let all = networks.answers(alloc, &profile, &ALL)?;
-    assert!(rt; all.as_slice() == ALL_ANSWERS);
-    assert!(rt; networks.faults() == [0, 1, 0]);
-    networks.answers(alloc, &in_memory, &[(At::Sender, Step::StartAll)])?;
-    let freed = networks.answers(alloc, &profile, &[(At::Hub, Step::StartAll)])?;
-    assert!(rt; freed.as_slice() == b".".as_slice());
-    Ok(())
+    let port = port_of(process::id(rt.process()), 2);
+    compare(rt.alloc(), rt, port, &ALL_AND_NEXT, ALL_AND_NEXT_ANSWERS)
 }
 
 #[test]
 fn each_member_in_its_own_by_a_profile(rt: HostRuntime) -> Result<(), Fail> {
-    let alloc = rt.alloc();
-    let profile = profile_of(process::id(rt.process()), 3, FabricKind::Udp)?;
-    let mut networks = networks(alloc, rt)?;
-    let all = networks.answers(alloc, &profile, &EACH)?;
-    assert!(rt; all.as_slice() == EACH_ANSWERS);
-    assert!(rt; networks.faults() == [0, 0, 0]);
-    Ok(())
+    let port = port_of(process::id(rt.process()), 3);
+    compare(rt.alloc(), rt, port, &EACH, EACH_ANSWERS)
 }

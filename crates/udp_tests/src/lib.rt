@@ -3,7 +3,11 @@
 #![tactic(auto)]
 
 #[cfg(test)]
+mod broken;
+#[cfg(test)]
 mod calls;
+#[cfg(test)]
+mod causes;
 #[cfg(test)]
 mod hosted;
 #[cfg(test)]

@@ -1,17 +1,18 @@
 //! Sockets of members, in one process and one for each.
 
-use crate::calls::{At, Networks, Step, profile_of};
-use norm_base::{FabricKind, Memory};
+use crate::calls::{At, Networks, Step, port_of};
+use norm_base::Memory;
 use norm_udp::{Senders, UdpFabric};
 use std::alloc::Global;
 use std::net::Net;
 use std::process;
 use std::sync::Wait;
 use std::test::Fail;
+use std::thread::Threads;
 use std::time::Clock;
 
 /// All members in one process, beside another that comes too late for their ports.
-pub(crate) const ALL: [(At, Step); 5] = [
+const ALL: [(At, Step); 5] = [
     (At::Sender, Step::StartAll),
     (At::Hub, Step::StartAll),
     (At::Sender, Step::Offer(1, b"a")),
@@ -20,7 +21,7 @@ pub(crate) const ALL: [(At, Step); 5] = [
 ];
 
 /// What they answer.
-pub(crate) const ALL_ANSWERS: &[u8] = b".!..1b2a2b3a;";
+const ALL_ANSWERS: &[u8] = b".!..1b2a2b3a; 010";
 
 /// A sender, the hub and a receiver; the other receiver is not there.
 pub(crate) const EACH: [(At, Step); 13] = [
@@ -40,64 +41,62 @@ pub(crate) const EACH: [(At, Step); 13] = [
 ];
 
 /// What they answer.
-pub(crate) const EACH_ANSWERS: &[u8] = b"..;...1hello;.2hello;;.;1back;";
+pub(crate) const EACH_ANSWERS: &[u8] = b"..;...1hello;.2hello;;.;1back; 000";
 
 /// Three networks of sockets, not yet started.
 pub(crate) fn networks<R: Net + Wait + Clock + Copy + Drop>(
     alloc: Global,
     rt: R,
+    port: u16,
 ) -> Result<Networks<UdpFabric<R>>, Memory> {
     Ok(Networks {
+        port,
         sender: UdpFabric::new(alloc, rt)?,
         hub: UdpFabric::new(alloc, rt)?,
         receiver: UdpFabric::new(alloc, rt)?,
     })
 }
 
+/// Compares what sockets answer to these steps with what is wanted.
+fn compare<R: Net + Wait + Clock + Copy + Drop>(
+    alloc: Global,
+    rt: R,
+    port: u16,
+    steps: &[(At, Step)],
+    wanted: &[u8],
+) -> Result<(), Fail> {
+    let mut networks = networks(alloc, rt, port)?;
+    networks.compare(alloc, steps, wanted)
+}
+
+/// Compares the same where threads send for the hub, and for the sender.
+fn compare_with_threads<R: Net + Threads + Wait + Clock + Copy + Send + Drop + 'static>(
+    alloc: Global,
+    rt: R,
+    port: u16,
+    steps: &[(At, Step)],
+    wanted: &[u8],
+) -> Result<(), Fail> {
+    let mut networks = networks(alloc, rt, port)?;
+    networks.hub.send_by(Senders::start(alloc, rt)?);
+    networks.sender.send_by(Senders::start(alloc, rt)?);
+    networks.compare(alloc, steps, wanted)
+}
+
 #[test]
 fn all_members_in_one_process(rt: HostRuntime) -> Result<(), Fail> {
-    let alloc = rt.alloc();
-    let profile = profile_of(process::id(rt.process()), 0, FabricKind::Udp)?;
-    let mut networks = networks(alloc, rt)?;
-    let all = networks.answers(alloc, &profile, &ALL)?;
-    assert!(rt; all.as_slice() == ALL_ANSWERS);
-    assert!(rt; networks.faults() == [0, 1, 0]);
-    Ok(())
+    let port = port_of(process::id(rt.process()), 0);
+    compare(rt.alloc(), rt, port, &ALL, ALL_ANSWERS)
 }
 
 #[test]
 fn each_member_in_its_own(rt: HostRuntime) -> Result<(), Fail> {
-    let alloc = rt.alloc();
-    let profile = profile_of(process::id(rt.process()), 1, FabricKind::Udp)?;
-    let mut networks = networks(alloc, rt)?;
-    let all = networks.answers(alloc, &profile, &EACH)?;
-    assert!(rt; all.as_slice() == EACH_ANSWERS);
-    assert!(rt; networks.faults() == [0, 0, 0]);
-    Ok(())
-}
-
-/// Has threads send for the hub, and for the sender.
-fn share<R: Net + Wait + Clock + Drop>(
-    networks: &mut Networks<UdpFabric<R>>,
-    hub: Senders,
-    sender: Senders,
-) {
-    networks.hub.send_by(hub);
-    networks.sender.send_by(sender);
+    let port = port_of(process::id(rt.process()), 1);
+    compare(rt.alloc(), rt, port, &EACH, EACH_ANSWERS)
 }
 
 #[test]
 fn each_member_in_its_own_with_threads_that_send(rt: HostRuntime) -> Result<(), Fail> {
-    let alloc = rt.alloc();
-    let profile = profile_of(process::id(rt.process()), 7, FabricKind::Udp)?;
-    let mut networks = networks(alloc, rt)?;
-    share(
-        &mut networks,
-        Senders::start(alloc, rt)?,
-        Senders::start(alloc, rt)?,
-    );
-    let all = networks.answers(alloc, &profile, &EACH)?;
-    assert!(rt; all.as_slice() == EACH_ANSWERS);
-    assert!(rt; networks.faults() == [0, 0, 0]);
-    Ok(())
+    let port = port_of(process::id(rt.process()), 7);
+    compare_with_threads(rt.alloc(), rt, port, &EACH, EACH_ANSWERS)
 }

@@ -1,0 +1,179 @@
+//! What a network of sockets says of a call that failed: what was bound, connected to, sent to or received at, and why.
+
+use crate::broken::{Broken, Wrong};
+use crate::calls::{At, Networks, Step, port_of};
+use crate::{hosted, sockets};
+use norm_base::Fabric;
+use norm_host::HostFabric;
+use norm_udp::{SocketCause, UdpFabric};
+use std::alloc::Global;
+use std::net::Net;
+use std::process;
+use std::sync::Wait;
+use std::test::Fail;
+use std::time::Clock;
+
+/// A network that says what its last failed call was about.
+trait Says: Fabric {
+    fn last_cause(&self) -> Option<&SocketCause>;
+}
+
+impl<R: Net + Wait + Clock + Drop> Says for UdpFabric<R> {
+    fn last_cause(&self) -> Option<&SocketCause> {
+        self.cause()
+    }
+}
+
+impl<R: Net + Wait + Clock + Drop> Says for HostFabric<R> {
+    fn last_cause(&self) -> Option<&SocketCause> {
+        self.cause()
+    }
+}
+
+/// A call of the receiver's network that fails, and what is said of it: what stands before the address, the address's port, counted from
+/// the hub's, and why.
+type Row = (Step, &'static str, u16, &'static str);
+
+/// The system's words for an address that another socket has (EADDRINUSE).
+const IN_USE: &str = "Address already in use (os error 98)";
+
+/// Those for an address of another machine (EADDRNOTAVAIL).
+const ELSEWHERE: &str = "Cannot assign requested address (os error 99)";
+
+/// Those for a call with what it does not take (EINVAL).
+const INVALID: &str = "Invalid argument (os error 22)";
+
+/// Those for a call that a socket does not know (EOPNOTSUPP).
+const UNKNOWN: &str = "Operation not supported (os error 95)";
+
+/// Where other networks have all ports. The profile's members are 1, 2 and 3.
+const TAKEN: [Row; 4] = [
+    (Step::StartAll, "cannot bind", 1, IN_USE),
+    (Step::StartHub, "cannot bind", 0, IN_USE),
+    (Step::StartOne(2), "cannot bind", 2, IN_USE),
+    (Step::StartOne(4), "cannot bind", 0, "address not available"),
+];
+
+/// Where the address is not this machine's.
+const FOREIGN: [Row; 3] = [
+    (Step::StartAll, "cannot bind", 1, ELSEWHERE),
+    (Step::StartHub, "cannot bind", 0, ELSEWHERE),
+    (Step::StartOne(3), "cannot bind", 3, ELSEWHERE),
+];
+
+/// Where a hub's sockets are of another kind.
+const UNCONNECTED: [Row; 1] = [(Step::StartHub, "cannot connect to", 2, INVALID)];
+
+/// Where those of receiver 2 are.
+const UNSENT: [Row; 2] = [
+    (Step::Offer(2, b"lost"), "cannot send to", 0, UNKNOWN),
+    (Step::Take, "cannot receive at", 2, INVALID),
+];
+
+/// Fails, with what is said, where that is not the sentence of the row.
+fn compare_said(
+    alloc: Global,
+    port: u16,
+    cause: Option<&SocketCause>,
+    row: Row,
+) -> Result<(), Fail> {
+    let Some(cause) = cause else {
+        return Err(Fail::new("no cause"));
+    };
+    let (_, what, place, why) = row;
+    let at = port.wrapping_add(place);
+    let wanted = format!(in alloc; "{what} 127.0.0.1:{at}: {why}")?;
+    let said = format!(in alloc; "{cause}")?;
+    if said.as_str() == wanted.as_str() {
+        return Ok(());
+    }
+    Err(Fail::new(said))
+}
+
+/// Compares what the receiver's network says of each of these calls, which come behind these steps.
+fn compare<F: Says + Drop>(
+    alloc: Global,
+    networks: Networks<F>,
+    steps: &[(At, Step)],
+    rows: &[Row],
+) -> Result<(), Fail> {
+    let mut networks = networks;
+    let mut all = Vec::new(alloc);
+    networks.take_steps(alloc, steps, &mut all)?;
+    for row in rows {
+        networks.take_steps(alloc, &[(At::Receiver, row.0)], &mut all)?;
+        compare_said(alloc, networks.port, networks.receiver.last_cause(), *row)?;
+    }
+    Ok(())
+}
+
+/// Compares what networks of sockets say.
+fn compare_sockets<R: Net + Wait + Clock + Copy + Drop>(
+    alloc: Global,
+    rt: R,
+    port: u16,
+    steps: &[(At, Step)],
+    rows: &[Row],
+) -> Result<(), Fail> {
+    compare(alloc, sockets::networks(alloc, rt, port)?, steps, rows)
+}
+
+/// Compares what the networks of profiles say.
+fn compare_hosted<R: Net + Wait + Clock + Copy + Drop>(
+    alloc: Global,
+    rt: R,
+    port: u16,
+    steps: &[(At, Step)],
+    rows: &[Row],
+) -> Result<(), Fail> {
+    compare(alloc, hosted::networks(alloc, rt, port)?, steps, rows)
+}
+
+#[test]
+fn a_port_that_is_taken(rt: HostRuntime) -> Result<(), Fail> {
+    let port = port_of(process::id(rt.process()), 8);
+    let holders = [(At::Sender, Step::StartAll), (At::Hub, Step::StartHub)];
+    compare_sockets(rt.alloc(), rt, port, &holders, &TAKEN)
+}
+
+#[test]
+fn an_address_that_is_elsewhere(rt: HostRuntime) -> Result<(), Fail> {
+    let port = port_of(process::id(rt.process()), 9);
+    let broken = Broken {
+        rt,
+        wrong: Wrong::Address,
+    };
+    compare_sockets(rt.alloc(), broken, port, &[], &FOREIGN)
+}
+
+#[test]
+fn what_cannot_be_connected(rt: HostRuntime) -> Result<(), Fail> {
+    let port = port_of(process::id(rt.process()), 10);
+    let broken = Broken {
+        rt,
+        wrong: Wrong::Kind,
+    };
+    compare_sockets(rt.alloc(), broken, port, &[], &UNCONNECTED)
+}
+
+#[test]
+fn what_cannot_be_sent_or_received(rt: HostRuntime) -> Result<(), Fail> {
+    let port = port_of(process::id(rt.process()), 11);
+    let broken = Broken {
+        rt,
+        wrong: Wrong::Kind,
+    };
+    let start = [(At::Receiver, Step::StartOne(2))];
+    compare_sockets(rt.alloc(), broken, port, &start, &UNSENT)
+}
+
+#[test]
+fn what_cannot_be_sent_or_received_by_a_profile(rt: HostRuntime) -> Result<(), Fail> {
+    let port = port_of(process::id(rt.process()), 12);
+    let broken = Broken {
+        rt,
+        wrong: Wrong::Kind,
+    };
+    let start = [(At::Receiver, Step::StartOne(2))];
+    compare_hosted(rt.alloc(), broken, port, &start, &UNSENT)
+}
