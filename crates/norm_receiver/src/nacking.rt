@@ -8,6 +8,7 @@ ghost use Rattle.norm_receive_rules.specs.Plans.{lacking, plan_of};
 ghost use Rattle.norm_receive_rules.specs.Needs.{Object, ObjectInfo, counts_from, object_needs};
 ghost use Rattle.norm_receive_rules.specs.AllNeeds.{needs, needs_of};
 ghost use Rattle.norm_receive_rules.specs.HeardNeeds.{is_heard};
+ghost use Rattle.rx_entries.specs.Asked.{IsShortIn};
 ghost use Rattle.norm_receiver.specs.ReceiverKept.{Stands};
 ghost use Rattle.norm_receiver.specs.Walking.{Walked, walk_where, walk_lacking, walk_on, HasRoom, IsAt};
 ghost use Rattle.norm_receiver.specs.PlanOf.{IsPlanOf};
@@ -65,7 +66,7 @@ impl Parts {
         asking.add(&self.profile, Need::ObjectInfo { index }, heard, out);
     }
 
-    /// Asks for what is lacking of a block that was not handed up whole.
+    /// Asks for what is lacking of a block that lacks symbols.
     fn ask_block(
         &self,
         index: u32,
@@ -77,6 +78,7 @@ impl Parts {
         requires ahead { point_before (point_at index block) (point_of self.now.hold.point) ≡ false }
         requires plan { IsPlanOf self.now.hold index plan.now }
         requires block { block < blocks plan.now }
+        requires short { IsShortIn self.now.hold index block }
         requires room { HasRoom asking.old.writer out.old }
         ensures room { HasRoom asking.new.writer out.new }
         ensures walked { (s : ReceiverState) (front : List ℕ) (w : Walked) → Stands (kept_of self.now) s

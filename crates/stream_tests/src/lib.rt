@@ -10,3 +10,5 @@ mod rx_entries_tests;
 mod rx_objects_tests;
 #[cfg(test)]
 mod rx_stream_tests;
+#[cfg(test)]
+mod rx_walk_tests;

@@ -78,7 +78,7 @@ pub enum Step {
 }
 
 /// The word that transmission information gets. `None`: it can't be asked.
-fn fit(hold: &mut Hold, index: u32, cut: Cut, flags: u8) -> Result<Option<Fit>, Memory> {
+pub fn fit(hold: &mut Hold, index: u32, cut: Cut, flags: u8) -> Result<Option<Fit>, Memory> {
     let (l, e, b, max_n) = cut;
     if l > 16_777_216 || index == u32::MAX {
         return Ok(None);
@@ -259,7 +259,7 @@ fn is_at(hold: &Hold, at: At) -> bool {
 }
 
 /// Whether an object is over.
-fn is_over(hold: &Hold, index: u32) -> bool
+pub fn is_over(hold: &Hold, index: u32) -> bool
     ensures { result ≡ nat_lt index hold.now.point.index }
 {
     index < hold.hand_up().index
@@ -274,7 +274,7 @@ fn is_passed(hold: &Hold, index: u32, block: u32) -> bool
 }
 
 /// The flags of an object that is not over.
-fn flags(hold: &Hold, index: u32) -> Option<u8> {
+pub fn flags(hold: &Hold, index: u32) -> Option<u8> {
     if is_over(hold, index) {
         return None;
     }
@@ -399,7 +399,7 @@ fn does(hold: &mut Hold, step: Step) -> Result<bool, Memory> {
 }
 
 /// A profile of these sizes.
-fn profile_of(rt: &impl Abort, sizes: Sizes) -> Profile {
+pub fn profile_of(rt: &impl Abort, sizes: Sizes) -> Profile {
     let (e, b, max_n, octets, blocks) = sizes;
     let mut given = Given::new();
     for (key, value) in [

@@ -44,6 +44,10 @@ pub ask_block-requires-clause-ahead : goal.ask_block-requires-clause-ahead
 ask_block-requires-clause-ahead c =
     of_some (λ block. point_before (point c.args.index block) (point_of c.args.self.now.hold.point) ≡ false) c.loop-short.short c.in-Some.block c.in-Some.is c.loop-short.invariant.ahead
 
+pub ask_block-requires-clause-short : goal.ask_block-requires-clause-short
+ask_block-requires-clause-short c =
+    of_some (λ block. IsShortIn c.args.self.now.hold c.args.index block) c.loop-short.short c.in-Some.block c.in-Some.is c.loop-short.invariant.lacks
+
 pub next_short-short-requires-clause-short : goal.next_short-short-requires-clause-short
 next_short-short-requires-clause-short c =
     of_some (λ block. IsShortIn c.args.self.now.hold c.args.index block) c.loop-short.short c.in-Some.block c.in-Some.is c.loop-short.invariant.lacks
