@@ -1,9 +1,9 @@
 -- An object of which nothing is held.
 use Rattle.std.proofs.Common.{◌≡◌, ℕ, zero, suc, ◌+◌, ◌-◌, ◌<◌, ◌≤◌, List, [], ◌∷◌, ◌++◌, length, take, get_or, replicate, true, false, Option, Some, None, refl, sym, ap, ◌∙◌, subst, arith}
-use Rattle.std.specs.Prelude.{◌==◌, ◌||◌, filter, flat_map, is_some, slice_index}
+use Rattle.std.specs.Prelude.{◌==◌, ◌||◌, filter, flat_map, is_some, nat_lt, slice_index}
 use Rattle.std.specs.List.{range_with_len, slice_range}
-use Rattle.std.proofs.lemmas.Bool.{ne_eqb}
-use Rattle.std.proofs.lemmas.List.{take-replicate, drop-replicate, length-replicate}
+use Rattle.std.proofs.lemmas.Bool.{lt-ltb, ne_eqb}
+use Rattle.std.proofs.lemmas.List.{take-replicate, drop-replicate, get_or-replicate, length-replicate}
 use Rattle.std.proofs.lemmas.List.Concat.{flat_map-cons}
 use Rattle.std.proofs.lemmas.List.Sums.{length-filter}
 use Rattle.fec_plan.specs.Partition.{Cut, IsSound, blocks, source_symbols, all_symbols, sent_octets}
@@ -11,8 +11,9 @@ use Rattle.norm_receive_rules.specs.Holding.{Held}
 use Rattle.rx_hold.specs.BlockState.{held_at}
 use Rattle.rx_hold.specs.Places.{AreApart, free_places, has_id}
 use Rattle.rx_hold.specs.Rows.{start_of, end_of, block_ids, coded_symbol, held_under, held_in, all_held}
-use Rattle.rx_hold.specs.ObjectSound.{IsBlock}
-use Rattle.rx_hold.proofs.Cuts.{ends_within}
+use Rattle.rx_hold.specs.ObjectSound.{AreShorts, IsBlock}
+use Rattle.short_blocks.specs.State.{ShortsState, all_short}
+use Rattle.rx_hold.proofs.Cuts.{ends_within, some_sources}
 use Rattle.rx_hold.proofs.Listed.{by_ids}
 use Rattle.rx_hold.proofs.OneMore.{none_there}
 
@@ -96,3 +97,16 @@ new_each index c ids octets counts n sound object free none_yet block lt =
   where
     differ : (x : List ℕ) → ◌≡◌ {A = Option (List ℕ)} (Some x) None → ⊥
     differ x e = cc e
+
+-- ---- all blocks are short
+
+pub new_shorts : (c : Cut) (counts : List ℕ) (n : ℕ) (shorts : ShortsState) → IsSound c → is_some c.l ≡ true → n ≡ blocks c → counts ≡ zeros n → shorts ≡ all_short n → AreShorts c counts shorts
+new_shorts c counts n shorts sound object same zeroed is = subst (AreShorts c counts) (sym is) (record {
+  start = refl;
+  all = length-replicate n true ∙ same;
+  short = λ block lt.
+      get_or-replicate n (block - 0) true false (omega (arith, lt, same))
+      ∙ sym (ap (λ xs. nat_lt (get_or xs block 0) (source_symbols c block)) zeroed
+      ∙ ap (λ m. nat_lt m (source_symbols c block)) (none_counted n block)
+      ∙ lt-ltb 0 (source_symbols c block) (let some = some_sources c block sound object in omega (arith, some)));
+})

@@ -1,8 +1,8 @@
 -- What the rules say of an object, from what is kept of it.
-use Rattle.std.proofs.Common.{◌≡◌, ℕ, zero, suc, ◌+◌, ◌-◌, ◌<◌, ◌≤◌, ◌⊎◌, inl, inr, List, [], ◌∷◌, length, get_or, cond, Bool, true, false, Some, None, refl, sym, ap, ◌∙◌, subst, arith}
-use Rattle.std.specs.Prelude.{◌==◌, ◌&&◌, filter, not, slice_get, slice_index}
+use Rattle.std.proofs.Common.{◌≡◌, ℕ, zero, suc, ◌+◌, ◌-◌, ◌<◌, ◌≤◌, ◌⊎◌, inl, inr, List, [], ◌∷◌, length, get_or, cond, Bool, true, false, Option, Some, None, refl, sym, ap, ◌∙◌, subst, arith}
+use Rattle.std.specs.Prelude.{◌==◌, ◌&&◌, filter, is_some, not, slice_get, slice_index}
 use Rattle.std.specs.List.{list_all, list_any, range_with_len}
-use Rattle.std.proofs.lemmas.Bool.{cases_lt, cases_order, eq-eqb, ne_eqb}
+use Rattle.std.proofs.lemmas.Bool.{both_ways, cases_lt, cases_order, eq-eqb, ltb-false, ltb-true, ne_eqb, true_from_ne_false}
 use Rattle.fec_plan.specs.Partition.{Cut, blocks, source_symbols}
 use Rattle.fec_plan.specs.Points.{position}
 use Rattle.norm_receive_rules.specs.Holding.{Held}
@@ -12,6 +12,8 @@ use Rattle.rx_hold.specs.ObjectSound.{IsObject, IsBlock, object_view, plan_insid
 use Rattle.rx_hold.specs.Places.{has_id}
 use Rattle.rx_hold.specs.Rows.{block_ids, block_row}
 use Rattle.rx_hold.specs.declared.object.Object.TheInside.{Inside}
+use Rattle.rx_stream.specs.Short.{IsShortFrom}
+use Rattle.short_blocks.specs.State.{IsFirstFrom, end_of, is_short}
 use Rattle.rx_hold.proofs.Alone.{held_of_block, held_of_none, any_in, none_in, some_in}
 use Rattle.rx_hold.proofs.Cuts.{some_sources}
 
@@ -56,15 +58,26 @@ never_done x block sound le =
     ∙ ap (λ (hs : List Held). source_symbols x.rows.plan block - length hs == 0) (held_of_none x.index x.rows.plan (symbols_inside x) block le)
     ∙ ne_eqb (source_symbols x.rows.plan block - 0) 0 (λ e. let some = some_sources x.rows.plan block sound.rows.sound sound.rows.object in omega (arith, e, some))
 
-pub done_before : (x : Inside) (block : ℕ) → IsObject x → block < x.short → is_done (alone (object_view x)) (plan_inside x) block ≡ true
-done_before x block sound lt =
-    object_done x block sound (let few = sound.few in omega (arith, few, lt))
-    ∙ eq-eqb (source_symbols x.rows.plan block - slice_index x.counts.items block) 0 (let whole = sound.done block lt in omega (arith, whole))
+-- a block that is short lacks symbols, and no other
+pub done_where : (x : Inside) (block : ℕ) → IsObject x → block < blocks x.rows.plan → is_short x.shorts block ≡ false → is_done (alone (object_view x)) (plan_inside x) block ≡ true
+done_where x block sound lt done =
+    object_done x block sound lt
+    ∙ eq-eqb (source_symbols x.rows.plan block - slice_index x.counts.items block) 0
+    (let most = ltb-false (slice_index x.counts.items block) (source_symbols x.rows.plan block) (sym (sound.shorts.short block lt) ∙ done) in omega (arith, most))
 
-short_there : (x : Inside) → IsObject x → x.short < blocks x.rows.plan → is_done (alone (object_view x)) (plan_inside x) x.short ≡ false
-short_there x sound lt =
-    object_done x x.short sound lt
-    ∙ ne_eqb (source_symbols x.rows.plan x.short - slice_index x.counts.items x.short) 0 (λ e. let less = sound.short lt in omega (arith, e, less))
+pub short_where : (x : Inside) (block : ℕ) → IsObject x → block < blocks x.rows.plan → is_short x.shorts block ≡ true → is_done (alone (object_view x)) (plan_inside x) block ≡ false
+short_where x block sound lt is =
+    object_done x block sound lt
+    ∙ ne_eqb (source_symbols x.rows.plan block - slice_index x.counts.items block) 0
+    (λ e. let less = ltb-true (slice_index x.counts.items block) (source_symbols x.rows.plan block) (sym (sound.shorts.short block lt) ∙ is) in omega (arith, e, less))
+
+pub short_is : (x : Inside) (block : ℕ) → IsObject x → block < blocks x.rows.plan → is_done (alone (object_view x)) (plan_inside x) block ≡ false → is_short x.shorts block ≡ true
+short_is x block sound lt lacks =
+    true_from_ne_false (is_short x.shorts block) (λ done. both_ways (is_done (alone (object_view x)) (plan_inside x) block) lacks (done_where x block sound lt done))
+
+-- where the window of the short blocks ends
+ends : (x : Inside) → IsObject x → end_of x.shorts ≡ blocks x.rows.plan
+ends x sound = let start = sound.shorts.start in let all = sound.shorts.all in omega (arith, start, all)
 
 -- ---- all blocks
 
@@ -91,7 +104,7 @@ all_pass : (p : ℕ → Bool) (a n : ℕ) → ((b : ℕ) → b < a + n → p b �
 all_pass p a zero all = refl
 all_pass p a (suc n) all = ap (λ b. b && list_all p (range_with_len (a + 1) n)) (all a (omega arith)) ∙ all_pass p (a + 1) n (λ b lt. all b (omega arith))
 
-one_fails : (p : ℕ → Bool) (s a n : ℕ) → a ≤ s → s < a + n → p s ≡ false → list_all p (range_with_len a n) ≡ false
+pub one_fails : (p : ℕ → Bool) (s a n : ℕ) → a ≤ s → s < a + n → p s ≡ false → list_all p (range_with_len a n) ≡ false
 one_fails p s a zero le lt here = absurd (omega arith)
 one_fails p s a (suc n) le lt here = go (cases_order a s) (p a) refl (λ below. one_fails p s (a + 1) n (omega arith) (omega arith) here)
   where
@@ -101,34 +114,49 @@ one_fails p s a (suc n) le lt here = go (cases_order a s) (p a) refl (λ below. 
     go (inr (inr above)) true same more = absurd (omega arith)
     go o false same more = refl
 
--- the first block that is not done
-pub object_short : (x : Inside) → IsObject x → x.short < blocks x.rows.plan → slice_get (short_blocks (object_view x)) 0 ≡ Some x.short
-object_short x sound lt =
-    ap (λ (d : Cut). slice_get (filter (λ block. not (is_done (alone (object_view x)) (plan_inside x) block)) (range_with_len 0 (blocks d))) 0) (sym sound.plan)
-    ∙ first_passes (λ block. not (is_done (alone (object_view x)) (plan_inside x) block)) x.short 0 (blocks x.rows.plan) (omega arith) (omega (arith, lt))
-    (λ b less. ap not (done_before x b sound less)) (ap not (short_there x sound lt))
-
--- no block is short
-pub none_short : (x : Inside) → IsObject x → blocks x.rows.plan ≤ x.short → slice_get (short_blocks (object_view x)) 0 ≡ None
-none_short x sound le =
-    ap (λ (d : Cut). slice_get (filter (λ block. not (is_done (alone (object_view x)) (plan_inside x) block)) (range_with_len 0 (blocks d))) 0) (sym sound.plan)
-    ∙ ap (λ (bs : List ℕ). slice_get bs 0) (none_passes (λ block. not (is_done (alone (object_view x)) (plan_inside x) block)) 0 (blocks x.rows.plan)
-    (λ b lt. ap not (done_before x b sound (omega (arith, le, lt)))))
-
-pub object_all_done : (x : Inside) → IsObject x
-    → (x.short == blocks x.rows.plan) ≡ list_all (is_done (alone (object_view x)) (plan_inside x)) (range_with_len 0 (blocks (cut_of_plan (plan_inside x))))
-object_all_done x sound =
-    go (cases_lt x.short (blocks x.rows.plan))
-    ∙ ap (λ (d : Cut). list_all (is_done (alone (object_view x)) (plan_inside x)) (range_with_len 0 (blocks d))) sound.plan
+-- what is found of the short blocks is found of those that are not done
+pub short_from : (x : Inside) (o : ObjectState) (from : ℕ) (found : Option ℕ) → IsObject x → object_view x ≡ o → IsFirstFrom x.shorts from found → IsShortFrom (alone o) o.plan from found
+short_from x o from found sound is answer = subst (λ (v : ObjectState). IsShortFrom (alone v) v.plan from found) is (go found answer)
   where
-    go : (x.short < blocks x.rows.plan) ⊎ (blocks x.rows.plan ≤ x.short)
-        → (x.short == blocks x.rows.plan) ≡ list_all (is_done (alone (object_view x)) (plan_inside x)) (range_with_len 0 (blocks x.rows.plan))
-    go (inl lt) =
-        ne_eqb x.short (blocks x.rows.plan) (λ e. omega (arith, e, lt))
-        ∙ sym (one_fails (is_done (alone (object_view x)) (plan_inside x)) x.short 0 (blocks x.rows.plan) (omega arith) (omega (arith, lt)) (short_there x sound lt))
-    go (inr le) =
-        eq-eqb x.short (blocks x.rows.plan) (let few = sound.few in omega (arith, le, few))
-        ∙ sym (all_pass (is_done (alone (object_view x)) (plan_inside x)) 0 (blocks x.rows.plan) (λ b lt. done_before x b sound (omega (arith, le, lt))))
+    go : (found : Option ℕ) → IsFirstFrom x.shorts from found → IsShortFrom (alone (object_view x)) (plan_inside x) from found
+    go (Some s) answer =
+        let lt : s < blocks x.rows.plan = subst (λ n. s < n) (ends x sound) answer.short.1 in
+        record {
+          before = λ block lo hi. done_where x block sound (omega (arith, hi, lt)) (answer.before block lo hi);
+          short = (answer.short.0, subst (λ (d : Cut). s < blocks d) sound.plan lt, short_where x s sound lt answer.short.2);
+        }
+    go None answer = record {
+      before = λ block lo hi.
+          let lt : block < blocks x.rows.plan = subst (λ (d : Cut). block < blocks d) (sym sound.plan) hi in
+          done_where x block sound lt (answer.before block lo (subst (λ n. block < n) (sym (ends x sound)) lt));
+      short = tt;
+    }
+
+-- the first block that is not done
+pub object_short : (x : Inside) (found : Option ℕ) → IsObject x → IsFirstFrom x.shorts x.shorts.start found → found ≡ slice_get (short_blocks (object_view x)) 0
+object_short x (Some s) sound answer =
+    let start = sound.shorts.start in
+    let lt : s < blocks x.rows.plan = subst (λ n. s < n) (ends x sound) answer.short.1 in
+    sym (ap (λ (d : Cut). slice_get (filter (λ block. not (is_done (alone (object_view x)) (plan_inside x) block)) (range_with_len 0 (blocks d))) 0) (sym sound.plan)
+    ∙ first_passes (λ block. not (is_done (alone (object_view x)) (plan_inside x) block)) s 0 (blocks x.rows.plan) (omega arith) (omega (arith, lt))
+    (λ b less. ap not (done_where x b sound (omega (arith, less, lt)) (answer.before b (omega (arith, start)) less))) (ap not (short_where x s sound lt answer.short.2)))
+object_short x None sound answer =
+    let start = sound.shorts.start in
+    sym (ap (λ (d : Cut). slice_get (filter (λ block. not (is_done (alone (object_view x)) (plan_inside x) block)) (range_with_len 0 (blocks d))) 0) (sym sound.plan)
+    ∙ ap (λ (bs : List ℕ). slice_get bs 0) (none_passes (λ block. not (is_done (alone (object_view x)) (plan_inside x) block)) 0 (blocks x.rows.plan)
+    (λ b lt. ap not (done_where x b sound (omega (arith, lt)) (answer.before b (omega (arith, start)) (subst (λ n. b < n) (sym (ends x sound)) (omega (arith, lt))))))))
+
+pub object_all_done : (x : Inside) (found : Option ℕ) → IsObject x → IsFirstFrom x.shorts x.shorts.start found
+    → is_some found ≡ not (list_all (is_done (alone (object_view x)) (plan_inside x)) (range_with_len 0 (blocks (cut_of_plan (plan_inside x)))))
+object_all_done x (Some s) sound answer =
+    let lt : s < blocks x.rows.plan = subst (λ n. s < n) (ends x sound) answer.short.1 in
+    sym (ap (λ (d : Cut). not (list_all (is_done (alone (object_view x)) (plan_inside x)) (range_with_len 0 (blocks d)))) (sym sound.plan)
+    ∙ ap not (one_fails (is_done (alone (object_view x)) (plan_inside x)) s 0 (blocks x.rows.plan) (omega arith) (omega (arith, lt)) (short_where x s sound lt answer.short.2)))
+object_all_done x None sound answer =
+    let start = sound.shorts.start in
+    sym (ap (λ (d : Cut). not (list_all (is_done (alone (object_view x)) (plan_inside x)) (range_with_len 0 (blocks d)))) (sym sound.plan)
+    ∙ ap not (all_pass (is_done (alone (object_view x)) (plan_inside x)) 0 (blocks x.rows.plan)
+    (λ b lt. done_where x b sound (omega (arith, lt)) (answer.before b (omega (arith, start)) (subst (λ n. b < n) (sym (ends x sound)) (omega (arith, lt)))))))
 
 -- ---- reading
 

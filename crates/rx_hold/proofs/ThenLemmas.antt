@@ -1,7 +1,7 @@
 -- An object after a symbol was kept: what is kept of it, and what it is seen as.
 use Rattle.std.proofs.Common.{◌≡◌, ℕ, ◌+◌, ◌-◌, ◌<◌, ◌≤◌, ◌⊎◌, inl, inr, List, length, set, get_or, Bool, true, false, refl, sym, ap, ◌∙◌, subst, arith, Vec, Global}
 use Rattle.std.specs.Prelude.{◌==◌, ◌&&◌, ◌≢◌, nat_lt, slice_index}
-use Rattle.std.proofs.lemmas.Bool.{cases_eq, cases_lt, eq-eqb, eqb-true, ltb-true}
+use Rattle.std.proofs.lemmas.Bool.{cases_eq, cases_lt, eq-eqb, eqb-true, le-ltb, lt-ltb, ltb-true}
 use Rattle.std.proofs.lemmas.List.{length-set, get_or-set_same, get_or-set_other}
 use Rattle.fec_plan.specs.Partition.{Cut, blocks, source_symbols, encoding_symbols, sent_octets}
 use Rattle.fec_plan.specs.Points.{position}
@@ -13,13 +13,14 @@ use Rattle.norm_receive_rules.specs.Plans.{cut_of_plan, holds, is_done, lacking}
 use Rattle.norm_receive_rules.specs.Putting.{held_before}
 use Rattle.rx_hold.specs.BlockState.{held_at}
 use Rattle.rx_hold.specs.ObjectState.{ObjectState, alone}
-use Rattle.rx_hold.specs.ObjectSound.{IsObject, IsBlock, object_view, plan_inside, symbols_inside}
+use Rattle.rx_hold.specs.ObjectSound.{AreShorts, IsObject, IsBlock, object_view, plan_inside, symbols_inside}
 use Rattle.rx_hold.specs.Offering.{is_payload}
 use Rattle.rx_hold.specs.Places.{AreApart, free_places, has_id}
 use Rattle.rx_hold.specs.Rows.{block_ids, coded_symbol, with_coded, all_held}
 use Rattle.rx_hold.specs.RowsSound.{AreRows}
 use Rattle.rx_hold.specs.declared.object.Object.TheInside.{Inside}
 use Rattle.rx_hold.specs.declared.rows.Rows.{Rows}
+use Rattle.short_blocks.specs.State.{ShortsState, is_short, settled}
 use Rattle.rx_hold.proofs.Cuts.{sent_most}
 use Rattle.rx_hold.proofs.Listed.{object_with}
 use Rattle.rx_hold.proofs.ObjectLemmas.{object_holds, object_done, object_lacking}
@@ -84,42 +85,69 @@ free_are x o block q payload n sound seen is told =
 
 -- ---- the counts
 
-pub counts_done : (x : Inside) (block q : ℕ) (payload counts : List ℕ) (c : Cut) → IsObject x → IsNews x block q payload → c ≡ x.rows.plan
+-- the short blocks after a symbol of one came that lacked so many
+pub shorts_then : (x : Inside) (block q : ℕ) (payload counts : List ℕ) (lacked : ℕ) (shorts : ShortsState) → IsObject x → IsNews x block q payload
+    → free_places (block_ids x.rows.plan x.rows.ids.items block) ≡ lacked
     → counts ≡ set x.counts.items block (get_or x.counts.items block 0 + 1)
-    → (b : ℕ) → b < x.short → slice_index counts b ≡ source_symbols c b
-counts_done x block q payload counts c sound is same after b lt =
-    ap (λ xs. get_or xs b 0) after
-    ∙ get_or-set_other x.counts.items block b (get_or x.counts.items block 0 + 1) 0
-    (λ e. let less = is.less in let whole = sound.done b lt in let there = ap (λ n. get_or x.counts.items n 0) e in let sources = ap (source_symbols x.rows.plan) e in omega (arith, less, whole, there, sources))
-    ∙ sound.done b lt
-    ∙ ap (λ (d : Cut). source_symbols d b) (sym same)
-
-pub counts_most : (x : Inside) (block q : ℕ) (payload counts : List ℕ) (c : Cut) → IsObject x → IsNews x block q payload → c ≡ x.rows.plan
-    → counts ≡ set x.counts.items block (get_or x.counts.items block 0 + 1)
-    → (b : ℕ) → b < blocks c → slice_index counts b ≤ source_symbols c b
-counts_most x block q payload counts c sound is same after b lt = go (cases_eq b block)
+    → (lacked ≡ 1 → shorts ≡ settled block x.shorts) → ((lacked ≡ 1 → ⊥) → shorts ≡ x.shorts)
+    → AreShorts x.rows.plan counts shorts
+shorts_then x block q payload counts lacked shorts sound is lacks after last more = go (cases_eq lacked 1)
   where
-    sources : source_symbols c b ≡ source_symbols x.rows.plan b
-    sources = ap (λ (d : Cut). source_symbols d b) same
-
-    go : (b ≡ block) ⊎ (b ≢ block) → slice_index counts b ≤ source_symbols c b
-    go (inl e) =
-        let less = is.less in
+    here : slice_index counts block ≡ slice_index x.counts.items block + 1
+    here =
         let within = is.within in
         let counted = sound.counted in
-        let here = ap (λ xs. get_or xs b 0) after ∙ ap (λ n. get_or (set x.counts.items block (get_or x.counts.items block 0 + 1)) n 0) e
-        ∙ get_or-set_same x.counts.items block (get_or x.counts.items block 0 + 1) 0 (omega (arith, within, counted)) in
-        let own = ap (source_symbols x.rows.plan) e in
-        omega (arith, less, here, sources, own)
-    go (inr other) =
-        let old : IsBlock x.index x.rows.plan x.rows.ids.items x.rows.octets.items x.counts.items b = sound.each b (subst (λ (d : Cut). b < blocks d) same lt) in
-        let count = old.count in
-        let still = ap (λ xs. get_or xs b 0) after ∙ get_or-set_other x.counts.items block b (get_or x.counts.items block 0 + 1) 0 other in
-        omega (arith, count, still, sources)
+        ap (λ xs. get_or xs block 0) after ∙ get_or-set_same x.counts.items block (get_or x.counts.items block 0 + 1) 0 (omega (arith, within, counted))
+
+    there : (b : ℕ) → b ≢ block → slice_index counts b ≡ slice_index x.counts.items b
+    there b other = ap (λ xs. get_or xs b 0) after ∙ get_or-set_other x.counts.items block b (get_or x.counts.items block 0 + 1) 0 other
+
+    counted_out : slice_index x.counts.items block + lacked ≡ source_symbols x.rows.plan block
+    counted_out =
+        let b : IsBlock x.index x.rows.plan x.rows.ids.items x.rows.octets.items x.counts.items block = sound.each block is.within in
+        let count = b.count in omega (arith, count, lacks)
+
+    rest : (b : ℕ) → b < blocks x.rows.plan → b ≢ block → is_short x.shorts b ≡ nat_lt (slice_index counts b) (source_symbols x.rows.plan b)
+    rest b lt other = sound.shorts.short b lt ∙ ap (λ n. nat_lt n (source_symbols x.rows.plan b)) (sym (there b other))
+
+    go : (lacked ≡ 1) ⊎ (lacked ≡ 1 → ⊥) → AreShorts x.rows.plan counts shorts
+    go (inl one) = subst (AreShorts x.rows.plan counts) (sym (last one)) (record {
+      start = sound.shorts.start;
+      all = length-set x.shorts.short (block - x.shorts.start) false ∙ sound.shorts.all;
+      short = λ b lt. elim (cases_eq b block) [
+        | inl e ↦
+            let start = sound.shorts.start in
+            let all = sound.shorts.all in
+            let within = is.within in
+            ap (λ n. get_or (set x.shorts.short (block - x.shorts.start) false) (n - x.shorts.start) false) e
+            ∙ get_or-set_same x.shorts.short (block - x.shorts.start) false false (omega (arith, all, within))
+            ∙ sym (le-ltb (slice_index counts b) (source_symbols x.rows.plan b)
+            (let same = ap (slice_index counts) e in let own = ap (source_symbols x.rows.plan) e in omega (arith, counted_out, here, same, own, one)))
+        | inr other ↦
+            let start = sound.shorts.start in
+            get_or-set_other x.shorts.short (block - x.shorts.start) (b - x.shorts.start) false false (λ same. other (omega (arith, same, start)))
+            ∙ rest b lt other
+      ];
+    })
+    go (inr many) = subst (AreShorts x.rows.plan counts) (sym (more many)) (record {
+      start = sound.shorts.start;
+      all = sound.shorts.all;
+      short = λ b lt. elim (cases_eq b block) [
+        | inl e ↦
+            let less = is.less in
+            let own = ap (source_symbols x.rows.plan) e in
+            let count = ap (slice_index x.counts.items) e in
+            let same = ap (slice_index counts) e in
+            sound.shorts.short b lt
+            ∙ lt-ltb (slice_index x.counts.items b) (source_symbols x.rows.plan b) (omega (arith, less, own, count))
+            ∙ sym (lt-ltb (slice_index counts b) (source_symbols x.rows.plan b) (omega (arith, less, counted_out, here, same, own, many)))
+        | inr other ↦ rest b lt other
+      ];
+    })
 
 -- ---- the object
 
-pub object_then : (x : Inside) (rows : Rows) (counts : Vec ℕ Global) (short block q : ℕ) (payload : List ℕ) → IsObject x → IsNews x block q payload → AreElements payload
+pub object_then : (x : Inside) (rows : Rows) (counts : Vec ℕ Global) (shorts : ShortsState) (block q : ℕ) (payload : List ℕ) → IsObject x → IsNews x block q payload → AreElements payload
     → rows.plan ≡ x.rows.plan → AreRows rows
     → ((b id : ℕ) → b < blocks x.rows.plan → id < 255 → coded_symbol x.rows.plan rows.ids.items rows.octets.items b id
     ≡ with_coded block q (padded x.rows.plan.e payload) (coded_symbol x.rows.plan x.rows.ids.items x.rows.octets.items) b id)
@@ -127,10 +155,9 @@ pub object_then : (x : Inside) (rows : Rows) (counts : Vec ℕ Global) (short bl
     → free_places (block_ids x.rows.plan x.rows.ids.items block) ≡ free_places (block_ids x.rows.plan rows.ids.items block) + 1
     → AreApart (block_ids x.rows.plan rows.ids.items block)
     → counts.items ≡ set x.counts.items block (get_or x.counts.items block 0 + 1)
-    → short ≤ blocks rows.plan → ((b : ℕ) → b < short → slice_index counts.items b ≡ source_symbols rows.plan b)
-    → (short < blocks rows.plan → slice_index counts.items short < source_symbols rows.plan short)
-    → IsObject (record x { rows = rows; counts = counts; short = short })
-object_then x rows counts short block q payload sound is bytes same are symbols others lacks apart after few done there = record {
+    → AreShorts x.rows.plan counts.items shorts
+    → IsObject (record x { rows = rows; counts = counts; shorts = shorts })
+object_then x rows counts shorts block q payload sound is bytes same are symbols others lacks apart after short = record {
   plan = same ∙ sound.plan;
   kind = sound.kind;
   rows = are;
@@ -139,9 +166,7 @@ object_then x rows counts short block q payload sound is bytes same are symbols 
       subst (λ (d : Cut). (b : ℕ) → b < blocks d → IsBlock x.index d rows.ids.items rows.octets.items counts.items b) (sym same)
       (subst (λ xs. (b : ℕ) → b < blocks x.rows.plan → IsBlock x.index x.rows.plan rows.ids.items rows.octets.items xs b) (sym after)
       (each_then x.index x.rows.plan block q payload x.rows.ids.items x.rows.octets.items x.counts.items rows.ids.items rows.octets.items sound.counted comes sound.each));
-  few = few;
-  done = done;
-  short = there;
+  shorts = subst (λ (d : Cut). AreShorts d counts.items shorts) (sym same) short;
 }
   where
     comes : Comes x.rows.plan block q payload x.rows.ids.items x.rows.octets.items rows.ids.items rows.octets.items
@@ -158,13 +183,13 @@ object_then x rows counts short block q payload sound is bytes same are symbols 
       apart = apart;
     }
 
-pub view_then : (x : Inside) (o : ObjectState) (rows : Rows) (counts : Vec ℕ Global) (short block q : ℕ) (payload : List ℕ) → IsObject x → object_view x ≡ o → IsNews x block q payload
+pub view_then : (x : Inside) (o : ObjectState) (rows : Rows) (counts : Vec ℕ Global) (shorts : ShortsState) (block q : ℕ) (payload : List ℕ) → IsObject x → object_view x ≡ o → IsNews x block q payload
     → rows.plan ≡ x.rows.plan
     → ((b id : ℕ) → b < blocks x.rows.plan → id < 255 → coded_symbol x.rows.plan rows.ids.items rows.octets.items b id
     ≡ with_coded block q (padded x.rows.plan.e payload) (coded_symbol x.rows.plan x.rows.ids.items x.rows.octets.items) b id)
-    → object_view (record x { rows = rows; counts = counts; short = short })
+    → object_view (record x { rows = rows; counts = counts; shorts = shorts })
     ≡ record { plan = o.plan; info = o.info; held = with_member held_before (held_at o.plan.index block q payload) o.held }
-view_then x o rows counts short block q payload sound seen is same symbols =
+view_then x o rows counts shorts block q payload sound seen is same symbols =
     ap (λ (d : Cut). seen_as (all_held x.index d (coded_symbol d rows.ids.items rows.octets.items))) same
     ∙ ap seen_as (object_with x.index x.rows.plan block q (padded x.rows.plan.e payload) (symbols_inside x) (coded_symbol x.rows.plan rows.ids.items rows.octets.items)
     is.within is.small (none_there x.rows.plan x.rows.ids.items x.rows.octets.items block q is.new) symbols

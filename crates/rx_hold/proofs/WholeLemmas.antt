@@ -1,8 +1,8 @@
 -- An object that is whole is handed up as its rows, cut to its length.
 use Rattle.std.proofs.Common.{◌≡◌, ◌-◌, ℕ, zero, suc, ◌+◌, ◌*◌, ◌<◌, ◌≤◌, ◌⊎◌, inl, inr, List, length, map, take, drop, cond, Option, Some, None, Bool, true, false, refl, sym, ap, ◌∙◌, subst, arith}
-use Rattle.std.specs.Prelude.{◌&&◌, flat_map, min, if◌then◌else◌}
-use Rattle.std.specs.List.{concat, range_with_len, slice_range}
-use Rattle.std.proofs.lemmas.Bool.{eqb-true, eq-eqb, lt-ltb, cases_lt}
+use Rattle.std.specs.Prelude.{◌&&◌, flat_map, min, slice_index, if◌then◌else◌}
+use Rattle.std.specs.List.{concat, list_all, range_with_len, slice_range}
+use Rattle.std.proofs.lemmas.Bool.{both_ways, cases_lt, eq-eqb, eqb-true, lt-ltb, true_from_ne_false}
 use Rattle.std.proofs.lemmas.List.{length-map, length-take, take_all}
 use Rattle.std.proofs.Math.Nat.{mul-le-mul_right, add-mul}
 use Rattle.fec_plan.specs.Partition.{Cut, cut_of, blocks, source_symbols, all_symbols, symbol_number, sent_octets, coded_octets}
@@ -10,7 +10,7 @@ use Rattle.gf_field.specs.Symbol.{encoded_symbol, solved_symbol, solved_sources}
 use Rattle.gf_field.specs.Element.{AreElements}
 use Rattle.norm_order.specs.Symbols.{padded}
 use Rattle.norm_receive_rules.specs.Holding.{Held, HeldInfo}
-use Rattle.norm_receive_rules.specs.Plans.{cut_of_plan, info_of}
+use Rattle.norm_receive_rules.specs.Plans.{cut_of_plan, info_of, is_done}
 use Rattle.norm_receive_rules.specs.BlockValue.{ids_of, octets_of_held}
 use Rattle.norm_receive_rules.specs.HandingUp.{block_octets, object_octets, is_whole}
 use Rattle.norm_receive_rules.specs.Plans.{has_its_info}
@@ -24,7 +24,7 @@ use Rattle.rx_hold.specs.RowsSound.{IsCoded}
 use Rattle.rx_hold.specs.declared.object.Object.TheInside.{Inside}
 use Rattle.rx_hold.proofs.Cuts.{start_none, start_next, start_all, ends_within, few_sources, sent_most}
 use Rattle.rx_hold.proofs.Alone.{held_of_block}
-use Rattle.rx_hold.proofs.ObjectLemmas.{done_before, object_all_done}
+use Rattle.rx_hold.proofs.ObjectLemmas.{object_done, one_fails}
 use Rattle.rx_hold.proofs.RowLemmas.{part_long}
 use Rattle.rx_hold.proofs.SolvedLemmas.{full_in, bytes_take, bytes_drop}
 use Rattle.rx_hold.proofs.SourceLemmas.{IsEncoded, row_is}
@@ -79,13 +79,14 @@ record IsDone (x : Inside) (block : ℕ) : Type 0 where
   long : length (block_row x.rows.plan x.rows.octets.items block) ≡ source_symbols x.rows.plan block * x.rows.plan.e
   most : source_symbols x.rows.plan block ≤ 255
 
-done_there : (x : Inside) → IsObject x → blocks x.rows.plan ≤ x.short → (block : ℕ) → block < blocks x.rows.plan → IsDone x block
-done_there x sound all block lt =
+done_there : (x : Inside) → IsObject x → (block : ℕ) → block < blocks x.rows.plan → is_done (alone (object_view x)) (plan_inside x) block ≡ true → IsDone x block
+done_there x sound block lt done =
     let c : Cut = x.rows.plan in
     let b : IsBlock x.index x.rows.plan x.rows.ids.items x.rows.octets.items x.counts.items block = sound.each block lt in
-    let whole = sound.done block (omega (arith, lt, all)) in
+    let none = eqb-true (source_symbols x.rows.plan block - slice_index x.counts.items block) 0 (sym (object_done x block sound lt) ∙ done) in
     let held = b.held in
     let sum = b.count in
+    let whole : slice_index x.counts.items block ≡ source_symbols x.rows.plan block = omega (arith, none, sum) in
     let within = ends_within x.rows.plan block sound.rows.sound sound.rows.object lt in
     let ids = sound.rows.ids in
     let octets = sound.rows.octets in
@@ -160,10 +161,14 @@ many_sources x block done =
 
 -- ---- the object
 
-all_done_of : (x : Inside) → IsObject x → is_whole (alone (object_view x)) (plan_inside x) ≡ true → blocks x.rows.plan ≤ x.short
-all_done_of x sound whole =
-    let e = eqb-true x.short (blocks x.rows.plan) (object_all_done x sound ∙ second (has_its_info (alone (object_view x)) (plan_inside x)) _ whole) in
-    omega (arith, e)
+all_done_of : (x : Inside) → IsObject x → is_whole (alone (object_view x)) (plan_inside x) ≡ true → (block : ℕ) → block < blocks x.rows.plan → is_done (alone (object_view x)) (plan_inside x) block ≡ true
+all_done_of x sound whole block lt =
+    let all = second (has_its_info (alone (object_view x)) (plan_inside x)) _ whole in
+    true_from_ne_false (is_done (alone (object_view x)) (plan_inside x) block)
+    (λ no. both_ways (list_all (is_done (alone (object_view x)) (plan_inside x)) (range_with_len 0 (blocks (cut_of_plan (plan_inside x)))))
+    (ap (λ (d : Cut). list_all (is_done (alone (object_view x)) (plan_inside x)) (range_with_len 0 (blocks d))) (sym sound.plan)
+    ∙ one_fails (is_done (alone (object_view x)) (plan_inside x)) block 0 (blocks x.rows.plan) (omega arith) (omega (arith, lt)) no)
+    all)
   where
     second : (a b : Bool) → (a && b) ≡ true → b ≡ true
     second true b e = e
@@ -177,13 +182,13 @@ object_bytes x sound bytes whole =
     let covered =
     blocks_covered x.rows.plan.e x.fti.l (start_of x.rows.plan) (sources_at x) (block_octets (alone (object_view x)) (plan_inside x)) (block_row x.rows.plan x.rows.octets.items) 0 (blocks x.rows.plan)
     (λ b lt.
-    let done = done_there x sound all b (omega (arith, lt)) in
+    let done = done_there x sound b (omega (arith, lt)) (all b (omega (arith, lt))) in
     handed_block (alone (object_view x)) (plan_inside x) b x.rows.plan.e (held_in x.index x.rows.plan (symbols_inside x) b)
-    (held_of_block x.index x.rows.plan (symbols_inside x) b (omega (arith, lt))) (done_before x b sound (omega (arith, lt, all))) (object_wide x sound)
+    (held_of_block x.index x.rows.plan (symbols_inside x) b (omega (arith, lt))) (all b (omega (arith, lt))) (object_wide x sound)
     (ap (λ (d : Cut). source_symbols d b) (sym sound.plan) ∙ sym done.count))
-    (λ b lt. row_there x sound bytes b (omega (arith, lt)) (done_there x sound all b (omega (arith, lt))))
-    (λ b lt. sources_cover x sound b (omega (arith, lt)) (done_there x sound all b (omega (arith, lt))))
-    (λ b lt. start_next x.rows.plan b sound.rows.object ∙ ap (λ n. start_of x.rows.plan b + n) (sym (many_sources x b (done_there x sound all b (omega (arith, lt)))))) in
+    (λ b lt. row_there x sound bytes b (omega (arith, lt)) (done_there x sound b (omega (arith, lt)) (all b (omega (arith, lt)))))
+    (λ b lt. sources_cover x sound b (omega (arith, lt)) (done_there x sound b (omega (arith, lt)) (all b (omega (arith, lt)))))
+    (λ b lt. start_next x.rows.plan b sound.rows.object ∙ ap (λ n. start_of x.rows.plan b + n) (sym (many_sources x b (done_there x sound b (omega (arith, lt)) (all b (omega (arith, lt))))))) in
     let joined =
     rows_join x.rows.octets.items (λ b. start_of x.rows.plan b * x.rows.plan.e) (block_row x.rows.plan x.rows.octets.items) 0 (blocks x.rows.plan)
     (λ b lt. mul-le-mul_right x.rows.plan.e (let next = start_next x.rows.plan b sound.rows.object in omega (arith, next)))

@@ -17,6 +17,7 @@ ghost use Rattle.rx_hold.specs.Offering.{is_payload};
 ghost use Rattle.rx_hold.specs.Places.{AreApart, free_places, has_id};
 ghost use Rattle.rx_stream.specs.Short.{IsShortFrom};
 ghost use Rattle.rx_hold.specs.Rows.{block_ids, coded_symbol, with_coded, start_of};
+ghost use Rattle.short_blocks.specs.State.{is_short, settled};
 
 use crate::block::FREE;
 use crate::room::Room;
@@ -26,6 +27,7 @@ use norm_base::{Kind, Memory, Octets};
 use norm_ext::Fti;
 use norm_order::Up;
 use norm_receive_rules::Put;
+use short_blocks::Shorts;
 use std::alloc::Global;
 use std::marker::Model;
 
@@ -44,8 +46,8 @@ pub struct Object {
     rows: Rows,
     /// For each block how many symbols are held.
     counts: Vec<u8>,
-    /// The first block that is not done.
-    short: u32,
+    /// The blocks that are not done.
+    shorts: Shorts,
 }
 
 impl Model for Object {
@@ -72,22 +74,16 @@ fn is_payload(plan: &Plan, block: u32, symbol: u8, payload: &[u8]) -> bool
         && payload.len() == usize::from(plan.symbol_octets(block, symbol))
 }
 
-/// The first block from this one on that lacks symbols.
-fn next_short(plan: &Plan, counts: &[u8], from: u32) -> u32
-    requires counts { length counts.now ≡ blocks plan.now }
-    requires from { from ≤ blocks plan.now }
-    requires done { (block : ℕ) → block < from → slice_index counts.now block ≡ source_symbols plan.now block }
-    requires most { (block : ℕ) → block < blocks plan.now → slice_index counts.now block ≤ source_symbols plan.now block }
-    ensures few { result ≤ blocks plan.now }
-    ensures done { (block : ℕ) → block < result → slice_index counts.now block ≡ source_symbols plan.now block }
-    ensures short { result < blocks plan.now → slice_index counts.now result < source_symbols plan.now result }
+/// A block lacked so many symbols, and one came: it is done where that was the last.
+fn note(shorts: &mut Shorts, block: u32, lacked: u8)
+    requires reached { shorts.old.start ≤ block }
+    requires short { is_short shorts.old block ≡ true }
+    ensures last { lacked ≡ 1 → shorts.new ≡ settled block shorts.old }
+    ensures more { (lacked ≡ 1 → ⊥) → shorts.new ≡ shorts.old }
 {
-    for block in from..plan.blocks() {
-        if counts[block as usize] < plan.source_len(block) {
-            return block;
-        }
+    if lacked == 1 {
+        shorts.settle(block);
     }
-    plan.blocks()
 }
 
 /// The kind that flags say.
@@ -139,7 +135,9 @@ impl Object {
         ensures { IfOk result (λ o. o ≡ empty_object (new_plan index fti.now flags)) }
     {
         let rows = Rows::new(alloc, plan)?;
-        let counts = vec![in alloc; 0; plan.blocks() as usize]?;
+        let count = plan.blocks();
+        let counts = vec![in alloc; 0; count as usize]?;
+        let shorts = Shorts::new(alloc, count)?;
         Ok(Object {
             index,
             fti: *fti,
@@ -147,7 +145,7 @@ impl Object {
             info: None,
             rows,
             counts,
-            short: 0,
+            shorts,
         })
     }
 
@@ -224,33 +222,23 @@ impl Object {
     pub fn first_short(&self) -> Option<u32>
         ensures { result ≡ slice_get (short_blocks self.now) 0 }
     {
-        if self.short < self.rows.plan.blocks() {
-            return Some(self.short);
-        }
-        None
+        self.shorts.first()
     }
 
-    /// The first block behind one that lacks symbols that lacks symbols too. `None` where each is done.
+    /// The first block behind one that lacks symbols that lacks symbols too. `None` where each is done. It takes constant time.
     pub fn next_short(&self, block: u32) -> Option<u32>
         requires block { block < blocks (cut_of_plan self.now.plan) }
         requires short { is_done (alone self.now) self.now.plan block ≡ false }
         ensures { IsShortFrom (alone self.now) self.now.plan (block + 1) result }
     {
-        let plan = self.plan();
-        prove!(block < plan.blocks());
-        for next in block + 1..plan.blocks() {
-            if self.lacking(next) > 0 {
-                return Some(next);
-            }
-        }
-        None
+        self.shorts.next(block)
     }
 
     /// Whether each block is done.
     fn all_done(&self) -> bool
         ensures { result ≡ list_all (is_done (alone self.now) self.now.plan) (range_with_len 0 (blocks (cut_of_plan self.now.plan))) }
     {
-        self.short == self.rows.plan.blocks()
+        self.shorts.first().is_none()
     }
 
     /// Whether the object's info is held where it has one.
@@ -288,7 +276,7 @@ impl Object {
         let lacking = self.lacking(block);
         self.rows.put(block, symbol, payload, lacking, room);
         self.counts[block as usize] += 1;
-        self.short = next_short(&self.rows.plan, &self.counts, self.short);
+        note(&mut self.shorts, block, lacking);
     }
 
     /// A symbol of the object comes: it is kept where it is news, and a block that is done by it is solved in the room that is

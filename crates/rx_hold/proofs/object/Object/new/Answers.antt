@@ -5,8 +5,7 @@ use Rattle.fec_plan.specs.Partition.{Cut, blocks, all_symbols}
 use Rattle.norm_receive_rules.specs.Holding.{Held, new_plan}
 use Rattle.norm_ext.specs.declared.fti.Fti.{Fti}
 use Rattle.rx_hold.specs.ObjectState.{ObjectState}
-use Rattle.rx_hold.proofs.Cuts.{some_sources}
-use Rattle.rx_hold.proofs.NewLemmas.{frees, zeros, new_held, new_each, none_counted}
+use Rattle.rx_hold.proofs.NewLemmas.{frees, zeros, new_held, new_each, new_shorts}
 use Rattle.rx_hold.proofs.WordLemmas.{object_cut}
 use Rattle.rx_hold.proofs.object.Object.new.Goals as goal
 
@@ -27,20 +26,16 @@ pub invariant_of-result : goal.invariant_of-result
 invariant_of-result c =
     let plan = c.in_ok-rows.ensures.plan in
     let rows = c.in_ok-rows.ensures.rows in
-    let counts : c.in_ok-counts.counts.items ≡ zeros c.blocks-2.result = c.in_ok-counts.ensures.items_if_clones_equal (λ y e. e) in
+    let counts : c.in_ok-counts.counts.items ≡ zeros c.blocks-count.result = c.in_ok-counts.ensures.items_if_clones_equal (λ y e. e) in
     record {
       plan = plan ∙ c.requires.cut;
       kind = c.requires.kind;
       rows = rows;
-      counted = ap length counts ∙ length-replicate {A = ℕ} c.blocks-2.result 0 ∙ c.blocks-2.ensures.exact ∙ ap blocks (sym plan);
-      each = new_each c.args.index c.in_ok-rows.rows.plan c.in_ok-rows.rows.ids.items c.in_ok-rows.rows.octets.items c.in_ok-counts.counts.items c.blocks-2.result rows.sound rows.object
+      counted = ap length counts ∙ length-replicate {A = ℕ} c.blocks-count.result 0 ∙ c.blocks-count.ensures.exact ∙ ap blocks (sym plan);
+      each = new_each c.args.index c.in_ok-rows.rows.plan c.in_ok-rows.rows.ids.items c.in_ok-rows.rows.octets.items c.in_ok-counts.counts.items c.blocks-count.result rows.sound rows.object
           (c.in_ok-rows.ensures.free ∙ ap (λ (d : Cut). frees (all_symbols d)) (sym plan)) counts;
-      few = omega arith;
-      done = λ b lt. absurd (omega (arith, lt));
-      short = λ lt.
-          let some = some_sources c.in_ok-rows.rows.plan 0 rows.sound rows.object in
-          let none = ap (λ xs. get_or xs 0 0) counts ∙ none_counted c.blocks-2.result 0 in
-          omega (arith, some, none);
+      shorts = new_shorts c.in_ok-rows.rows.plan c.in_ok-counts.counts.items c.blocks-count.result c.in_ok-shorts.shorts rows.sound rows.object
+          (c.blocks-count.ensures.exact ∙ ap blocks (sym plan)) counts c.in_ok-shorts.ensures.all;
     }
 
 pub returns : goal.returns

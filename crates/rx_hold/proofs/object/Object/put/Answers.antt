@@ -1,11 +1,11 @@
-use Rattle.std.proofs.Common.{◌≡◌, ◌+◌, ◌<◌, ℕ, subst, ap, ◌∙◌, arith, set}
-use Rattle.std.specs.Prelude.{slice_index}
+use Rattle.std.proofs.Common.{◌≡◌, ◌+◌, false, subst, sym, ap, arith, set}
 use Rattle.std.specs.Vec.{with_item}
-use Rattle.fec_plan.specs.Partition.{blocks, source_symbols}
+use Rattle.norm_receive_rules.specs.Plans.{is_done}
 use Rattle.gf_field.proofs.Places.{elements_of_octets}
 use Rattle.rx_hold.proofs.Cuts.{few_sources}
-use Rattle.rx_hold.proofs.ObjectLemmas.{read_at}
-use Rattle.rx_hold.proofs.ThenLemmas.{news, counts_done, counts_most, free_are, object_then, view_then}
+use Rattle.rx_hold.specs.ObjectState.{ObjectState, alone}
+use Rattle.rx_hold.proofs.ObjectLemmas.{read_at, short_is}
+use Rattle.rx_hold.proofs.ThenLemmas.{news, free_are, object_then, shorts_then, view_then}
 use Rattle.rx_hold.proofs.object.Object.put.Goals as goal
 
 pub put-requires-clause-new : goal.put-requires-clause-new
@@ -40,23 +40,14 @@ overflow_add-index_mut c =
     let most = c.self.invariant.rows.sound.most_b in
     record { fits = omega (arith, read, less, few, most) }
 
-pub next_short-self-inside-requires-clause-done : goal.next_short-self-inside-requires-clause-done
-next_short-self-inside-requires-clause-done c =
+pub note-requires : goal.note-requires
+note-requires c =
     let n = news c.self.inside c.args.self.now c.args.block c.args.symbol c.args.payload.now c.self.invariant c.self.view_is c.requires.id c.requires.new c.requires.lacks c.requires.fits in
-    let within = n.within in
-    let counted = c.self.invariant.counted in
-    let read = read_at c.self.inside.counts.items c.args.block c.index_mut.result.now (omega (arith, within, counted)) c.index_mut.ensures.value in
-    counts_done c.self.inside c.args.block c.args.symbol c.args.payload.now c.deref.result.now c.put.new.self.plan c.self.invariant n c.put.ensures.plan
-    (c.deref.ensures.value ∙ ap (λ m. set c.self.inside.counts.items c.args.block (m + 1)) read)
-
-pub next_short-self-inside-requires-clause-most : goal.next_short-self-inside-requires-clause-most
-next_short-self-inside-requires-clause-most c =
-    let n = news c.self.inside c.args.self.now c.args.block c.args.symbol c.args.payload.now c.self.invariant c.self.view_is c.requires.id c.requires.new c.requires.lacks c.requires.fits in
-    let within = n.within in
-    let counted = c.self.invariant.counted in
-    let read = read_at c.self.inside.counts.items c.args.block c.index_mut.result.now (omega (arith, within, counted)) c.index_mut.ensures.value in
-    counts_most c.self.inside c.args.block c.args.symbol c.args.payload.now c.deref.result.now c.put.new.self.plan c.self.invariant n c.put.ensures.plan
-    (c.deref.ensures.value ∙ ap (λ m. set c.self.inside.counts.items c.args.block (m + 1)) read)
+    record {
+      reached = let start = c.self.invariant.shorts.start in omega (arith, start);
+      short = short_is c.self.inside c.args.block c.self.invariant n.within
+          (subst (λ (o : ObjectState). is_done (alone o) o.plan c.args.block ≡ false) (sym c.self.view_is) c.requires.lacks);
+    }
 
 pub invariant_of-self : goal.invariant_of-self
 invariant_of-self c =
@@ -64,16 +55,16 @@ invariant_of-self c =
     let within = n.within in
     let counted = c.self.invariant.counted in
     let read = read_at c.self.inside.counts.items c.args.block c.index_mut.result.now (omega (arith, within, counted)) c.index_mut.ensures.value in
-    object_then c.self.inside c.put.new.self _ c.next_short-self-inside.result c.args.block c.args.symbol c.args.payload.now c.self.invariant n
+    object_then c.self.inside c.put.new.self _ c.note.new.shorts c.args.block c.args.symbol c.args.payload.now c.self.invariant n
     (elements_of_octets c.args.payload.now (λ i. let byte = c.type_inv.payload i in byte.fits))
     c.put.ensures.plan c.put.ensures.rows c.put.ensures.symbols c.put.ensures.others c.put.ensures.lacks c.put.ensures.apart
     (ap (λ m. set c.self.inside.counts.items c.args.block (m + 1)) read)
-    c.next_short-self-inside.ensures.few
-    (subst (λ xs. (b : ℕ) → b < c.next_short-self-inside.result → slice_index xs b ≡ source_symbols c.put.new.self.plan b) c.deref.ensures.value c.next_short-self-inside.ensures.done)
-    (subst (λ xs. c.next_short-self-inside.result < blocks c.put.new.self.plan → slice_index xs c.next_short-self-inside.result < source_symbols c.put.new.self.plan c.next_short-self-inside.result) c.deref.ensures.value c.next_short-self-inside.ensures.short)
+    (shorts_then c.self.inside c.args.block c.args.symbol c.args.payload.now _ c.lacking-lacking.result c.note.new.shorts c.self.invariant n
+    (free_are c.self.inside c.args.self.now c.args.block c.args.symbol c.args.payload.now c.lacking-lacking.result c.self.invariant c.self.view_is n c.lacking-lacking.ensures)
+    (ap (λ m. set c.self.inside.counts.items c.args.block (m + 1)) read) c.note.ensures.last c.note.ensures.more)
 
 pub returns-clause-state : goal.returns-clause-state
 returns-clause-state c =
     let n = news c.self.inside c.args.self.now c.args.block c.args.symbol c.args.payload.now c.self.invariant c.self.view_is c.requires.id c.requires.new c.requires.lacks c.requires.fits in
-    view_then c.self.inside c.args.self.now c.put.new.self (with_item c.self.inside.counts c.args.block (c.index_mut.result.now + 1)) c.next_short-self-inside.result c.args.block c.args.symbol c.args.payload.now c.self.invariant c.self.view_is n
+    view_then c.self.inside c.args.self.now c.put.new.self (with_item c.self.inside.counts c.args.block (c.index_mut.result.now + 1)) c.note.new.shorts c.args.block c.args.symbol c.args.payload.now c.self.invariant c.self.view_is n
     c.put.ensures.plan c.put.ensures.symbols
