@@ -1,10 +1,10 @@
 -- What is needed of an object, and of all objects, as a NACK goes through it.
 use Rattle.std.proofs.Common.{◌≡◌, ℕ, zero, suc, ◌+◌, ◌-◌, ◌<◌, ◌≤◌, ◌⊎◌, inl, inr, List, [], ◌∷◌, Bool, true, false, not, Option, Some, None, refl, sym, ap, subst, ◌∙◌, arith}
-use Rattle.std.specs.Prelude.{◌==◌, ◌&&◌, ◌||◌, nat_lt, is_some, IfSome, option_map}
+use Rattle.std.specs.Prelude.{◌&&◌, ◌||◌, is_some, IfSome, option_map}
 use Rattle.std.proofs.lemmas.Bool.{cases_lt, eqb-true}
 use Rattle.norm_base.specs.Settings.{Settings}
 use Rattle.fec_plan.specs.Partition.{Cut, blocks, source_symbols}
-use Rattle.fec_plan.specs.Points.{Point, point, point_before}
+use Rattle.fec_plan.specs.Points.{Point, point}
 use Rattle.fec_plan.specs.declared.position.Position.{Position}
 use Rattle.norm_receive_rules.specs.Holding.{Holding, Plan}
 use Rattle.norm_receive_rules.specs.Plans.{cut_of_plan, says_stream, says_info, plan_of, lacking, is_done, has_its_info, info_of}

@@ -2,7 +2,6 @@ use Rattle.std.proofs.Common.{◌+◌, sym, subst}
 use Rattle.rx_hold.specs.EntryState.{alone_in, entry_of}
 use Rattle.rx_hold.specs.declared.entry.Entry.{Entry}
 use Rattle.rx_stream.specs.Short.{IsShortFrom}
-use Rattle.rx_entries.specs.Asked.{IsShort}
 use Rattle.rx_entries.proofs.needs.next_short_in.Goals as goal
 
 pub returns-in-Object : goal.returns-in-Object

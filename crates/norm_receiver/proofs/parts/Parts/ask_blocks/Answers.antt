@@ -1,4 +1,4 @@
-use Rattle.std.proofs.Common.{◌≤◌, ◌<◌, ◌≡◌, ◌+◌, Option, Some, None, false, sym, subst, arith}
+use Rattle.std.proofs.Common.{◌≤◌, ◌≡◌, ◌+◌, false, subst}
 use Rattle.fec_plan.specs.Partition.{Cut, blocks}
 use Rattle.fec_plan.specs.Points.{point, point_before, point_of}
 use Rattle.norm_receive_rules.specs.HeardNeeds.{is_heard}

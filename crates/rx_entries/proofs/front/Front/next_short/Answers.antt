@@ -1,5 +1,5 @@
-use Rattle.std.proofs.Common.{◌≡◌, ◌+◌, ◌≤◌, Some, sym, arith}
-use Rattle.rx_hold.specs.EntryState.{EntryState, alone_in, entry_of}
+use Rattle.std.proofs.Common.{◌+◌, sym, arith}
+use Rattle.rx_hold.specs.EntryState.{alone_in, entry_of}
 use Rattle.rx_entries.specs.Asked.{IsShort}
 use Rattle.rx_entries.proofs.NeedLemmas.{read_next, short_ahead, short_behind, short_in, short_nowhere, short_there}
 use Rattle.rx_entries.proofs.front.Front.next_short.Goals as goal
