@@ -1,11 +1,12 @@
 //! Rows from outside, parity by Newton's differences, and blocks solved from every choice of k symbols.
 
-ghost use Rattle.std.specs.Prelude.{ℕ, ◌≡◌, ◌<◌, IsTrue, length};
+ghost use Rattle.std.specs.Prelude.{ℕ, ◌≡◌, ◌<◌, IfOk, IsTrue, length};
+ghost use Rattle.gf_field.specs.Symbol.{AreSymbols};
 ghost use Rattle.rs_block.specs.Codeword.{AreIds};
 
 use gf_field::{alpha_pow, inv, mul};
 use norm_base::Memory;
-use rs_block::{Code, Solver};
+use rs_block::{Code, Row, Solver};
 use std::alloc::{AllocError, Global};
 use std::process::Abort;
 use std::test::Fail;
@@ -78,6 +79,38 @@ fn solved_in(
     Ok(row)
 }
 
+/// Each octet as a symbol in a row of its own.
+fn rows_of(alloc: Global, symbols: &[u8]) -> Result<Vec<Row>, AllocError>
+    ensures { IfOk result (λ rows. AreSymbols (length symbols.now) 1 rows.items) }
+{
+    let mut rows = Vec::new(alloc);
+    for symbol in symbols {
+        rows.push(Row::of(vec![in alloc; *symbol; 1]?))?;
+    }
+    Ok(rows)
+}
+
+/// The source octets from the octets with these ids, solved in the rows in which they lie.
+fn solved_in_rows(
+    rt: &impl Abort,
+    alloc: Global,
+    ids: &[u8],
+    symbols: &[u8],
+) -> Result<Vec<u8>, Fail> {
+    assert!(rt; 1 <= ids.len() && ids.len() < 256);
+    assert!(rt; are_ids(ids));
+    assert_eq!(rt; symbols.len(), ids.len());
+    let mut solver = Solver::new(alloc, ids.len() as u8, 1)?;
+    let mut rows = rows_of(alloc, symbols)?;
+    let mut aside = vec![in alloc; 0; symbols.len()]?;
+    solver.solve_rows(ids, &mut rows, &mut aside);
+    let mut sources = Vec::new(alloc);
+    for row in &rows {
+        sources.extend_from_slice(row.octets())?;
+    }
+    Ok(sources)
+}
+
 /// The value at `x` of the polynomial through the values at the first powers of alpha, by divided differences.
 fn newton(rt: &impl Abort, alloc: Global, values: &[u8], x: u8) -> Result<u8, AllocError> {
     let mut table = values.to_vec(alloc)?;
@@ -146,10 +179,10 @@ fn a_short_block_is_solved(rt: HostRuntime) -> Result<(), Fail> {
         ([4, 3, 1], [0x1d, 0x40, 0x04]),
     ] {
         let sources = solved_in(&rt, alloc, 1, &ids, &symbols)?;
-        assert!(rt;
-            sources.as_slice() == [0x01, 0x04, 0x10].as_slice(),
-            "{ids:?}"
-        );
+        let rows = solved_in_rows(&rt, alloc, &ids, &symbols)?;
+        let wanted = [0x01, 0x04, 0x10].as_slice();
+        let are_so = sources.as_slice() == wanted && rows.as_slice() == wanted;
+        assert!(rt; are_so, "{ids:?}");
     }
     Ok(())
 }
@@ -230,7 +263,8 @@ fn as_they_lie(
     Ok((places, row))
 }
 
-/// Whether the symbols whose bits are set in the mask give the source octets, solved into another row and in their own one.
+/// Whether the symbols whose bits are set in the mask give the source octets, solved into another row, in their own one, and in rows of
+/// their own.
 fn are_solved_from(
     rt: &impl Abort,
     alloc: Global,
@@ -250,7 +284,8 @@ fn are_solved_from(
     let (places, row) = as_they_lie(rt, alloc, &ids, &given)?;
     let into = solved(rt, alloc, 1, &ids, &given)?;
     let within = solved_in(rt, alloc, 1, &places, &row)?;
-    Ok(into.as_slice() == source && within.as_slice() == source)
+    let apart = solved_in_rows(rt, alloc, &places, &row)?;
+    Ok(into.as_slice() == source && within.as_slice() == source && apart.as_slice() == source)
 }
 
 #[test]
