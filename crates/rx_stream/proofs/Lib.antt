@@ -8,3 +8,4 @@ pub mod HandingLemmas
 pub mod EndLemmas
 pub mod SegmentLemmas
 pub mod LeftLemmas
+pub mod ShortLemmas

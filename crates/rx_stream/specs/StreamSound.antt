@@ -1,12 +1,13 @@
 -- What a stream keeps, and what it is seen as.
-use Rattle.std.specs.Prelude.{ℕ, suc, ◌≡◌, ◌<◌, ◌≤◌, ◌+◌, List, [], ◌∷◌, ◌++◌, map, length, Option, is_some, true}
+use Rattle.std.specs.Prelude.{ℕ, suc, ◌≡◌, ◌<◌, ◌≤◌, ◌+◌, List, [], ◌∷◌, ◌++◌, map, length, nat_lt, slice_index_or, Option, is_some, true, false}
 use Rattle.std.specs.List.{AllByRecursion}
 use Rattle.fec_plan.specs.Partition.{Cut, IsSound, stream_cut}
 use Rattle.fec_plan.specs.Points.{position}
 use Rattle.norm_receive_rules.specs.Holding.{Plan, Held}
 use Rattle.norm_receive_rules.specs.Plans.{says_stream}
-use Rattle.rx_stream.specs.BlockState.{Came, BlockState, source_of}
+use Rattle.rx_stream.specs.BlockState.{Came, BlockState, lacks, source_of}
 use Rattle.rx_stream.specs.StreamState.{StreamState}
+use Rattle.short_blocks.specs.State.{ShortsState}
 
 -- what came of a block, as it is held
 abbrev pub held_in : ℕ → ℕ → BlockState → List Held
@@ -56,3 +57,16 @@ pub record StreamSound (plan : Plan) (cut : Cut) (first symbol : ℕ) (ring : Li
   pub begun : IsBegun symbol ring
   pub named : AreNamed (held_from plan.index first ring)
   pub spare : AreSpare plan.fti.b (plan.fti.e + 8) symbol spares
+
+-- The window of the short blocks is the ring: those are short that lack symbols.
+pub record AreShorts (first : ℕ) (ring : List BlockState) (shorts : ShortsState) : Type 0 where
+  pub start : shorts.start ≡ first
+  pub all : length shorts.short ≡ length ring
+  pub few : length ring < 65536
+  pub named : first ≤ 16777216
+  pub short : (place : ℕ) (d : BlockState) → place < length ring → slice_index_or shorts.short place false ≡ nat_lt 0 (lacks (slice_index_or ring place d))
+
+-- All of it.
+pub record StreamKept (plan : Plan) (cut : Cut) (first symbol : ℕ) (ring : List BlockState) (spares : List (List ℕ)) (window : ShortsState) : Type 0 where
+  pub sound : StreamSound plan cut first symbol ring spares
+  pub shorts : AreShorts first ring window

@@ -1,6 +1,6 @@
 //! The blocks of one stream, from its next segment on.
 
-ghost use Rattle.std.specs.Prelude.{ℕ, List, [], ◌≡◌, ◌==◌, ◌<◌, ◌≤◌, ◌+◌, IfOk, IsTrue, OnErr, MatchOption, IfSome, length, max, min, not, is_some, true, false, Some, None, replicate, slice_index_or, slice_set, option_copied, option_map, take, drop, ◌∷◌, ◌++◌};
+ghost use Rattle.std.specs.Prelude.{ℕ, List, [], ◌≡◌, ◌==◌, ◌<◌, ◌≤◌, ◌+◌, IfOk, IsTrue, OnErr, MatchOption, IfSome, length, max, min, not, is_some, true, false, Some, None, replicate, slice_index_or, slice_set, option_copied, option_map, cond, nat_lt, unwrap_or, take, drop, ◌∷◌, ◌++◌};
 ghost use Rattle.std.specs.List.{AllByRecursion};
 ghost use Rattle.std.specs.VecDeque.{deque_capacity};
 ghost use Rattle.norm_base.specs.Settings.{Settings};
@@ -14,9 +14,10 @@ ghost use Rattle.norm_receive_rules.specs.Holding.{new_plan};
 ghost use Rattle.norm_receive_rules.specs.Plans.{cut_of_plan, has_its_info, holds, is_done, lacking, says_stream};
 ghost use Rattle.norm_receive_rules.specs.Putting.{is_far, is_misfit, is_segment, put_by, with_symbol};
 ghost use Rattle.norm_receive_rules.specs.declared.words.Put.TheVariants as put_word;
-ghost use Rattle.rx_stream.specs.BlockState.{BlockState, empty_block, source_of};
+ghost use Rattle.rx_stream.specs.BlockState.{BlockState, empty_block, lacks, source_of};
 ghost use Rattle.rx_stream.specs.StreamState.{StreamState, alone, empty_stream, IsOf};
 ghost use Rattle.rx_stream.specs.Short.{IsShortFrom};
+ghost use Rattle.short_blocks.specs.State.{is_short, settled};
 ghost use Rattle.rx_stream.specs.BlockMoves.{IsRow, IsSent, MayCome, with_came};
 ghost use Rattle.rx_stream.specs.StreamMoves.{MayKeep, fits_cut, handed_on, left, left_behind, next_up, passed, shape_of};
 
@@ -29,6 +30,7 @@ use norm_ext::{Fti, read_16};
 use norm_order::Up;
 use norm_receive_rules::Put;
 use rs_block::Row;
+use short_blocks::Shorts;
 use std::alloc::Global;
 use std::collections::VecDeque;
 use std::marker::Model;
@@ -60,18 +62,20 @@ pub struct Stream {
     /// Rows in which the segments of the first block are handed up from the next one on, one for each. Those of a block that
     /// was passed serve for the next block.
     spares: Vec<Row>,
+    /// Which of the ring's blocks are not done.
+    shorts: Shorts,
 }
 
 impl Model for Stream {
     ghost use Rattle.norm_receive_rules.specs.Holding.{Plan as PlanState};
     ghost use Rattle.rx_stream.specs.StreamState.{StreamState};
-    ghost use Rattle.rx_stream.specs.StreamSound.{stream_of, StreamSound};
+    ghost use Rattle.rx_stream.specs.StreamSound.{stream_of, StreamKept};
 
     ghost Value = { StreamState };
 
     ghost view = { λ s. stream_of (record { index = s.index; fti = s.fti; flags = s.flags; seen = s.seen }) s.info s.first s.symbol s.ring.items };
 
-    ghost invariant = { λ s. StreamSound (record { index = s.index; fti = s.fti; flags = s.flags; seen = s.seen }) s.plan s.first s.symbol s.ring.items s.spares.items };
+    ghost invariant = { λ s. StreamKept (record { index = s.index; fti = s.fti; flags = s.flags; seen = s.seen }) s.plan s.first s.symbol s.ring.items s.spares.items s.shorts };
 }
 
 /// Whether a payload is one segment of at most `e` octets, and nothing behind it.
@@ -137,6 +141,39 @@ fn put_at(
     ensures same { scratch.new ≡ scratch.old }
 {
     ring[place].put(alloc, symbol, payload, scratch)
+}
+
+/// A symbol came of the block at a place, which lacked some: it is done where none is lacking now.
+fn note(ring: &VecDeque<Block>, place: usize, shorts: &mut Shorts, block: u32)
+    requires place { place < length ring.now.items }
+    requires reached { shorts.old.start ≤ block }
+    requires short { is_short shorts.old block ≡ true }
+    ensures done { (d : BlockState) → lacks (slice_index_or ring.now.items place d) ≡ 0 → shorts.new ≡ settled block shorts.old }
+    ensures more { (d : BlockState) → 0 < lacks (slice_index_or ring.now.items place d) → shorts.new ≡ shorts.old }
+{
+    if ring[place].lacks() == 0 {
+        shorts.settle(block);
+    }
+}
+
+/// The block that was found, or the one behind the ring where none was, which lacks all its symbols: where the stream has it.
+fn first_of(found: Option<u32>, behind: u32, blocks: u32) -> Option<u32>
+    ensures { result ≡ cond (nat_lt (unwrap_or found behind) blocks) (Some (unwrap_or found behind)) None }
+{
+    let block = found.unwrap_or(behind);
+    if block < blocks {
+        return Some(block);
+    }
+    None
+}
+
+/// The block behind a ring.
+fn behind_ring(first: u32, ring: &VecDeque<Block>) -> u32
+    requires named { first ≤ 16777216 }
+    requires few { length ring.now.items < 65536 }
+    ensures { result ≡ first + length ring.now.items }
+{
+    first + ring.len() as u32
 }
 
 /// The place of a block behind the first one.
@@ -226,6 +263,7 @@ impl Stream {
             &mut ring,
             usize::from(room),
         );
+        let shorts = Shorts::new(alloc, u32::from(room))?;
         Ok(Stream {
             alloc,
             index,
@@ -238,6 +276,7 @@ impl Stream {
             symbol: 0,
             ring,
             spares,
+            shorts,
         })
     }
 
@@ -344,38 +383,29 @@ impl Stream {
         self.lacking(block) == 0
     }
 
-    /// The first block from this one on that lacks symbols.
-    fn short_from(&self, from: u32) -> Option<u32>
-        requires { self.now.point.block ≤ from }
-        ensures { IsShortFrom (alone self.now) self.now.plan from result }
-    {
-        let plan = self.plan();
-        for block in from..plan.blocks() {
-            if self.lacking(block) > 0 {
-                return Some(block);
-            }
-        }
-        None
-    }
-
-    /// The first block from the next segment's on that lacks symbols. It looks at one block more than there is room for, at most.
+    /// The first block from the next segment's on that lacks symbols. It takes constant time.
     pub fn first_short(&self) -> Option<u32>
         ensures { IsShortFrom (alone self.now) self.now.plan self.now.point.block result }
     {
-        self.short_from(self.first)
+        let blocks = self.plan.blocks();
+        let behind = behind_ring(self.first, &self.ring);
+        first_of(self.shorts.first(), behind, blocks)
     }
 
-    /// The first block behind one that lacks symbols that lacks symbols too. It looks at one block more than there is room for, at
-    /// most.
+    /// The first block behind one that lacks symbols that lacks symbols too. It takes constant time.
     pub fn next_short(&self, block: u32) -> Option<u32>
         requires reached { self.now.point.block ≤ block }
         requires block { block < blocks (cut_of_plan self.now.plan) }
         requires short { is_done (alone self.now) self.now.plan block ≡ false }
         ensures { IsShortFrom (alone self.now) self.now.plan (block + 1) result }
     {
-        let plan = self.plan();
-        prove!(block < plan.blocks());
-        self.short_from(block + 1)
+        let blocks = self.plan.blocks();
+        let place = place_of(self.first, block);
+        if is_beyond(&self.ring, place) {
+            return first_of(None, block + 1, blocks);
+        }
+        let behind = behind_ring(self.first, &self.ring);
+        first_of(self.shorts.next(block), behind, blocks)
     }
 
     /// Whether there is no room for a block.
@@ -435,6 +465,7 @@ impl Stream {
     {
         let place = place_of(self.first, block);
         put_at(&mut self.ring, place, self.alloc, symbol, payload, scratch)?;
+        note(&self.ring, place, &mut self.shorts, block);
         Ok(())
     }
 
@@ -497,6 +528,7 @@ impl Stream {
         self.symbol = 0;
         self.first += 1;
         self.spares = shift(&mut self.ring, Block::new(self.alloc, count, size));
+        self.shorts.advance();
         bytes
     }
 
