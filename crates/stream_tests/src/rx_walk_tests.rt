@@ -2,7 +2,7 @@
 //! Each place is something to ask for, but the objects of which nothing is needed, and of these 256 are held at most.
 
 use crate::playing::{Sizes, fit, flags, is_over, profile_of};
-use fec_plan::PayloadId;
+use fec_plan::{MOST_BLOCKS, PayloadId};
 use norm_base::Memory;
 use norm_receive_rules::{Fit, Put};
 use rx_entries::Hold;
@@ -59,13 +59,22 @@ fn walks(rt: &impl Abort, hold: &Hold, rows: &[Row]) {
     }
 }
 
+/// Whether the one symbol of a block of the first object is kept.
+fn keeps_block(hold: &mut Hold, block: u32) -> Result<bool, Memory> {
+    if block >= MOST_BLOCKS {
+        return Ok(false);
+    }
+    let id = PayloadId { block, symbol: 0 };
+    Ok(hold.put(0, id, &[0; 64])? == Put::Kept)
+}
+
 /// Whether the one symbol of each block of an object is kept, but of these.
 fn keeps_all_but(hold: &mut Hold, blocks: u32, lacking: &[u32]) -> Result<bool, Memory> {
     for block in 0..blocks {
         if lacking.contains(&block) {
             continue;
         }
-        if hold.put(0, PayloadId { block, symbol: 0 }, &[0; 64])? != Put::Kept {
+        if !keeps_block(hold, block)? {
             return Ok(false);
         }
     }
