@@ -1,6 +1,5 @@
 //! What a failed call of the outside was about.
 
-use std::net::SocketAddr;
 use std::{fmt, io};
 
 /// What a call of the outside was done to as it failed, and why it failed, in the system's words. It is for people: no
@@ -8,23 +7,11 @@ use std::{fmt, io};
 #[derive(Debug, Drop)]
 pub enum Cause {
     /// The input was read.
-    Input {
-        error: io::Error,
-    },
+    Input { error: io::Error },
     /// The output was written.
-    Output {
-        error: io::Error,
-    },
+    Output { error: io::Error },
     /// The file of this path was looked at, read or written.
-    File {
-        path: String,
-        error: io::Error,
-    },
-    /// A socket was bound to this address.
-    Socket {
-        address: SocketAddr,
-        error: io::Error,
-    },
+    File { path: String, error: io::Error },
 }
 
 impl fmt::Display for Cause {
@@ -33,7 +20,6 @@ impl fmt::Display for Cause {
             Cause::Input { error } => write!(f, "cannot read the input: {error}"),
             Cause::Output { error } => write!(f, "cannot write the output: {error}"),
             Cause::File { path, error } => write!(f, "cannot use the file {path}: {error}"),
-            Cause::Socket { address, error } => write!(f, "cannot bind {address}: {error}"),
         }
     }
 }
