@@ -2,9 +2,9 @@
 
 ghost use Rattle.std.specs.Prelude.{◌≤◌, length, IfOk};
 
-use norm_base::{Fabric, NodeId};
+use norm_base::NodeId;
 use norm_memory::{FeedFabric, MemClock, MemFiles, MemSink, MemSource};
-use norm_program::{Status, norm_main};
+use program_calls::status_code;
 use std::alloc::{AllocError, Global};
 use std::sync::Wait;
 use std::test::Fail;
@@ -123,20 +123,6 @@ fn network(alloc: Global, row: &Row) -> Result<FeedFabric, Fail> {
     }
 }
 
-/// The status of the program. Nothing stands behind the call, so that its contract leads to no goal here.
-fn status_of<R: Threads + Wait + Sync, F: Fabric>(
-    rt: &R,
-    alloc: Global,
-    words: &Vec<String>,
-    input: &mut MemSource,
-    output: &mut MemSink,
-    fabric: &mut F,
-    files: &mut MemFiles,
-    clock: &mut MemClock,
-) -> Status {
-    norm_main(rt, alloc, words, input, output, fabric, files, clock)
-}
-
 /// What a row has to leave differs where the answer is a sentence.
 fn differs<R: Threads + Wait + Sync>(
     rt: &R,
@@ -153,7 +139,7 @@ fn differs<R: Threads + Wait + Sync>(
     );
     let mut files = MemFiles::of(vec![in alloc; profile]?, Vec::new(alloc));
     let mut clock = MemClock::of(Vec::new(alloc));
-    let status = status_of(
+    let status = status_code(
         rt,
         alloc,
         &words,
@@ -164,7 +150,7 @@ fn differs<R: Threads + Wait + Sync>(
         &mut clock,
     );
     let offers = only_offer(alloc, &fabric)?.as_slice() == wanted_offer(alloc, row)?.as_slice();
-    Ok(compared(row, status.code(), &output, offers, &files))
+    Ok(compared(row, status, &output, offers, &files))
 }
 
 /// In what the objects differ from what a row has to leave, given whether its offers are those.

@@ -1,9 +1,9 @@
 //! Sessions whose members get datagrams that are refused before each that was offered: what they print is what they print without them.
 
 use crate::hostile::HostileFabric;
-use norm_base::{Fabric, Octets, Sink, Source};
+use norm_base::Octets;
 use norm_memory::{MemClock, MemFiles, MemSink, MemSource};
-use norm_program::{Status, norm_main};
+use program_calls::status_code;
 use row_words::octets_of;
 use std::alloc::Global;
 use std::sync::Wait;
@@ -103,20 +103,6 @@ fn network(alloc: Global) -> Result<HostileFabric, Fail> {
     Ok(HostileFabric::of(alloc, refused))
 }
 
-/// The status of the program. Nothing stands behind the call, so that its contract leads to no goal here.
-fn status_of<R: Threads + Wait + Sync, S: Source, K: Sink, F: Fabric>(
-    rt: &R,
-    alloc: Global,
-    words: &Vec<String>,
-    input: &mut S,
-    output: &mut K,
-    fabric: &mut F,
-    files: &mut MemFiles,
-    clock: &mut MemClock,
-) -> Status {
-    norm_main(rt, alloc, words, input, output, fabric, files, clock)
-}
-
 /// Whether a session prints its lines over that network, and was given as many datagrams.
 fn is_printed<R: Threads + Wait + Sync>(rt: &R, alloc: Global, row: &Row) -> Result<bool, Fail> {
     let words = vec![in alloc; String::from_str(alloc, "session")?]?;
@@ -125,7 +111,7 @@ fn is_printed<R: Threads + Wait + Sync>(rt: &R, alloc: Global, row: &Row) -> Res
     let mut fabric = network(alloc)?;
     let mut files = MemFiles::of(Vec::new(alloc), Vec::new(alloc));
     let mut clock = MemClock::of(Vec::new(alloc));
-    let status = status_of(
+    let status = status_code(
         rt,
         alloc,
         &words,
@@ -135,7 +121,7 @@ fn is_printed<R: Threads + Wait + Sync>(rt: &R, alloc: Global, row: &Row) -> Res
         &mut files,
         &mut clock,
     );
-    Ok(status.code() == 0 && output.bytes() == row.lines && fabric.given() == row.given)
+    Ok(status == 0 && output.bytes() == row.lines && fabric.given() == row.given)
 }
 
 #[test]

@@ -1,8 +1,8 @@
 //! Whole sessions of two receivers, over a network that loses what a row names: all lines, and some of the datagrams octet for octet.
 
-use crate::program::{Fails, ran, sink, source};
 use norm_base::NodeId;
 use norm_memory::{ListFabric, Rule};
+use program_calls::{Fails, ran, sink, source};
 use std::alloc::Global;
 use std::process::Abort;
 use std::sync::Wait;

@@ -1,7 +1,7 @@
 //! Each call of the network and each write failing in turn: in a session with a watermark, and in one with a stream and two of them.
 
-use crate::program::{Fails, network, ran, sink, source};
 use norm_memory::MemSink;
+use program_calls::{Fails, network, ran, sink, source};
 use std::alloc::Global;
 use std::sync::Wait;
 use std::test::Fail;
