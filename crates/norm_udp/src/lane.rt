@@ -26,7 +26,8 @@ const MOST_SLEEPS: u32 = 200;
 /// How often a node that ends sleeps at most while what it posted is sent.
 const MOST_DRAINING: u32 = 100_000;
 
-/// What lies in a lane: where the thread sends from here on, or a member's datagram, and on the way back what its sending failed at.
+/// What lies in a lane: where the thread sends from here on, or a member's datagram, and on the way back what its sending failed at. It lies in
+/// a box, so that a queue moves a pointer and not all of it.
 #[derive(Drop)]
 pub(crate) struct Posted {
     pub(crate) way: Option<Way>,
@@ -39,9 +40,9 @@ pub(crate) struct Posted {
 #[derive(Drop)]
 pub(crate) struct Lane {
     /// What the thread has to send, in the order that it was offered.
-    posted: ArrayQueue<Posted>,
+    posted: ArrayQueue<Box<Posted>>,
     /// Places of which nothing is to be sent any more.
-    places: ArrayQueue<Posted>,
+    places: ArrayQueue<Box<Posted>>,
     rest: Parker,
     /// Whether nothing will be offered any more.
     over: AtomicBool,
@@ -62,7 +63,7 @@ impl Lane {
                 datagram: Datagram::new(alloc)?,
                 failed: None,
             };
-            places.force_push(rt, place);
+            places.force_push(rt, Box::new(alloc, place)?);
         }
         Ok(Lane {
             posted: ArrayQueue::new(alloc, PLACES)?,
@@ -73,7 +74,7 @@ impl Lane {
     }
 
     /// A place, once there is one. `None` where none became free in some ten milliseconds.
-    fn place<R: Wait + Clock>(&self, rt: &R) -> Option<Posted> {
+    fn place<R: Wait + Clock>(&self, rt: &R) -> Option<Box<Posted>> {
         for _ in 0..MOST_SLEEPS {
             if let Some(place) = self.places.pop(rt) {
                 return Some(place);
@@ -84,7 +85,7 @@ impl Lane {
     }
 
     /// Puts what was written into a place into the lane.
-    fn put<R: Wait>(&self, rt: &R, place: Posted) {
+    fn put<R: Wait>(&self, rt: &R, place: Box<Posted>) {
         self.posted.force_push(rt, place);
         self.rest.unpark();
     }
@@ -128,12 +129,12 @@ impl Lane {
     }
 
     /// What was posted next.
-    pub(crate) fn next<R: Wait>(&self, rt: &R) -> Option<Posted> {
+    pub(crate) fn next<R: Wait>(&self, rt: &R) -> Option<Box<Posted>> {
         self.posted.pop(rt)
     }
 
     /// Gives back the place of what was done.
-    pub(crate) fn free<R: Wait>(&self, rt: &R, place: Posted) {
+    pub(crate) fn free<R: Wait>(&self, rt: &R, place: Box<Posted>) {
         self.places.force_push(rt, place);
     }
 

@@ -23,7 +23,7 @@ const LEAST_PROCESSORS: usize = 4;
 const MOST_THREADS: usize = 4;
 
 /// Does what was posted next: the thread sends another way from here on, or sends a datagram. The place is given back, with what failed.
-fn follow<R: Wait>(rt: &R, lane: &Lane, way: Way, posted: Posted) -> Way {
+fn follow<R: Wait>(rt: &R, lane: &Lane, way: Way, posted: Box<Posted>) -> Way {
     let mut posted = posted;
     let way = match posted.way.take() {
         Some(other) => other,
