@@ -92,7 +92,7 @@ fn fault_of(error: &io::Error) -> FileFault
 }
 
 /// The most octets of a file that are read ahead: a file that is sent is asked for a symbol at a time.
-const AHEAD: usize = 65_536;
+const AHEAD: usize = 262_144;
 
 /// Octets of a file that were read ahead, from an offset on.
 #[derive(Drop)]
@@ -149,7 +149,7 @@ impl Said {
 /// The files of one folder, and one path that is read as it stands, where it was told one. Any other name that is none of a file there, also
 /// one with a slash or that begins with a `.`, is absent, and put nowhere. A file that is put is written beside its name and renamed, so that
 /// nobody sees a part of it. A read of 0 octets, and want of memory, are faults. It tells nothing of what the files hold. A read keeps up to
-/// 65,536 octets of the file for the reads behind it, until a length is asked for or a file is put. A length that is asked for again and again, with
+/// 262,144 octets of the file for the reads behind it, until a length is asked for or a file is put. A length that is asked for again and again, with
 /// no other call between, is asked of the system once in 65 times.
 #[derive(Drop)]
 pub struct FolderFiles<F> {
@@ -267,13 +267,24 @@ impl<F: fs::Files + Drop> FolderFiles<F> {
         };
     }
 
-    /// Reads octets of a file ahead, from an offset on.
-    fn ahead_of(&self, name: &str, offset: u64) -> io::Result<Ahead> {
+    /// Takes what was read ahead away, and answers its memory for what is read next.
+    fn take_room(&mut self) -> Vec<u8>
+        ensures { self.new.faults ≡ self.old.faults }
+    {
+        match self.ahead.take() {
+            Some(ahead) => ahead.octets,
+            None => Vec::new(self.alloc),
+        }
+    }
+
+    /// Reads octets of a file ahead, from an offset on, into this memory.
+    fn ahead_of(&self, name: &str, offset: u64, room: Vec<u8>) -> io::Result<Ahead> {
         let path = self.path_read(name)?;
         self.plain_length(path.as_str())?;
         let mut file = fs::open(&self.files, path.as_str())?;
         seek_to(&mut file, offset)?;
-        let mut octets = vec![in self.alloc; 0u8; AHEAD]?;
+        let mut octets = room;
+        octets.resize(AHEAD, 0)?;
         let n = file.read(&mut octets)?;
         octets.truncate(n);
         let name = String::from_str(self.alloc, name)?;
@@ -302,9 +313,9 @@ impl<F: fs::Files + Drop> FolderFiles<F> {
         if let Some(n) = self.give_ahead(name, offset, buf) {
             return Ok(n);
         }
-        self.ahead = None;
         self.said = None;
-        self.ahead = Some(self.ahead_of(name, offset)?);
+        let room = self.take_room();
+        self.ahead = Some(self.ahead_of(name, offset, room)?);
         match self.give_ahead(name, offset, buf) {
             Some(n) => Ok(n),
             None => Err(io::Error::from(ErrorKind::UnexpectedEof)),
