@@ -4,7 +4,7 @@
 compare.py [--program NORMD] [--size MIB] [--runs N] [--only RECEIVERS:LOSS ..] [--set KEY=VALUE ..] [--no-uftp]
 
 normd's nodes are processes on 127.0.0.1 with the profiles of examples/profiles, one for each row; --set changes keys of all. The file
-goes as objects of 1 MiB with a watermark behind each eight, half a window, with every line written to nothing. uftp's members have a network namespace
+goes as objects of 1 MiB with a watermark behind each window of sixteen, with every line written to nothing. uftp's members have a network namespace
 each, joined by a bridge; its rate is swept once and its best is run. Files lie in memory (/dev/shm). MB/s is of 1,000,000 octets: normd's
 from the sender's start to the slowest receiver's last octet, uftp's by the time that it tells itself. Medians of the runs, with the least
 and greatest. With --no-uftp, and where uftp is not there, a bare copier of datagrams (copier.c) is run in its place, to 4 and 16 receivers without
@@ -26,7 +26,7 @@ from typing import Callable
 
 HERE = Path(__file__).resolve().parent
 PROFILES = HERE.parent.parent / 'examples/profiles'
-MIB, FROM_WATERMARK = 1 << 20, 8
+MIB, FROM_WATERMARK = 1 << 20, 16
 ROWS = {(1, 0): 'loopback', (4, 0): 'four', (16, 0): 'many', (1, 5): 'lossy', (4, 5): 'lossy-four', (16, 5): 'lossy-many'}
 WANTED = {(1, 0): 1.4, (4, 0): 1.25, (16, 0): 1.0, (1, 5): 1.6, (4, 5): 1.5, (16, 5): 1.25}
 WANTED_OF_COPIER = {(4, 0): 0.8, (16, 0): 0.8}
