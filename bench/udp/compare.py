@@ -4,7 +4,7 @@
 compare.py [--program NORMD] [--size MIB] [--runs N] [--only RECEIVERS:LOSS ..] [--set KEY=VALUE ..] [--no-uftp]
 
 normd's nodes are processes on 127.0.0.1 with the profiles of examples/profiles, one for each row; --set changes keys of all. The file
-goes as objects of 1 MiB with a watermark behind each window of sixteen, with every line written to nothing. uftp's members have a network namespace
+goes as objects of 1 MiB with a watermark behind each window of sixteen or half of it (FROM_WATERMARK), with every line written to nothing. uftp's members have a network namespace
 each, joined by a bridge; its rate is swept once and its best is run. Files lie in memory (/dev/shm). MB/s is of 1,000,000 octets: normd's
 from the sender's start to the slowest receiver's last octet, uftp's by the time that it tells itself. Medians of the runs, with the least
 and greatest. With --no-uftp, and where uftp is not there, a bare copier of datagrams (copier.c) is run in its place, to 4 and 16 receivers without
@@ -26,8 +26,10 @@ from typing import Callable
 
 HERE = Path(__file__).resolve().parent
 PROFILES = HERE.parent.parent / 'examples/profiles'
-MIB, FROM_WATERMARK = 1 << 20, 16
+MIB = 1 << 20
 ROWS = {(1, 0): 'loopback', (4, 0): 'four', (16, 0): 'many', (1, 5): 'lossy', (4, 5): 'lossy-four', (16, 5): 'lossy-many'}
+# How many objects stand before each watermark: a window of sixteen, or half of one, so that the next half goes while what a receiver lost comes again.
+FROM_WATERMARK = {(1, 0): 16, (4, 0): 8, (16, 0): 8, (1, 5): 8, (4, 5): 8, (16, 5): 8}
 WANTED = {(1, 0): 1.4, (4, 0): 1.25, (16, 0): 1.0, (1, 5): 1.6, (4, 5): 1.5, (16, 5): 1.25}
 WANTED_OF_COPIER = {(4, 0): 0.8, (16, 0): 0.8}
 RATES = ('400000', '700000', '1000000', '2000000', '-1')
@@ -101,10 +103,10 @@ def normd(bench: Bench, receivers: int, loss: float) -> float | None:
         (room / str(name)).mkdir()
         (room / str(name) / 'profile.toml').write_text(profile_of(bench, ROWS[receivers, 5 if loss else 0], receivers))
     octets = bench.source.read_bytes()
-    script = ''
+    script, step = '', FROM_WATERMARK[receivers, 5 if loss else 0]
     for at in range(bench.size):
         (room / 'sender' / f'p{at}').write_bytes(octets[at * MIB:(at + 1) * MIB])
-        script += f'1 file p{at}\n' + ('1 mark\n' if (at + 1) % FROM_WATERMARK == 0 or at + 1 == bench.size else '')
+        script += f'1 file p{at}\n' + ('1 mark\n' if (at + 1) % step == 0 or at + 1 == bench.size else '')
     running = {}
 
     def start(name: object, words: list[str], **how) -> subprocess.Popen:
