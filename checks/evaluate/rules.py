@@ -60,7 +60,7 @@ def cited():
     out = {}
     for path in sorted(glob.glob(os.path.join(REPO, 'crates', '*', 'src', '*.rt'))):
         crate, name = path.split(os.sep)[-3], os.path.basename(path)[:-3]
-        if crate.endswith('_tests') or name == 'laws':
+        if crate.startswith('tests_') or crate.endswith('_tests') or name == 'laws':
             continue
         text = read(path)
         for module_crate, module, names, alias in re.findall(r'^ *ghost use Rattle\.(\w+)\.specs\.(\w+)(?:\.\{(.*?)\}| as (\w+));', text, re.M):
