@@ -1,0 +1,13 @@
+//! Which sender feedback is for (RFC 5740 section 4.3).
+
+ghost use Rattle.std.specs.Prelude.{◌≡◌, ◌==◌, ◌&&◌};
+
+use norm_base::{InstanceId, NodeId};
+
+/// Returns whether feedback that names `sender` and `instance` is for the sender with the number `node`, whose current
+/// instance is `current`. Feedback for an earlier instance speaks of objects that are gone.
+pub fn is_for(sender: NodeId, instance: InstanceId, node: u32, current: InstanceId) -> bool
+    ensures { result ≡ (sender == node && instance == current) }
+{
+    sender.number() == node && instance == current
+}
