@@ -22,7 +22,7 @@ use fec_plan::Position;
 use norm_base::{InstanceId, Moment, NodeId};
 use norm_codec::{Message, decode};
 use norm_ext::{Item, index_named, requests_of as requests_in};
-use norm_fbmsg::{AckBody, AckMsg, NackMsg};
+use norm_fbmsg::{AckBody, AckMsg, NackMsg, is_for};
 
 impl Parts {
     /// A member confirms all through a position.
@@ -78,11 +78,11 @@ impl Parts {
         self.open_round(now);
     }
 
-    /// Whether a message is to this sender and its current instance.
+    /// Returns whether feedback that names `sender` and `instance` is for this sender in its current instance.
     fn is_for(&self, sender: NodeId, instance: InstanceId) -> bool
         ensures { result ≡ (sender == self.now.profile.sender && instance == self.now.pace.instance) }
     {
-        sender.number() == self.profile.sender && instance == self.pace.instance
+        is_for(sender, instance, self.profile.sender, self.pace.instance)
     }
 
     /// A NACK counts where it is a receiver's.
