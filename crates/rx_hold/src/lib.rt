@@ -9,9 +9,11 @@
 mod block;
 mod entry;
 mod object;
+mod place;
 mod room;
 mod rows;
 
 pub use crate::entry::Entry;
 pub use crate::object::Object;
+pub use crate::place::Place;
 pub use crate::room::Room;

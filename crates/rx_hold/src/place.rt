@@ -1,0 +1,40 @@
+//! Where hand-ups stand, and what was handed up by it.
+
+ghost use Rattle.std.specs.Prelude.{◌≡◌, ◌&&◌, not};
+ghost use Rattle.fec_plan.specs.Points.{position, position_before};
+
+use fec_plan::Position;
+
+/// Where the next source symbol is that is to be handed up. A stream whose last block was handed up, of those that 24 bits name, goes
+/// on behind it, at a block that no message names.
+#[derive(Clone, Copy, Debug, PartialEq, Eq)]
+pub struct Place {
+    pub index: u32,
+    pub block: u32,
+    pub symbol: u8,
+}
+
+impl Place {
+    /// Whether it is behind a position, so that nothing through that is left to be handed up.
+    fn is_behind(&self, at: &Position) -> bool
+        ensures { result ≡ position_before at.now (position self.now.index self.now.block self.now.symbol) }
+    {
+        if at.index != self.index {
+            return at.index < self.index;
+        }
+        if at.block != self.block {
+            return at.block < self.block;
+        }
+        at.symbol < self.symbol
+    }
+
+    /// Whether all through a position was handed up. If an object was lost, it is not: the hand-up point went past that object too.
+    pub fn all_handed_up(&self, at: &Position, has_lost: bool) -> bool
+        ensures { result ≡ (position_before at.now (position self.now.index self.now.block self.now.symbol) && not has_lost) }
+    {
+        if has_lost {
+            return false;
+        }
+        self.is_behind(at)
+    }
+}
