@@ -1,6 +1,6 @@
 #!/bin/sh
-# Runs the wrapper ./normd where the program is built and where it is not, where the tool or the unproved run fails, and where the
-# program does not compile; and ./build. It is run after `rt ci`; the first row that differs is named, and ends it with status 1.
+# Runs the wrapper ./normd with the proved program, with the unproved one, and with neither, if the tool fails and if the program does
+# not compile; and ./build. It is run after `rt ci`; the first row that differs is named, and ends it with status 1.
 cd "$(dirname "$0")/.." || exit 1
 top=$(pwd -P)
 usage='usage: normd session | show | generate N | send PROFILE | recv PROFILE NODE | hub PROFILE'
@@ -24,7 +24,7 @@ row() {
     rows=$((rows + 1))
     [ "$status" = "$2" ] || wrong "$1 ended with status $status, and not $2"
     [ "$(cat "$scratch/out")" = "$3" ] || wrong "$1 wrote something else"
-    [ "$(grep -vc '^normd: compiling and running for [0-9]* seconds\.$' "$scratch/err")" = "$4" ] || wrong "$1 did not write $4 lines on standard error"
+    [ "$(grep -vc '^build: compiling for [0-9]* seconds\.$' "$scratch/err")" = "$4" ] || wrong "$1 did not write $4 lines on standard error"
 }
 
 # run FOLDER NORMD WORD..: from another folder; the input stands in $scratch/in.
@@ -52,44 +52,112 @@ cp examples/hello.norm "$scratch/in"
 
 # A copy without the program: its tool is first none, then one that says what a test wants, and then the real one.
 copy="$scratch/a copy"
-mkdir -p "$copy" "$scratch/empty" "$scratch/fake"
+mkdir -p "$copy" "$scratch/empty" "$scratch/fake" "$scratch/folder"
 git ls-files -co --exclude-standard | tar -cf - -T - | tar -xf - -C "$copy" || exit 1
-for tool in sh dirname readlink find head mktemp rm tail sed cat; do
+for tool in sh dirname readlink find head; do
     ln -s "$(command -v "$tool")" "$scratch/empty/$tool"
 done
 run / env PATH="$scratch/empty" "$copy/normd" session
-row 'no tool' 125 '' 1
+row 'no tool' 125 '' 2
 
-printf '#!/bin/sh\necho made >&2\necho "checked: ended status=9" >&2\necho "run=ended status=9 runners=1 proved=no" >&2\necho "$@"\nexit 9\n' >"$scratch/fake/rt"
-chmod +x "$scratch/fake/rt"
-run / env PATH="$scratch/fake:$PATH" "$copy/normd" 'two words' '*'
-row 'words and a status' 9 'try -- two words *' 2
-grep -q '^made$' "$scratch/err" || wrong 'what the program says on standard error is lost'
-printf '#!/bin/sh\necho "run=none proved=no" >&2\nexit 2\n' >"$scratch/fake/rt"
-run / env PATH="$scratch/fake:$PATH" "$copy/normd" session
-row 'a run that failed' 125 '' 2
+# tool LINE..: the tool is a script of these lines.
+tool() {
+    printf '#!/bin/sh\n' >"$scratch/fake/rt"
+    printf '%s\n' "$@" >>"$scratch/fake/rt"
+    chmod +x "$scratch/fake/rt"
+}
 
-printf '#!/bin/sh\necho "lib.rt:1:2: error[unexpected-token]: a word" >&2\necho "run=none proved=no" >&2\nexit 1\n' >"$scratch/fake/rt"
+# nothing_left NAME: out/ is empty.
+nothing_left() {
+    [ -z "$(ls -A "$copy/out")" ] || wrong "$1 left $(ls -A "$copy/out")"
+}
+
+tool 'exit 0'
+: >"$copy/out"
 run / env PATH="$scratch/fake:$PATH" "$copy/normd" session
-row 'a program that does not compile' 125 '' 3
+row 'no folder out/' 125 '' 2
+rm "$copy/out"
+tool 'echo "run=none proved=no" >&2' 'exit 2'
+run / env PATH="$scratch/fake:$PATH" "$copy/normd" session
+row 'a tool that fails' 125 '' 3
+nothing_left 'a tool that fails'
+tool 'echo "lib.rt:1:2: error[unexpected-token]: a word" >&2' 'echo "run=none proved=no" >&2' 'exit 1'
+run / env PATH="$scratch/fake:$PATH" "$copy/normd" session
+row 'a program that does not compile' 125 '' 4
 grep -q 'error\[unexpected-token\]: a word' "$scratch/err" || wrong 'what the tool says of a program that does not compile is lost'
+nothing_left 'a program that does not compile'
+tool 'printf "#!/bin/sh\nexit 0\n" >"$TMPDIR/program"' 'chmod +x "$TMPDIR/program"' 'exec sleep 60'
+run / env PATH="$scratch/fake:$PATH" "$copy/normd" session
+row 'a program that writes nothing' 125 '' 3
+nothing_left 'a program that writes nothing'
+
+tool 'exec sleep 60'
+(cd / && PATH="$scratch/fake:$PATH" exec "$copy/normd" session) </dev/null >"$scratch/out" 2>"$scratch/err" &
+normd=$!
+tries=0
+until [ -d "$(echo "$copy"/out/unproved.*/rt)" ] || [ $tries -gt 200 ]; do
+    tries=$((tries + 1))
+    sleep 0.1
+done
+kill "$normd"
+wait "$normd"
+status=$?
+row 'a signal' 143 '' 1
+nothing_left 'a signal'
+
+run / "$copy/build" --proved
+row 'a build of other words' 2 '' 1
+tool 'echo "lib.rt:1:2: error[unexpected-token]: a word" >&2' 'exit 1'
 run / env PATH="$scratch/fake:$PATH" "$copy/build"
-row 'a build that fails' 1 '' 4
+row 'a build that fails' 1 '' 3
 # The tool's own build takes as long as the proofs of the program, which the gate has behind it.
-printf '#!/bin/sh\necho "%s"\n' "$hello" >"$scratch/fake/rt"
+tool 'case $1 in all) echo "== norm_base" ;; *) cat stdout ;; esac'
 run / env PATH="$scratch/fake:$PATH" "$copy/build"
 row 'a build' 0 '' 2
 
-run / "$copy/normd" session
-row 'the unproved program' 0 "$hello" 1
+# The unproved program, made once, from the folder of whoever calls it.
+printf 'hi' >"$scratch/folder/hi.txt"
+printf 'set instance 7\nset octets 64\n1 file hi.txt\n' >"$scratch/in"
+file='enq 1 1 7 0 file 2
+up 2 7 0 file 2 68692e747874 6869
+end objects 1 octets 2 handed 1 lost 0 satisfied 0 expired 0 cut 0'
+run "$scratch/folder" "$copy/normd" session
+row 'the unproved program, made' 0 "$file" 3
+run "$scratch/folder" "$scratch/a copy/normd" session
+row 'the unproved program, kept' 0 "$file" 1
+grep -q '^normd: this program is not proved' "$scratch/err" || wrong 'the unproved program does not say so'
+[ "$(ls -A "$copy/out")" = normd-unproved ] || wrong "the unproved program stands beside $(ls -A "$copy/out")"
 run / "$copy/normd" "$(printf '\377\376')"
-row 'a word that is no text, unproved' 125 '' 2
+row 'a word that is no text, unproved' 2 "$usage" 3
 (cd / && exec "$copy/normd" session) </ >"$scratch/out" 2>"$scratch/err"
 status=$?
-row 'a folder as input, unproved' 125 '' 2
-sed -i '1i fn' "$copy/crates/normd/src/main.rt"
+row 'a folder as input, unproved' 4 'fault read' 2
+run / "$copy/examples/cast" "$copy/examples/letter.txt" 1 --port $((10000 + $$ % 400 * 16)) --grtt 1000000
+[ "$status" = 0 ] || wrong "two nodes and a hub of the unproved program ended with status $status"
+grep -q ' the same$' "$scratch/out" || wrong 'two nodes and a hub of the unproved program gave no copy'
+[ "$(grep -c '^normd: this program is not proved' "$scratch/err")" = 1 ] || wrong 'the nodes of the unproved program do not say so once'
+
+# It is made again after a source changed, here by a tool that makes another, and is not run once the proved one is there.
+cat >"$scratch/fake/rt" <<'END'
+#!/bin/sh
+printf '#!/bin/sh\necho another >&2\ncat "%s/stdout"\n' "$PWD" >"$TMPDIR/program"
+chmod +x "$TMPDIR/program"
+exec sleep 60
+END
+touch "$copy/crates/norm_base/src/lib.rt"
+run / env PATH="$scratch/fake:$PATH" "$copy/normd" session
+row 'the unproved program, made again' 0 "$hello" 4
+grep -qx another "$scratch/err" || wrong 'the unproved program is not made again after a source changed'
+mkdir -p "$copy/crates/normd/out"
+cp crates/normd/out/normd "$copy/crates/normd/out/normd"
+cp examples/hello.norm "$scratch/in"
 run / "$copy/normd" session
-[ "$status" = 125 ] || wrong "a program that does not compile ended with status $status"
+row 'the proved program beside an unproved one' 0 "$hello" 0
+
+sed -i '1i fn' "$copy/crates/normd/src/main.rt"
+run / "$copy/build" --unproved
+[ "$status" = 1 ] || wrong "a program that does not compile ended ./build --unproved with status $status"
 grep -q 'error\[' "$scratch/err" || wrong 'what the tool says of the program is lost'
+[ "$(ls -A "$copy/out")" = normd-unproved ] || wrong "a program that does not compile left $(ls -A "$copy/out")"
 
 echo "wrapper: $rows rows passed"

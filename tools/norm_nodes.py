@@ -7,6 +7,7 @@ import os
 import re
 import shutil
 import signal
+import subprocess
 import sys
 import tomllib
 from dataclasses import asdict, dataclass
@@ -67,11 +68,12 @@ def session_of(path: str) -> Session:
 
 
 def program_of(given: str | None) -> str:
-    """The proved program: the one that was asked for, this checkout's, or the one on the PATH."""
-    built = os.path.join(norm_keys.ROOT, 'crates', 'normd', 'out', 'normd')
-    found = given or (built if os.access(built, os.X_OK) else shutil.which('normd'))
+    """The program that is run: the one that was asked for, the one that `program` chooses in this checkout, or the one on the PATH."""
+    chooser = os.path.join(norm_keys.ROOT, 'tools', 'program')
+    found = given or subprocess.run([chooser], stdout=subprocess.PIPE, text=True).stdout.strip() or shutil.which('normd')
     if not found or not os.access(found, os.X_OK):
-        raise ToolFault("the proved program is not there: './build' proves and builds it.", wire.FAILED)
+        raise ToolFault("no program is there that is newer than its sources: './build --unproved' makes one in a minute or two, and './build' proves one.",
+                        wire.FAILED)
     return os.path.abspath(found)
 
 
