@@ -107,9 +107,11 @@ nothing_left 'a signal'
 
 run / "$copy/build" --proved
 row 'a build of other words' 2 '' 1
-tool 'echo "lib.rt:1:2: error[unexpected-token]: a word" >&2' 'exit 1'
+tool 'echo "== norm_base"' 'echo fine' 'echo "== norm_text"' 'echo "lib.rt:1:2: error[unexpected-token]: a word"' 'echo "== summary"' \
+    'echo "norm_base: ok"' 'echo "norm_text: failed (1)"' 'exit 1'
 run / env PATH="$scratch/fake:$PATH" "$copy/build"
-row 'a build that fails' 1 '' 3
+row 'a build that fails' 1 '' 4
+grep -q 'error\[unexpected-token\]: a word' "$scratch/err" || wrong 'what the tool says of a crate that is not proved is lost'
 # The tool's own build takes as long as the proofs of the program, which the gate has behind it.
 tool 'case $1 in all) echo "== norm_base" ;; *) cat stdout ;; esac'
 run / env PATH="$scratch/fake:$PATH" "$copy/build"
