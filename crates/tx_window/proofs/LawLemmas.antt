@@ -1,4 +1,5 @@
--- What was not dropped is in the window, and what was answered may be noted as sent; and a window goes on standing for some state.
+-- What was not dropped is in the window, what was answered may be noted as sent, and the answer to a request for a symbol is decided; and a
+-- window goes on standing for some state.
 use Rattle.std.proofs.Common.{◌≡◌, ℕ, ◌+◌, ◌-◌, ◌<◌, ◌≤◌, ◌⊎◌, inl, inr, Bool, true, false, refl, sym, ap, ◌∙◌, subst, arith, Option, Some, None, List, [], ◌∷◌}
 use Rattle.std.specs.Prelude.{nat_lt, nat_le, not, slice_get, ◌&&◌, MatchOption}
 use Rattle.std.proofs.lemmas.Bool.{cases_lt, lt-ltb, le-ltb, ltb-true, leb-true}
@@ -6,6 +7,7 @@ use Rattle.std.proofs.lemmas.Option.{slice_get-map, slice_get_within}
 use Rattle.fec_plan.specs.Points.{point_of, point_before, reached_by}
 use Rattle.fec_plan.specs.declared.position.Position.{Position}
 use Rattle.fec_plan.proofs.PointLemmas.{behind_point}
+use Rattle.norm_base.specs.Settings.{Settings}
 use Rattle.norm_order.specs.Entries.{Object, Entry}
 use Rattle.norm_order.specs.Shapes.{Shape, shape_of, encoded_in}
 use Rattle.norm_send_rules.specs.SenderState.{SenderState}
@@ -19,7 +21,7 @@ use Rattle.held_entry.specs.declared.entry.HeldEntry.TheVariants as held
 use Rattle.tx_window.specs.WindowState.{WindowState, Stands}
 use Rattle.tx_window.specs.Asked.{kept_at, AnswersAt, IsEncodedIn}
 use Rattle.tx_window.specs.Standing.{IsStanding}
-use Rattle.tx_window.specs.Laws.{MayBeNoted, IsThere}
+use Rattle.tx_window.specs.Laws.{MayBeNoted, IsThere, SymbolIsDecided}
 use Rattle.tx_window.proofs.KeptLemmas.{Found, dropped_is, entry_at_place, shape_is, chosen, passed_over}
 use Rattle.tx_window.proofs.StandingLemmas.{stands_past}
 
@@ -136,6 +138,26 @@ may_note w s at old new n stands answers = go (kept_at s at.index) refl answers
         let b = both (nat_le (first_kept s at.index) at.block) (nat_lt at.symbol (encoded_in (shape_of w.p object) at.block)) is.0 in
         encoded_here w s at k.entry stands k.there k.low (leb-true (first_kept s at.index) at.block b.0)
         (ap (λ (o : Object). nat_lt at.symbol (encoded_in (shape_of w.p o) at.block)) k.is ∙ b.1)
+
+-- ---- one answer
+
+-- two answers of an entry for one symbol are the same
+kept_decided : (p : Settings) (object : Object) (first block symbol : ℕ) (old new other : List ℕ) (answer told : Option ℕ)
+    → AnswersKept p object first block symbol old new answer → AnswersKept p object first block symbol old other told → (answer ≡ told) × (new ≡ other)
+kept_decided p object first block symbol old new other None None one two = (refl, one.1 ∙ sym two.1)
+kept_decided p object first block symbol old new other None (Some m) one two = absurd (cc (sym one.0 ∙ two.0))
+kept_decided p object first block symbol old new other (Some n) None one two = absurd (cc (sym one.0 ∙ two.0))
+kept_decided p object first block symbol old new other (Some n) (Some m) one two = (ap Some (one.2 ∙ sym two.2), one.1 ∙ sym two.1)
+
+pub symbol_is_decided : SymbolIsDecided
+symbol_is_decided p s at old new other answer told one two = go (kept_at s at.index) one two
+  where
+    go : (o : Option Object)
+        → MatchOption o ((answer ≡ None) × (new ≡ old)) (λ object. AnswersKept p object (first_kept s at.index) at.block at.symbol old new answer)
+        → MatchOption o ((told ≡ None) × (other ≡ old)) (λ object. AnswersKept p object (first_kept s at.index) at.block at.symbol old other told)
+        → (answer ≡ told) × (new ≡ other)
+    go None a b = (a.0 ∙ sym b.0, a.1 ∙ sym b.1)
+    go (Some object) a b = kept_decided p object (first_kept s at.index) at.block at.symbol old new other answer told a b
 
 -- ---- some state
 
