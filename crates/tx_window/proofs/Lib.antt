@@ -2,6 +2,7 @@ pub mod ListLemmas
 pub mod RowLemmas
 pub mod BeginningLemmas
 pub mod FillingLemmas
+pub mod EndingLemmas
 pub mod SourceLemmas
 pub mod NextLemmas
 pub mod RoomLemmas

@@ -5,7 +5,9 @@ pub mod WindowMoves
 pub mod WindowSound
 pub mod Asked
 pub mod Next
+pub mod Making
 pub mod Taking
+pub mod Ending
 pub mod Streams
 pub mod Standing
 pub mod Laws

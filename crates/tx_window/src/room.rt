@@ -1,6 +1,6 @@
 //! Room in the window: what has to go for one entry more, and whether it may (RFC 5740 section 5.1).
 
-ghost use Rattle.std.specs.Prelude.{ℕ, true, false, Option, ◌≡◌, ◌+◌, ◌-◌, ◌<◌, ◌≤◌, ◌*◌, ◌^◌, ◌⊎◌, List, None, Some, length, map, take, drop, filter};
+ghost use Rattle.std.specs.Prelude.{ℕ, ⊤, MatchOption, [], ◌∷◌, ◌++◌, true, false, Option, ◌≡◌, ◌+◌, ◌-◌, ◌<◌, ◌≤◌, ◌*◌, ◌^◌, ◌⊎◌, List, None, Some, length, map, take, drop, filter};
 ghost use Rattle.std.specs.Bool.{MatchBool};
 ghost use Rattle.std.specs.VecDeque.{deque_capacity};
 ghost use Rattle.norm_base.specs.Settings.{Settings, InRange};
@@ -16,12 +16,13 @@ ghost use Rattle.norm_send_rules.specs.Streaming.{open_fault};
 ghost use Rattle.norm_send_rules.specs.declared.fault.EnqueueFault.TheVariants.{Memory as EnqueueMemory};
 ghost use Rattle.held_entry.specs.Front.{AreEntries};
 ghost use Rattle.held_entry.specs.Places.{held_size};
+ghost use Rattle.tx_window.specs.Making.{IsRoomMade};
 ghost use Rattle.tx_window.specs.Taking.{size_fault};
 ghost use Rattle.tx_window.specs.Asked.{joining_fault};
-ghost use Rattle.tx_window.specs.WindowState.{Stands, first_block, OnlyFirstLacks};
+ghost use Rattle.tx_window.specs.WindowState.{Stands, first_block, most_kept, OnlyFirstLacks};
 ghost use Rattle.tx_window.specs.WindowSound.{all_sizes, is_stream_held};
 
-use crate::extent::Extent;
+use crate::extent::{Extent, keep_extent};
 use crate::window::Window;
 use held_entry::{HeldEntry, may_all_go};
 use norm_base::Profile;
@@ -94,12 +95,7 @@ fn most_octets(profile: &Profile) -> u64
 }
 
 /// How many entries have to go for one of so many octets, and how many octets the others take.
-pub(crate) fn room_for(
-    profile: &Profile,
-    held: &VecDeque<HeldEntry>,
-    octets: u32,
-    len: u32,
-) -> (usize, u32)
+fn room_for(profile: &Profile, held: &VecDeque<HeldEntry>, octets: u32, len: u32) -> (usize, u32)
     requires octets { octets ≡ all_sizes profile.now held.now.items }
     requires most { octets ≤ profile.now.octets }
     requires len { len ≤ profile.now.octets }
@@ -136,7 +132,7 @@ fn has_room(profile: &Profile, entries: usize, octets: u32, len: u32) -> bool
 }
 
 /// Makes room for one more, and says whether there was memory for it.
-pub(crate) fn reserve(held: &mut VecDeque<HeldEntry>, extents: &mut VecDeque<Extent>) -> bool
+fn reserve(held: &mut VecDeque<HeldEntry>, extents: &mut VecDeque<Extent>) -> bool
     ensures held { held.new.items ≡ held.old.items }
     ensures extents { extents.new.items ≡ extents.old.items }
     ensures held_room { result ≡ true → length held.new.items < deque_capacity held.new }
@@ -152,6 +148,50 @@ pub(crate) fn drop_front(held: &mut VecDeque<HeldEntry>, count: usize)
     ensures capacity { deque_capacity held.new ≡ deque_capacity held.old }
 {
     held.drain(..count);
+}
+
+/// Makes room for an entry of `len` octets: takes the memory for it, and then drops the entries that have to go. Returns how many went,
+/// and how many octets the others take. `None` if memory ran out; then none went.
+pub(crate) fn make_room(
+    profile: &Profile,
+    held: &mut VecDeque<HeldEntry>,
+    extents: &mut VecDeque<Extent>,
+    octets: u32,
+    len: u32,
+) -> Option<(usize, u32)>
+    requires octets { octets ≡ all_sizes profile.now held.old.items }
+    requires most { octets ≤ profile.now.octets }
+    requires len { len ≤ profile.now.octets }
+    ensures made { MatchOption result (held.new.items ≡ held.old.items) (λ made. IsRoomMade profile.now len held.old.items held.new.items made.0 made.1) }
+    ensures extents { extents.new.items ≡ extents.old.items }
+    ensures held_room { MatchOption result ⊤ (λ _. length held.new.items < deque_capacity held.new) }
+    ensures extents_room { MatchOption result ⊤ (λ _. length extents.new.items < deque_capacity extents.new) }
+{
+    if !reserve(held, extents) {
+        return None;
+    }
+    let (count, left) = room_for(profile, held, octets, len);
+    drop_front(held, count);
+    Some((count, left))
+}
+
+/// Adds an entry behind the others, and its extent behind theirs. Returns how many extents are forgotten.
+pub(crate) fn join(
+    held: &mut VecDeque<HeldEntry>,
+    extents: &mut VecDeque<Extent>,
+    forgotten: u32,
+    entry: HeldEntry,
+    extent: Extent,
+) -> u32
+    requires held_room { length held.old.items < deque_capacity held.old }
+    requires extents_room { length extents.old.items < deque_capacity extents.old }
+    requires number { forgotten < 4294967295 }
+    ensures held { held.new.items ≡ held.old.items ++ entry ∷ [] }
+    ensures extents { extents.new.items ≡ drop (result - forgotten) (extents.old.items ++ extent ∷ []) }
+    ensures kept { (result ≡ forgotten) ⊎ ((result ≡ forgotten + 1) × (most_kept ≤ length extents.old.items)) }
+{
+    held.push_back(entry).unwrap();
+    keep_extent(extents, forgotten, extent)
 }
 
 /// What is wrong with the sizes of an object: the first fault that applies.

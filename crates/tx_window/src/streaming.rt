@@ -16,8 +16,8 @@ ghost use Rattle.tx_window.specs.WindowMoves.{WindowMoves};
 ghost use Rattle.tx_window.specs.Taking.{IsOpened, IsUnopened};
 ghost use Rattle.tx_window.specs.Streams.{IsWritten, IsClosed, EndsIn, followed, last_or, write_size_fault};
 
-use crate::extent::{Extent, keep_extent};
-use crate::room::{buffer_len, drop_front, hold_range, reserve, room_for};
+use crate::extent::Extent;
+use crate::room::{buffer_len, drop_front, hold_range, join, make_room};
 use crate::window::Window;
 use fec_plan::Position;
 use held_entry::{HeldEntry, close_last, cut_last, write_last};
@@ -88,17 +88,25 @@ impl Window {
         };
         let index = self.next_index();
         let len = buffer_len(&self.profile) as u32;
-        if !reserve(&mut self.held, &mut self.extents) {
+        let Some(made) = make_room(
+            &self.profile,
+            &mut self.held,
+            &mut self.extents,
+            self.octets,
+            len,
+        ) else {
             return Err(EnqueueFault::Memory);
-        }
-        let (count, left) = room_for(&self.profile, &self.held, self.octets, len);
-        drop_front(&mut self.held, count);
-        self.octets = left + len;
-        self.dropped += count as u32;
-        let extent = Extent::Stream { segments: 0 };
-        let forgotten = keep_extent(&mut self.extents, self.forgotten, extent);
+        };
+        self.octets = made.1 + len;
+        self.dropped += made.0 as u32;
+        let forgotten = join(
+            &mut self.held,
+            &mut self.extents,
+            self.forgotten,
+            HeldEntry::Stream(stream),
+            Extent::Stream { segments: 0 },
+        );
         self.forgotten = forgotten;
-        self.held.push_back(HeldEntry::Stream(stream)).unwrap();
         Ok(index)
     }
 

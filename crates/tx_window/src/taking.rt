@@ -1,22 +1,32 @@
 //! Taking objects in (RFC 5740 section 5.1): an object is begun, filled and finished, and joins the order at its end.
 
-ghost use Rattle.std.specs.Prelude.{ℕ, ⊤, ◌≡◌, ◌+◌, ◌≤◌, List, [], None, Some, Option, IfOk, IsErr, MatchOption, MatchResult, length};
+ghost use Rattle.std.specs.Prelude.{ℕ, ⊤, ◌≡◌, ◌+◌, ◌-◌, ◌<◌, ◌≤◌, ◌⊎◌, ◌++◌, Bool, true, is_some, List, [], ◌∷◌, None, Some, Option, IfOk, IsErr, MatchOption, MatchResult, length, map, drop, option_to_list};
+ghost use Rattle.std.specs.VecDeque.{deque_capacity};
 ghost use Rattle.norm_base.specs.declared.node.Origin.{Origin};
+ghost use Rattle.fec_plan.specs.Partition.{all_symbols};
+ghost use Rattle.norm_order.specs.Shapes.{last_in};
+ghost use Rattle.held_object.specs.Held.{octets_of};
+ghost use Rattle.held_object.specs.Placed.{taken_by};
+ghost use Rattle.held_entry.specs.declared.entry.HeldEntry.TheVariants.{Object as OfHeld};
 ghost use Rattle.norm_send_rules.specs.SenderState.{SenderState};
 ghost use Rattle.norm_send_rules.specs.InWindow.{next_index as next_index_of};
 ghost use Rattle.norm_send_rules.specs.Enqueuing.{object_fault, info_length, with_entry};
 ghost use Rattle.norm_send_rules.specs.Restarting.{begun_anew};
-ghost use Rattle.tx_window.specs.WindowState.{Filling, Stands};
+ghost use Rattle.tx_window.specs.WindowState.{Filling, Stands, most_kept};
+ghost use Rattle.tx_window.specs.Ending.{IsEnded};
+ghost use Rattle.tx_window.specs.declared.extent.Extent.TheVariants.{Object as OfObject};
 ghost use Rattle.tx_window.specs.Taking.{room_made, filled_entry, with_piece, GivesBack, IsRefusal, IsEnqueued};
 ghost use Rattle.tx_window.specs.WindowMoves.{WindowMoves};
 
-use crate::extent::{Extent, keep_extent};
-use crate::room::{drop_front, reserve, room_for};
+use crate::extent::Extent;
+use crate::room::{join, make_room};
 use crate::window::Window;
+use fec_plan::Position;
 use held_entry::HeldEntry;
-use held_object::Held;
+use held_object::{Held, Ring};
 use norm_base::{Kind, Octets};
 use norm_send_rules::EnqueueFault;
+use std::collections::VecDeque;
 
 /// How many octets an info has; without one there are none.
 pub fn info_len(info: &Option<Octets>) -> usize
@@ -26,6 +36,46 @@ pub fn info_len(info: &Option<Octets>) -> usize
         Some(info) => info.bytes().len(),
         None => 0,
     }
+}
+
+/// Puts zeros behind the octets of an object that was filled, up to the end of its last symbol. Returns how many octets it has, and its last
+/// position if it has this index.
+fn end_octets(ring: &mut Ring, begun: &Held, filled: usize, index: u32) -> (u32, Position)
+    requires start { begun.now.start < length ring.old }
+    requires room { taken_by begun.now ≤ length ring.old }
+    requires within { filled ≤ taken_by begun.now }
+    requires least { taken_by begun.now - filled ≤ 1400 }
+    ensures ended { IsEnded ring.old ring.new filled begun.now }
+    ensures len { result.0 ≡ octets_of begun.now.cut }
+    ensures last { (info : Bool) → last_in index (record { cut = begun.now.cut; closed = all_symbols begun.now.cut; info = info }) ≡ Some result.1 }
+{
+    let at = ring.behind(begun.start(), filled);
+    ring.clear(at, begun.taken() - filled);
+    (begun.len(), begun.last(index))
+}
+
+/// Adds the object that was begun behind the entries, and its extent behind theirs. Returns how many extents are forgotten.
+fn join_begun(
+    held: &mut VecDeque<HeldEntry>,
+    begun: &mut Option<Held>,
+    extents: &mut VecDeque<Extent>,
+    forgotten: u32,
+    len: u32,
+) -> u32
+    requires begun { is_some begun.old ≡ true }
+    requires held_room { length held.old.items < deque_capacity held.old }
+    requires extents_room { length extents.old.items < deque_capacity extents.old }
+    requires number { forgotten < 4294967295 }
+    ensures held { held.new.items ≡ held.old.items ++ map OfHeld (option_to_list begun.old) }
+    ensures begun { begun.new ≡ None }
+    ensures extents { extents.new.items ≡ drop (result - forgotten) (extents.old.items ++ OfObject len ∷ []) }
+    ensures kept { (result ≡ forgotten) ⊎ ((result ≡ forgotten + 1) × (most_kept ≤ length extents.old.items)) }
+{
+    let Some(object) = begun.take() else {
+        return forgotten;
+    };
+    let extent = Extent::Object { len };
+    join(held, extents, forgotten, HeldEntry::Object(object), extent)
 }
 
 impl Window {
@@ -68,13 +118,17 @@ impl Window {
         ) else {
             return Err((None, EnqueueFault::Memory));
         };
-        if !reserve(&mut self.held, &mut self.extents) {
+        let Some(made) = make_room(
+            &self.profile,
+            &mut self.held,
+            &mut self.extents,
+            self.octets,
+            len,
+        ) else {
             return Err((None, EnqueueFault::Memory));
-        }
-        let (count, left) = room_for(&self.profile, &self.held, self.octets, len);
-        drop_front(&mut self.held, count);
-        self.octets = left + len;
-        self.dropped += count as u32;
+        };
+        self.octets = made.1 + len;
+        self.dropped += made.0 as u32;
         self.free = self.ring.behind(self.free, begun.taken());
         self.begun = Some(begun);
         self.filled = 0;
@@ -116,16 +170,21 @@ impl Window {
         ensures profile { self.new.p ≡ self.old.p }
     {
         let index = self.next_index();
-        let Some(begun) = self.begun.take() else {
+        let Some(begun) = &self.begun else {
             return index;
         };
-        let at = self.ring.behind(begun.start(), self.filled);
-        self.ring.clear(at, begun.taken() - self.filled);
-        let extent = Extent::Object { len: begun.len() };
-        let forgotten = keep_extent(&mut self.extents, self.forgotten, extent);
+        let (len, last) = end_octets(&mut self.ring, begun, self.filled, index);
+        // Proof: the object is moved last, by a function that is lent the fields that it needs. While a value of its type is owned here, each
+        // further statement on a window of so many fields is dear.
+        let forgotten = join_begun(
+            &mut self.held,
+            &mut self.begun,
+            &mut self.extents,
+            self.forgotten,
+            len,
+        );
         self.forgotten = forgotten;
-        self.last = Some(begun.last(index));
-        self.held.push_back(HeldEntry::Object(begun)).unwrap();
+        self.last = Some(last);
         index
     }
 
