@@ -3,7 +3,7 @@
 ghost use Rattle.std.specs.Prelude.{ℕ, ◌≡◌, ◌<◌, ◌≤◌, ◌+◌, [], IfOk, IfNone, IfSome, MatchOption, OnErr, is_some, length, not, option_map, false, ⊤};
 ghost use Rattle.fec_plan.specs.Partition.{blocks};
 ghost use Rattle.fec_plan.specs.Payload.{Name};
-ghost use Rattle.fec_plan.specs.Points.{point as point_at, point_of, point_before, position, position_before};
+ghost use Rattle.fec_plan.specs.Points.{point as point_at, point_of, point_before, position};
 ghost use Rattle.norm_ext.specs.declared.fti.Fti.{Fti as FtiValue};
 ghost use Rattle.norm_receive_rules.specs.Acknowledging.{lost_nothing};
 ghost use Rattle.norm_receive_rules.specs.Fitting.{fit_of, fitted, with_plan};
@@ -30,7 +30,7 @@ use norm_base::{Memory, Profile};
 use norm_ext::Fti;
 use norm_order::Up;
 use norm_receive_rules::{Fit, Missing, Put};
-use rx_hold::Room;
+use rx_hold::{Place, Room};
 use rx_stream::Scratch;
 use std::alloc::Global;
 use std::collections::VecDeque;
@@ -38,30 +38,6 @@ use std::marker::Model;
 
 /// The octets of a segment's place, which stand before its own.
 const SEGMENT_PLACE: usize = 8;
-
-/// Where the next source symbol is that is to be handed up. A stream whose last block was handed up, of those that 24 bits name, goes
-/// on behind it, at a block that no message names.
-#[derive(Clone, Copy, Debug, PartialEq, Eq)]
-pub struct Place {
-    pub index: u32,
-    pub block: u32,
-    pub symbol: u8,
-}
-
-impl Place {
-    /// Whether it is behind a position, so that all through that was handed up.
-    pub fn is_behind(&self, at: &Position) -> bool
-        ensures { result ≡ position_before at.now (position self.now.index self.now.block self.now.symbol) }
-    {
-        if at.index != self.index {
-            return at.index < self.index;
-        }
-        if at.block != self.block {
-            return at.block < self.block;
-        }
-        at.symbol < self.symbol
-    }
-}
 
 /// What a receiver holds.
 #[derive(Debug, Drop)]

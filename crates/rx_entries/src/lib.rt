@@ -13,4 +13,4 @@ mod losing;
 mod needs;
 mod ring;
 
-pub use crate::hold::{Hold, Place};
+pub use crate::hold::Hold;
