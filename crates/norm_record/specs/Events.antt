@@ -20,6 +20,10 @@ pub record Stores : Type 0 where
   pub rares : List Rare
   pub turns : List Turn
 
+-- these stores
+abbrev pub kept_in : List (List ℕ) → List (List ℕ) → List HandUp → List Rare → List Turn → Stores
+kept_in offers apart ups rares turns = record { offers = offers; apart = apart; ups = ups; rares = rares; turns = turns }
+
 -- an event that is kept whole
 abbrev pub rare_event : Rare → Event
 rare_event rare.Start = event.Start

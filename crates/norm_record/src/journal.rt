@@ -9,6 +9,7 @@ ghost use Rattle.norm_record.specs.Once.{UpsAgree, names_in};
 ghost use Rattle.norm_record.specs.Told.{told_of};
 
 use crate::entry::{Entry, Rare, Turn};
+use crate::lending::lent;
 use crate::offers::Offers;
 use crate::row::Row;
 use crate::seen::Seen;
@@ -92,35 +93,15 @@ impl Journal {
         requires { i < length self.now }
         ensures { slice_get self.now i ≡ Some (told_of result) }
     {
-        match self.entries[i] {
-            Entry::Turn { at } => {
-                let Turn { t, now } = self.turns[at as usize];
-                Seen::Turn { t, now }
-            }
-            Entry::Tick { node, sent } => Seen::Tick { node, sent },
-            Entry::Offer { from, at } => Seen::Offer {
-                from,
-                bytes: self.offers.offer(at),
-            },
-            Entry::Took { to, at } => Seen::Took {
-                to,
-                bytes: self.offers.offer(at),
-            },
-            Entry::Apart { to, at } => Seen::Took {
-                to,
-                bytes: self.apart.piece(at as usize),
-            },
-            Entry::Empty => Seen::Empty,
-            Entry::Up { node, at } => {
-                let hand_up = self.ups.hand_up(at);
-                Seen::Up {
-                    node,
-                    instance: hand_up.instance,
-                    up: &hand_up.up,
-                }
-            }
-            Entry::Rare { at } => self.rares[at as usize].seen(),
-        }
+        let entry = self.entries[i];
+        lent(
+            &self.offers,
+            &self.apart,
+            &self.ups,
+            self.rares.as_slice(),
+            self.turns.as_slice(),
+            entry,
+        )
     }
 
     /// The network was started.

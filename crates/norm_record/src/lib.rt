@@ -4,6 +4,7 @@
 mod entry;
 mod journal;
 mod latest;
+mod lending;
 mod offers;
 mod row;
 mod seen;
