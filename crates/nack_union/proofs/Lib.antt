@@ -51,3 +51,4 @@ pub mod Fronting
 pub mod Bounds
 pub mod Wanting
 pub mod Planned
+pub mod Single

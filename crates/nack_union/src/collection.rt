@@ -355,14 +355,15 @@ impl Collection {
     fn count_block(&mut self, at: Position)
         ensures { HasPart (count_part at) self.old self.new }
     {
-        if self.has(at.index) {
-            let place = (at.index - self.first) as usize;
-            self.low = self.low.min(place);
-            self.high = self.high.max(place + 1);
-            let object = &mut self.objects[place];
-            object.count_block(at.block, at.symbol);
-            object.hold();
+        if !self.has(at.index) {
+            return;
         }
+        let place = (at.index - self.first) as usize;
+        self.low = self.low.min(place);
+        self.high = self.high.max(place + 1);
+        let object = &mut self.objects[place];
+        object.count_block(at.block, at.symbol);
+        object.hold();
     }
 
     /// Asks for an encoded symbol, where that is wanted.
