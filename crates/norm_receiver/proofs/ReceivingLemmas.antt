@@ -1,14 +1,14 @@
 -- What is kept of an INFO or DATA, by whether it has transmission information.
-use Rattle.std.proofs.Common.{◌≡◌, ℕ, Bool, false, List, Option, Some, None, Result, Ok, Err, refl, sym, ap, subst, ◌∙◌}
-use Rattle.std.specs.Prelude.{IfOk, ◌==◌, ◌&&◌}
+use Rattle.std.proofs.Common.{◌≡◌, ℕ, Bool, true, false, List, Option, Some, None, Result, Ok, Err, refl, sym, ap, subst, ◌∙◌}
+use Rattle.std.specs.Prelude.{IfOk, not, ◌==◌, ◌&&◌}
 use Rattle.std.specs.List.{list_any}
 use Rattle.fec_plan.specs.declared.position.Position.{Position}
 use Rattle.norm_receive_rules.specs.ReceiverState.{ReceiverState}
-use Rattle.norm_receive_rules.specs.Acknowledging.{has_handed_up, acknowledges}
+use Rattle.norm_receive_rules.specs.Acknowledging.{has_handed_up, acknowledges, lost_nothing}
 use Rattle.norm_receiver.specs.Numbers.{numbers_of}
 use Rattle.norm_receiver.specs.declared.numbers.Numbers.{Numbers}
 use Rattle.norm_base.specs.Settings.{Settings}
-use Rattle.fec_plan.specs.Points.{point_of}
+use Rattle.fec_plan.specs.Points.{point_of, position_before}
 use Rattle.norm_ext.specs.Extensions.{Extension, fti_of}
 use Rattle.norm_ext.specs.declared.fti.Fti.{Fti}
 use Rattle.norm_receive_rules.specs.Holding.{Holding}
@@ -48,3 +48,12 @@ pub not_named : (s : ReceiverState) (n : Numbers) (at : Position) (nodes : List 
     → named ≡ list_any (λ node. node == n.node) nodes → named ≡ false → false ≡ acknowledges s at nodes
 not_named s n at nodes named is e unnamed =
     sym (ap (by_names s at) (sym (e ∙ ap (λ (x : Numbers). list_any (λ node. node == x.node) nodes) is) ∙ unnamed))
+
+pub named_all : (s : ReceiverState) (n : Numbers) (at : Position) (nodes : List ℕ) (named : Bool) (point : Position) (lost answer : Bool) → n ≡ numbers_of s
+    → named ≡ list_any (λ node. node == n.node) nodes → named ≡ true → point ≡ s.holding.point → lost_nothing s.holding ≡ not lost
+    → answer ≡ (position_before at point && not lost) → answer ≡ acknowledges s at nodes
+named_all s n at nodes named point lost answer is e this point_is lost_is answer_is =
+    answer_is
+    ∙ ap (λ (p : Position). position_before at p && not lost) point_is
+    ∙ ap (λ (b : Bool). position_before at s.holding.point && b) (sym lost_is)
+    ∙ sym (ap (by_names s at) (sym (e ∙ ap (λ (x : Numbers). list_any (λ node. node == x.node) nodes) is) ∙ this))

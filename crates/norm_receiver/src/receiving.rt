@@ -211,10 +211,7 @@ impl Parts {
         if !names(nodes, self.numbers.node) {
             return false;
         }
-        if !self.hold.hand_up().is_behind(&at) {
-            return false;
-        }
-        !self.hold.has_lost()
+        self.hold.hand_up().all_handed_up(&at, self.hold.has_lost())
     }
 
     /// An INFO or DATA of the object with this index, which is known then.
