@@ -4,3 +4,4 @@ pub mod EndingLemmas
 pub mod AskedLemmas
 pub mod NodeLemmas
 pub mod CommandLemmas
+pub mod LawLemmas

@@ -8,3 +8,4 @@ pub mod GenerateEnds
 pub mod NodeEnds
 pub mod Commands
 pub mod InputCause
+pub mod Laws

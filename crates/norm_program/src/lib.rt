@@ -11,6 +11,7 @@ mod generate;
 mod hub;
 mod input;
 mod last_line;
+pub mod laws;
 mod profiles;
 mod program;
 mod reason;
