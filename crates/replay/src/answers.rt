@@ -1,7 +1,7 @@
 //! What a call gave, as a line.
 
 use crate::fault::Fault;
-use norm_base::{Datagram, InstanceId, Sent};
+use norm_base::{Datagram, InstanceId, Sent, Sink};
 use norm_order::Up;
 use norm_send_rules::{
     EnqueueFault, MarkFault, News, Outcome, Receipt, SendFault, StreamFault, StrikeFault,
@@ -12,6 +12,13 @@ use std::alloc::Global;
 /// One word.
 pub(crate) fn said(alloc: Global, word: &str) -> Result<Line, Fault> {
     Ok(Line::begin(alloc, word.as_bytes(), 0)?)
+}
+
+/// Prints an answer.
+pub(crate) fn print<K: Sink>(answer: Line, output: &mut K) -> Result<(), Fault> {
+    let answer = answer.end()?;
+    output.write(&answer)?;
+    Ok(())
 }
 
 /// A word and numbers.

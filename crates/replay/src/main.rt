@@ -4,8 +4,10 @@
 mod answers;
 mod commanding;
 mod driven;
+mod events;
 mod fault;
 mod input;
+mod node;
 mod receiving;
 mod run;
 mod sending;

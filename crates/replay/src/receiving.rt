@@ -1,9 +1,14 @@
-//! The events of a receiver.
+//! The calls of a receiver.
+
+ghost use Rattle.std.specs.Prelude.{IfOk};
+ghost use Rattle.replay.specs.Left.{GoesOn};
 
 use crate::answers::{counted, decided, instance, said, sent, taken};
+use crate::events::{Event, Events, Verb};
 use crate::fault::Fault;
+use crate::node::{Node, drive};
 use crate::words::Words;
-use norm_base::{Datagram, Memory, Moment};
+use norm_base::{Datagram, Memory, Moment, NodeId, Profile, Sink};
 use norm_receiver::Receiver;
 use norm_text::Line;
 use std::alloc::Global;
@@ -61,19 +66,35 @@ fn tell(alloc: Global, receiver: &Receiver) -> Result<Option<Line>, Fault> {
     Ok(Some(line))
 }
 
-/// What an event gave. `None` where it is none of a receiver.
-pub(crate) fn receive(
-    alloc: Global,
-    receiver: &mut Receiver,
-    event: &str,
-    words: &mut Words<'_>,
-    out: &mut Datagram,
-) -> Result<Option<Line>, Fault> {
-    match event {
-        "deliver" => deliver(alloc, receiver, words),
-        "tick" => tick(alloc, receiver, words, out),
-        "take" => take(alloc, receiver),
-        "tell" => tell(alloc, receiver),
-        _ => Ok(None),
+impl Node for Receiver {
+    fn call(
+        &mut self,
+        alloc: Global,
+        verb: Verb,
+        words: &mut Words<'_>,
+        out: &mut Datagram,
+    ) -> Result<Option<Line>, Fault> {
+        match verb {
+            Verb::Deliver => deliver(alloc, self, words),
+            Verb::Tick => tick(alloc, self, words, out),
+            Verb::Take => take(alloc, self),
+            Verb::Tell => tell(alloc, self),
+            Verb::Command | Verb::News => Ok(None),
+        }
     }
+}
+
+/// Runs a receiver by the calls that come, and gives the event behind them.
+pub(crate) fn run_receiver<K: Sink>(
+    alloc: Global,
+    profile: &Profile,
+    node: NodeId,
+    events: &mut Events<'_>,
+    output: &mut K,
+) -> Result<Option<Event>, Fault>
+    ensures fewer { IfOk result (GoesOn events.old events.new) }
+{
+    let mut out = Datagram::new(alloc)?;
+    let mut receiver = Receiver::new(alloc, profile, node)?;
+    drive(alloc, &mut receiver, events, &mut out, output)
 }

@@ -1,133 +1,81 @@
-//! A replay, line by line.
+//! A replay, node by node.
 
-use crate::answers::said;
-use crate::driven::Driven;
+ghost use Rattle.std.specs.Prelude.{IfOk};
+ghost use Rattle.replay.specs.Left.{GoesOn};
+
+use crate::answers::{print, said};
+use crate::events::{Event, Events};
 use crate::fault::Fault;
 use crate::input::read_all;
-use crate::receiving::receive;
-use crate::sending::send;
-use crate::words::Words;
-use norm_base::{Datagram, Given, InstanceId, Key, NodeId, Profile, Sink, Source};
-use norm_receiver::Receiver;
-use norm_text::Line;
+use crate::receiving::run_receiver;
+use crate::sending::run_sender;
+use norm_base::{Given, Key, Profile, Sink, Source};
 use std::alloc::Global;
 
-/// The node that runs.
+/// The keys of the profile of the next node.
 #[derive(Drop)]
-enum Node {
-    /// None began yet.
-    Nobody,
-    Sender(Driven),
-    Receiver(Receiver),
-}
-
-/// What is replayed: the keys that were set, the node that runs, and the datagram that it writes to.
-#[derive(Drop)]
-struct Run {
+struct Keys {
     given: Given,
-    node: Node,
-    out: Datagram,
+    /// Whether a node began under them.
+    are_used: bool,
 }
 
-impl Run {
-    /// A key of the profile is set. The first one behind a node begins a new profile.
-    fn set(&mut self, words: &mut Words<'_>) -> Option<()> {
-        let key = Key::named(words.word()?.as_bytes())?;
-        let word = words.word()?;
-        let value = match key.value_of(word.as_bytes()) {
-            Some(value) => value,
-            None => word.parse::<u32>().ok()?,
-        };
-        if !matches!(&self.node, Node::Nobody) {
-            self.node = Node::Nobody;
+impl Keys {
+    /// Sets a key. The first one behind a node begins a new profile.
+    fn set(&mut self, key: Key, value: u32) {
+        if self.are_used {
             self.given = Given::new();
+            self.are_used = false;
         }
         self.given.set(key, value);
-        Some(())
     }
 
-    /// A receiver begins, under the keys that were set.
-    fn begin_receiver(
-        &mut self,
-        alloc: Global,
-        words: &mut Words<'_>,
-    ) -> Result<Option<Line>, Fault> {
-        let (Some(profile), Some(number)) = (Profile::of(&self.given), words.number32()) else {
-            return Ok(None);
-        };
-        let Some(node) = NodeId::of(number) else {
-            return Ok(None);
-        };
-        self.node = Node::Receiver(Receiver::new(alloc, &profile, node)?);
-        Ok(Some(said(alloc, "begun")?))
-    }
-
-    /// A sender begins, under the keys that were set.
-    fn begin_sender(
-        &mut self,
-        alloc: Global,
-        words: &mut Words<'_>,
-    ) -> Result<Option<Line>, Fault> {
-        let (Some(profile), Some(instance)) = (Profile::of(&self.given), words.number16()) else {
-            return Ok(None);
-        };
-        self.node = Node::Sender(Driven::new(alloc, &profile, InstanceId(instance))?);
-        Ok(Some(said(alloc, "begun")?))
-    }
-
-    /// What an event of the node gave. `None` where it is none of it.
-    fn event(
-        &mut self,
-        alloc: Global,
-        event: &str,
-        words: &mut Words<'_>,
-    ) -> Result<Option<Line>, Fault> {
-        match &mut self.node {
-            Node::Nobody => Ok(None),
-            Node::Sender(sender) => send(alloc, sender, event, words, &mut self.out),
-            Node::Receiver(receiver) => receive(alloc, receiver, event, words, &mut self.out),
-        }
-    }
-
-    /// What a line gave. `None` where it is no event.
-    fn line(
-        &mut self,
-        alloc: Global,
-        event: &str,
-        words: &mut Words<'_>,
-    ) -> Result<Option<Line>, Fault> {
-        match event {
-            "set" => match self.set(words) {
-                Some(()) => Ok(Some(said(alloc, "set")?)),
-                None => Ok(None),
-            },
-            "receiver" => self.begin_receiver(alloc, words),
-            "sender" => self.begin_sender(alloc, words),
-            _ => self.event(alloc, event, words),
-        }
+    /// The profile of a node that begins. `None` where the keys make none.
+    fn profile(&mut self) -> Option<Profile> {
+        self.are_used = true;
+        Profile::of(&self.given)
     }
 }
 
-/// Replays one line, which is the one of this number, and prints what it gave.
-fn replay_line<K: Sink>(
+/// Does what an event says while no node runs, and gives the event behind that.
+fn follow<K: Sink>(
     alloc: Global,
-    run: &mut Run,
-    number: usize,
-    line: &str,
+    event: Event,
+    keys: &mut Keys,
+    events: &mut Events<'_>,
     output: &mut K,
-) -> Result<(), Fault> {
-    let mut words = Words::of(line);
-    let Some(event) = words.word() else {
-        return Ok(());
-    };
-    let Some(answer) = run.line(alloc, event, &mut words)? else {
-        return Err(Fault::Line { number });
-    };
-    if !words.are_done() {
-        return Err(Fault::Line { number });
+) -> Result<Option<Event>, Fault>
+    ensures fewer { IfOk result (GoesOn events.old events.new) }
+{
+    match event {
+        Event::Set { key, value } => {
+            keys.set(key, value);
+            print(said(alloc, "set")?, output)?;
+            events.next()
+        }
+        Event::Receiver { node } => match keys.profile() {
+            Some(profile) => run_receiver(alloc, &profile, node, events, output),
+            None => Err(events.fault()),
+        },
+        Event::Sender { instance } => match keys.profile() {
+            Some(profile) => run_sender(alloc, &profile, instance, events, output),
+            None => Err(events.fault()),
+        },
+        Event::Call(_) => Err(events.fault()),
     }
-    let answer = answer.end()?;
-    output.write(&answer)?;
+}
+
+/// Replays a text.
+fn replay_text<K: Sink>(alloc: Global, text: &str, output: &mut K) -> Result<(), Fault> {
+    let mut events = Events::of(text);
+    let mut keys = Keys {
+        given: Given::new(),
+        are_used: false,
+    };
+    let mut next = events.next()?;
+    'events: while let Some(event) = next {
+        next = follow(alloc, event, &mut keys, &mut events, output)?;
+    }
     Ok(())
 }
 
@@ -143,16 +91,8 @@ pub(crate) fn replay<S: Source, K: Sink>(
     output: &mut K,
 ) -> Result<(), Fault> {
     let text = read_all(alloc, input)?;
-    let Ok(text) = str::from_utf8(&text) else {
-        return Err(Fault::NotText);
-    };
-    let mut run = Run {
-        given: Given::new(),
-        node: Node::Nobody,
-        out: Datagram::new(alloc)?,
-    };
-    for (place, line) in text.lines().enumerate() {
-        replay_line(alloc, &mut run, place.saturating_add(1), line, output)?;
+    match str::from_utf8(&text) {
+        Ok(text) => replay_text(alloc, text, output),
+        Err(_) => Err(Fault::NotText),
     }
-    Ok(())
 }

@@ -1,11 +1,16 @@
-//! The events of a sender.
+//! The calls of a sender.
+
+ghost use Rattle.std.specs.Prelude.{IfOk};
+ghost use Rattle.replay.specs.Left.{GoesOn};
 
 use crate::answers::{command_refused, counted, decided, instance, received, said, sent, told};
 use crate::commanding::job_of;
 use crate::driven::Driven;
+use crate::events::{Event, Events, Verb};
 use crate::fault::Fault;
+use crate::node::{Node, drive};
 use crate::words::Words;
-use norm_base::{Datagram, Moment, Origin};
+use norm_base::{Datagram, InstanceId, Moment, Origin, Profile, Sink};
 use norm_sender::Sender;
 use norm_text::Line;
 use std::alloc::Global;
@@ -80,20 +85,36 @@ fn tell(alloc: Global, sender: &Sender) -> Result<Option<Line>, Fault> {
     Ok(Some(line))
 }
 
-/// What an event gave. `None` where it is none of a sender.
-pub(crate) fn send(
-    alloc: Global,
-    sender: &mut Driven,
-    event: &str,
-    words: &mut Words<'_>,
-    out: &mut Datagram,
-) -> Result<Option<Line>, Fault> {
-    match event {
-        "command" => command(alloc, sender, words),
-        "deliver" => deliver(alloc, sender, words),
-        "tick" => tick(alloc, sender, words, out),
-        "news" => news(alloc, sender),
-        "tell" => tell(alloc, sender.sender()),
-        _ => Ok(None),
+impl Node for Driven {
+    fn call(
+        &mut self,
+        alloc: Global,
+        verb: Verb,
+        words: &mut Words<'_>,
+        out: &mut Datagram,
+    ) -> Result<Option<Line>, Fault> {
+        match verb {
+            Verb::Command => command(alloc, self, words),
+            Verb::Deliver => deliver(alloc, self, words),
+            Verb::Tick => tick(alloc, self, words, out),
+            Verb::News => news(alloc, self),
+            Verb::Tell => tell(alloc, self.sender()),
+            Verb::Take => Ok(None),
+        }
     }
+}
+
+/// Runs a sender by the calls that come, and gives the event behind them.
+pub(crate) fn run_sender<K: Sink>(
+    alloc: Global,
+    profile: &Profile,
+    instance: InstanceId,
+    events: &mut Events<'_>,
+    output: &mut K,
+) -> Result<Option<Event>, Fault>
+    ensures fewer { IfOk result (GoesOn events.old events.new) }
+{
+    let mut out = Datagram::new(alloc)?;
+    let mut sender = Driven::new(alloc, profile, instance)?;
+    drive(alloc, &mut sender, events, &mut out, output)
 }

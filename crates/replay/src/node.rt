@@ -1,0 +1,63 @@
+//! A node that events drive.
+
+ghost use Rattle.std.specs.Prelude.{◌≡◌, IfOk};
+ghost use Rattle.replay.specs.Left.{GoesOn};
+
+use crate::answers::{print, said};
+use crate::events::{Event, Events, Verb};
+use crate::fault::Fault;
+use crate::words::Words;
+use norm_base::{Datagram, Sink};
+use norm_text::Line;
+use std::alloc::Global;
+
+/// What a sender and a receiver have in common.
+pub(crate) trait Node {
+    /// What a call of this verb gave. `None` where it is none of this node's.
+    fn call(
+        &mut self,
+        alloc: Global,
+        verb: Verb,
+        words: &mut Words<'_>,
+        out: &mut Datagram,
+    ) -> Result<Option<Line>, Fault>;
+}
+
+/// Calls a node, and prints what that gave.
+fn answer<N: Node, K: Sink>(
+    alloc: Global,
+    node: &mut N,
+    verb: Verb,
+    events: &mut Events<'_>,
+    out: &mut Datagram,
+    output: &mut K,
+) -> Result<(), Fault>
+    ensures same { IfOk result (λ _. events.new.lines ≡ events.old.lines) }
+{
+    let Some(answer) = node.call(alloc, verb, &mut events.words, out)? else {
+        return Err(events.fault());
+    };
+    if !events.words.are_done() {
+        return Err(events.fault());
+    }
+    print(answer, output)
+}
+
+/// Drives a node that began, call by call, and gives the first event that is no call.
+pub(crate) fn drive<N: Node, K: Sink>(
+    alloc: Global,
+    node: &mut N,
+    events: &mut Events<'_>,
+    out: &mut Datagram,
+    output: &mut K,
+) -> Result<Option<Event>, Fault>
+    ensures fewer { IfOk result (GoesOn events.old events.new) }
+{
+    print(said(alloc, "begun")?, output)?;
+    'calls: loop {
+        match events.next()? {
+            Some(Event::Call(verb)) => answer(alloc, node, verb, events, out, output)?,
+            event => return Ok(event),
+        }
+    }
+}
