@@ -16,3 +16,4 @@ pub mod TellingLemmas
 pub mod HandingLemmas
 pub mod ServingLemmas
 pub mod ScriptLemmas
+pub mod LawLemmas

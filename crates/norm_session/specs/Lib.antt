@@ -16,3 +16,4 @@ pub mod Finishing
 pub mod Session
 pub mod Telling
 pub mod Handing
+pub mod Laws

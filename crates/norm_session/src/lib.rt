@@ -6,6 +6,7 @@ mod commanding;
 mod ending;
 mod fault;
 mod handing;
+pub mod laws;
 mod left;
 mod noting;
 mod printing;
