@@ -1,12 +1,18 @@
 //! A sender that a test drives.
 
-use norm_base::{Datagram, InstanceId, Memory, Moment, Origin, Profile, Sent};
-use norm_send_rules::{Job, News, Receipt, SendFault};
+use norm_base::{Datagram, InstanceId, Memory, Moment, Octets, Origin, Profile, Sent};
+use norm_send_rules::{Job, MarkFault, News, Receipt, SendFault};
 use norm_sender::Sender;
 use std::alloc::Global;
 use std::marker::Model;
 
-/// A sender of which no file is begun, so that each of its calls may come next.
+/// Whose commands those of tests are.
+const BY: Origin = Origin {
+    producer: 1,
+    number: 1,
+};
+
+/// A sender in the middle of no file, so that each of its calls may come next.
 #[derive(Drop)]
 pub(crate) struct Driven {
     sender: Sender,
@@ -24,13 +30,9 @@ impl Model for Driven {
 }
 
 impl Driven {
-    /// A sender as it begins.
-    pub(crate) fn new(
-        alloc: Global,
-        profile: &Profile,
-        instance: InstanceId,
-    ) -> Result<Driven, Memory> {
-        let sender = Sender::new(alloc, profile, instance)?;
+    /// A new sender of instance 7.
+    pub(crate) fn new(alloc: Global, profile: &Profile) -> Result<Driven, Memory> {
+        let sender = Sender::new(alloc, profile, InstanceId(7))?;
         Ok(Driven { sender })
     }
 
@@ -42,20 +44,57 @@ impl Driven {
         self.sender.tick(now, out)
     }
 
-    /// What a command is answered.
-    pub(crate) fn command(
-        &mut self,
-        by: Origin,
-        job: Job,
-        now: Moment,
-    ) -> Result<Receipt, SendFault> {
-        match self.sender.command(by, job, now) {
+    /// Enqueues a data object.
+    pub(crate) fn data(&mut self, bytes: Octets) -> Result<Receipt, SendFault> {
+        let job = Job::Data { info: None, bytes };
+        match self.sender.command(BY, job, Moment(0)) {
             Ok(receipt) => Ok(receipt),
             Err((_given_back, fault)) => Err(fault),
         }
     }
 
+    pub(crate) fn mark(&mut self) -> Result<Receipt, MarkFault> {
+        self.sender.mark(None)
+    }
+
+    pub(crate) fn restart(&mut self, instance: InstanceId) -> Result<Receipt, SendFault> {
+        self.sender.restart(instance)
+    }
+
     pub(crate) fn news(&mut self) -> Option<News> {
         self.sender.news()
+    }
+
+    /// Enqueues a file by two pieces of its octets. The first has so many.
+    pub(crate) fn file_in_two(
+        &mut self,
+        name: Octets,
+        octets: &[u8],
+        first: usize,
+    ) -> Result<Receipt, SendFault> {
+        let cut = first.min(octets.len());
+        let (front, back) = octets.split_at(cut);
+        let len = front.len() as u64 + back.len() as u64;
+        match self.sender.begin_file(name, len) {
+            Ok(()) => {
+                self.sender.file_piece(front);
+                self.sender.file_piece(back);
+                Ok(self.sender.end_file(BY, Moment(0)))
+            }
+            Err((_given_back, fault)) => Err(fault),
+        }
+    }
+
+    /// Begins a file, and gives it up when so many octets are missing. Returns whether it was begun.
+    pub(crate) fn file_given_up(&mut self, name: Octets, piece: &[u8], missing: u32) -> bool {
+        let len = piece.len() as u64 + u64::from(missing);
+        match self.sender.begin_file(name, len) {
+            Ok(()) => {
+                self.sender.file_piece(piece);
+                self.sender.leave_file();
+                true
+            }
+            Err(_) => false,
+        }
     }
 }

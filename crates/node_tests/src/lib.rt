@@ -1,13 +1,11 @@
-//! Tests of the nodes: whole runs of a sender and a receiver, side by side, and of nodes that run alone.
+//! Tests of the nodes that no row of `replay` says: files in pieces, and more objects than there are transport ids.
 #![tactic(auto)]
 
 #[cfg(test)]
-mod alone;
-#[cfg(test)]
 mod driven;
 #[cfg(test)]
-mod fed;
+mod files;
 #[cfg(test)]
-mod pair;
+mod jobs;
 #[cfg(test)]
-mod pair_tests;
+mod spelled;
