@@ -135,7 +135,7 @@ pub(crate) fn told(alloc: Global, news: News) -> Result<Line, Fault> {
 }
 
 /// What a command did.
-pub(crate) fn received(alloc: Global, receipt: Receipt) -> Result<Line, Fault> {
+fn received(alloc: Global, receipt: Receipt) -> Result<Line, Fault> {
     match receipt {
         Receipt::Object { index, len } => counted(alloc, "object", &[u64::from(index), len]),
         Receipt::Opened { index } => counted(alloc, "opened", &[u64::from(index)]),
@@ -205,12 +205,20 @@ fn strike_refused(alloc: Global, fault: StrikeFault) -> Result<Line, Fault> {
 }
 
 /// Why a command was refused.
-pub(crate) fn command_refused(alloc: Global, fault: SendFault) -> Result<Line, Fault> {
+fn command_refused(alloc: Global, fault: SendFault) -> Result<Line, Fault> {
     match fault {
         SendFault::Enqueue(fault) => enqueue_refused(alloc, fault),
         SendFault::Mark(fault) => mark_refused(alloc, fault),
         SendFault::Strike(fault) => strike_refused(alloc, fault),
         SendFault::IdUsed { instance } => refused(alloc, "id-used", &[u64::from(instance.0)]),
         SendFault::Memory => said(alloc, "memory"),
+    }
+}
+
+/// What a command gave.
+pub(crate) fn commanded(alloc: Global, gave: Result<Receipt, SendFault>) -> Result<Line, Fault> {
+    match gave {
+        Ok(receipt) => received(alloc, receipt),
+        Err(fault) => command_refused(alloc, fault),
     }
 }

@@ -3,7 +3,7 @@
 ghost use Rattle.std.specs.Prelude.{IfOk};
 ghost use Rattle.replay.specs.Left.{GoesOn};
 
-use crate::answers::{command_refused, counted, decided, instance, received, said, sent, told};
+use crate::answers::{commanded, counted, decided, instance, said, sent, told};
 use crate::commanding::job_of;
 use crate::driven::Driven;
 use crate::events::{Event, Events, Verb};
@@ -45,26 +45,28 @@ fn tick(
     Ok(Some(sent(alloc, given, out)?))
 }
 
+/// Whose command it is, and the number that its producer gave it.
+fn origin(words: &mut Words<'_>) -> Option<Origin> {
+    Some(Origin {
+        producer: words.number32()?,
+        number: words.number()?,
+    })
+}
+
 /// A command.
 fn command(
     alloc: Global,
     sender: &mut Driven,
     words: &mut Words<'_>,
 ) -> Result<Option<Line>, Fault> {
-    let (Some(producer), Some(number), Some(now)) = (
-        words.number32(),
-        words.number(),
-        words.number(),
-    ) else {
+    let (Some(by), Some(now)) = (origin(words), words.number()) else {
         return Ok(None);
     };
     let Some(job) = job_of(alloc, words)? else {
         return Ok(None);
     };
-    match sender.command(Origin { producer, number }, job, Moment(now)) {
-        Ok(receipt) => Ok(Some(received(alloc, receipt)?)),
-        Err(fault) => Ok(Some(command_refused(alloc, fault)?)),
-    }
+    let gave = sender.command(by, job, Moment(now));
+    Ok(Some(commanded(alloc, gave)?))
 }
 
 /// The next news.
