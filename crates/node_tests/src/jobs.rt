@@ -76,9 +76,9 @@ impl Jobs {
     }
 }
 
-/// A receiver of node 2.
-fn receiver_of(alloc: Global, profile: &Profile) -> Result<Receiver, Fail> {
-    let node = match NodeId::of(2) {
+/// The receiver with this node id.
+fn receiver_of(alloc: Global, profile: &Profile, node: u32) -> Result<Receiver, Fail> {
+    let node = match NodeId::of(node) {
         Some(node) => node,
         None => Err("no member")?,
     };
@@ -94,13 +94,13 @@ fn begun(alloc: Global) -> Result<Jobs, Fail> {
     };
     Ok(Jobs {
         sender: Driven::new(alloc, &profile)?,
-        receiver: receiver_of(alloc, &profile)?,
+        receiver: receiver_of(alloc, &profile, 2)?,
         out: Datagram::new(alloc)?,
     })
 }
 
-/// The first of so many objects, each of one octet, that does not pass.
-fn first_that_stays(alloc: Global, jobs: &mut Jobs, count: u32) -> Result<Option<u32>, Fail> {
+/// Of so many objects, each of one octet, the first that does not pass.
+fn first_of(alloc: Global, jobs: &mut Jobs, count: u32) -> Result<Option<u32>, Fail> {
     for index in 0..count {
         if !jobs.passes(alloc, index)? {
             return Ok(Some(index));
@@ -109,12 +109,16 @@ fn first_that_stays(alloc: Global, jobs: &mut Jobs, count: u32) -> Result<Option
     Ok(None)
 }
 
+/// The same, from a new sender to a new receiver.
+fn first_that_stays(alloc: Global, count: u32) -> Result<Option<u32>, Fail> {
+    let mut jobs = begun(alloc)?;
+    first_of(alloc, &mut jobs, count)
+}
+
 /// The id of object 65,536 is 0 once more, and each object is handed up once, in order.
 #[test]
 fn ids_begin_again_and_indices_go_on(rt: HostRuntime) -> Result<(), Fail> {
-    let mut jobs = begun(rt.alloc())?;
-    let stays = first_that_stays(rt.alloc(), &mut jobs, 70_000)?;
-    if let Some(index) = stays {
+    if let Some(index) = first_that_stays(rt.alloc(), 70_000)? {
         panic!(rt; "object {index}");
     }
     Ok(())
