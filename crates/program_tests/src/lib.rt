@@ -1,5 +1,5 @@
-//! Tests of what stands beside the program: the outside in memory and of the process, scripts, shown datagrams, journals and what a person
-//! sees of a node, a module for each crate. No other code stands here.
+//! Tests of what stands beside the program: the outside in memory and of the process, scripts, shown datagrams, journals, the words of the
+//! command line and what a person sees of a node, a module for each crate. No other code stands here.
 #![tactic(auto)]
 
 #[cfg(test)]
@@ -18,3 +18,5 @@ mod script;
 mod show;
 #[cfg(test)]
 mod watch;
+#[cfg(test)]
+mod words;

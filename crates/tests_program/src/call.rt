@@ -1,0 +1,191 @@
+//! What the program is called with.
+
+use crate::fault::Fault;
+use crate::words::Words;
+use norm_memory::{MemFiles, MemSink, MemSource};
+use std::alloc::{AllocError, Global};
+
+/// The most words of the program's command line. Its longest forms have five.
+const MOST_WORDS: u32 = 16;
+
+/// The one call of the outside that fails, by its number from 1.
+#[derive(Clone, Copy, Debug, PartialEq, Eq)]
+pub(crate) enum Fails {
+    Nothing,
+    Read(u64),
+    Write(u64),
+    Offer(u64),
+    Take(u64),
+    File(u64),
+}
+
+impl Fails {
+    /// The failing call that a line names.
+    fn named(words: &mut Words<'_>) -> Option<Fails> {
+        let kind = words.word()?;
+        let number = words.number()?;
+        match kind {
+            "read" => Some(Fails::Read(number)),
+            "write" => Some(Fails::Write(number)),
+            "offer" => Some(Fails::Offer(number)),
+            "take" => Some(Fails::Take(number)),
+            "file" => Some(Fails::File(number)),
+            _ => None,
+        }
+    }
+
+    /// The number of the failing read.
+    fn read(self) -> Option<u64> {
+        match self {
+            Fails::Read(number) => Some(number),
+            _ => None,
+        }
+    }
+
+    /// The number of the failing write.
+    fn write(self) -> Option<u64> {
+        match self {
+            Fails::Write(number) => Some(number),
+            _ => None,
+        }
+    }
+
+    /// The number of the failing offer.
+    pub(crate) fn offer(self) -> Option<u64> {
+        match self {
+            Fails::Offer(number) => Some(number),
+            _ => None,
+        }
+    }
+
+    /// The number of the failing take.
+    pub(crate) fn take(self) -> Option<u64> {
+        match self {
+            Fails::Take(number) => Some(number),
+            _ => None,
+        }
+    }
+
+    /// The number of the failing call of the files.
+    fn file(self) -> Option<u64> {
+        match self {
+            Fails::File(number) => Some(number),
+            _ => None,
+        }
+    }
+}
+
+/// A list of this number, or of none.
+pub(crate) fn numbers(alloc: Global, number: Option<u64>) -> Result<Vec<u64>, AllocError> {
+    let mut numbers = Vec::new(alloc);
+    if let Some(number) = number {
+        numbers.push(number)?;
+    }
+    Ok(numbers)
+}
+
+/// The words, the input and the files of a call, and which call of the outside fails.
+#[derive(Drop)]
+pub(crate) struct Call {
+    words: Vec<String>,
+    input: Vec<u8>,
+    files: Vec<(String, Vec<u8>)>,
+    pub(crate) fails: Fails,
+}
+
+impl Call {
+    /// A call with no words.
+    pub(crate) fn new(alloc: Global) -> Call {
+        Call {
+            words: Vec::new(alloc),
+            input: Vec::new(alloc),
+            files: Vec::new(alloc),
+            fails: Fails::Nothing,
+        }
+    }
+
+    /// Adds what a line says of the call. False if it says nothing of it.
+    pub(crate) fn add(
+        &mut self,
+        alloc: Global,
+        what: &str,
+        words: &mut Words<'_>,
+    ) -> Result<bool, Fault> {
+        match what {
+            "words" => self.add_words(alloc, words),
+            "file" => self.add_file(alloc, words),
+            "fail" => Ok(self.fail(words)),
+            _ => Ok(false),
+        }
+    }
+
+    /// Adds a text to the input.
+    pub(crate) fn add_text(&mut self, text: &str) -> Result<(), AllocError> {
+        self.input.extend_from_slice(text.as_bytes())
+    }
+
+    /// Adds words of the command line.
+    fn add_words(&mut self, alloc: Global, words: &mut Words<'_>) -> Result<bool, Fault> {
+        for _ in 0..MOST_WORDS {
+            let Some(word) = words.word() else {
+                return Ok(true);
+            };
+            self.words.push(String::from_str(alloc, word)?)?;
+        }
+        Ok(true)
+    }
+
+    /// Adds a file. False if the line names none.
+    fn add_file(&mut self, alloc: Global, words: &mut Words<'_>) -> Result<bool, Fault> {
+        let Some(name) = words.word() else {
+            return Ok(false);
+        };
+        let name = String::from_str(alloc, name)?;
+        let Some(octets) = words.octets(alloc)? else {
+            return Ok(false);
+        };
+        self.files.push((name, octets))?;
+        Ok(true)
+    }
+
+    /// Lets one call fail from now on, and no other. False if the line names none.
+    fn fail(&mut self, words: &mut Words<'_>) -> bool {
+        let Some(fails) = Fails::named(words) else {
+            return false;
+        };
+        self.fails = fails;
+        true
+    }
+
+    /// A copy of the words.
+    pub(crate) fn words(&self, alloc: Global) -> Result<Vec<String>, AllocError> {
+        let mut words = Vec::new(alloc);
+        for word in &self.words {
+            words.push(String::from_str(alloc, word.as_str())?)?;
+        }
+        Ok(words)
+    }
+
+    /// The input, whose failing read is the call's.
+    pub(crate) fn source(&self, alloc: Global) -> Result<MemSource, AllocError> {
+        let input = Vec::from_slice(alloc, self.input.as_slice())?;
+        Ok(MemSource::of(input, numbers(alloc, self.fails.read())?))
+    }
+
+    /// An empty output, whose failing write is the call's.
+    pub(crate) fn sink(&self, alloc: Global) -> Result<MemSink, AllocError> {
+        let failing = numbers(alloc, self.fails.write())?;
+        Ok(MemSink::of(Vec::new(alloc), failing))
+    }
+
+    /// The files, whose failing call is the call's.
+    pub(crate) fn files(&self, alloc: Global) -> Result<MemFiles, AllocError> {
+        let mut files = Vec::new(alloc);
+        for (name, octets) in &self.files {
+            let name = String::from_str(alloc, name.as_str())?;
+            let octets = Vec::from_slice(alloc, octets.as_slice())?;
+            files.push((name, octets))?;
+        }
+        Ok(MemFiles::of(files, numbers(alloc, self.fails.file())?))
+    }
+}

@@ -1,0 +1,202 @@
+//! A row is run: the program is called, and what it left is printed.
+
+use crate::asked::Asked;
+use crate::call::Call;
+use crate::fault::Fault;
+use crate::left::{Left, print_counts, print_files, print_left, print_no_offer, print_offer};
+use crate::net::{Kind, Net};
+use norm_base::{Fabric, Sink, Source};
+use norm_memory::{FeedFabric, ListFabric, MemClock, MemFiles};
+use norm_program::{Status, norm_main};
+use std::alloc::Global;
+use std::sync::Wait;
+use std::thread::Threads;
+
+/// The most datagrams that are counted.
+const MOST_OFFERS: usize = 100;
+
+/// The status of the program. The contract of `norm_main` is long. Nothing follows the call, so no goal comes of it here.
+fn status_of<R: Threads + Wait + Sync, S: Source, K: Sink, F: Fabric>(
+    rt: &R,
+    alloc: Global,
+    words: &Vec<String>,
+    input: &mut S,
+    output: &mut K,
+    fabric: &mut F,
+    files: &mut MemFiles,
+    clock: &mut MemClock,
+) -> Status {
+    norm_main(rt, alloc, words, input, output, fabric, files, clock)
+}
+
+/// The number of the program's status.
+fn status_code<R: Threads + Wait + Sync, S: Source, K: Sink, F: Fabric>(
+    rt: &R,
+    alloc: Global,
+    words: &Vec<String>,
+    input: &mut S,
+    output: &mut K,
+    fabric: &mut F,
+    files: &mut MemFiles,
+    clock: &mut MemClock,
+) -> u8 {
+    let status = status_of(rt, alloc, words, input, output, fabric, files, clock);
+    status.code()
+}
+
+/// Calls the program over a network, and returns what it left. Its clock stands still.
+fn called<R: Threads + Wait + Sync, F: Fabric>(
+    rt: &R,
+    alloc: Global,
+    call: &Call,
+    fabric: &mut F,
+) -> Result<Left, Fault> {
+    let words = call.words(alloc)?;
+    let mut input = call.source(alloc)?;
+    let mut output = call.sink(alloc)?;
+    let mut files = call.files(alloc)?;
+    let mut clock = MemClock::of(Vec::new(alloc));
+    let status = status_code(
+        rt,
+        alloc,
+        &words,
+        &mut input,
+        &mut output,
+        fabric,
+        &mut files,
+        &mut clock,
+    );
+    let reads = input.reads();
+    Ok(Left {
+        status,
+        reads,
+        output,
+        files,
+    })
+}
+
+/// How many datagrams were offered, at most a hundred.
+fn offers_in(fabric: &ListFabric) -> u64 {
+    for place in 0..MOST_OFFERS {
+        if fabric.offered(place).is_none() {
+            return place as u64;
+        }
+    }
+    MOST_OFFERS as u64
+}
+
+/// Prints the datagrams that are asked for of a network with rules.
+fn print_ruled<K: Sink>(
+    alloc: Global,
+    asked: &Asked,
+    fabric: &ListFabric,
+    output: &mut K,
+) -> Result<(), Fault> {
+    for number in &asked.offers {
+        match fabric.offered(number.saturating_sub(1)) {
+            Some((from, octets)) => print_offer(alloc, *number, from, octets, output)?,
+            None => print_no_offer(alloc, *number, output)?,
+        }
+    }
+    Ok(())
+}
+
+/// Prints the datagrams that are asked for of a network that gives the row's.
+fn print_fed<K: Sink>(
+    alloc: Global,
+    asked: &Asked,
+    fabric: &FeedFabric,
+    output: &mut K,
+) -> Result<(), Fault> {
+    for number in &asked.offers {
+        match fabric.offered(number.saturating_sub(1)) {
+            Some((from, octets)) => print_offer(alloc, *number, from, octets, output)?,
+            None => print_no_offer(alloc, *number, output)?,
+        }
+    }
+    Ok(())
+}
+
+/// Runs a row over a network with rules.
+fn play_ruled<R: Threads + Wait + Sync, K: Sink>(
+    rt: &R,
+    alloc: Global,
+    call: &Call,
+    net: &Net,
+    asked: &Asked,
+    output: &mut K,
+) -> Result<(), Fault> {
+    let mut fabric = net.ruled(alloc, call.fails)?;
+    let left = called(rt, alloc, call, &mut fabric)?;
+    if asked.counts {
+        let counts = [left.reads, offers_in(&fabric), fabric.takes()];
+        print_counts(alloc, &counts, output)?;
+    }
+    print_left(alloc, &left, asked, output)?;
+    print_ruled(alloc, asked, &fabric, output)?;
+    print_files(alloc, &left, asked, output)
+}
+
+/// Runs a row over a network that gives the row's datagrams.
+fn play_fed<R: Threads + Wait + Sync, K: Sink>(
+    rt: &R,
+    alloc: Global,
+    call: &Call,
+    net: &Net,
+    asked: &Asked,
+    output: &mut K,
+) -> Result<(), Fault> {
+    let mut fabric = net.fed(alloc)?;
+    let left = called(rt, alloc, call, &mut fabric)?;
+    print_left(alloc, &left, asked, output)?;
+    print_fed(alloc, asked, &fabric, output)?;
+    print_files(alloc, &left, asked, output)
+}
+
+/// Runs a row over a network with an order of its own.
+fn play_disturbed<R: Threads + Wait + Sync, K: Sink>(
+    rt: &R,
+    alloc: Global,
+    call: &Call,
+    net: &Net,
+    asked: &Asked,
+    output: &mut K,
+) -> Result<(), Fault> {
+    let mut fabric = net.disturbed(alloc)?;
+    let left = called(rt, alloc, call, &mut fabric)?;
+    print_left(alloc, &left, asked, output)
+}
+
+/// Runs a row over a network that gives refused datagrams.
+fn play_hostile<R: Threads + Wait + Sync, K: Sink>(
+    rt: &R,
+    alloc: Global,
+    call: &Call,
+    net: &Net,
+    asked: &Asked,
+    output: &mut K,
+) -> Result<(), Fault> {
+    let mut fabric = net.hostile(alloc)?;
+    let left = called(rt, alloc, call, &mut fabric)?;
+    if asked.counts {
+        print_counts(alloc, &[fabric.given() as u64], output)?;
+    }
+    print_left(alloc, &left, asked, output)
+}
+
+/// Runs a row, and prints what the program left.
+pub(crate) fn play<R: Threads + Wait + Sync, K: Sink>(
+    rt: &R,
+    alloc: Global,
+    call: &Call,
+    net: &Net,
+    asked: &Asked,
+    output: &mut K,
+) -> Result<(), Fault> {
+    match net.kind {
+        Kind::Ruled => play_ruled(rt, alloc, call, net, asked, output),
+        Kind::Fed => play_fed(rt, alloc, call, net, asked, output),
+        Kind::Disturbed => play_disturbed(rt, alloc, call, net, asked, output),
+        Kind::Hostile => play_hostile(rt, alloc, call, net, asked, output),
+    }
+}
