@@ -28,7 +28,7 @@ EDITS = {
     'rx_stream/a_segment_is_handed_up_with_its_padding': 'norm_receive_rules/HandingUp',
     'stream_buffer/a_cut_segment_begins_at_its_end': 'norm_order/Segments',
     'stream_buffer/parity_is_sent_of_a_block_that_is_not_closed': 'norm_order/Symbols',
-    'stream_buffer/zeros_for_a_symbol_of_a_block_that_was_given_up': 'tx_window/Asked',
+    'stream_buffer/zeros_for_a_symbol_of_a_block_that_was_given_up': 'norm_order/Symbols',
 }
 # crates whose edits break no rule of that page: docs/architecture.md has them
 OTHER = ('norm_host', 'norm_program', 'norm_session', 'producer_gate')
