@@ -28,6 +28,8 @@ pub(crate) enum Event {
     Receiver { node: NodeId },
     /// A sender begins in this instance.
     Sender { instance: InstanceId },
+    /// A name for the lines that follow. It was not read yet.
+    Row,
     /// A call of the node that runs. Its words were not read yet.
     Call(Verb),
 }
@@ -66,6 +68,7 @@ fn event_of(word: &str, words: &mut Words<'_>) -> Option<Event> {
         "set" => alone(set(words)?, words),
         "receiver" => alone(receiver(words)?, words),
         "sender" => alone(sender(words)?, words),
+        "row" => Some(Event::Row),
         "deliver" => Some(Event::Call(Verb::Deliver)),
         "tick" => Some(Event::Call(Verb::Tick)),
         "take" => Some(Event::Call(Verb::Take)),

@@ -43,6 +43,25 @@ fn answer<N: Node, K: Sink>(
     print(answer, output)
 }
 
+/// Prints the name of a row, which touches no node and no key.
+pub(crate) fn name_row<K: Sink>(
+    alloc: Global,
+    events: &mut Events<'_>,
+    output: &mut K,
+) -> Result<(), Fault>
+    ensures same { IfOk result (λ _. events.new.lines ≡ events.old.lines) }
+{
+    let Some(name) = events.words.word() else {
+        return Err(events.fault());
+    };
+    let mut line = said(alloc, "row")?;
+    line.word(name.as_bytes())?;
+    if !events.words.are_done() {
+        return Err(events.fault());
+    }
+    print(line, output)
+}
+
 /// Drives a node that began, call by call, and gives the first event that is no call.
 pub(crate) fn drive<N: Node, K: Sink>(
     alloc: Global,
@@ -57,6 +76,7 @@ pub(crate) fn drive<N: Node, K: Sink>(
     'calls: loop {
         match events.next()? {
             Some(Event::Call(verb)) => answer(alloc, node, verb, events, out, output)?,
+            Some(Event::Row) => name_row(alloc, events, output)?,
             event => return Ok(event),
         }
     }

@@ -7,6 +7,7 @@ use crate::answers::{print, said};
 use crate::events::{Event, Events};
 use crate::fault::Fault;
 use crate::input::read_all;
+use crate::node::name_row;
 use crate::receiving::run_receiver;
 use crate::sending::run_sender;
 use norm_base::{Given, Key, Profile, Sink, Source};
@@ -61,6 +62,10 @@ fn follow<K: Sink>(
             Some(profile) => run_sender(alloc, &profile, instance, events, output),
             None => Err(events.fault()),
         },
+        Event::Row => {
+            name_row(alloc, events, output)?;
+            events.next()
+        }
         Event::Call(_) => Err(events.fault()),
     }
 }
