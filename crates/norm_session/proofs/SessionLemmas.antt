@@ -1,6 +1,7 @@
 -- A whole session.
 use Rattle.std.proofs.Common.{◌≡◌, ◌∙◌, ℕ, List, Bool, true, false, Some, refl, sym, ap, subst, inl, inr}
-use Rattle.std.specs.Prelude.{◌⊎◌}
+use Rattle.std.specs.Prelude.{◌⊎◌, Option, Result, Ok, Err, IfOk, IfErr}
+use Rattle.std.proofs.lemmas.Result.{IfOk-at_ok, IfErr-at_err}
 use Rattle.norm_base.specs.Network.{Network, Starts}
 use Rattle.norm_base.specs.Told.{Pieces}
 use Rattle.norm_base.specs.declared.kinds.Local.TheVariants.{All, One}
@@ -11,6 +12,7 @@ use Rattle.norm_journal.specs.Jobs.{Told}
 use Rattle.norm_journal.specs.Judged.{Judged, is_whole}
 use Rattle.norm_journal.specs.Places.{Between, Over}
 use Rattle.norm_journal.specs.SessionRun.{Whole, Spent, ending_of}
+use Rattle.norm_session.specs.Causes.{Counted, HasCause}
 use Rattle.norm_session.specs.Context.{Context, with_moments, with_posted, judged_of}
 use Rattle.norm_session.specs.Finishing.{HasEnded, Finishes}
 use Rattle.norm_session.specs.Moments.{HaveMoments}
@@ -21,6 +23,7 @@ use Rattle.norm_session.specs.Starting.{IsBegun, local_of}
 use Rattle.norm_session.specs.Session.{OverHonest, IsSafe, RunsKept, StopsSession, StopsSender, StopsScript, context_of, end_of}
 use Rattle.norm_session.specs.Turning.{Span, span, StopsTurns}
 use Rattle.norm_session.specs.declared.fault.SessionFault.{SessionFault}
+use Rattle.norm_session.specs.declared.session.Made.{Made}
 use Rattle.norm_session.specs.declared.fault.SessionFault.TheVariants as fault
 use Rattle.norm_session.proofs.SafeLemmas.{safe_over, safe_stopped}
 use Rattle.norm_session.specs.Stopping.{Stopped}
@@ -166,3 +169,24 @@ not_begun true script files failed o why network output clock board =
     inl (record { why = why; network = network; output = output; clock = clock; board = board })
 not_begun false script files failed o why network output clock board =
     inl (record { why = why; network = network; output = output; clock = clock; board = board })
+
+-- What was made keeps this journal, and says whether all was done.
+abbrev pub IsMade : Option (List Event) → Result Bool SessionFault → Made → Type 0
+IsMade journal whole made = (made.journal ≡ journal) × (whole ≡ Ok made.whole)
+
+-- what is said of a run's end is said of what was made of it
+pub if_made : (P : Made → Type 0) (Q : Bool → Type 0) (made : Result Made SessionFault) (whole : Result Bool SessionFault) (journal : Option (List Event))
+    → IfOk made (IsMade journal whole) → IfOk whole Q → ((m : Made) → m.journal ≡ journal → Q m.whole → P m) → IfOk made P
+if_made P Q (Ok m) whole journal is goes f = f m is.0 (IfOk-at_ok Q is.1 goes)
+if_made P Q (Err e) whole journal is goes f = tt
+
+pub if_unmade : (P Q : SessionFault → Type 0) (made : Result Made SessionFault) (whole : Result Bool SessionFault)
+    → IfErr made (λ e. whole ≡ Err e) → IfErr whole Q → ((e : SessionFault) → Q e → P e) → IfErr made P
+if_unmade P Q (Ok m) whole is stops f = tt
+if_unmade P Q (Err e) whole is stops f = f e (IfErr-at_err Q is stops)
+
+pub made_cause : (made : Result Made SessionFault) (whole : Result Bool SessionFault) (journal : Option (List Event)) (before between now : Counted)
+    → IfOk made (IsMade journal whole) → IfErr made (λ e. whole ≡ Err e) → between ≡ before → HasCause whole between now → HasCause made before now
+made_cause (Ok m) whole journal before between now is unmade same cause = subst (λ (w : Result Bool SessionFault). HasCause w between now) is.1 cause ∙ same
+made_cause (Err e) whole journal before between now is unmade same cause =
+    subst (λ (b : Counted). HasCause {T = Made} (Err e) b now) same (subst (λ (w : Result Bool SessionFault). HasCause w between now) unmade cause)

@@ -1,6 +1,7 @@
 -- The beginning of a run.
 use Rattle.std.proofs.Common.{◌≡◌, ℕ, List, [], ◌∷◌, Bool, Option, None, refl, sym, ap, ◌∙◌, subst, inl, inr}
-use Rattle.std.specs.Prelude.{◌⊎◌}
+use Rattle.std.specs.Prelude.{◌⊎◌, Result, Ok, Err, OnOk, OnErr, IfOk, IfErr}
+use Rattle.std.specs.Result.{result_and}
 use Rattle.rand_pcg.specs.Lcg.{Lcg}
 use Rattle.norm_base.specs.Network.{Network}
 use Rattle.norm_base.specs.Settings.{Settings}
@@ -22,13 +23,14 @@ use Rattle.norm_journal.specs.declared.event.Event.TheVariants as event
 use Rattle.norm_journal.specs.declared.totals.Totals.{Totals}
 use Rattle.norm_journal.proofs.FollowLemmas.{judges_what_follows}
 use Rattle.norm_world.specs.WorldKept.{WorldKept, StandsFor}
-use Rattle.norm_session.specs.Causes.{session_fault}
+use Rattle.norm_session.specs.Causes.{session_fault, NetworkCause}
 use Rattle.norm_session.specs.Context.{Context, opening, judged_of}
 use Rattle.norm_session.specs.Left.{lines_at}
 use Rattle.norm_session.specs.Noting.{kept_of}
 use Rattle.norm_session.specs.RunKept.{RunKept, nodes_in}
 use Rattle.norm_session.specs.SoFar.{AreOffered, Leads, At}
 use Rattle.norm_session.specs.Starting.{IsBegun}
+use Rattle.norm_session.specs.declared.fault.SessionFault.{SessionFault}
 use Rattle.norm_session.specs.declared.fault.SessionFault.TheVariants as fault
 use Rattle.norm_session.proofs.SoFarLemmas.{gained-nil, posting-nil, tells, untold, leads_on}
 
@@ -106,3 +108,29 @@ run_begins x script alone network p world journal totals draws left all p_is sam
 pub start_fault : (failed : FabricFault) → (session_fault failed ≡ fault.Memory) ⊎ (session_fault failed ≡ fault.Fabric)
 start_fault network_fault.Failed = inr refl
 start_fault network_fault.Memory = inl refl
+
+-- A run that was begun is answered where the network was started, and else why it was not: what is said of the start is said of the answer.
+pub ok_and : {X : Type 0} (A : Type 0) (started : Result (Unit {0}) SessionFault) (x : X) (result : Result X SessionFault) → result ≡ result_and started (Ok x)
+    → OnOk started A → OnOk result A
+ok_and {X} A (Ok u) x result is h = subst (λ (r : Result X SessionFault). OnOk r A) (sym is) h
+ok_and {X} A (Err e) x result is h = subst (λ (r : Result X SessionFault). OnOk r A) (sym is) h
+
+pub err_and : {X : Type 0} (A : Type 0) (started : Result (Unit {0}) SessionFault) (x : X) (result : Result X SessionFault) → result ≡ result_and started (Ok x)
+    → OnErr started A → OnErr result A
+err_and {X} A (Ok u) x result is h = subst (λ (r : Result X SessionFault). OnErr r A) (sym is) h
+err_and {X} A (Err e) x result is h = subst (λ (r : Result X SessionFault). OnErr r A) (sym is) h
+
+pub run_and : {X : Type 0} (P : X → Type 0) (started : Result (Unit {0}) SessionFault) (x : X) (result : Result X SessionFault)
+    → result ≡ result_and started (Ok x) → P x → IfOk result P
+run_and {X} P (Ok u) x result is h = subst (λ (r : Result X SessionFault). IfOk r P) (sym is) h
+run_and {X} P (Err e) x result is h = subst (λ (r : Result X SessionFault). IfOk r P) (sym is) tt
+
+pub why_and : {X : Type 0} (P : SessionFault → Type 0) (started : Result (Unit {0}) SessionFault) (x : X) (result : Result X SessionFault)
+    → result ≡ result_and started (Ok x) → IfErr started P → IfErr result P
+why_and {X} P (Ok u) x result is h = subst (λ (r : Result X SessionFault). IfErr r P) (sym is) h
+why_and {X} P (Err e) x result is h = subst (λ (r : Result X SessionFault). IfErr r P) (sym is) h
+
+pub cause_and : {X : Type 0} (started : Result (Unit {0}) SessionFault) (x : X) (result : Result X SessionFault) (before now : ℕ)
+    → result ≡ result_and started (Ok x) → NetworkCause started before now → NetworkCause result before now
+cause_and {X} (Ok u) x result before now is h = subst (λ (r : Result X SessionFault). NetworkCause r before now) (sym is) h
+cause_and {X} (Err e) x result before now is h = subst (λ (r : Result X SessionFault). NetworkCause r before now) (sym is) h

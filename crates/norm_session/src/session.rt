@@ -1,6 +1,6 @@
 //! A whole session (RFC 5740 section 5).
 
-ghost use Rattle.std.specs.Prelude.{◌≡◌, List, IfOk, IfErr};
+ghost use Rattle.std.specs.Prelude.{◌≡◌, List, Ok, Err, IfOk, IfErr};
 ghost use Rattle.norm_journal.specs.declared.event.Event.{Event};
 ghost use Rattle.norm_session.specs.Causes.{HasCause, counted};
 ghost use Rattle.norm_session.specs.Finishing.{Finishes};
@@ -147,6 +147,7 @@ pub(crate) fn run_script<R: Wait, A: Arrivals, K: Sink, F: Fabric, D: Files, C: 
 {
     let mut datagram = Datagram::new(alloc)?;
     let mut run = Run::start(alloc, script, alone, fabric)?;
+    // Proof: no `?` here, since an exit that drops a run is dear.
     let whole = run.finish(
         rt,
         script,
@@ -157,11 +158,22 @@ pub(crate) fn run_script<R: Wait, A: Arrivals, K: Sink, F: Fabric, D: Files, C: 
         files,
         clock,
         &mut datagram,
-    )?;
-    Ok(Made {
-        journal: run.into_journal(),
-        whole,
-    })
+    );
+    made_of(run.into_journal(), whole)
+}
+
+/// What a run made, or the fault that stopped it.
+fn made_of(
+    journal: Option<Journal>,
+    whole: Result<bool, SessionFault>,
+) -> Result<Made, SessionFault>
+    ensures made { IfOk result (λ made. (made.journal ≡ journal) × (whole ≡ Ok made.whole)) }
+    ensures fault { IfErr result (λ fault. whole ≡ Err fault) }
+{
+    match whole {
+        Ok(whole) => Ok(Made { journal, whole }),
+        Err(fault) => Err(fault),
+    }
 }
 
 impl Run {

@@ -1,11 +1,13 @@
 //! The beginning of a run.
 
-ghost use Rattle.std.specs.Prelude.{◌≡◌, ◌⊎◌, IfOk, IfErr, OnOk, OnErr};
+ghost use Rattle.std.specs.Prelude.{◌≡◌, ◌⊎◌, ◌∷◌, [], IfOk, IfErr, OnOk, OnErr};
 ghost use Rattle.norm_base.specs.Network.{Network, Starts};
 ghost use Rattle.norm_journal.specs.Draws.{first_draws};
 ghost use Rattle.norm_journal.specs.Places.{Between};
+ghost use Rattle.norm_journal.specs.declared.event.Event.TheVariants as event;
 ghost use Rattle.norm_session.specs.Causes.{NetworkCause};
 ghost use Rattle.norm_session.specs.Context.{Context};
+ghost use Rattle.norm_session.specs.Noting.{kept_of};
 ghost use Rattle.norm_session.specs.SoFar.{At};
 ghost use Rattle.norm_session.specs.Starting.{IsBegun, local_of};
 
@@ -41,25 +43,51 @@ fn local_of(profile: &Profile, alone: bool) -> Local
     }
 }
 
+/// What a run begins to keep: the network is started.
+fn begun_journal(alloc: Global, alone: bool) -> Result<KeptJournal, Memory>
+    ensures { IfOk result (λ journal. journal ≡ kept_of alone (event.Start ∷ [])) }
+{
+    let mut journal = KeptJournal::new(alloc, alone);
+    journal.push_start()?;
+    Ok(journal)
+}
+
+/// The network is started with all members, or with the sender alone.
+fn start_network<F: Fabric>(
+    script: &Script,
+    alone: bool,
+    fabric: &mut F,
+) -> Result<(), SessionFault>
+    ensures starts { OnOk result (Starts (F.told fabric.old) (F.told fabric.new) script.now.profile (local_of alone script.now.profile)) }
+    ensures same { OnErr result (F.told fabric.new ≡ F.told fabric.old) }
+    ensures why { IfErr result (λ fault. (fault ≡ SessionFault.Memory) ⊎ (fault ≡ SessionFault.Fabric)) }
+    ensures cause { NetworkCause result (F.fault_count fabric.old) (F.fault_count fabric.new) }
+{
+    fabric.start(&script.profile, local_of(&script.profile, alone))?;
+    Ok(())
+}
+
 impl Run {
     /// A run of the script as it begins, once the network is started.
     fn begun(alloc: Global, script: &Script, alone: bool) -> Result<Run, Memory>
         ensures { IfOk result (λ run. (x : Context) (network : Network) → IsBegun x script.now alone network → At x run Between network x.written) }
     {
         let profile = script.profile;
-        let world = World::new(alloc, &profile)?;
-        let mut journal = KeptJournal::new(alloc, alone);
-        journal.push_start()?;
         let draws = first_draws(&profile);
+        let totals = Totals::new();
         let left = Left::all(alloc, &script.lines)?;
+        let journal = begun_journal(alloc, alone)?;
+        let line = Line::new(alloc);
+        // Proof: the nodes come last, since each statement is dear while they are owned.
+        let world = World::new(alloc, &profile)?;
         Ok(Run {
             alloc,
             profile,
             alone,
             world,
             journal,
-            line: Line::new(alloc),
-            totals: Totals::new(),
+            line,
+            totals,
             draws,
             turn: 0,
             now: Moment(0),
@@ -86,7 +114,8 @@ impl Run {
         ensures cause { NetworkCause result (F.fault_count fabric.old) (F.fault_count fabric.new) }
     {
         let run = Run::begun(alloc, script, alone)?;
-        fabric.start(&script.profile, local_of(&script.profile, alone))?;
-        Ok(run)
+        // Proof: no `?` here, since each statement is dear while a run is owned.
+        let started = start_network(script, alone, fabric);
+        started.and(Ok(run))
     }
 }

@@ -1,10 +1,8 @@
 use Rattle.std.proofs.Common.{refl, inl}
 use Rattle.std.proofs.lemmas.Result.{err_from_is_err_and}
-use Rattle.norm_session.specs.Causes.{session_fault}
 use Rattle.norm_session.specs.declared.fault.SessionFault.TheVariants as fault
 use Rattle.norm_session.proofs.SoFarLemmas.{at_fault}
-use Rattle.norm_session.proofs.CauseLemmas.{network_cause}
-use Rattle.norm_session.proofs.StartingLemmas.{start_fault}
+use Rattle.norm_session.proofs.StartingLemmas.{ok_and, run_and, err_and, why_and, cause_and}
 use Rattle.norm_session.proofs.run.Run.start.Goals as goal
 
 pub returns-in_err-run-clause-why : goal.returns-in_err-run-clause-why
@@ -12,12 +10,17 @@ returns-in_err-run-clause-why g c =
     let exit = err_from_is_err_and c.from_residual.result c.from_residual.ensures.1 in
     at_fault _ c.from_residual.result exit.0 fault.Memory exit.1 exit.2 (inl refl)
 
-pub returns-in_err-start-clause-why : goal.returns-in_err-start-clause-why
-returns-in_err-start-clause-why g c =
-    let exit = err_from_is_err_and c.from_residual-in_err-start.result c.from_residual-in_err-start.ensures.1 in
-    at_fault _ c.from_residual-in_err-start.result exit.0 (session_fault c.in_err-start.field-0.0) exit.1 exit.2 (start_fault c.in_err-start.field-0.0)
+pub returns-clause-starts : goal.returns-clause-starts
+returns-clause-starts g c = ok_and _ c.start_network-started.result _ c.and.result c.and.ensures c.start_network-started.ensures.starts
 
-pub returns-in_err-start-clause-cause : goal.returns-in_err-start-clause-cause
-returns-in_err-start-clause-cause g c =
-    let exit = err_from_is_err_and c.from_residual-in_err-start.result c.from_residual-in_err-start.ensures.1 in
-    network_cause _ (Unit {0}) c.from_residual-in_err-start.result exit.0 c.in_err-start.field-0.0 _ _ exit.1 exit.2 c.in_err-start.ensures.cause
+pub returns-clause-goes : goal.returns-clause-goes
+returns-clause-goes g c = run_and _ c.start_network-started.result _ c.and.result c.and.ensures (λ x begun. c.in_ok-run.ensures x _ begun)
+
+pub returns-clause-same : goal.returns-clause-same
+returns-clause-same g c = err_and _ c.start_network-started.result _ c.and.result c.and.ensures c.start_network-started.ensures.same
+
+pub returns-clause-why : goal.returns-clause-why
+returns-clause-why g c = why_and _ c.start_network-started.result _ c.and.result c.and.ensures c.start_network-started.ensures.why
+
+pub returns-clause-cause : goal.returns-clause-cause
+returns-clause-cause g c = cause_and c.start_network-started.result _ c.and.result _ _ c.and.ensures c.start_network-started.ensures.cause
