@@ -2,7 +2,7 @@
 
 use crate::driven::Driven;
 use crate::spelled::{filled, octets_of, profile_of};
-use norm_base::{Datagram, Key, Moment, NodeId, Octets, Profile, Sent};
+use norm_base::{Datagram, Key, Memory, Moment, NodeId, Octets, Profile, Sent};
 use norm_order::Up;
 use norm_receiver::Receiver;
 use norm_send_rules::Receipt;
@@ -77,24 +77,21 @@ impl Jobs {
 }
 
 /// The receiver with this node id.
-fn receiver_of(alloc: Global, profile: &Profile, node: u32) -> Result<Receiver, Fail> {
-    let node = match NodeId::of(node) {
-        Some(node) => node,
-        None => Err("no member")?,
-    };
-    Ok(Receiver::new(alloc, profile, node)?)
+// The call stands alone: an exit after it, by `?`, costs much to prove, since a receiver has many parts.
+fn receiver_of(alloc: Global, profile: &Profile, node: NodeId) -> Result<Receiver, Memory> {
+    Receiver::new(alloc, profile, node)
 }
 
 /// A sender with a window of one object, and a receiver.
 fn begun(alloc: Global) -> Result<Jobs, Fail> {
     let keys = [(Key::E, 64), (Key::B, 4), (Key::Mode, 1), (Key::Window, 1)];
-    let profile = match profile_of(&keys) {
-        Some(profile) => profile,
-        None => Err("no profile")?,
+    let (profile, node) = match (profile_of(&keys), NodeId::of(2)) {
+        (Some(profile), Some(node)) => (profile, node),
+        _ => Err("no profile")?,
     };
     Ok(Jobs {
         sender: Driven::new(alloc, &profile)?,
-        receiver: receiver_of(alloc, &profile, 2)?,
+        receiver: receiver_of(alloc, &profile, node)?,
         out: Datagram::new(alloc)?,
     })
 }

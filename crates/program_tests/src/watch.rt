@@ -309,12 +309,17 @@ const ROWS: [Row; 10] = [
 ];
 
 /// A row's profile.
+// Each key comes through the loop: a call of `set` that names its key costs much to prove.
 fn profile_of(row: &Row) -> Result<Profile, Fail> {
     let mut given = Given::new();
-    given.set(Key::Receivers, 2);
-    given.set(Key::Fabric, row.fabric as u32);
-    given.set(Key::Port, PORT);
-    given.set(Key::Step, row.step);
+    for (key, value) in [
+        (Key::Receivers, 2),
+        (Key::Fabric, row.fabric as u32),
+        (Key::Port, PORT),
+        (Key::Step, row.step),
+    ] {
+        given.set(key, value);
+    }
     Ok(Profile::of(&given).ok_or("no profile")?)
 }
 

@@ -50,11 +50,16 @@ pub(crate) fn port_of(process: u32, test: u32) -> u16 {
 }
 
 /// A profile of two receivers over a network of this kind, with the hub at this port.
+// Each key comes through the loop: a call of `set` that names its key costs much to prove.
 fn profile_of(port: u16, kind: FabricKind) -> Option<Profile> {
     let mut given = Given::new();
-    given.set(Key::Receivers, 2);
-    given.set(Key::Fabric, kind as u32);
-    given.set(Key::Port, u32::from(port));
+    for (key, value) in [
+        (Key::Receivers, 2),
+        (Key::Fabric, kind as u32),
+        (Key::Port, u32::from(port)),
+    ] {
+        given.set(key, value);
+    }
     Profile::of(&given)
 }
 
