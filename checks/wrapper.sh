@@ -24,7 +24,8 @@ row() {
     rows=$((rows + 1))
     [ "$status" = "$2" ] || wrong "$1 ended with status $status, and not $2"
     [ "$(cat "$scratch/out")" = "$3" ] || wrong "$1 wrote something else"
-    [ "$(grep -vc '^build: compiling for [0-9]* seconds\.$' "$scratch/err")" = "$4" ] || wrong "$1 did not write $4 lines on standard error"
+    [ "$(grep -vcE '^build: (compiling for [0-9]* seconds\.|[0-9]* of [0-9]* crates, .*)$' "$scratch/err")" = "$4" ] ||
+        wrong "$1 did not write $4 lines on standard error"
 }
 
 # run FOLDER NORMD WORD..: from another folder; the input stands in $scratch/in.
@@ -107,15 +108,79 @@ nothing_left 'a signal'
 
 run / "$copy/build" --proved
 row 'a build of other words' 2 '' 1
-tool 'echo "== norm_base"' 'echo fine' 'echo "== norm_text"' 'echo "lib.rt:1:2: error[unexpected-token]: a word"' 'echo "== summary"' \
-    'echo "norm_base: ok"' 'echo "norm_text: failed (1)"' 'exit 1'
+tool 'echo "checked lib::size, 1 of 9"' 'echo "lib.rt:1:2: error[unexpected-token]: a word"' 'exit 1'
 run / env PATH="$scratch/fake:$PATH" "$copy/build"
-row 'a build that fails' 1 '' 4
+row 'a build that fails' 1 '' 3
 grep -q 'error\[unexpected-token\]: a word' "$scratch/err" || wrong 'what the tool says of a crate that is not proved is lost'
+nothing_left 'a build that fails'
 # The tool's own build takes as long as the proofs of the program, which the gate has behind it.
-tool 'case $1 in all) echo "== norm_base" ;; *) cat stdout ;; esac'
+tool 'case $1 in run) cat stdout ;; esac'
 run / env PATH="$scratch/fake:$PATH" "$copy/build"
 row 'a build' 0 '' 2
+nothing_left 'a build'
+: >"$scratch/folder/calls"
+tool 'mkdir -p out' ': >out/kept' "echo called >>'$scratch/folder/calls'" 'exec sleep 60'
+(cd / && PATH="$scratch/fake:$PATH" exec "$copy/build") </dev/null >"$scratch/out" 2>"$scratch/err" &
+build=$!
+tries=0
+until [ -s "$scratch/folder/calls" ] || [ $tries -gt 600 ]; do
+    tries=$((tries + 1))
+    sleep 0.1
+done
+kill "$build"
+wait "$build"
+status=$?
+row 'a build that a signal ends' 143 '' 1
+nothing_left 'a build that a signal ends'
+[ -n "$(find "$copy/crates" -path '*/out/kept')" ] || wrong 'what the tool keeps of a crate is lost after a signal'
+
+# In lanes: the tool makes a library only if those of all crates below are there.
+cat >"$scratch/fake/rt" <<'END'
+#!/bin/sh
+name=${PWD##*/}
+echo "$1 $name $3" >>"$CALLS"
+[ "$1" != run ] || exec cat stdout
+for below in $(sed -n "s/^$name://p" ../../crates.txt); do
+    [ ! -d "../$below" ] || [ -s "../$below/out/rlib/stamp" ] || exit 1
+done
+mkdir -p out/rlib
+if [ "$name" = norm_ext ] && [ ! -e out/killed ]; then
+    : >out/killed
+    exit 247
+fi
+echo made >out/rlib/stamp
+END
+
+# in_lanes NAME LINES: a build in four lanes. What the tool was called for is in $scratch/folder/calls.
+in_lanes() {
+    : >"$scratch/folder/calls"
+    run / env PATH="$scratch/fake:$PATH" CALLS="$scratch/folder/calls" "$copy/tools/prove" --lanes 4
+    row "$1" 0 '' "$2"
+}
+
+rm -rf "$copy"/crates/*/out
+in_lanes 'a build in lanes' 2
+nothing_left 'a build in lanes'
+crates=$(cut -d' ' -f2 "$scratch/folder/calls" | sort -u | wc -l)
+[ "$(ls -d "$copy"/crates/*/out/rlib/stamp | wc -l)" = $((crates - 1)) ] || wrong 'a library that was built in a lane is lost'
+[ "$(wc -l <"$scratch/folder/calls")" = $((crates + 1)) ] || wrong 'a crate was proved more than once, or the killed one not again'
+[ "$(grep -c '^lib norm_ext ' "$scratch/folder/calls")" = 2 ] && grep -qx 'lib norm_ext 1' "$scratch/folder/calls" ||
+    wrong 'a killed crate is not proved again with one job'
+in_lanes 'a second build' 2
+[ "$(cat "$scratch/folder/calls")" = 'run normd 4' ] || wrong 'a second build proves crates again'
+# What a killed build left is taken back, so only the crates above the one that changed are proved.
+mkdir -p "$copy/out/lanes/3/crates/norm_base"
+mv "$copy/crates/norm_base/out" "$copy/out/lanes/3/crates/norm_base/out"
+touch "$copy/crates/norm_program/src/lib.rt"
+in_lanes 'a build after a killed one' 2
+nothing_left 'a build after a killed one'
+[ "$(cut -d' ' -f-2 "$scratch/folder/calls" | paste -sd ,)" = 'lib norm_program,run normd' ] || wrong 'a build after a killed one proves crates again'
+# If no lane can be made, the tool proves all by itself.
+rm -rf "$copy/out" "$copy"/crates/*/out
+: >"$copy/out"
+in_lanes 'a build without lanes' 3
+[ "$(cat "$scratch/folder/calls")" = 'run normd 4' ] || wrong 'a build without lanes calls the tool for something else'
+rm -rf "$copy/out" "$copy"/crates/*/out
 
 # The unproved program, made once, from the folder of whoever calls it.
 printf 'hi' >"$scratch/folder/hi.txt"
