@@ -10,7 +10,7 @@ import signal
 import subprocess
 import sys
 import tomllib
-from dataclasses import asdict, dataclass
+from dataclasses import asdict, dataclass, fields
 from pathlib import Path, PurePosixPath
 
 import norm_keys
@@ -20,6 +20,7 @@ from norm_wire import ToolFault
 LOOPBACK, MOST_PROFILE = '127.0.0.1', 65_536
 MANIFEST, PIECE = 'manifest', re.compile(r'p(\d{1,6})')
 NOT_ALL = 4  # the status where not everyone has everything
+REPAIR_PART = 4  # one datagram in this many is allowed for repair on top
 
 
 @dataclass(frozen=True)
@@ -31,6 +32,11 @@ class Session:
     octets: int
     window: int
     grtt: int
+    e: int
+    b: int
+    max_n: int
+    auto: int
+    turns: int
     mode: str
 
     def nodes(self) -> list[int]:
@@ -40,6 +46,25 @@ class Session:
     def address(self, node: int) -> tuple[str, int]:
         """Where a member is: the hub has the first port, and the members have those behind it."""
         return LOOPBACK, self.port + 1 + self.nodes().index(node)
+
+    def unasked(self, octets: int) -> int:
+        """The datagrams that the sender sends unasked of a file: its info, its source symbols, and `auto` parity symbols of each block, or all that the block has."""
+        symbols = -(-octets // self.e)
+        blocks = -(-symbols // self.b)
+        shorter, longer_blocks = divmod(symbols, blocks)
+
+        def parity(k: int) -> int:
+            return min(self.auto, k * self.max_n // self.b - k)
+
+        return 1 + symbols + longer_blocks * parity(shorter + 1) + (blocks - longer_blocks) * parity(shorter)
+
+    def check_turns(self, datagrams: int, octets: int) -> None:
+        """Refuses what the sender's turns are too few for. It sends one datagram a turn at most, and some are lost and go again."""
+        needed = datagrams + -(-datagrams // REPAIR_PART)
+        if needed > self.turns:
+            most = next(key.greatest for key in norm_keys.keys() if key.name == 'turns')
+            raise ToolFault(f'{octets:,} octets need some {needed:,} datagrams, with a quarter for repair, and the profile\'s turns are {self.turns:,}, each for one at most: '
+                            f'send less at a time, or give the profile more turns (at most {most:,}).')
 
 
 def session_of(path: str) -> Session:
@@ -63,8 +88,9 @@ def session_of(path: str) -> Session:
     if given.get('fabric') != 'udp':
         raise ToolFault(f'{path}: the nodes meet over sockets, so it has to say fabric = "udp".')
     whole = {**norm_keys.defaults(), **numbers}
+    whole['max_n'] = numbers.get('max_n', norm_keys.default_max_n(whole['b']))
     mode = words['mode'][whole['mode']]
-    return Session(mode=mode, **{name: whole[name] for name in ('port', 'sender', 'receivers', 'octets', 'window', 'grtt')})
+    return Session(mode=mode, **{it.name: whole[it.name] for it in fields(Session) if it.name != 'mode'})
 
 
 def program_of(given: str | None) -> str:

@@ -18,6 +18,7 @@ import struct
 import subprocess
 import sys
 import tempfile
+import tomllib
 import xml.etree.ElementTree as tree
 from types import ModuleType
 from typing import Any, Iterator
@@ -32,6 +33,7 @@ import dissector  # noqa: E402
 import norm_journal  # noqa: E402
 import norm_keys  # noqa: E402
 import norm_ladder  # noqa: E402
+import norm_nodes  # noqa: E402
 import norm_wire as wire  # noqa: E402
 
 PROGRAM = os.path.join(ROOT, 'crates', 'normd', 'out', 'normd')
@@ -272,38 +274,80 @@ def unquantised(code: int) -> float:
     return (code + 1) * 1e-6 if code <= 31 else 1000.0 / math.exp((255 - code) / 13.0)
 
 
-def check_profile_row(profile: ModuleType, row: tuple[int, int, int, float, int]) -> None:
+def check_turns(name: str, asked: Any, keys: dict[str, int], new: int) -> None:
+    """The moments of a script's turns are a gap apart, and there are enough of them for all symbols and a flush; over sockets the clock gives the moments, and there are as many turns as can be."""
+    if asked.sockets:
+        wants(f'{name} is for sockets', ('udp', 0, 4_000_000), (words_of('fabric')[keys['fabric']], keys['step'], keys['turns']))
+        wants(f'{name} waits a round trip and four turns', True, keys['grtt'] >= asked.rtt + 4 * max(keys['gap'], 1000))
+        return
+    wants(f'{name} is for a network in memory', False, 'fabric' in keys)
+    wants(f'{name} waits a round trip and two turns', True, keys['grtt'] >= asked.rtt + 2 * keys['step'] and keys['step'] == keys['gap'])
+    least = asked.objects + 1 + new + -(-2 * keys['grtt'] // keys['step']) + 2 + 2
+    wants(f'{name} has turns for all symbols and a flush', True, keys['turns'] >= least)
+
+
+def words_of(name: str) -> tuple[str, ...]:
+    """The words of a key."""
+    return next(key.words for key in norm_keys.keys() if key.name == name)
+
+
+def check_profile_row(profile: ModuleType, row: tuple[int, int, int, float, int], sockets: bool) -> None:
     """A profile meets the table of keys and what was asked."""
     size, receivers, rate, loss, rtt = row
-    asked = profile.Asked(size, -(-size // profile.MOST_OBJECT), receivers, rate, loss, rtt)
-    keys, name = profile.choose(asked).keys, f'the profile of {row}'
+    asked = profile.Asked(size, -(-size // profile.MOST_OBJECT), receivers, rate, loss, rtt, sockets)
+    keys, name = profile.choose(asked).keys, f'the {"document" if sockets else "script"} of {row}'
     wants(f'{name} is one', None, norm_keys.fault_of(keys))
     wants(f'{name} keeps to the rate', True, keys['gap'] == 1 or (keys['e'] + 60) * 8e6 / keys['gap'] <= rate)
     short = sum(math.comb(keys['max_n'], n) * (1 - loss) ** n * loss ** (keys['max_n'] - n) for n in range(keys['b']))
     wants(f'{name} has parity for all receivers', True, (1 - short) ** receivers >= 0.98)
     wants(f'{name} has no more auto than parity', True, keys['auto'] <= keys['max_n'] - keys['b'])
-    wants(f'{name} waits a round trip and two turns', True, keys['grtt'] >= rtt + 2 * keys['step'] and keys['step'] == keys['gap'])
     said = unquantised(keys['grtt_code']) * 1e6
     wants(f'{name} says its round trip time', True, keys['grtt'] <= said * 1.001 <= keys['grtt'] * 1.09)
     symbols = -(-asked.object_octets() // keys['e'])
-    new = asked.objects * (symbols + -(-symbols // keys['b']) * keys['auto'])
-    least = asked.objects + 1 + new + -(-2 * keys['grtt'] // keys['step']) + 2 + 2
-    wants(f'{name} has turns for all symbols and a flush', True, keys['turns'] >= least)
+    check_turns(name, asked, keys, asked.objects * (symbols + -(-symbols // keys['b']) * keys['auto']))
+
+
+def check_document(words: list[str], script: bytes) -> None:
+    """A document is a profile of nodes over sockets, and says what the script says but for the network and what waits go by."""
+    with tempfile.TemporaryDirectory() as folder:
+        path = os.path.join(folder, 'profile.toml')
+        wants('a document is written', (0, b'', ''), run('profile', *words, '--toml', '-o', path))
+        session, document = norm_nodes.session_of(path), tomllib.loads(text(path))
+    wants('a document has three receivers and all turns', (3, 4_000_000), (session.receivers, session.turns))
+    wants('a document is for sockets', ('udp', 0), (document['fabric'], document['step']))
+    set_keys = dict(line.split(' ')[1:] for line in script.decode().splitlines() if not line.startswith('#'))
+    others = {'fabric', 'step', 'turns', 'grtt', 'grtt_code'}
+    wants('both forms have the same keys', set_keys.keys() | {'fabric'}, document.keys())
+    wants('both forms say the same of the rest', {key: int(value) for key, value in set_keys.items() if key not in others},
+          {key: value for key, value in document.items() if key not in others})
+
+
+# Octets of a file, then e, b, max_n and auto, and the datagrams that a sender sends unasked: an info, the symbols, and parity of each block. Worked out by RFC 5052.
+UNASKED = [(1, 64, 4, 6, 0, 2), (257, 64, 4, 6, 0, 6), (257, 64, 4, 6, 1, 8), (257, 64, 4, 6, 255, 8), (16_777_216, 1400, 200, 255, 255, 1 + 11_984 + 44 * 55 + 16 * 54)]
+
+
+def check_unasked() -> None:
+    """How many datagrams a file needs, by which `send` refuses what the turns are too few for."""
+    given = {key: value for key, value in norm_keys.defaults().items() if key in norm_nodes.Session.__dataclass_fields__}
+    for octets, e, b, max_n, auto, datagrams in UNASKED:
+        session = norm_nodes.Session(**{**given, 'e': e, 'b': b, 'max_n': max_n, 'auto': auto, 'mode': 'hold'})
+        wants(f'datagrams of {octets} octets by {e}, {b}, {max_n}, {auto}', datagrams, session.unasked(octets))
 
 
 def check_profile() -> str:
-    """Profiles over many transfers, the two forms of one, and what no profile meets."""
+    """Profiles of both forms over many transfers, both forms of one, and what no profile meets."""
     profile, count = module('profile'), 0
     sizes, rates, losses = (1, 64, 1401, 65_537, 9_000_000, 40_000_000), (10_000, 1_000_000, 50_000_000), (0.0, 0.001, 0.05, 0.4)
     for size, receivers, rate, loss, rtt in itertools.product(sizes, (1, 7, 16), rates, losses, (0, 200_000)):
-        check_profile_row(profile, (size, receivers, rate, loss, rtt))
+        for sockets in (False, True):
+            check_profile_row(profile, (size, receivers, rate, loss, rtt), sockets)
         count += 1
-    script = run('profile', '--size', '1M', '--rate', '10M', '--loss', '2', '--receivers', '3')
-    document = run('profile', '--size', '1M', '--rate', '10M', '--loss', '2', '--receivers', '3', '--toml')
+    asked = ['--size', '1M', '--rate', '10M', '--loss', '2', '--receivers', '3']
+    script = run('profile', *asked)
     lines = [line for line in script[1].decode().splitlines() if not line.startswith('#')]
     wants('a profile is made of set lines', True, bool(lines) and all(re.fullmatch(r'set \w+ \d+', line) for line in lines))
-    keys = [line.replace(' = ', ' ') for line in document[1].decode().splitlines() if not line.startswith('#')]
-    wants('both forms say the same', lines, [f'set {key}' for key in keys])
+    check_document(asked, script[1])
+    check_unasked()
     refused('more turns than a run has', 3, 'profile', '--size', '1G', '--rate', '1G', '--loss', '90', '--receivers', '16')
     refused('a rate that no gap meets', 3, 'profile', '--size', '1M', '--rate', '900')
     refused('more objects than a script has', 3, 'profile', '--size', '1M', '--rate', '1M', '--objects', '5k')

@@ -131,9 +131,17 @@ def refusals(program: str, port: int, room: Path) -> str:
         holds(not (room / 'in9').exists(), 'nothing is made for no member')
         ended(nodes.tool('send', room / 'nothing', nodes.profile), 1, 'send of a file that is not there')
         ended(nodes.tool('bridge', 'hub', nodes.profile, 9, 'localhost'), TAKEN, 'a bridge of no member')
+        # Pieces of 62,500 octets: 35 with an info and 45 symbols, and one with an info and 9; a quarter of these 1,620 datagrams is allowed for repair.
+        nodes.profile.write_text(nodes.profile.read_text().replace('turns = 4000000', 'turns = 2024'))
+        said = ended(nodes.tool('send', room / 'photos', nodes.profile), TAKEN, 'send of more datagrams than turns')
+        holds("need some 2,025 datagrams, with a quarter for repair, and the profile's turns are 2,024" in said, f'it says how many datagrams and turns: {said}')
         nodes.profile.write_text('fabric = "direct"\n')
         ended(nodes.tool('send', room / 'photos', nodes.profile), TAKEN, 'send over no sockets')
-    return 'a file that is there, no member, no file, no sockets: refused'
+        with open(room / 'long', 'wb') as long:
+            long.truncate(5_000_000_000)
+        said = ended(nodes.start(sys.executable, ROOT / 'examples/cast', room / 'long', 1, '--port', port, '--program', program), TAKEN, 'cast of five thousand million octets')
+        holds('a sender has 4,000,000 turns' in said, f'cast says how many turns a sender has: {said}')
+    return 'a file that is there, no member, no file, no sockets, more datagrams than turns: refused'
 
 
 def ip(*words: str) -> bool:
