@@ -10,6 +10,9 @@ rows=0
 
 [ -x "$program" ] || { echo "program: $program is not there: run './build' first"; exit 1; }
 scratch=$(mktemp -d) || exit 1
+# Where senders keep the number of their last instance. `forget` takes all of it away, so that the next sender may use any number without a warning.
+export XDG_STATE_HOME="$scratch/state"
+forget() { rm -rf "$XDG_STATE_HOME"; }
 nodes='' sender='' unheard=''
 # shellcheck disable=SC2086 # each is a process of its own
 trap 'kill $nodes $sender $unheard 2>/dev/null; rm -rf "$scratch"' EXIT
@@ -287,6 +290,7 @@ row 'a script with a line of 16,501 octets' 3 'refused line 2\n' session
 # Nodes, each in a process of its own, which are ended by a signal. send_letter QUORUM: a sender that sends a file to two receivers and waits for
 # so many; for all where none is said.
 send_letter() {
+    forget
     printf '1 file letter.txt\n1 mark%s\n' "$1" >"$scratch/in"
     (cd "$files" && exec "$program" send "$scratch/profile") <"$scratch/in" >"$scratch/out" 2>"$scratch/err" &
     sender=$!
@@ -316,7 +320,7 @@ progress() {
     rows=$((rows + 1))
 }
 
-printf 'fabric = "udp"\nport = %s\nreceivers = 2\nstep = 0\n' "$port" >"$scratch/profile"
+printf 'fabric = "udp"\nport = %s\nreceivers = 2\nstep = 0\ninstance = 1\n' "$port" >"$scratch/profile"
 node still.hub hub ../profile
 node still.2 recv ../profile 2
 export NORMD_PROGRESS=1
@@ -362,7 +366,7 @@ END
 }
 
 # The hub comes last, so that the file goes through behind the random datagrams of all others.
-printf 'fabric = "udp"\nport = %s\nreceivers = 3\nstep = 0\ngrtt = 200000\nk = 1\n' "$port" >"$scratch/profile"
+printf 'fabric = "udp"\nport = %s\nreceivers = 3\nstep = 0\ninstance = 1\ngrtt = 200000\nk = 1\n' "$port" >"$scratch/profile"
 node noisy.2 recv ../profile 2
 node noisy.3 recv ../profile 3
 send_letter ' 2'

@@ -75,7 +75,7 @@ class Bench:
 
 def profile_of(bench: Bench, name: str, receivers: int, **more: object) -> str:
     """The profile's text, with the keys that were asked for in place of its own."""
-    keys = {'receivers': str(receivers), **bench.keys, **more}
+    keys = {'receivers': str(receivers), 'instance': str(INSTANCE), **bench.keys, **more}
     kept = [it for it in (PROFILES / f'{name}.toml').read_text().splitlines() if it.split(' = ')[0] not in keys]
     return '\n'.join(kept + [f'{key} = {value}' for key, value in keys.items()]) + '\n'
 
@@ -121,7 +121,7 @@ def normd(bench: Bench, receivers: int, loss: float) -> float | None:
     (room / 'script').write_text(script)
     began = time.time()
     with (room / 'script').open() as source:
-        sender = start('sender', ['send', 'profile.toml'], stdin=source)
+        sender = start('sender', ['send', 'profile.toml'], stdin=source, env={**os.environ, 'XDG_STATE_HOME': str(room)})
     try:
         sender.wait(timeout=bench.limit)
     except subprocess.TimeoutExpired:
@@ -271,7 +271,8 @@ def idle(bench: Bench, seconds: int = 10) -> None:
     (room / 'script').write_text('1 data 61\n1 data 62\n')
     for name, words in {'hub': ['hub', 'profile.toml'], 'receiver': ['recv', 'profile.toml', '2'], 'waiting sender': ['send', 'profile.toml']}.items():
         with (room / 'script').open() as script:
-            running[name] = subprocess.Popen([bench.program, *words], cwd=room, stdin=script, stdout=subprocess.DEVNULL, stderr=subprocess.DEVNULL)
+            running[name] = subprocess.Popen([bench.program, *words], cwd=room, stdin=script, stdout=subprocess.DEVNULL, stderr=subprocess.DEVNULL,
+                                             env={**os.environ, 'XDG_STATE_HOME': str(room)})
     time.sleep(seconds)
     for name, it in running.items():
         if it.poll() is not None:

@@ -39,7 +39,7 @@ class Nodes:
     """A profile, and the processes under it, which are ended with the block."""
 
     def __init__(self, program: str, port: int, receivers: int, room: Path, gap: int = 60):
-        self.program, self.room, self.running = program, room, []
+        self.program, self.room, self.running, self.env = program, room, [], {**os.environ, 'XDG_STATE_HOME': str(room / 'state')}
         self.profile = room / 'profile.toml'
         self.profile.write_text(f'fabric = "udp"\nport = {port}\nreceivers = {receivers}\nstep = 0\nturns = 4000000\ne = 1400\nb = 100\nmax_n = 255\n'
                                 f'gap = {gap}\ngrtt = {20000 if receivers < 4 else 100000}\nk = 1\noctets = 1000000\n')
@@ -48,7 +48,7 @@ class Nodes:
         return self
 
     def start(self, *words: object) -> subprocess.Popen:
-        self.running.append(subprocess.Popen([str(it) for it in words], stdout=subprocess.PIPE, stderr=subprocess.STDOUT, text=True))
+        self.running.append(subprocess.Popen([str(it) for it in words], stdout=subprocess.PIPE, stderr=subprocess.STDOUT, text=True, env=self.env))
         return self.running[-1]
 
     def tool(self, name: str, *words: object, before: tuple = ()) -> subprocess.Popen:
