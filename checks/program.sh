@@ -377,6 +377,67 @@ letter_sent 'a sender amid random datagrams' ' 2' noisy
 end_nodes
 silent noisy.hub.out noisy.hub.err noisy.2.err noisy.3.err
 
+# Three receivers that run throughout. Each send draws a number above that of the send before it, so that nobody takes what it sends for what came before.
+printf 'fabric = "udp"\nport = %s\nreceivers = 3\nstep = 0\ne = 1400\nb = 100\nmax_n = 255\ngap = 500\ngrtt = 100000\nk = 1\n' "$port" >"$scratch/profile"
+node on.hub hub ../profile
+for at in 2 3 4; do
+    node on.$at recv ../profile $at
+done
+sent=''
+
+# start_send FILE: a sender alone begins to send a file.
+start_send() {
+    printf '1 file %s\n1 mark\n' "$1" >"$scratch/in"
+    : >"$scratch/out"
+    (cd "$files" && exec "$program" send "$scratch/profile") <"$scratch/in" >"$scratch/out" 2>"$scratch/err" &
+    sender=$!
+}
+
+# all_have FILE: its sender ends with everyone's confirmation. Then each receiver has each file that was sent so far, under the instance of its send, and
+# nothing else.
+all_have() {
+    wait "$sender"
+    ended $? "a send of $1" 0
+    sender=''
+    said "a send of $1"
+    grep -qx 'done 1 satisfied' "$scratch/out" || { echo "program: not everyone confirmed $1"; cat "$scratch/out"; exit 1; }
+    sent="$sent $(sed -n 's/^enq 1 1 \([0-9]*\) 0 file [0-9]*$/\1/p' "$scratch/out"):$1"
+    wanted=$(echo "$sent" | wc -w)
+    for at in 2 3 4; do
+        for one in $sent; do
+            cmp -s "$files/${one#*:}" "$scratch/on.$at/n$at-i${one%%:*}-x0" ||
+                { echo "program: receiver $at has another ${one#*:} after the send of $1"; ls -l "$scratch/on.$at"; exit 1; }
+        done
+        for one in "$(find "$scratch/on.$at" -type f | wc -l)" "$(wc -l <"$scratch/on.$at.out")"; do
+            [ "$one" -eq "$wanted" ] || { echo "program: receiver $at has $one and not $wanted after the send of $1"; ls -l "$scratch/on.$at"; exit 1; }
+        done
+    done
+}
+
+for file in letter.txt hi.txt; do
+    start_send $file
+    all_have $file
+done
+
+# A sender that is killed amid a file, and then another of a file of the same length: of the first nothing is left, and of the second nothing is missing.
+python3 - "$files" <<'END'
+import random, sys
+for seed, name in enumerate(('cut', 'whole')):
+    open(f'{sys.argv[1]}/{name}', 'wb').write(random.Random(seed).randbytes(3_000_000))
+END
+start_send cut
+awaits out '^enq '
+sleep 0.25
+kill -9 "$sender"
+wait "$sender" 2>/dev/null
+ended $? 'a sender that is killed' 137
+sender=''
+grep -q '^done ' "$scratch/out" && { echo 'program: a sender was to be killed before it ended'; cat "$scratch/out"; exit 1; }
+start_send whole
+all_have whole
+end_nodes
+silent on.hub.out on.hub.err on.2.err on.3.err on.4.err
+
 # Ports that another process has.
 python3 - "$port" >"$scratch/held" <<'END' &
 import socket, sys, time
