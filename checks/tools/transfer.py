@@ -21,7 +21,7 @@ from pathlib import Path
 sys.dont_write_bytecode = True
 ROOT = Path(__file__).resolve().parents[2]
 TOOLS = ROOT / 'tools'
-SECONDS, TAKEN = 60, 3
+SECONDS, REFUSED, TAKEN, NOT_ALL = 60, 2, 3, 4
 # Below the ports that the system gives out itself, and apart from those of other checks. A bridge's lie a hundred above its member's.
 LOWEST, PORTS, PROCESSES = 16400, 128, 28
 
@@ -96,6 +96,42 @@ def to_two(program: str, port: int, room: Path) -> str:
             ended(receiver, 0, f'receive {node}')
             holds(there(room / f'in{node}') == files, f'the folder of {node} has what was sent')
     return 'a folder of four files to two receivers'
+
+
+def instance(program: str, port: int, room: Path) -> str:
+    """The instance that `send` is given is the sender's, by a program that writes down its words and ends; and a number that is none is refused."""
+    made(room / 'photos')
+    fake = room / 'fake'
+    fake.write_text('#!/bin/sh\necho "$@" >"$0.words"\nexit 8\n')
+    fake.chmod(0o755)
+    with Nodes(str(fake), port, 1, room) as nodes:
+        for words, wanted in (((), f'send {nodes.profile}\n'), (('--instance', 65535), f'send {nodes.profile} --instance 65535\n')):
+            ended(nodes.tool('send', room / 'photos', nodes.profile, *words), NOT_ALL, 'send by a program that sends nothing')
+            holds((room / 'fake.words').read_text() == wanted, f'the words are {wanted!r}')
+        for number in ('65536', '-1', 'x'):
+            ended(nodes.tool('send', room / 'photos', nodes.profile, '--instance', number), REFUSED, f'send --instance {number}')
+    return 'the instance that send is given is the sender\'s'
+
+
+def two_sends(program: str, port: int, room: Path) -> str:
+    """A receiver that runs throughout, and two sends: the second is no repetition of the first."""
+    names = ('first', 'second')
+    with Nodes(program, port, 1, room) as nodes:
+        nodes.start(program, 'hub', nodes.profile)
+        for name in names:
+            (room / name).write_bytes(random.Random(name).randbytes(100_000))
+        inbox = room / 'inbox'
+        inbox.mkdir()
+        nodes.running.append(subprocess.Popen([program, 'recv', str(nodes.profile), '2'], cwd=inbox, stdin=subprocess.DEVNULL, stdout=subprocess.DEVNULL,
+                                              stderr=subprocess.DEVNULL, env=nodes.env))
+        before: set[str] = set()
+        for name in names:
+            ended(nodes.tool('send', room / name, nodes.profile), 0, f'send of the {name} file')
+            came = there(inbox)
+            new = [it for it in came if it not in before and it.endswith('-x1')]  # the first piece, after the manifest
+            holds([came[it] for it in new] == [(room / name).read_bytes()[:62_500]], f'the receiver has the {name} file once: {new}')
+            before = set(came)
+    return 'two sends to a receiver that runs throughout'
 
 
 def in_pieces(program: str, port: int, room: Path) -> str:
@@ -212,7 +248,7 @@ def main() -> int:
     parser.add_argument('--gap', type=int, default=60)
     given = parser.parse_args()
     failed = 0
-    for part, more in ((to_two, ()), (in_pieces, ()), (refusals, ()), (over_bridges, (given.machines, given.gap))):
+    for part, more in ((to_two, ()), (two_sends, ()), (instance, ()), (in_pieces, ()), (refusals, ()), (over_bridges, (given.machines, given.gap))):
         with tempfile.TemporaryDirectory(prefix='transfer-') as room:
             try:
                 said = part(given.program, given.port, Path(room), *more)
