@@ -41,3 +41,5 @@ pub record AddressLaws : Type 0 where
   pub found : (p : Settings) → (node : ℕ) → is_node p node ≡ true → member_with p (port_of p node) ≡ Some node
   pub only : (p : Settings) (port node : ℕ) → member_with p port ≡ Some node → (is_node p node ≡ true) × (port_of p node ≡ port)
   pub behind : (p : Settings) (node : ℕ) → p.port < port_of p node
+  -- what comes from a member's address is known to be that member's
+  pub known : (p : Settings) (at : SocketAddr) (node : ℕ) → is_node p node ≡ true → IsAt at (port_of p node) → member_from p at ≡ Some node

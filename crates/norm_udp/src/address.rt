@@ -1,11 +1,22 @@
 //! Where the members of a session are.
 
-ghost use Rattle.std.specs.Prelude.{◌≡◌, ◌≤◌, ◌+◌, ◌<◌, true, if◌then◌else◌, IfSome, Some, None};
+ghost use Rattle.std.specs.Prelude.{◌≡◌, ◌≤◌, ◌+◌, ◌<◌, true, if◌then◌else◌, IfSome, IfNone, Some, None};
+ghost use Rattle.std.proofs.Props.{props};
 ghost use Rattle.norm_base.specs.Members.{is_node};
 ghost use Rattle.norm_udp.specs.Addresses.{port_of, member_with, member_from, IsAt, gets_copy};
 
 use norm_base::{NodeId, Profile};
 use std::net::{Ipv4Addr, SocketAddr, SocketAddrV4};
+
+/// A member of a profile, and the address that says which member it is: the one that a datagram came from, or the member's own.
+// What is received goes up as this value, so that nothing on its way can tell it as another member's.
+#[derive(Clone, Copy, Debug)]
+pub(crate) struct Located {
+    pub(crate) profile: Profile,
+    pub(crate) address: SocketAddr,
+    pub(crate) node: NodeId,
+    ghost known: { member_from profile address ≡ Some node } by { Prim.hlevel props },
+}
 
 /// The address of this machine with a port.
 pub(crate) fn address_at(port: u16) -> SocketAddr
@@ -37,6 +48,21 @@ pub(crate) fn address_of(profile: &Profile, node: NodeId) -> SocketAddr
     address_at(port_of(profile, node))
 }
 
+/// A member with its address.
+#[tactic(auto, using(crate::proofs::AddressLemmas::known))]
+pub(crate) fn with_address(profile: &Profile, node: NodeId) -> Located
+    requires { is_node profile.now node ≡ true }
+    ensures profile { result.profile ≡ profile.now }
+    ensures node { result.node ≡ node }
+{
+    let address = address_of(profile, node);
+    Located {
+        profile: *profile,
+        address,
+        node,
+    }
+}
+
 /// The member at this place among them: the sender at 0, and then the receivers.
 pub(crate) fn member_at(profile: &Profile, place: u8) -> NodeId
     requires { place ≤ profile.now.receivers }
@@ -57,13 +83,28 @@ fn member_with(profile: &Profile, port: u16) -> Option<NodeId>
     NodeId::of(profile.sender + u32::from(port - first))
 }
 
-/// The member that a datagram came from. `None` where its address is no member's.
-pub(crate) fn member_from(profile: &Profile, address: &SocketAddr) -> Option<NodeId>
+/// The member at an address. `None` if it is no member's.
+fn member_from(profile: &Profile, address: &SocketAddr) -> Option<NodeId>
     ensures { result ≡ member_from profile.now address.now }
 {
     match address {
         SocketAddr::V4(at) if at.ip().octets() == [127, 0, 0, 1] => member_with(profile, at.port()),
         _ => None,
+    }
+}
+
+/// The member that a datagram from this address is of. `None` if the address is no member's.
+pub(crate) fn heard_from(profile: &Profile, address: SocketAddr) -> Option<Located>
+    ensures some { IfSome result (λ from. (from.profile ≡ profile.now) × (from.address ≡ address)) }
+    ensures none { IfNone result (member_from profile.now address ≡ None) }
+{
+    match member_from(profile, &address) {
+        Some(node) => Some(Located {
+            profile: *profile,
+            address,
+            node,
+        }),
+        None => None,
     }
 }
 

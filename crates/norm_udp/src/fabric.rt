@@ -5,6 +5,7 @@ ghost use Rattle.norm_base.specs.Faults.{Counts};
 ghost use Rattle.norm_udp.specs.Pausing.{is_answered};
 ghost use Rattle.norm_udp.specs.Untold.{untold};
 
+use crate::address::Located;
 use crate::cause::SocketCause;
 use crate::pace::{Pace, Pause, sleep_since};
 use crate::senders::Senders;
@@ -130,7 +131,7 @@ impl<R: Net + Wait + Clock + Drop> UdpFabric<R> {
     }
 
     /// Takes a datagram that is there.
-    fn look(&mut self, into: &mut Datagram) -> Result<Option<NodeId>, SocketCause>
+    fn look(&mut self, into: &mut Datagram) -> Result<Option<Located>, SocketCause>
         requires { into.old ≡ [] }
         ensures none { IfOk result (λ node. IfNone node (into.new ≡ [])) }
         ensures err { OnErr result (into.new ≡ []) }
@@ -141,7 +142,11 @@ impl<R: Net + Wait + Clock + Drop> UdpFabric<R> {
     }
 
     /// Looks until a moment. Where that is over already the clock is read once, and nothing else is done.
-    fn look_until(&mut self, until: u64, into: &mut Datagram) -> Result<Option<NodeId>, SocketCause>
+    fn look_until(
+        &mut self,
+        until: u64,
+        into: &mut Datagram,
+    ) -> Result<Option<Located>, SocketCause>
         requires { into.old ≡ [] }
         ensures none { IfOk result (λ node. IfNone node (into.new ≡ [])) }
         ensures err { OnErr result (into.new ≡ []) }
@@ -153,8 +158,8 @@ impl<R: Net + Wait + Clock + Drop> UdpFabric<R> {
             if now >= until {
                 break;
             }
-            if let Some(node) = self.look(into)? {
-                return Ok(Some(node));
+            if let Some(found) = self.look(into)? {
+                return Ok(Some(found));
             }
             now = self.now();
         }
@@ -167,7 +172,7 @@ impl<R: Net + Wait + Clock + Drop> UdpFabric<R> {
         &mut self,
         last: Option<u64>,
         into: &mut Datagram,
-    ) -> Result<Option<NodeId>, SocketCause>
+    ) -> Result<Option<Located>, SocketCause>
         requires { into.old ≡ [] }
         ensures none { IfOk result (λ node. IfNone node (into.new ≡ [])) }
         ensures err { OnErr result (into.new ≡ []) }
@@ -181,7 +186,7 @@ impl<R: Net + Wait + Clock + Drop> UdpFabric<R> {
 
     /// Takes a datagram where none is there at once: it pauses, as the last calls ask for, and looks again. Where it still finds nothing
     /// that is noted; of a node that slept there is nothing to note. The clock is read once, and while a sender looks again once a look.
-    fn look_later(&mut self, into: &mut Datagram) -> Result<Option<NodeId>, SocketCause>
+    fn look_later(&mut self, into: &mut Datagram) -> Result<Option<Located>, SocketCause>
         requires { into.old ≡ [] }
         ensures none { IfOk result (λ node. IfNone node (into.new ≡ [])) }
         ensures err { OnErr result (into.new ≡ []) }
@@ -200,7 +205,7 @@ impl<R: Net + Wait + Clock + Drop> UdpFabric<R> {
     }
 
     /// Takes the next datagram, at once or after a pause.
-    fn find(&mut self, into: &mut Datagram) -> Result<Option<NodeId>, SocketCause>
+    fn find(&mut self, into: &mut Datagram) -> Result<Option<Located>, SocketCause>
         requires { into.old ≡ [] }
         ensures none { IfOk result (λ node. IfNone node (into.new ≡ [])) }
         ensures err { OnErr result (into.new ≡ []) }
@@ -251,7 +256,8 @@ impl<R: Net + Wait + Clock + Drop> Fabric for UdpFabric<R> {
     fn take(&mut self, into: &mut Datagram) -> Result<Option<NodeId>, FabricFault> {
         into.clear();
         match self.find(into) {
-            Ok(node) => Ok(node),
+            Ok(Some(found)) => Ok(Some(found.node)),
+            Ok(None) => Ok(None),
             Err(cause) => {
                 self.keep(cause);
                 Err(FabricFault::Failed)

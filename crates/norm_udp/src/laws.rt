@@ -1,9 +1,16 @@
 //! Laws of what this crate defines. Each is the contract of a function that does nothing.
 
 ghost use Rattle.norm_udp.specs.Addresses.{AddressLaws};
+ghost use Rattle.norm_udp.specs.Ways.{WayLaws};
 
-/// Each member has a port of its own, and a port names the member that has it.
+/// Each member has a port of its own, a port names the member that has it, and a member's address is known to be that member's.
 #[tactic(auto, using(crate::proofs::AddressLemmas::address_laws))]
 pub fn addresses()
     ensures { AddressLaws }
+{}
+
+/// All ways of a hub's threads together have each receiver once, and the single way of a hub without threads has all.
+#[tactic(auto, using(crate::proofs::WayLemmas::way_laws))]
+pub fn ways()
+    ensures { WayLaws }
 {}

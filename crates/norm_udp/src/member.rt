@@ -1,20 +1,19 @@
 //! A member with a socket of its own, or one that sends to it.
 
-ghost use Rattle.std.specs.Prelude.{◌≡◌, true};
+ghost use Rattle.std.specs.Prelude.{◌≡◌, true, IfOk};
 ghost use Rattle.norm_base.specs.Members.{is_node};
 ghost use Rattle.norm_udp.specs.Addresses.{gets_copy};
 
-use crate::address::{address_at, address_of};
+use crate::address::{Located, address_at, address_of, with_address};
 use crate::cause::SocketCause;
 use crate::socket::{bind, connect, send};
 use norm_base::{NodeId, Profile};
-use std::net::{Net, SocketAddr, UdpSocket};
+use std::net::{Net, UdpSocket};
 
-/// A member, its address, and a socket that is at the address or sends to it.
+/// A member with its address, and a socket that is at the address or sends to it.
 #[derive(Debug, Drop)]
 pub(crate) struct Member {
-    pub(crate) node: NodeId,
-    pub(crate) address: SocketAddr,
+    pub(crate) located: Located,
     pub(crate) socket: UdpSocket,
 }
 
@@ -25,14 +24,11 @@ pub(crate) fn open_own<R: Net>(
     node: NodeId,
 ) -> Result<Member, SocketCause>
     requires { is_node profile.now node ≡ true }
+    ensures { IfOk result (λ member. member.located.node ≡ node) }
 {
-    let address = address_of(profile, node);
-    let socket = bind(rt, address)?;
-    Ok(Member {
-        node,
-        address,
-        socket,
-    })
+    let located = with_address(profile, node);
+    let socket = bind(rt, located.address)?;
+    Ok(Member { located, socket })
 }
 
 /// Opens a socket that sends to a member.
@@ -42,14 +38,11 @@ pub(crate) fn open_way<R: Net>(
     node: NodeId,
 ) -> Result<Member, SocketCause>
     requires { is_node profile.now node ≡ true }
+    ensures { IfOk result (λ member. member.located.node ≡ node) }
 {
-    let address = address_of(profile, node);
-    let socket = connect(rt, address_at(0), address)?;
-    Ok(Member {
-        node,
-        address,
-        socket,
-    })
+    let located = with_address(profile, node);
+    let socket = connect(rt, address_at(0), located.address)?;
+    Ok(Member { located, socket })
 }
 
 /// Sends a member's datagram to another that gets a copy of it, through the socket that is connected to it. `from` is there for the clause alone.
@@ -59,7 +52,7 @@ pub(crate) fn send_copy_through(
     to: &Member,
     bytes: &[u8],
 ) -> Result<(), SocketCause>
-    requires { gets_copy profile.now from to.now.node ≡ true }
+    requires { gets_copy profile.now from to.now.located.node ≡ true }
 {
-    send(&to.socket, bytes, address_of(profile, to.node))
+    send(&to.socket, bytes, address_of(profile, to.located.node))
 }

@@ -1,10 +1,12 @@
 //! The sockets that are open, by which members are in this process.
 
-ghost use Rattle.std.specs.Prelude.{◌≡◌, ◌≤◌, [], true, length, IfOk, IfNone, OnErr};
+ghost use Rattle.std.specs.Prelude.{◌≡◌, ◌≤◌, ◌+◌, ◌<◌, ◌==◌, ◌++◌, ◌∷◌, [], true, length, if◌then◌else◌, IfOk, IfSome, IfNone, OnOk, OnErr};
+ghost use Rattle.norm_base.specs.Members.{receivers_of, members_of};
 ghost use Rattle.norm_base.specs.Sizes.{datagram_room};
 ghost use Rattle.norm_udp.specs.Addresses.{gets_copy};
+ghost use Rattle.norm_udp.specs.Ways.{nodes_of, copies, is_on_way, way_from};
 
-use crate::address::{address_at, address_of, gets_copy, is_node, member_at, member_from};
+use crate::address::{Located, address_at, address_of, gets_copy, heard_from, is_node, member_at};
 use crate::cause::SocketCause;
 use crate::member::{Member, open_own, open_way};
 use crate::senders::Senders;
@@ -69,12 +71,23 @@ pub(crate) enum Open {
     },
 }
 
+/// Opens each member's own socket, in the order of their ids.
+#[tactic(auto, using(crate::proofs::WayLemmas::members_more))]
+fn open_members<R: Net>(rt: &R, alloc: Global, profile: &Profile) -> Result<Vec<Member>, OpenFault>
+    ensures { IfOk result (λ members. nodes_of members.items ≡ members_of profile.now) }
+{
+    let mut members = Vec::new(alloc);
+    members.push(open_own(rt, profile, member_at(profile, 0))?)?;
+    for place in 0..u32::from(profile.receivers) {
+        let member = open_own(rt, profile, profile.receiver(place))?;
+        members.push(member)?;
+    }
+    Ok(members)
+}
+
 /// Opens each member's own socket.
 fn open_all<R: Net>(rt: &R, alloc: Global, profile: &Profile) -> Result<Open, OpenFault> {
-    let mut members = Vec::new(alloc);
-    for place in 0..=profile.receivers {
-        members.push(open_own(rt, profile, member_at(profile, place))?)?;
-    }
+    let members = open_members(rt, alloc, profile)?;
     Ok(Open::All {
         profile: *profile,
         members,
@@ -125,7 +138,31 @@ fn open_one<R: Net + Wait + Clock>(
     })
 }
 
+/// Adds a socket to the receiver at this place, if that is one of `from`, `from + apart`, and so on.
+#[tactic(auto, using(crate::proofs::WayLemmas::nodes_more))]
+fn add_way<R: Net>(
+    rt: &R,
+    profile: &Profile,
+    from: usize,
+    apart: usize,
+    place: u32,
+    receivers: &mut Vec<Member>,
+) -> Result<(), OpenFault>
+    requires apart { 1 ≤ apart }
+    requires place { place < profile.now.receivers }
+    ensures { OnOk result (nodes_of receivers.new.items
+        ≡ nodes_of receivers.old.items ++ (if is_on_way from apart place then (profile.now.sender + 1 + place) ∷ [] else [])) }
+{
+    if place as usize % apart != from {
+        return Ok(());
+    }
+    let way = open_way(rt, profile, profile.receiver(place))?;
+    receivers.push(way)?;
+    Ok(())
+}
+
 /// Opens a socket to each receiver from a place on, so many places apart.
+#[tactic(auto, using(crate::proofs::WayLemmas::way_more))]
 fn open_ways<R: Net>(
     rt: &R,
     alloc: Global,
@@ -134,14 +171,30 @@ fn open_ways<R: Net>(
     apart: usize,
 ) -> Result<Vec<Member>, OpenFault>
     requires { 1 ≤ apart }
+    ensures { IfOk result (λ ways. nodes_of ways.items ≡ way_from profile.now from apart) }
 {
     let mut receivers = Vec::new(alloc);
     for place in 0..u32::from(profile.receivers) {
-        if place as usize % apart == from {
-            receivers.push(open_way(rt, profile, profile.receiver(place))?)?;
-        }
+        add_way(rt, profile, from, apart, place, &mut receivers)?;
     }
     Ok(receivers)
+}
+
+/// Opens the sockets by which a hub sends itself: one to each receiver if no thread sends for it, and else none.
+#[tactic(auto, using(crate::proofs::WayLemmas::single))]
+fn open_own_ways<R: Net>(
+    rt: &R,
+    alloc: Global,
+    profile: &Profile,
+    threads: usize,
+) -> Result<Vec<Member>, OpenFault>
+    ensures { IfOk result (λ ways. nodes_of ways.items
+        ≡ (if threads == 0 then receivers_of profile.now profile.now.receivers else [])) }
+{
+    if threads == 0 {
+        return open_ways(rt, alloc, profile, 0, 1);
+    }
+    Ok(Vec::new(alloc))
 }
 
 /// Has so many threads send to the receivers, each to as many as another.
@@ -176,11 +229,7 @@ fn open_hub<R: Net + Wait + Clock>(
     let socket = bind(rt, address)?;
     let threads = senders.count().min(usize::from(profile.receivers));
     share_copying(rt, alloc, senders, profile, threads)?;
-    let receivers = if threads == 0 {
-        open_ways(rt, alloc, profile, 0, 1)?
-    } else {
-        Vec::new(alloc)
-    };
+    let receivers = open_own_ways(rt, alloc, profile, threads)?;
     Ok(Open::Hub {
         profile: *profile,
         address,
@@ -218,19 +267,25 @@ fn send_copy(
     send_to(socket, bytes, address_of(profile, to))
 }
 
-/// Sends a member's datagram from its own socket to each other member.
+/// Sends a member's datagram from its own socket to each other member. Returns how many copies were sent.
+#[tactic(auto, using(crate::proofs::WayLemmas::copies_yes, crate::proofs::WayLemmas::copies_no))]
 fn send_from(
     profile: &Profile,
     members: &[Member],
     own: &Member,
     bytes: &[u8],
-) -> Result<(), SocketCause> {
+) -> Result<usize, SocketCause>
+    ensures { IfOk result (λ sent. sent ≡ copies profile.now own.now.located.node (nodes_of members.now)) }
+{
+    let from = own.located.node;
+    let mut sent = 0;
     for to in members {
-        if gets_copy(profile, own.node, to.node) {
-            send_copy(profile, &own.socket, own.node, to.node, bytes)?;
+        if gets_copy(profile, from, to.located.node) {
+            send_copy(profile, &own.socket, from, to.located.node, bytes)?;
+            sent += 1;
         }
     }
-    Ok(())
+    Ok(sent)
 }
 
 /// Sends a member's datagram to each other member, where all are in this process.
@@ -241,25 +296,28 @@ fn send_among(
     bytes: &[u8],
 ) -> Result<(), SocketCause> {
     for own in members {
-        if own.node == from {
+        if own.located.node == from {
             send_from(profile, members, own, bytes)?;
         }
     }
     Ok(())
 }
 
-/// Sends a receiver's datagram from the hub to the sender. The sender's own goes to receivers alone.
+/// Sends a receiver's datagram from the hub to the sender. The sender's own goes to receivers alone. Returns how many copies were sent.
 fn send_back(
     profile: &Profile,
     hub: &UdpSocket,
     from: NodeId,
     bytes: &[u8],
-) -> Result<(), SocketCause> {
+) -> Result<usize, SocketCause>
+    ensures { IfOk result (λ sent. sent ≡ copies profile.now from (profile.now.sender ∷ [])) }
+{
     let sender = member_at(profile, 0);
-    if gets_copy(profile, from, sender) {
-        send_copy(profile, hub, from, sender, bytes)?;
+    if !gets_copy(profile, from, sender) {
+        return Ok(0);
     }
-    Ok(())
+    send_copy(profile, hub, from, sender, bytes)?;
+    Ok(1)
 }
 
 /// Looks at each member's socket once, from `place` on, where it stays as long as something is there.
@@ -268,15 +326,15 @@ fn look_among(
     place: &mut usize,
     buffer: &mut [u8],
     into: &mut Datagram,
-) -> Result<Option<NodeId>, SocketCause>
+) -> Result<Option<Located>, SocketCause>
     requires { into.old ≡ [] }
-    ensures none { IfOk result (λ node. IfNone node (into.new ≡ [])) }
+    ensures none { IfOk result (λ found. IfNone found (into.new ≡ [])) }
     ensures err { OnErr result (into.new ≡ []) }
 {
     for _ in 0..members.len() {
         if let Some(member) = members.get(*place) {
-            if receive(&member.socket, member.address, buffer, into)? {
-                return Ok(Some(member.node));
+            if receive(&member.socket, member.located.address, buffer, into)? {
+                return Ok(Some(member.located));
             }
         }
         let next = place.saturating_add(1);
@@ -292,17 +350,18 @@ fn receive_from_member(
     own: SocketAddr,
     buffer: &mut [u8],
     into: &mut Datagram,
-) -> Result<Option<NodeId>, SocketCause>
+) -> Result<Option<Located>, SocketCause>
     requires { into.old ≡ [] }
-    ensures none { IfOk result (λ node. IfNone node (into.new ≡ [])) }
+    ensures from { IfOk result (λ found. IfSome found (λ from. from.profile ≡ profile.now)) }
+    ensures none { IfOk result (λ found. IfNone found (into.new ≡ [])) }
     ensures err { OnErr result (into.new ≡ []) }
 {
     for _ in 0..MOST_PASSED {
         let Some(address) = receive_from(socket, own, buffer, into)? else {
             return Ok(None);
         };
-        if let Some(node) = member_from(profile, &address) {
-            return Ok(Some(node));
+        if let Some(from) = heard_from(profile, address) {
+            return Ok(Some(from));
         }
         into.clear();
     }
@@ -346,7 +405,8 @@ impl Open {
             } => {
                 senders.post(rt, *threads, from, bytes)?;
                 send_copies(profile, receivers, from, bytes)?;
-                send_back(profile, socket, from, bytes)
+                send_back(profile, socket, from, bytes)?;
+                Ok(())
             }
         }
     }
@@ -356,17 +416,19 @@ impl Open {
         &mut self,
         buffer: &mut [u8],
         into: &mut Datagram,
-    ) -> Result<Option<NodeId>, SocketCause>
+    ) -> Result<Option<Located>, SocketCause>
         requires { into.old ≡ [] }
-        ensures none { IfOk result (λ node. IfNone node (into.new ≡ [])) }
+        ensures none { IfOk result (λ found. IfNone found (into.new ≡ [])) }
         ensures err { OnErr result (into.new ≡ []) }
     {
         match self {
             Open::Nothing => Ok(None),
             Open::All { members, place, .. } => look_among(members, place, buffer, into),
             Open::One { member, .. } => {
-                let found = receive(&member.socket, member.address, buffer, into)?;
-                Ok(if found { Some(member.node) } else { None })
+                if receive(&member.socket, member.located.address, buffer, into)? {
+                    return Ok(Some(member.located));
+                }
+                Ok(None)
             }
             Open::Hub {
                 profile,

@@ -1,5 +1,8 @@
 //! Where a thread sends what lies in its lane.
 
+ghost use Rattle.std.specs.Prelude.{◌≡◌, IfOk};
+ghost use Rattle.norm_udp.specs.Ways.{nodes_of, copies};
+
 use crate::address::gets_copy;
 use crate::cause::SocketCause;
 use crate::member::{Member, send_copy_through};
@@ -24,19 +27,24 @@ pub(crate) enum Way {
     },
 }
 
-/// Sends a member's datagram to each of these receivers that gets a copy.
+/// Sends a member's datagram to each of these receivers that gets a copy. Returns how many were sent.
+#[tactic(auto, using(crate::proofs::WayLemmas::copies_yes, crate::proofs::WayLemmas::copies_no))]
 pub(crate) fn send_copies(
     profile: &Profile,
     receivers: &[Member],
     from: NodeId,
     bytes: &[u8],
-) -> Result<(), SocketCause> {
+) -> Result<usize, SocketCause>
+    ensures { IfOk result (λ sent. sent ≡ copies profile.now from (nodes_of receivers.now)) }
+{
+    let mut sent = 0;
     for to in receivers {
-        if gets_copy(profile, from, to.node) {
+        if gets_copy(profile, from, to.located.node) {
             send_copy_through(profile, from, to, bytes)?;
+            sent += 1;
         }
     }
-    Ok(())
+    Ok(sent)
 }
 
 impl Way {
@@ -44,7 +52,10 @@ impl Way {
     pub(crate) fn send(&self, from: NodeId, bytes: &[u8]) -> Result<(), SocketCause> {
         match self {
             Way::Nowhere => Ok(()),
-            Way::Copies { profile, receivers } => send_copies(profile, receivers, from, bytes),
+            Way::Copies { profile, receivers } => {
+                send_copies(profile, receivers, from, bytes)?;
+                Ok(())
+            }
             Way::Hub { socket, hub } => send_to(socket, bytes, *hub),
         }
     }
