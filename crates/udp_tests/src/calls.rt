@@ -10,13 +10,17 @@ use std::test::Fail;
 /// The lowest port. All are below those that the system gives to a socket that asks for none.
 const LOWEST: u32 = 20_000;
 
-/// How many tests a process has, and how many ports each has for itself: the hub's, and its three members'.
-const TESTS: u32 = 16;
+/// How many numbers of tests a process has, and how many ports go with each: the hub's, and its three members'. A test of more members takes the
+/// numbers after its own too.
+const TESTS: u32 = 32;
 
 const PORTS: u32 = 4;
 
 /// How many processes in a row have ports of their own.
-const PROCESSES: u32 = 199;
+const PROCESSES: u32 = 99;
+
+/// How many receivers a session of a table of steps has.
+const RECEIVERS: u32 = 2;
 
 /// How often it is looked for what has come. A look where nothing is there lasts a millisecond at most.
 const LOOKS: u32 = 16;
@@ -49,18 +53,23 @@ pub(crate) fn port_of(process: u32, test: u32) -> u16 {
     (LOWEST + PORTS * (process % PROCESSES * TESTS + test % TESTS)) as u16
 }
 
-/// A profile of two receivers over a network of this kind, with the hub at this port.
+/// The profile with these keys.
 // Each key comes through the loop: a call of `set` that names its key costs much to prove.
-fn profile_of(port: u16, kind: FabricKind) -> Option<Profile> {
+fn profile_with(keys: &[(Key, u32)]) -> Option<Profile> {
     let mut given = Given::new();
-    for (key, value) in [
-        (Key::Receivers, 2),
-        (Key::Fabric, kind as u32),
-        (Key::Port, u32::from(port)),
-    ] {
-        given.set(key, value);
+    for (key, value) in keys {
+        given.set(*key, *value);
     }
     Profile::of(&given)
+}
+
+/// A profile of so many receivers over a network of this kind, with the hub at this port.
+pub(crate) fn profile_of(port: u16, kind: FabricKind, receivers: u32) -> Option<Profile> {
+    profile_with(&[
+        (Key::Receivers, receivers),
+        (Key::Fabric, kind as u32),
+        (Key::Port, u32::from(port)),
+    ])
 }
 
 /// `.` for a call that was Ok, and `!` for one that failed.
@@ -81,7 +90,7 @@ fn digit(number: u64) -> u8 {
 
 /// What a start of these members answered. `?` stands for a number that names no member, and for no profile.
 fn started<F: Fabric>(fabric: &mut F, port: u16, kind: FabricKind, local: Option<Local>) -> u8 {
-    let (Some(profile), Some(local)) = (profile_of(port, kind), local) else {
+    let (Some(profile), Some(local)) = (profile_of(port, kind, RECEIVERS), local) else {
         return b'?';
     };
     mark(fabric.start(&profile, local))
@@ -130,7 +139,7 @@ fn taken<F: Fabric>(alloc: Global, fabric: &mut F, all: &mut Vec<u8>) -> Result<
 }
 
 /// What a step that takes nothing answered.
-fn called<F: Fabric>(fabric: &mut F, port: u16, step: Step) -> u8 {
+pub(crate) fn called<F: Fabric>(fabric: &mut F, port: u16, step: Step) -> u8 {
     match step {
         Step::StartAll => started(fabric, port, FabricKind::Udp, Some(Local::All)),
         Step::StartOne(number) => {

@@ -13,4 +13,8 @@ mod hosted;
 #[cfg(test)]
 mod passed_over;
 #[cfg(test)]
+mod sixteen;
+#[cfg(test)]
 mod sockets;
+#[cfg(test)]
+mod waits;

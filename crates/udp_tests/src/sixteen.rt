@@ -1,0 +1,281 @@
+//! Sixteen receivers, the most that a session has: what each member sends comes whole to each other member, and never back. It goes by a hub, by one
+//! whose threads send, and with all members in one network.
+
+use crate::calls::{port_of, profile_of};
+use norm_base::{
+    DATAGRAM_ROOM, Datagram, Fabric, FabricFault, FabricKind, Local, Memory, NodeId, Profile,
+};
+use norm_udp::{Senders, UdpFabric};
+use std::alloc::Global;
+use std::net::Net;
+use std::process;
+use std::sync::Wait;
+use std::test::Fail;
+use std::thread::Threads;
+use std::time::Clock;
+
+/// The receivers, and with the sender all members. The sender is node 1, and their nodes follow.
+const RECEIVERS: u32 = 16;
+
+const MEMBERS: u32 = RECEIVERS + 1;
+
+/// Octets of what each member sends: the fewest, as many as a long NACK has, and more than the longest symbol.
+const LENGTHS: [usize; 3] = [1, 1_000, 1_440];
+
+/// How often it is looked for a datagram that is to come, and for one that is not. A look that finds nothing lasts a millisecond at most.
+const PATIENCE: u32 = 2_000;
+
+const GLANCES: u32 = 2;
+
+/// Stands beside a set of members, each a bit, if something came that was not to come.
+const WRONG: u32 = 1 << 31;
+
+/// All members but the one at this place, as a set.
+fn others(place: u32) -> u32 {
+    let mut all = 0;
+    for other in 0..MEMBERS {
+        if other != place {
+            all |= 1 << other;
+        }
+    }
+    all
+}
+
+/// The bit of the node that got what was sent. `WRONG` for a node that is no member, for other octets, and for what came twice.
+fn bit_of(node: NodeId, is_same: bool, got: u32) -> u32 {
+    let place = node.number().wrapping_sub(1);
+    if !is_same || place >= MEMBERS {
+        return WRONG;
+    }
+    let bit = 1 << place;
+    if got & bit == 0 { bit } else { WRONG }
+}
+
+/// Takes a datagram, if one is there, and adds its member to those that got what was sent.
+fn take<F: Fabric>(
+    fabric: &mut F,
+    into: &mut Datagram,
+    octets: &[u8],
+    got: u32,
+) -> Result<u32, FabricFault> {
+    match fabric.take(into)? {
+        Some(node) => Ok(got | bit_of(node, into.bytes() == octets, got)),
+        None => Ok(got),
+    }
+}
+
+/// Looks for a datagram this often at most.
+fn look<F: Fabric>(
+    fabric: &mut F,
+    into: &mut Datagram,
+    octets: &[u8],
+    got: u32,
+    looks: u32,
+) -> Result<u32, FabricFault> {
+    for _ in 0..looks {
+        let more = take(fabric, into, octets, got)?;
+        if more != got {
+            return Ok(more);
+        }
+    }
+    Ok(got)
+}
+
+/// Has the member at this place offer octets.
+fn offer<F: Fabric>(fabric: &mut F, place: u32, octets: &[u8]) -> Result<(), FabricFault> {
+    match NodeId::of(place.wrapping_add(1)) {
+        Some(node) if octets.len() <= DATAGRAM_ROOM => fabric.offer(node, octets),
+        _ => Err(FabricFault::Failed),
+    }
+}
+
+/// Has the hub offer what comes to it next, as from whom it says that it came.
+fn pass_on<F: Fabric>(hub: &mut F, into: &mut Datagram) -> Result<(), FabricFault> {
+    for _ in 0..PATIENCE {
+        if let Some(from) = hub.take(into)? {
+            return hub.offer(from, into.bytes());
+        }
+    }
+    Ok(())
+}
+
+/// Has the member at this place offer octets to its hub.
+fn offer_at<F: Fabric>(members: &mut [F], place: u32, octets: &[u8]) -> Result<(), FabricFault> {
+    match members.get_mut(place as usize) {
+        Some(member) => offer(member, place, octets),
+        None => Err(FabricFault::Failed),
+    }
+}
+
+/// The members that get what the one at this place sends by a hub.
+fn heard_by_hub<F: Fabric>(
+    alloc: Global,
+    hub: &mut F,
+    members: &mut [F],
+    place: u32,
+    octets: &[u8],
+) -> Result<u32, FabricFault> {
+    let mut into = Datagram::new(alloc)?;
+    offer_at(members, place, octets)?;
+    pass_on(hub, &mut into)?;
+    let mut got = 0;
+    let mut at = 0u32;
+    for member in members.iter_mut() {
+        let looks = if at == place { GLANCES } else { PATIENCE };
+        got = look(member, &mut into, octets, got, looks)?;
+        at = at.wrapping_add(1);
+    }
+    Ok(got)
+}
+
+/// The members that get what the one at this place sends, if all are in one network.
+fn heard_in_one<F: Fabric>(
+    alloc: Global,
+    fabric: &mut F,
+    place: u32,
+    octets: &[u8],
+) -> Result<u32, FabricFault> {
+    let mut into = Datagram::new(alloc)?;
+    offer(fabric, place, octets)?;
+    let mut got = 0;
+    for _ in 0..MEMBERS + GLANCES {
+        got = take(fabric, &mut into, octets, got)?;
+    }
+    Ok(got)
+}
+
+/// So many octets of the member at this place.
+fn octets_of(alloc: Global, place: u32, length: usize) -> Result<Vec<u8>, Memory> {
+    let mut octets = Vec::new(alloc);
+    for _ in 0..length {
+        octets.push(b'a' + (place % MEMBERS) as u8)?;
+    }
+    Ok(octets)
+}
+
+/// Fails, with the members that got what the one at this place sent, unless those are all others.
+fn check(place: u32, length: usize, got: u32) -> Result<(), Fail> {
+    if got == others(place) {
+        return Ok(());
+    }
+    Err(Fail::new(format_args!("{length} octets of member {place}: {got:x}")))
+}
+
+/// Starts the hub, and each member alone.
+fn start_each<F: Fabric>(
+    hub: &mut F,
+    members: &mut [F],
+    profile: &Profile,
+) -> Result<(), FabricFault> {
+    hub.start(profile, Local::Hub)?;
+    let mut number = 1u32;
+    for member in members.iter_mut() {
+        let Some(node) = NodeId::of(number) else {
+            return Err(FabricFault::Failed);
+        };
+        member.start(profile, Local::One(node))?;
+        number = number.wrapping_add(1);
+    }
+    Ok(())
+}
+
+/// Compares who gets what each member sends by a hub with who is to get it.
+fn compare_by_hub<F: Fabric>(
+    alloc: Global,
+    hub: &mut F,
+    members: &mut [F],
+    port: u16,
+) -> Result<(), Fail> {
+    let Some(profile) = profile_of(port, FabricKind::Udp, RECEIVERS) else {
+        return Err(Fail::new("no profile"));
+    };
+    start_each(hub, members, &profile)?;
+    for place in 0..MEMBERS {
+        for length in LENGTHS {
+            let octets = octets_of(alloc, place, length)?;
+            let got = heard_by_hub(alloc, hub, members, place, &octets)?;
+            check(place, length, got)?;
+        }
+    }
+    Ok(())
+}
+
+/// Compares who gets what each member of one network sends with who is to get it.
+fn compare_in_one<F: Fabric>(alloc: Global, fabric: &mut F, port: u16) -> Result<(), Fail> {
+    let Some(profile) = profile_of(port, FabricKind::Udp, RECEIVERS) else {
+        return Err(Fail::new("no profile"));
+    };
+    fabric.start(&profile, Local::All)?;
+    for place in 0..MEMBERS {
+        for length in LENGTHS {
+            let octets = octets_of(alloc, place, length)?;
+            let got = heard_in_one(alloc, fabric, place, &octets)?;
+            check(place, length, got)?;
+        }
+    }
+    Ok(())
+}
+
+/// A network for each member, not yet started.
+fn networks<R: Net + Wait + Clock + Copy + Drop>(
+    alloc: Global,
+    rt: R,
+) -> Result<Vec<UdpFabric<R>>, Memory> {
+    let mut members = Vec::new(alloc);
+    for _ in 0..MEMBERS {
+        members.push(UdpFabric::new(alloc, rt)?)?;
+    }
+    Ok(members)
+}
+
+/// Compares what goes by this hub.
+fn compare_hub<R: Net + Wait + Clock + Copy + Drop>(
+    alloc: Global,
+    rt: R,
+    hub: UdpFabric<R>,
+    port: u16,
+) -> Result<(), Fail> {
+    let mut hub = hub;
+    let mut members = networks(alloc, rt)?;
+    compare_by_hub(alloc, &mut hub, &mut members, port)
+}
+
+/// A hub whose threads send.
+fn hub_with_threads<R: Net + Threads + Wait + Clock + Copy + Send + Drop + 'static>(
+    alloc: Global,
+    rt: R,
+) -> Result<UdpFabric<R>, Memory> {
+    let mut hub = UdpFabric::new(alloc, rt)?;
+    hub.send_by(Senders::start(alloc, rt)?);
+    Ok(hub)
+}
+
+/// Compares what goes within one network.
+fn compare_one<R: Net + Wait + Clock + Copy + Drop>(
+    alloc: Global,
+    rt: R,
+    port: u16,
+) -> Result<(), Fail> {
+    let mut fabric = UdpFabric::new(alloc, rt)?;
+    compare_in_one(alloc, &mut fabric, port)
+}
+
+#[test]
+fn sixteen_receivers_by_a_hub(rt: HostRuntime) -> Result<(), Fail> {
+    let port = port_of(process::id(rt.process()), 16);
+    let hub = UdpFabric::new(rt.alloc(), rt)?;
+    compare_hub(rt.alloc(), rt, hub, port)
+}
+
+#[test]
+fn sixteen_receivers_by_a_hub_with_threads_that_send(rt: HostRuntime) -> Result<(), Fail> {
+    let port = port_of(process::id(rt.process()), 21);
+    let hub = hub_with_threads(rt.alloc(), rt)?;
+    compare_hub(rt.alloc(), rt, hub, port)
+}
+
+#[test]
+fn sixteen_receivers_in_one_network(rt: HostRuntime) -> Result<(), Fail> {
+    let port = port_of(process::id(rt.process()), 26);
+    compare_one(rt.alloc(), rt, port)
+}

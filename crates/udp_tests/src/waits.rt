@@ -1,0 +1,135 @@
+//! How long a take waits, by a clock that adds up what is slept.
+
+use crate::calls::{Step, called, port_of};
+use norm_base::{Datagram, Fabric, FabricFault};
+use norm_udp::UdpFabric;
+use std::alloc::Global;
+use std::cell::Cell;
+use std::net::{Net, SocketAddr, UdpSocket};
+use std::sync::Wait;
+use std::test::Fail;
+use std::time::{Clock, Duration};
+use std::{io, process};
+
+/// Microseconds of the longest take: a millisecond, and the reading before a sleep. A node to which nothing comes sleeps as long.
+const LONGEST: u64 = 1_001;
+
+/// How many takes follow one another.
+const TAKES: u32 = 3;
+
+/// A runtime whose clock goes on by each sleep, and by a microsecond with each reading; no other time passes in it.
+#[derive(Clone, Copy, Drop)]
+struct Timed<'a, R> {
+    rt: R,
+    moment: &'a Cell<u64>,
+}
+
+/// Lets so many microseconds pass.
+fn pass(moment: &Cell<u64>, micros: u64) {
+    moment.set(moment.get().saturating_add(micros));
+}
+
+impl<R: Net> Net for Timed<'_, R> {
+    type Stream = R::Stream;
+
+    type Listener = R::Listener;
+
+    fn bind(&self, addr: SocketAddr) -> io::Result<R::Listener> {
+        self.rt.bind(addr)
+    }
+
+    fn connect(&self, addr: SocketAddr) -> io::Result<R::Stream> {
+        self.rt.connect(addr)
+    }
+
+    fn bind_udp(&self, addr: SocketAddr) -> io::Result<UdpSocket> {
+        self.rt.bind_udp(addr)
+    }
+}
+
+impl<R: Wait> Wait for Timed<'_, R> {}
+
+impl<R> Clock for Timed<'_, R> {
+    fn monotonic(&self) -> io::Result<Duration> {
+        pass(self.moment, 1);
+        Ok(Duration::from_micros(self.moment.get()))
+    }
+
+    fn since_1970(&self) -> io::Result<Duration> {
+        self.monotonic()
+    }
+
+    fn sleep(&self, duration: Duration) {
+        pass(
+            self.moment,
+            u64::try_from(duration.as_micros()).unwrap_or(u64::MAX),
+        );
+    }
+}
+
+/// What a network is started with, and what is offered after some takes.
+const ROWS: [(Step, Step); 4] = [
+    (Step::StartAll, Step::Offer(1, b"a")),
+    (Step::StartOne(1), Step::Offer(1, b"a")),
+    (Step::StartOne(2), Step::Offer(2, b"a")),
+    (Step::StartHub, Step::Offer(1, b"a")),
+];
+
+/// Microseconds of the longest of a few takes.
+fn longest_take<F: Fabric>(
+    alloc: Global,
+    fabric: &mut F,
+    moment: &Cell<u64>,
+) -> Result<u64, FabricFault> {
+    let mut into = Datagram::new(alloc)?;
+    let mut longest = 0;
+    for _ in 0..TAKES {
+        let before = moment.get();
+        fabric.take(&mut into)?;
+        longest = moment.get().saturating_sub(before).max(longest);
+    }
+    Ok(longest)
+}
+
+/// Microseconds of the longest take before and after an offer.
+fn longest_of<F: Fabric>(
+    alloc: Global,
+    fabric: &mut F,
+    port: u16,
+    moment: &Cell<u64>,
+    row: (Step, Step),
+) -> Result<u64, FabricFault> {
+    let (start, offer) = row;
+    called(fabric, port, start);
+    let before = longest_take(alloc, fabric, moment)?;
+    called(fabric, port, offer);
+    let after = longest_take(alloc, fabric, moment)?;
+    Ok(before.max(after))
+}
+
+/// Compares the longest take of each row with how long one is to take.
+fn compare_takes<R: Net + Wait + Clock + Copy + Drop>(
+    alloc: Global,
+    rt: R,
+    port: u16,
+) -> Result<(), Fail> {
+    let moment = Cell::new(0);
+    for row in ROWS {
+        let timed = Timed {
+            rt,
+            moment: &moment,
+        };
+        let mut fabric = UdpFabric::new(alloc, timed)?;
+        let longest = longest_of(alloc, &mut fabric, port, &moment, row)?;
+        if longest != LONGEST {
+            return Err(Fail::new(longest));
+        }
+    }
+    Ok(())
+}
+
+#[test]
+fn a_take_waits_a_millisecond_at_most(rt: HostRuntime) -> Result<(), Fail> {
+    let port = port_of(process::id(rt.process()), 31);
+    compare_takes(rt.alloc(), rt, port)
+}
