@@ -1,3 +1,4 @@
 pub mod Streams
 pub mod FileNames
 pub mod Hosting
+pub mod Clocks

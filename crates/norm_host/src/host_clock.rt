@@ -1,8 +1,8 @@
 //! The process's clock.
 
-ghost use Rattle.std.specs.Prelude.{◌≡◌, ◌≤◌, ◌-◌, ◌/◌, ◌^◌, None, Some, IfSome, IfNone};
-ghost use Rattle.std.specs.Option.{unwrap_or};
+ghost use Rattle.std.specs.Prelude.{◌≡◌, ◌≤◌, ◌/◌, ◌^◌, ℕ, Option, None, Some, IfSome, IfNone};
 ghost use Rattle.std.specs.Duration.{as_nanos};
+ghost use Rattle.norm_host.specs.Clocks.{first_reading, last_moment, first_with, since_first, Keeps};
 
 use norm_base::{Clock, Moment};
 use std::time::{self, Duration};
@@ -18,7 +18,10 @@ pub struct HostClock<C> {
 
 impl<C: time::Clock> HostClock<C> {
     /// A clock that reads this one.
-    pub fn of(clock: C) -> HostClock<C> {
+    pub fn of(clock: C) -> HostClock<C>
+        ensures first { first_reading result ≡ None }
+        ensures moment { last_moment result ≡ 0 }
+    {
         HostClock {
             clock,
             start: None,
@@ -31,15 +34,24 @@ impl<C: time::Clock> HostClock<C> {
         micros_of(self.clock.monotonic().ok()?)
     }
 
-    /// The moment of a reading: how far it lies behind the first one, and 0 where it lies before that.
+    /// The moment of a reading: how far it lies after the first one, or 0 if it lies before that.
     fn since_first(&mut self, reading: u64) -> u64
-        ensures start { self.new.start ≡ Some (unwrap_or self.old.start reading) }
-        ensures moment { result ≡ reading - unwrap_or self.old.start reading }
-        ensures last { self.new.last ≡ self.old.last }
+        ensures start { first_reading self.new ≡ first_with (first_reading self.old) (Some reading) }
+        ensures moment { result ≡ since_first (first_reading self.old) reading }
+        ensures last { last_moment self.new ≡ last_moment self.old }
     {
         let start = self.start.unwrap_or(reading);
         self.start = Some(start);
         reading.saturating_sub(start)
+    }
+
+    /// Keeps the moment of a reading. If that failed, the moment stays.
+    fn keep(&mut self, reading: Option<u64>)
+        ensures { Keeps self.old reading self.new }
+    {
+        if let Some(reading) = reading {
+            self.last = self.since_first(reading);
+        }
     }
 }
 
@@ -54,10 +66,12 @@ fn micros_of(time: Duration) -> Option<u64>
 impl<C: time::Clock> Clock for HostClock<C> {
     ghost moments = { λ _. None };
 
-    fn now(&mut self) -> Moment {
-        if let Some(reading) = self.reading() {
-            self.last = self.since_first(reading);
-        }
+    fn now(&mut self) -> Moment
+        ensures moment { result ≡ last_moment self.new }
+        ensures reading { (reading : Option ℕ) × Keeps self.old reading self.new }
+    {
+        let reading = self.reading();
+        self.keep(reading);
         Moment(self.last)
     }
 }
