@@ -1,0 +1,20 @@
+/* Makes each sending of a datagram take a millisecond, in a program that is started with this library before the C library (checks/slow). */
+#define _GNU_SOURCE
+#include <stddef.h>
+#include <sys/socket.h>
+#include <sys/syscall.h>
+#include <time.h>
+#include <unistd.h>
+
+static void linger(void) {
+    struct timespec left = {0, 1000000};
+    while (nanosleep(&left, &left) != 0) {
+    }
+}
+
+ssize_t sendto(int socket, const void *octets, size_t length, int flags, const struct sockaddr *address, socklen_t size) {
+    linger();
+    return syscall(SYS_sendto, socket, octets, length, flags, address, size);
+}
+
+ssize_t send(int socket, const void *octets, size_t length, int flags) { return sendto(socket, octets, length, flags, NULL, 0); }
