@@ -3,6 +3,7 @@
 use crate::calls::{Call, answers, moments, reads, writes};
 use norm_base::{FileFault, Files};
 use norm_host::{FolderFiles, HostClock, StdSink, StdSource};
+use std::alloc::Global;
 use std::cell::Cell;
 use std::fs;
 use std::io::{self, ErrorKind, Read, Write};
@@ -43,27 +44,52 @@ impl Write for UnflushedWriter {
     }
 }
 
-/// The readings of a clock, one for each question, in microseconds; behind them it fails.
+/// The readings of a clock in nanoseconds, one for each question; after them it fails.
 #[derive(Drop)]
-struct Readings {
-    left: Cell<u32>,
+struct Readings<'a> {
+    nanos: &'a [u64],
+    next: Cell<usize>,
 }
 
-impl Clock for Readings {
+impl Clock for Readings<'_> {
     fn monotonic(&self) -> io::Result<Duration> {
-        let n = self.left.get();
-        self.left.set(n.saturating_sub(1));
-        match n {
-            4 => Ok(Duration::from_nanos(5_000_999)),
-            3 => Ok(Duration::from_micros(7_000)),
-            2 => Ok(Duration::from_micros(6_500)),
-            _ => Err(io::Error::from(ErrorKind::Unsupported)),
+        let next = self.next.get();
+        self.next.set(next.saturating_add(1));
+        match self.nanos.get(next) {
+            Some(nanos) => Ok(Duration::from_nanos(*nanos)),
+            None => Err(io::Error::from(ErrorKind::Unsupported)),
         }
     }
 
     fn since_1970(&self) -> io::Result<Duration> {
         self.monotonic()
     }
+}
+
+/// The readings of a clock in nanoseconds, and the moments that it is to tell: one that goes back and then fails, and one that is read after
+/// 601 seconds and after three hours.
+const READINGS: [(&[u64], &[u64]); 2] = [
+    (
+        &[5_000_999, 7_000_000, 6_500_000],
+        &[0, 2_000, 1_500, 1_500],
+    ),
+    (
+        &[0, 601_000_000_000, 10_800_000_000_000],
+        &[0, 601_000_000, 10_800_000_000],
+    ),
+];
+
+/// Compares the moments of a clock with those that it is to tell.
+fn compare_moments(alloc: Global, nanos: &[u64], wanted: &[u64]) -> Result<(), Fail> {
+    let mut clock = HostClock::of(Readings {
+        nanos,
+        next: Cell::new(0),
+    });
+    let all = moments(alloc, &mut clock, wanted.len() as u32)?;
+    if all.as_slice() == wanted {
+        return Ok(());
+    }
+    Err(Fail::new(format_args!("{all:?}")))
 }
 
 /// Takes octets, but fails at the second write.
@@ -122,9 +148,9 @@ fn a_failed_flush_is_told(rt: HostRuntime) -> Result<(), Fail> {
 
 #[test]
 fn a_clock_tells_microseconds_since_it_was_first_asked(rt: HostRuntime) -> Result<(), Fail> {
-    let mut clock = HostClock::of(Readings { left: Cell::new(4) });
-    let all = moments(rt.alloc(), &mut clock, 4)?;
-    assert!(rt; all.as_slice() == [0, 2000, 1500, 1500].as_slice());
+    for (nanos, wanted) in READINGS {
+        compare_moments(rt.alloc(), nanos, wanted)?;
+    }
     Ok(())
 }
 

@@ -5,6 +5,8 @@
 #[cfg(test)]
 mod calls;
 #[cfg(test)]
+mod folder;
+#[cfg(test)]
 mod host;
 #[cfg(test)]
 mod journal;
