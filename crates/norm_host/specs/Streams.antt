@@ -1,10 +1,11 @@
-use Rattle.std.specs.Prelude.{ℕ, List, Option, string_bytes}
+use Rattle.std.specs.Prelude.{ℕ, Bool, List, Option, is_some, string_bytes}
 use Rattle.std.specs.Option.{option_map}
 use Rattle.norm_host.specs.declared.folder.FolderFiles.{FolderFiles}
+use Rattle.norm_host.specs.declared.instance_file.InstanceFile.{InstanceFile}
 use Rattle.norm_host.specs.declared.std_source.StdSource.{StdSource}
 use Rattle.norm_host.specs.declared.std_sink.StdSink.{StdSink}
 
--- What stands under a source and a sink of the process, and which folder files are of.
+-- What stands under a source and a sink of the process, which folder files are of, and which file keeps a number.
 
 -- the reader under a source
 abbrev pub reader_of : {R : Type 0} → StdSource R → R
@@ -21,3 +22,11 @@ folder_of f = string_bytes f.folder
 -- the path that files were told to read as it stands
 abbrev pub told_to : {F : Type 0} → FolderFiles F → Option (List ℕ)
 told_to f = option_map string_bytes f.told
+
+-- the next call of files fails, by what they were told
+abbrev pub is_stopped : {F : Type 0} → FolderFiles F → Bool
+is_stopped f = is_some f.stopped
+
+-- the path at which a number is kept
+abbrev pub number_file : {R : Type 0} → InstanceFile R → List ℕ
+number_file file = string_bytes file.path

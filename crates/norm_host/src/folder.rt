@@ -8,8 +8,10 @@ ghost use Rattle.std.specs.declared.io.ErrorKind.TheVariants.{NotFound, IsADirec
 ghost use Rattle.std.specs.List.{list_all};
 ghost use Rattle.norm_base.specs.Faults.{Counts, file_failed};
 ghost use Rattle.norm_host.specs.FileNames.{is_name_octet, is_file_name, path_in, path_beside, path_read, is_told};
-ghost use Rattle.norm_host.specs.Streams.{folder_of, told_to};
+ghost use Rattle.norm_host.specs.Streams.{folder_of, told_to, is_stopped};
 
+use crate::folder_cause::FolderCause;
+use crate::instance_fault::InstanceFault;
 use norm_base::{Cause, Failed, FileFault, Files, Memory};
 use std::alloc::{AllocError, Global};
 use std::fs::{self, Metadata};
@@ -62,7 +64,7 @@ fn path_beside(alloc: Global, folder: &str, name: &str) -> Result<String, AllocE
 }
 
 /// How many octets a plain file has, as its metadata say. Any other file is as a folder.
-fn length_in(metadata: &Metadata) -> io::Result<u64>
+pub(crate) fn length_in(metadata: &Metadata) -> io::Result<u64>
     ensures file { IsOk result ↔ IsFile (file_type metadata.now) }
     ensures length { IfOk result (λ n. n ≡ metadata_len metadata.now) }
     ensures other { IfErr result (λ error. error_kind error ≡ IsADirectory) }
@@ -150,7 +152,7 @@ impl Said {
 /// one with a slash or that begins with a `.`, is absent, and put nowhere. A file that is put is written beside its name and renamed, so that
 /// nobody sees a part of it. A read of 0 octets, and want of memory, are faults. It tells nothing of what the files hold. A read keeps up to
 /// 262,144 octets of the file for the reads behind it, until a length is asked for or a file is put. A length that is asked for again and again, with
-/// no other call between, is asked of the system once in 65 times.
+/// no other call between, is asked of the system once in 65 times. It may be told that the instance of a send is not kept: then its next call fails.
 #[derive(Drop)]
 pub struct FolderFiles<F> {
     files: F,
@@ -159,8 +161,9 @@ pub struct FolderFiles<F> {
     told: Option<String>,
     ahead: Option<Ahead>,
     said: Option<Said>,
+    stopped: Option<InstanceFault>,
     faults: u64,
-    cause: Option<Cause>,
+    cause: Option<FolderCause>,
 }
 
 impl<F: fs::Files + Drop> FolderFiles<F> {
@@ -168,6 +171,7 @@ impl<F: fs::Files + Drop> FolderFiles<F> {
     pub fn of(alloc: Global, files: F, folder: &str) -> Result<FolderFiles<F>, Memory>
         ensures folder { IfOk result (λ made. folder_of made ≡ folder.now) }
         ensures told { IfOk result (λ made. told_to made ≡ None) }
+        ensures goes { IfOk result (λ made. is_stopped made ≡ false) }
     {
         Ok(FolderFiles {
             files,
@@ -176,6 +180,7 @@ impl<F: fs::Files + Drop> FolderFiles<F> {
             told: None,
             ahead: None,
             said: None,
+            stopped: None,
             faults: 0,
             cause: None,
         })
@@ -190,14 +195,42 @@ impl<F: fs::Files + Drop> FolderFiles<F> {
         ensures told { OnOk result (told_to self.new ≡ Some path.now) }
         ensures kept { OnErr result (told_to self.new ≡ told_to self.old) }
         ensures folder { folder_of self.new ≡ folder_of self.old }
+        ensures stopped { is_stopped self.new ≡ is_stopped self.old }
     {
         self.told = Some(String::from_str(self.alloc, path)?);
         Ok(())
     }
 
+    /// Has the next call fail, whichever it is, since the instance of a send is not kept: nothing is sent that way, and the program ends as ever after
+    /// a fault of files.
+    pub fn stop(&mut self, fault: InstanceFault)
+        ensures stopped { is_stopped self.new ≡ true }
+        ensures told { told_to self.new ≡ told_to self.old }
+        ensures folder { folder_of self.new ≡ folder_of self.old }
+        ensures uncounted { ⟦<FolderFiles<F> as Files>⟧.fault_count self.new ≡ ⟦<FolderFiles<F> as Files>⟧.fault_count self.old }
+    {
+        self.stopped = Some(fault);
+    }
+
     /// What the last failed call was about. `None` before one, and where there was no memory to keep it.
-    pub fn cause(&self) -> Option<&Cause> {
+    pub fn cause(&self) -> Option<&FolderCause> {
         self.cause.as_ref()
+    }
+
+    /// Whether a call fails by what was told. Then that is its cause, and it is counted.
+    fn fails(&mut self) -> bool
+        ensures answer { result ≡ is_stopped self.old }
+        ensures once { is_stopped self.new ≡ false }
+        ensures counted { Counts self.old.faults self.new.faults result }
+    {
+        match self.stopped.take() {
+            Some(fault) => {
+                self.faults = self.faults.saturating_add(1);
+                self.cause = Some(FolderCause::Instance(fault));
+                true
+            }
+            None => false,
+        }
     }
 
     /// The path of a file in the folder. A name that is none of a file is one that is not found, and no other is.
@@ -245,7 +278,8 @@ impl<F: fs::Files + Drop> FolderFiles<F> {
 
     /// A file's length as the system said it, if that may be answered once more.
     fn said_again(&mut self, name: &str) -> Option<u64>
-        ensures { self.new.faults ≡ self.old.faults }
+        ensures faults { self.new.faults ≡ self.old.faults }
+        ensures stopped { self.new.stopped ≡ self.old.stopped }
     {
         match &mut self.said {
             Some(said) => said.again(name),
@@ -255,7 +289,8 @@ impl<F: fs::Files + Drop> FolderFiles<F> {
 
     /// Keeps what the system said of a file's length; nothing, where there is no memory for it.
     fn keep_said(&mut self, name: &str, length: u64)
-        ensures { self.new.faults ≡ self.old.faults }
+        ensures faults { self.new.faults ≡ self.old.faults }
+        ensures stopped { self.new.stopped ≡ self.old.stopped }
     {
         self.said = match String::from_str(self.alloc, name) {
             Ok(name) => Some(Said {
@@ -269,7 +304,8 @@ impl<F: fs::Files + Drop> FolderFiles<F> {
 
     /// Takes what was read ahead away, and answers its memory for what is read next.
     fn take_room(&mut self) -> Vec<u8>
-        ensures { self.new.faults ≡ self.old.faults }
+        ensures faults { self.new.faults ≡ self.old.faults }
+        ensures stopped { self.new.stopped ≡ self.old.stopped }
     {
         match self.ahead.take() {
             Some(ahead) => ahead.octets,
@@ -309,6 +345,7 @@ impl<F: fs::Files + Drop> FolderFiles<F> {
     fn read_of(&mut self, name: &str, offset: u64, buf: &mut [u8]) -> io::Result<usize>
         ensures count { IfOk result (λ n. (0 < n) × (n ≤ length buf.old)) }
         ensures faults { self.new.faults ≡ self.old.faults }
+        ensures stopped { self.new.stopped ≡ self.old.stopped }
     {
         if let Some(n) = self.give_ahead(name, offset, buf) {
             return Ok(n);
@@ -348,7 +385,8 @@ impl<F: fs::Files + Drop> FolderFiles<F> {
 
     /// Keeps what a failed call was about, and counts it.
     fn keep(&mut self, name: &str, error: io::Error)
-        ensures { Counts self.old.faults self.new.faults true }
+        ensures counted { Counts self.old.faults self.new.faults true }
+        ensures stopped { self.new.stopped ≡ self.old.stopped }
     {
         self.faults = self.faults.saturating_add(1);
         let path = if self.is_told(name) {
@@ -357,7 +395,7 @@ impl<F: fs::Files + Drop> FolderFiles<F> {
             path_in(self.alloc, &self.folder, name)
         };
         self.cause = match path {
-            Ok(path) => Some(Cause::File { path, error }),
+            Ok(path) => Some(FolderCause::File(Cause::File { path, error })),
             Err(_) => None,
         };
     }
@@ -366,6 +404,7 @@ impl<F: fs::Files + Drop> FolderFiles<F> {
     fn answer<T>(&mut self, name: &str, done: io::Result<T>) -> Result<T, FileFault>
         ensures same { IfOk result (λ x. done ≡ Ok x) }
         ensures counted { Counts self.old.faults self.new.faults (file_failed result) }
+        ensures stopped { self.new.stopped ≡ self.old.stopped }
     {
         match done {
             Ok(x) => Ok(x),
@@ -385,7 +424,14 @@ impl<F: fs::Files + Drop> Files for FolderFiles<F> {
 
     ghost fault_count = { λ s. s.faults };
 
-    fn length(&mut self, name: &str) -> Result<u64, FileFault> {
+    fn length(&mut self, name: &str) -> Result<u64, FileFault>
+        ensures stopped { is_stopped self.old ≡ true → result ≡ Err FileFault.Failed }
+        ensures once { is_stopped self.new ≡ false }
+        ensures cause { Counts self.old.faults self.new.faults (file_failed result) }
+    {
+        if self.fails() {
+            return Err(FileFault::Failed);
+        }
         self.ahead = None;
         if let Some(length) = self.said_again(name) {
             return Ok(length);
@@ -397,12 +443,28 @@ impl<F: fs::Files + Drop> Files for FolderFiles<F> {
         Ok(length)
     }
 
-    fn read_at(&mut self, name: &str, offset: u64, buf: &mut [u8]) -> Result<usize, FileFault> {
+    fn read_at(&mut self, name: &str, offset: u64, buf: &mut [u8]) -> Result<usize, FileFault>
+        requires room { 0 < length buf.old }
+        ensures count { IfOk result (λ n. (0 < n) × (n ≤ length buf.old)) }
+        ensures stopped { is_stopped self.old ≡ true → result ≡ Err FileFault.Failed }
+        ensures once { is_stopped self.new ≡ false }
+        ensures cause { Counts self.old.faults self.new.faults (file_failed result) }
+    {
+        if self.fails() {
+            return Err(FileFault::Failed);
+        }
         let done = self.read_of(name, offset, buf);
         self.answer(name, done)
     }
 
-    fn put(&mut self, name: &str, bytes: &[u8]) -> Result<(), Failed> {
+    fn put(&mut self, name: &str, bytes: &[u8]) -> Result<(), Failed>
+        ensures stopped { is_stopped self.old ≡ true → is_err result ≡ true }
+        ensures once { is_stopped self.new ≡ false }
+        ensures cause { Counts self.old.faults self.new.faults (is_err result) }
+    {
+        if self.fails() {
+            return Err(Failed);
+        }
         self.ahead = None;
         self.said = None;
         if let Err(error) = self.write_of(name, bytes) {

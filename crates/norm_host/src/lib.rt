@@ -1,14 +1,23 @@
-//! The outside of a process: its streams, a folder, its clock, and the network that a profile names.
+//! The outside of a process: its streams, a folder, its clock, the network that a profile names, and which instance a send takes.
 #![tactic(auto)]
 
 mod folder;
+mod folder_cause;
 mod host_clock;
 mod host_fabric;
+mod instance_fault;
+mod instance_file;
+mod instances;
+pub mod laws;
 mod std_sink;
 mod std_source;
 
 pub use crate::folder::FolderFiles;
+pub use crate::folder_cause::FolderCause;
 pub use crate::host_clock::HostClock;
 pub use crate::host_fabric::HostFabric;
+pub use crate::instance_fault::InstanceFault;
+pub use crate::instance_file::{InstanceFile, state_folder};
+pub use crate::instances::{minute_at, next_instance};
 pub use crate::std_sink::StdSink;
 pub use crate::std_source::StdSource;

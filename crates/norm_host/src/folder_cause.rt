@@ -1,0 +1,23 @@
+//! What a failed call of a folder's files was about.
+
+use crate::instance_fault::InstanceFault;
+use norm_base::Cause;
+use std::fmt;
+
+/// What a failed call of a folder's files was about. It is for people: no clause speaks of it.
+#[derive(Debug, Drop)]
+pub enum FolderCause {
+    /// A file.
+    File(Cause),
+    /// The instance of a send, which was to be kept before any call.
+    Instance(InstanceFault),
+}
+
+impl fmt::Display for FolderCause {
+    fn fmt<W: fmt::Write>(&self, f: &mut fmt::Formatter<W>) -> fmt::Result {
+        match self {
+            FolderCause::File(cause) => write!(f, "{cause}"),
+            FolderCause::Instance(fault) => write!(f, "{fault}"),
+        }
+    }
+}

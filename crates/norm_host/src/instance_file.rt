@@ -1,0 +1,243 @@
+//! The file that keeps the last instance of a sender, from send to send.
+
+ghost use Rattle.std.specs.Prelude.{◌≡◌, ◌≤◌, length, ℕ, Option, string_bytes, IfOk, IfSome};
+ghost use Rattle.std.specs.Option.{option_map};
+ghost use Rattle.norm_host.specs.Instances.{is_absolute, below, state_folder, next_instance, passed_by, number_path};
+ghost use Rattle.norm_host.specs.Streams.{number_file};
+
+use crate::folder::length_in;
+use crate::instance_fault::InstanceFault;
+use crate::instances::{next_instance, number_in, number_line, passed_by};
+use norm_base::{InstanceId, Memory, Profile};
+use std::alloc::{AllocError, Global};
+use std::env::{self, VarError};
+use std::fs::{self, DirBuilder, File, OpenOptions};
+use std::io::{self, ErrorKind, Read, Write};
+use std::os::unix::fs::{DirBuilderExt, OpenOptionsExt};
+use std::rt::Env;
+
+/// One octet more than the longest line of a number has: so a longer file is seen to be longer.
+const ROOM: usize = 7;
+
+/// Who may use the folder, and a file in it: its user alone.
+const FOLDER_MODE: u32 = 0o700;
+
+const FILE_MODE: u32 = 0o600;
+
+/// What is said of a kept file that is another text.
+const NO_NUMBER: &str = "it holds no number from 0 to 65535";
+
+/// Whether a path begins at the root.
+fn is_absolute(path: &[u8]) -> bool
+    ensures { result ≡ is_absolute path.now }
+{
+    1 <= path.len() && path[0] == b'/'
+}
+
+/// The path of a name below one that begins at the root. `None` if there is none, or it begins elsewhere.
+fn below(path: Option<String>, name: &str) -> Result<Option<String>, AllocError>
+    ensures { IfOk result (λ found. option_map string_bytes found ≡ below (option_map string_bytes path) name.now) }
+{
+    let Some(mut path) = path else {
+        return Ok(None);
+    };
+    if !is_absolute(path.as_bytes()) {
+        return Ok(None);
+    }
+    path.push_str(name)?;
+    Ok(Some(path))
+}
+
+/// The folder that these two variables of the environment name.
+fn folder_by(state: Option<String>, home: Option<String>) -> Result<Option<String>, AllocError>
+    ensures { IfOk result (λ folder. option_map string_bytes folder ≡ state_folder (option_map string_bytes state) (option_map string_bytes home)) }
+{
+    if let Some(folder) = below(state, "/normd")? {
+        return Ok(Some(folder));
+    }
+    below(home, "/.local/state/normd")
+}
+
+/// A variable of the environment. `None` if it is not set, or is not UTF-8.
+fn variable<R: Env + AllocGlobal>(rt: &R, name: &str) -> Result<Option<String>, Memory> {
+    match env::var(rt, name) {
+        Ok(value) => Ok(Some(value)),
+        Err(VarError::OutOfMemory) => Err(Memory),
+        Err(_) => Ok(None),
+    }
+}
+
+/// The user's folder for what the program keeps from run to run: `normd` in $XDG_STATE_HOME, or else in $HOME/.local/state. `None` if neither
+/// variable is a path that begins at the root: another would be a folder for each place that the program runs in.
+///
+/// # Errors
+///
+/// `Memory` where memory runs out.
+pub fn state_folder<R: Env + AllocGlobal>(rt: &R) -> Result<Option<String>, Memory> {
+    let state = variable(rt, "XDG_STATE_HOME")?;
+    let home = variable(rt, "HOME")?;
+    Ok(folder_by(state, home)?)
+}
+
+/// What opens a file of the user's for writing, which is made if it is not there.
+fn to_write() -> OpenOptions {
+    let mut how = OpenOptions::new();
+    how.write(true).create(true).mode(FILE_MODE);
+    how
+}
+
+/// Waits until what was done in a folder outlives a power cut. A file system that has no such call is left as it is.
+fn sync_folder(folder: &File) -> io::Result<()> {
+    match folder.sync_all() {
+        Err(error) if error.kind() == ErrorKind::InvalidInput => Ok(()),
+        done => done,
+    }
+}
+
+/// Reads a file to its end, or until the buffer is full. Answers how many octets it read.
+fn read_up_to<S: Read>(file: &mut S, buf: &mut [u8]) -> io::Result<usize>
+    ensures { IfOk result (λ n. n ≤ length buf.old) }
+{
+    let mut done = 0usize;
+    for _ in 0..buf.len() {
+        let n = file.read(&mut buf[done..])?;
+        if n == 0 {
+            break;
+        }
+        done += n;
+    }
+    Ok(done)
+}
+
+/// The file `PORT-SENDER` of a folder: the last instance that a send of this sender took, of all that use the hub at this port, as one decimal
+/// line. Beside it stand a file that is locked while the number is read and written (`PORT-SENDER.lock`), and one in which the next number is
+/// written before it takes this one's place (`PORT-SENDER.part`). The folder is made if it is not there, for its user alone.
+#[derive(Drop)]
+pub struct InstanceFile<R> {
+    rt: R,
+    alloc: Global,
+    folder: String,
+    path: String,
+    lock: String,
+    beside: String,
+}
+
+impl<R: fs::Files<File = File> + Drop> InstanceFile<R> {
+    /// The file of the sender of a profile, in this folder. Nothing is opened or made yet.
+    ///
+    /// # Errors
+    ///
+    /// `Memory` where memory runs out.
+    pub fn of(
+        alloc: Global,
+        rt: R,
+        folder: String,
+        profile: &Profile,
+    ) -> Result<InstanceFile<R>, Memory>
+        ensures { IfOk result (λ file. number_file file ≡ number_path (string_bytes folder) profile.now.port profile.now.sender) }
+    {
+        let port = profile.port;
+        let sender = profile.sender;
+        let path = format!(in alloc; "{folder}/{port}-{sender}")?;
+        let lock = format!(in alloc; "{path}.lock")?;
+        let beside = format!(in alloc; "{path}.part")?;
+        Ok(InstanceFile {
+            rt,
+            alloc,
+            folder,
+            path,
+            lock,
+            beside,
+        })
+    }
+
+    /// Makes the folder if it is not there, and waits until no other process reads or writes the number. None does as long as what this answers
+    /// is there.
+    fn locked(&self) -> io::Result<File> {
+        let mut folder = DirBuilder::new();
+        folder.recursive(true).mode(FOLDER_MODE);
+        folder.create(&self.rt, self.folder.as_str())?;
+        let lock = to_write().open(&self.rt, self.lock.as_str())?;
+        lock.lock()?;
+        Ok(lock)
+    }
+
+    /// The octets of the file, if it is there.
+    fn line(&self, buf: &mut [u8]) -> io::Result<Option<usize>>
+        ensures { IfOk result (λ found. IfSome found (λ n. n ≤ length buf.old)) }
+    {
+        let metadata = match fs::metadata(&self.rt, self.path.as_str()) {
+            Ok(metadata) => metadata,
+            Err(error) if error.kind() == ErrorKind::NotFound => return Ok(None),
+            Err(error) => return Err(error),
+        };
+        length_in(&metadata)?;
+        let mut file = fs::open(&self.rt, self.path.as_str())?;
+        Ok(Some(read_up_to(&mut file, buf)?))
+    }
+
+    /// The number that the file holds; none if it is not there.
+    fn last(&self) -> io::Result<Option<InstanceId>> {
+        let mut buf = [0u8; ROOM];
+        let Some(n) = self.line(&mut buf)? else {
+            return Ok(None);
+        };
+        match number_in(&buf[..n]) {
+            Some(last) => Ok(Some(last)),
+            None => Err(io::Error::new(ErrorKind::InvalidData, NO_NUMBER)),
+        }
+    }
+
+    /// Writes the number beside the file, and gives it the file's name once it outlives a power cut.
+    fn write(&self, instance: InstanceId) -> io::Result<()> {
+        let line = number_line(self.alloc, instance)?;
+        let mut how = to_write();
+        how.truncate(true);
+        let mut file = how.open(&self.rt, self.beside.as_str())?;
+        file.write_all(line.as_bytes())?;
+        file.sync_all()?;
+        fs::rename(&self.rt, self.beside.as_str(), self.path.as_str())?;
+        sync_folder(&fs::open(&self.rt, self.folder.as_str())?)
+    }
+
+    /// Takes the next instance in this minute, and keeps it. Two processes that do so at once take two.
+    ///
+    /// # Errors
+    ///
+    /// The number could not be read or kept: the file holds another text (`InvalidData`), there was no memory, or the system says why.
+    pub fn draw(&self, minute: InstanceId) -> io::Result<InstanceId>
+        ensures { IfOk result (λ instance. (last : Option ℕ) × (instance ≡ next_instance last minute)) }
+    {
+        let _lock = self.locked()?;
+        let last = self.last()?;
+        let instance = next_instance(last, minute);
+        self.write(instance)?;
+        Ok(instance)
+    }
+
+    /// Keeps an instance that was given, if it lies above the last one. Answers the last one if not, and that stays.
+    ///
+    /// # Errors
+    ///
+    /// As [`draw`](InstanceFile::draw).
+    pub fn keep(&self, instance: InstanceId) -> io::Result<Option<InstanceId>>
+        ensures { IfOk result (λ passed. (last : Option ℕ) × (passed ≡ passed_by last instance)) }
+    {
+        let _lock = self.locked()?;
+        match passed_by(self.last()?, instance) {
+            Some(last) => Ok(Some(last)),
+            None => {
+                self.write(instance)?;
+                Ok(None)
+            }
+        }
+    }
+
+    /// What to say of a call that failed. It takes no memory.
+    pub fn into_fault(self, error: io::Error) -> InstanceFault {
+        InstanceFault::File {
+            path: self.path,
+            error,
+        }
+    }
+}

@@ -1,0 +1,109 @@
+//! Which instance a send takes: one above each that an earlier send of its user took (RFC 5740 section 4.1), since a receiver that runs on passes
+//! over any other, or takes its objects for those that it has. And the line that keeps the last one.
+
+ghost use Rattle.std.specs.Prelude.{◌≡◌, ◌<◌, ◌^◌, ℕ, decimal, string_bytes, IfNone, IfOk, IfSome};
+ghost use Rattle.std.specs.Duration.{as_nanos};
+ghost use Rattle.norm_ext.specs.InstanceIds.{is_above};
+ghost use Rattle.norm_host.specs.Instances.{minute_at, id_after, next_instance, passed_by, number_line};
+
+use itoa::Buffer;
+use norm_base::{ID_COUNT, InstanceId};
+use std::alloc::{AllocError, Global};
+use std::str;
+use std::time::Duration;
+
+/// An id lies above those of which it is at most so far ahead: less than half of all.
+const MOST_RISE: u32 = 32_767;
+
+/// The minute since 1970, going round as instance ids do.
+pub fn minute_at(since_1970: Duration) -> InstanceId
+    ensures { result ≡ minute_at (as_nanos since_1970) }
+{
+    InstanceId((since_1970.as_secs() / 60 % u64::from(ID_COUNT)) as u16)
+}
+
+/// Whether an instance id lies above another.
+fn is_above(from: InstanceId, id: InstanceId) -> bool
+    ensures { result ≡ is_above from id }
+{
+    let rise = (ID_COUNT + u32::from(id.0) - u32::from(from.0)) % ID_COUNT;
+    1 <= rise && rise <= MOST_RISE
+}
+
+/// The last instance that was taken, if one that is given does not lie above it.
+pub(crate) fn passed_by(last: Option<InstanceId>, instance: InstanceId) -> Option<InstanceId>
+    ensures { result ≡ passed_by last instance }
+{
+    match last {
+        Some(last) => {
+            if is_above(last, instance) {
+                None
+            } else {
+                Some(last)
+            }
+        }
+        None => None,
+    }
+}
+
+/// The id after another; 0 comes after the last one.
+fn id_after(id: InstanceId) -> InstanceId
+    ensures { result ≡ id_after id }
+{
+    InstanceId(id.0.wrapping_add(1))
+}
+
+/// The instance that a send takes in this minute, after the last one that was taken, if one was. It lies above that
+/// ([`next_is_above`](crate::laws::next_is_above)).
+pub fn next_instance(last: Option<InstanceId>, minute: InstanceId) -> InstanceId
+    ensures { result ≡ next_instance last minute }
+{
+    match last {
+        Some(last) => {
+            if is_above(last, minute) {
+                minute
+            } else {
+                id_after(last)
+            }
+        }
+        None => minute,
+    }
+}
+
+/// The line that keeps a number.
+pub(crate) fn number_line(alloc: Global, number: InstanceId) -> Result<String, AllocError>
+    ensures { IfOk result (λ line. string_bytes line ≡ number_line number) }
+{
+    let number = number.0;
+    format!(in alloc; "{number}\n")
+}
+
+/// The number that these digits are. `None` if they are none of 16 bits, or have a sign or a leading zero.
+fn number_of(digits: &str) -> Option<InstanceId>
+    ensures some { IfSome result (λ number. digits.now ≡ decimal number) }
+    ensures none { IfNone result ((number : ℕ) → number < 2 ^ 16 → digits.now ≡ decimal number → ⊥) }
+{
+    let Ok(number) = digits.parse::<u16>() else {
+        return None;
+    };
+    let mut buffer = Buffer::new();
+    if buffer.format(number) == digits {
+        return Some(InstanceId(number));
+    }
+    None
+}
+
+/// The number that a line keeps. `None` if it is the line of none.
+pub(crate) fn number_in(line: &[u8]) -> Option<InstanceId>
+    ensures some { IfSome result (λ number. line.now ≡ number_line number) }
+    ensures none { IfNone result ((number : ℕ) → number < 2 ^ 16 → line.now ≡ number_line number → ⊥) }
+{
+    let (end, digits) = line.split_last()?;
+    if *end != b'\n' {
+        return None;
+    }
+    match str::from_utf8(digits) {
+        Ok(digits) => number_of(digits),
+        Err(_) => None,
+    }
+}

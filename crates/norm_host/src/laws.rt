@@ -1,0 +1,9 @@
+//! What is promised of the instances that sends take. Each law is the contract of a function that does nothing.
+
+ghost use Rattle.norm_host.specs.Laws.{NextIsAbove};
+
+/// A send's instance lies above the last one that was taken, whatever the clock says.
+#[tactic(auto, using(crate::proofs::InstanceLemmas::next_is_above))]
+pub fn next_is_above()
+    ensures { NextIsAbove }
+{}
