@@ -7,11 +7,11 @@ use Rattle.std.proofs.lemmas.List.{length-append, take_all}
 use Rattle.norm_base.specs.Contents.{content_of}
 use Rattle.norm_base.specs.declared.fault.FileFault.{FileFault}
 use Rattle.norm_base.specs.declared.fault.FileFault.TheVariants as file
-use Rattle.norm_base.specs.Settings.{Settings}
-use Rattle.norm_profile.specs.Profiles.{profile_in}
+use Rattle.norm_profile.specs.Profiles.{document_in, profile_of}
+use Rattle.norm_profile.specs.declared.document.Document.{Document}
 use Rattle.norm_profile.specs.declared.refusal.ProfileRefusal.{ProfileRefusal}
 use Rattle.norm_profile.specs.declared.refusal.ProfileRefusal.TheVariants as refusal
-use Rattle.norm_profile.specs.Loading.{Told, IsContent, IsLength, IsFront, IsReading, IsOfFile, IsUnread, load_fault}
+use Rattle.norm_profile.specs.Loading.{Told, IsContent, IsLength, IsFront, IsReading, IsOfFile, IsDocumentOf, IsUnread, load_fault}
 
 -- ---- a call of the files that gave nothing
 
@@ -94,16 +94,16 @@ front_whole (Some fs) name octets len is most r = go (content_of fs name) refl i
 -- ---- what a file gives
 
 -- a text that is too long, and octets that are no text
-abbrev too_long : Result Settings ProfileRefusal
+abbrev too_long : Result Document ProfileRefusal
 too_long = Err refusal.TooLong
 
-abbrev no_document : Result Settings ProfileRefusal
+abbrev no_document : Result Document ProfileRefusal
 no_document = Err refusal.NoDocument
 
-pub gives : (files : Told) (name octets : List ℕ) (answer : Result Settings ProfileRefusal) → IsContent files name octets
-    → (IsUtf8 octets → answer ≡ profile_in octets)
+pub gives : (files : Told) (name octets : List ℕ) (answer : Result Document ProfileRefusal) → IsContent files name octets
+    → (IsUtf8 octets → answer ≡ document_in octets)
     → (¬ (IsUtf8 octets) → answer ≡ (if nat_lt 65536 (length octets) then too_long else no_document))
-    → length octets ≤ 65536 → IsOfFile files name answer
+    → length octets ≤ 65536 → IsDocumentOf files name answer
 gives files name octets answer content text other short = record {
   octets = octets;
   content = content;
@@ -116,3 +116,12 @@ gives files name octets answer content text other short = record {
     short_one : (b : Bool) → b ≡ false → (if b then too_long else no_document) ≡ no_document
     short_one true e = absurd (cc)
     short_one false e = refl
+
+-- what a file gives, its profile alone
+pub gives_profile : (files : Told) (name : List ℕ) (answer : Result Document ProfileRefusal) → IsDocumentOf files name answer
+    → IsOfFile files name (profile_of answer)
+gives_profile files name answer document = record {
+  octets = document.octets;
+  content = document.content;
+  gives = record { text = λ is. ap profile_of (document.gives.text is); other = λ no. ap profile_of (document.gives.other no) };
+}

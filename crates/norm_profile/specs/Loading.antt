@@ -6,7 +6,8 @@ use Rattle.norm_base.specs.Faults.{counted}
 use Rattle.norm_base.specs.Settings.{Settings}
 use Rattle.norm_base.specs.declared.fault.FileFault.{FileFault}
 use Rattle.norm_base.specs.declared.fault.FileFault.TheVariants as file
-use Rattle.norm_profile.specs.Profiles.{profile_in}
+use Rattle.norm_profile.specs.Profiles.{profile_in, document_in}
+use Rattle.norm_profile.specs.declared.document.Document.{Document}
 use Rattle.norm_profile.specs.declared.loading.LoadFault.{LoadFault}
 use Rattle.norm_profile.specs.declared.loading.LoadFault.TheVariants as fault
 use Rattle.norm_profile.specs.declared.refusal.ProfileRefusal.{ProfileRefusal}
@@ -41,16 +42,24 @@ pub record IsReading (files : Told) (name : List ℕ) (len : ℕ) (octets : List
   pub within : length octets ≤ len
   pub front : IsFront files name octets
 
--- what octets give: those that are no text are no document
-pub record Gives (octets : List ℕ) (answer : Result Settings ProfileRefusal) : Type 0 where
-  pub text : IsUtf8 octets → answer ≡ profile_in octets
+-- what octets give, if texts give this: those that are no text are no document
+pub record Gives {T : Type 0} (in_text : List ℕ → Result T ProfileRefusal) (octets : List ℕ) (answer : Result T ProfileRefusal) : Type 0 where
+  pub text : IsUtf8 octets → answer ≡ in_text octets
   pub other : ¬ (IsUtf8 octets) → answer ≡ Err refusal.NoDocument
 
--- The file of a name gives this profile, or this refusal.
-pub record IsOfFile (files : Told) (name : List ℕ) (answer : Result Settings ProfileRefusal) : Type 0 where
+-- what the file of a name gives, if texts give this
+pub record IsRead {T : Type 0} (in_text : List ℕ → Result T ProfileRefusal) (files : Told) (name : List ℕ) (answer : Result T ProfileRefusal) : Type 0 where
   pub octets : List ℕ
   pub content : IsContent files name octets
-  pub gives : Gives octets answer
+  pub gives : Gives in_text octets answer
+
+-- The file of a name gives this profile, or this refusal.
+abbrev pub IsOfFile : Told → List ℕ → Result Settings ProfileRefusal → Type 0
+IsOfFile files name answer = IsRead profile_in files name answer
+
+-- The file of a name gives this profile and first instance, or this refusal.
+abbrev pub IsDocumentOf : Told → List ℕ → Result Document ProfileRefusal → Type 0
+IsDocumentOf files name answer = IsRead document_in files name answer
 
 -- The file of a name is longer than a profile may be. It is not read.
 pub record IsTooLong (files : Told) (name : List ℕ) : Type 0 where

@@ -1,10 +1,11 @@
 -- What profile a TOML document is: a table of whole numbers and words under the names of the keys.
 use Rattle.std.specs.Prelude.{ℕ, ℤ, pos, negsuc, nat_lt, List, [], ◌∷◌, length, Option, None, Some, Result, Ok, Err, if◌then◌else◌}
-use Rattle.norm_base.specs.Given.{nothing_given, give, value_in, are_in_range}
+use Rattle.norm_base.specs.Given.{nothing_given, given_at, give, value_in, are_in_range}
 use Rattle.norm_base.specs.Keys.{row_of, keys, key_named, place_of_word, is_value}
 use Rattle.norm_base.specs.Settings.{Settings, settings_with}
 use Rattle.norm_base.specs.declared.key.Key.{Key}
 use Rattle.norm_base.specs.declared.key.Key.TheVariants as key
+use Rattle.norm_profile.specs.declared.document.Document.{Document}
 use Rattle.norm_profile.specs.declared.refusal.ProfileRefusal.{ProfileRefusal}
 use Rattle.norm_profile.specs.declared.refusal.ProfileRefusal.TheVariants as refusal
 use Rattle.toml.specs.Data.{Data, Members, no_members, member, string, integer}
@@ -52,16 +53,26 @@ broken_rule value =
     if nat_lt (value key.MaxN) (value key.B) then refusal.MaxBelowB (value key.MaxN) (value key.B)
     else refusal.Buffer (value key.Blocks) (value key.B) (value key.E)
 
--- the profile of the given values, with all others at their defaults
-abbrev pub profile_with : List (Option ℕ) → Result Settings ProfileRefusal
-profile_with given = if are_in_range (value_in given) then Ok (settings_with (value_in given)) else Err (broken_rule (value_in given))
+-- What a document with these values is: their profile, with all others at their defaults, and the first instance, if it is given.
+abbrev pub document_with : List (Option ℕ) → Result Document ProfileRefusal
+document_with given =
+    if are_in_range (value_in given) then Ok (record { profile = settings_with (value_in given); instance = given_at given key.Instance })
+    else Err (broken_rule (value_in given))
 
--- the profile that the members are
-abbrev pub profile_of : Members → Result Settings ProfileRefusal
-profile_of members = elim (given_in members nothing_given) [ Err why ↦ Err why | Ok given ↦ profile_with given ]
+-- what the members are
+abbrev pub document_of : Members → Result Document ProfileRefusal
+document_of members = elim (given_in members nothing_given) [ Err why ↦ Err why | Ok given ↦ document_with given ]
 
--- Exactly the profile that a text is, or why it is none.
-abbrev pub profile_in : List ℕ → Result Settings ProfileRefusal
-profile_in text =
+-- Exactly the profile that a text is, with the instance that it gives, or why it is none.
+abbrev pub document_in : List ℕ → Result Document ProfileRefusal
+document_in text =
     if nat_lt 65536 (length text) then Err refusal.TooLong
-    else elim (parse_document text) [ None ↦ Err refusal.NoDocument | Some members ↦ profile_of members ]
+    else elim (parse_document text) [ None ↦ Err refusal.NoDocument | Some members ↦ document_of members ]
+
+-- the profile alone
+abbrev pub profile_of : Result Document ProfileRefusal → Result Settings ProfileRefusal
+profile_of (Ok document) = Ok document.profile
+profile_of (Err why) = Err why
+
+abbrev pub profile_in : List ℕ → Result Settings ProfileRefusal
+profile_in text = profile_of (document_in text)

@@ -1,10 +1,11 @@
 //! A profile in a file, which is read in pieces.
 
 ghost use Rattle.std.specs.Prelude.{◌≡◌, ◌<◌, ◌≤◌, length, IfOk, IfErr, OnOk, Ok};
-ghost use Rattle.norm_profile.specs.Loading.{IsContent, IsLength, IsReading, IsOfFile, IsUnloaded, IsUnread, FileCause, load_fault};
+ghost use Rattle.norm_profile.specs.Loading.{IsContent, IsLength, IsReading, IsOfFile, IsDocumentOf, IsUnloaded, IsUnread, FileCause, load_fault};
 ghost use Rattle.norm_profile.specs.declared.loading.LoadFault.TheVariants as fault;
 
-use crate::reader::{MOST_OCTETS, read_profile};
+use crate::document::Document;
+use crate::reader::{MOST_OCTETS, read_document};
 use crate::refusal::ProfileRefusal;
 use norm_base::{FileFault, Files, Memory, Profile};
 use std::alloc::{AllocError, Global};
@@ -116,19 +117,19 @@ fn read_all<D: Files>(
     Ok(octets)
 }
 
-/// Loads the profile that a file holds, as TOML.
+/// Loads the profile that a file holds, as TOML, and what the document says of the first instance. The file is read once.
 ///
 /// # Errors
 ///
 /// `Refused` where the document is none of a profile, or has more than 65,536 octets, and then it is not read; `Absent` where the
 /// file is not there; `Failed` where a call of the files failed; or `Memory`.
-pub fn load_profile<D: Files>(
+pub fn load_document<D: Files>(
     alloc: Global,
     files: &mut D,
     name: &str,
-) -> Result<Profile, LoadFault>
+) -> Result<Document, LoadFault>
     ensures same { D.contents files.new ≡ D.contents files.old }
-    ensures profile { IfOk result (λ profile. IsOfFile (D.contents files.old) name.now (Ok profile)) }
+    ensures document { IfOk result (λ document. IsDocumentOf (D.contents files.old) name.now (Ok document)) }
     ensures stops { IfErr result (λ fault. IsUnloaded (D.contents files.old) name.now fault) }
     ensures cause { FileCause result (D.fault_count files.old) (D.fault_count files.new) }
 {
@@ -139,8 +140,29 @@ pub fn load_profile<D: Files>(
         });
     }
     let octets = read_all(alloc, files, name, len)?;
-    match read_profile(alloc, &octets)? {
-        Ok(profile) => Ok(profile),
+    match read_document(alloc, &octets)? {
+        Ok(document) => Ok(document),
         Err(why) => Err(LoadFault::Refused { why }),
+    }
+}
+
+/// Loads the profile that a file holds, as TOML.
+///
+/// # Errors
+///
+/// As [`load_document`].
+pub fn load_profile<D: Files>(
+    alloc: Global,
+    files: &mut D,
+    name: &str,
+) -> Result<Profile, LoadFault>
+    ensures same { D.contents files.new ≡ D.contents files.old }
+    ensures profile { IfOk result (λ profile. IsOfFile (D.contents files.old) name.now (Ok profile)) }
+    ensures stops { IfErr result (λ fault. IsUnloaded (D.contents files.old) name.now fault) }
+    ensures cause { FileCause result (D.fault_count files.old) (D.fault_count files.new) }
+{
+    match load_document(alloc, files, name) {
+        Ok(document) => Ok(document.profile),
+        Err(fault) => Err(fault),
     }
 }

@@ -1,11 +1,12 @@
 //! Reads profiles.
 
 ghost use Rattle.std.specs.Prelude.{◌≡◌, IsUtf8, IfOk, Err, nat_lt, length, if◌then◌else◌};
-ghost use Rattle.norm_base.specs.Given.{nothing_given, value_in};
-ghost use Rattle.norm_profile.specs.Profiles.{number_for, word_for, number_given, word_given, value_given, given_in, broken_rule, profile_with, profile_of, profile_in};
+ghost use Rattle.norm_base.specs.Given.{nothing_given, given_at, value_in};
+ghost use Rattle.norm_profile.specs.Profiles.{number_for, word_for, number_given, word_given, value_given, given_in, broken_rule, document_with, document_of, document_in};
 ghost use Rattle.norm_profile.specs.declared.refusal.ProfileRefusal.TheVariants as refusal;
 ghost use Rattle.toml.specs.View.{view, table_view};
 
+use crate::document::Document;
 use crate::refusal::ProfileRefusal;
 use norm_base::{Given, Key, Memory, Profile, Text};
 use std::alloc::{AllocError, Global};
@@ -101,53 +102,70 @@ fn broken_rule(given: &Given) -> ProfileRefusal
     }
 }
 
-/// The profile of the given values.
-fn profile_with(given: &Given) -> Result<Profile, ProfileRefusal>
-    ensures { result ≡ profile_with given.now }
+/// The first instance, if it is given.
+fn instance_given(given: &Given) -> Option<u32>
+    ensures { result ≡ given_at given.now Key.Instance }
+{
+    if given.has(Key::Instance) {
+        Some(given.value(Key::Instance))
+    } else {
+        None
+    }
+}
+
+/// What a document with the given values is.
+fn document_with(given: &Given) -> Result<Document, ProfileRefusal>
+    ensures { result ≡ document_with given.now }
 {
     match Profile::of(given) {
-        Some(profile) => Ok(profile),
+        Some(profile) => Ok(Document {
+            profile,
+            instance: instance_given(given),
+        }),
         None => Err(broken_rule(given)),
     }
 }
 
-/// The profile that a table is.
-fn profile_of(alloc: Global, table: &Table) -> Result<Result<Profile, ProfileRefusal>, Memory>
-    ensures { IfOk result (λ profile. profile ≡ profile_of (table_view table.now)) }
+/// What a table is.
+fn document_of(alloc: Global, table: &Table) -> Result<Result<Document, ProfileRefusal>, Memory>
+    ensures { IfOk result (λ document. document ≡ document_of (table_view table.now)) }
 {
     match given_in(alloc, table)? {
-        Ok(given) => Ok(profile_with(&given)),
+        Ok(given) => Ok(document_with(&given)),
         Err(why) => Ok(Err(why)),
     }
 }
 
-/// Reads the profile that a text is.
+/// Reads the profile that a text is, and the first instance that it gives.
 ///
 /// # Errors
 ///
 /// `Memory` where memory runs out. The refusal within names the first key, in the order of names, that is refused.
-pub fn read_text(alloc: Global, text: &str) -> Result<Result<Profile, ProfileRefusal>, Memory>
-    ensures { IfOk result (λ profile. profile ≡ profile_in text.now) }
+pub fn read_text(alloc: Global, text: &str) -> Result<Result<Document, ProfileRefusal>, Memory>
+    ensures { IfOk result (λ document. document ≡ document_in text.now) }
 {
     if text.len() > MOST_OCTETS {
         return Ok(Err(ProfileRefusal::TooLong));
     }
     match toml::table_from_str(alloc, text) {
-        Ok(table) => profile_of(alloc, &table),
+        Ok(table) => document_of(alloc, &table),
         Err(error) if error.is_memory() => Err(Memory),
         Err(_) => Ok(Err(ProfileRefusal::NoDocument)),
     }
 }
 
-/// Reads the profile that the octets of a file are. Octets that are not UTF-8 are no document.
+/// Reads the profile that the octets of a file are, and the first instance that they give. Octets that are not UTF-8 are no document.
 ///
 /// # Errors
 ///
 /// As [`read_text`].
-pub fn read_profile(alloc: Global, octets: &[u8]) -> Result<Result<Profile, ProfileRefusal>, Memory>
-    ensures text { IfOk result (λ profile. IsUtf8 octets.now → profile ≡ profile_in octets.now) }
-    ensures other { IfOk result (λ profile. ¬ (IsUtf8 octets.now) →
-        profile ≡ (if nat_lt 65536 (length octets.now) then Err refusal.TooLong else Err refusal.NoDocument)) }
+pub fn read_document(
+    alloc: Global,
+    octets: &[u8],
+) -> Result<Result<Document, ProfileRefusal>, Memory>
+    ensures text { IfOk result (λ document. IsUtf8 octets.now → document ≡ document_in octets.now) }
+    ensures other { IfOk result (λ document. ¬ (IsUtf8 octets.now) →
+        document ≡ (if nat_lt 65536 (length octets.now) then Err refusal.TooLong else Err refusal.NoDocument)) }
 {
     if octets.len() > MOST_OCTETS {
         return Ok(Err(ProfileRefusal::TooLong));
