@@ -7,5 +7,5 @@ abbrev pub watched_by : {R F : Type 0} → WatchedFabric R F → F
 watched_by w = w.fabric
 
 -- the sink under one that is watched
-abbrev pub watched_in : {R K : Type 0} → WatchedSink R K → K
+abbrev pub watched_in : {R K T : Type 0} → WatchedSink R K T → K
 watched_in w = w.sink

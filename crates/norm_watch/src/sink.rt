@@ -4,9 +4,10 @@ ghost use Rattle.std.specs.Prelude.{◌≡◌};
 ghost use Rattle.norm_watch.specs.Watched.{watched_in};
 
 use crate::listing::Listing;
+use crate::restarts::Restarts;
 use crate::saying::{Says, wipe};
 use crate::tally::Tally;
-use norm_base::{Failed, Sink};
+use norm_base::{Failed, InstanceId, Sink};
 
 /// The most words of a line that are looked at.
 const MOST_WORDS: usize = 8;
@@ -14,14 +15,16 @@ const MOST_WORDS: usize = 8;
 /// The most octets of a line that are looked at: the words that are counted stand before contents.
 const MOST_OCTETS: usize = 128;
 
-/// A sink, each line of which is counted once it was written.
+/// A sink, each line of which is counted once it was written. Who is to know of a sender's restarts is told of each as its line was written, which is
+/// before anything of the new instance is sent.
 #[derive(Drop)]
-pub struct WatchedSink<'a, R, K> {
+pub struct WatchedSink<'a, R, K, T> {
     rt: R,
     sink: K,
     listing: Listing,
     says: Says,
     tally: &'a Tally,
+    restarts: T,
 }
 
 /// The number that a word is, as far as it is one.
@@ -64,9 +67,9 @@ fn count_part(tally: &Tally, kind: &[u8], first: &[u8], second: &[u8]) {
     }
 }
 
-impl<'a, R: Eprint, K: Sink> WatchedSink<'a, R, K> {
-    /// A sink around this one, which counts there, where progress is said.
-    pub fn of(rt: R, sink: K, says: Says, tally: &'a Tally) -> WatchedSink<'a, R, K>
+impl<'a, R: Eprint, K: Sink, T: Restarts> WatchedSink<'a, R, K, T> {
+    /// A sink around this one, which counts there, where progress is said, and tells this of restarts.
+    pub fn of(rt: R, sink: K, says: Says, tally: &'a Tally, restarts: T) -> WatchedSink<'a, R, K, T>
         ensures { watched_in result ≡ sink }
     {
         WatchedSink {
@@ -75,12 +78,35 @@ impl<'a, R: Eprint, K: Sink> WatchedSink<'a, R, K> {
             listing: Listing::new(),
             says,
             tally,
+            restarts,
         }
     }
 
     /// The sink that is watched.
     pub fn watched(&self) -> &K {
         &self.sink
+    }
+
+    /// Tells of a restart, if this is its line.
+    fn tell(&mut self, line: &[u8])
+        ensures { watched_in self.new ≡ watched_in self.old }
+    {
+        if let Some(instance) = restarted_in(line) {
+            wipe(&self.rt, self.tally);
+            self.restarts.restarted(instance);
+        }
+    }
+}
+
+/// The instance with which a sender goes on, by the line of its restart. `None` of any other line.
+fn restarted_in(line: &[u8]) -> Option<InstanceId> {
+    if !line.starts_with(b"restart ") {
+        return None;
+    }
+    let words = words_of(line);
+    match u16::try_from(number_of(words[3])) {
+        Ok(instance) => Some(InstanceId(instance)),
+        Err(_) => None,
     }
 }
 
@@ -116,7 +142,7 @@ fn count(tally: &Tally, listing: &mut Listing, line: &[u8]) {
     tally.past.set(listing.count());
 }
 
-impl<R: Eprint, K: Sink> Sink for WatchedSink<'_, R, K> {
+impl<R: Eprint, K: Sink, T: Restarts> Sink for WatchedSink<'_, R, K, T> {
     ghost pieces = { λ s. K.pieces (watched_in s) };
 
     ghost fault_count = { λ s. K.fault_count (watched_in s) };
@@ -126,6 +152,7 @@ impl<R: Eprint, K: Sink> Sink for WatchedSink<'_, R, K> {
             wipe(&self.rt, self.tally);
         }
         self.sink.write(bytes)?;
+        self.tell(bytes);
         if self.says.progress {
             count(self.tally, &mut self.listing, bytes);
         }
