@@ -7,7 +7,7 @@ use Rattle.std.proofs.lemmas.Fmt.{IsAscii-decimal, parse-decimal}
 use Rattle.std.proofs.lemmas.List.{length-append, same_from_push}
 use Rattle.std.proofs.lemmas.Str.{IsUtf8-from_ascii}
 use Rattle.norm_ext.specs.InstanceIds.{rise, most_rise, is_above}
-use Rattle.norm_host.specs.Instances.{id_after, next_instance, number_line}
+use Rattle.norm_host.specs.Instances.{id_after, number_line}
 use Rattle.norm_host.specs.Laws.{NextIsAbove}
 
 -- the id after another is one ahead of it, also where it goes round
