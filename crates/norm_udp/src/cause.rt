@@ -1,9 +1,10 @@
 //! What a failed call of a socket was about.
 
+use norm_base::FabricKind;
 use std::net::SocketAddr;
 use std::{fmt, io};
 
-/// What a call was done to as it failed, and why it failed, in the system's words. It is for people: no clause speaks of it.
+/// What a call was done to as it failed, and why it failed, mostly in the system's words. It is for people: no clause speaks of it.
 #[derive(Debug, Drop)]
 pub enum SocketCause {
     /// A socket was made and bound to this address.
@@ -26,6 +27,17 @@ pub enum SocketCause {
         address: SocketAddr,
         error: io::Error,
     },
+    /// A node of its own, or the hub, was to begin over a network within one process, of this kind.
+    Within { fabric: FabricKind },
+}
+
+/// The word that a profile has for a network.
+fn word_of(fabric: FabricKind) -> &'static str {
+    match fabric {
+        FabricKind::Direct => "direct",
+        FabricKind::Chance => "chance",
+        FabricKind::Udp => "udp",
+    }
 }
 
 impl fmt::Display for SocketCause {
@@ -38,6 +50,13 @@ impl fmt::Display for SocketCause {
             SocketCause::Send { address, error } => write!(f, "cannot send to {address}: {error}"),
             SocketCause::Receive { address, error } => {
                 write!(f, "cannot receive at {address}: {error}")
+            }
+            SocketCause::Within { fabric } => {
+                let word = word_of(*fabric);
+                write!(
+                    f,
+                    "the fabric is {word}, a network within one process: a node of its own needs fabric = \"udp\""
+                )
             }
         }
     }

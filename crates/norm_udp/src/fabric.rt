@@ -1,15 +1,20 @@
 //! The network of sockets.
 
-ghost use Rattle.std.specs.Prelude.{◌≡◌, [], true, IfOk, IfNone, OnErr};
+ghost use Rattle.std.specs.Prelude.{◌≡◌, ◌≤◌, [], true, false, length, IfOk, IfSome, IfNone, OnErr};
 ghost use Rattle.norm_base.specs.Faults.{Counts};
+ghost use Rattle.norm_base.specs.Sizes.{datagram_room};
+ghost use Rattle.norm_udp.specs.Hearing.{heard_in};
+ghost use Rattle.norm_udp.specs.Misfits.{is_cut_off};
 ghost use Rattle.norm_udp.specs.Pausing.{is_answered};
 ghost use Rattle.norm_udp.specs.Untold.{untold};
 
 use crate::address::Located;
 use crate::cause::SocketCause;
+use crate::misfit::Misfit;
 use crate::pace::{Pace, Pause, sleep_since};
 use crate::senders::Senders;
-use crate::socket::BUFFER;
+use crate::sieve::{PassesOver, Sieve};
+use crate::socket::{BUFFER, MOST_PASSED};
 use crate::sockets::{Open, OpenFault, open_for};
 use norm_base::{Datagram, Fabric, FabricFault, Local, Memory, NodeId, Profile};
 use std::alloc::Global;
@@ -35,16 +40,42 @@ fn gap_of(profile: &Profile, local: &Local) -> u64 {
     }
 }
 
+/// Takes the next datagram that is not passed over, if one is there.
+fn look_through(
+    open: &mut Open,
+    sieve: &mut Sieve,
+    buffer: &mut [u8],
+    into: &mut Datagram,
+) -> Result<Option<Located>, SocketCause>
+    requires { into.old ≡ [] }
+    ensures none { IfOk result (λ found. IfNone found (into.new ≡ [])) }
+    ensures sieved { IfOk result (λ found. IfSome found (λ _. is_cut_off sieve.new.profile sieve.new.cut (heard_in into.new) ≡ false)) }
+    ensures err { OnErr result (into.new ≡ []) }
+{
+    for _ in 0..MOST_PASSED {
+        let Some(found) = open.look(buffer, into)? else {
+            return Ok(None);
+        };
+        if !sieve.passes_over(into.bytes()) {
+            return Ok(Some(found));
+        }
+        into.clear();
+    }
+    Ok(None)
+}
+
 /// A network of UDP sockets at 127.0.0.1: the hub at the profile's port, and the members behind it, in their order. With all members in
 /// this process each has its socket, and what one offers goes to each other; a member alone offers to the hub; and the hub offers a member's datagram
 /// to each other member, and its `take` says from whom a datagram came. A peer that is not there and a full buffer lose a datagram;
-/// a socket that cannot be made or bound, and any other error, fail. `start` comes first. It tells nothing of what it gives and takes.
+/// a socket that cannot be made or bound, and any other error, fail. A receiver alone passes over a sender whose profile is not its own.
+/// `start` comes first. It tells nothing of what it gives and takes.
 #[derive(Drop)]
 pub struct UdpFabric<R> {
     rt: R,
     alloc: Global,
     senders: Senders,
     open: Open,
+    sieve: Sieve,
     pace: Pace,
     buffer: Vec<u8>,
     faults: u64,
@@ -65,6 +96,7 @@ impl<R: Net + Wait + Clock + Drop> UdpFabric<R> {
             alloc,
             senders: Senders::none(alloc),
             open: Open::Nothing,
+            sieve: Sieve::open(),
             pace: Pace::new(0),
             buffer: vec![in alloc; 0u8; BUFFER]?,
             faults: 0,
@@ -85,11 +117,13 @@ impl<R: Net + Wait + Clock + Drop> UdpFabric<R> {
     {
         self.senders.leave(&self.rt);
         self.open = Open::Nothing;
+        self.sieve = Sieve::open();
     }
 
-    /// Waits until threads have sent all that was offered, for some seconds at most: before the process ends, and they with it.
-    pub fn drain(&self) {
-        self.senders.drain(&self.rt);
+    /// Waits until threads have sent all that was offered, for some seconds at most: before the process ends, and they with it. Answers what one of
+    /// them failed at, if no call told it; it is no failed call, and counts as none.
+    pub fn drain(&self) -> Option<SocketCause> {
+        self.senders.drain(&self.rt)
     }
 
     /// What the last failed call was about. `None` before one.
@@ -138,7 +172,7 @@ impl<R: Net + Wait + Clock + Drop> UdpFabric<R> {
         ensures pace { self.new.pace ≡ self.old.pace }
         ensures faults { self.new.faults ≡ self.old.faults }
     {
-        self.open.look(&mut self.buffer, into)
+        look_through(&mut self.open, &mut self.sieve, &mut self.buffer, into)
     }
 
     /// Looks until a moment. Where that is over already the clock is read once, and nothing else is done.
@@ -204,7 +238,15 @@ impl<R: Net + Wait + Clock + Drop> UdpFabric<R> {
         }
     }
 
-    /// Takes the next datagram, at once or after a pause.
+    /// Sends a member's datagram, or has a thread send it, unless one failed at an earlier one.
+    fn send(&self, from: NodeId, bytes: &[u8]) -> Result<(), SocketCause>
+        requires { length bytes.now ≤ datagram_room }
+    {
+        self.senders.check(&self.rt)?;
+        self.open.send(&self.rt, &self.senders, from, bytes)
+    }
+
+    /// Takes the next datagram, at once or after a pause, unless a thread failed at sending one.
     fn find(&mut self, into: &mut Datagram) -> Result<Option<Located>, SocketCause>
         requires { into.old ≡ [] }
         ensures none { IfOk result (λ node. IfNone node (into.new ≡ [])) }
@@ -212,6 +254,7 @@ impl<R: Net + Wait + Clock + Drop> UdpFabric<R> {
         ensures answered { IfOk result (λ node. IfNone node (is_answered self.new.pace ≡ true)) }
         ensures faults { self.new.faults ≡ self.old.faults }
     {
+        self.senders.check(&self.rt)?;
         let mut found = self.look(into)?;
         if found.is_none() {
             found = self.look_later(into)?;
@@ -231,6 +274,7 @@ impl<R: Net + Wait + Clock + Drop> Fabric for UdpFabric<R> {
     fn start(&mut self, profile: &Profile, local: Local) -> Result<(), FabricFault> {
         self.close();
         self.pace = Pace::new(gap_of(profile, &local));
+        self.sieve = Sieve::of(profile, &local);
         match open_for(&self.rt, self.alloc, &self.senders, profile, local) {
             Ok(open) => {
                 self.open = open;
@@ -246,7 +290,7 @@ impl<R: Net + Wait + Clock + Drop> Fabric for UdpFabric<R> {
 
     fn offer(&mut self, from: NodeId, bytes: &[u8]) -> Result<(), FabricFault> {
         self.note_offer();
-        if let Err(cause) = self.open.send(&self.rt, &self.senders, from, bytes) {
+        if let Err(cause) = self.send(from, bytes) {
             self.keep(cause);
             return Err(FabricFault::Failed);
         }
@@ -267,5 +311,15 @@ impl<R: Net + Wait + Clock + Drop> Fabric for UdpFabric<R> {
 
     fn faults(&self) -> u64 {
         self.faults
+    }
+}
+
+impl<R> PassesOver for UdpFabric<R> {
+    fn passed_over(&self) -> u64 {
+        self.sieve.count
+    }
+
+    fn misfit(&self) -> Option<Misfit> {
+        self.sieve.misfit
     }
 }

@@ -17,6 +17,9 @@ use std::time::{Clock, Duration};
 /// How many datagrams lie in a lane at most.
 const PLACES: usize = 512;
 
+/// How many failures of a thread are kept until a call tells them: the first says what is wrong.
+const MOST_FAILURES: usize = 1;
+
 /// Microseconds of a sleep of a thread that finds nothing to send, and of a node that finds no place.
 const SLEEP: u64 = 50;
 
@@ -43,6 +46,10 @@ pub(crate) struct Lane {
     posted: ArrayQueue<Box<Posted>>,
     /// Places of which nothing is to be sent any more.
     places: ArrayQueue<Box<Posted>>,
+    /// A place on its way back of a datagram that the thread failed at, until a call tells that.
+    failures: ArrayQueue<Box<Posted>>,
+    /// Whether something may stand there: each call asks, so that it is one read.
+    has_failed: AtomicBool,
     rest: Parker,
     /// Whether nothing will be offered any more.
     over: AtomicBool,
@@ -68,6 +75,8 @@ impl Lane {
         Ok(Lane {
             posted: ArrayQueue::new(alloc, PLACES)?,
             places,
+            failures: ArrayQueue::new(alloc, MOST_FAILURES)?,
+            has_failed: AtomicBool::new(false),
             rest: Parker::new(),
             over: AtomicBool::new(false),
         })
@@ -96,36 +105,50 @@ impl Lane {
             return false;
         };
         place.way = Some(way);
-        place.failed = None;
         self.put(rt, place);
         true
     }
 
-    /// Puts a member's datagram into the lane. Where the thread falls behind for long it is lost.
-    ///
-    /// # Errors
-    ///
-    /// What the thread failed at as it sent an earlier one.
-    pub(crate) fn post<R: Wait + Clock>(
-        &self,
-        rt: &R,
-        from: NodeId,
-        bytes: &[u8],
-    ) -> Result<(), SocketCause>
+    /// Puts a member's datagram into the lane. If the thread falls behind for long it is lost.
+    pub(crate) fn post<R: Wait + Clock>(&self, rt: &R, from: NodeId, bytes: &[u8])
         requires { length bytes.now ≤ datagram_room }
     {
         let Some(mut place) = self.place(rt) else {
-            return Ok(());
+            return;
         };
-        if let Some(cause) = place.failed.take() {
-            self.free(rt, place);
-            return Err(cause);
-        }
         place.from = from;
+        place.failed = None;
         place.datagram.clear();
         place.datagram.push(bytes);
         self.put(rt, place);
-        Ok(())
+    }
+
+    /// Keeps the place of a datagram that the thread failed at, unless one is kept that no call told yet.
+    pub(crate) fn fail<R: Wait>(&self, rt: &R, place: Box<Posted>) {
+        if let Err(place) = self.failures.push(rt, place) {
+            self.free(rt, place);
+        }
+        self.has_failed.store(true, Ordering::SeqCst);
+    }
+
+    /// Takes what is kept of what the thread failed at.
+    pub(crate) fn kept<R: Wait>(&self, rt: &R) -> Option<SocketCause> {
+        let Some(mut place) = self.failures.pop(rt) else {
+            return None;
+        };
+        let cause = place.failed.take();
+        self.free(rt, place);
+        cause
+    }
+
+    /// Takes what the thread failed at, which is then told. A failure of this very moment may be found at the next look alone.
+    pub(crate) fn failure<R: Wait>(&self, rt: &R) -> Option<SocketCause> {
+        if !self.has_failed.load(Ordering::SeqCst) {
+            return None;
+        }
+        // Before the look: what the thread keeps after it is asked for again.
+        self.has_failed.store(false, Ordering::SeqCst);
+        self.kept(rt)
     }
 
     /// What was posted next.
@@ -141,7 +164,7 @@ impl Lane {
     /// Waits until all that was posted is done, for some seconds at most.
     pub(crate) fn drain<R: Wait + Clock>(&self, rt: &R) {
         for _ in 0..MOST_DRAINING {
-            if self.places.len(rt) == PLACES {
+            if self.places.len(rt).saturating_add(self.failures.len(rt)) >= PLACES {
                 return;
             }
             sleep(rt);

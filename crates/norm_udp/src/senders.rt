@@ -25,14 +25,17 @@ const MOST_THREADS: usize = 4;
 /// Does what was posted next: the thread sends another way from here on, or sends a datagram. The place is given back, with what failed.
 fn follow<R: Wait>(rt: &R, lane: &Lane, way: Way, posted: Box<Posted>) -> Way {
     let mut posted = posted;
-    let way = match posted.way.take() {
-        Some(other) => other,
-        None => {
-            posted.failed = way.send(posted.from, posted.datagram.bytes()).err();
-            way
+    if let Some(other) = posted.way.take() {
+        lane.free(rt, posted);
+        return other;
+    }
+    match way.send(posted.from, posted.datagram.bytes()) {
+        Ok(()) => lane.free(rt, posted),
+        Err(cause) => {
+            posted.failed = Some(cause);
+            lane.fail(rt, posted);
         }
-    };
-    lane.free(rt, posted);
+    }
     way
 }
 
@@ -129,31 +132,43 @@ impl Senders {
         }
     }
 
-    /// Has the first threads, so many, send a member's datagram.
-    ///
-    /// # Errors
-    ///
-    /// What one of them failed at before.
+    /// Has this many threads, the first ones, send a member's datagram.
     pub(crate) fn post<R: Wait + Clock>(
         &self,
         rt: &R,
         threads: usize,
         from: NodeId,
         bytes: &[u8],
-    ) -> Result<(), SocketCause>
+    )
         requires { length bytes.now ≤ datagram_room }
     {
         for lane in self.0.iter().take(threads) {
-            lane.post(rt, from, bytes)?;
+            lane.post(rt, from, bytes);
+        }
+    }
+
+    /// Takes what one of them failed at and no call told yet.
+    ///
+    /// # Errors
+    ///
+    /// What it failed at.
+    pub(crate) fn check<R: Wait>(&self, rt: &R) -> Result<(), SocketCause> {
+        for lane in &self.0 {
+            if let Some(cause) = lane.failure(rt) {
+                return Err(cause);
+            }
         }
         Ok(())
     }
 
-    /// Waits until all that was offered is sent, for some seconds at most.
-    pub(crate) fn drain<R: Wait + Clock>(&self, rt: &R) {
+    /// Waits until all that was offered is sent, for some seconds at most. Answers what one of them failed at and no call told.
+    pub(crate) fn drain<R: Wait + Clock>(&self, rt: &R) -> Option<SocketCause> {
+        let mut left = None;
         for lane in &self.0 {
             lane.drain(rt);
+            left = left.or(lane.kept(rt));
         }
+        left
     }
 
     /// Has no thread send anywhere.

@@ -394,7 +394,8 @@ impl Open {
                 if *threads == 0 {
                     return send_to(&member.socket, bytes, *hub);
                 }
-                senders.post(rt, *threads, from, bytes)
+                senders.post(rt, *threads, from, bytes);
+                Ok(())
             }
             Open::Hub {
                 profile,
@@ -403,7 +404,7 @@ impl Open {
                 threads,
                 ..
             } => {
-                senders.post(rt, *threads, from, bytes)?;
+                senders.post(rt, *threads, from, bytes);
                 send_copies(profile, receivers, from, bytes)?;
                 send_back(profile, socket, from, bytes)?;
                 Ok(())

@@ -1,0 +1,103 @@
+//! What a sender's datagram says of where it comes from.
+
+ghost use Rattle.std.specs.Prelude.{◌≡◌, Some};
+ghost use Rattle.norm_cmdmsg.specs.View.{command_of};
+ghost use Rattle.norm_codec.specs.View.{message_of};
+ghost use Rattle.norm_codec.specs.Whole.{IsWhole};
+ghost use Rattle.norm_ext.specs.Extensions.{extensions_of, fti_of, IsChecked};
+ghost use Rattle.norm_udp.specs.Hearing.{object_heard, command_heard, message_heard, heard_in};
+
+use norm_base::{InstanceId, NodeId};
+use norm_cmdmsg::CommandMsg;
+use norm_codec::{Message, decode};
+use norm_ext::{CmdHead, Extensions, Fti, ObjHead, read_fti};
+
+/// What INFO, DATA or a command says of its sender (RFC 5740 section 4.2).
+#[derive(Clone, Copy, Debug)]
+pub struct Heard {
+    pub sender: NodeId,
+    pub instance: InstanceId,
+    /// The transport id of the object that INFO, DATA, a flush or a squelch names.
+    pub object: Option<u16>,
+    /// The transmission information that INFO or DATA has.
+    pub fti: Option<Fti>,
+    /// The flags of INFO or DATA, and 0 of a command.
+    pub flags: u8,
+}
+
+/// The transmission information among whole extensions, if it is there.
+fn fti_among(exts: &[u8]) -> Option<Fti>
+    requires { IsChecked exts.now }
+    ensures { result ≡ fti_of (extensions_of exts.now) }
+{
+    match Extensions::check(exts) {
+        Ok(exts) => read_fti(exts),
+        Err(_) => None,
+    }
+}
+
+/// What INFO or DATA says.
+fn object_heard(head: &ObjHead, exts: &[u8]) -> Heard
+    requires { IsChecked exts.now }
+    ensures { result ≡ object_heard head.now (extensions_of exts.now) }
+{
+    Heard {
+        sender: head.source,
+        instance: head.instance,
+        object: Some(head.object),
+        fti: fti_among(exts),
+        flags: head.flags,
+    }
+}
+
+/// What a command says, and the object that it names, if it does.
+fn command_heard(head: &CmdHead, object: Option<u16>) -> Heard
+    ensures { result ≡ command_heard head.now object }
+{
+    Heard {
+        sender: head.source,
+        instance: head.instance,
+        object,
+        fti: None,
+        flags: 0,
+    }
+}
+
+/// What a command says, whichever it is.
+fn any_command_heard(msg: &CommandMsg<'_>) -> Heard
+    ensures { message_heard (command_of msg.now) ≡ Some result }
+{
+    match msg {
+        CommandMsg::Flush { head, object, .. } => command_heard(head, Some(*object)),
+        CommandMsg::Eot { head, .. } => command_heard(head, None),
+        CommandMsg::Squelch { head, object, .. } => command_heard(head, Some(*object)),
+        CommandMsg::RepairAdv { head, .. } => command_heard(head, None),
+        CommandMsg::AckReq { head, .. } => command_heard(head, None),
+        CommandMsg::Opaque { head, .. } => command_heard(head, None),
+    }
+}
+
+/// What a message says of its sender. `None` of feedback and of a report.
+fn message_heard(msg: &Message<'_>) -> Option<Heard>
+    requires { IsWhole msg.now }
+    ensures { result ≡ message_heard (message_of msg.now) }
+{
+    match msg {
+        Message::Info(msg) => Some(object_heard(&msg.head, msg.exts)),
+        Message::Data(msg) => Some(object_heard(&msg.head, msg.exts)),
+        Message::Command(msg) => Some(any_command_heard(msg)),
+        Message::Nack(_) => None,
+        Message::Ack(_) => None,
+        Message::Report { .. } => None,
+    }
+}
+
+/// What a datagram says of its sender. `None` if it is no INFO, DATA or command, or spells no message.
+pub fn heard_in(bytes: &[u8]) -> Option<Heard>
+    ensures { result ≡ heard_in bytes.now }
+{
+    match decode(bytes) {
+        Ok(msg) => message_heard(&msg),
+        Err(_) => None,
+    }
+}

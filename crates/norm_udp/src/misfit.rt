@@ -1,0 +1,120 @@
+//! A sender whose profile is not this receiver's.
+
+ghost use Rattle.std.specs.Prelude.{◌≡◌};
+ghost use Rattle.norm_udp.specs.Misfits.{says_stream, has_sizes, fits};
+
+use crate::heard::Heard;
+use norm_base::{InstanceId, NodeId, Profile};
+use norm_ext::Fti;
+use norm_ext::flags::STREAM;
+use norm_ext::items::has_flag;
+use std::fmt;
+
+/// Octets of a symbol, source symbols of a block, and the most encoding symbols of one.
+#[derive(Clone, Copy, Debug)]
+pub struct Sizes {
+    pub e: u16,
+    pub b: u8,
+    pub max_n: u8,
+}
+
+/// In what a sender's transmission information differs from a receiver's profile.
+#[derive(Clone, Copy, Debug)]
+pub enum Difference {
+    /// Symbols or blocks have other sizes.
+    Sizes {
+        theirs: Sizes,
+        own: Sizes,
+    },
+    /// An object has more octets than the profile lets one have.
+    Length { octets: u64, most: u32 },
+}
+
+/// A sender's instance of which a receiver takes nothing, and why. It is for people: no clause speaks of it.
+#[derive(Clone, Copy, Debug)]
+pub struct Misfit {
+    pub sender: NodeId,
+    pub instance: InstanceId,
+    pub difference: Difference,
+}
+
+impl fmt::Display for Difference {
+    fn fmt<W: fmt::Write>(&self, f: &mut fmt::Formatter<W>) -> fmt::Result {
+        match self {
+            Difference::Sizes { theirs, own } => {
+                let Sizes { e, b, max_n } = *theirs;
+                write!(f, "sends with e {e}, b {b}, max_n {max_n}")?;
+                let Sizes { e, b, max_n } = *own;
+                write!(f, ", and this profile has {e}, {b}, {max_n}")
+            }
+            Difference::Length { octets, most } => write!(
+                f,
+                "sends an object of {octets} octets, and this profile's octets are {most}"
+            ),
+        }
+    }
+}
+
+impl fmt::Display for Misfit {
+    fn fmt<W: fmt::Write>(&self, f: &mut fmt::Formatter<W>) -> fmt::Result {
+        let sender = self.sender.number();
+        let difference = self.difference;
+        let InstanceId(instance) = self.instance;
+        write!(
+            f,
+            "sender {sender} {difference}: nothing of instance {instance} is taken"
+        )
+    }
+}
+
+/// Whether flags of INFO or DATA are a stream's.
+fn is_stream(flags: u8) -> bool
+    ensures { result ≡ says_stream flags }
+{
+    has_flag(flags, STREAM)
+}
+
+/// Whether symbols and blocks have the profile's sizes.
+fn has_sizes(profile: &Profile, fti: &Fti) -> bool
+    ensures { result ≡ has_sizes profile.now fti.now }
+{
+    fti.e == profile.e && fti.b == profile.b && fti.max_n == profile.max_n
+}
+
+/// Whether transmission information, with its message's flags, is that of a sender with this profile.
+pub(crate) fn fits(profile: &Profile, fti: &Fti, flags: u8) -> bool
+    ensures { result ≡ fits profile.now fti.now flags }
+{
+    has_sizes(profile, fti) && (is_stream(flags) || fti.l <= u64::from(profile.octets))
+}
+
+/// In what transmission information that does not fit differs.
+fn difference_of(profile: &Profile, fti: &Fti) -> Difference {
+    if has_sizes(profile, fti) {
+        return Difference::Length {
+            octets: fti.l,
+            most: profile.octets,
+        };
+    }
+    Difference::Sizes {
+        theirs: Sizes {
+            e: fti.e,
+            b: fti.b,
+            max_n: fti.max_n,
+        },
+        own: Sizes {
+            e: profile.e,
+            b: profile.b,
+            max_n: profile.max_n,
+        },
+    }
+}
+
+/// What is said of a message whose transmission information does not fit.
+pub(crate) fn misfit_of(profile: &Profile, heard: &Heard, fti: &Fti) -> Misfit {
+    Misfit {
+        sender: heard.sender,
+        instance: heard.instance,
+        difference: difference_of(profile, fti),
+    }
+}

@@ -1,0 +1,149 @@
+//! What a receiver's network passes over.
+
+ghost use Rattle.std.specs.Prelude.{◌≡◌, Some, None};
+ghost use Rattle.norm_udp.specs.Hearing.{heard_in};
+ghost use Rattle.norm_udp.specs.Misfits.{compared, is_in, cut_by, cut_after, cut_then, is_cut_off};
+
+use crate::heard::{Heard, heard_in};
+use crate::misfit::{Misfit, fits, misfit_of};
+use norm_base::{InstanceId, Local, Profile};
+
+/// A network that may pass over datagrams, and tells a person so.
+pub trait PassesOver {
+    /// How many datagrams were passed over since the last start.
+    fn passed_over(&self) -> u64;
+
+    /// The first of them whose sender has another profile. `None` if all fitted.
+    fn misfit(&self) -> Option<Misfit>;
+}
+
+/// What a receiver alone passes over: from transmission information on that is not of its profile, all that its sender sends in that instance. A
+/// receiver would take no object of it, and ask for each again and again. INFO or DATA that fits ends that, so that one forged datagram cuts nobody off.
+#[derive(Drop)]
+pub(crate) struct Sieve {
+    /// The receiver's profile. `None` at any other node, at which nothing is passed over.
+    pub profile: Option<Profile>,
+    /// The instance that is cut off.
+    pub cut: Option<InstanceId>,
+    /// How many datagrams were passed over.
+    pub count: u64,
+    /// The first that did not fit.
+    pub misfit: Option<Misfit>,
+}
+
+/// What a node compares with: a receiver alone with its profile, and any other with none.
+fn compared(profile: &Profile, local: &Local) -> Option<Profile>
+    ensures { result ≡ compared profile.now local.now }
+{
+    match local {
+        Local::All => None,
+        Local::One(node) => {
+            if node.number() == profile.sender {
+                None
+            } else {
+                Some(*profile)
+            }
+        }
+        Local::Hub => None,
+    }
+}
+
+/// Whether the instance that is cut off is this one.
+fn is_in(cut: &Option<InstanceId>, instance: InstanceId) -> bool
+    ensures { result ≡ is_in cut.now instance }
+{
+    match cut {
+        Some(cut) => *cut == instance,
+        None => false,
+    }
+}
+
+/// Which instance is cut off after transmission information of this one that fits, or does not.
+fn cut_by(is_fit: bool, cut: Option<InstanceId>, instance: InstanceId) -> Option<InstanceId>
+    ensures { result ≡ cut_by is_fit cut instance }
+{
+    if !is_fit {
+        return Some(instance);
+    }
+    if is_in(&cut, instance) { None } else { cut }
+}
+
+/// Which instance is cut off after INFO, DATA or a command of the profile's sender.
+fn cut_after(profile: &Profile, cut: Option<InstanceId>, heard: &Heard) -> Option<InstanceId>
+    ensures { result ≡ cut_after profile.now cut heard.now }
+{
+    match heard.fti {
+        Some(fti) => cut_by(fits(profile, &fti, heard.flags), cut, heard.instance),
+        None => cut,
+    }
+}
+
+impl Sieve {
+    /// That of these members, with nothing cut off.
+    pub(crate) fn of(profile: &Profile, local: &Local) -> Sieve
+        ensures profile { result.profile ≡ compared profile.now local.now }
+        ensures cut { result.cut ≡ None }
+    {
+        Sieve {
+            profile: compared(profile, local),
+            cut: None,
+            count: 0,
+            misfit: None,
+        }
+    }
+
+    /// One that lets everything through.
+    pub(crate) fn open() -> Sieve {
+        Sieve {
+            profile: None,
+            cut: None,
+            count: 0,
+            misfit: None,
+        }
+    }
+
+    /// Counts a datagram that is passed over, the first of which is one that does not fit.
+    fn count(&mut self, profile: &Profile, heard: &Heard)
+        ensures profile { self.new.profile ≡ self.old.profile }
+        ensures cut { self.new.cut ≡ self.old.cut }
+    {
+        self.count = self.count.saturating_add(1);
+        if self.misfit.is_none() {
+            if let Some(fti) = heard.fti {
+                self.misfit = Some(misfit_of(profile, heard, &fti));
+            }
+        }
+    }
+
+    /// Whether INFO, DATA or a command is passed over, which counts.
+    fn cuts_off(&mut self, profile: &Profile, heard: &Heard) -> bool
+        ensures profile { self.new.profile ≡ self.old.profile }
+        ensures cut { self.new.cut ≡ cut_then (Some profile.now) self.old.cut (Some heard.now) }
+        ensures exact { result ≡ is_cut_off (Some profile.now) self.new.cut (Some heard.now) }
+    {
+        if heard.sender.number() != profile.sender {
+            return false;
+        }
+        self.cut = cut_after(profile, self.cut, heard);
+        if !is_in(&self.cut, heard.instance) {
+            return false;
+        }
+        self.count(profile, heard);
+        true
+    }
+
+    /// Whether a datagram is passed over, which counts.
+    pub(crate) fn passes_over(&mut self, bytes: &[u8]) -> bool
+        ensures profile { self.new.profile ≡ self.old.profile }
+        ensures cut { self.new.cut ≡ cut_then self.old.profile self.old.cut (heard_in bytes.now) }
+        ensures exact { result ≡ is_cut_off self.new.profile self.new.cut (heard_in bytes.now) }
+    {
+        let Some(profile) = self.profile else {
+            return false;
+        };
+        match heard_in(bytes) {
+            Some(heard) => self.cuts_off(&profile, &heard),
+            None => false,
+        }
+    }
+}
