@@ -1,10 +1,11 @@
-use Rattle.std.specs.Prelude.{ℕ, List, [], ◌∷◌, ◌++◌, Bool, true, false, Some, if◌then◌else◌}
+use Rattle.std.specs.Prelude.{ℕ, List, [], ◌∷◌, ◌++◌, ◌||◌, Bool, true, false, Some, if◌then◌else◌}
 use Rattle.norm_base.specs.Faults.{one_more}
 use Rattle.norm_base.specs.Network.{Network}
 use Rattle.norm_base.specs.Settings.{Settings}
 use Rattle.norm_base.specs.declared.kinds.FabricKind.{FabricKind}
 use Rattle.norm_base.specs.declared.kinds.FabricKind.TheVariants as kind
 use Rattle.norm_base.specs.declared.kinds.Local.{Local}
+use Rattle.norm_base.specs.declared.kinds.Local.TheVariants as of
 use Rattle.norm_memory.specs.Chances.{ChanceState, chance_unstarted, chance_started, chance_offer, chance_take}
 use Rattle.norm_memory.specs.Direct.{direct_offer}
 use Rattle.norm_memory.specs.Networks.{NetworkState, unstarted, started, after_take}
@@ -39,6 +40,22 @@ abbrev pub is_udp : FabricKind → Bool
 is_udp kind.Direct = false
 is_udp kind.Chance = false
 is_udp kind.Udp = true
+
+-- one node of its own, or the hub between such nodes
+abbrev pub is_alone : Local → Bool
+is_alone of.All = false
+is_alone (of.One node) = true
+is_alone of.Hub = true
+
+-- a network within one process cannot bring a node of its own to others
+abbrev pub is_within : FabricKind → Local → Bool
+is_within kind.Direct members = is_alone members
+is_within kind.Chance members = is_alone members
+is_within kind.Udp members = false
+
+-- a start may fail: over sockets, and of a node of its own over a network within one process
+abbrev pub may_fail : FabricKind → Local → Bool
+may_fail fabric members = is_within fabric members || is_udp fabric
 
 -- in memory it tells its starts and what that network tells, and is honest; over sockets it tells nothing
 abbrev pub host_told : HostState → Network

@@ -3,13 +3,13 @@
 ghost use Rattle.std.specs.Prelude.{◌≡◌, ◌≤◌, false, true, length, [], IfOk, IfNone, IsErrOf, OnOk, OnErr, if◌then◌else◌};
 ghost use Rattle.norm_base.specs.Faults.{Counts, network_failed};
 ghost use Rattle.norm_base.specs.Network.{Starts, answer_of, IsHonestAnswer};
-ghost use Rattle.norm_host.specs.Hosting.{is_chance, is_direct, is_udp, network_of, host_told, host_unstarted, host_started, host_failed, host_offer, host_take};
+ghost use Rattle.norm_host.specs.Hosting.{is_chance, is_direct, is_udp, is_alone, is_within, may_fail, network_of, host_told, host_unstarted, host_started, host_failed, host_offer, host_take};
 ghost use Rattle.norm_memory.specs.Chances.{chance_started};
 ghost use Rattle.norm_memory.specs.Networks.{started, next_answer};
 
 use norm_base::{Datagram, Fabric, FabricFault, FabricKind, Local, Memory, NodeId, Profile};
 use norm_memory::{ChanceFabric, DirectFabric};
-use norm_udp::{Senders, SocketCause, UdpFabric};
+use norm_udp::{Misfit, PassesOver, Senders, SocketCause, UdpFabric};
 use std::alloc::Global;
 use std::marker::Model;
 use std::net::Net;
@@ -38,7 +38,30 @@ fn begin<R: Net + Wait + Clock + Drop>(
     }
 }
 
-/// The network that the profile of its last start names, and before one a direct network. Where that is of sockets, it tells nothing, and a call may fail.
+/// Whether members are one node of its own, or the hub.
+fn is_alone(local: &Local) -> bool
+    ensures { result ≡ is_alone local.now }
+{
+    match local {
+        Local::All => false,
+        Local::One(_) => true,
+        Local::Hub => true,
+    }
+}
+
+/// Whether a node of its own, or the hub, is to begin over a network within one process.
+fn is_within(profile: &Profile, local: &Local) -> bool
+    ensures { result ≡ is_within profile.now.fabric local.now }
+{
+    match profile.fabric {
+        FabricKind::Direct => is_alone(local),
+        FabricKind::Chance => is_alone(local),
+        FabricKind::Udp => false,
+    }
+}
+
+/// The network that the profile of its last start names, and before one a direct network. A node of its own and the hub begin over sockets alone. Over
+/// sockets it tells nothing, and a call may fail.
 #[derive(Drop)]
 pub struct HostFabric<R> {
     starts: Vec<(Profile, Local)>,
@@ -46,6 +69,8 @@ pub struct HostFabric<R> {
     direct: DirectFabric,
     chance: ChanceFabric,
     udp: UdpFabric<R>,
+    /// What the last start was about, if it failed before any socket was asked for.
+    refused: Option<SocketCause>,
     faults: u64,
 }
 
@@ -72,18 +97,34 @@ impl<R: Net + Wait + Clock + Drop> HostFabric<R> {
             direct: DirectFabric::new(alloc)?,
             chance: ChanceFabric::new(alloc)?,
             udp: UdpFabric::new(alloc, rt)?,
+            refused: None,
             faults: 0,
         })
     }
 
-    /// Waits until threads have sent all that was offered, for some seconds at most: before the process ends, and they with it.
-    pub fn drain(&self) {
-        self.udp.drain();
+    /// Waits until threads have sent all that was offered, for some seconds at most: before the process ends, and they with it. Answers what one of
+    /// them failed at, if no call told it.
+    pub fn drain(&self) -> Option<SocketCause> {
+        self.udp.drain()
     }
 
     /// What the last failed call was about. `None` before one.
     pub fn cause(&self) -> Option<&SocketCause> {
-        self.udp.cause()
+        match &self.refused {
+            Some(cause) => Some(cause),
+            None => self.udp.cause(),
+        }
+    }
+
+    /// A start over a network within one process, of a node that needs another, fails, and is counted.
+    fn refuse(&mut self, fabric: FabricKind) -> Result<(), FabricFault>
+        ensures failed { IsErrOf result FabricFault.Failed }
+        ensures state { self.new ≡ host_failed self.old }
+        ensures counted { Counts self.old.faults self.new.faults true }
+    {
+        self.faults = self.faults.saturating_add(1);
+        self.refused = Some(SocketCause::Within { fabric });
+        Err(FabricFault::Failed)
     }
 
     /// What a call answers. One that failed is counted.
@@ -94,6 +135,7 @@ impl<R: Net + Wait + Clock + Drop> HostFabric<R> {
     {
         if let Err(FabricFault::Failed) = done {
             self.faults = self.faults.saturating_add(1);
+            self.refused = None;
         }
         done
     }
@@ -121,12 +163,16 @@ impl<R: Net + Wait + Clock + Drop> Fabric for HostFabric<R> {
 
     fn start(&mut self, profile: &Profile, local: Local) -> Result<(), FabricFault>
         ensures state { OnOk result (self.new ≡ host_started self.old profile.now local) }
-        ensures failed { IsErrOf result FabricFault.Failed → (self.new ≡ host_failed self.old) × (is_udp profile.now.fabric ≡ true) }
+        ensures failed { IsErrOf result FabricFault.Failed → (self.new ≡ host_failed self.old) × (may_fail profile.now.fabric local ≡ true) }
+        ensures within { is_within profile.now.fabric local ≡ true → IsErrOf result FabricFault.Failed }
         ensures memory { IsErrOf result FabricFault.Memory → self.new ≡ self.old }
         ensures ok { OnOk result (Starts (host_told self.old) (host_told self.new) profile.now local) }
         ensures err { OnErr result (host_told self.new ≡ host_told self.old) }
         ensures cause { Counts self.old.faults self.new.faults (network_failed result) }
     {
+        if is_within(profile, &local) {
+            return self.refuse(profile.fabric);
+        }
         if self.starts.reserve(1).is_err() {
             return Err(FabricFault::Memory);
         }
@@ -184,5 +230,15 @@ impl<R: Net + Wait + Clock + Drop> Fabric for HostFabric<R> {
 
     fn faults(&self) -> u64 {
         self.faults
+    }
+}
+
+impl<R: Net + Wait + Clock + Drop> PassesOver for HostFabric<R> {
+    fn passed_over(&self) -> u64 {
+        self.udp.passed_over()
+    }
+
+    fn misfit(&self) -> Option<Misfit> {
+        self.udp.misfit()
     }
 }
