@@ -1,6 +1,9 @@
 //! normd: a reliable multicast sender and receiver after NORM (RFC 5740). All that it does stands in `norm_program`.
 #![tactic(auto)]
 
+mod numbering;
+
+use crate::numbering::{Numbers, number};
 use norm_base::Memory;
 use norm_host::{FolderFiles, HostClock, HostFabric, StdSink, StdSource};
 use norm_program::{WordsFault, arguments, needed, path_asked, run, say_cause};
@@ -38,6 +41,19 @@ fn tell(
     Ok(())
 }
 
+/// Numbers a send, where the words were read and ask for one.
+fn numbered(
+    rt: HostRuntime,
+    alloc: Global,
+    words: &mut Result<Vec<String>, WordsFault>,
+    files: &mut FolderFiles<HostRuntime>,
+) -> Result<Option<Numbers>, Memory> {
+    match words {
+        Ok(words) => number(rt, alloc, words, files),
+        Err(_) => Ok(None),
+    }
+}
+
 /// Whether the words ask for a hub or for a sender, which send much.
 fn sends_much(words: &Result<Vec<String>, WordsFault>) -> bool {
     match words {
@@ -71,7 +87,7 @@ fn main(rt: HostRuntime) -> ExitCode {
     }
     let says = asked_in(&rt);
     let tally = Tally::new();
-    let words = arguments(&rt);
+    let mut words = arguments(&rt);
     let mut fabric = match needed(&rt, network(rt, alloc, &words)) {
         Ok(fabric) => WatchedFabric::of(rt, fabric, says, &tally),
         Err(code) => return code,
@@ -83,8 +99,13 @@ fn main(rt: HostRuntime) -> ExitCode {
     if let Err(code) = needed(&rt, tell(alloc, &words, &mut files)) {
         return code;
     }
+    let numbers = match needed(&rt, numbered(rt, alloc, &mut words, &mut files)) {
+        Ok(numbers) => numbers,
+        Err(code) => return code,
+    };
     let mut input = StdSource::of(rt.reader());
-    let mut output = WatchedSink::of(rt, StdSink::of(io::writer(&rt)), says, &tally);
+    let sink = StdSink::of(io::writer(&rt));
+    let mut output = WatchedSink::of(rt, sink, says, &tally, numbers);
     let mut clock = HostClock::of(rt);
     let code = run(
         &rt,

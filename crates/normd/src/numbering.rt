@@ -1,0 +1,163 @@
+//! The instance of a send: where neither its words nor its profile give one, it is drawn above each that this user's earlier sends took, and put into the
+//! words. One that is given is kept, so that later sends lie above it.
+
+use norm_base::{InstanceId, Memory, Profile};
+use norm_host::{FolderFiles, InstanceFault, InstanceFile, minute_at, state_folder};
+use norm_profile::{Document, LoadFault, load_document};
+use norm_watch::Restarts;
+use norm_words::{NodeTask, node_task_of};
+use std::alloc::Global;
+use std::io;
+use std::time::Clock;
+
+/// Where the numbers of one sender are kept.
+#[derive(Drop)]
+pub(crate) struct Numbers {
+    rt: HostRuntime,
+    file: InstanceFile<HostRuntime>,
+    port: u16,
+}
+
+impl Numbers {
+    /// Those of the sender of a profile. `None` if there is no folder to keep them in.
+    fn of(rt: HostRuntime, alloc: Global, profile: &Profile) -> Result<Option<Numbers>, Memory> {
+        let Some(folder) = state_folder(&rt)? else {
+            return Ok(None);
+        };
+        Ok(Some(Numbers {
+            rt,
+            file: InstanceFile::of(alloc, rt, folder, profile)?,
+            port: profile.port,
+        }))
+    }
+
+    /// Keeps an instance that was given. One that does not lie above the last one is used all the same, and standard error warns. So is one that cannot
+    /// be kept: whoever gives instances sees to it that they rise.
+    fn keep(&self, instance: InstanceId) {
+        if let Ok(Some(last)) = self.file.keep(instance) {
+            let instance = instance.0;
+            let last = last.0;
+            let port = self.port;
+            let _ = eprintln!(self.rt;
+                "instance {instance} is not above {last}, the last one used at port {port}: receivers that run since then pass it over, or take it for what they have"
+            );
+        }
+    }
+
+    /// Takes the next instance, by the clock.
+    fn draw(&self) -> io::Result<InstanceId> {
+        let now = self.rt.since_1970()?;
+        self.file.draw(minute_at(now))
+    }
+
+    /// What to say if none could be taken.
+    fn into_fault(self, error: io::Error) -> InstanceFault {
+        self.file.into_fault(error)
+    }
+}
+
+impl Restarts for Numbers {
+    fn restarted(&mut self, instance: InstanceId) {
+        self.keep(instance);
+    }
+}
+
+/// What words ask for of a send.
+#[derive(Drop)]
+struct Asked {
+    path: String,
+    instance: Option<u32>,
+}
+
+/// What the words ask, if they ask for a send.
+fn asked_by(alloc: Global, words: &[String]) -> Result<Option<Asked>, Memory> {
+    match node_task_of(alloc, words)? {
+        Some(NodeTask::Send { profile, instance }) => Ok(Some(Asked {
+            path: profile.into_inner(),
+            instance,
+        })),
+        _ => Ok(None),
+    }
+}
+
+/// What the profile at a path is. `None` if it cannot be loaded, which the program says where it loads it.
+fn document_at(rt: HostRuntime, alloc: Global, path: &str) -> Result<Option<Document>, Memory> {
+    let mut files = FolderFiles::of(alloc, rt, ".")?;
+    files.tell(path)?;
+    match load_document(alloc, &mut files, path) {
+        Ok(document) => Ok(Some(document)),
+        Err(LoadFault::Memory) => Err(Memory),
+        Err(_) => Ok(None),
+    }
+}
+
+/// Puts an instance into the words, behind the first.
+fn put(alloc: Global, words: &mut Vec<String>, instance: InstanceId) -> Result<(), Memory> {
+    let instance = instance.0;
+    let word = format!(in alloc; "--instance={instance}")?;
+    if !words.is_empty() {
+        words.insert(1, word)?;
+    }
+    Ok(())
+}
+
+/// Keeps the instance that the words or the profile give, if there is a place for it.
+fn keep_given(numbers: &Option<Numbers>, given: u32) {
+    let Ok(instance) = u16::try_from(given) else {
+        return;
+    };
+    if let Some(numbers) = numbers {
+        numbers.keep(InstanceId(instance));
+    }
+}
+
+/// Draws an instance and puts it into the words. If none can be drawn the files are stopped, so that nothing is sent.
+fn draw(
+    alloc: Global,
+    numbers: Option<Numbers>,
+    words: &mut Vec<String>,
+    files: &mut FolderFiles<HostRuntime>,
+) -> Result<Option<Numbers>, Memory> {
+    let Some(numbers) = numbers else {
+        files.stop(InstanceFault::NoFolder);
+        return Ok(None);
+    };
+    match numbers.draw() {
+        Ok(instance) => {
+            put(alloc, words, instance)?;
+            Ok(Some(numbers))
+        }
+        Err(error) => {
+            files.stop(numbers.into_fault(error));
+            Ok(None)
+        }
+    }
+}
+
+/// Numbers a send, if the words ask for one whose profile can be loaded: keeps the instance that the words or the profile give, or else draws one and
+/// puts it into the words. Answers where the instances of its restarts are kept.
+///
+/// # Errors
+///
+/// `Memory` where memory runs out.
+pub(crate) fn number(
+    rt: HostRuntime,
+    alloc: Global,
+    words: &mut Vec<String>,
+    files: &mut FolderFiles<HostRuntime>,
+) -> Result<Option<Numbers>, Memory> {
+    let Some(asked) = asked_by(alloc, words)? else {
+        return Ok(None);
+    };
+    let Some(document) = document_at(rt, alloc, asked.path.as_str())? else {
+        return Ok(None);
+    };
+    let numbers = Numbers::of(rt, alloc, &document.profile)?;
+    match asked.instance.or(document.instance) {
+        Some(given) => {
+            keep_given(&numbers, given);
+            Ok(numbers)
+        }
+        None => draw(alloc, numbers, words, files),
+    }
+}
