@@ -9,6 +9,8 @@ mod folder;
 #[cfg(test)]
 mod host;
 #[cfg(test)]
+mod instances;
+#[cfg(test)]
 mod journal;
 #[cfg(test)]
 mod memory;

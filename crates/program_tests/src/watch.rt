@@ -4,11 +4,11 @@
 ghost use Rattle.std.specs.Prelude.{None, false};
 
 use norm_base::{
-    DATAGRAM_ROOM, Datagram, Fabric, FabricFault, FabricKind, Given, Key, Local, NodeId, Profile,
-    Sink,
+    DATAGRAM_ROOM, Datagram, Fabric, FabricFault, FabricKind, Given, InstanceId, Key, Local,
+    NodeId, Profile, Sink,
 };
 use norm_memory::MemSink;
-use norm_watch::{Says, Tally, WatchedFabric, WatchedSink, end_progress};
+use norm_watch::{Restarts, Says, Tally, WatchedFabric, WatchedSink, end_progress};
 use std::alloc::Global;
 use std::cell::{Cell, RefCell};
 use std::fmt::{Display, Write};
@@ -94,6 +94,19 @@ impl Fabric for Laid<'_> {
     }
 }
 
+/// Says the instances with which a sender goes on.
+#[derive(Drop)]
+struct Noted<'a> {
+    seen: &'a Seen,
+}
+
+impl Restarts for Noted<'_> {
+    fn restarted(&mut self, instance: InstanceId) {
+        let instance = instance.0;
+        let _ = eprintln!(self.seen; "restarted {instance}");
+    }
+}
+
 /// What happens to a node.
 #[derive(Clone, Copy)]
 enum Step {
@@ -148,7 +161,7 @@ const REPAIR: &[u8] = b"\x12\x08\0\0\0\0\0\x01\0\x07\0\x01\x01\x05\0\0";
 
 const SOURCE: &[u8] = b"\x12\x08\0\0\0\0\0\x01\0\x07\0\x01\0\x05\0\0";
 
-const ROWS: [Row; 10] = [
+const ROWS: [Row; 11] = [
     // Nine seconds are no silence; it is said once, and again after something came.
     Row {
         fabric: FabricKind::Udp,
@@ -289,6 +302,24 @@ const ROWS: [Row; 10] = [
         ],
         said: "\r\x1b[K0 octets, 0 objects, 0 repairs, 0 receivers past the oldest watermark\r\x1b[Koffer 2 0f\n",
     },
+    // A restart is told of as its line is written, with the instance that it begins, and no other line is.
+    Row {
+        fabric: FabricKind::Udp,
+        step: 0,
+        node: 1,
+        says: PROGRESS,
+        steps: &[
+            Step::Writes(b"enq 1 1 7 0 data 5\n"),
+            Step::Writes(b"restart 1 2 8\n"),
+            Step::Writes(b"no 1 3 id-used 8\n"),
+            Step::Looks,
+            Step::Waits(1),
+            Step::Looks,
+            Step::Writes(b"restart 4 4096 65535\n"),
+            Step::Ends,
+        ],
+        said: "restarted 8\n\r\x1b[K5 octets, 1 objects, 0 repairs, 0 receivers past the oldest watermark\r\x1b[Krestarted 65535\n",
+    },
     // So do lines of output that go to the same terminal.
     Row {
         fabric: FabricKind::Udp,
@@ -330,7 +361,7 @@ struct Watched<'a> {
     next: &'a Cell<&'static [u8]>,
     tally: &'a Tally,
     fabric: WatchedFabric<'a, &'a Seen, Laid<'a>>,
-    sink: WatchedSink<'a, &'a Seen, MemSink>,
+    sink: WatchedSink<'a, &'a Seen, MemSink, Noted<'a>>,
     into: Datagram,
 }
 
@@ -389,7 +420,7 @@ fn said_by(alloc: Global, row: &Row) -> Result<String, Fail> {
         next: &next,
         tally: &tally,
         fabric: WatchedFabric::of(&seen, Laid { next: &next }, row.says, &tally),
-        sink: WatchedSink::of(&seen, sink, row.says, &tally),
+        sink: WatchedSink::of(&seen, sink, row.says, &tally, Noted { seen: &seen }),
         into: Datagram::new(alloc)?,
     };
     let local = NodeId::of(row.node).map_or(Local::Hub, Local::One);

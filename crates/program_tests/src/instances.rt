@@ -1,0 +1,181 @@
+//! Which instances a sender's file gives and keeps, by what it holds and by the minute. The answers are worked out by hand.
+
+use norm_base::{InstanceId, Profile};
+use norm_host::InstanceFile;
+use std::alloc::Global;
+use std::fmt::Write;
+use std::fs;
+use std::test::Fail;
+
+/// The folder of the test, and the file in it of a profile with the keys' defaults.
+const FOLDER: &str = "norm_host_instances";
+
+const FILE: &str = "norm_host_instances/40000-1";
+
+/// A call of the file: an instance is drawn in a minute, or one that was given is kept.
+#[derive(Clone, Copy)]
+enum Call {
+    Draw(u16),
+    Keep(u16),
+}
+
+/// What the file holds, if it is there; the calls, their answers, and what it holds then.
+struct Row {
+    held: Option<&'static [u8]>,
+    calls: &'static [Call],
+    answers: &'static str,
+    holds: &'static [u8],
+}
+
+const ROWS: [Row; 8] = [
+    Row {
+        held: None,
+        calls: &[
+            Call::Draw(100),
+            Call::Draw(100),
+            Call::Draw(100),
+            Call::Draw(101),
+            Call::Draw(101),
+            Call::Draw(99),
+            Call::Draw(107),
+            Call::Draw(107),
+        ],
+        answers: "100 101 102 103 104 105 107 108 ",
+        holds: b"108\n",
+    },
+    // Behind the last id comes 0.
+    Row {
+        held: Some(b"65535\n"),
+        calls: &[
+            Call::Draw(65_535),
+            Call::Draw(65_000),
+            Call::Draw(1),
+            Call::Draw(2),
+        ],
+        answers: "0 1 2 3 ",
+        holds: b"3\n",
+    },
+    // A clock that is behind.
+    Row {
+        held: Some(b"33012\n"),
+        calls: &[Call::Draw(33_000)],
+        answers: "33013 ",
+        holds: b"33013\n",
+    },
+    // One that is as far ahead as an id may be, and one that is farther: then its minute lies below.
+    Row {
+        held: Some(b"100\n"),
+        calls: &[Call::Draw(32_867)],
+        answers: "32867 ",
+        holds: b"32867\n",
+    },
+    Row {
+        held: Some(b"100\n"),
+        calls: &[Call::Draw(32_868)],
+        answers: "101 ",
+        holds: b"101\n",
+    },
+    Row {
+        held: Some(b"0\n"),
+        calls: &[Call::Draw(0)],
+        answers: "1 ",
+        holds: b"1\n",
+    },
+    // One that is given is kept if it lies above the last one.
+    Row {
+        held: None,
+        calls: &[
+            Call::Keep(7),
+            Call::Keep(7),
+            Call::Keep(6),
+            Call::Keep(32_775),
+            Call::Keep(32_774),
+            Call::Draw(1),
+            Call::Keep(5),
+        ],
+        answers: "kept 7 7 7 kept 1 kept ",
+        holds: b"5\n",
+    },
+    Row {
+        held: Some(b"32000\n"),
+        calls: &[Call::Keep(1), Call::Draw(0)],
+        answers: "32000 32001 ",
+        holds: b"32001\n",
+    },
+];
+
+/// What a file may hold that is no line of a number: both calls are refused, and it goes on to hold it.
+const NO_NUMBERS: [&[u8]; 10] = [
+    b"",
+    b"\n",
+    b"33012",
+    b"33012\n\n",
+    b"033\n",
+    b"65536\n",
+    b"+5\n",
+    b"-1\n",
+    b"1 \n",
+    b"\xff\n",
+];
+
+const BOTH: &[Call] = &[Call::Draw(100), Call::Keep(100)];
+
+/// What a call answers: an instance that was drawn, `kept`, the last instance where one is kept no more, or `refused`.
+fn answer(file: &InstanceFile<HostRuntime>, call: Call, answers: &mut String) -> Result<(), Fail> {
+    let instance = match call {
+        Call::Draw(minute) => file.draw(InstanceId(minute)).map(Some),
+        Call::Keep(instance) => file.keep(InstanceId(instance)),
+    };
+    match instance {
+        Ok(Some(instance)) => {
+            let instance = instance.0;
+            write!(answers, "{instance} ")?;
+        }
+        Ok(None) => answers.push_str("kept ")?,
+        Err(_) => answers.push_str("refused ")?,
+    }
+    Ok(())
+}
+
+/// Lays a file of the test, and answers what a row's calls answer.
+fn answers(rt: HostRuntime, alloc: Global, row: &Row) -> Result<String, Fail> {
+    let _ = fs::remove_dir_all(&rt, FOLDER);
+    if let Some(held) = row.held {
+        fs::create_dir(&rt, FOLDER)?;
+        fs::write(&rt, FILE, held)?;
+    }
+    let folder = String::from_str(alloc, FOLDER)?;
+    let file = InstanceFile::of(alloc, rt, folder, &Profile::default())?;
+    let mut answers = String::new(alloc);
+    for call in row.calls {
+        answer(&file, *call, &mut answers)?;
+    }
+    Ok(answers)
+}
+
+/// Compares what a row's calls answer, and what the file holds then.
+fn compare(rt: HostRuntime, at: usize, row: &Row) -> Result<(), Fail> {
+    let answers = answers(rt, rt.alloc(), row)?;
+    assert!(rt; answers.as_str() == row.answers, "row {at}: {answers}");
+    let holds = fs::read(&rt, FILE)?;
+    assert!(rt; holds.as_slice() == row.holds, "row {at} holds {holds:?}");
+    Ok(())
+}
+
+#[test]
+fn instances_rise_from_send_to_send(rt: HostRuntime) -> Result<(), Fail> {
+    for (at, row) in ROWS.iter().enumerate() {
+        compare(rt, at, row)?;
+    }
+    for (at, held) in NO_NUMBERS.iter().enumerate() {
+        let row = Row {
+            held: Some(held),
+            calls: BOTH,
+            answers: "refused refused ",
+            holds: held,
+        };
+        compare(rt, at, &row)?;
+    }
+    fs::remove_dir_all(&rt, FOLDER)?;
+    Ok(())
+}
