@@ -537,6 +537,123 @@ unsent 1 'no key is set here: keys are set before every command' 'set e 64\n1 da
 unsent 3 "$contents" '1 data 61\n1 open\n1 data 6\n'
 unsent 2 'the producer is 2, and there are 1' '\n2 data 61\n'
 
+# Which instance a send takes, by what the user's folder keeps of the send before it. The port is no other row's.
+state=$scratch/numbers at=$((port + 13)) kept=$scratch/numbers/normd/$((port + 13))-1
+printf 'fabric = "udp"\nport = %s\nstep = 0\n' $at >"$scratch/unnumbered"
+printf 'fabric = "udp"\nport = %s\nstep = 0\ninstance = 20000\n' $at >"$scratch/numbered"
+printf '1 data 61\n' >"$scratch/in"
+sent='0 data 1\nend objects 1 octets 1 handed 0 lost 0 satisfied 0 expired 0 cut 0\n'
+advice='give --instance I, or the key instance\n'
+export XDG_STATE_HOME="$state"
+
+# keeps TEXT: the folder keeps this, and nothing else. holds NAME TEXT: it keeps this behind a send.
+keeps() {
+    rm -rf "$state"
+    mkdir -p "$state/normd" || exit 1
+    printf '%b' "$1" >"$kept"
+}
+
+holds() {
+    printf '%b' "$2" | cmp -s - "$kept" || { echo "program: after $1 the kept number is"; cat "$kept"; exit 1; }
+}
+
+# minute: the one since 1970, of 65,536. next LAST: the instance that comes after this one in this minute: the minute, if it is less than half of all
+# ids ahead, or the next id; the minute if LAST is none.
+minute() {
+    echo $(($(date +%s) / 60 % 65536))
+}
+
+next() {
+    now=$(minute)
+    rise=$(((now + 65536 - ${1:-$((now - 1))}) % 65536))
+    if [ $rise -ge 1 ] && [ $rise -le 32767 ]; then echo "$now"; else echo $((($1 + 1) % 65536)); fi
+}
+
+# drawn NAME LAST: a send draws the instance that comes after this one, by the minute before it or the one after it, and keeps it.
+drawn() {
+    before=$(next "$2")
+    (cd "$files" && exec "$program" send "$scratch/unnumbered") <"$scratch/in" >"$scratch/out" 2>"$scratch/err"
+    ended $? "$1" 0
+    said "$1"
+    taken=$(sed -n 's/^enq 1 1 \([0-9]*\) 0 data 1$/\1/p' "$scratch/out")
+    [ "$taken" = "$before" ] || [ "$taken" = "$(next "$2")" ] || { echo "program: $1 draws $taken, and not $before"; exit 1; }
+    holds "$1" "$taken\n"
+}
+
+now=$(minute)
+rm -rf "$state"
+drawn 'a first send' ''
+[ "$(stat -c %a "$state" "$state/normd" "$kept" | xargs)" = '700 700 600' ] || { echo 'program: others may see what is kept'; ls -lR "$state"; exit 1; }
+for last in 65535 65534 0 "$now" $(((now + 100) % 65536)) $(((now + 65436) % 65536)) $(((now + 32668) % 65536)) $(((now + 32868) % 65536)); do
+    keeps "$last\n"
+    drawn "a send after the instance $last" "$last"
+done
+
+# Eight at once draw eight: one of them has the port.
+last=$(((now + 1000) % 65536)) eight=''
+keeps "$last\n"
+for _ in 1 2 3 4 5 6 7 8; do
+    "$program" send "$scratch/unnumbered" <"$scratch/in" >/dev/null 2>&1 &
+    eight="$eight $!"
+done
+# shellcheck disable=SC2086 # each is a process of its own
+wait $eight
+holds 'eight sends at once' "$(((last + 8) % 65536))\n"
+
+# One that is given is kept if it is above the last one, and else it is used with a warning. So is that of a restart.
+passed() {
+    echo "instance $1 is not above $2, the last one used at port $at: receivers that run since then pass it over, or take it for what they have\n"
+}
+
+rm -rf "$state"
+row 'a first send of a given instance' 0 "enq 1 1 20000 $sent" send "$scratch/numbered"
+holds 'a given instance' '20000\n'
+reason=$(passed 20000 20000)
+row 'a send of the same instance' 0 "enq 1 1 20000 $sent" send "$scratch/numbered"
+reason=$(passed 1 20000)
+row 'a send of an instance below' 0 "enq 1 1 1 $sent" send "$scratch/numbered" --instance 1
+holds 'an instance below' '20000\n'
+row 'a send of an instance above' 0 "enq 1 1 20007 $sent" send "$scratch/unnumbered" --instance 20007
+holds 'an instance above' '20007\n'
+printf '1 data 61\n1 restart 20011\n1 restart 20010\n1 data 61\n' >"$scratch/in"
+restarted='restart 1 2 20011\nrestart 1 3 20010\nenq 1 4 20010 0 data 1\nend objects 2 octets 2 handed 0 lost 0 satisfied 0 expired 0 cut 0\n'
+reason=$(passed 20010 20011)
+row 'a send that restarts' 0 "enq 1 1 20008 0 data 1\n$restarted" send "$scratch/numbered" --instance=20008
+holds 'a restart' '20011\n'
+printf '1 data 61\n' >"$scratch/in"
+
+# No place for it: nothing is sent, unless an instance is given.
+for held in 'x\n' '\n' '' '65536\n' '033\n' '33012' '33012\n\n'; do
+    keeps "$held"
+    reason="cannot keep the instance in $kept: it holds no number from 0 to 65535: $advice"
+    row "a send after '$held'" 7 'fault files\n' send "$scratch/unnumbered"
+    holds "a send that was refused" "$held"
+    row "a send of a given instance after '$held'" 0 "enq 1 1 20000 $sent" send "$scratch/numbered"
+    holds "a given instance" "$held"
+done
+export XDG_STATE_HOME="$files/hi.txt"
+reason="cannot keep the instance in $files/hi.txt/normd/$at-1: Not a directory (os error 20): $advice"
+row 'a send without a folder' 7 'fault files\n' send "$scratch/unnumbered"
+row 'a send of a given instance without a folder' 0 "enq 1 1 20000 $sent" send "$scratch/numbered"
+home=$HOME
+unset XDG_STATE_HOME HOME
+reason="neither XDG_STATE_HOME nor HOME is set to a path that begins with a slash: $advice"
+row 'a send without a variable' 7 'fault files\n' send "$scratch/unnumbered"
+row 'a send of a given instance without a variable' 0 "enq 1 1 20000 $sent" send "$scratch/numbered"
+export HOME="$scratch/home" XDG_STATE_HOME=numbers
+row 'a send of a given instance in a home' 0 "enq 1 1 20000 $sent" send "$scratch/numbered"
+kept=$scratch/home/.local/state/normd/$at-1
+holds 'a send in a home' '20000\n'
+export HOME="$home" XDG_STATE_HOME="$state"
+
+# Nobody but `send` keeps a number: a session restarts by itself, and its members are all new.
+rm -rf "$state"
+printf '1 data 61\n1 restart 8\n' >"$scratch/in"
+row 'a session that restarts' 0 'enq 1 1 1 0 data 1\nup 2 1 0 data 1 - 61\nrestart 1 2 8\nend objects 1 octets 1 handed 1 lost 0 satisfied 0 expired 0 cut 0\n' session
+"$program" send "$scratch/none.toml" </dev/null >/dev/null 2>&1
+[ ! -e "$state" ] || { echo 'program: a number is kept of no send'; ls -lR "$state"; exit 1; }
+export XDG_STATE_HOME="$scratch/state"
+
 # Datagrams, and lines that spell none.
 printf '1908000000000001\n\n1304E4DB0000000183CD53C40600FF3E' >"$scratch/in"
 row 'datagrams of which one is refused' 9 'refused type 9\nackreq 1 58587 33741 83.12.4 255 62 -\n' show
