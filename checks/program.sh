@@ -136,15 +136,28 @@ row 'a session' 0 'enq 1 1 7 0 data 5\nup 2 7 0 data 5 - 68656c6c6f\nend objects
 words 'no word says what to do'
 words 'the word sessions is unknown' sessions
 words 'the word normd is unknown' normd session
-takes_profile='takes one word, the path of a profile'
+send_takes='send takes one word, the path of a profile, and --instance I, from 0 to 65535, at most once'
+hub_takes='hub takes one word, the path of a profile'
 recv_takes='recv takes two words, the path of a profile and a node, from 1 to 4294967294'
-words "send $takes_profile" send
-words "send $takes_profile" send one two
-words "hub $takes_profile" hub --help
+words "$send_takes" send
+words "$send_takes" send one two
+words "$send_takes" send one --help
+words "$send_takes" send --instance 1
+words "$send_takes" send one --instance
+words "$send_takes" send one --instance=
+words "$send_takes" send one --instance 01
+words "$send_takes" send one --instance +1
+words "$send_takes" send one --instance -1
+words "$send_takes" send one --instance 65536
+words "$send_takes" send one --instance 1 --instance=1
+words "$send_takes" send one --port 1
+words "$hub_takes" hub --help
+words "$hub_takes" hub one --instance 1
 words "$recv_takes" recv profile
 words "$recv_takes" recv profile 0
 words "$recv_takes" recv profile 02
 words "$recv_takes" recv profile 4294967295
+words "$recv_takes" recv profile 2 --instance 1
 session_takes='session takes --chance N, from 0 to 4294967295, and --turns N, from 1 to 4000000, each at most once, and no other word'
 words "$session_takes" session now
 words "$session_takes" session --help
@@ -519,6 +532,15 @@ ended $? 'a hub that says how far it is' 0
 silent out
 progress err
 [ "$(tail -c 1 "$scratch/err" | od -An -tx1)" = ' 0a' ] || { echo 'program: a hub does not end its line'; cat "$scratch/err"; exit 1; }
+
+# An instance that the words give stands in place of the profile's. Each is above the one before, and the port is no other row's.
+printf 'fabric = "udp"\nport = %s\nstep = 0\ninstance = 7\n' $((port + 11)) >"$scratch/numbered"
+printf '1 data 61\n' >"$scratch/in"
+one_object='0 data 1\nend objects 1 octets 1 handed 0 lost 0 satisfied 0 expired 0 cut 0\n'
+row 'a sender in the greatest instance' 0 "enq 1 1 65535 $one_object" send "$scratch/numbered" --instance 65535
+row 'a sender in the least instance' 0 "enq 1 1 0 $one_object" send --instance=0 "$scratch/numbered"
+row 'a sender in the instance of its profile' 0 "enq 1 1 7 $one_object" send "$scratch/numbered"
+
 hello=120800000000000100074041000500000000000040030000000000050040406068656c6c6f
 NORMD_LOG=trace "$program" session <examples/hello.norm >"$scratch/out" 2>"$scratch/err"
 ended $? 'a session whose datagrams are traced' 0

@@ -11,7 +11,7 @@ use Rattle.norm_words.specs.declared.node_tasks.NodeTask.{NodeTask}
 use Rattle.norm_words.specs.declared.node_tasks.NodeTask.TheVariants.{Send, Receive, Hub}
 use Rattle.norm_words.specs.declared.tasks.Task.{Task}
 use Rattle.norm_words.specs.declared.tasks.Task.TheVariants.{Session, Show, Generate}
-use Rattle.norm_program.specs.Asked.{Asked, Members, Sender}
+use Rattle.norm_program.specs.Asked.{Asked, Members, Sender, with_instance}
 use Rattle.norm_program.specs.Commands.{EndsNode, EndsTask, EndsAsked, EndsBy}
 use Rattle.norm_program.specs.Ends.{Outside, Says, EndsScript, absent_line}
 use Rattle.norm_program.specs.GenerateEnds.{GenerateEnds}
@@ -159,8 +159,8 @@ node_shows : (task : Option NodeTask) (ending : Ending) (before after : Outside)
 node_shows None ending before after h =
     let P : Ending → Type 0 = λ e. Shows e before after in
     subst P (sym h.0) tt
-node_shows (Some (Send path)) ending before after h =
-    under_shows path EndsSender ending before after (λ p ends. script_shows (Sender p) ending before after ends) h
+node_shows (Some (Send path instance)) ending before after h =
+    under_shows path (EndsSender instance) ending before after (λ p ends. script_shows (Sender (with_instance instance p)) ending before after ends) h
 node_shows (Some (Receive path node)) ending before after h =
     under_shows path (EndsReceiver node) ending before after (λ p ends. receiver_shows node p ending before after ends) h
 node_shows (Some (Hub path)) ending before after h =

@@ -1,6 +1,6 @@
 -- What is to be run of the input: the script of a session, with what the words put in place of its keys, or that of a sender whose
 -- profile is given.
-use Rattle.std.specs.Prelude.{◌≡◌, ℕ, List, ◌++◌, Bool, true, false, Some, Result, Ok, Err, codes, unwrap_or}
+use Rattle.std.specs.Prelude.{◌≡◌, ℕ, List, ◌++◌, Bool, true, false, Option, Some, Result, Ok, Err, codes, unwrap_or}
 use Rattle.std.specs.Fmt.{decimal}
 use Rattle.std.specs.Result.{result_map_both}
 use Rattle.norm_base.specs.Settings.{Settings}
@@ -13,6 +13,10 @@ use Rattle.norm_words.specs.declared.tasks.Options.{Options}
 -- a profile with what the options give in place of its own
 abbrev pub profile_with : Options → Settings → Settings
 profile_with options p = record p { chance = unwrap_or options.chance p.chance; turns = unwrap_or options.turns p.turns }
+
+-- the profile of a sender, with the instance that is given in place of its own
+abbrev pub with_instance : Option ℕ → Settings → Settings
+with_instance instance p = record p { instance = unwrap_or instance p.instance }
 
 abbrev pub script_with : Options → Commands → Commands
 script_with options script = record script { profile = profile_with options script.profile }

@@ -21,7 +21,7 @@ use Rattle.norm_program.specs.declared.status.Ending.TheVariants.{Words, Memory}
 -- what was asked for of a node ended so, under the profile at its path; words that ask for nothing are refused
 abbrev pub EndsNode : Option NodeTask → Ending → Outside → Outside → Type 0
 EndsNode None ending before after = (ending ≡ Words) × RefusedWords before after
-EndsNode (Some (Send path)) ending before after = EndsUnder path EndsSender ending before after
+EndsNode (Some (Send path instance)) ending before after = EndsUnder path (EndsSender instance) ending before after
 EndsNode (Some (Receive path node)) ending before after = EndsUnder path (EndsReceiver node) ending before after
 EndsNode (Some (Hub path)) ending before after = EndsUnder path EndsHub ending before after
 
@@ -68,6 +68,6 @@ KeepsFiles _ before after = after ≡ before
 -- the path of the profile that is asked for
 abbrev pub path_asked : Option NodeTask → Option (List ℕ)
 path_asked None = None
-path_asked (Some (Send path)) = Some path
+path_asked (Some (Send path instance)) = Some path
 path_asked (Some (Receive path node)) = Some path
 path_asked (Some (Hub path)) = Some path

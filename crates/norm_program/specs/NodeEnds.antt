@@ -1,5 +1,5 @@
 -- How one node of a session over a network ends, and what each ending says. Its profile is loaded first.
-use Rattle.std.specs.Prelude.{◌≡◌, ℕ, ◌+◌, List, ◌⊎◌, true, false, codes, Ok, Err}
+use Rattle.std.specs.Prelude.{◌≡◌, ℕ, ◌+◌, List, ◌⊎◌, true, false, codes, Option, Ok, Err}
 use Rattle.norm_base.specs.Faults.{one_more, counted}
 use Rattle.norm_base.specs.Members.{is_receiver}
 use Rattle.norm_base.specs.Settings.{Settings}
@@ -14,7 +14,7 @@ use Rattle.norm_profile.specs.declared.loading.LoadFault.TheVariants as load
 use Rattle.norm_profile.specs.declared.refusal.ProfileRefusal.{ProfileRefusal}
 use Rattle.norm_session.specs.declared.fault.SessionFault.{SessionFault}
 use Rattle.norm_session.specs.declared.fault.SessionFault.TheVariants as fault
-use Rattle.norm_program.specs.Asked.{Sender}
+use Rattle.norm_program.specs.Asked.{Sender, with_instance}
 use Rattle.norm_program.specs.Ends.{Outside, Says, Undisturbed, absent_line, EndsScript, IsAbsentEnding}
 use Rattle.norm_program.specs.declared.status.Ending.{Ending}
 use Rattle.norm_program.specs.declared.status.Ending.TheVariants.{Done, Memory, Profile, Write, Fabric, Files, Absent}
@@ -197,6 +197,6 @@ EndsHub p ending before after = EndsBroken (BrokenHub p before) ending before af
 
 -- ---- the sender
 
--- how a sender that is alone ends, under a profile
-abbrev pub EndsSender : Settings → Ending → Outside → Outside → Type 0
-EndsSender p ending before after = EndsScript (Sender p) ending before after
+-- how a sender that is alone ends, under a profile with the instance that is given in place of its own
+abbrev pub EndsSender : Option ℕ → Settings → Ending → Outside → Outside → Type 0
+EndsSender instance p ending before after = EndsScript (Sender (with_instance instance p)) ending before after

@@ -17,7 +17,7 @@ abbrev pub generate_takes : List ℕ
 generate_takes = codes "generate takes one word, a number from 0 to 4294967295"
 
 abbrev pub send_takes : List ℕ
-send_takes = codes "send takes one word, the path of a profile"
+send_takes = codes "send takes one word, the path of a profile, and --instance I, from 0 to 65535, at most once"
 
 abbrev pub recv_takes : List ℕ
 recv_takes = codes "recv takes two words, the path of a profile and a node, from 1 to 4294967294"

@@ -1,10 +1,10 @@
 //! The program: what its words ask for, and how that ends it.
 
-ghost use Rattle.std.specs.Prelude.{◌≡◌, map, string_bytes, Some, MatchResult};
+ghost use Rattle.std.specs.Prelude.{◌≡◌, map, string_bytes, Some, IfSome, MatchResult};
 ghost use Rattle.std.specs.Process.{exit_status};
 ghost use Rattle.norm_program.specs.Commands.{EndsNode, EndsTask, EndsOther, EndsBy, EndsWith, EndsUnread, KeepsFiles};
 ghost use Rattle.norm_program.specs.Ends.{outside, called_as};
-ghost use Rattle.norm_words.specs.Fits.{FitsTask};
+ghost use Rattle.norm_words.specs.Fits.{FitsNode, FitsTask};
 ghost use Rattle.norm_words.specs.NodeTasks.{node_task_of};
 
 use crate::generate::write_script;
@@ -67,6 +67,7 @@ fn end_node<R: Threads + Wait + Sync, S: Source, K: Sink, F: Fabric, D: Files, C
     files: &mut D,
     clock: &mut C,
 ) -> Ending
+    requires { FitsNode task }
     ensures ends { EndsNode (Some task) result
         (outside (S.left input.old) (K.pieces output.old) (S.fault_count input.old) (K.fault_count output.old)
         (called_as (F.told fabric.old) (D.contents files.old) (C.moments clock.old) (F.fault_count fabric.old) (D.fault_count files.old)))
@@ -75,7 +76,9 @@ fn end_node<R: Threads + Wait + Sync, S: Source, K: Sink, F: Fabric, D: Files, C
     ensures files { KeepsFiles (Some task) (D.contents files.old) (D.contents files.new) }
 {
     match task {
-        NodeTask::Send(path) => end_send(rt, alloc, path, input, output, fabric, files, clock),
+        NodeTask::Send { profile, instance } => end_send(
+            rt, alloc, profile, instance, input, output, fabric, files, clock,
+        ),
         NodeTask::Receive(path, node) => {
             end_receive(alloc, path, node, output, fabric, files, clock)
         }
@@ -94,6 +97,7 @@ fn end_other<R: Threads + Wait + Sync, S: Source, K: Sink, F: Fabric, D: Files, 
     files: &mut D,
     clock: &mut C,
 ) -> Ending
+    requires { IfSome task FitsNode }
     ensures ends { EndsNode task result
         (outside (S.left input.old) (K.pieces output.old) (S.fault_count input.old) (K.fault_count output.old)
         (called_as (F.told fabric.old) (D.contents files.old) (C.moments clock.old) (F.fault_count fabric.old) (D.fault_count files.old)))

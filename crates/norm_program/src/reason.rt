@@ -24,7 +24,8 @@ const SESSION_TAKES: &str =
 const GENERATE_TAKES: &str = "generate takes one word, a number from 0 to 4294967295";
 
 /// What `send` takes.
-const SEND_TAKES: &str = "send takes one word, the path of a profile";
+const SEND_TAKES: &str =
+    "send takes one word, the path of a profile, and --instance I, from 0 to 65535, at most once";
 
 /// What `recv` takes.
 const RECV_TAKES: &str =

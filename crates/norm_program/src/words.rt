@@ -65,7 +65,7 @@ fn path_of(task: Option<NodeTask>) -> Option<Text>
     ensures { result ≡ path_asked task }
 {
     match task {
-        Some(NodeTask::Send(path)) => Some(path),
+        Some(NodeTask::Send { profile, .. }) => Some(profile),
         Some(NodeTask::Receive(path, _)) => Some(path),
         Some(NodeTask::Hub(path)) => Some(path),
         None => None,

@@ -22,9 +22,9 @@ show_form = new_app (codes "show")
 abbrev pub generate_form : App
 generate_form = with_rule (new_app (codes "generate")) (word_named (codes "N"))
 
--- send PROFILE
+-- send PROFILE [--instance I]
 abbrev pub send_form : App
-send_form = with_rule (new_app (codes "send")) (word_named (codes "PROFILE"))
+send_form = with_rule (with_rule (new_app (codes "send")) (word_named (codes "PROFILE"))) (option_named (codes "instance"))
 
 -- recv PROFILE NODE
 abbrev pub recv_form : App

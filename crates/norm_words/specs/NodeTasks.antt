@@ -2,8 +2,10 @@
 use Rattle.std.specs.Prelude.{ℕ, List, [], ◌∷◌, Option, None, Some, codes, if◌then◌else◌, option_and_then}
 use Rattle.std.specs.Option.{option_map}
 use Rattle.clap.specs.Words.{Row, first_of}
+use Rattle.norm_base.specs.declared.key.Key.TheVariants as key
 use Rattle.norm_script.specs.Words.{is_text, number_within}
 use Rattle.norm_words.specs.Forms.{send_form, recv_form, hub_form, found_in}
+use Rattle.norm_words.specs.Tasks.{value_given}
 use Rattle.norm_words.specs.declared.node_tasks.NodeTask.{NodeTask}
 use Rattle.norm_words.specs.declared.node_tasks.NodeTask.TheVariants as task
 
@@ -11,9 +13,19 @@ use Rattle.norm_words.specs.declared.node_tasks.NodeTask.TheVariants as task
 abbrev pub profile_in : List Row → Option (List ℕ)
 profile_in rows = first_of (codes "PROFILE") rows
 
+-- the instance that an option gives: none, or a number that the key may have; None where it gives another word
+abbrev pub instance_in : List Row → Option (Option ℕ)
+instance_in rows = value_given key.Instance (first_of (codes "instance") rows)
+
 -- the number of the node
 abbrev pub node_in : List Row → Option ℕ
 node_in rows = option_and_then (number_within 1 4294967294) (first_of (codes "NODE") rows)
+
+-- the path, and the instance if one is given, where no other word stands in its place
+abbrev pub send_of : Option (List ℕ) → Option (Option ℕ) → Option NodeTask
+send_of None given = None
+send_of (Some profile) None = None
+send_of (Some profile) (Some instance) = Some (task.Send profile instance)
 
 -- both words, where the second is the number of a node
 abbrev pub receive_of : Option (List ℕ) → Option ℕ → Option NodeTask
@@ -22,7 +34,7 @@ receive_of (Some profile) None = None
 receive_of (Some profile) (Some number) = Some (task.Receive profile number)
 
 abbrev pub send_in : List (List ℕ) → Option NodeTask
-send_in words = option_and_then (λ rows. option_map task.Send (profile_in rows)) (found_in send_form words)
+send_in words = option_and_then (λ rows. send_of (profile_in rows) (instance_in rows)) (found_in send_form words)
 
 abbrev pub receive_in : List (List ℕ) → Option NodeTask
 receive_in words = option_and_then (λ rows. receive_of (profile_in rows) (node_in rows)) (found_in recv_form words)

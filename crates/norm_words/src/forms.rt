@@ -37,12 +37,13 @@ pub(crate) fn generate_form<'a>(alloc: Global) -> Result<Command<'a>, AllocError
     Ok(command)
 }
 
-/// `send PROFILE`.
+/// `send PROFILE [--instance I]`.
 pub(crate) fn send_form<'a>(alloc: Global) -> Result<Command<'a>, AllocError>
     ensures { IfOk result (λ command. app_of command ≡ send_form) }
 {
     let profile = Arg::new(alloc, "PROFILE").required(true);
-    let command = Command::new(alloc, "send").arg(profile)?;
+    let instance = Arg::new(alloc, "instance").long("instance");
+    let command = Command::new(alloc, "send").arg(profile)?.arg(instance)?;
     Ok(command)
 }
 

@@ -34,7 +34,7 @@ pub enum Task {
 }
 
 /// The value of a key that an option may give. `None` where the option's word is no number that the key may have.
-fn value_given(key: Key, word: Option<&str>) -> Option<Option<u32>>
+pub(crate) fn value_given(key: Key, word: Option<&str>) -> Option<Option<u32>>
     ensures value { result ≡ value_given key (option_map (λ w. w.now) word.entry) }
     ensures fits { IfSome result (λ given. IfSome given (IsValue key)) }
 {

@@ -16,11 +16,12 @@ returns-in-Ok-clause-ends g c =
     let writes = g.K.Sink.fault_count in
     let left = g.S.Source.left in
     let reads = g.S.Source.fault_count in
-    loaded_ends c.args.path EndsSender c.send.result c.in-Ok.profile (left c.args.input.now) (pieces c.args.output.now) (pieces c.load.new.output) (reads c.args.input.now)
+    let ends = rw c.with_instance-profile.ensures at c.send.ensures.ends in
+    loaded_ends c.args.path (EndsSender c.args.instance) c.send.result c.in-Ok.loaded (left c.args.input.now) (pieces c.args.output.now) (pieces c.load.new.output) (reads c.args.input.now)
     (writes c.args.output.now) (writes c.load.new.output) (told c.args.fabric.now) (contents c.args.files.now) (contents c.load.new.files)
     (moments c.args.clock.now) (calls c.args.fabric.now) (failed c.args.files.now) (failed c.load.new.files)
     (outside (left c.send.new.input) (pieces c.send.new.output) (reads c.send.new.input) (writes c.send.new.output) (called_as (told c.send.new.fabric) (contents c.send.new.files) (moments c.send.new.clock) (calls c.send.new.fabric) (failed c.send.new.files)))
-    c.in-Ok.ensures.unwritten c.in-Ok.ensures.quiet.0 c.in-Ok.ensures.same c.in-Ok.ensures.quiet.1 c.in-Ok.ensures.profile c.send.ensures.ends
+    c.in-Ok.ensures.unwritten c.in-Ok.ensures.quiet.0 c.in-Ok.ensures.same c.in-Ok.ensures.quiet.1 c.in-Ok.ensures.profile ends
 
 -- where there is none
 pub returns-in-Err-clause-ends : goal.returns-in-Err-clause-ends
