@@ -139,7 +139,7 @@ fn taken<F: Fabric>(alloc: Global, fabric: &mut F, all: &mut Vec<u8>) -> Result<
 }
 
 /// What a step that takes nothing answered.
-pub(crate) fn called<F: Fabric>(fabric: &mut F, port: u16, step: Step) -> u8 {
+fn called<F: Fabric>(fabric: &mut F, port: u16, step: Step) -> u8 {
     match step {
         Step::StartAll => started(fabric, port, FabricKind::Udp, Some(Local::All)),
         Step::StartOne(number) => {

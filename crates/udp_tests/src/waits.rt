@@ -1,7 +1,7 @@
 //! How long a take waits, by a clock that adds up what is slept.
 
-use crate::calls::{Step, called, port_of};
-use norm_base::{Datagram, Fabric, FabricFault};
+use crate::calls::{port_of, profile_of};
+use norm_base::{Datagram, Fabric, FabricFault, FabricKind, Local, NodeId};
 use norm_udp::UdpFabric;
 use std::alloc::Global;
 use std::cell::Cell;
@@ -67,13 +67,29 @@ impl<R> Clock for Timed<'_, R> {
     }
 }
 
-/// What a network is started with, and what is offered after some takes.
-const ROWS: [(Step, Step); 4] = [
-    (Step::StartAll, Step::Offer(1, b"a")),
-    (Step::StartOne(1), Step::Offer(1, b"a")),
-    (Step::StartOne(2), Step::Offer(2, b"a")),
-    (Step::StartHub, Step::Offer(1, b"a")),
+/// Which members of a session of two receivers a network is started with.
+#[derive(Clone, Copy)]
+enum With {
+    All,
+    One(u32),
+    Hub,
+}
+
+/// What a network is started with, and which member offers after some takes.
+const ROWS: [(With, u32); 4] = [
+    (With::All, 1),
+    (With::One(1), 1),
+    (With::One(2), 2),
+    (With::Hub, 1),
 ];
+
+fn local_of(with: With) -> Option<Local> {
+    match with {
+        With::All => Some(Local::All),
+        With::One(number) => NodeId::of(number).map(Local::One),
+        With::Hub => Some(Local::Hub),
+    }
+}
 
 /// Microseconds of the longest of a few takes.
 fn longest_take<F: Fabric>(
@@ -97,12 +113,17 @@ fn longest_of<F: Fabric>(
     fabric: &mut F,
     port: u16,
     moment: &Cell<u64>,
-    row: (Step, Step),
+    row: (With, u32),
 ) -> Result<u64, FabricFault> {
-    let (start, offer) = row;
-    called(fabric, port, start);
+    let (with, number) = row;
+    let profile = profile_of(port, FabricKind::Udp, 2);
+    let (Some(profile), Some(local), Some(node)) = (profile, local_of(with), NodeId::of(number))
+    else {
+        return Err(FabricFault::Failed);
+    };
+    fabric.start(&profile, local)?;
     let before = longest_take(alloc, fabric, moment)?;
-    called(fabric, port, offer);
+    fabric.offer(node, b"a")?;
     let after = longest_take(alloc, fabric, moment)?;
     Ok(before.max(after))
 }
