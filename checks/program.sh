@@ -450,6 +450,105 @@ start_send whole
 all_have whole
 end_nodes
 silent on.hub.out on.hub.err on.2.err on.3.err on.4.err
+# What is passed over, and what is said of it, once each. Each profile differs from the others in one key.
+head -c 20000 /dev/zero >"$files/zeros"
+symbols=313
+here=$(printf 'fabric = "udp"\nport = %s\nstep = 0\ne = 64\ngrtt = 40000\ninstance = 12' "$port")
+printf '%s\n' "$here" >"$scratch/profile"
+
+# sends NAME KEY SCRIPT LINE: a sender whose profile has this key, whose datagrams are traced, and whose output has this line.
+sends() {
+    { printf '%s\n' "$here" | grep -v "^${2%% *} "; echo "$2"; } >"$scratch/other"
+    printf '%b' "$3" >"$scratch/in"
+    (cd "$files" && NORMD_LOG=trace exec "$program" send "$scratch/other") <"$scratch/in" >"$scratch/out" 2>"$scratch/err"
+    ended $? "$1" 0
+    grep -qx "$4" "$scratch/out" || { echo "program: $1 does not have '$4' in"; cat "$scratch/out"; exit 1; }
+}
+
+# tells FILE TEXT: a node says this, and nothing else.
+tells() {
+    awaits "$1" "$(printf '%b' "$2" | tail -n 1)"
+    cp "$scratch/$1" "$scratch/err"
+    reason=$2
+    said "$1"
+    rows=$((rows + 1))
+}
+
+# misfit NAME SENDER RECEIVER WHY: a sender and a receiver with these keys, which do not fit. Nothing is repaired, and the watermark names the receiver.
+misfit() {
+    { printf '%s\n' "$here"; echo "$3"; } >"$scratch/misfit"
+    node "$1.hub" hub ../profile
+    node "$1.2" recv ../misfit 2
+    sends "a sender with '$2' before a receiver with '$3'" "$2" '1 file zeros\n1 mark\n' 'done 1 expired 2'
+    sent=$(grep -c '^offer 1 12' "$scratch/err")
+    { [ "$sent" -ge $symbols ] && [ "$sent" -lt $((2 * symbols)) ]; } || { echo "program: the $1 sender sent $sent symbols"; exit 1; }
+    tells "$1.2.err" "$4: nothing of instance 12 is taken\n"
+    silent "$1.2.out" "$1.hub.err"
+    end_nodes
+}
+
+misfit wide 'b = 80' '' 'sender 1 sends with e 64, b 80, max_n 96, and this profile has 64, 64, 96'
+misfit long '' 'octets = 10000' "sender 1 sends an object of 20000 octets, and this profile's octets are 10000"
+
+# One forged datagram cuts nobody off: DATA that fits ends that.
+node forged.hub hub ../profile
+node forged.2 recv ../profile 2
+python3 - $((port + 2)) <<'END' || { echo 'program: nobody takes a forged datagram'; exit 1; }
+import socket, sys, time
+forged = bytes.fromhex('1208000000000001000c4041000500000000000040030000000000050080406068656c6c6f')
+out = socket.socket(socket.AF_INET, socket.SOCK_DGRAM)
+out.connect(('127.0.0.1', int(sys.argv[1])))
+for _ in range(2000):
+    try:
+        out.send(forged)
+        out.send(forged)  # fails where nobody had the first
+        sys.exit(0)
+    except ConnectionRefusedError:
+        time.sleep(0.01)
+sys.exit(1)
+END
+tells forged.2.err 'sender 1 sends with e 128, b 64, max_n 96, and this profile has 64, 64, 96: nothing of instance 12 is taken\n'
+sends 'a sender after a forged datagram' '' '1 data 61\n1 mark\n' 'done 1 satisfied'
+end_nodes
+
+# An older instance, and another sender.
+older='datagrams of instance 5 come, and this receiver is in 12: they are passed over\n'
+node older.hub hub ../profile
+node older.2 recv ../profile 2
+sends 'a sender in instance 12' '' '1 data 61\n1 mark\n' 'done 1 satisfied'
+sends 'a sender in an older instance' 'instance = 5' '1 data 62\n1 mark\n' 'done 1 expired 2'
+tells older.2.err "$older"
+sends 'another sender' 'sender = 9' '1 data 62\n1 mark\n' 'done 1 expired 10'
+tells older.2.err "${older}datagrams of sender 9 come, and the profile's sender is 1\n"
+end_nodes
+echo 'up 2 12 0 data 1 - 61' | cmp -s - "$scratch/older.2.out" || { echo 'program: a receiver wrote'; cat "$scratch/older.2.out"; exit 1; }
+
+# A hub that is killed.
+node killed.hub hub ../profile
+end_nodes
+printf '1 data 61\n1 mark\n' >"$scratch/in"
+reason="nothing came to 127.0.0.1:$((port + 1))\nthe hub is to be at 127.0.0.1:$port\n"
+row 'a sender whose hub was killed' 0 'enq 1 1 12 0 data 1\nmark 1 2 12 1 0 0 0\ndone 1 expired 2\nend objects 1 octets 1 handed 0 lost 0 satisfied 0 expired 1 cut 0\n' send "$scratch/profile"
+
+# A hub whose turns are spent while a member still sends.
+python3 - "$port" >"$scratch/sending" <<'END' &
+import socket, sys, time
+port = int(sys.argv[1])
+out = socket.socket(socket.AF_INET, socket.SOCK_DGRAM)
+out.bind(('127.0.0.1', port + 1))
+for number in range(10000):
+    out.sendto(b'?', ('127.0.0.1', port))
+    if number == 0:
+        print('sends', flush=True)
+    time.sleep(0.002)
+END
+nodes=$!
+awaits sending sends
+printf '%s\nturns = 1000\n' "$here" >"$scratch/profile"
+: >"$scratch/in"
+reason='the 1000 turns are spent, and datagrams still came\n'
+row 'a hub whose turns are spent' 0 '' hub "$scratch/profile"
+end_nodes
 
 # Ports that another process has.
 python3 - "$port" >"$scratch/held" <<'END' &
@@ -503,9 +602,25 @@ refuses 'the key e takes a whole number from 64 to 1400' 'e = "64"\n'
 refuses 'the key e takes a whole number from 64 to 1400' 'e = 63\n'
 refuses 'the key mode takes "hold" or "drop"' 'mode = 1\n'
 refuses 'the key max_n is 3, and less than b, 4' 'b = 4\nmax_n = 3\n'
-printf 'turns = 3\n' >"$scratch/profile"
+# within FABRIC: nodes of their own over a network within one process.
+within() {
+    printf 'turns = 3\nfabric = "%s"\n' "$1" >"$scratch/profile"
+    for node in send recv hub; do
+        reason="the fabric is $1, a network within one process: a node of its own needs fabric = \"udp\"\n"
+        case $node in
+            recv) row "$node over the fabric $1" 6 'fault fabric\n' recv "$scratch/profile" 2 ;;
+            *) row "$node over the fabric $1" 6 'fault fabric\n' "$node" "$scratch/profile" ;;
+        esac
+    done
+}
+
 : >"$scratch/in"
+within direct
+within chance
+printf 'turns = 3\nfabric = "udp"\nport = %s\nstep = 0\ninstance = 1\n' "$port" >"$scratch/profile"
+reason='the 3 turns are spent\n'
 row 'a receiver that hears nothing' 0 '' recv "$scratch/profile" 2
+reason='the 3 turns are spent\n'
 row 'a hub that hears nothing' 0 '' hub "$scratch/profile"
 row 'a sender with nothing to do' 0 "$none" send "$scratch/profile"
 reason='the node 3 is no receiver of the profile, whose receivers are 2 to 2\n'
@@ -514,22 +629,26 @@ row 'a hub without its profile' 7 'absent ../none.toml\n' hub ../none.toml
 row 'a sender without its profile' 7 'absent ../none.toml\n' send ../none.toml
 row 'a receiver without its profile' 7 'absent ../none.toml\n' recv ../none.toml 2
 printf '1 data 61\n1 data 62\n' >"$scratch/in"
-printf 'turns = 1\n' >"$scratch/profile"
+printf 'turns = 1\nfabric = "udp"\nport = %s\nstep = 0\ninstance = 1\n' "$port" >"$scratch/profile"
 row 'a sender whose turns are spent' 8 'enq 1 1 1 0 data 1\nend objects 1 octets 1 handed 0 lost 0 satisfied 0 expired 0 cut 0\nturns spent\n' send "$scratch/profile"
 
 # What is said of a node at work: a step that is none for sockets, and each datagram.
 : >"$scratch/in"
 printf 'fabric = "udp"\nport = %s\nturns = 1\n' "$port" >"$scratch/profile"
 step="the profile's step is 1000: over sockets it is to be 0, so that the clock gives the moments\n"
-reason=$step
+reason="${step}the 1 turns are spent\n"
 row 'a receiver by steps over sockets' 0 '' recv "$scratch/profile" 2
 reason=$step
 row 'a sender by steps over sockets' 0 "$none" send "$scratch/profile"
+reason='the 1 turns are spent\n'
 row 'a hub by steps over sockets' 0 '' hub "$scratch/profile"
 printf 'fabric = "udp"\nport = %s\nstep = 0\nturns = 1200\n' "$port" >"$scratch/profile"
 NORMD_PROGRESS=1 "$program" hub "$scratch/profile" <"$scratch/in" >"$scratch/out" 2>"$scratch/err"
 ended $? 'a hub that says how far it is' 0
 silent out
+# The line of progress ends before what is said after it.
+[ "$(tail -n 1 "$scratch/err")" = 'the 1200 turns are spent' ] || { echo 'program: a hub does not end its line'; cat "$scratch/err"; exit 1; }
+sed -i '$d' "$scratch/err"
 progress err
 [ "$(tail -c 1 "$scratch/err" | od -An -tx1)" = ' 0a' ] || { echo 'program: a hub does not end its line'; cat "$scratch/err"; exit 1; }
 
@@ -730,12 +849,12 @@ if (ulimit -v 200000) 2>/dev/null; then
     said 'a script that does not fit in memory'
 fi
 
-awaits unheard.err 'nothing came'
+awaits unheard.err 'the hub is to be'
 kill "$unheard"
 wait "$unheard" 2>/dev/null
 unheard=''
 cp "$scratch/unheard.err" "$scratch/err"
-reason="nothing came to 127.0.0.1:$((port + 10)) for ten seconds\n"
+reason="nothing came to 127.0.0.1:$((port + 10)) for ten seconds\nthe hub is to be at 127.0.0.1:$((port + 8))\n"
 said 'a receiver to which nothing comes'
 silent unheard.out
 echo "program: $((rows + 1)) rows passed"

@@ -4,35 +4,86 @@ ghost use Rattle.std.specs.Prelude.{◌≡◌};
 ghost use Rattle.norm_watch.specs.Watched.{watched_by};
 
 use crate::saying::{Hex, Says, draw, wipe};
+use crate::silence::Silence;
+use crate::stray::Strays;
 use crate::tally::Tally;
 use norm_base::{Datagram, Fabric, FabricFault, FabricKind, Local, NodeId, Profile};
+use norm_udp::PassesOver;
+use std::fmt;
 use std::time::{Clock, Duration};
-
-/// How many seconds nothing comes until that is said.
-const SILENCE: u64 = 10;
 
 /// How many seconds there are from one line of progress to the next.
 const PAUSE: u64 = 1;
 
-/// The clock is read at one take in so many. Where nothing comes each sleeps a millisecond, so that they are well under a second.
+/// The clock is read at one take in this many. If nothing comes each sleeps a millisecond, so that they are well under a second.
 const TAKES: u32 = 64;
 
 /// The place of a datagram's first octet of a header, and of its flags.
 const FLAGS: usize = 12;
 
-/// A node's own address is at this port, if it has one, and it takes at it alone.
-fn port_of(profile: &Profile, local: &Local) -> Option<u32> {
+/// What a node is.
+#[derive(Clone, Copy)]
+enum Role {
+    Sender,
+    Receiver,
+    Hub,
+}
+
+/// A node over sockets, in a process of its own.
+#[derive(Clone, Copy)]
+struct Node {
+    role: Role,
+    /// The port that it takes at.
+    port: u32,
+    /// The hub's port.
+    hub: u32,
+    /// The turns of its profile.
+    turns: u32,
+}
+
+/// What a process is that has one node. `None` if all members are in it.
+fn role_of(profile: &Profile, local: &Local) -> Option<Role> {
+    match local {
+        Local::One(node) => {
+            if node.number() == profile.sender {
+                Some(Role::Sender)
+            } else {
+                Some(Role::Receiver)
+            }
+        }
+        Local::Hub => Some(Role::Hub),
+        Local::All => None,
+    }
+}
+
+/// How many ports a node is behind the hub.
+fn place_of(profile: &Profile, local: &Local) -> u32 {
+    match local {
+        Local::One(node) => node.number().wrapping_sub(profile.sender).wrapping_add(1),
+        Local::All | Local::Hub => 0,
+    }
+}
+
+/// The node that a process is over sockets. `None` in memory, and if all members are in it.
+fn node_of(profile: &Profile, local: &Local) -> Option<Node> {
     if profile.fabric != FabricKind::Udp {
         return None;
     }
+    let role = role_of(profile, local)?;
     let hub = u32::from(profile.port);
-    match local {
-        Local::One(node) => {
-            let place = node.number().wrapping_sub(profile.sender);
-            Some(hub.wrapping_add(1).wrapping_add(place))
-        }
-        Local::Hub => Some(hub),
-        Local::All => None,
+    Some(Node {
+        role,
+        port: hub.wrapping_add(place_of(profile, local)),
+        hub,
+        turns: profile.turns,
+    })
+}
+
+/// The moment, as a clock has it.
+fn moment<R: Clock>(rt: &R) -> Duration {
+    match rt.monotonic() {
+        Ok(now) => now,
+        Err(_) => Duration::ZERO,
     }
 }
 
@@ -61,23 +112,22 @@ pub struct WatchedFabric<'a, R, F> {
     fabric: F,
     says: Says,
     tally: &'a Tally,
-    /// The port that this node takes at, over sockets in a process of its own.
-    port: Option<u32>,
+    /// The node that this process is over sockets, alone.
+    node: Option<Node>,
+    /// What a receiver's rules pass over.
+    strays: Option<Strays>,
+    /// How many datagrams the network itself passed over, as far as that was looked at.
+    passed: u64,
     /// Whether repairs are counted as they are taken, and not only as they are offered.
     counts_takes: bool,
     /// How many takes go by before the clock is read.
     takes_left: u32,
-    /// Whether a datagram was taken since the clock was read.
-    has_heard: bool,
-    /// The first moment that was read after a datagram was taken last, or at which the network begun.
-    heard: Duration,
-    /// Whether it was said that nothing came.
-    is_silent: bool,
+    silence: Silence,
     /// When a line of progress was drawn last.
     drawn: Duration,
 }
 
-impl<'a, R: Eprint + Clock, F: Fabric> WatchedFabric<'a, R, F> {
+impl<'a, R: Eprint + Clock, F: Fabric + PassesOver> WatchedFabric<'a, R, F> {
     /// A network around this one. It says what it is to say on standard error, and counts repairs there.
     pub fn of(rt: R, fabric: F, says: Says, tally: &'a Tally) -> WatchedFabric<'a, R, F>
         ensures { watched_by result ≡ fabric }
@@ -87,12 +137,12 @@ impl<'a, R: Eprint + Clock, F: Fabric> WatchedFabric<'a, R, F> {
             fabric,
             says,
             tally,
-            port: None,
+            node: None,
+            strays: None,
+            passed: 0,
             counts_takes: false,
             takes_left: 0,
-            has_heard: false,
-            heard: Duration::ZERO,
-            is_silent: false,
+            silence: Silence::from(Duration::ZERO),
             drawn: Duration::ZERO,
         }
     }
@@ -102,11 +152,36 @@ impl<'a, R: Eprint + Clock, F: Fabric> WatchedFabric<'a, R, F> {
         &self.fabric
     }
 
-    /// The moment, as the clock has it.
-    fn now(&self) -> Duration {
-        match self.rt.monotonic() {
-            Ok(now) => now,
-            Err(_) => Duration::ZERO,
+    /// Says something, on a line of its own.
+    fn say<D: fmt::Display>(&self, what: &D) {
+        wipe(&self.rt, self.tally);
+        let _ = eprintln!(self.rt; "{what}");
+    }
+
+    /// Says that nothing came to a node, and how long, and where the hub is to be.
+    fn say_unheard(&self, node: &Node, how_long: &str) {
+        let port = node.port;
+        wipe(&self.rt, self.tally);
+        let _ = eprintln!(self.rt; "nothing came to 127.0.0.1:{port}{how_long}");
+        if !matches!(node.role, Role::Hub) {
+            let hub = node.hub;
+            let _ = eprintln!(self.rt; "the hub is to be at 127.0.0.1:{hub}");
+        }
+    }
+
+    /// Says that all turns were made. It is for a receiver or a hub that ended well, which only that ends; a sender says nothing.
+    pub fn say_spent(&self) {
+        let Some(node) = self.node else {
+            return;
+        };
+        if matches!(node.role, Role::Sender) {
+            return;
+        }
+        let turns = node.turns;
+        if self.silence.is_broken(moment(&self.rt)) {
+            let _ = eprintln!(self.rt; "the {turns} turns are spent, and datagrams still came");
+        } else {
+            let _ = eprintln!(self.rt; "the {turns} turns are spent");
         }
     }
 
@@ -114,13 +189,13 @@ impl<'a, R: Eprint + Clock, F: Fabric> WatchedFabric<'a, R, F> {
     fn begin(&mut self, profile: &Profile, local: &Local)
         ensures { watched_by self.new ≡ watched_by self.old }
     {
-        self.port = port_of(profile, local);
+        self.node = node_of(profile, local);
+        self.strays = Strays::of(profile, local);
+        self.passed = 0;
         self.counts_takes = counts_takes(local);
         self.takes_left = 0;
-        self.has_heard = false;
-        self.heard = self.now();
-        self.is_silent = false;
-        if self.port.is_some() && !matches!(local, Local::Hub) && profile.step != 0 {
+        self.silence = Silence::from(moment(&self.rt));
+        if self.node.is_some() && !matches!(local, Local::Hub) && profile.step != 0 {
             let step = profile.step;
             wipe(&self.rt, self.tally);
             let _ = eprintln!(self.rt;
@@ -156,21 +231,55 @@ impl<'a, R: Eprint + Clock, F: Fabric> WatchedFabric<'a, R, F> {
         }
     }
 
-    /// Reads the clock: whether anything was heard since it was read last, or for ten seconds nothing, and whether progress is to be drawn.
-    fn watch(&mut self, port: u32)
+    /// Notes what a receiver took. What its rules pass over for good is said.
+    fn hear(&mut self, octets: &[u8])
         ensures { watched_by self.new ≡ watched_by self.old }
     {
-        let now = self.now();
-        if self.has_heard {
-            self.heard = now;
-            self.has_heard = false;
-            self.is_silent = false;
-        } else if !self.is_silent
-            && now.saturating_sub(self.heard) >= Duration::from_secs(SILENCE)
-        {
-            self.is_silent = true;
-            wipe(&self.rt, self.tally);
-            let _ = eprintln!(self.rt; "nothing came to 127.0.0.1:{port} for ten seconds");
+        let Some(strays) = &mut self.strays else {
+            return;
+        };
+        let Some(heard) = strays.unusual(octets) else {
+            return;
+        };
+        let stray = strays.hear(&heard, moment(&self.rt));
+        if let Some(stray) = stray {
+            self.say(&stray);
+        }
+    }
+
+    /// Looks whether the network itself passed over a datagram, which came too. Of the first one it is said why.
+    fn look_passed(&mut self)
+        ensures { watched_by self.new ≡ watched_by self.old }
+    {
+        let passed = self.fabric.passed_over();
+        if passed == self.passed {
+            return;
+        }
+        if self.passed == 0 {
+            if let Some(misfit) = self.fabric.misfit() {
+                self.say(&misfit);
+            }
+        }
+        self.passed = passed;
+        self.silence.note();
+    }
+
+    /// Looks whether a watermark of a sender expired to which nothing ever came.
+    fn look_expired(&mut self, node: &Node)
+        ensures { watched_by self.new ≡ watched_by self.old }
+    {
+        if self.tally.has_expired.get() && self.silence.expire() {
+            self.say_unheard(node, "");
+        }
+    }
+
+    /// Reads the clock: whether nothing came for ten seconds, and whether progress is to be drawn.
+    fn watch(&mut self, node: &Node)
+        ensures { watched_by self.new ≡ watched_by self.old }
+    {
+        let now = moment(&self.rt);
+        if self.silence.read(now) {
+            self.say_unheard(node, " for ten seconds");
         }
         self.draw(now);
     }
@@ -179,22 +288,24 @@ impl<'a, R: Eprint + Clock, F: Fabric> WatchedFabric<'a, R, F> {
     fn took(&mut self, is_some: bool)
         ensures { watched_by self.new ≡ watched_by self.old }
     {
-        let Some(port) = self.port else {
+        let Some(node) = self.node else {
             return;
         };
         if is_some {
-            self.has_heard = true;
+            self.silence.note();
         }
+        self.look_passed();
+        self.look_expired(&node);
         if self.takes_left > 0 {
             self.takes_left -= 1;
             return;
         }
         self.takes_left = TAKES - 1;
-        self.watch(port);
+        self.watch(&node);
     }
 }
 
-impl<R: Eprint + Clock, F: Fabric> Fabric for WatchedFabric<'_, R, F> {
+impl<R: Eprint + Clock, F: Fabric + PassesOver> Fabric for WatchedFabric<'_, R, F> {
     ghost told = { λ w. F.told (watched_by w) };
 
     ghost fault_count = { λ w. F.fault_count (watched_by w) };
@@ -219,6 +330,7 @@ impl<R: Eprint + Clock, F: Fabric> Fabric for WatchedFabric<'_, R, F> {
             if self.counts_takes {
                 self.count(into.bytes());
             }
+            self.hear(into.bytes());
         }
         self.took(taken.is_some());
         Ok(taken)

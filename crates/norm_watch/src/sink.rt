@@ -142,6 +142,12 @@ fn count(tally: &Tally, listing: &mut Listing, line: &[u8]) {
     tally.past.set(listing.count());
 }
 
+/// Whether a line says that a watermark expired: `done M expired`, and the members that are left.
+fn is_expiry(line: &[u8]) -> bool {
+    let words = words_of(line);
+    words[0] == b"done".as_slice() && words[2] == b"expired".as_slice()
+}
+
 impl<R: Eprint, K: Sink, T: Restarts> Sink for WatchedSink<'_, R, K, T> {
     ghost pieces = { λ s. K.pieces (watched_in s) };
 
@@ -153,6 +159,9 @@ impl<R: Eprint, K: Sink, T: Restarts> Sink for WatchedSink<'_, R, K, T> {
         }
         self.sink.write(bytes)?;
         self.tell(bytes);
+        if is_expiry(bytes) {
+            self.tally.has_expired.set(true);
+        }
         if self.says.progress {
             count(self.tally, &mut self.listing, bytes);
         }

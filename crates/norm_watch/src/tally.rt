@@ -3,13 +3,15 @@
 use std::cell::Cell;
 
 /// What the sink and the network of a node count together: octets and objects of the lines, a stream as one object, repairs of the datagrams, and
-/// of the members that are listed how many are past the oldest open watermark; and whether a line of progress is drawn.
+/// of the members that are listed how many are past the oldest open watermark; whether a watermark expired, and whether a line of progress is drawn.
 #[derive(Drop)]
 pub struct Tally {
     pub(crate) octets: Cell<u64>,
     pub(crate) objects: Cell<u64>,
     pub(crate) repairs: Cell<u64>,
     pub(crate) past: Cell<u64>,
+    /// Whether a watermark expired.
+    pub(crate) has_expired: Cell<bool>,
     /// Whether a line of progress stands on standard error, and nothing behind it.
     pub(crate) is_drawn: Cell<bool>,
 }
@@ -22,6 +24,7 @@ impl Tally {
             objects: Cell::new(0),
             repairs: Cell::new(0),
             past: Cell::new(0),
+            has_expired: Cell::new(false),
             is_drawn: Cell::new(false),
         }
     }

@@ -117,11 +117,14 @@ fn main(rt: HostRuntime) -> ExitCode {
         &mut files,
         &mut clock,
     );
-    fabric.watched().drain();
+    let left = fabric.watched().drain();
     end_progress(&rt, &tally);
+    if code == ExitCode::SUCCESS {
+        fabric.say_spent();
+    }
     say_cause(&rt, input.cause());
     say_cause(&rt, output.watched().cause());
-    say_cause(&rt, fabric.watched().cause());
+    say_cause(&rt, fabric.watched().cause().or(left.as_ref()));
     say_cause(&rt, files.cause());
     code
 }

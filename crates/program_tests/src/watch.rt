@@ -4,10 +4,11 @@
 ghost use Rattle.std.specs.Prelude.{None, false};
 
 use norm_base::{
-    DATAGRAM_ROOM, Datagram, Fabric, FabricFault, FabricKind, Given, InstanceId, Key, Local,
-    NodeId, Profile, Sink,
+    DATAGRAM_ROOM, Datagram, Fabric, FabricFault, FabricKind, Given, InstanceId, Key, Local, NodeId,
+    Profile, Sink,
 };
 use norm_memory::MemSink;
+use norm_udp::{Difference, Misfit, PassesOver, Sizes};
 use norm_watch::{Restarts, Says, Tally, WatchedFabric, WatchedSink, end_progress};
 use std::alloc::Global;
 use std::cell::{Cell, RefCell};
@@ -56,11 +57,40 @@ impl Clock for Seen {
     }
 }
 
-/// A network that gives what is laid there, once, and is offered anything.
+/// A network that gives what is laid there, once, and is offered anything. It says that it passed over this many datagrams.
 #[derive(Drop)]
 struct Laid<'a> {
     next: &'a Cell<&'static [u8]>,
+    passed: &'a Cell<u64>,
 }
+
+impl PassesOver for Laid<'_> {
+    fn passed_over(&self) -> u64 {
+        self.passed.get()
+    }
+
+    fn misfit(&self) -> Option<Misfit> {
+        Some(Misfit {
+            sender: NodeId::of(1)?,
+            instance: InstanceId(12),
+            difference: MISFIT,
+        })
+    }
+}
+
+/// In what a sender differs whose datagrams are passed over.
+const MISFIT: Difference = Difference::Sizes {
+    theirs: Sizes {
+        e: 1400,
+        b: 100,
+        max_n: 255,
+    },
+    own: Sizes {
+        e: 1400,
+        b: 64,
+        max_n: 255,
+    },
+};
 
 impl Fabric for Laid<'_> {
     ghost told = { λ _. record { starts = None; offered = None; answers = None; honest = false } };
@@ -116,10 +146,14 @@ enum Step {
     Looks,
     /// It takes a datagram.
     Takes(&'static [u8]),
+    /// Its network passes over a datagram, and it takes nothing.
+    PassesOver,
     /// Member 2 offers a datagram.
     Offers(&'static [u8]),
     /// It writes a line.
     Writes(&'static [u8]),
+    /// Its turns are spent.
+    Spends,
     /// It is done.
     Ends,
 }
@@ -182,7 +216,7 @@ const ROWS: [Row; 11] = [
             Step::Looks,
             Step::Ends,
         ],
-        said: "nothing came to 127.0.0.1:7002 for ten seconds\nnothing came to 127.0.0.1:7002 for ten seconds\n",
+        said: "nothing came to 127.0.0.1:7002 for ten seconds\nthe hub is to be at 127.0.0.1:7000\nnothing came to 127.0.0.1:7002 for ten seconds\nthe hub is to be at 127.0.0.1:7000\n",
     },
     // The hub has no moments, so that its step is none of its own.
     Row {
@@ -339,6 +373,122 @@ const ROWS: [Row; 11] = [
     },
 ];
 
+/// A FLUSH of sender 1, which begins instance 12, and EOTs (RFC 5740 section 4.2.3): of that instance, of 5 and of 13, and one of sender 9.
+const FLUSH: &[u8] = b"\x13\x05\0\0\0\0\0\x01\0\x0c\x40\x41\x01\x05\0\0\0\0\0\0";
+
+const EOT: &[u8] = b"\x13\x04\0\0\0\0\0\x01\0\x0c\x40\x41\x02\0\0\0";
+
+const BELOW: &[u8] = b"\x13\x04\0\0\0\0\0\x01\0\x05\x40\x41\x02\0\0\0";
+
+const ABOVE: &[u8] = b"\x13\x04\0\0\0\0\0\x01\0\x0d\x40\x41\x02\0\0\0";
+
+const OTHER: &[u8] = b"\x13\x04\0\0\0\0\0\x09\0\x02\x40\x41\x02\0\0\0";
+
+/// What a node says once, of what it or its network passes over and of its end.
+const ONCE: [Row; 6] = [
+    // What comes again within a second may be late. What is above the receiver's instance, or is before it has one, is nothing old.
+    Row {
+        fabric: FabricKind::Udp,
+        step: 0,
+        node: 2,
+        says: NOTHING,
+        steps: &[
+            Step::Takes(BELOW),
+            Step::Waits(5),
+            Step::Takes(BELOW),
+            Step::Takes(FLUSH),
+            Step::Takes(BELOW),
+            Step::Takes(BELOW),
+            Step::Waits(1),
+            Step::Takes(ABOVE),
+            Step::Takes(EOT),
+            Step::Takes(BELOW),
+            Step::Waits(1),
+            Step::Takes(BELOW),
+        ],
+        said: "datagrams of instance 5 come, and this receiver is in 12: they are passed over\n",
+    },
+    // A sender hears nobody that it passes over so.
+    Row {
+        fabric: FabricKind::Udp,
+        step: 0,
+        node: 1,
+        says: NOTHING,
+        steps: &[
+            Step::Takes(OTHER),
+            Step::Waits(1),
+            Step::Takes(OTHER),
+            Step::Spends,
+        ],
+        said: "",
+    },
+    Row {
+        fabric: FabricKind::Udp,
+        step: 0,
+        node: 3,
+        says: NOTHING,
+        steps: &[
+            Step::Takes(OTHER),
+            Step::Takes(OTHER),
+            Step::Waits(1),
+            Step::Takes(OTHER),
+            Step::Waits(1),
+            Step::Takes(OTHER),
+            Step::Waits(9),
+            Step::Spends,
+        ],
+        said: "datagrams of sender 9 come, and the profile's sender is 1\nthe 1000000 turns are spent, and datagrams still came\n",
+    },
+    // What the network passes over came too.
+    Row {
+        fabric: FabricKind::Udp,
+        step: 0,
+        node: 2,
+        says: NOTHING,
+        steps: &[
+            Step::Looks,
+            Step::Waits(9),
+            Step::PassesOver,
+            Step::PassesOver,
+            Step::Looks,
+            Step::Waits(9),
+            Step::Looks,
+            Step::Waits(1),
+            Step::Spends,
+        ],
+        said: "sender 1 sends with e 1400, b 100, max_n 255, and this profile has 1400, 64, 255: nothing of instance 12 is taken\nthe 1000000 turns are spent\n",
+    },
+    // A watermark expired to which nothing ever came, and one before which something came.
+    Row {
+        fabric: FabricKind::Udp,
+        step: 0,
+        node: 1,
+        says: NOTHING,
+        steps: &[
+            Step::Looks,
+            Step::Writes(b"done 1 satisfied\n"),
+            Step::Looks,
+            Step::Writes(b"done 2 expired 2 3\n"),
+            Step::Looks,
+            Step::Waits(10),
+            Step::Looks,
+        ],
+        said: "nothing came to 127.0.0.1:7001\nthe hub is to be at 127.0.0.1:7000\n",
+    },
+    Row {
+        fabric: FabricKind::Udp,
+        step: 0,
+        node: 1,
+        says: NOTHING,
+        steps: &[
+            Step::Takes(SOURCE),
+            Step::Writes(b"done 1 expired 2\n"),
+            Step::Looks,
+        ],
+        said: "",
+    },
+];
+
 /// A row's profile.
 // Each key comes through the loop: a call of `set` that names its key costs much to prove.
 fn profile_of(row: &Row) -> Result<Profile, Fail> {
@@ -359,6 +509,7 @@ fn profile_of(row: &Row) -> Result<Profile, Fail> {
 struct Watched<'a> {
     seen: &'a Seen,
     next: &'a Cell<&'static [u8]>,
+    passed: &'a Cell<u64>,
     tally: &'a Tally,
     fabric: WatchedFabric<'a, &'a Seen, Laid<'a>>,
     sink: WatchedSink<'a, &'a Seen, MemSink, Noted<'a>>,
@@ -396,10 +547,15 @@ impl Watched<'_> {
                 self.next.set(octets);
                 self.takes()?;
             }
+            Step::PassesOver => {
+                self.passed.set(self.passed.get().saturating_add(1));
+                self.takes()?;
+            }
             Step::Offers(octets) => self.offers(octets)?,
             Step::Writes(line) => {
                 let _ = self.sink.write(line);
             }
+            Step::Spends => self.fabric.say_spent(),
             Step::Ends => end_progress(&self.seen, self.tally),
         }
         Ok(())
@@ -413,13 +569,19 @@ fn said_by(alloc: Global, row: &Row) -> Result<String, Fail> {
         seconds: Cell::new(0),
     };
     let next: Cell<&'static [u8]> = Cell::new(b"");
+    let passed = Cell::new(0);
     let tally = Tally::new();
     let sink = MemSink::of(Vec::new(alloc), Vec::new(alloc));
+    let laid = Laid {
+        next: &next,
+        passed: &passed,
+    };
     let mut watched = Watched {
         seen: &seen,
         next: &next,
+        passed: &passed,
         tally: &tally,
-        fabric: WatchedFabric::of(&seen, Laid { next: &next }, row.says, &tally),
+        fabric: WatchedFabric::of(&seen, laid, row.says, &tally),
         sink: WatchedSink::of(&seen, sink, row.says, &tally, Noted { seen: &seen }),
         into: Datagram::new(alloc)?,
     };
@@ -435,6 +597,15 @@ fn said_by(alloc: Global, row: &Row) -> Result<String, Fail> {
 #[test]
 fn a_node_says_how_it_is(rt: HostRuntime) -> Result<(), Fail> {
     for (at, row) in ROWS.iter().enumerate() {
+        let said = said_by(rt.alloc(), row)?;
+        assert!(rt; said.as_str() == row.said, "row {at}: {said:?}");
+    }
+    Ok(())
+}
+
+#[test]
+fn a_node_says_once_what_is_passed_over(rt: HostRuntime) -> Result<(), Fail> {
+    for (at, row) in ONCE.iter().enumerate() {
         let said = said_by(rt.alloc(), row)?;
         assert!(rt; said.as_str() == row.said, "row {at}: {said:?}");
     }

@@ -1,0 +1,231 @@
+//! Datagrams that come to a receiver, and that its rules pass over.
+
+ghost use Rattle.std.specs.Prelude.{◌≡◌, Some};
+ghost use Rattle.norm_ext.specs.InstanceIds.{is_above};
+ghost use Rattle.norm_watch.specs.Following.{goes_to, names_index, followed, followed_by, is_older};
+
+use norm_base::{ID_COUNT, InstanceId, Local, NodeId, Profile};
+use norm_ext::index_named;
+use norm_ext::places::{INSTANCE_AT, SOURCE_AT};
+use norm_udp::{Heard, heard_in};
+use std::fmt;
+use std::time::Duration;
+
+/// How many seconds after a datagram that may be late another shows that it is not. Our own choice.
+const LATE: u64 = 1;
+
+/// How far one instance id lies above another at most (RFC 5740 section 4.1): less than half of all.
+const MOST_RISE: u32 = 32_767;
+
+/// Where the instance of a sender's datagram ends, which stands behind the sender's id (RFC 5740 section 4.2).
+const INSTANCE_END: usize = INSTANCE_AT + 2;
+
+/// What is said of such datagrams.
+#[derive(Clone, Copy, Debug)]
+pub(crate) enum Stray {
+    /// They are of the receiver's sender, in an instance that the receiver does not go back to.
+    Older {
+        instance: InstanceId,
+        own: InstanceId,
+    },
+    /// They are of another sender.
+    Other { sender: NodeId, own: u32 },
+}
+
+impl fmt::Display for Stray {
+    fn fmt<W: fmt::Write>(&self, f: &mut fmt::Formatter<W>) -> fmt::Result {
+        match self {
+            Stray::Older { instance, own } => {
+                let theirs = instance.0;
+                let own = own.0;
+                write!(
+                    f,
+                    "datagrams of instance {theirs} come, and this receiver is in {own}: they are passed over"
+                )
+            }
+            Stray::Other { sender, own } => {
+                let theirs = sender.number();
+                write!(
+                    f,
+                    "datagrams of sender {theirs} come, and the profile's sender is {own}"
+                )
+            }
+        }
+    }
+}
+
+/// What is said once, after it was seen of the same number twice, with a second between: a network may be late.
+#[derive(Clone, Copy)]
+struct Again {
+    /// The number of which it was seen.
+    number: Option<u32>,
+    /// When it was.
+    since: Duration,
+    is_said: bool,
+}
+
+impl Again {
+    /// Nothing was seen yet.
+    fn new() -> Again {
+        Again {
+            number: None,
+            since: Duration::ZERO,
+            is_said: false,
+        }
+    }
+
+    /// Notes that it is seen of a number at this moment. Whether it is to be said now. A second after one number was seen, another takes its place.
+    fn see(&mut self, number: u32, now: Duration) -> bool {
+        if self.is_said {
+            return false;
+        }
+        if let Some(seen) = self.number {
+            if now.saturating_sub(self.since) < Duration::from_secs(LATE) {
+                return false;
+            }
+            if seen == number {
+                self.is_said = true;
+                return true;
+            }
+        }
+        self.number = Some(number);
+        self.since = now;
+        false
+    }
+}
+
+/// Whether an instance id lies above another.
+fn is_above(from: InstanceId, id: InstanceId) -> bool
+    ensures { result ≡ is_above from id }
+{
+    let rise = (ID_COUNT + u32::from(id.0) - u32::from(from.0)) % ID_COUNT;
+    1 <= rise && rise <= MOST_RISE
+}
+
+/// Whether a receiver in this instance goes on to that one.
+fn goes_to(current: &Option<InstanceId>, instance: InstanceId) -> bool
+    ensures { result ≡ goes_to current.now instance }
+{
+    match current {
+        Some(current) => is_above(*current, instance),
+        None => true,
+    }
+}
+
+/// Whether a message names an object, as an instance begins with it.
+fn names_index(profile: &Profile, object: Option<u16>) -> bool
+    ensures { result ≡ names_index profile.now object }
+{
+    match object {
+        Some(object) => index_named(profile, 0, object).is_some(),
+        None => false,
+    }
+}
+
+/// The instance that a receiver is in after a message of its sender.
+fn followed(profile: &Profile, current: &Option<InstanceId>, heard: &Heard) -> Option<InstanceId>
+    ensures { result ≡ followed profile.now current.now heard.now }
+{
+    if goes_to(current, heard.instance) && names_index(profile, heard.object) {
+        return Some(heard.instance);
+    }
+    *current
+}
+
+/// Whether an instance is neither the receiver's own nor above it.
+fn is_older(current: &Option<InstanceId>, instance: InstanceId) -> bool
+    ensures { result ≡ is_older current.now instance }
+{
+    match current {
+        Some(current) => !(*current == instance || is_above(*current, instance)),
+        None => false,
+    }
+}
+
+/// What a receiver alone takes: the instance that it is in by that, and what its rules pass over.
+#[derive(Drop)]
+pub(crate) struct Strays {
+    profile: Profile,
+    current: Option<InstanceId>,
+    older: Again,
+    other: Again,
+}
+
+impl Strays {
+    /// That of these members. `None` unless they are one receiver alone.
+    pub(crate) fn of(profile: &Profile, local: &Local) -> Option<Strays> {
+        match local {
+            Local::One(node) if node.number() != profile.sender => Some(Strays {
+                profile: *profile,
+                current: None,
+                older: Again::new(),
+                other: Again::new(),
+            }),
+            _ => None,
+        }
+    }
+
+    /// Whether a datagram is of the sender and instance that the receiver follows, as most are: no message has to be read for that.
+    fn is_usual(&self, octets: &[u8]) -> bool {
+        let Some(current) = self.current else {
+            return false;
+        };
+        if octets.len() < INSTANCE_END {
+            return false;
+        }
+        let [s0, s1, s2, s3] = self.profile.sender.to_be_bytes();
+        let [i0, i1] = current.0.to_be_bytes();
+        &octets[SOURCE_AT..INSTANCE_END] == [s0, s1, s2, s3, i0, i1].as_slice()
+    }
+
+    /// What a datagram says of its sender, unless that is what the receiver follows, or it is no sender's.
+    pub(crate) fn unusual(&self, octets: &[u8]) -> Option<Heard> {
+        if self.is_usual(octets) {
+            return None;
+        }
+        heard_in(octets)
+    }
+
+    /// Notes what the receiver's sender says.
+    fn hear_own(&mut self, heard: &Heard, now: Duration) -> Option<Stray>
+        ensures { self.new.current ≡ followed self.old.profile self.old.current heard.now }
+    {
+        self.current = followed(&self.profile, &self.current, heard);
+        if !is_older(&self.current, heard.instance) {
+            return None;
+        }
+        if !self.older.see(u32::from(heard.instance.0), now) {
+            return None;
+        }
+        match self.current {
+            Some(own) => Some(Stray::Older {
+                instance: heard.instance,
+                own,
+            }),
+            None => None,
+        }
+    }
+
+    /// Notes what another sender says.
+    fn hear_other(&mut self, heard: &Heard, now: Duration) -> Option<Stray>
+        ensures { self.new.current ≡ self.old.current }
+    {
+        if !self.other.see(heard.sender.number(), now) {
+            return None;
+        }
+        Some(Stray::Other {
+            sender: heard.sender,
+            own: self.profile.sender,
+        })
+    }
+
+    /// Notes what a datagram says that was taken at this moment. What is to be said of it, if anything.
+    pub(crate) fn hear(&mut self, heard: &Heard, now: Duration) -> Option<Stray>
+        ensures { self.new.current ≡ followed_by self.old.profile self.old.current (Some heard.now) }
+    {
+        if heard.sender.number() == self.profile.sender {
+            return self.hear_own(heard, now);
+        }
+        self.hear_other(heard, now)
+    }
+}
