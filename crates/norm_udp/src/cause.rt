@@ -28,7 +28,9 @@ pub enum SocketCause {
         error: io::Error,
     },
     /// A node of its own, or the hub, was to begin over a network within one process, of this kind.
-    Within { fabric: FabricKind },
+    Within {
+        fabric: FabricKind,
+    },
 }
 
 /// The word that a profile has for a network.

@@ -22,10 +22,7 @@ pub struct Sizes {
 #[derive(Clone, Copy, Debug)]
 pub enum Difference {
     /// Symbols or blocks have other sizes.
-    Sizes {
-        theirs: Sizes,
-        own: Sizes,
-    },
+    Sizes { theirs: Sizes, own: Sizes },
     /// An object has more octets than the profile lets one have.
     Length { octets: u64, most: u32 },
 }

@@ -133,13 +133,7 @@ impl Senders {
     }
 
     /// Has this many threads, the first ones, send a member's datagram.
-    pub(crate) fn post<R: Wait + Clock>(
-        &self,
-        rt: &R,
-        threads: usize,
-        from: NodeId,
-        bytes: &[u8],
-    )
+    pub(crate) fn post<R: Wait + Clock>(&self, rt: &R, threads: usize, from: NodeId, bytes: &[u8])
         requires { length bytes.now ≤ datagram_room }
     {
         for lane in self.0.iter().take(threads) {

@@ -29,7 +29,10 @@ pub(crate) enum Stray {
         own: InstanceId,
     },
     /// They are of another sender.
-    Other { sender: NodeId, own: u32 },
+    Other {
+        sender: NodeId,
+        own: u32,
+    },
 }
 
 impl fmt::Display for Stray {

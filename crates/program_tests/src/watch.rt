@@ -4,8 +4,8 @@
 ghost use Rattle.std.specs.Prelude.{None, false};
 
 use norm_base::{
-    DATAGRAM_ROOM, Datagram, Fabric, FabricFault, FabricKind, Given, InstanceId, Key, Local, NodeId,
-    Profile, Sink,
+    DATAGRAM_ROOM, Datagram, Fabric, FabricFault, FabricKind, Given, InstanceId, Key, Local,
+    NodeId, Profile, Sink,
 };
 use norm_memory::MemSink;
 use norm_udp::{Difference, Misfit, PassesOver, Sizes};
