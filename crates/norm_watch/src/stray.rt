@@ -5,8 +5,8 @@ ghost use Rattle.norm_ext.specs.InstanceIds.{is_above};
 ghost use Rattle.norm_watch.specs.Following.{goes_to, names_index, followed, followed_by, is_older};
 
 use norm_base::{ID_COUNT, InstanceId, Local, NodeId, Profile};
-use norm_ext::index_named;
 use norm_ext::places::{INSTANCE_AT, SOURCE_AT};
+use norm_ext::{index_named, read_16, read_32};
 use norm_udp::{Heard, heard_in};
 use std::fmt;
 use std::time::Duration;
@@ -145,6 +145,13 @@ fn is_older(current: &Option<InstanceId>, instance: InstanceId) -> bool
     }
 }
 
+/// Whether a datagram has the profile's sender and this instance, if it is a sender's.
+fn is_from(profile: &Profile, instance: &InstanceId, octets: &[u8]) -> bool {
+    octets.len() >= INSTANCE_END
+        && read_32(octets, SOURCE_AT) == profile.sender
+        && read_16(octets, INSTANCE_AT) == instance.0
+}
+
 /// What a receiver alone takes: the instance that it is in by that, and what its rules pass over.
 #[derive(Drop)]
 pub(crate) struct Strays {
@@ -170,15 +177,10 @@ impl Strays {
 
     /// Whether a datagram is of the sender and instance that the receiver follows, as most are: no message has to be read for that.
     fn is_usual(&self, octets: &[u8]) -> bool {
-        let Some(current) = self.current else {
-            return false;
-        };
-        if octets.len() < INSTANCE_END {
-            return false;
+        match &self.current {
+            Some(current) => is_from(&self.profile, current, octets),
+            None => false,
         }
-        let [s0, s1, s2, s3] = self.profile.sender.to_be_bytes();
-        let [i0, i1] = current.0.to_be_bytes();
-        &octets[SOURCE_AT..INSTANCE_END] == [s0, s1, s2, s3, i0, i1].as_slice()
     }
 
     /// What a datagram says of its sender, unless that is what the receiver follows, or it is no sender's.
