@@ -20,6 +20,7 @@ enum Call {
 }
 
 /// What the file holds, if it is there; the calls, their answers, and what it holds then.
+#[derive(Clone, Copy)]
 struct Row {
     held: Option<&'static [u8]>,
     calls: &'static [Call],
