@@ -573,6 +573,7 @@ taken() {
 
 : >"$scratch/in"
 taken "$port" hub "$scratch/profile"
+forget
 taken $((port + 1)) send "$scratch/profile"
 taken $((port + 2)) recv "$scratch/profile" 2
 printf 'set fabric udp\nset port %s\n' "$port" >"$scratch/in"
