@@ -85,7 +85,8 @@ fn compare_moments(alloc: Global, nanos: &[u64], wanted: &[u64]) -> Result<(), F
         nanos,
         next: Cell::new(0),
     });
-    let all = moments(alloc, &mut clock, wanted.len() as u32)?;
+    let count = u32::try_from(wanted.len()).unwrap_or(u32::MAX);
+    let all = moments(alloc, &mut clock, count)?;
     if all.as_slice() == wanted {
         return Ok(());
     }
