@@ -358,7 +358,7 @@ out.bind(('127.0.0.1', own))
 def is_there():
     try:
         out.send(b'?')
-        out.send(b'?')  # fails where nobody had the first
+        out.send(b'?')  # fails if nobody had the first
     except ConnectionRefusedError:
         return False
     return True
@@ -502,7 +502,7 @@ out.connect(('127.0.0.1', int(sys.argv[1])))
 for _ in range(2000):
     try:
         out.send(forged)
-        out.send(forged)  # fails where nobody had the first
+        out.send(forged)  # fails if nobody had the first
         sys.exit(0)
     except ConnectionRefusedError:
         time.sleep(0.01)
@@ -691,7 +691,7 @@ sent='0 data 1\nend objects 1 octets 1 handed 0 lost 0 satisfied 0 expired 0 cut
 advice='give --instance I, or the key instance\n'
 export XDG_STATE_HOME="$state"
 
-# keeps TEXT: the folder keeps this, and nothing else. holds NAME TEXT: it keeps this behind a send.
+# keeps TEXT: the folder keeps this, and nothing else. holds NAME TEXT: it keeps this after a send.
 keeps() {
     rm -rf "$state"
     mkdir -p "$state/normd" || exit 1

@@ -308,7 +308,7 @@ def check_profile_row(profile: ModuleType, row: tuple[int, int, int, float, int]
 
 
 def check_document(words: list[str], script: bytes) -> None:
-    """A document is a profile of nodes over sockets, and says what the script says but for the network and what waits go by."""
+    """A document is a profile of nodes over sockets, and says what the script says, except for the network and what waits go by."""
     with tempfile.TemporaryDirectory() as folder:
         path = os.path.join(folder, 'profile.toml')
         wants('a document is written', (0, b'', ''), run('profile', *words, '--toml', '-o', path))

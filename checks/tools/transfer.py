@@ -99,7 +99,7 @@ def to_two(program: str, port: int, room: Path) -> str:
 
 
 def instance(program: str, port: int, room: Path) -> str:
-    """The instance that `send` is given is the sender's, by a program that writes down its words and ends; and a number that is none is refused."""
+    """The instance that `send` is given is the sender's, by a program that writes down its words and ends; and what is no number is refused."""
     made(room / 'photos')
     fake = room / 'fake'
     fake.write_text('#!/bin/sh\necho "$@" >"$0.words"\nexit 8\n')
