@@ -1,3 +1,4 @@
 pub mod RangeLemmas
 pub mod CountLemmas
 pub mod MemberLemmas
+pub mod CopyLemmas

@@ -11,4 +11,5 @@ pub mod Faults
 pub mod Told
 pub mod Contents
 pub mod Octets
+pub mod Copies
 pub mod Network

@@ -3,7 +3,7 @@
 ghost use Rattle.std.specs.Prelude.{◌≡◌, ◌≤◌, ℕ, [], length, IfOk, IfNone, OnOk, OnErr};
 ghost use Rattle.norm_base.specs.Faults.{Counts, network_failed};
 ghost use Rattle.norm_base.specs.Sizes.{datagram_room};
-ghost use Rattle.norm_base.specs.Network.{Network, Starts, with_offer, with_answer, answer_of, IsHonestAnswer};
+ghost use Rattle.norm_base.specs.Network.{Network, Starts, with_offer, with_answer, answer_of, IsHonestAnswer, IsDirectAnswer};
 
 use crate::datagram::Datagram;
 use crate::fault::FabricFault;
@@ -12,10 +12,11 @@ use crate::node::NodeId;
 use crate::profile::Profile;
 
 /// A network of members: each offers datagrams, and datagrams are taken for each. It may lose, repeat,
-/// delay and reorder them, and `take` may always answer `None`.
+/// delay and reorder them, and `take` may answer `None` at any time, unless the network tells that it is direct.
 pub trait Fabric {
-    /// What the network tells: its starts, what was offered and what was taken since, and whether each
-    /// datagram that is taken was offered by another member.
+    /// What the network tells: its starts, what was offered and what was taken since; whether each datagram
+    /// that is taken was offered by another member (honest); and whether nothing is lost, repeated, delayed or
+    /// reordered (direct).
     ghost told: { Self → Network };
 
     /// How often a call failed.
@@ -40,6 +41,7 @@ pub trait Fabric {
         ensures ok { IfOk result (λ node. told self.new ≡ with_answer (told self.old) (answer_of node into.new)) }
         ensures none { IfOk result (λ node. IfNone node (into.new ≡ [])) }
         ensures honest { IfOk result (λ node. IsHonestAnswer (told self.old) (answer_of node into.new)) }
+        ensures direct { IfOk result (λ node. IsDirectAnswer (told self.old) (answer_of node into.new)) }
         ensures err { OnErr result ((told self.new ≡ told self.old) × (into.new ≡ [])) }
         ensures cause { Counts (fault_count self.old) (fault_count self.new) (network_failed result) };
 
