@@ -1,4 +1,4 @@
-use Rattle.std.proofs.Common.{◌≡◌, ◌∙◌, sym, ap, refl, ℕ, ◌<◌, List, [], ◌∷◌, length, drop, get_or, map, Some, Vec, drop-cons}
+use Rattle.std.proofs.Common.{◌≡◌, ap, ℕ, ◌<◌, List, [], length, drop, get_or, Some, Vec, drop-cons}
 use Rattle.std.proofs.lemmas.List.{get_or-map, length-map}
 use Rattle.std.specs.declared.alloc.Global.{Global}
 use Rattle.norm_memory.specs.Feeding.{fed}

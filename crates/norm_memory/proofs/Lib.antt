@@ -6,3 +6,4 @@ mod PieceLemmas
 mod OfferLemmas
 mod Turns
 mod NetworkLemmas
+mod DirectLemmas

@@ -1,9 +1,9 @@
-use Rattle.std.proofs.Common.{◌≡◌, ◌∙◌, sym, ap, subst, refl, ℕ, ◌+◌, ◌<◌, ◌↔◌, length, get_or, Option, Some, None, IsSome, IfSome, IfNone, option_map, drop, Bor, Bool, true, false, List, [], ◌∷◌, ◌++◌, arith, cond, true≢false}
+use Rattle.std.proofs.Common.{◌≡◌, ◌∙◌, sym, ap, subst, refl, ℕ, ◌+◌, ◌<◌, ◌↔◌, length, get_or, Option, Some, None, IsSome, IfSome, IfNone, option_map, drop, Bor, Bool, true, false, List, [], ◌∷◌, ◌++◌, arith, cond}
 use Rattle.std.specs.List.{sum_by, AllByRecursion}
 use Rattle.std.specs.List.Sorted.{IsPermutation}
 use Rattle.std.specs.Cmp.{IsTotalOrder}
 use Rattle.std.specs.BinaryHeap.{IsHeap, IsUpperBound}
-use Rattle.std.specs.Ordering.{is_lt, is_gt, nat_cmp, on, then_cmp, flip_args, ordering_reverse, ordering_then}
+use Rattle.std.specs.Ordering.{is_lt, is_gt, nat_cmp, flip_args, ordering_reverse, ordering_then}
 use Rattle.std.specs.declared.cmp.Ordering.{Ordering}
 use Rattle.std.specs.declared.cmp.Ordering.TheVariants.{Less, Equal, Greater}
 use Rattle.std.proofs.lemmas.Cmp.{upto, nat_cmp_total, on_total, then_total, tied_itself, ranked, by_ranked}
@@ -102,6 +102,10 @@ before_other o Less e h = ap is_lt e
 before_other o Equal e h = absurd (cc)
 before_other o Greater e h = absurd (cc)
 
+-- what goes before another does not come behind it
+pub not_behind : (x y : WaitingCopy) → before x y ≡ true → before y x ≡ false
+not_behind x y h = before_other (by_turn y x) (by_turn x y) (by_turn_total.antisymm y x) h
+
 pub put_copy-in_turn : (c : WaitingCopy) (xs : List WaitingCopy) → InTurn xs → InTurn (put_copy c xs)
 put_copy-in_turn c [] h = (tt, tt)
 put_copy-in_turn c (d ∷ ds) h = elim (before d c) as (λ b. before d c ≡ b → InTurn (cond b (d ∷ put_copy c ds) (c ∷ d ∷ ds))) [
@@ -192,7 +196,7 @@ in_turn-left old new x least p =
       );
     })
 
-put_first : (x : WaitingCopy) (xs : List WaitingCopy) → AllByRecursion (λ y. before y x ≡ false) xs → put_copy x xs ≡ x ∷ xs
+pub put_first : (x : WaitingCopy) (xs : List WaitingCopy) → AllByRecursion (λ y. before y x ≡ false) xs → put_copy x xs ≡ x ∷ xs
 put_first x [] all = refl
 put_first x (y ∷ ys) all = rw all.0 refl
 

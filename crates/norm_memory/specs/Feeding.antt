@@ -16,9 +16,9 @@ pub record FeedState : Type 0 where
   pub answers : List (Option (ℕ × List ℕ))
   pub left : List (ℕ × List ℕ)
 
--- it tells all that it did, and is not honest
+-- it tells all that it did, and is neither honest nor direct
 abbrev pub feed_told : FeedState → Network
-feed_told s = record { starts = Some s.starts; offered = Some s.offered; answers = Some s.answers; honest = false }
+feed_told s = record { starts = Some s.starts; offered = Some s.offered; answers = Some s.answers; honest = false; direct = false }
 
 -- members with octets
 abbrev pub fed : List (ℕ × Vec ℕ Global) → List (ℕ × List ℕ)

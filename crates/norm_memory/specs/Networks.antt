@@ -1,4 +1,4 @@
-use Rattle.std.specs.Prelude.{ℕ, zero, suc, ◌+◌, nat_le, List, [], ◌∷◌, ◌++◌, length, Option, None, Some, true, if◌then◌else◌}
+use Rattle.std.specs.Prelude.{ℕ, nat_le, List, [], ◌∷◌, ◌++◌, length, Option, None, Some, true, false, if◌then◌else◌}
 use Rattle.norm_base.specs.Settings.{Settings}
 use Rattle.norm_base.specs.Network.{Network}
 use Rattle.norm_base.specs.Members.{members_of}
@@ -18,9 +18,9 @@ pub record NetworkState : Type 0 where
   pub answers : List (Option (ℕ × List ℕ))
   pub waiting : List WaitingCopy
 
--- it tells all that it knows, and is honest
+-- it tells all that it knows, is honest, and does not tell that it is direct
 abbrev pub told_by : NetworkState → Network
-told_by s = record { starts = Some s.starts; offered = Some s.offered; answers = Some s.answers; honest = true }
+told_by s = record { starts = Some s.starts; offered = Some s.offered; answers = Some s.answers; honest = true; direct = false }
 
 -- as it was made: no start, no member
 abbrev pub unstarted : NetworkState

@@ -1,10 +1,10 @@
 //! A network in memory that gives each datagram once to every other member, in order.
 
 ghost use Rattle.std.specs.Prelude.{◌≡◌, ◌≤◌, length, [], drop, Some, true, option_map, IfOk, IfNone, IfErr, OnOk, OnErr};
-ghost use Rattle.norm_memory.specs.Direct.{direct_offer};
-ghost use Rattle.norm_memory.specs.Networks.{told_by, unstarted, started, next_answer, after_take};
+ghost use Rattle.norm_memory.specs.Direct.{direct_offer, direct_told};
+ghost use Rattle.norm_memory.specs.Networks.{unstarted, started, next_answer, after_take};
 ghost use Rattle.norm_memory.specs.Waiting.{first_of};
-ghost use Rattle.norm_base.specs.Network.{Starts, with_offer, with_answer, answer_of, IsHonestAnswer};
+ghost use Rattle.norm_base.specs.Network.{Starts, with_offer, with_answer, answer_of, IsHonestAnswer, IsDirectAnswer};
 
 use crate::network::MemNetwork;
 use crate::rule::plan_by_rules;
@@ -13,7 +13,7 @@ use std::alloc::Global;
 use std::marker::Model;
 
 /// A network in memory that loses nothing: each offered datagram comes once to every other member, in
-/// the order of the offers and of the members. It has no faults.
+/// the order of the offers and of the members, and a take gives the first that was not taken yet. It has no faults.
 #[derive(Debug, Drop)]
 pub struct DirectFabric {
     network: MemNetwork,
@@ -21,10 +21,13 @@ pub struct DirectFabric {
 
 impl Model for DirectFabric {
     ghost use Rattle.norm_memory.specs.Networks.{NetworkState};
+    ghost use Rattle.norm_memory.specs.Direct.{KeepsCopies};
 
     ghost Value = { NetworkState };
 
     ghost view = { λ f. f.network };
+
+    ghost invariant = { λ f. KeepsCopies f.network };
 }
 
 impl DirectFabric {
@@ -46,7 +49,7 @@ impl DirectFabric {
 }
 
 impl Fabric for DirectFabric {
-    ghost told = { told_by };
+    ghost told = { direct_told };
 
     ghost fault_count = { λ _. 0 };
 
@@ -74,7 +77,8 @@ impl Fabric for DirectFabric {
     fn take(&mut self, into: &mut Datagram) -> Result<Option<NodeId>, FabricFault>
         ensures answer { IfOk result (λ node. answer_of node into.new ≡ next_answer self.old) }
         ensures none { IfOk result (λ node. IfNone node (into.new ≡ [])) }
-        ensures honest { IfOk result (λ node. IsHonestAnswer (told_by self.old) (answer_of node into.new)) }
+        ensures honest { IfOk result (λ node. IsHonestAnswer (direct_told self.old) (answer_of node into.new)) }
+        ensures direct { IfOk result (λ node. IsDirectAnswer (direct_told self.old) (answer_of node into.new)) }
         ensures state { OnOk result (self.new ≡ after_take self.old) }
         ensures kept { OnErr result ((self.new ≡ self.old) × (into.new ≡ [])) }
         ensures fault { IfErr result (λ e. e ≡ FabricFault.Memory) }
