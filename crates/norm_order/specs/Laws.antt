@@ -7,6 +7,7 @@ use Rattle.fec_plan.specs.declared.position.Position.{Position}
 use Rattle.norm_order.specs.declared.up.Up.{Up}
 use Rattle.norm_order.specs.Entries.{Part, End, Stream, Entry}
 use Rattle.norm_order.specs.Segments.{Segment, segments, written, unclosed, has_end}
+use Rattle.norm_order.specs.Later.{OrderLater}
 use Rattle.norm_order.specs.Shapes.{shapes_of, is_source}
 use Rattle.norm_order.specs.Upto.{upto}
 
@@ -45,3 +46,10 @@ pub record KeptAsStreamGoesOn : Type 0 where
   pub same_before : (p : Settings) (order : List Entry) (by : Origin) (parts more : List Part) (at : Position)
       → 0 < p.e → has_end parts ≡ false → is_source (shapes_of p (with_stream order by parts)) at ≡ true
       → upto p (with_stream order by (parts ++ more)) at ≡ upto p (with_stream order by parts) at
+
+-- A source symbol of an order is one of each later order, and what stands before a watermark there is what stood before it.
+pub record OrdersGrow : Type 0 where
+  pub still_source : (p : Settings) (order later : List Entry) (at : Position) → 0 < p.e → OrderLater order later
+      → is_source (shapes_of p order) at ≡ true → is_source (shapes_of p later) at ≡ true
+  pub same_before : (p : Settings) (order later : List Entry) (at : Position) → 0 < p.e → OrderLater order later
+      → is_source (shapes_of p order) at ≡ true → upto p later at ≡ upto p order at

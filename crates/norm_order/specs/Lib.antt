@@ -6,4 +6,5 @@ pub mod Segments
 pub mod Shapes
 pub mod Symbols
 pub mod Upto
+pub mod Later
 pub mod Laws

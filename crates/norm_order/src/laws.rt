@@ -3,7 +3,7 @@
 ghost use Rattle.std.specs.Prelude.{nat_lt};
 ghost use Rattle.fec_plan.specs.Points.{position_before};
 ghost use Rattle.norm_order.specs.Sets.{SetLaws};
-ghost use Rattle.norm_order.specs.Laws.{SegmentLaws, GrowsWithPosition, KeptAsOrderGrows, KeptAsStreamGoesOn};
+ghost use Rattle.norm_order.specs.Laws.{SegmentLaws, GrowsWithPosition, KeptAsOrderGrows, KeptAsStreamGoesOn, OrdersGrow};
 
 /// The segments of a stream concatenate to its octets.
 #[tactic(auto, using(crate::proofs::SegmentLemmas::segment_laws))]
@@ -27,6 +27,12 @@ pub fn later_entries()
 #[tactic(auto, using(crate::proofs::GoingOnLemmas::kept_as_stream_goes_on))]
 pub fn longer_streams()
     ensures { KeptAsStreamGoesOn }
+{}
+
+/// What stands before a watermark stays as the order goes on, by more entries or by more parts of its last stream.
+#[tactic(auto, using(crate::proofs::LaterLemmas::orders_grow))]
+pub fn orders_grow()
+    ensures { OrdersGrow }
 {}
 
 /// Sets of numbers and of positions are lists that rise, and equal where they have the same members.
