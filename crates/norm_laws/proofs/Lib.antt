@@ -4,17 +4,6 @@ pub mod StreamNew
 pub mod GoneSent
 pub mod SentLemmas
 pub mod IdleRun
-pub mod ShapesThen
-pub mod AsItCame
-pub mod RoundAsks
-pub mod PleaDefs
-pub mod PleaKept
-pub mod PleaRun
-pub mod LowWorld
-pub mod SeenPasses
-pub mod PleaNeeds
-pub mod PleaRead
-pub mod RepairRun
 pub mod CountSteps
 pub mod CountSender
 pub mod CountOutcomes

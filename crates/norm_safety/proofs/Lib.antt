@@ -62,6 +62,17 @@ pub mod SaidRun
 pub mod LowNeeds
 pub mod LowKnown
 pub mod InTime
+pub mod ShapesThen
+pub mod AsItCame
+pub mod RoundAsks
+pub mod PleaDefs
+pub mod PleaKept
+pub mod PleaRun
+pub mod LowWorld
+pub mod SeenPasses
+pub mod PleaNeeds
+pub mod PleaRead
+pub mod RepairRun
 pub mod CreditLemmas
 pub mod MetLemmas
 pub mod SatisfiedRun

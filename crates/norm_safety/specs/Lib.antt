@@ -28,4 +28,6 @@ pub mod Acknowledges
 pub mod RepairSuffices
 pub mod FreshWants
 pub mod ClosingCompletes
+pub mod AsItCame
+pub mod Repairs
 pub mod Laws

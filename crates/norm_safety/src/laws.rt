@@ -2,10 +2,12 @@
 //! function that does nothing.
 
 ghost use Rattle.norm_safety.specs.Laws.{TestLaws, WantsHoldInRuns, SafeRun, OfLawfulRuns, SaidOfOrders, CreditRun, SatisfiedRun, AcknowledgeRun};
+ghost use Rattle.norm_safety.specs.AsItCame.{AsksAsItCame, RoundsAskAsItCame};
 ghost use Rattle.norm_safety.specs.ClosingCompletes.{ClosingCompletes};
 ghost use Rattle.norm_safety.specs.FreshWants.{FreshWants};
 ghost use Rattle.norm_safety.specs.InTime.{TimeLaws};
 ghost use Rattle.norm_safety.specs.LosesNothing.{LosesNothing};
+ghost use Rattle.norm_safety.specs.Repairs.{RepairsSuffice};
 ghost use Rattle.norm_safety.specs.WorldLaws.{WorldLaws};
 
 /// Every lawful run is safe, whatever the network loses, repeats, reorders or delays and however often the sender restarts. Accepted
@@ -72,6 +74,27 @@ pub fn fresh_run()
 #[tactic(auto, using(crate::proofs::FreshRun::closing_run))]
 pub fn closing_run()
     ensures { OfLawfulRuns ClosingCompletes }
+{}
+
+/// As a round closes, a request asks by the order as it stood when the request came: its infos, symbols and counts are those of then,
+/// whatever was enqueued, written, cut or ended since.
+#[tactic(auto, using(crate::proofs::AsItCame::as_it_came_law))]
+pub fn requests_ask_as_they_came()
+    ensures { AsksAsItCame }
+{}
+
+/// At each moment of each run a NACK of this instance brought each request of the open round, and it is read by the order of the
+/// moment when it came.
+#[tactic(auto, using(crate::proofs::RoundAsks::rounds_ask))]
+pub fn rounds_ask_as_they_came()
+    ensures { RoundsAskAsItCame }
+{}
+
+/// Coded repair suffices: as a round closes, what is wanted then completes each block that one of its NACKs counts, for the receiver that
+/// gave it, whatever others asked; and nobody holds what is wanted and was never sent. So it is in each lawful run of few objects.
+#[tactic(auto, using(crate::proofs::RepairRun::repair_run))]
+pub fn repairs_suffice()
+    ensures { RepairsSuffice }
 {}
 
 /// In lawful runs a receiver acknowledges only what it handed up, everything before included. And what was handed up is

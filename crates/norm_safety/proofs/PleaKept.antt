@@ -30,10 +30,10 @@ use Rattle.norm_safety.proofs.GoesOn.{OrderLater, later_entry}
 use Rattle.norm_safety.proofs.HeldPasses.{HeldPass}
 use Rattle.norm_safety.proofs.TickNoted.{was_sent}
 use Rattle.norm_safety.proofs.WorldHolds.{all_later}
-use Rattle.norm_laws.specs.AsItCame.{asked_yet}
-use Rattle.norm_laws.proofs.AsItCame.{order_then}
-use Rattle.norm_laws.proofs.PleaDefs.{Lacks}
-use Rattle.norm_laws.proofs.ShapesThen.{Longer, Grew, grew_itself, grew_both}
+use Rattle.norm_safety.specs.AsItCame.{asked_yet}
+use Rattle.norm_safety.proofs.AsItCame.{order_then}
+use Rattle.norm_safety.proofs.PleaDefs.{Lacks}
+use Rattle.norm_safety.proofs.ShapesThen.{Longer, Grew, grew_itself, grew_both}
 
 -- ---- members of lists
 

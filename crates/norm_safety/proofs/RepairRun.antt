@@ -12,12 +12,12 @@ use Rattle.norm_safety.specs.InOrder.{came_to}
 use Rattle.norm_safety.specs.World.{World, receiver_at}
 use Rattle.norm_safety.proofs.SenderHolds.{orders_hold}
 use Rattle.norm_safety.proofs.WorldHolds.{AtNode, AtReceiver, CameTo, WorldHolds}
-use Rattle.norm_laws.specs.Repairs.{RepairsSuffice}
-use Rattle.norm_laws.proofs.LowWorld.{LowWorld, IsCalm, event_low, receiver_at_low, low_opening}
-use Rattle.norm_laws.proofs.PleaDefs.{GivesPlea}
-use Rattle.norm_laws.proofs.PleaRead.{plea_gives}
-use Rattle.norm_laws.proofs.PleaRun.{repairs_suffice}
-use Rattle.norm_laws.proofs.SeenPasses.{SeenWorld, SeenAt, Seen, event_seen, opening_seen}
+use Rattle.norm_safety.specs.Repairs.{RepairsSuffice}
+use Rattle.norm_safety.proofs.LowWorld.{LowWorld, IsCalm, event_low, receiver_at_low, low_opening}
+use Rattle.norm_safety.proofs.PleaDefs.{GivesPlea}
+use Rattle.norm_safety.proofs.PleaRead.{plea_gives}
+use Rattle.norm_safety.proofs.PleaRun.{repairs_suffice}
+use Rattle.norm_safety.proofs.SeenPasses.{SeenWorld, SeenAt, Seen, event_seen, opening_seen}
 
 -- what is kept beside: receivers saw what is of their orders, and all indices are small
 record Low (p : Settings) (w : World) : Type 0 where

@@ -35,8 +35,8 @@ use Rattle.norm_safety.proofs.PieceLemmas.{number_low}
 use Rattle.norm_safety.proofs.SizedOrders.{IsSized, AreSized}
 use Rattle.norm_safety.proofs.Spoken.{sized_at}
 use Rattle.norm_safety.proofs.SymbolLater.{is_encoded_of}
-use Rattle.norm_laws.proofs.PleaDefs.{Lacks}
-use Rattle.norm_laws.proofs.SeenPasses.{IsSeen, PlanSeen, FlushSeen, SeenIn}
+use Rattle.norm_safety.proofs.PleaDefs.{Lacks}
+use Rattle.norm_safety.proofs.SeenPasses.{IsSeen, PlanSeen, FlushSeen, SeenIn}
 
 -- ---- needs
 

@@ -62,12 +62,12 @@ use Rattle.norm_safety.proofs.Spoken.{IsSpoken, current_order}
 use Rattle.norm_safety.proofs.TickTrue.{SentTrue, tick_true}
 use Rattle.norm_safety.proofs.TickNoted.{was_sent}
 use Rattle.norm_safety.proofs.WorldHolds.{WorldHolds}
-use Rattle.norm_laws.specs.AsItCame.{asked_yet}
-use Rattle.norm_laws.proofs.AsItCame.{Moves, step_moves}
-use Rattle.norm_laws.proofs.RoundAsks.{StepRound, step_round, joined_asks}
-use Rattle.norm_laws.proofs.ShapesThen.{Longer, Grew}
-use Rattle.norm_laws.proofs.PleaDefs.{Lacks, Counted, GivesPlea}
-use Rattle.norm_laws.proofs.PleaKept.{RoundOn, Awaits, in_of, all_tested, all_is, contains_of, lacks_on, held_on, awaits_on, closing_of, joins_round}
+use Rattle.norm_safety.specs.AsItCame.{asked_yet}
+use Rattle.norm_safety.proofs.AsItCame.{Moves, step_moves}
+use Rattle.norm_safety.proofs.RoundAsks.{StepRound, step_round, joined_asks}
+use Rattle.norm_safety.proofs.ShapesThen.{Longer, Grew}
+use Rattle.norm_safety.proofs.PleaDefs.{Lacks, Counted, GivesPlea}
+use Rattle.norm_safety.proofs.PleaKept.{RoundOn, Awaits, in_of, all_tested, all_is, contains_of, lacks_on, held_on, awaits_on, closing_of, joins_round}
 
 -- ---- orders that go on have shapes that grew
 

@@ -38,9 +38,9 @@ use Rattle.norm_safety.proofs.SizedOrders.{AreSized}
 use Rattle.norm_safety.proofs.LowNeeds.{AreUpTo, IsUpTo, asked_up_to}
 use Rattle.norm_safety.proofs.ReceiverMoves.{StandingIn, Standing}
 use Rattle.norm_safety.proofs.SenderHolds.{OrdersHold}
-use Rattle.norm_laws.proofs.PleaDefs.{Lacks, Counted, GivesPlea}
-use Rattle.norm_laws.proofs.PleaNeeds.{IsNeedOf, each_need, each_all}
-use Rattle.norm_laws.proofs.SeenPasses.{SeenIn, SeenBy, Seen}
+use Rattle.norm_safety.proofs.PleaDefs.{Lacks, Counted, GivesPlea}
+use Rattle.norm_safety.proofs.PleaNeeds.{IsNeedOf, each_need, each_all}
+use Rattle.norm_safety.proofs.SeenPasses.{SeenIn, SeenBy, Seen}
 
 -- ---- members of lists
 

@@ -38,8 +38,8 @@ use Rattle.norm_send_rules.proofs.WantLemmas.{where_free, either, no_row, EndsOp
 use Rattle.norm_safety.proofs.SenderKeeps.{Keeps, heard_keeps, ticked_keeps, told_keeps, struck_keeps}
 use Rattle.norm_safety.proofs.CommandSteps.{with_mark, marked_keeps}
 use Rattle.norm_safety.proofs.OnceLemmas.{unused_above}
-use Rattle.norm_laws.specs.AsItCame.{after, AsksAsItCame}
-use Rattle.norm_laws.proofs.ShapesThen.{Longer, Grew, grew_joined, grew_itself, grew_last, grew_both, order_ends, shapes_then}
+use Rattle.norm_safety.specs.AsItCame.{after, AsksAsItCame}
+use Rattle.norm_safety.proofs.ShapesThen.{Longer, Grew, grew_joined, grew_itself, grew_last, grew_both, order_ends, shapes_then}
 
 -- ---- orders that grow
 

@@ -44,9 +44,9 @@ use Rattle.norm_send_rules.proofs.AskingLemmas.{all_implied}
 use Rattle.norm_send_rules.proofs.ReachedLemmas.{reached_laws}
 use Rattle.norm_send_rules.proofs.ShapeLemmas.{blocks_of}
 use Rattle.norm_send_rules.proofs.TickLemmas.{TickKeeps, tick_keeps}
-use Rattle.norm_laws.specs.AsItCame.{after, asked_yet, AsksBy, CameByNack, RoundsAskAsItCame}
-use Rattle.norm_laws.proofs.ShapesThen.{Grew, grew_both}
-use Rattle.norm_laws.proofs.AsItCame.{Stays, Moves, by_fault, by_test, step_moves, order_then}
+use Rattle.norm_safety.specs.AsItCame.{after, asked_yet, AsksBy, CameByNack, RoundsAskAsItCame}
+use Rattle.norm_safety.proofs.ShapesThen.{Grew, grew_both}
+use Rattle.norm_safety.proofs.AsItCame.{Stays, Moves, by_fault, by_test, step_moves, order_then}
 
 -- ---- what an event does to the round
 
