@@ -68,7 +68,6 @@ pub mod RoundAsks
 pub mod PleaDefs
 pub mod PleaKept
 pub mod PleaRun
-pub mod LowWorld
 pub mod SeenPasses
 pub mod PleaNeeds
 pub mod PleaRead

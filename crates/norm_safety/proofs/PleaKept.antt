@@ -3,7 +3,6 @@ use Rattle.std.proofs.Common.{◌≡◌, ℕ, zero, suc, ◌+◌, ◌-◌, ◌<�
 use Rattle.std.specs.Prelude.{Contains, filter, flat_map, min, slice_get, not, nat_lt, ◌==◌, ◌&&◌, ◌||◌}
 use Rattle.std.specs.List.{AllByRecursion, list_all}
 use Rattle.std.proofs.lemmas.Bool.Decides.{Decides-eqb, Decides-ltb}
-use Rattle.std.proofs.lemmas.Option.{slice_get_within}
 use Rattle.norm_base.specs.Settings.{Settings, InRange}
 use Rattle.fec_plan.specs.Partition.{Cut, source_symbols, symbol_number}
 use Rattle.fec_plan.specs.Points.{Point, point_before}
@@ -245,18 +244,15 @@ closing_of p range s r x b open_round (inr h) =
 
 -- what a NACK counts stands in the round that it joins
 pub joins_round : (p : Settings) → InRange p → (s t : SenderState) (x : Plea) (b : Point) (request : Request) (requests : List Request) (lack : ℕ) → IsReached p s
-    → length s.current.order ≤ 32767 → IsIn requests request → Lacks p s.current.order x.receiver b lack
+    → last_index s ≤ b.index + 32767 → b.index ≤ last_index s + 32767 → IsIn requests request → Lacks p s.current.order x.receiver b lack
     → ((known : ℕ) → known ≤ b.index + 32767 → b.index ≤ known + 32767 → Contains (asked_counts (named p known request)) (record { of = b; lacking = lack }))
     → HeldPass (was_sent s) x.receiver.holding
     → t.current ≡ s.current → asked_yet t ≡ asked_yet s ++ map (asked_now p s) requests → ((at : Position) → was_sent s at ≡ true → was_sent t at ≡ true)
     → Awaits p t x b
-joins_round p range s t x b request requests lack reached few has lacks names held same asked sent = go (point_before b s.current.drop) refl
+joins_round p range s t x b request requests lack reached low high has lacks names held same asked sent = go (point_before b s.current.drop) refl
   where
     c : Count
     c = record { of = b; lacking = lack }
-
-    index : b.index < length s.current.order
-    index = slice_get_within s.current.order b.index lacks.entry lacks.found
 
     closed : nat_lt 0 (closed_in (shape_of p lacks.entry.object) b.block) ≡ true
     closed =
@@ -270,8 +266,7 @@ joins_round p range s t x b request requests lack reached few has lacks names he
         let A : List Asked → Type 0 = λ all. IsIn all (asked_now p s request) in
         let G : Instance → Type 0 = λ i. Grew (current_shapes p s) (shapes_of p i.order) in
         let L : Instance → Type 0 = λ i. Lacks p i.order x.receiver b lack in
-        let lt = index in
-        let near = in_of (asked_counts (named p (last_index s) request)) c (names (last_index s) (omega (arith, lt, few)) (omega (arith, lt, few))) in
+        let near = in_of (asked_counts (named p (last_index s) request)) c (names (last_index s) low high) in
         let test : is_kept (current_shapes p s) s.current.drop b ≡ true =
         both _ _ (ap not e) (entry_source p s.current.order b.index (λ y. nat_lt 0 (closed_in y b.block)) lacks.entry lacks.found closed) in
         inr (record {

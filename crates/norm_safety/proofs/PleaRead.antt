@@ -1,7 +1,7 @@
 -- A NACK that a receiver's tick gives is read again, and each block that it counts is counted, by whoever knows indices near it, by as many
--- symbols as its receiver lacked.
+-- symbols as its receiver lacked, where all its ids name what they were written for.
 use Rattle.std.proofs.Common.{◌≡◌, ℕ, zero, suc, ◌+◌, ◌*◌, ◌%◌, ◌<◌, ◌≤◌, cond, List, [], ◌∷◌, ◌++◌, length, Bool, true, false, Option, None, Some, Ok, refl, sym, ap, ◌∙◌, subst, arith, ◌⊎◌, inl, inr, length-append}
-use Rattle.std.specs.Prelude.{Contains, map, flat_map, nat_le, IfSome, ◌||◌, unwrap_or}
+use Rattle.std.specs.Prelude.{Contains, map, flat_map, nat_le, ◌||◌, unwrap_or}
 use Rattle.std.specs.List.{AllByRecursion}
 use Rattle.norm_base.specs.Member.{IsMember}
 use Rattle.norm_base.specs.Settings.{Settings, InRange}
@@ -10,6 +10,7 @@ use Rattle.fec_plan.specs.declared.position.Position.{Position}
 use Rattle.norm_ext.specs.Asked.{Asked, IsAsked, LastFits, ends_of, asked_items, written_item, request_alone, asked_before, requests_asked, asked_octets}
 use Rattle.norm_ext.specs.Asking.{Span, span, spans_of, named, named_by, item_span, Count, asked_counts, has_flag, segment_flag, block_flag}
 use Rattle.norm_ext.specs.Message.{Nack, Ack, NackMessage, AckMessage}
+use Rattle.norm_ext.specs.ObjectIds.{object_id}
 use Rattle.norm_ext.specs.Octets.{octets_of, requests_octets}
 use Rattle.norm_ext.specs.Reading.{decoded}
 use Rattle.norm_ext.specs.Requests.{Request, RequestItem, IsRequestItem, IsItem, IsRequest, item_size, request_octets}
@@ -18,7 +19,7 @@ use Rattle.norm_ext.specs.declared.head.Item.{Item}
 use Rattle.norm_ext.specs.declared.kinds.Form.{Form}
 use Rattle.norm_ext.specs.declared.kinds.Form.TheVariants as form
 use Rattle.norm_ext.proofs.AskedLemmas.{alike, alike_is}
-use Rattle.norm_ext.proofs.IdLemmas.{named_again_law}
+use Rattle.norm_ext.proofs.IdLemmas.{named_again_law, names_nearest_law}
 use Rattle.norm_ext.proofs.LawsHold.{read_again_law}
 use Rattle.norm_ext.proofs.RequestLemmas.{items_size}
 use Rattle.norm_order.specs.Entries.{Entry}
@@ -35,12 +36,12 @@ use Rattle.norm_safety.specs.InOrder.{drop_of}
 use Rattle.norm_safety.specs.RepairSuffices.{counted_blocks}
 use Rattle.norm_safety.proofs.Holding.{ReceiverHolds}
 use Rattle.norm_safety.proofs.SizedOrders.{AreSized}
-use Rattle.norm_safety.proofs.LowNeeds.{AreUpTo, IsUpTo, asked_up_to}
+use Rattle.norm_safety.proofs.LowNeeds.{asked_up_to}
 use Rattle.norm_safety.proofs.ReceiverMoves.{StandingIn, Standing}
 use Rattle.norm_safety.proofs.SenderHolds.{OrdersHold}
-use Rattle.norm_safety.proofs.PleaDefs.{Lacks, Counted, GivesPlea}
+use Rattle.norm_safety.proofs.PleaDefs.{Lacks, Counted, IsPlain, GivesPlea}
 use Rattle.norm_safety.proofs.PleaNeeds.{IsNeedOf, each_need, each_all}
-use Rattle.norm_safety.proofs.SeenPasses.{SeenIn, SeenBy, Seen}
+use Rattle.norm_safety.proofs.SeenPasses.{KnowsOf, SeenIn, SeenBy, Seen}
 
 -- ---- members of lists
 
@@ -104,6 +105,10 @@ all_in : {X : Type 0} (P : X → Type 0) (xs : List X) (x : X) → AllByRecursio
 all_in P [] x all has = absurd has
 all_in P (y ∷ xs) x all (inl is) = subst P is all.0
 all_in P (y ∷ xs) x all (inr has) = all_in P xs x all.1 has
+
+all_of : {X : Type 0} (P : X → Type 0) (xs : List X) → ((x : X) → IsIn xs x → P x) → AllByRecursion P xs
+all_of P [] f = tt
+all_of P (x ∷ xs) f = (f x (inl refl), all_of P xs (λ y has. f y (inr has)))
 
 -- ---- what a need is asked by fits
 
@@ -196,46 +201,50 @@ asked_all p order r (need ∷ wanted) all = (asked_fits p order r need all.0, as
 
 -- ---- the items of counts
 
--- an item counts symbols that the receiver lacks of a block, with an index up to n
-record CountsOf (p : Settings) (order : List Entry) (r : ReceiverState) (n : ℕ) (x : RequestItem) : Type 0 where
+-- an item counts symbols that the receiver lacks of a block, with one of these indices
+record CountsOf (p : Settings) (order : List Entry) (r : ReceiverState) (indices : List ℕ) (x : RequestItem) : Type 0 where
   index : ℕ
   block : ℕ
   wanted : ℕ
   is : x ≡ written_item (item_of p (position index block wanted))
   lacks : Lacks p order r (point index block) wanted
-  up_to : index ≤ n
+  among : IsIn indices index
 
 -- so do all items of a request of counts
-record AreCounts (p : Settings) (order : List Entry) (r : ReceiverState) (n : ℕ) (q : Request) : Type 0 where
-  counts : q.form ≡ form.Erasures → (q.flags ≡ 1) × AllByRecursion (CountsOf p order r n) q.items
+record AreCounts (p : Settings) (order : List Entry) (r : ReceiverState) (indices : List ℕ) (q : Request) : Type 0 where
+  counts : q.form ≡ form.Erasures → (q.flags ≡ 1) × AllByRecursion (CountsOf p order r indices) q.items
 
-alone_counts : (p : Settings) (order : List Entry) (r : ReceiverState) (n : ℕ) (need : Need) → IsNeedOf p order r need → IsUpTo n need
-    → AreCounts p order r n (request_alone (asked_of p need))
-alone_counts p order r n (Unknown index) h up = record { counts = λ e. absurd (cc e) }
-alone_counts p order r n (ObjectInfo index) h up = record { counts = λ e. absurd (cc e) }
-alone_counts p order r n (Symbols index block wanted) h up = record {
-  counts = λ e. (refl, (record { index = index; block = block; wanted = wanted; is = refl; lacks = h.2; up_to = up.0 }, tt));
+-- a need has only these indices
+abbrev IsAmong : List ℕ → Need → Type 0
+IsAmong indices need = AllByRecursion (λ i. IsIn indices i) (indices_of need)
+
+alone_counts : (p : Settings) (order : List Entry) (r : ReceiverState) (indices : List ℕ) (need : Need) → IsNeedOf p order r need → IsAmong indices need
+    → AreCounts p order r indices (request_alone (asked_of p need))
+alone_counts p order r indices (Unknown index) h among = record { counts = λ e. absurd (cc e) }
+alone_counts p order r indices (ObjectInfo index) h among = record { counts = λ e. absurd (cc e) }
+alone_counts p order r indices (Symbols index block wanted) h among = record {
+  counts = λ e. (refl, (record { index = index; block = block; wanted = wanted; is = refl; lacks = h.2; among = among.0 }, tt));
 }
-alone_counts p order r n (Source at) h up = record { counts = λ e. absurd (cc e) }
-alone_counts p order r n (Rest index block) h up = record { counts = λ e. absurd (cc e) }
+alone_counts p order r indices (Source at) h among = record { counts = λ e. absurd (cc e) }
+alone_counts p order r indices (Rest index block) h among = record { counts = λ e. absurd (cc e) }
 
 items_append : (P : RequestItem → Type 0) (xs ys : List RequestItem) → AllByRecursion P xs → AllByRecursion P ys → AllByRecursion P (xs ++ ys)
 items_append P [] ys a b = b
 items_append P (x ∷ xs) ys a b = (a.0, items_append P xs ys a.1 b)
 
-all_counts : (p : Settings) (order : List Entry) (r : ReceiverState) (n : ℕ) (wanted : List Need) → AllByRecursion (IsNeedOf p order r) wanted
-    → AllByRecursion (IsUpTo n) wanted → AllByRecursion (AreCounts p order r n) (requests_asked (map (asked_of p) wanted))
-all_counts p order r n [] all up = tt
-all_counts p order r n (need ∷ wanted) all up =
-    let own = alone_counts p order r n need all.0 up.0 in
-    before_keeps (AreCounts p order r n) (asked_of p need) (requests_asked (map (asked_of p) wanted)) own
+all_counts : (p : Settings) (order : List Entry) (r : ReceiverState) (indices : List ℕ) (wanted : List Need) → AllByRecursion (IsNeedOf p order r) wanted
+    → AllByRecursion (IsAmong indices) wanted → AllByRecursion (AreCounts p order r indices) (requests_asked (map (asked_of p) wanted))
+all_counts p order r indices [] all among = tt
+all_counts p order r indices (need ∷ wanted) all among =
+    let own = alone_counts p order r indices need all.0 among.0 in
+    before_keeps (AreCounts p order r indices) (asked_of p need) (requests_asked (map (asked_of p) wanted)) own
     (λ q same flags h. record {
       counts = λ e. (
           let mine = own.counts (same ∙ e) in
           let theirs = h.counts e in
-          (theirs.0, items_append (CountsOf p order r n) (asked_items (asked_of p need)) q.items mine.1 theirs.1)
+          (theirs.0, items_append (CountsOf p order r indices) (asked_items (asked_of p need)) q.items mine.1 theirs.1)
           );
-    }) (all_counts p order r n wanted all.1 up.1)
+    }) (all_counts p order r indices wanted all.1 among.1)
 
 -- ---- what a request of counts names
 
@@ -247,6 +256,13 @@ names_it : (p : Settings) (known index block wanted : ℕ) → known ≤ index +
     → named_by p known (written_item (item_of p (position index block wanted))) ≡ Some (position index block wanted)
 names_it p known index block wanted low high most =
     ap (λ (found : Option ℕ). elim found [ Some i ↦ Some (position i block wanted) | None ↦ None ]) (named_again_law p known index low high most)
+
+-- a receiver's own ids name as far as 32,768 below what it knows
+names_own : (p : Settings) (known index block wanted : ℕ) → known ≤ index + 32768 → index ≤ known → index ≤ 4294967294
+    → named_by p known (written_item (item_of p (position index block wanted))) ≡ Some (position index block wanted)
+names_own p known index block wanted low high most =
+    ap (λ (found : Option ℕ). elim found [ Some i ↦ Some (position i block wanted) | None ↦ None ])
+    ((names_nearest_law p known (object_id p index) index (omega arith)).1 ((low, omega (arith, high), most), refl))
 
 -- a request of counts gives the count of each of its items
 gives_count : (p : Settings) (known : ℕ) (q : Request) (x : RequestItem) (at : Position) → q.form ≡ form.Erasures → q.flags ≡ 1 → IsIn q.items x
@@ -386,12 +402,12 @@ front_all : {X : Type 0} (P : X → Type 0) (xs ys : List X) → AllByRecursion 
 front_all P [] ys all = tt
 front_all P (x ∷ xs) ys all = (all.0, front_all P xs ys all.1)
 
-up_to_all : (n : ℕ) (wanted : List Need) → AreUpTo n (flat_map indices_of wanted) → AllByRecursion (IsUpTo n) wanted
-up_to_all n [] all = tt
-up_to_all n (need ∷ wanted) all =
-    (front_all (λ i. i ≤ n) (indices_of need) (flat_map indices_of wanted) all, up_to_all n wanted (behind (indices_of need) all))
+among_all : (indices : List ℕ) (wanted : List Need) → AllByRecursion (λ i. IsIn indices i) (flat_map indices_of wanted) → AllByRecursion (IsAmong indices) wanted
+among_all indices [] all = tt
+among_all indices (need ∷ wanted) all =
+    (front_all (λ i. IsIn indices i) (indices_of need) (flat_map indices_of wanted) all, among_all indices wanted (behind (indices_of need) all))
   where
-    behind : (xs : List ℕ) → AreUpTo n (xs ++ flat_map indices_of wanted) → AreUpTo n (flat_map indices_of wanted)
+    behind : (xs : List ℕ) → AllByRecursion (λ i. IsIn indices i) (xs ++ flat_map indices_of wanted) → AllByRecursion (λ i. IsIn indices i) (flat_map indices_of wanted)
     behind [] h = h
     behind (x ∷ xs) h = behind xs h.1
 
@@ -404,13 +420,12 @@ wanted_is p range order d taken r sized h seen =
     let A : List Need → Type 0 = λ xs. AllByRecursion (IsNeedOf p order r) xs in
     front_all (IsNeedOf p order r) (wanted_of p r) longest.rest (subst A longest.begins all)
 
--- A NACK of a receiver whose indices are small is a plea of which all counts are what it lacked.
+-- A NACK is a plea, of which all counts are what its receiver lacked where its ids name what they were written for.
 pub plea_in : (p : Settings) → InRange p → (s : SenderState) (taken : ℕ → List Up) (r : ReceiverState) (now : ℕ) (o : Written) (m : NackMessage) → OrdersHold p s
     → IsMember r.node → r.sequence < 65536 → ((id : ℕ) → r.instance ≡ Some id → id < 65536) → Standing p s taken r → Seen p s r
-    → r.knows.known ≤ 32767 → IfSome r.knows.farthest (λ at. at.index ≤ 32767) → IfSome r.knows.flush (λ at. at.index ≤ 32767)
     → (ticked p r now).1 ≡ Some o → o.message ≡ Nack m → (id : ℕ) → r.instance ≡ Some id
-    → GivesPlea p s (record { receiver = r; octets = o.octets; nack = m })
-plea_in p range s taken r now o m orders member sequence few stands seen known far near sent is id inside = in_one (subst S inside stands) (subst K inside seen)
+    → GivesPlea p s (record { receiver = r; octets = o.octets; indices = o.indices; nack = m })
+plea_in p range s taken r now o m orders member sequence few stands seen sent is id inside = in_one (subst S inside stands) (subst K inside seen)
   where
     W : List Need
     W = wanted_of p r
@@ -440,8 +455,14 @@ plea_in p range s taken r now o m orders member sequence few stands seen known f
     size : length (asked_octets asked) < 65536
     size = let longest = nack_laws.longest p (needs p r) p.e in let fits = longest.fits in let most = range.e.1 in omega (arith, fits, most)
 
-    ups : AllByRecursion (IsUpTo 32767) W
-    ups = up_to_all 32767 W (asked_up_to 32767 p r far near)
+    indices : List ℕ
+    indices = flat_map indices_of W
+
+    indices_is : o.indices ≡ indices
+    indices_is = ap (λ (x : Written). x.indices) written
+
+    among : AllByRecursion (IsAmong indices) W
+    among = among_all indices W (all_of (λ (i : ℕ). IsIn indices i) indices (λ i has. has))
 
     nack_id : m.instance ≡ id
     nack_id = ap (λ (x : NackMessage). x.instance) m_is ∙ ap (λ (x : Option ℕ). unwrap_or x 0) inside
@@ -459,19 +480,25 @@ plea_in p range s taken r now o m orders member sequence few stands seen known f
         }) in
         ap decoded (ap (λ (x : Written). x.octets) written) ∙ again ∙ ap (λ (x : NackMessage). Ok (Nack x)) (sym m_is)
 
-    counted : (order : List Entry) (at_id : ℕ) → order ≡ order_of s at_id → instance_id r ≡ at_id → AllByRecursion (IsNeedOf p order r) W → (b : Point)
-        → Contains (counted_blocks p (record { receiver = r; octets = o.octets; nack = m })) b → Counted p s (record { receiver = r; octets = o.octets; nack = m }) b
-    counted order at_id order_is id_is all b has =
+    counted : (order : List Entry) (at_id : ℕ) → order ≡ order_of s at_id → instance_id r ≡ at_id → AllByRecursion (IsNeedOf p order r) W → KnowsOf order r.knows
+        → IsPlain (record { receiver = r; octets = o.octets; indices = o.indices; nack = m }) → (b : Point)
+        → Contains (counted_blocks p (record { receiver = r; octets = o.octets; indices = o.indices; nack = m })) b
+        → Counted p s (record { receiver = r; octets = o.octets; indices = o.indices; nack = m }) b
+    counted order at_id order_is id_is all knows plain b has =
         let P : NackMessage → Type 0 = λ x. IsIn (map (λ (c : Count). c.of) (flat_map (λ (q : Request). asked_counts (named p r.knows.known q)) x.requests)) b in
         let here = subst P m_is (in_of _ b has) in
         let c = in_map (λ (c : Count). c.of) (flat_map (λ (q : Request). asked_counts (named p r.knows.known q)) (requests_asked asked)) b here in
         let q = in_flat (λ (q : Request). asked_counts (named p r.knows.known q)) (requests_asked asked) c.0 c.1 in
         let given = count_given p r.knows.known q.0 c.0 q.2 in
-        let counts = (all_in (AreCounts p order r 32767) (requests_asked asked) q.0 (all_counts p order r 32767 W all ups) q.1).counts given.0 in
-        let item = all_in (CountsOf p order r 32767) q.0.items given.1 counts.1 given.2 in
-        let up = item.up_to in
+        let counts = (all_in (AreCounts p order r indices) (requests_asked asked) q.0 (all_counts p order r indices W all among) q.1).counts given.0 in
+        let item = all_in (CountsOf p order r indices) q.0.items given.1 counts.1 given.2 in
+        let up : item.index ≤ r.knows.known = all_in (λ (i : ℕ). i ≤ r.knows.known) indices item.index (asked_up_to r.knows.known p r knows.farthest knows.flush) item.among in
+        let L : List ℕ → Type 0 = λ xs. AllByRecursion (λ i. r.knows.known ≤ i + 32768) xs in
+        let low : r.knows.known ≤ item.index + 32768 = all_in (λ (i : ℕ). r.knows.known ≤ i + 32768) indices item.index (subst L indices_is plain) item.among in
+        let known_most = knows.most in
+        let most : item.index ≤ 4294967294 = omega (arith, up, known_most) in
         let names : named_by p r.knows.known given.1 ≡ Some (position item.index item.block item.wanted) =
-        ap (named_by p r.knows.known) item.is ∙ names_it p r.knows.known item.index item.block item.wanted (omega (arith, known)) (omega (arith, up)) (omega (arith, up)) in
+        ap (named_by p r.knows.known) item.is ∙ names_own p r.knows.known item.index item.block item.wanted low up most in
         let C : Option Position → Type 0 = λ found. IsIn (map count_of (item_span found)) c.0 in
         let one = subst C names given.3 in
         let b_is : point item.index item.block ≡ b = first_of (record { of = point item.index item.block; lacking = item.wanted }) c.0 one c.2 in
@@ -482,15 +509,20 @@ plea_in p range s taken r now o m orders member sequence few stands seen known f
         record {
           request = q.0;
           has = contains_of m.requests q.0 (subst R (sym m_is) q.1);
+          among = (
+              let N : List ℕ → Type 0 = λ xs. Contains xs b.index in
+              let I : ℕ → Type 0 = λ i. Contains indices i in
+              subst N (sym indices_is) (subst I (ap (λ (at : Point). at.index) b_is) (contains_of indices item.index item.among))
+              );
           inside = inside ∙ ap (λ (n : ℕ). Some n) (sym nack_id);
           lack = item.wanted;
           lacks = (let I : NackMessage → Type 0 = λ x. Lacks p (order_of s x.instance) r b item.wanted in subst I (sym m_is) (subst M (sym id_is) lack_order));
-          names = λ k low high. (
+          names = λ k below above. (
               let B : Point → Type 0 = λ at. IsIn (asked_counts (named p k q.0)) (record { of = at; lacking = item.wanted }) in
               let index : item.index ≡ b.index = ap (λ (at : Point). at.index) b_is in
               contains_of (asked_counts (named p k q.0)) (record { of = b; lacking = item.wanted })
               (subst B b_is (gives_count p k q.0 given.1 (position item.index item.block item.wanted) given.0 counts.0 given.2
-              (ap (named_by p k) item.is ∙ names_it p k item.index item.block item.wanted (omega (arith, low, index)) (omega (arith, high, index)) (omega (arith, up)))))
+              (ap (named_by p k) item.is ∙ names_it p k item.index item.block item.wanted (omega (arith, below, index)) (omega (arith, above, index)) most)))
               );
         }
       where
@@ -504,23 +536,24 @@ plea_in p range s taken r now o m orders member sequence few stands seen known f
     K : Option ℕ → Type 0
     K instance = SeenBy p s r instance
 
-    in_one : StandingIn p s taken r (Some id) → SeenBy p s r (Some id) → GivesPlea p s (record { receiver = r; octets = o.octets; nack = m })
+    in_one : StandingIn p s taken r (Some id) → SeenBy p s r (Some id) → GivesPlea p s (record { receiver = r; octets = o.octets; indices = o.indices; nack = m })
     in_one h k =
         let order : List Entry = order_of s id in
         let all = wanted_is p range order (drop_of s id) (taken id) r (orders.sized id) h k in
         let same : instance_id r ≡ id = ap (λ (x : Option ℕ). unwrap_or x 0) inside in
         let F : ℕ → Type 0 = λ n. n < 65536 in
+        let L : ℕ → Type 0 = λ i. r.knows.known ≤ length (order_of s i) in
         record {
           read = spelled order all (subst F (sym same) (few id inside));
-          counts = counted order id refl same all;
+          within = subst L (sym nack_id) k.knows.within;
+          counts = counted order id refl same all k.knows;
         }
 
 -- The same of each receiver: one that is in no instance gives no NACK.
 pub plea_gives : (p : Settings) → InRange p → (s : SenderState) (taken : ℕ → List Up) (r : ReceiverState) (now : ℕ) (o : Written) (m : NackMessage) → OrdersHold p s
     → IsMember r.node → r.sequence < 65536 → ((id : ℕ) → r.instance ≡ Some id → id < 65536) → Standing p s taken r → Seen p s r
-    → r.knows.known ≤ 32767 → IfSome r.knows.farthest (λ at. at.index ≤ 32767) → IfSome r.knows.flush (λ at. at.index ≤ 32767)
-    → (ticked p r now).1 ≡ Some o → o.message ≡ Nack m → GivesPlea p s (record { receiver = r; octets = o.octets; nack = m })
-plea_gives p range s taken r now o m orders member sequence few stands seen known far near sent is = by_instance r.instance refl seen
+    → (ticked p r now).1 ≡ Some o → o.message ≡ Nack m → GivesPlea p s (record { receiver = r; octets = o.octets; indices = o.indices; nack = m })
+plea_gives p range s taken r now o m orders member sequence few stands seen sent is = by_instance r.instance refl seen
   where
     nothing : (backoff : Option ℕ) → backoff ≡ None → AsksNot (sent_is (elim backoff [
       | Some ends ↦ elim (nat_le ends now) [ true ↦ asks_where_needed p now (record r { knows = record (r.knows) { backoff = None } }) | false ↦ (r, None) ]
@@ -542,6 +575,6 @@ plea_gives p range s taken r now o m orders member sequence few stands seen know
     due idle None = nothing r.knows.backoff idle
     due idle (Some at) = acks at
 
-    by_instance : (instance : Option ℕ) → r.instance ≡ instance → SeenBy p s r instance → GivesPlea p s (record { receiver = r; octets = o.octets; nack = m })
+    by_instance : (instance : Option ℕ) → r.instance ≡ instance → SeenBy p s r instance → GivesPlea p s (record { receiver = r; octets = o.octets; indices = o.indices; nack = m })
     by_instance None e k = absurd (due k r.knows.due o m sent is)
-    by_instance (Some id) e k = plea_in p range s taken r now o m orders member sequence few stands seen known far near sent is id e
+    by_instance (Some id) e k = plea_in p range s taken r now o m orders member sequence few stands seen sent is id e

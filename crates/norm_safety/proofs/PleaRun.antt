@@ -1,4 +1,4 @@
--- Coded repair suffices in each lawful run of few objects: what the NACKs of a round count is completed as it closes.
+-- Coded repair suffices in each lawful run: what the NACKs of a round count is completed as it closes.
 use Rattle.std.proofs.Common.{◌≡◌, ℕ, zero, suc, ◌+◌, ◌<◌, ◌≤◌, cond, List, [], ◌∷◌, ◌++◌, length, map, Bool, true, false, Option, None, Some, Result, Ok, refl, sym, ap, ◌∙◌, subst, append-nil, arith, ◌⊎◌, inl, inr}
 use Rattle.std.specs.Prelude.{Contains, find, filter, slice_get, nat_eq, nat_le, ◌==◌, ◌&&◌, ⊤}
 use Rattle.std.specs.List.{AllByRecursion, IsDistinct, list_all}
@@ -25,6 +25,7 @@ use Rattle.norm_send_rules.specs.SenderStep as sender
 use Rattle.norm_send_rules.specs.SenderStep.{SenderEvent, sender_step}
 use Rattle.norm_send_rules.specs.Restarting.{instances}
 use Rattle.norm_send_rules.specs.Closing.{round_closed}
+use Rattle.norm_send_rules.specs.InWindow.{last_index}
 use Rattle.norm_send_rules.specs.Commanding.{commanded}
 use Rattle.norm_send_rules.specs.Hearing.{nack_counts, message_heard, joined_round, heard, asked_now}
 use Rattle.norm_send_rules.specs.Reached.{IsReached}
@@ -40,19 +41,18 @@ use Rattle.norm_safety.specs.Events.{Event, Commanded, Delivered, Ticked, Offere
 use Rattle.norm_safety.specs.Jobs.{IsJob, IsEvent, AreEvents}
 use Rattle.norm_safety.specs.OnceEach.{order_of, instance_ids}
 use Rattle.norm_safety.specs.InOrder.{drop_of}
-use Rattle.norm_safety.specs.RepairSuffices.{Plea, Pleas, plea_of, gave_plea, joins_by, counted_blocks, closes_by, pleas_after, completes, is_fresh, wanted_symbols, closing_suffices, event_suffices, suffices_from, RepairSuffices}
+use Rattle.norm_safety.specs.RepairSuffices.{Plea, Pleas, plea_of, gave_plea, joins_by, joins, counted_blocks, closes_by, pleas_after, completes, is_fresh, wanted_symbols, closing_suffices, event_suffices, suffices_from, RepairSuffices}
 use Rattle.norm_safety.specs.History.{Happening, happens, history}
-use Rattle.norm_safety.specs.InTime.{FewObjects}
-use Rattle.norm_safety.specs.Lawful.{accepted_with, MayCome, LawfulFrom, Lawful}
+use Rattle.norm_safety.specs.Lawful.{accepted_with, most_apart, is_near, are_near, MayCome, LawfulFrom, Lawful}
 use Rattle.norm_safety.specs.WorldLaws.{nodes_of}
 use Rattle.norm_safety.specs.World.{same_octets, World, world_opening, receiver_at, with_receiver, with_given, is_of, offers}
-use Rattle.norm_safety.specs.WorldStep.{world_step, moved, node_move, receiver_move, run_from, run}
+use Rattle.norm_safety.specs.WorldStep.{world_step, moved, node_move, receiver_move}
 use Rattle.norm_safety.proofs.EntryLemmas.{clash}
 use Rattle.norm_safety.proofs.FreshRun.{HoldsSent, Sent as SentHolds, Differ, fresh_at, claims_of}
 use Rattle.norm_safety.proofs.FrontLemmas.{same_list}
 use Rattle.norm_safety.proofs.HeldPasses.{HeldPass}
 use Rattle.norm_safety.proofs.GoesOn.{ObjectLater, OrderLater, closed_later, later_long}
-use Rattle.norm_safety.proofs.Onward.{Onward, goes_on_itself, go_on_both}
+use Rattle.norm_safety.proofs.Onward.{Onward, goes_on_itself}
 use Rattle.norm_safety.proofs.OrderRun.{happening, event_holds, opening_world}
 use Rattle.norm_safety.proofs.PlaceLemmas.{current_found}
 use Rattle.norm_safety.proofs.SenderHolds.{SenderHolds, Steps, OrderGoes, some_octets, order_later, command_steps, keeps_steps, point_in}
@@ -61,12 +61,13 @@ use Rattle.norm_safety.proofs.SizedOrders.{OrderCase, Rests, Enqueues, Grows, Ma
 use Rattle.norm_safety.proofs.Spoken.{IsSpoken, current_order}
 use Rattle.norm_safety.proofs.TickTrue.{SentTrue, tick_true}
 use Rattle.norm_safety.proofs.TickNoted.{was_sent}
-use Rattle.norm_safety.proofs.WorldHolds.{WorldHolds}
+use Rattle.norm_safety.proofs.ReceiverMoves.{le_true}
+use Rattle.norm_safety.proofs.WorldHolds.{WorldHolds, all_contains}
 use Rattle.norm_safety.specs.AsItCame.{asked_yet}
 use Rattle.norm_safety.proofs.AsItCame.{Moves, step_moves}
 use Rattle.norm_safety.proofs.RoundAsks.{StepRound, step_round, joined_asks}
 use Rattle.norm_safety.proofs.ShapesThen.{Longer, Grew}
-use Rattle.norm_safety.proofs.PleaDefs.{Lacks, Counted, GivesPlea}
+use Rattle.norm_safety.proofs.PleaDefs.{Lacks, Counted, IsPlain, GivesPlea}
 use Rattle.norm_safety.proofs.PleaKept.{RoundOn, Awaits, in_of, all_tested, all_is, contains_of, lacks_on, held_on, awaits_on, closing_of, joins_round}
 
 -- ---- orders that go on have shapes that grew
@@ -243,7 +244,8 @@ round_on p range s t differ differs onward id sent more asked =
 -- the instance is the current one.
 pub record GivenHolds (p : Settings) (s : SenderState) (x : Plea) : Type 0 where
   pub read : decoded x.octets ≡ Ok (Nack x.nack)
-  pub counts : (b : Point) → Contains (counted_blocks p x) b
+  pub within : x.receiver.knows.known ≤ length (order_of s x.nack.instance)
+  pub counts : IsPlain x → (b : Point) → Contains (counted_blocks p x) b
       → Counted p s x b × (x.nack.instance ≡ s.current.id → HeldPass (was_sent s) x.receiver.holding)
 
 -- what a NACK that joined the round counts is in it, or was dropped
@@ -256,7 +258,15 @@ pub record PleasHold (p : Settings) (s : SenderState) (x : Pleas) : Type 0 where
   pub joined : AllByRecursion (JoinedHolds p s) x.joined
 
 given_on : (p : Settings) → InRange p → (s t : SenderState) (x : Plea) → SenderGoes p s t → IsDistinct nat_eq (instance_ids t) → GivenHolds p s x → GivenHolds p t x
-given_on p range s t x on differs h = record { read = h.read; counts = λ b has. counts b (h.counts b has) }
+given_on p range s t x on differs h = record {
+  read = h.read;
+  within = (
+      let le = h.within in
+      let long = later_long (order_of s x.nack.instance) (order_of t x.nack.instance) (order_later s t on.steps.onward x.nack.instance).order in
+      omega (arith, le, long)
+      );
+  counts = λ plain b has. counts b (h.counts plain b has);
+}
   where
     counts : (b : Point) → Counted p s x b × (x.nack.instance ≡ s.current.id → HeldPass (was_sent s) x.receiver.holding)
         → Counted p t x b × (x.nack.instance ≡ t.current.id → HeldPass (was_sent t) x.receiver.holding)
@@ -270,7 +280,7 @@ given_on p range s t x on differs h = record { read = h.read; counts = λ b has.
             (grew_of p (some_octets p range) (order_of s x.nack.instance) (order_of t x.nack.instance) later.order) c.lacks
 
         now : Counted p t x b
-        now = record { inside = c.inside; request = c.request; has = c.has; lack = c.lack; lacks = lacks; names = c.names }
+        now = record { inside = c.inside; request = c.request; has = c.has; among = c.among; lack = c.lack; lacks = lacks; names = c.names }
 
         still : Stayed s t ⊎ Began t → x.nack.instance ≡ t.current.id → HeldPass (was_sent t) x.receiver.holding
         still (inl stayed) e = held_on s t x.receiver stayed.sent (held (e ∙ stayed.id))
@@ -290,24 +300,49 @@ and_parts : (a b : Bool) → (a && b) ≡ true → (a ≡ true) × (b ≡ true)
 and_parts true b e = (refl, e)
 and_parts false b e = absurd (clash e)
 
--- a NACK that is delivered to the sender, and counts
+-- an index lies near one that is known
+abbrev IsNearBy : ℕ → ℕ → Type 0
+IsNearBy known i = (i ≤ known + 32767) × (known ≤ i + 32767)
+
+-- the same of each
+near_all : (known : ℕ) (indices : List ℕ) → are_near (Some known) indices ≡ true → AllByRecursion (λ i. IsNearBy known i) indices
+near_all known [] e = tt
+near_all known (i ∷ indices) e =
+    let both = and_parts (is_near known i) (are_near (Some known) indices) e in
+    let ends = and_parts (nat_le i (known + most_apart)) (nat_le known (i + most_apart)) both.0 in
+    ((le_true i (known + most_apart) ends.0, le_true known (i + most_apart) ends.1), near_all known indices both.1)
+
+-- A NACK that is near the last index of the sender's order names to its receiver what it was written for: the receiver knew no index above
+-- the order's length.
+near_plain : (last known : ℕ) (indices : List ℕ) → known ≤ last + 1 → AllByRecursion (λ i. IsNearBy last i) indices
+    → AllByRecursion (λ i. known ≤ i + 32768) indices
+near_plain last known [] le all = tt
+near_plain last known (i ∷ indices) le all = (let near : last ≤ i + 32767 = all.0.1 in omega (arith, le, near), near_plain last known indices le all.1)
+
+-- a NACK that is delivered to the sender, and joins
 joins_one : (p : Settings) → InRange p → (s : SenderState) (octets : List ℕ) (now : ℕ) (y : Plea) → IsReached p s → IsDistinct nat_eq (instance_ids s)
-    → length s.current.order ≤ 32767 → (same_octets y.octets octets && nack_counts p s y.nack) ≡ true → GivenHolds p s y → JoinedHolds p (heard p s octets now) y
-joins_one p range s octets now y reached differ few e h b has =
-    let both = and_parts (same_octets y.octets octets) (nack_counts p s y.nack) e in
+    → joins p s octets y ≡ true → GivenHolds p s y → JoinedHolds p (heard p s octets now) y
+joins_one p range s octets now y reached differ e h b has =
+    let parts = and_parts (same_octets y.octets octets && nack_counts p s y.nack) (are_near (Some (last_index s)) y.indices) e in
+    let both = and_parts (same_octets y.octets octets) (nack_counts p s y.nack) parts.0 in
     let is : y.octets ≡ octets = same_list y.octets octets both.0 in
     let read : decoded octets ≡ Ok (Nack y.nack) = ap decoded (sym is) ∙ h.read in
     let step : heard p s octets now ≡ joined_round p s now y.nack.requests =
     ap (λ (said : Result Message Refusal). message_heard p s now said) read
     ∙ ap (λ (b : Bool). elim b as (λ _. SenderState) [ true ↦ joined_round p s now y.nack.requests | false ↦ s ]) both.1 in
-    let counts = h.counts b has in
-    let c = counts.0 in
     let to = and_parts (is_receiver p y.nack.source) (y.nack.sender == p.sender && y.nack.instance == s.current.id) both.1 in
     let own : y.nack.instance ≡ s.current.id = (Decides-eqb y.nack.instance s.current.id).0 (and_parts (y.nack.sender == p.sender) (y.nack.instance == s.current.id) to.1).1 in
+    let order : order_of s y.nack.instance ≡ s.current.order = ap (order_of s) own ∙ current_order s differ in
+    let near = near_all (last_index s) y.indices parts.1 in
+    let known : y.receiver.knows.known ≤ last_index s + 1 =
+    (let le = h.within in let same = ap (λ (order : List Entry). length order) order in omega (arith, le, same)) in
+    let counts = h.counts (near_plain (last_index s) y.receiver.knows.known y.indices known near) b has in
+    let c = counts.0 in
+    let by = all_contains (λ (i : ℕ). IsNearBy (last_index s) i) y.indices b.index near c.among in
     let L : List Entry → Type 0 = λ order. Lacks p order y.receiver b c.lack in
     let A : SenderState → Type 0 = λ t. Awaits p t y b in
-    subst A (sym step) (joins_round p range s (joined_round p s now y.nack.requests) y b c.request y.nack.requests c.lack reached few
-    (in_of y.nack.requests c.request c.has) (subst L (ap (order_of s) own ∙ current_order s differ) c.lacks) c.names (counts.1 own)
+    subst A (sym step) (joins_round p range s (joined_round p s now y.nack.requests) y b c.request y.nack.requests c.lack reached by.1 by.0
+    (in_of y.nack.requests c.request c.has) (subst L order c.lacks) c.names (counts.1 own)
     (same y.nack.requests) (joined_asks p s now y.nack.requests) (sent y.nack.requests))
   where
     same : (requests : List Request) → (joined_round p s now requests).current ≡ s.current
@@ -319,35 +354,31 @@ joins_one p range s octets now y reached differ few e h b has =
     sent (r ∷ requests) at n = n
 
 joins_all : (p : Settings) → InRange p → (s : SenderState) (octets : List ℕ) (now : ℕ) (given : List Plea) → IsReached p s → IsDistinct nat_eq (instance_ids s)
-    → length s.current.order ≤ 32767 → AllByRecursion (GivenHolds p s) given
-    → AllByRecursion (JoinedHolds p (heard p s octets now)) (filter (λ (x : Plea). same_octets x.octets octets && nack_counts p s x.nack) given)
-joins_all p range s octets now [] reached differ few all = tt
-joins_all p range s octets now (y ∷ given) reached differ few all =
-    go (same_octets y.octets octets && nack_counts p s y.nack) refl (joins_all p range s octets now given reached differ few all.1)
+    → AllByRecursion (GivenHolds p s) given → AllByRecursion (JoinedHolds p (heard p s octets now)) (filter (joins p s octets) given)
+joins_all p range s octets now [] reached differ all = tt
+joins_all p range s octets now (y ∷ given) reached differ all = go (joins p s octets y) refl (joins_all p range s octets now given reached differ all.1)
   where
     rest : List Plea
-    rest = filter (λ (x : Plea). same_octets x.octets octets && nack_counts p s x.nack) given
+    rest = filter (joins p s octets) given
 
-    go : (b : Bool) → (same_octets y.octets octets && nack_counts p s y.nack) ≡ b
-        → AllByRecursion (JoinedHolds p (heard p s octets now)) (filter (λ (x : Plea). same_octets x.octets octets && nack_counts p s x.nack) given)
+    go : (b : Bool) → joins p s octets y ≡ b → AllByRecursion (JoinedHolds p (heard p s octets now)) (filter (joins p s octets) given)
         → AllByRecursion (JoinedHolds p (heard p s octets now)) (cond b (y ∷ rest) rest)
-    go true e more = (joins_one p range s octets now y reached differ few e all.0, more)
+    go true e more = (joins_one p range s octets now y reached differ e all.0, more)
     go false e more = more
 
 joins_new : (p : Settings) → InRange p → (w : World) (e : Event) (given : List Plea) → IsReached p w.sender → IsDistinct nat_eq (instance_ids w.sender)
-    → length w.sender.current.order ≤ 32767 → AllByRecursion (GivenHolds p w.sender) given
-    → AllByRecursion (JoinedHolds p (world_step p w e).0.sender) (joins_by p w given e)
-joins_new p range w (Commanded by job now) given reached differ few all = tt
-joins_new p range w (Ticked node now) given reached differ few all = tt
-joins_new p range w (Offered node octets) given reached differ few all = tt
-joins_new p range w (UpTaken node) given reached differ few all = tt
-joins_new p range w NewsAsked given reached differ few all = tt
-joins_new p range w (Delivered node octets now draw) given reached differ few all = go (node == p.sender) (receiver_at w node)
+    → AllByRecursion (GivenHolds p w.sender) given → AllByRecursion (JoinedHolds p (world_step p w e).0.sender) (joins_by p w given e)
+joins_new p range w (Commanded by job now) given reached differ all = tt
+joins_new p range w (Ticked node now) given reached differ all = tt
+joins_new p range w (Offered node octets) given reached differ all = tt
+joins_new p range w (UpTaken node) given reached differ all = tt
+joins_new p range w NewsAsked given reached differ all = tt
+joins_new p range w (Delivered node octets now draw) given reached differ all = go (node == p.sender) (receiver_at w node)
   where
     go : (own : Bool) (found : Option ReceiverState)
         → AllByRecursion (JoinedHolds p (moved p w (node_move own found (sender.Delivered octets now) (receiver.Delivered octets now draw))).0.sender)
-        (elim own [ true ↦ filter (λ (x : Plea). same_octets x.octets octets && nack_counts p w.sender x.nack) given | false ↦ [] ])
-    go true found = joins_all p range w.sender octets now given reached differ few all
+        (elim own [ true ↦ filter (joins p w.sender octets) given | false ↦ [] ])
+    go true found = joins_all p range w.sender octets now given reached differ all
     go false None = tt
     go false (Some r) = tt
 
@@ -356,54 +387,58 @@ joins_new p range w (Delivered node octets now draw) given reached differ few al
 -- what a receiver's tick gives
 abbrev Gives : Settings → World → Type 0
 Gives p w = (node : ℕ) (r : ReceiverState) (now : ℕ) (o : Written) (m : NackMessage) → receiver_at w node ≡ Some r → (receiver_ticked p r now).1 ≡ Some o
-    → o.message ≡ Nack m → GivesPlea p w.sender (record { receiver = r; octets = o.octets; nack = m })
+    → o.message ≡ Nack m → GivesPlea p w.sender (record { receiver = r; octets = o.octets; indices = o.indices; nack = m })
 
-gives_given : (p : Settings) (w : World) (node : ℕ) (r : ReceiverState) (octets : List ℕ) (m : NackMessage) → SentHolds w → receiver_at w node ≡ Some r
-    → GivesPlea p w.sender (record { receiver = r; octets = octets; nack = m }) → GivenHolds p w.sender (record { receiver = r; octets = octets; nack = m })
-gives_given p w node r octets m sent found gives = record {
+gives_given : (p : Settings) (w : World) (node : ℕ) (r : ReceiverState) (octets indices : List ℕ) (m : NackMessage) → SentHolds w → receiver_at w node ≡ Some r
+    → GivesPlea p w.sender (record { receiver = r; octets = octets; indices = indices; nack = m })
+    → GivenHolds p w.sender (record { receiver = r; octets = octets; indices = indices; nack = m })
+gives_given p w node r octets indices m sent found gives = record {
   read = gives.read;
-  counts = λ b has. (
-      let c = gives.counts b has in
+  within = gives.within;
+  counts = λ plain b has. (
+      let c = gives.counts plain b has in
       let H : Option ReceiverState → Type 0 = λ o. HoldsSent w.sender o in
       (c, λ e. subst H found (sent.held node) (c.inside ∙ ap (λ (n : ℕ). Some n) e))
       );
 }
 
 -- a message that is no NACK
-spoken_none : (p : Settings) (s : SenderState) (r : ReceiverState) (octets : List ℕ) (m : Message) → IsSpoken m → AllByRecursion (GivenHolds p s) (plea_of r octets m)
-spoken_none p s r octets (Info m) h = tt
-spoken_none p s r octets (Data m) h = tt
-spoken_none p s r octets (Flush m) h = tt
-spoken_none p s r octets (Squelch m) h = tt
-spoken_none p s r octets (Eot m) h = absurd h
-spoken_none p s r octets (RepairAdv m) h = absurd h
-spoken_none p s r octets (AckReq m) h = absurd h
-spoken_none p s r octets (Opaque m) h = absurd h
-spoken_none p s r octets (Nack m) h = absurd h
-spoken_none p s r octets (Ack m) h = absurd h
-spoken_none p s r octets (Report m) h = absurd h
+spoken_none : (p : Settings) (s : SenderState) (r : ReceiverState) (octets indices : List ℕ) (m : Message) → IsSpoken m
+    → AllByRecursion (GivenHolds p s) (plea_of r octets indices m)
+spoken_none p s r octets indices (Info m) h = tt
+spoken_none p s r octets indices (Data m) h = tt
+spoken_none p s r octets indices (Flush m) h = tt
+spoken_none p s r octets indices (Squelch m) h = tt
+spoken_none p s r octets indices (Eot m) h = absurd h
+spoken_none p s r octets indices (RepairAdv m) h = absurd h
+spoken_none p s r octets indices (AckReq m) h = absurd h
+spoken_none p s r octets indices (Opaque m) h = absurd h
+spoken_none p s r octets indices (Nack m) h = absurd h
+spoken_none p s r octets indices (Ack m) h = absurd h
+spoken_none p s r octets indices (Report m) h = absurd h
 
-pleas_of : (p : Settings) (s : SenderState) (r : ReceiverState) (octets : List ℕ) (m : Message)
-    → ((n : NackMessage) → m ≡ Nack n → GivenHolds p s (record { receiver = r; octets = octets; nack = n })) → AllByRecursion (GivenHolds p s) (plea_of r octets m)
-pleas_of p s r octets (Nack m) h = (h m refl, tt)
-pleas_of p s r octets (Info m) h = tt
-pleas_of p s r octets (Data m) h = tt
-pleas_of p s r octets (Flush m) h = tt
-pleas_of p s r octets (Squelch m) h = tt
-pleas_of p s r octets (Eot m) h = tt
-pleas_of p s r octets (RepairAdv m) h = tt
-pleas_of p s r octets (AckReq m) h = tt
-pleas_of p s r octets (Opaque m) h = tt
-pleas_of p s r octets (Ack m) h = tt
-pleas_of p s r octets (Report m) h = tt
+pleas_of : (p : Settings) (s : SenderState) (r : ReceiverState) (octets indices : List ℕ) (m : Message)
+    → ((n : NackMessage) → m ≡ Nack n → GivenHolds p s (record { receiver = r; octets = octets; indices = indices; nack = n }))
+    → AllByRecursion (GivenHolds p s) (plea_of r octets indices m)
+pleas_of p s r octets indices (Nack m) h = (h m refl, tt)
+pleas_of p s r octets indices (Info m) h = tt
+pleas_of p s r octets indices (Data m) h = tt
+pleas_of p s r octets indices (Flush m) h = tt
+pleas_of p s r octets indices (Squelch m) h = tt
+pleas_of p s r octets indices (Eot m) h = tt
+pleas_of p s r octets indices (RepairAdv m) h = tt
+pleas_of p s r octets indices (AckReq m) h = tt
+pleas_of p s r octets indices (Opaque m) h = tt
+pleas_of p s r octets indices (Ack m) h = tt
+pleas_of p s r octets indices (Report m) h = tt
 
 -- what a node that ticks gave, by its receiver
 abbrev gave_plea_by : Option ReceiverState → Option Written → List Plea
 gave_plea_by found None = []
-gave_plea_by found (Some o) = elim found [ Some r ↦ plea_of r o.octets o.message | None ↦ [] ]
+gave_plea_by found (Some o) = elim found [ Some r ↦ plea_of r o.octets o.indices o.message | None ↦ [] ]
 
 abbrev gave_plea_from : Option ReceiverState → Answer → List Plea
-gave_plea_from found (Sent (Some datagram)) = elim found [ Some r ↦ plea_of r datagram.octets datagram.message | None ↦ [] ]
+gave_plea_from found (Sent (Some datagram)) = elim found [ Some r ↦ plea_of r datagram.octets datagram.indices datagram.message | None ↦ [] ]
 gave_plea_from found _ = []
 
 given_new : (p : Settings) → InRange p → (w : World) (e : Event) → SenderHolds p w.sender → IsDistinct nat_eq (instance_ids w.sender) → SentHolds w → Gives p w
@@ -419,13 +454,13 @@ given_new p range w (Ticked node now) h differ sent gives = go (node == p.sender
         → AllByRecursion (GivenHolds p (with_given p.sender o (record w { sender = t })).sender) (gave_plea_by found o)
     by_sender t found None says = tt
     by_sender t None (Some o) says = tt
-    by_sender t (Some r) (Some o) says = spoken_none p t r o.octets o.message says.spoken
+    by_sender t (Some r) (Some o) says = spoken_none p t r o.octets o.indices o.message says.spoken
 
     by_receiver : (r t : ReceiverState) → receiver_at w node ≡ Some r → (o : Option Written) → (receiver_ticked p r now).1 ≡ o
         → AllByRecursion (GivenHolds p (with_given r.node o (with_receiver t w)).sender) (gave_plea_by (Some r) o)
     by_receiver r t found None e = tt
     by_receiver r t found (Some o) e =
-        pleas_of p w.sender r o.octets o.message (λ n is. gives_given p w node r o.octets n sent found (gives node r now o n found e is))
+        pleas_of p w.sender r o.octets o.indices o.message (λ n is. gives_given p w node r o.octets o.indices n sent found (gives node r now o n found e is))
 
     go : (own : Bool) (found : Option ReceiverState) → receiver_at w node ≡ found
         → AllByRecursion (GivenHolds p (moved p w (node_move own found (sender.Ticked now) (receiver.Ticked now))).0.sender)
@@ -441,9 +476,9 @@ given_new p range w (Ticked node now) h differ sent gives = go (node == p.sender
 
 pleas_step : (p : Settings) → InRange p → (w : World) (e : Event) (x : Pleas) → SenderGoes p w.sender (world_step p w e).0.sender → SenderHolds p w.sender
     → IsReached p w.sender → IsDistinct nat_eq (instance_ids w.sender) → IsDistinct nat_eq (instance_ids (world_step p w e).0.sender)
-    → length w.sender.current.order ≤ 32767 → SentHolds w → Gives p w → PleasHold p w.sender x
+    → SentHolds w → Gives p w → PleasHold p w.sender x
     → PleasHold p (world_step p w e).0.sender (pleas_after p (happening w e (world_step p w e)) x)
-pleas_step p range w e x on holds reached differ differs few sent gives h = record {
+pleas_step p range w e x on holds reached differ differs sent gives h = record {
   given = all_append (GivenHolds p (world_step p w e).0.sender) x.given (gave_plea w e (world_step p w e).1)
       (all_on (GivenHolds p w.sender) (GivenHolds p (world_step p w e).0.sender) x.given
       (λ y given. given_on p range w.sender (world_step p w e).0.sender y on differs given) h.given)
@@ -473,7 +508,7 @@ pleas_step p range w e x on holds reached differ differs few sent gives h = reco
     go (Some r) is = all_append (JoinedHolds p (world_step p w e).0.sender) x.joined (joins_by p w x.given e)
         (all_on (JoinedHolds p w.sender) (JoinedHolds p (world_step p w e).0.sender) x.joined
         (λ y waits b has. awaits_on p w.sender (world_step p w e).0.sender y b (on_round r is) (waits b has)) h.joined)
-        (joins_new p range w e x.given reached differ few h.given)
+        (joins_new p range w e x.given reached differ h.given)
 
 -- the round that an event closes is the sender's
 closes_round : (p : Settings) (w : World) (e : Event) (r : Round) → closes_by p w e ≡ Some r → w.sender.round ≡ Some r
@@ -523,21 +558,6 @@ event_enough p range w e answer v joined sent differ all = go (closes_by p w e) 
 
 -- ---- a run
 
--- orders only go on
-onward_run : (p : Settings) → InRange p → (w : World) (events : List Event) → AreEvents events → SenderHolds p w.sender → IsReached p w.sender
-    → Onward w.sender (run_from p w events).sender
-onward_run p range w [] are h reached = goes_on_itself (instances w.sender)
-onward_run p range w (e ∷ events) are h reached =
-    let on = world_goes p range w e are.0 h reached in
-    go_on_both (instances w.sender) (instances (world_step p w e).0.sender) (instances (run_from p w (e ∷ events)).sender) on.steps.onward
-    (onward_run p range (world_step p w e).0 events are.1 on.steps.holds on.reached)
-
-few_before : (s t : SenderState) → Onward s t → FewObjects t → FewObjects s
-few_before s t onward few id =
-    let longer = later_long (order_of s id) (order_of t id) (order_later s t onward id).order in
-    let most = few id in
-    omega (arith, longer, most)
-
 -- at each event all that a receiver in the current instance holds was sent, and the receivers differ
 abbrev SentBefore : Happening → Type 0
 SentBefore x = SentHolds x.before × Differ (nodes_of x.before)
@@ -545,30 +565,27 @@ SentBefore x = SentHolds x.before × Differ (nodes_of x.before)
 -- What is kept of a world beside, by each event, and of which it follows that NACKs are as they should be.
 pub record Extra (p : Settings) (Holds : World → Type 0) : Type 1 where
   pub steps : (past : List Happening) (accepted : List Origin) (w : World) (e : Event) → MayCome p w accepted e → IsEvent e → WorldHolds p past accepted w
-      → FewObjects w.sender → Holds w → Holds (world_step p w e).0
-  pub gives : (past : List Happening) (accepted : List Origin) (w : World) → WorldHolds p past accepted w → FewObjects w.sender → Holds w → Gives p w
+      → Holds w → Holds (world_step p w e).0
+  pub gives : (past : List Happening) (accepted : List Origin) (w : World) → WorldHolds p past accepted w → Holds w → Gives p w
 
 run_suffices : (p : Settings) → InRange p → (Holds : World → Type 0) → Extra p Holds → (past : List Happening) (accepted : List Origin) (w : World) (events : List Event)
-    → LawfulFrom p w accepted events → AreEvents events → FewObjects (run_from p w events).sender → WorldHolds p past accepted w → IsReached p w.sender
+    → LawfulFrom p w accepted events → AreEvents events → WorldHolds p past accepted w → IsReached p w.sender
     → AllByRecursion SentBefore (happens p w events) → Holds w → (x : Pleas) → PleasHold p w.sender x → suffices_from p x (happens p w events) ≡ true
 unfolding happens suffices_from
-run_suffices p range Holds extra past accepted w [] lawful are few holds reached sent kept x h = refl
-run_suffices p range Holds extra past accepted w (e ∷ events) lawful are few holds reached sent kept x h =
+run_suffices p range Holds extra past accepted w [] lawful are holds reached sent kept x h = refl
+run_suffices p range Holds extra past accepted w (e ∷ events) lawful are holds reached sent kept x h =
     let step = world_step p w e in
     let on = world_goes p range w e are.0 holds.sender reached in
     let next = event_holds p range past accepted w e lawful.0 are.0 holds in
-    let now = few_before w.sender (run_from p w (e ∷ events)).sender (onward_run p range w (e ∷ events) are holds.sender reached) few in
-    let current : length w.sender.current.order ≤ 32767 =
-    (let le = now w.sender.current.id in let same = ap (λ (order : List Entry). length order) (current_order w.sender holds.once.ids) in omega (arith, le, same)) in
-    let pleas = pleas_step p range w e x on holds.sender reached holds.once.ids next.once.ids current sent.0.0 (extra.gives past accepted w holds now kept) h in
+    let pleas = pleas_step p range w e x on holds.sender reached holds.once.ids next.once.ids sent.0.0 (extra.gives past accepted w holds kept) h in
     ap (λ (b : Bool). b && suffices_from p (pleas_after p (happening w e (world_step p w e)) x) (happens p (world_step p w e).0 events))
     (event_enough p range w e step.1 step.0 x.joined sent.0.0 sent.0.1 h.joined)
-    ∙ run_suffices p range Holds extra (past ++ happening w e step ∷ []) (accepted_with accepted e step.1) step.0 events lawful.1 are.1 few next on.reached sent.1
-    (extra.steps past accepted w e lawful.0 are.0 holds now kept) (pleas_after p (happening w e (world_step p w e)) x) pleas
+    ∙ run_suffices p range Holds extra (past ++ happening w e step ∷ []) (accepted_with accepted e step.1) step.0 events lawful.1 are.1 next on.reached sent.1
+    (extra.steps past accepted w e lawful.0 are.0 holds kept) (pleas_after p (happening w e (world_step p w e)) x) pleas
 
 pub repairs_suffice : (p : Settings) → InRange p → (Holds : World → Type 0) → Extra p Holds → Holds (world_opening p) → (events : List Event) → Lawful p events → AreEvents events
-    → FewObjects (run p events).sender → RepairSuffices p (history p events)
-repairs_suffice p range Holds extra opening events lawful are few =
-    run_suffices p range Holds extra [] [] (world_opening p) events lawful are few (opening_world p range) (reached_laws.at_first p p.instance range)
+    → RepairSuffices p (history p events)
+repairs_suffice p range Holds extra opening events lawful are =
+    run_suffices p range Holds extra [] [] (world_opening p) events lawful are (opening_world p range) (reached_laws.at_first p p.instance range)
     (claims_of p range SentBefore (λ w e answer v differ sent. (sent, differ)) events lawful are) opening (record { given = []; joined = [] })
     (record { given = tt; joined = tt })

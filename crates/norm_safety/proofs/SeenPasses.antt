@@ -1,18 +1,20 @@
--- What a receiver saw of its instance's order: a stream's greatest block that was seen has a closed segment, or is the first one; and the
--- greatest flush position is a source symbol. So it stays along a run.
+-- What a receiver saw of its instance's order: a stream's greatest block that was seen has a closed segment, or is the first one; the
+-- greatest flush position is a source symbol; and what it knows has no index above the order's length. So it stays along a run.
 use Rattle.std.proofs.Common.{◌≡◌, ℕ, ◌*◌, ◌<◌, ◌≤◌, cond, List, [], ◌∷◌, ◌++◌, length, Bool, true, false, Option, None, Some, Result, Ok, Err, refl, sym, ap, ◌∙◌, subst, arith, ◌⊎◌, inl, inr}
 use Rattle.std.specs.Prelude.{map, flat_map, find, max, not, slice_get, nat_lt, nat_le, ◌==◌, ◌&&◌, option_and_then, unwrap_or, IfSome, IsSomeAnd, IsTrue, if◌then◌else◌, ⊤}
 use Rattle.std.specs.List.{AllByRecursion}
 use Rattle.std.proofs.lemmas.Bool.Decides.{Decides-eqb}
 use Rattle.std.proofs.lemmas.List.{length-append}
+use Rattle.std.proofs.lemmas.Option.{slice_get_within}
 use Rattle.norm_base.specs.Settings.{Settings, InRange}
 use Rattle.norm_base.specs.Members.{receivers_of}
 use Rattle.norm_base.specs.declared.node.Origin.{Origin}
-use Rattle.fec_plan.specs.Points.{Point, point, position, point_of, position_before, further}
+use Rattle.fec_plan.specs.Points.{Point, point, position, point_of, point_before, position_before, further, further_point}
 use Rattle.fec_plan.specs.declared.position.Position.{Position}
+use Rattle.fec_plan.proofs.PointLemmas.{behind_point}
 use Rattle.norm_ext.specs.Extensions.{Extension, fti_of}
 use Rattle.norm_ext.specs.declared.fti.Fti.{Fti}
-use Rattle.norm_ext.specs.Message.{Message, Info, Data, Flush, Eot, Squelch, RepairAdv, AckReq, Opaque, Nack, Ack, Report, InfoMessage, DataMessage, FlushCommand}
+use Rattle.norm_ext.specs.Message.{Message, Info, Data, Flush, Eot, Squelch, RepairAdv, AckReq, Opaque, Nack, Ack, Report, InfoMessage, DataMessage, FlushCommand, SquelchCommand}
 use Rattle.norm_ext.specs.ObjectIds.{object_id}
 use Rattle.norm_ext.specs.Reading.{decoded}
 use Rattle.norm_ext.specs.Requests.{Request}
@@ -20,7 +22,7 @@ use Rattle.norm_ext.specs.Written.{Written, writes}
 use Rattle.norm_ext.specs.declared.refusal.Refusal.{Refusal}
 use Rattle.norm_order.specs.Entries.{Object, Whole, Stream, Entry}
 use Rattle.norm_order.specs.Segments.{closed_from}
-use Rattle.norm_order.specs.Shapes.{shape_of, shapes_of, encoded_in, is_source}
+use Rattle.norm_order.specs.Shapes.{shape_of, shapes_of, closed_in, encoded_in, is_source}
 use Rattle.norm_order.specs.declared.up.Up.{Up}
 use Rattle.norm_receive_rules.specs.AllNeeds.{needs, needs_nothing}
 use Rattle.norm_receive_rules.specs.BackingOff.{may_back_off, backs_off, may_need}
@@ -36,7 +38,7 @@ use Rattle.norm_receive_rules.specs.Putting.{put_of, put_symbol, with_symbol, pu
 use Rattle.norm_receive_rules.specs.ReceiverState.{ReceiverState, Knowledge, receiver_opening}
 use Rattle.norm_receive_rules.specs.ReceiverStep as receiver
 use Rattle.norm_receive_rules.specs.Receiving.{object_held, info_received, data_received, flush_received, squelch_received, takes_in, in_instance, message_received, received}
-use Rattle.norm_receive_rules.specs.Seeing.{plan_seen, sees_block}
+use Rattle.norm_receive_rules.specs.Seeing.{plan_seen, sees_block, sees}
 use Rattle.norm_receive_rules.specs.Ticking.{sends, holds_off, are_heard, asks, asks_where_needed, ends_back_off, ticked as receiver_ticked}
 use Rattle.norm_receive_rules.specs.declared.words.Fit.{Fit}
 use Rattle.norm_receive_rules.specs.declared.words.Fit.TheVariants as fit
@@ -54,6 +56,7 @@ use Rattle.norm_safety.specs.Events.{Event, Commanded, Delivered, Ticked, Offere
 use Rattle.norm_safety.specs.History.{Happening}
 use Rattle.norm_safety.specs.Jobs.{IsEvent}
 use Rattle.norm_safety.specs.Lawful.{sender_knows, receiver_knows, are_near, MayCome}
+use Rattle.norm_safety.specs.InOrder.{drop_of}
 use Rattle.norm_safety.specs.OnceEach.{order_of}
 use Rattle.norm_safety.specs.Said.{about}
 use Rattle.norm_safety.specs.SaysPositions.{flushes_source}
@@ -64,15 +67,15 @@ use Rattle.norm_safety.proofs.ClosedLemmas.{split_at}
 use Rattle.norm_safety.proofs.CommandSteps.{same_instances}
 use Rattle.norm_safety.proofs.EntryLemmas.{clash}
 use Rattle.norm_safety.proofs.Feedback.{SaysNothing}
-use Rattle.norm_safety.proofs.GoesOn.{ObjectLater, OrderLater, closed_later, later_entry, source_later}
+use Rattle.norm_safety.proofs.GoesOn.{ObjectLater, OrderLater, closed_later, later_entry, later_long, source_later}
 use Rattle.norm_safety.proofs.Holding.{all_with, some_and}
 use Rattle.norm_safety.proofs.ListRun.{given_leaves}
 use Rattle.norm_safety.proofs.Onward.{Onward}
 use Rattle.norm_safety.proofs.OrderRun.{moved_node_is, taken_by}
 use Rattle.norm_safety.proofs.ReceiverMoves.{knowing, known_in, near_named, in_instance_is, received_moves, tick_same as tick_held}
-use Rattle.norm_safety.proofs.SenderHolds.{orders_hold, order_later, some_octets, command_steps}
+use Rattle.norm_safety.proofs.SenderHolds.{OrdersHold, orders_hold, order_later, point_in, some_octets, command_steps}
 use Rattle.norm_safety.proofs.SenderKeeps.{Keeps, heard_keeps, ticked_keeps, told_keeps}
-use Rattle.norm_safety.proofs.Spoken.{IsTrueOf, SaysTrue}
+use Rattle.norm_safety.proofs.Spoken.{IsTrueOf, SaysTrue, SquelchesDropped, entry_with}
 use Rattle.norm_safety.proofs.SymbolLater.{is_encoded_of}
 use Rattle.norm_safety.proofs.WorldHolds.{WorldHolds, all_contains, all_later}
 use Rattle.norm_safety.proofs.WorldLemmas.{world_laws}
@@ -93,10 +96,19 @@ PlanSeen p order plan = IsSomeAnd (slice_get order plan.index) (λ (x : Entry). 
 abbrev pub FlushSeen : Settings → List Entry → Option Position → Type 0
 FlushSeen p order flush = IfSome flush (λ at. is_source (shapes_of p order) at ≡ true)
 
+-- The greatest index that is known is one of the order, or the one after its last, which a squelch may name; an object can have it; and
+-- what was seen or flushed has no greater one.
+pub record KnowsOf (order : List Entry) (k : Knowledge) : Type 0 where
+  pub within : k.known ≤ length order
+  pub most : k.known ≤ 4294967294
+  pub farthest : IfSome k.farthest (λ at. at.index ≤ k.known)
+  pub flush : IfSome k.flush (λ at. at.index ≤ k.known)
+
 -- what is known of an order
 pub record SeenIn (p : Settings) (order : List Entry) (r : ReceiverState) : Type 0 where
   pub plans : AllByRecursion (PlanSeen p order) r.holding.plans
   pub flush : FlushSeen p order r.knows.flush
+  pub knows : KnowsOf order r.knows
 
 -- by the instance that a receiver is in; in none it does not back off
 abbrev pub SeenBy : Settings → SenderState → ReceiverState → Option ℕ → Type 0
@@ -137,6 +149,11 @@ in_later : (p : Settings) (order later : List Entry) (r : ReceiverState) → 0 <
 in_later p order later r some goes h = record {
   plans = all_later (PlanSeen p order) (PlanSeen p later) r.holding.plans (λ plan seen. plan_later p order later plan some goes seen) h.plans;
   flush = flush_later p order later r.knows.flush some goes h.flush;
+  knows = (
+      let le = h.knows.within in
+      let long = later_long order later goes in
+      record { within = omega (arith, le, long); most = h.knows.most; farthest = h.knows.farthest; flush = h.knows.flush }
+      );
 }
 
 pub seen_later : (p : Settings) → InRange p → (s t : SenderState) (r : ReceiverState) → Onward s t → Seen p s r → Seen p t r
@@ -148,12 +165,80 @@ seen_later p range s t r onward h = go r.instance h
 
 -- ---- what a message brings
 
--- what is kept of plans and the flush position
-same_in : (p : Settings) (order : List Entry) (r t : ReceiverState) → t.holding.plans ≡ r.holding.plans → t.knows.flush ≡ r.knows.flush → SeenIn p order r → SeenIn p order t
-same_in p order r t plans flush h =
+-- the same is known: the greatest index, the farthest point and the flush position
+pub record SameKnown (k l : Knowledge) : Type 0 where
+  pub known : l.known ≡ k.known
+  pub farthest : l.farthest ≡ k.farthest
+  pub flush : l.flush ≡ k.flush
+
+known_itself : (k : Knowledge) → SameKnown k k
+known_itself k = record { known = refl; farthest = refl; flush = refl }
+
+-- by its parts
+abbrev FarUpTo : ℕ → Option Point → Type 0
+FarUpTo n far = IfSome far (λ at. at.index ≤ n)
+
+abbrev FlushUpTo : ℕ → Option Position → Type 0
+FlushUpTo n flush = IfSome flush (λ at. at.index ≤ n)
+
+knows_same : (order : List Entry) (k l : Knowledge) → SameKnown k l → KnowsOf order k → KnowsOf order l
+knows_same order k l same h =
+    let W : ℕ → Type 0 = λ n. n ≤ length order in
+    let M : ℕ → Type 0 = λ n. n ≤ 4294967294 in
+    let A : Option Point → Type 0 = λ far. FarUpTo k.known far in
+    let B : Option Position → Type 0 = λ flush. FlushUpTo k.known flush in
+    let C : ℕ → Type 0 = λ n. FarUpTo n l.farthest in
+    let D : ℕ → Type 0 = λ n. FlushUpTo n l.flush in
+    record {
+      within = subst W (sym same.known) h.within;
+      most = subst M (sym same.known) h.most;
+      farthest = subst C (sym same.known) (subst A (sym same.farthest) h.farthest);
+      flush = subst D (sym same.known) (subst B (sym same.flush) h.flush);
+    }
+
+-- what is kept of plans and of what is known
+same_in : (p : Settings) (order : List Entry) (r t : ReceiverState) → t.holding.plans ≡ r.holding.plans → SameKnown r.knows t.knows → SeenIn p order r → SeenIn p order t
+same_in p order r t plans known h =
     let P : List Plan → Type 0 = λ xs. AllByRecursion (PlanSeen p order) xs in
     let F : Option Position → Type 0 = λ o. FlushSeen p order o in
-    record { plans = subst P (sym plans) h.plans; flush = subst F (sym flush) h.flush }
+    record { plans = subst P (sym plans) h.plans; flush = subst F (sym known.flush) h.flush; knows = knows_same order r.knows t.knows known h.knows }
+
+-- an index of the order is known, and no less than before
+far_up : (far : Option Point) (m n : ℕ) → m ≤ n → FarUpTo m far → FarUpTo n far
+far_up None m n le h = tt
+far_up (Some at) m n le h = let is : at.index ≤ m = h in omega (arith, le, is)
+
+flush_up : (flush : Option Position) (m n : ℕ) → m ≤ n → FlushUpTo m flush → FlushUpTo n flush
+flush_up None m n le h = tt
+flush_up (Some at) m n le h = let is : at.index ≤ m = h in omega (arith, le, is)
+
+knowing_seen : (p : Settings) (order : List Entry) (index : ℕ) (r : ReceiverState) → index ≤ length order → index ≤ 4294967294 → SeenIn p order r → SeenIn p order (knowing index r)
+knowing_seen p order index r within most h =
+    let le = h.knows.within in
+    let few = h.knows.most in
+    let more : r.knows.known ≤ max r.knows.known index = omega arith in
+    record {
+      plans = h.plans;
+      flush = h.flush;
+      knows = record {
+        within = omega (arith, le, within);
+        most = omega (arith, few, most);
+        farthest = far_up r.knows.farthest r.knows.known (max r.knows.known index) more h.knows.farthest;
+        flush = flush_up r.knows.flush r.knows.known (max r.knows.known index) more h.knows.flush;
+      };
+    }
+
+-- a point is seen whose index is known
+far_seen : (n : ℕ) (at : Point) (far : Option Point) → at.index ≤ n → FarUpTo n far → FarUpTo n (further_point at far)
+far_seen n at None le h = le
+far_seen n at (Some other) le h = go (point_before other at)
+  where
+    go : (b : Bool) → FarUpTo n (if b then Some at else Some other)
+    go true = le
+    go false = h
+
+sees_of : (order : List Entry) (at : Point) (k : Knowledge) → at.index ≤ k.known → KnowsOf order k → KnowsOf order (sees at k)
+sees_of order at k le h = record { within = h.within; most = h.most; farthest = far_seen k.known at k.farthest le h.farthest; flush = h.flush }
 
 -- of two blocks that are seen the greater is
 greater_seen : (p : Settings) (o : Object) (a b : ℕ) → IsSeen p o a → IsSeen p o b → IsSeen p o (max a b)
@@ -270,26 +355,32 @@ encoded_seen p range (Stream parts) block symbol e = go (split_at p.b symbol)
 
 data_seen : (p : Settings) → InRange p → (order : List Entry) (m : DataMessage) (index : ℕ) (r : ReceiverState)
     → IsSomeAnd (slice_get order index) (λ (x : Entry). nat_lt m.id.symbol (encoded_in (shape_of p x.object) m.id.block) ≡ true)
-    → SeenIn p order r → SeenIn p order (data_received p m index r)
-data_seen p range order m index r says h =
+    → index ≤ r.knows.known → SeenIn p order r → SeenIn p order (data_received p m index r)
+data_seen p range order m index r says known h =
     let at : Position = position index m.id.block m.id.symbol in
     let entry = some_and (λ (x : Entry). nat_lt m.id.symbol (encoded_in (shape_of p x.object) m.id.block) ≡ true) (slice_get order index) says in
     record {
       plans = object_seen p order at m.extensions m.head.flags entry.0 (put_symbol p at m.payload) r.holding entry.1
           (encoded_seen p (cut_range p range) entry.0.object m.id.block m.id.symbol entry.2) (put_plans p at m.payload) h.plans;
       flush = h.flush;
+      knows = sees_of order (point_of at) r.knows known h.knows;
     }
 
 info_seen : (p : Settings) (order : List Entry) (m : InfoMessage) (index : ℕ) (r : ReceiverState) (x : Entry) → slice_get order index ≡ Some x
-    → SeenIn p order r → SeenIn p order (info_received p m index r)
-info_seen p order m index r x found h = record {
+    → index ≤ r.knows.known → SeenIn p order r → SeenIn p order (info_received p m index r)
+info_seen p order m index r x found known h = record {
   plans = object_seen p order (position index 0 0) m.extensions m.head.flags x (put_info p index m.info) r.holding found (first_seen p x.object) (info_plans p index m.info) h.plans;
   flush = h.flush;
+  knows = sees_of order (point_of (position index 0 0)) r.knows known h.knows;
 }
 
 flush_seen : (p : Settings) (order : List Entry) (m : FlushCommand) (index : ℕ) (r : ReceiverState)
-    → is_source (shapes_of p order) (position index m.id.block m.id.symbol) ≡ true → SeenIn p order r → SeenIn p order (flush_received m index r)
-flush_seen p order m index r source h = record { plans = h.plans; flush = go r.knows.flush h.flush }
+    → is_source (shapes_of p order) (position index m.id.block m.id.symbol) ≡ true → index ≤ r.knows.known → SeenIn p order r → SeenIn p order (flush_received m index r)
+flush_seen p order m index r source known h = record {
+  plans = h.plans;
+  flush = go r.knows.flush h.flush;
+  knows = record { within = h.knows.within; most = h.knows.most; farthest = h.knows.farthest; flush = known_too r.knows.flush h.knows.flush };
+}
   where
     at : Position
     at = position index m.id.block m.id.symbol
@@ -302,12 +393,20 @@ flush_seen p order m index r source h = record { plans = h.plans; flush = go r.k
         by_order true = source
         by_order false = was
 
+    known_too : (flush : Option Position) → FlushUpTo r.knows.known flush → FlushUpTo r.knows.known (further at flush)
+    known_too None was = known
+    known_too (Some other) was = by_order (position_before other at)
+      where
+        by_order : (b : Bool) → FlushUpTo r.knows.known (if b then Some at else Some other)
+        by_order true = known
+        by_order false = was
+
 need_seen : (p : Settings) (order : List Entry) (now draw : ℕ) (r : ReceiverState) → SeenIn p order r → SeenIn p order (may_need p now draw r)
 need_seen p order now draw r h = go (may_back_off now r.knows) (needs_nothing p r)
   where
     go : (b c : Bool) → SeenIn p order (elim b [ true ↦ elim c [ true ↦ r | false ↦ record r { knows = backs_off p now draw r.knows } ] | false ↦ r ])
     go true true = h
-    go true false = record { plans = h.plans; flush = h.flush }
+    go true false = record { plans = h.plans; flush = h.flush; knows = knows_same order r.knows (backs_off p now draw r.knows) (record { known = refl; farthest = refl; flush = refl }) h.knows }
     go false c = h
 
 need_instance : (p : Settings) (now draw : ℕ) (r : ReceiverState) → (may_need p now draw r).instance ≡ r.instance
@@ -323,11 +422,11 @@ need_instance p now draw r = go (may_back_off now r.knows) (needs_nothing p r)
 
 -- a message of the sender, in the instance that a receiver is in or goes on to
 instance_seen : (p : Settings) (s : SenderState) (now draw source id object index : ℕ) (brings : ℕ → ReceiverState → ReceiverState) (r : ReceiverState)
-    → object ≡ object_id p index → index ≤ 4294967294 → are_near (known_in (entered r id)) (index ∷ []) ≡ true
+    → object ≡ object_id p index → index ≤ 4294967294 → index ≤ length (order_of s id) → are_near (known_in (entered r id)) (index ∷ []) ≡ true
     → ((t : ReceiverState) → (brings index t).instance ≡ t.instance)
-    → ((t : ReceiverState) → SeenIn p (order_of s id) t → SeenIn p (order_of s id) (brings index t)) → Seen p s r
+    → ((t : ReceiverState) → index ≤ t.knows.known → SeenIn p (order_of s id) t → SeenIn p (order_of s id) (brings index t)) → Seen p s r
     → Seen p s (in_instance p now draw source id object brings r)
-instance_seen p s now draw source id object index brings r named most near same kept h =
+instance_seen p s now draw source id object index brings r named most within near same kept h =
     go (source == p.sender) (is_in r id) (goes_to r id) refl near
   where
     after : ReceiverState → ReceiverState
@@ -338,8 +437,9 @@ instance_seen p s now draw source id object index brings r named most near same 
         let inner : (may_need p now draw (brings index (knowing index t))).instance ≡ Some id =
         need_instance p now draw (brings index (knowing index t)) ∙ same (knowing index t) ∙ is in
         let S : Option ℕ → Type 0 = λ instance. SeenBy p s (may_need p now draw (brings index (knowing index t))) instance in
+        let known : index ≤ max t.knows.known index = omega arith in
         subst S (sym inner) (need_seen p (order_of s id) now draw (brings index (knowing index t))
-        (kept (knowing index t) (same_in p (order_of s id) t (knowing index t) refl refl k)))
+        (kept (knowing index t) known (knowing_seen p (order_of s id) index t within most k)))
 
     in_state : (t : ReceiverState) → are_near (Some t.knows.known) (index ∷ []) ≡ true → Seen p s (may_need p now draw (brings index (knowing index t)))
         → Seen p s (unwrap_or (takes_in p now draw object brings t) r)
@@ -363,24 +463,28 @@ instance_seen p s now draw source id object index brings r named most near same 
         let S : Option ℕ → Type 0 = λ instance. SeenBy p s r instance in
         in_state r close (after_seen r is (subst S is h))
     go true false false e close = h
-    go true false true e close = in_state (enters id r) close (after_seen (enters id r) refl (record { plans = tt; flush = tt }))
+    go true false true e close = in_state (enters id r) close (after_seen (enters id r) refl (record {
+      plans = tt;
+      flush = tt;
+      knows = record { within = omega arith; most = omega arith; farthest = tt; flush = tt };
+    }))
 
 where_seen : (p : Settings) (s : SenderState) (b : Bool) (r t : ReceiverState) → Seen p s r → Seen p s t → Seen p s (elim b [ true ↦ t | false ↦ r ])
 where_seen p s true r t h k = k
 where_seen p s false r t h k = h
 
 over_seen : (p : Settings) (s : SenderState) (requests : List Request) (r : ReceiverState) → Seen p s r → Seen p s (overheard p requests r)
-over_seen p s requests r h = go r.knows.backoff refl _ refl r.instance h
+over_seen p s requests r h = go r.knows.backoff refl _ (record { known = refl; farthest = refl; flush = refl }) r.instance h
   where
     some_none : (ends : ℕ) → Some ends ≡ None → ⊥
     some_none ends e = cc
 
-    go : (backoff : Option ℕ) → r.knows.backoff ≡ backoff → (k : Knowledge) → k.flush ≡ r.knows.flush → (instance : Option ℕ) → SeenBy p s r instance
+    go : (backoff : Option ℕ) → r.knows.backoff ≡ backoff → (k : Knowledge) → SameKnown r.knows k → (instance : Option ℕ) → SeenBy p s r instance
         → SeenBy p s (record r { knows = elim backoff [ Some ends ↦ k | None ↦ r.knows ] }) instance
     go (Some ends) is k e None h = absurd (some_none ends (sym is ∙ h))
     go None is k e None h = h
     go (Some ends) is k e (Some id) h = same_in p (order_of s id) r (record r { knows = k }) refl e h
-    go None is k e (Some id) h = record { plans = h.plans; flush = h.flush }
+    go None is k e (Some id) h = record { plans = h.plans; flush = h.flush; knows = h.knows }
 
 quiet_seen : (p : Settings) (s : SenderState) (r : ReceiverState) (now draw : ℕ) (said : Result Message Refusal) → SaysNothing said → Seen p s r
     → Seen p s (message_received p now draw said r)
@@ -399,9 +503,22 @@ quiet_seen p s r now draw (Ok (Ack m)) says h = h
 quiet_seen p s r now draw (Ok (Report m)) says h = h
 quiet_seen p s r now draw (Err refusal) says h = h
 
-message_seen : (p : Settings) → InRange p → (s : SenderState) (r : ReceiverState) (indices : List ℕ) (now draw : ℕ) (m : Message) → IsTrueOf p s indices m
-    → are_near (receiver_knows r m) indices ≡ true → Seen p s r → Seen p s (message_received {E = Refusal} p now draw (Ok m) r)
-message_seen p range s r indices now draw = go
+-- a squelch names no index after the one behind the order's last
+squelch_within : (p : Settings) (s : SenderState) (m : SquelchCommand) (index : ℕ) → OrdersHold p s → SquelchesDropped s (about (index ∷ []) m)
+    → index ≤ length (order_of s m.head.instance)
+squelch_within p s m index orders (i, found, before, of) =
+    let is : (drop_of s m.head.instance).index ≡ i.drop.index = ap (λ (found : Option Instance). (point_in found).index) found in
+    let le = below (behind_point i.drop (point index m.id.block) before) in
+    let within = (orders.within m.head.instance).within in
+    omega (arith, is, le, within)
+  where
+    below : (index < i.drop.index) ⊎ ((index ≡ i.drop.index) × (m.id.block ≤ i.drop.block)) → index ≤ i.drop.index
+    below (inl lt) = omega (arith, lt)
+    below (inr same) = (let e = same.0 in omega (arith, e))
+
+message_seen : (p : Settings) → InRange p → (s : SenderState) (r : ReceiverState) (indices : List ℕ) (now draw : ℕ) (m : Message) → OrdersHold p s
+    → IsTrueOf p s indices m → are_near (receiver_knows r m) indices ≡ true → Seen p s r → Seen p s (message_received {E = Refusal} p now draw (Ok m) r)
+message_seen p range s r indices now draw m orders = go m
   where
     near_of : (known : Option ℕ) (index : ℕ) → indices ≡ index ∷ [] → are_near known indices ≡ true → are_near known (index ∷ []) ≡ true
     near_of known index alone near = ap (are_near known) (sym alone) ∙ near
@@ -412,27 +529,34 @@ message_seen p range s r indices now draw = go
         let S : List ℕ → Type 0 = λ xs. SaysInfo p s (about xs m) in
         let is = subst S speaks.alone says in
         let entry = some_and _ (slice_get (order_of s m.head.instance) speaks.index) is in
+        let lt = slice_get_within (order_of s m.head.instance) speaks.index entry.0 entry.1 in
         instance_seen p s now draw m.head.source m.head.instance m.head.object speaks.index (info_received p m) r speaks.named speaks.most
-        (near_of (known_in (entered r m.head.instance)) speaks.index speaks.alone near) (λ t. refl)
-        (λ t k. info_seen p (order_of s m.head.instance) m speaks.index t entry.0 entry.1 k) h
+        (omega (arith, lt)) (near_of (known_in (entered r m.head.instance)) speaks.index speaks.alone near) (λ t. refl)
+        (λ t known k. info_seen p (order_of s m.head.instance) m speaks.index t entry.0 entry.1 known k) h
     go (Data m) (speaks, says) near h =
         let S : List ℕ → Type 0 = λ xs. SaysSymbol p s (about xs m) in
         let is = subst S speaks.alone says in
         let entry = some_and _ (slice_get (order_of s m.head.instance) speaks.index) is in
         let E : Option Entry → Type 0 = λ o. IsSomeAnd o (λ (x : Entry). nat_lt m.id.symbol (encoded_in (shape_of p x.object) m.id.block) ≡ true) in
+        let lt = slice_get_within (order_of s m.head.instance) speaks.index entry.0 entry.1 in
         instance_seen p s now draw m.head.source m.head.instance m.head.object speaks.index (data_received p m) r speaks.named speaks.most
-        (near_of (known_in (entered r m.head.instance)) speaks.index speaks.alone near) (λ t. refl)
-        (λ t k. data_seen p range (order_of s m.head.instance) m speaks.index t (subst E (sym entry.1) entry.2.0) k) h
+        (omega (arith, lt)) (near_of (known_in (entered r m.head.instance)) speaks.index speaks.alone near) (λ t. refl)
+        (λ t known k. data_seen p range (order_of s m.head.instance) m speaks.index t (subst E (sym entry.1) entry.2.0) known k) h
     go (Flush m) (speaks, says) near h =
         let S : List ℕ → Type 0 = λ xs. IsTrue (flushes_source p s (about xs m)) in
         let source = subst S speaks.alone says in
+        let found = entry_with p (order_of s m.head.instance) speaks.index (λ x. nat_lt m.id.symbol (closed_in x m.id.block)) source in
+        let lt = slice_get_within (order_of s m.head.instance) speaks.index found.0 found.1 in
         instance_seen p s now draw m.head.source m.head.instance m.object speaks.index (flush_received m) r speaks.named speaks.most
-        (near_of (known_in (entered r m.head.instance)) speaks.index speaks.alone near) (λ t. refl)
-        (λ t k. flush_seen p (order_of s m.head.instance) m speaks.index t source k) h
+        (omega (arith, lt)) (near_of (known_in (entered r m.head.instance)) speaks.index speaks.alone near) (λ t. refl)
+        (λ t known k. flush_seen p (order_of s m.head.instance) m speaks.index t source known k) h
     go (Squelch m) (speaks, says) near h =
+        let S : List ℕ → Type 0 = λ xs. SquelchesDropped s (about xs m) in
         instance_seen p s now draw m.head.source m.head.instance m.object speaks.index (squelch_received p m) r speaks.named speaks.most
+        (squelch_within p s m speaks.index orders (subst S speaks.alone says))
         (near_of (known_in (entered r m.head.instance)) speaks.index speaks.alone near) (λ t. refl)
-        (λ t k. same_in p (order_of s m.head.instance) t (squelch_received p m speaks.index t) (losing p (point speaks.index m.id.block) t.holding).holds.plans refl k) h
+        (λ t known k. same_in p (order_of s m.head.instance) t (squelch_received p m speaks.index t) (losing p (point speaks.index m.id.block) t.holding).holds.plans
+        (known_itself t.knows) k) h
     go (RepairAdv m) says near h = quiet_seen p s r now draw (Ok (RepairAdv m)) tt h
     go (Nack m) says near h = quiet_seen p s r now draw (Ok (Nack m)) tt h
     go (Eot m) says near h = h
@@ -441,26 +565,26 @@ message_seen p range s r indices now draw = go
     go (Ack m) says near h = h
     go (Report m) says near h = h
 
-pub received_seen : (p : Settings) → InRange p → (s : SenderState) (r : ReceiverState) (o : Written) (bytes : List ℕ) (now draw : ℕ) → SaysTrue p s o
+pub received_seen : (p : Settings) → InRange p → (s : SenderState) (r : ReceiverState) (o : Written) (bytes : List ℕ) (now draw : ℕ) → OrdersHold p s → SaysTrue p s o
     → o.octets ≡ bytes → are_near (receiver_knows r o.message) o.indices ≡ true → Seen p s r → Seen p s (received p r bytes now draw)
-received_seen p range s r o bytes now draw says same near h =
+received_seen p range s r o bytes now draw orders says same near h =
     let B : List ℕ → Type 0 = λ octets. Seen p s (received p r octets now draw) in subst B same (go says.0)
   where
     M : Result Message Refusal → Type 0
     M said = Seen p s (message_received p now draw said r)
 
     go : (decoded o.octets ≡ Ok o.message) ⊎ SaysNothing (decoded o.octets) → Seen p s (message_received p now draw (decoded o.octets) r)
-    go (inl read) = subst M (sym read) (message_seen p range s r o.indices now draw o.message says.1 near h)
+    go (inl read) = subst M (sym read) (message_seen p range s r o.indices now draw o.message orders says.1 near h)
     go (inr quiet) = quiet_seen p s r now draw (decoded o.octets) quiet h
 
 -- ---- a tick
 
--- what leaves plans, the flush position and the instance, and begins no back-off
+-- what leaves plans, what is known and the instance, and begins no back-off
 record SameSeen (r t : ReceiverState) : Type 0 where
   idle : r.knows.backoff ≡ None → t.knows.backoff ≡ None
   instance : t.instance ≡ r.instance
   plans : t.holding.plans ≡ r.holding.plans
-  flush : t.knows.flush ≡ r.knows.flush
+  known : SameKnown r.knows t.knows
 
 seen_same : (p : Settings) (s : SenderState) (r t : ReceiverState) → SameSeen r t → Seen p s r → Seen p s t
 seen_same p s r t same h =
@@ -468,10 +592,14 @@ seen_same p s r t same h =
   where
     go : (instance : Option ℕ) → SeenBy p s r instance → SeenBy p s t instance
     go None h = same.idle h
-    go (Some id) h = same_in p (order_of s id) r t same.plans same.flush h
+    go (Some id) h = same_in p (order_of s id) r t same.plans same.known h
 
 itself_same : (r : ReceiverState) → SameSeen r r
-itself_same r = record { idle = λ e. e; instance = refl; plans = refl; flush = refl }
+itself_same r = record { idle = λ e. e; instance = refl; plans = refl; known = known_itself r.knows }
+
+-- what is known after a step that leaves it
+known_on : (k l m : Knowledge) → m.known ≡ l.known → m.farthest ≡ l.farthest → m.flush ≡ l.flush → SameKnown k l → SameKnown k m
+known_on k l m known farthest flush h = record { known = known ∙ h.known; farthest = farthest ∙ h.farthest; flush = flush ∙ h.flush }
 
 abbrev state_of : ReceiverState × Option Written → ReceiverState
 state_of step = step.0
@@ -483,8 +611,18 @@ tick_same p r now = due r.knows.due
       | true ↦ (record t { knows = holds_off p now t.knows }, None)
       | false ↦ sends (writes (nack_message p t wanted) (flat_map indices_of wanted)) (record t { knows = holds_off p now t.knows })
     ]))
-    asked wanted t h true = record { idle = h.idle; instance = h.instance; plans = h.plans; flush = h.flush }
-    asked wanted t h false = record { idle = h.idle; instance = h.instance; plans = h.plans; flush = h.flush }
+    asked wanted t h true = record {
+      idle = h.idle;
+      instance = h.instance;
+      plans = h.plans;
+      known = known_on r.knows t.knows (holds_off p now t.knows) refl refl refl h.known;
+    }
+    asked wanted t h false = record {
+      idle = h.idle;
+      instance = h.instance;
+      plans = h.plans;
+      known = known_on r.knows t.knows (holds_off p now t.knows) refl refl refl h.known;
+    }
 
     needed : (t : ReceiverState) → SameSeen r t → (none : Bool) → SameSeen r (state_of (elim none [
       | true ↦ (t, None)
@@ -502,14 +640,15 @@ tick_same p r now = due r.knows.due
       | None ↦ (r, None)
     ]))
     backed None = itself_same r
-    backed (Some ends) = ended (record r { knows = record (r.knows) { backoff = None } }) (record { idle = λ e. refl; instance = refl; plans = refl; flush = refl }) (nat_le ends now)
+    backed (Some ends) = ended (record r { knows = record (r.knows) { backoff = None } })
+        (record { idle = λ e. refl; instance = refl; plans = refl; known = record { known = refl; farthest = refl; flush = refl } }) (nat_le ends now)
 
     due : (at : Option Position) → SameSeen r (state_of (elim at [
       | Some at ↦ sends (writes (ack_message p r at) (at.index ∷ [])) (record r { knows = record (r.knows) { due = None } })
       | None ↦ ends_back_off p now r
     ]))
     due None = backed r.knows.backoff
-    due (Some at) = record { idle = λ e. e; instance = refl; plans = refl; flush = refl }
+    due (Some at) = record { idle = λ e. e; instance = refl; plans = refl; known = record { known = refl; farthest = refl; flush = refl } }
 
 -- ---- a world
 
@@ -599,7 +738,7 @@ event_seen p range past accepted w (Delivered node octets now draw) may is holds
         let t : ReceiverState = received p r octets now draw in
         world_put p w (with_receiver t w) node r t e
         (moved_node_is p w.sender r t (received_moves p range w.sender r may.datagram octets now draw (orders_hold p w.sender holds.sender) says may.same close)) refl refl
-        (received_seen p range w.sender r may.datagram octets now draw says may.same close (at_found p w node r e h)) h
+        (received_seen p range w.sender r may.datagram octets now draw (orders_hold p w.sender holds.sender) says may.same close (at_found p w node r e h)) h
 event_seen p range past accepted w (Ticked node now) may is holds h = go (node == p.sender) (receiver_at w node) refl
   where
     go : (own : Bool) (found : Option ReceiverState) → receiver_at w node ≡ found
@@ -629,7 +768,7 @@ event_seen p range past accepted w (UpTaken node) may is holds h = go (receiver_
     ups r e [] = world_put p w (with_receiver r w) node r r e refl refl refl (at_found p w node r e h) h
     ups r e (up ∷ more) =
         let t : ReceiverState = record r { holding = record (r.holding) { ups = more } } in
-        world_put p w (with_receiver t w) node r t e refl refl refl (seen_same p w.sender r t (record { idle = λ e. e; instance = refl; plans = refl; flush = refl }) (at_found p w node r e h)) h
+        world_put p w (with_receiver t w) node r t e refl refl refl (seen_same p w.sender r t (record { idle = λ e. e; instance = refl; plans = refl; known = known_itself r.knows }) (at_found p w node r e h)) h
 
     go : (found : Option ReceiverState) → receiver_at w node ≡ found → SeenWorld p (moved p w (receiver_move found receiver.UpTaken)).0
     go None e = h

@@ -29,5 +29,4 @@ pub mod RepairSuffices
 pub mod FreshWants
 pub mod ClosingCompletes
 pub mod AsItCame
-pub mod Repairs
 pub mod Laws

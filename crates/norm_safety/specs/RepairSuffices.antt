@@ -1,5 +1,5 @@
 -- Coded repair suffices (RFC 5740 section 5.4): what a closing round answers a NACK's counts with completes each block, whatever
--- others asked.
+-- others asked. A NACK is one sending, known by its octets and by the indices for which it was written.
 use Rattle.std.specs.Prelude.{ℕ, ◌==◌, ◌&&◌, ◌||◌, not, List, [], ◌∷◌, ◌++◌, length, map, filter, flat_map, slice_get, nat_lt, nat_le, Bool, true, false, Option, None, Some, IsTrue}
 use Rattle.std.specs.List.{list_all, list_any, range_with_len}
 use Rattle.norm_base.specs.Settings.{Settings}
@@ -16,18 +16,20 @@ use Rattle.norm_receive_rules.specs.ReceiverState.{ReceiverState}
 use Rattle.norm_receive_rules.specs.Holding.{Held}
 use Rattle.norm_send_rules.specs.Closing.{round_closed}
 use Rattle.norm_send_rules.specs.Hearing.{nack_counts}
-use Rattle.norm_send_rules.specs.InWindow.{current_shapes}
+use Rattle.norm_send_rules.specs.InWindow.{last_index, current_shapes}
 use Rattle.norm_send_rules.specs.SenderState.{SenderState, Round}
 use Rattle.norm_send_rules.specs.declared.want.Want.{Want}
 use Rattle.norm_send_rules.specs.declared.want.Want.TheVariants.{Info, Symbol}
 use Rattle.norm_safety.specs.Events.{Event, Delivered, Ticked, Answer, Sent}
 use Rattle.norm_safety.specs.History.{Happening, History}
+use Rattle.norm_safety.specs.Lawful.{are_near}
 use Rattle.norm_safety.specs.World.{World, receiver_at, same_octets}
 
--- a NACK, its octets, and its receiver as it was when it gave it
+-- a NACK, its octets, the indices for which it was written, and its receiver as it was when it gave it
 pub record Plea : Type 0 where
   pub receiver : ReceiverState
   pub octets : List ℕ
+  pub indices : List ℕ
   pub nack : NackMessage
 
 -- the NACKs that were given so far, and those that joined the open round
@@ -36,21 +38,27 @@ pub record Pleas : Type 0 where
   pub joined : List Plea
 
 -- a datagram that is a NACK, as its receiver's
-abbrev pub plea_of : ReceiverState → List ℕ → Message → List Plea
-plea_of r octets (Nack m) = record { receiver = r; octets = octets; nack = m } ∷ []
-plea_of r octets _ = []
+abbrev pub plea_of : ReceiverState → List ℕ → List ℕ → Message → List Plea
+plea_of r octets indices (Nack m) = record { receiver = r; octets = octets; indices = indices; nack = m } ∷ []
+plea_of r octets indices _ = []
 
 -- a NACK that a node's tick gave
 abbrev pub gave_plea : World → Event → Answer → List Plea
-gave_plea w (Ticked node now) (Sent (Some datagram)) = elim (receiver_at w node) [ Some r ↦ plea_of r datagram.octets datagram.message | None ↦ [] ]
+gave_plea w (Ticked node now) (Sent (Some datagram)) = elim (receiver_at w node) [
+  | Some r ↦ plea_of r datagram.octets datagram.indices datagram.message
+  | None ↦ []
+]
 gave_plea w _ _ = []
 
--- the NACKs of these octets that count as they are delivered to the sender
+-- A NACK joins the round as a datagram of its octets is delivered to the sender, where it counts then and all its indices lie near the
+-- last one of the sender's order. A later NACK may have equal octets for indices that lie 65,536 higher; then the earlier one is near
+-- no more, and does not join with it.
+abbrev pub joins : Settings → SenderState → List ℕ → Plea → Bool
+joins p s octets x = same_octets x.octets octets && nack_counts p s x.nack && are_near (Some (last_index s)) x.indices
+
+-- the NACKs that join as a datagram is delivered
 abbrev pub joins_by : Settings → World → List Plea → Event → List Plea
-joins_by p w given (Delivered node datagram now draw) = elim (node == p.sender) [
-  | true ↦ filter (λ (x : Plea). same_octets x.octets datagram && nack_counts p w.sender x.nack) given
-  | false ↦ []
-]
+joins_by p w given (Delivered node datagram now draw) = elim (node == p.sender) [ true ↦ filter (joins p w.sender datagram) given | false ↦ [] ]
 joins_by p w given _ = []
 
 -- the round that a tick of the sender closes
@@ -85,7 +93,8 @@ are_enough shape block ids = elim (is_full shape block) [
   | false ↦ list_all (λ symbol. is_member nat_lt symbol ids) (range_with_len 0 (closed_in shape block))
 ]
 
--- what a receiver held of a block, with what the closing wants of it, is enough, where the block is in the window
+-- What a receiver held of a block, with what the closing wants of it, is enough. A block that lies before the drop point as the round
+-- closes counts as completed, and so does one whose index the order lacks.
 abbrev pub completes : Settings → SenderState → List Want → ReceiverState → Point → Bool
 completes p s wants r block = point_before block s.current.drop || elim (slice_get (current_shapes p s) block.index) [
   | Some shape ↦ are_enough shape block.block (ids_in block (map (λ (x : Held). x.at) r.holding.held ++ wanted_symbols wants))

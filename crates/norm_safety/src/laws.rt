@@ -1,13 +1,13 @@
 //! What is promised of runs of a sender and its receivers, and of the tests of safety. Each law is the contract of a
 //! function that does nothing.
 
-ghost use Rattle.norm_safety.specs.Laws.{TestLaws, WantsHoldInRuns, SafeRun, OfLawfulRuns, SaidOfOrders, CreditRun, SatisfiedRun, AcknowledgeRun};
 ghost use Rattle.norm_safety.specs.AsItCame.{AsksAsItCame, RoundsAskAsItCame};
 ghost use Rattle.norm_safety.specs.ClosingCompletes.{ClosingCompletes};
 ghost use Rattle.norm_safety.specs.FreshWants.{FreshWants};
 ghost use Rattle.norm_safety.specs.InTime.{TimeLaws};
+ghost use Rattle.norm_safety.specs.Laws.{TestLaws, WantsHoldInRuns, SafeRun, OfLawfulRuns, SaidOfOrders, CreditRun, SatisfiedRun, AcknowledgeRun};
 ghost use Rattle.norm_safety.specs.LosesNothing.{LosesNothing};
-ghost use Rattle.norm_safety.specs.Repairs.{RepairsSuffice};
+ghost use Rattle.norm_safety.specs.RepairSuffices.{RepairSuffices};
 ghost use Rattle.norm_safety.specs.WorldLaws.{WorldLaws};
 
 /// Every lawful run is safe, whatever the network loses, repeats, reorders or delays and however often the sender restarts. Accepted
@@ -90,11 +90,11 @@ pub fn rounds_ask_as_they_came()
     ensures { RoundsAskAsItCame }
 {}
 
-/// Coded repair suffices: as a round closes, what is wanted then completes each block that one of its NACKs counts, for the receiver that
-/// gave it, whatever others asked; and nobody holds what is wanted and was never sent. So it is in each lawful run of few objects.
+/// Coded repair suffices, in each lawful run: as a round closes, what is wanted then completes each block that one of its NACKs counts, for
+/// the receiver that gave it, whatever others asked; and nobody holds what is wanted and was never sent.
 #[tactic(auto, using(crate::proofs::RepairRun::repair_run))]
-pub fn repairs_suffice()
-    ensures { RepairsSuffice }
+pub fn repair_run()
+    ensures { OfLawfulRuns RepairSuffices }
 {}
 
 /// In lawful runs a receiver acknowledges only what it handed up, everything before included. And what was handed up is
