@@ -16,3 +16,4 @@ pub mod MomentLemmas
 pub mod RepairLemmas
 pub mod ListingLemmas
 pub mod DropLemmas
+pub mod ForgottenLemmas

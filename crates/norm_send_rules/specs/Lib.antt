@@ -28,3 +28,4 @@ pub mod TickLaws
 pub mod RepairLaws
 pub mod ListingLaws
 pub mod DropLaws
+pub mod NoneForgotten

@@ -3,6 +3,7 @@
 ghost use Rattle.norm_send_rules.specs.DropLaws.{DropLaws};
 ghost use Rattle.norm_send_rules.specs.Laws.{RefusedLeaves, ClosingLaws, WantLaws, NewLaws, NextLaws};
 ghost use Rattle.norm_send_rules.specs.ListingLaws.{ListingLaws};
+ghost use Rattle.norm_send_rules.specs.NoneForgotten.{NoneForgotten};
 ghost use Rattle.norm_send_rules.specs.Reached.{ReachedLaws};
 ghost use Rattle.norm_send_rules.specs.RepairLaws.{RepairLaws};
 ghost use Rattle.norm_send_rules.specs.RoomLaws.{RoomLaws};
@@ -69,6 +70,11 @@ pub fn repairs()
 #[tactic(auto, using(crate::proofs::ListingLemmas::listing_laws))]
 pub fn listings()
     ensures { ListingLaws }
+{}
+
+/// No want is forgotten: in each step it stays, or is sent, or lies before the drop point then, with a squelch due, or another instance begins.
+pub fn none_forgotten()
+    ensures { NoneForgotten }
 {}
 
 /// The drop point never falls in an instance.
