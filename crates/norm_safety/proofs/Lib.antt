@@ -76,3 +76,4 @@ pub mod CreditLemmas
 pub mod MetLemmas
 pub mod SatisfiedRun
 pub mod SafeRun
+pub mod RunFronts

@@ -1,5 +1,5 @@
 -- What is promised of runs, and of the tests of safety.
-use Rattle.std.specs.Prelude.{List, IsTrue}
+use Rattle.std.specs.Prelude.{List, ◌++◌, IsTrue}
 use Rattle.std.specs.List.{AllByRecursion}
 use Rattle.std.specs.Bool.{Decides}
 use Rattle.norm_base.specs.Settings.{Settings, InRange}
@@ -70,6 +70,13 @@ pub record SafeRun : Type 0 where
   pub once : (p : Settings) (events : List Event) → Honest p events → OnceEach (history p events)
   pub order : OfLawfulRuns InOrder
   pub listed : OfLawfulRuns ListedAfter
+
+-- A lawful run is safe at each moment: a front of it is lawful, of events that a program can make where the whole is, and so it is safe.
+-- Then what a listing rests on was handed up before it, whatever became of that listing later.
+pub record FrontLaws : Type 0 where
+  pub lawful : (p : Settings) (front rest : List Event) → Lawful p (front ++ rest) → Lawful p front
+  pub events : (front rest : List Event) → AreEvents (front ++ rest) → AreEvents front
+  pub safe : (p : Settings) → InRange p → (front rest : List Event) → Lawful p (front ++ rest) → AreEvents (front ++ rest) → Safe p front
 
 -- In lawful runs a receiver acknowledges only what it handed up, everything before included. A flush makes it owe what
 -- it handed up; that stays so in its instance until its next tick, which says it.

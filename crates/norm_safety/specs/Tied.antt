@@ -1,4 +1,5 @@
--- What a proof of safety keeps at every event of a lawful run: seven parts, each a word of its own.
+-- An invariant of lawful runs in seven parts, each a word of its own. It is evaluated along recorded runs. No proof cites it: each keeps
+-- what it needs in its own words. Beside a part stands the law that says it of every lawful run, if there is one.
 use Rattle.std.specs.Prelude.{◌&&◌, Bool}
 use Rattle.norm_base.specs.Settings.{Settings}
 use Rattle.norm_safety.specs.AcknowledgesHanded.{AcknowledgesHanded, acknowledges_handed}
@@ -12,12 +13,19 @@ use Rattle.norm_safety.specs.WantsSent.{WantsSent, wants_sent}
 
 -- all seven
 pub record Tied (p : Settings) (h : History) : Type 0 where
+  -- `said_run`, of each DATA and INFO; that orders only grow no law says
   pub symbols : SaysSymbols p h
+  -- `said_run`
   pub positions : SaysPositions p h
+  -- `safe_run`, of what was handed up and taken
   pub holds : HoldsSaid p h
+  -- `acknowledge_run`
   pub acknowledges : AcknowledgesHanded p h
+  -- `safe_run`; that ids of instances rise, and not only differ, no law says
   pub lists : ListsHanded p h
+  -- `wants`, of what is wanted
   pub wants : WantsSent p h
+  -- no law; `hold_run` says what follows of it
   pub drops : DropsConfirmed p h
 
 -- The same as a test, but that it does not look whether orders only grow.

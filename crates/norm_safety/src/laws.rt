@@ -5,7 +5,7 @@ ghost use Rattle.norm_safety.specs.AsItCame.{AsksAsItCame, RoundsAskAsItCame};
 ghost use Rattle.norm_safety.specs.ClosingCompletes.{ClosingCompletes};
 ghost use Rattle.norm_safety.specs.FreshWants.{FreshWants};
 ghost use Rattle.norm_safety.specs.InTime.{TimeLaws};
-ghost use Rattle.norm_safety.specs.Laws.{TestLaws, WantsHoldInRuns, SafeRun, OfLawfulRuns, SaidOfOrders, CreditRun, SatisfiedRun, AcknowledgeRun};
+ghost use Rattle.norm_safety.specs.Laws.{TestLaws, WantsHoldInRuns, SafeRun, FrontLaws, OfLawfulRuns, SaidOfOrders, CreditRun, SatisfiedRun, AcknowledgeRun};
 ghost use Rattle.norm_safety.specs.LosesNothing.{LosesNothing};
 ghost use Rattle.norm_safety.specs.RepairSuffices.{RepairSuffices};
 ghost use Rattle.norm_safety.specs.WorldLaws.{WorldLaws};
@@ -18,6 +18,13 @@ ghost use Rattle.norm_safety.specs.WorldLaws.{WorldLaws};
 #[tactic(auto, using(crate::proofs::SafeRun::safe_run))]
 pub fn safe_run()
     ensures { SafeRun }
+{}
+
+/// A lawful run is safe at each moment: each front of it is lawful, and so safe. A receiver that was listed past a position, if only for a
+/// while, had handed up everything before it.
+#[tactic(auto, using(crate::proofs::RunFronts::front_laws))]
+pub fn each_front()
+    ensures { FrontLaws }
 {}
 
 /// In lawful runs each DATA and INFO that was said carries the encoded symbol or the info of its entry, with
