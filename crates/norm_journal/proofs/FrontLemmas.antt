@@ -5,10 +5,11 @@ use Rattle.std.specs.Option.{option_to_list}
 use Rattle.std.proofs.lemmas.Option.{none-some, same_Some}
 use Rattle.norm_send_rules.specs.Watermarks.{open_watermarks}
 use Rattle.norm_send_rules.specs.Ticking.{is_idle}
+use Rattle.norm_safety.specs.Events.{Event as WorldEvent}
 use Rattle.norm_journal.specs.declared.event.Event.{Event}
 use Rattle.norm_journal.specs.Accepting.{accepts, judged_from}
 use Rattle.norm_journal.specs.Honest.{IsHonest}
-use Rattle.norm_journal.specs.WorldEvents.{TakesHonestly}
+use Rattle.norm_journal.specs.WorldEvents.{world_event, world_events, TakesHonestly}
 use Rattle.norm_journal.specs.Judged.{Judged, is_whole}
 use Rattle.norm_journal.specs.Places.{Place, Giving, Again, Over}
 use Rattle.norm_journal.specs.Printed.{line_of, lines_from}
@@ -16,7 +17,7 @@ use Rattle.norm_script.specs.declared.script.Verb.{Verb}
 use Rattle.norm_script.specs.declared.script.Verb.TheVariants as verb
 use Rattle.norm_journal.specs.Jobs.{Told, may_be_absent}
 use Rattle.norm_journal.specs.SessionRun.{Ending, Whole, Spent, Absent, absent_of, ends_in}
-use Rattle.norm_journal.specs.Laws.{FrontsAreAccepted, FrontsArePrinted, TakesStayHonest, LeavesNothing, WholeIsDone}
+use Rattle.norm_journal.specs.Laws.{FrontsAreAccepted, FrontsArePrinted, FrontsHappen, TakesStayHonest, LeavesNothing, WholeIsDone}
 
 clash : false ≡ true → ⊥
 clash e = cc
@@ -69,6 +70,23 @@ fronts_print j last (e ∷ front) rest is =
 
 pub fronts_printed : FrontsArePrinted
 fronts_printed j next front rest is = fronts_print j next front rest is
+
+-- the world's events from what an event leaves, if it may come
+abbrev pub events_after : Option Judged → List Event → List WorldEvent
+events_after o events = elim o [ Some next ↦ world_events next events | None ↦ [] ]
+
+events_on : (o : Option Judged) (front rest : List Event)
+    → ((next : Judged) → world_events next (front ++ rest) ≡ world_events next front ++ events_after (judged_from next front) rest)
+    → events_after o (front ++ rest) ≡ events_after o front ++ events_after (option_and_then (λ next. judged_from next front) o) rest
+events_on None front rest each = refl
+events_on (Some next) front rest each = each next
+
+pub fronts_happen : FrontsHappen
+unfolding judged_from world_events
+fronts_happen j [] rest = refl
+fronts_happen j (e ∷ front) rest =
+    ap (λ more. option_to_list (world_event j e) ++ more) (events_on (accepts j e) front rest (λ next. fronts_happen next front rest))
+    ∙ sym (append_assoc (option_to_list (world_event j e)) (events_after (accepts j e) front) (events_after (judged_from j (e ∷ front)) rest))
 
 -- whatever may come after the last event, there is nothing more to ask of it
 nothing_more : (o : Option Judged) → IfSome o (λ next. TakesHonestly next [])

@@ -39,6 +39,11 @@ abbrev pub FrontsArePrinted : Type 0
 FrontsArePrinted = (j next : Judged) (front rest : List Event) → judged_from j front ≡ Some next
     → lines_from j (front ++ rest) ≡ lines_from j front ++ lines_from next rest
 
+-- A journal is in the nodes' world what its front is there, and then what the rest is from the state that the front leaves.
+abbrev pub FrontsHappen : Type 0
+FrontsHappen = (j : Judged) (front rest : List Event)
+    → world_events j (front ++ rest) ≡ world_events j front ++ elim (judged_from j front) [ Some next ↦ world_events next rest | None ↦ [] ]
+
 -- the names of a producer's commands among these lines
 abbrev pub commands_by : ℕ → List Line → List Origin
 commands_by producer lines = map origin_of (filter (λ (line : Line). line.producer == producer) lines)

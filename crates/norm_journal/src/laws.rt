@@ -7,7 +7,7 @@ ghost use Rattle.norm_journal.specs.Calls.{CallsAreDue};
 ghost use Rattle.norm_journal.specs.Counts.{JournalIsCounted};
 ghost use Rattle.norm_journal.specs.GoingOn.{GoesOn};
 ghost use Rattle.norm_journal.specs.Handed.{SaysTheHands};
-ghost use Rattle.norm_journal.specs.Laws.{FrontsAreAccepted, FrontsArePrinted, PullsInOrder, WholeIsDone, EndsLast, MovesTheWorld, BeginsHonestly, BeginsLawfully, FilesGoByLength, OffersAreTheWorlds, TakesStayHonest, CommandsAreEvents, CommandsAreOfObjects, ScriptsNameOnce};
+ghost use Rattle.norm_journal.specs.Laws.{FrontsAreAccepted, FrontsArePrinted, FrontsHappen, PullsInOrder, WholeIsDone, EndsLast, MovesTheWorld, BeginsHonestly, BeginsLawfully, FilesGoByLength, OffersAreTheWorlds, TakesStayHonest, CommandsAreEvents, CommandsAreOfObjects, ScriptsNameOnce};
 
 /// Each front of a journal that is accepted is accepted.
 #[tactic(auto, using(crate::proofs::FrontLemmas::fronts_accepted))]
@@ -19,6 +19,12 @@ pub fn fronts_are_accepted()
 #[tactic(auto, using(crate::proofs::FrontLemmas::fronts_printed))]
 pub fn fronts_are_printed()
     ensures { FrontsArePrinted }
+{}
+
+/// The events of a journal in the nodes' world are those of its front, and then those of the rest.
+#[tactic(auto, using(crate::proofs::FrontLemmas::fronts_happen))]
+pub fn fronts_happen()
+    ensures { FrontsHappen }
 {}
 
 /// Each producer's pulls are its commands in their order.
