@@ -1,4 +1,4 @@
--- What was done over an honest network is a lawful run of the nodes, and safe.
+-- What was done over an honest network is a lawful run of the nodes, and safe at each moment.
 use Rattle.std.proofs.Common.{◌≡◌, ℕ, zero, suc, List, [], ◌∷◌, ◌++◌, Option, None, Some, refl, sym, ap, ◌∙◌, subst, arith}
 use Rattle.std.specs.Prelude.{map, Contains, IsTrue, IsSome, IfSome, option_and_then}
 use Rattle.std.specs.List.{AllByRecursion}
@@ -9,10 +9,13 @@ use Rattle.norm_base.specs.Told.{Pieces}
 use Rattle.norm_script.specs.Commands.{Commands}
 use Rattle.norm_script.specs.Scripts.{IsScript}
 use Rattle.norm_safety.specs.InTime.{WasOffered}
+use Rattle.norm_safety.specs.Jobs.{AreEvents}
+use Rattle.norm_safety.specs.Lawful.{Lawful}
 use Rattle.norm_safety.proofs.CreditLemmas.{credit_run}
 use Rattle.norm_safety.proofs.FreshRun.{fresh_run, closing_run}
 use Rattle.norm_safety.proofs.HoldRun.{hold_run}
 use Rattle.norm_safety.proofs.Owing.{acknowledge_run}
+use Rattle.norm_safety.proofs.RunFronts.{front_laws}
 use Rattle.norm_safety.proofs.SafeRun.{safe_run}
 use Rattle.norm_safety.proofs.SaidRun.{said_run}
 use Rattle.norm_journal.specs.declared.event.Event.{Event}
@@ -24,13 +27,13 @@ use Rattle.norm_journal.specs.Judged.{Judged}
 use Rattle.norm_journal.specs.Laws.{HasOctets, octets_given}
 use Rattle.norm_journal.specs.Projections.{offers_in}
 use Rattle.norm_journal.specs.SessionRun.{Begun}
-use Rattle.norm_journal.specs.WorldEvents.{TakesHonestly}
-use Rattle.norm_journal.proofs.FrontLemmas.{judged_from-append}
+use Rattle.norm_journal.specs.WorldEvents.{world_events, TakesHonestly}
+use Rattle.norm_journal.proofs.FrontLemmas.{judged_from-append, events_after, fronts_happen}
 use Rattle.norm_journal.proofs.OctetLemmas.{commands_are_events}
 use Rattle.norm_journal.proofs.OfferedLemmas.{offers_are_the_worlds}
 use Rattle.norm_journal.proofs.TimeLemmas.{begins_lawfully}
 use Rattle.norm_session.specs.Context.{Context, opening}
-use Rattle.norm_session.specs.Session.{IsSafe, OverHonest, nodes_of, session_opening, session_events}
+use Rattle.norm_session.specs.Session.{IsSafe, IsSafeThroughout, OverHonest, nodes_of, session_opening, session_events}
 use Rattle.norm_session.specs.SoFar.{Leads, IsOffered, AreOffered}
 use Rattle.norm_session.specs.Stopping.{Stopped}
 use Rattle.norm_session.specs.declared.fault.SessionFault.{SessionFault}
@@ -98,16 +101,11 @@ starts_there j = refl
 is_some : {X : Type 0} (o : Option X) (x : X) → o ≡ Some x → IsSome o
 is_some o x is = subst IsSome (sym is) refl
 
-pub safe_so_far : (script : Commands) (files : Told) (journal : List Event) (last : Judged) → IsScript script
-    → judged_from (session_opening script files) journal ≡ Some last → AreOffered [] journal → AllByRecursion HasOctets journal
-    → IsSafe script files journal
-safe_so_far script files journal last is so offered octets =
-    let start = session_opening script files in
-    let begun : Begun script files (nodes_of script) journal = is_some (judged_from start journal) last so in
-    let honest = take_honestly script files [] journal start last (starts_there start) so offered in
-    let lawful = begins_lawfully script files (nodes_of script) journal is begun octets honest in
+-- a lawful run of a script's nodes
+lawful_is_safe : (script : Commands) (files : Told) (journal : List Event) → IsScript script → Lawful script.profile (session_events script files journal)
+    → AreEvents (session_events script files journal) → IsSafe script files journal
+lawful_is_safe script files journal is lawful are =
     let events = session_events script files journal in
-    let are = commands_are_events script files (nodes_of script) journal is begun octets in
     let range = is.range in
     record {
       lawful = lawful;
@@ -120,6 +118,21 @@ safe_so_far script files journal last is so offered octets =
       acknowledged = acknowledge_run.handed script.profile range events lawful are;
       owed = acknowledge_run.owed script.profile range events lawful are;
     }
+
+-- each front of it is one too
+pub safe_throughout : (script : Commands) (files : Told) (journal : List Event) (last : Judged) → IsScript script
+    → judged_from (session_opening script files) journal ≡ Some last → AreOffered [] journal → AllByRecursion HasOctets journal
+    → IsSafeThroughout script files journal
+safe_throughout script files journal last is so offered octets front rest joined =
+    let start = session_opening script files in
+    let begun : Begun script files (nodes_of script) journal = is_some (judged_from start journal) last so in
+    let honest = take_honestly script files [] journal start last (starts_there start) so offered in
+    let before = session_events script files front in
+    let more = events_after (judged_from start front) rest in
+    let events : session_events script files journal ≡ before ++ more = ap (world_events start) joined ∙ fronts_happen start front rest in
+    let lawful = subst (Lawful script.profile) events (begins_lawfully script files (nodes_of script) journal is begun octets honest) in
+    let are = subst AreEvents events (commands_are_events script files (nodes_of script) journal is begun octets) in
+    lawful_is_safe script files front is (front_laws.lawful script.profile before more lawful) (front_laws.events before more are)
 
 -- ---- over an honest network
 
@@ -138,15 +151,15 @@ session_judged x journal last nodes so = subst (λ n. judged_from (opening (reco
 
 pub safe_over : (x : Context) (journal : List Event) (j : Judged) (network : Network) (written : Pieces) → Leads x journal j network written
     → x.nodes ≡ nodes_of x.script → IsScript x.script → IfSome x.network.offered (λ now. now ≡ [])
-    → OverHonest x.network (IsSafe x.script x.files journal)
+    → OverHonest x.network (IsSafeThroughout x.script x.files journal)
 safe_over x journal j network written s nodes is none =
-    over_honest x (IsSafe x.script x.files journal) none (λ honest told.
-    safe_so_far x.script x.files journal j is (session_judged x journal j nodes s.judged) (s.offered honest told) s.octets)
+    over_honest x (IsSafeThroughout x.script x.files journal) none (λ honest told.
+    safe_throughout x.script x.files journal j is (session_judged x journal j nodes s.judged) (s.offered honest told) s.octets)
 
 -- the same where a fault stopped it
 pub safe_stopped : (x : Context) (fault : SessionFault) (network : Network) (written : Pieces) (s : Stopped x fault network written)
     → x.nodes ≡ nodes_of x.script → IsScript x.script → IfSome x.network.offered (λ now. now ≡ [])
-    → OverHonest x.network (IsSafe x.script x.files s.journal)
+    → OverHonest x.network (IsSafeThroughout x.script x.files s.journal)
 safe_stopped x fault network written s nodes is none =
-    over_honest x (IsSafe x.script x.files s.journal) none (λ honest told.
-    safe_so_far x.script x.files s.journal s.last is (session_judged x s.journal s.last nodes s.begun) (s.offered honest told) s.octets)
+    over_honest x (IsSafeThroughout x.script x.files s.journal) none (λ honest told.
+    safe_throughout x.script x.files s.journal s.last is (session_judged x s.journal s.last nodes s.begun) (s.offered honest told) s.octets)

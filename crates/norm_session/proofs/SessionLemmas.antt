@@ -20,7 +20,7 @@ use Rattle.norm_session.specs.Noting.{kept_of}
 use Rattle.norm_session.specs.RunKept.{RunKept}
 use Rattle.norm_session.specs.SoFar.{Leads, At}
 use Rattle.norm_session.specs.Starting.{IsBegun, local_of}
-use Rattle.norm_session.specs.Session.{OverHonest, IsSafe, RunsKept, StopsSession, StopsSender, StopsScript, context_of, end_of}
+use Rattle.norm_session.specs.Session.{OverHonest, IsSafeThroughout, RunsKept, StopsSession, StopsSender, StopsScript, context_of, end_of}
 use Rattle.norm_session.specs.Turning.{Span, span, StopsTurns}
 use Rattle.norm_session.specs.declared.fault.SessionFault.{SessionFault}
 use Rattle.norm_session.specs.declared.session.Made.{Made}
@@ -33,17 +33,17 @@ use Rattle.producer_gate.specs.Boards.{BoardState}
 abbrev Begins : Bool → Commands → RunKept → Network → Type 0
 Begins alone script k started = (x : Context) → IsBegun x script alone started → At x k Between started x.written
 
--- what leads somewhere is safe
+-- what leads somewhere was safe at each moment
 abbrev pub LeadsSafely : Context → Type 0
 LeadsSafely x = (journal : List Event) (j : Judged) (network : Network) (written : Pieces) → Leads x journal j network written
-    → OverHonest x.network (IsSafe x.script x.files journal)
+    → OverHonest x.network (IsSafeThroughout x.script x.files journal)
 
--- what a fault stopped is safe
+-- what a fault stopped was
 abbrev pub StopsSafely : Context → Type 0
 StopsSafely x = (failed : SessionFault) (network : Network) (written : Pieces) (s : Stopped x failed network written)
-    → OverHonest x.network (IsSafe x.script x.files s.journal)
+    → OverHonest x.network (IsSafeThroughout x.script x.files s.journal)
 
--- what a session leads to is safe, and what a fault stops, where it began over a network that was just started
+-- what a session leads to was safe at each moment, and what a fault stops, where it began over a network that was just started
 pub leads_safely : (script : Commands) (files : Told) (before started : Network) (unwritten : Pieces) (unposted posted : BoardState) → IsScript script
     → Starts before started script.profile All → (ms : List ℕ) → LeadsSafely (with_moments (with_posted (context_of false script files started unwritten unposted) posted) ms)
 leads_safely script files before started unwritten unposted posted is starts ms journal j network written l =

@@ -1,5 +1,5 @@
 -- A whole session, or the run of its sender alone: what it did, and what a fault leaves of it.
-use Rattle.std.specs.Prelude.{◌≡◌, ◌⊎◌, ℕ, List, [], Bool, true, false, Option, IfSome, IsTrue}
+use Rattle.std.specs.Prelude.{◌≡◌, ◌⊎◌, ℕ, List, [], ◌++◌, Bool, true, false, Option, IfSome, IsTrue}
 use Rattle.norm_base.specs.Members.{receivers_of}
 use Rattle.norm_base.specs.Network.{Network, Starts}
 use Rattle.norm_base.specs.Told.{Pieces, gained}
@@ -50,7 +50,8 @@ session_events script files journal = world_events (session_opening script files
 abbrev pub session_history : Commands → Told → List Event → History
 session_history script files journal = history script.profile (session_events script files journal)
 
--- What is promised of every session: what was done is a lawful run of the nodes, and safe; and more than that.
+-- What is promised of every session, of all of its journal and of each front: what was done is a lawful run of the nodes, and safe; and
+-- more than that.
 pub record IsSafe (script : Commands) (files : Told) (journal : List Event) : Type 0 where
   pub lawful : Lawful script.profile (session_events script files journal)
   -- Each accepted object is once in the order, with the octets that it was given, as what was written to a stream is; each receiver handed
@@ -72,6 +73,11 @@ pub record IsSafe (script : Commands) (files : Told) (journal : List Event) : Ty
   -- and whoever handed up everything before the end of an object, or of a stream's segment, owes that to a flush which names it
   pub owed : OwesWhatItHanded script.profile (session_history script files journal)
 
+-- A journal was safe at each moment: each front of it is, and so all of it. So whatever was handed up stands before the listing that rests
+-- on it, also before one that a restart or a strike took away later.
+abbrev pub IsSafeThroughout : Commands → Told → List Event → Type 0
+IsSafeThroughout script files journal = (front rest : List Event) → journal ≡ front ++ rest → IsSafe script files front
+
 -- over an honest network that tells what is offered
 abbrev pub OverHonest : Network → Type 0 → Type 0
 OverHonest started Promise = IsTrue started.honest → IfSome started.offered (λ offered. Promise)
@@ -84,7 +90,7 @@ end_of false = Spent
 -- A session was run to its end: its journal is a run of the script by the defined protocol, over the network that was started once,
 -- whose offers and answers are the journal's; the output has the journal's lines, each one piece; the board has one entry more for each
 -- outcome that the journal tells, in their order; its turns began at their moments, by the clock where the step is 0. Over an honest
--- network it is safe.
+-- network it was safe at each moment.
 pub record RunsSession (script : Commands) (files : Told) (journal : List Event) (whole : Bool) (o : Span) : Type 0 where
   pub started : Network
   pub starts : Starts o.before started script.profile All
@@ -93,7 +99,7 @@ pub record RunsSession (script : Commands) (files : Told) (journal : List Event)
   pub lines : o.written ≡ gained o.unwritten (lines_from (session_opening script files) journal)
   pub board : o.posted ≡ posting o.unposted (entries_in journal)
   pub moments : HaveMoments script.profile.step 0 o.unasked o.asked (moments_in journal)
-  pub safe : OverHonest started (IsSafe script files journal)
+  pub safe : OverHonest started (IsSafeThroughout script files journal)
 
 -- A sender was run alone to its end, its receivers elsewhere: as a session, but that the network was started for its node alone, and
 -- that the run has no receivers. What comes to it was offered elsewhere, so that nothing is said of the nodes' world.
@@ -140,14 +146,14 @@ context_of alone script files started unwritten board = record {
 }
 
 -- A fault broke a session off: what was done is the beginning of a run, and that is what the network, the output, the clock and the board
--- have of it.
+-- have of it. Over an honest network it was safe at each moment up to then.
 pub record BreaksOff (failed : SessionFault) (script : Commands) (files : Told) (o : Span) : Type 0 where
   pub started : Network
   pub starts : Starts o.before started script.profile All
   pub moments : List ℕ
   pub by_clock : HaveMoments script.profile.step 0 o.unasked o.asked moments
   pub stopped : Stopped (with_moments (with_posted (context_of false script files started o.unwritten o.unposted) o.posted) moments) failed o.after o.written
-  pub safe : OverHonest started (IsSafe script files stopped.journal)
+  pub safe : OverHonest started (IsSafeThroughout script files stopped.journal)
 
 -- what a fault leaves of a session
 abbrev pub StopsSession : SessionFault → Commands → Told → Span → Type 0
