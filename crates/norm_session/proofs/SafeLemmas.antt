@@ -15,6 +15,7 @@ use Rattle.norm_safety.proofs.CreditLemmas.{credit_run}
 use Rattle.norm_safety.proofs.FreshRun.{fresh_run, closing_run}
 use Rattle.norm_safety.proofs.HoldRun.{hold_run}
 use Rattle.norm_safety.proofs.Owing.{acknowledge_run}
+use Rattle.norm_safety.proofs.RepairRun.{repair_run}
 use Rattle.norm_safety.proofs.RunFronts.{front_laws}
 use Rattle.norm_safety.proofs.SafeRun.{safe_run}
 use Rattle.norm_safety.proofs.SaidRun.{said_run}
@@ -115,6 +116,7 @@ lawful_is_safe script files journal is lawful are =
       said = said_run script.profile range events lawful are;
       fresh = fresh_run script.profile range events lawful are;
       completes = closing_run script.profile range events lawful are;
+      repaired = repair_run script.profile range events lawful are;
       acknowledged = acknowledge_run.handed script.profile range events lawful are;
       owed = acknowledge_run.owed script.profile range events lawful are;
     }

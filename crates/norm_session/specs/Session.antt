@@ -22,6 +22,7 @@ use Rattle.norm_safety.specs.History.{History, history}
 use Rattle.norm_safety.specs.Lawful.{Lawful}
 use Rattle.norm_safety.specs.Laws.{SaidOfOrders}
 use Rattle.norm_safety.specs.LosesNothing.{LosesNothing}
+use Rattle.norm_safety.specs.RepairSuffices.{RepairSuffices}
 use Rattle.norm_safety.specs.Safe.{Safe}
 use Rattle.norm_session.specs.Context.{Context, with_moments, with_posted}
 use Rattle.norm_session.specs.Moments.{HaveMoments}
@@ -68,6 +69,8 @@ pub record IsSafe (script : Commands) (files : Told) (journal : List Event) : Ty
   pub fresh : FreshWants script.profile (session_history script files journal)
   -- and what a closing wants completes a block for whoever lacks no more of it than the round counts
   pub completes : ClosingCompletes script.profile (session_history script files journal)
+  -- and each block that one of the NACKs which joined the round counts, for the receiver that gave it, as it then was
+  pub repaired : RepairSuffices script.profile (session_history script files journal)
   -- a receiver acknowledges only what it handed up, everything before included
   pub acknowledged : AcknowledgesHanded script.profile (session_history script files journal)
   -- and whoever handed up everything before the end of an object, or of a stream's segment, owes that to a flush which names it
