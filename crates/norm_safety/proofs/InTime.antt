@@ -33,7 +33,7 @@ use Rattle.norm_send_rules.proofs.ShapeLemmas.{blocks_of}
 use Rattle.norm_safety.specs.Events.{Event, Commanded, Delivered, Ticked, Offered, UpTaken, NewsAsked}
 use Rattle.norm_safety.specs.History.{Happening, happens, last_world}
 use Rattle.norm_safety.specs.InOrder.{drop_of}
-use Rattle.norm_safety.specs.InTime.{MayComeLate, HonestFrom, Honest, accepted_in, FewObjects, TimeLaws}
+use Rattle.norm_safety.specs.InTime.{MayComeLate, HonestFrom, Honest, accepted_in, most_objects, FewObjects, TimeLaws}
 use Rattle.norm_safety.specs.Jobs.{IsEvent, AreEvents}
 use Rattle.norm_safety.specs.Lawful.{knows_with, knows_in, receiver_knows, sender_knows_in, sender_knows, node_knows, most_apart, is_near, are_near, comes_in_time, accepted_with, MayCome, LawfulFrom}
 use Rattle.norm_safety.specs.OnceEach.{origins_of, instance_ids, order_of}
@@ -114,14 +114,14 @@ receiver_low n r (AckReq m) h = tt
 receiver_low n r (Opaque m) h = tt
 receiver_low n r (Report m) h = tt
 
-sender_in_low : (n : ℕ) (s : SenderState) (id : ℕ) → length s.current.order ≤ n → IfSome (sender_knows_in s id) (λ k. k ≤ n)
+sender_in_low : (n : ℕ) (s : SenderState) (id : ℕ) → length s.current.order ≤ n + 1 → IfSome (sender_knows_in s id) (λ k. k ≤ n)
 sender_in_low n s id few = go (id == s.current.id)
   where
     go : (b : Bool) → IfSome (elim b [ true ↦ Some (last_index s) | false ↦ None ]) (λ k. k ≤ n)
     go true = omega (arith, few)
     go false = tt
 
-sender_low : (n : ℕ) (s : SenderState) (m : Message) → length s.current.order ≤ n → IfSome (sender_knows s m) (λ k. k ≤ n)
+sender_low : (n : ℕ) (s : SenderState) (m : Message) → length s.current.order ≤ n + 1 → IfSome (sender_knows s m) (λ k. k ≤ n)
 sender_low n s (Nack m) few = sender_in_low n s m.instance few
 sender_low n s (Ack m) few = sender_in_low n s m.instance few
 sender_low n s (Info m) few = tt
@@ -244,12 +244,12 @@ receiver_at_low w node r h e =
     found_holds (λ (x : ReceiverState). IsLow most_apart x.knows) (λ (x : ReceiverState). x.node == node) w.receivers r h.receivers e
 
 -- the current order is that of its id
-current_few : (p : Settings) (s : SenderState) → IsDistinct nat_eq (instance_ids s) → FewObjects s → length s.current.order ≤ most_apart
+current_few : (p : Settings) (s : SenderState) → IsDistinct nat_eq (instance_ids s) → FewObjects s → length s.current.order ≤ most_objects
 current_few p s differ few =
     let same = ap length (current_order s differ) in let le = few s.current.id in omega (arith, same, le)
 
 -- what was offered comes in time
-in_time : (p : Settings) (w : World) (node : ℕ) (o : Written) → length w.sender.current.order ≤ most_apart → LowWorld w → AreUpTo most_apart o.indices
+in_time : (p : Settings) (w : World) (node : ℕ) (o : Written) → length w.sender.current.order ≤ most_objects → LowWorld w → AreUpTo most_apart o.indices
     → IsTrue (comes_in_time p w node o)
 in_time p w node o few h low = near_known (node_knows p w node o.message) o.indices (go (node == p.sender) (receiver_at w node) refl) low
   where
@@ -428,10 +428,10 @@ unfolding happens last_world
 last_is_run p w [] = refl
 last_is_run p w (e ∷ events) = last_is_run p (world_step p w e).0 events
 
-few_commands : (p : Settings) (events : List Event) → Honest p events → length (accepted_in p events) ≤ most_apart → FewObjects (run p events).sender
+few_commands : (p : Settings) (events : List Event) → Honest p events → length (accepted_in p events) ≤ most_objects → FewObjects (run p events).sender
 few_commands p events honest most id =
     let once = once_in p events honest in
-    let F : World → Type 0 = λ w. length (order_of w.sender id) ≤ most_apart in
+    let F : World → Type 0 = λ w. length (order_of w.sender id) ≤ most_objects in
     let s : SenderState = (last_world (world_opening p) (happens p (world_opening p) events)).sender in
     let own = instance_few (instances s) id in
     let whole = length-append (flat_map (λ (i : Instance). flat_map origins_of i.order) (instances s)) (map (λ (w : Watermark). w.by) s.watermarks) in

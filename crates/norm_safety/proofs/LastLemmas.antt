@@ -1,14 +1,13 @@
 -- The last closed source symbol of an order is one of its source symbols, and a source symbol stays one as more entries join.
-use Rattle.std.proofs.Common.{◌≡◌, ℕ, zero, suc, List, [], ◌∷◌, ◌++◌, Bool, true, false, Some}
-use Rattle.std.specs.Prelude.{nat_lt}
+use Rattle.std.proofs.Common.{◌≡◌, List, [], ◌∷◌, true, Some}
 use Rattle.std.specs.List.{AllByRecursion}
 use Rattle.norm_base.specs.Settings.{Settings}
 use Rattle.fec_plan.specs.declared.position.Position.{Position}
 use Rattle.norm_order.specs.Entries.{Object, Whole, Stream, Entry}
-use Rattle.norm_order.specs.Shapes.{Shape, shapes_of, closed_in, at_index, is_source, last_source}
+use Rattle.norm_order.specs.Shapes.{shapes_of, is_source, last_source}
+pub use Rattle.norm_order.proofs.LaterLemmas.{source_still}
 use Rattle.norm_send_rules.specs.Reached.{FitsProfile}
 use Rattle.norm_send_rules.proofs.PlaceLemmas.{last_is_source as last_of_fitting}
-use Rattle.norm_safety.proofs.EntryLemmas.{clash}
 use Rattle.norm_safety.proofs.SizedOrders.{IsSized, AreSized}
 use Rattle.norm_send_rules.proofs.CutNames.{CutRange}
 
@@ -25,16 +24,3 @@ sized_fit p (x ∷ order) all = (sized_fits p x.object all.0, sized_fit p order 
 pub last_is_source : (p : Settings) → CutRange p → (order : List Entry) (at : Position) → AreSized p order → last_source (shapes_of p order) ≡ Some at
     → is_source (shapes_of p order) at ≡ true
 last_is_source p range order at sized e = last_of_fitting p range order at (sized_fit p order sized) e
-
--- a source symbol of an order is one of an order with more entries
-pub source_still : (p : Settings) (order more : List Entry) (at : Position) → is_source (shapes_of p order) at ≡ true → is_source (shapes_of p (order ++ more)) at ≡ true
-source_still p order more at e = go order at.index e
-  where
-    test : Shape → Bool
-    test s = nat_lt at.symbol (closed_in s at.block)
-
-    go : (order : List Entry) (index : ℕ) → at_index (shapes_of p order) index false (λ s. nat_lt at.symbol (closed_in s at.block)) ≡ true
-        → at_index (shapes_of p (order ++ more)) index false (λ s. nat_lt at.symbol (closed_in s at.block)) ≡ true
-    go [] index e = absurd (clash e)
-    go (x ∷ order) zero e = e
-    go (x ∷ order) (suc index) e = go order index e

@@ -13,6 +13,7 @@ pub mod OnceLemmas
 pub mod WrittenLemmas
 pub mod PlaceLemmas
 pub mod OnceRun
+pub mod FilesNamed
 pub mod SizedOrders
 pub mod LastLemmas
 pub mod GoesOn
@@ -50,6 +51,7 @@ pub mod Listed
 pub mod ListRun
 pub mod DropsLemmas
 pub mod Released
+pub mod LastUptoLemmas
 pub mod NoLoss
 pub mod HoldRun
 pub mod HeldPasses

@@ -70,7 +70,7 @@ abbrev pub last_position : ℕ → Shape → Position
 last_position index s = position index (closed_blocks s - 1) (closed_in s (closed_blocks s - 1) - 1)
 
 -- a finished object has a closed symbol
-some_closed : (p : Settings) → InRange p → (object : Object) → IsSized p object → IsFinished object → (shape_of p object).closed ≡ 0 → ⊥
+pub some_closed : (p : Settings) → InRange p → (object : Object) → IsSized p object → IsFinished object → (shape_of p object).closed ≡ 0 → ⊥
 some_closed p range (Whole kind info octets) sized done e =
     let times = div_ceil_times (length octets) p.e (omega (arith, range.e.0)) in
     let less : div_ceil (length octets) p.e * p.e ≡ 0 = ap (λ (k : ℕ). k * p.e) e ∙ (let z : 0 * p.e ≡ 0 = omega arith in z) in
@@ -87,7 +87,7 @@ has_last p range index object sized done = go ((shape_of p object).closed == 0) 
     go false e = refl
 
 -- the last of an order's last entry is that of the order
-last_of_end : (found : Option Position) (first index : ℕ) (shapes : List Shape) (s : Shape) (at : Position) → index ≡ first + length shapes → last_in index s ≡ Some at
+pub last_of_end : (found : Option Position) (first index : ℕ) (shapes : List Shape) (s : Shape) (at : Position) → index ≡ first + length shapes → last_in index s ≡ Some at
     → last_from first found (shapes ++ s ∷ []) ≡ Some at
 unfolding last_from
 last_of_end found first index [] s at e is =
@@ -101,11 +101,11 @@ last_of_end found first index (x ∷ shapes) s at e is = last_of_end (by (last_i
     by : Option Position → Option Position
     by own = elim own [ Some at ↦ Some at | None ↦ found ]
 
-shapes_end : (p : Settings) (order : List Entry) (x : Entry) → shapes_of p (order ++ x ∷ []) ≡ shapes_of p order ++ shape_of p x.object ∷ []
+pub shapes_end : (p : Settings) (order : List Entry) (x : Entry) → shapes_of p (order ++ x ∷ []) ≡ shapes_of p order ++ shape_of p x.object ∷ []
 shapes_end p [] x = refl
 shapes_end p (y ∷ order) x = ap (λ (ss : List Shape). shape_of p y.object ∷ ss) (shapes_end p order x)
 
-shapes_many : (p : Settings) (order : List Entry) → length (shapes_of p order) ≡ length order
+pub shapes_many : (p : Settings) (order : List Entry) → length (shapes_of p order) ≡ length order
 shapes_many p [] = refl
 shapes_many p (x ∷ order) = ap suc (shapes_many p order)
 
@@ -131,7 +131,7 @@ last_is_there p range order j x sized lt found done =
     subst S (take-append-drop (suc j) order) (source_still p (take (suc j) order) (drop (suc j) order) at front)
 
 -- the last segment of a stream, by its number
-last_number : (b closed : ℕ) → 0 < b → 0 < closed
+pub last_number : (b closed : ℕ) → 0 < b → 0 < closed
     → (div_ceil closed b - 1) * b + (min b (closed - ((div_ceil closed b - 1) * b + 0)) - 1) ≡ closed - 1
 last_number b closed some has =
     let times = div_ceil_times closed b some in

@@ -16,6 +16,7 @@ use Rattle.norm_safety.specs.Events.{Event, Answer, Gave, Sent, Took, Told, Sile
 use Rattle.norm_safety.specs.World.{World, world_opening, receiver_at, with_receiver, with_given, is_of, offers}
 use Rattle.norm_safety.specs.WorldStep.{Move, OfSender, OfReceiver, OfNetwork, OfNobody, move_of, moved, answered, of_sender, of_receiver, world_step}
 use Rattle.norm_safety.specs.WorldLaws.{nodes_of}
+use Rattle.norm_safety.specs.HandsBegin.{HandsBeginInRuns}
 use Rattle.norm_safety.specs.History.{Happening, History, happens, history}
 use Rattle.norm_safety.specs.Hands.{is_at, taken_in, hands, instance_at}
 use Rattle.norm_safety.specs.OnceEach.{order_of, are_distinct}
@@ -279,3 +280,12 @@ order_decides p events = (
   where
     h : History
     h = history p events
+
+-- what is handed up in an instance comes after the node does
+pub hands_begin : HandsBeginInRuns
+hands_begin p events node id never = go (came_in_run p events node id)
+  where
+    go : (hands (history p events).happened node id ≡ []) ⊎ (is_one id (came_to node None (history p events).happened) ≡ true)
+        → hands (history p events).happened node id ≡ []
+    go (inl none) = none
+    go (inr one) = absurd (clash (sym never ∙ one))

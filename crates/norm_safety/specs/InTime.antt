@@ -1,5 +1,5 @@
 -- Runs over honest networks, however late a datagram comes; and which of them are lawful.
-use Rattle.std.specs.Prelude.{ℕ, ◌≡◌, ◌≢◌, ◌≤◌, List, [], ◌∷◌, length, Contains, ⊤}
+use Rattle.std.specs.Prelude.{ℕ, ◌+◌, ◌≡◌, ◌≢◌, ◌≤◌, List, [], ◌∷◌, length, Contains, ⊤}
 use Rattle.norm_base.specs.Settings.{Settings, InRange}
 use Rattle.norm_base.specs.declared.node.Origin.{Origin}
 use Rattle.norm_ext.specs.Written.{Written}
@@ -44,14 +44,18 @@ accepted_from p w accepted (e ∷ events) =
 abbrev pub accepted_in : Settings → List Event → List Origin
 accepted_in p events = accepted_from p (world_opening p) [] events
 
--- no instance has more objects than ids tell apart on one side of what is known
-abbrev pub FewObjects : SenderState → Type 0
-FewObjects s = (id : ℕ) → length (order_of s id) ≤ most_apart
+-- as many objects as have indices of which no two lie too far apart
+abbrev pub most_objects : ℕ
+most_objects = most_apart + 1
 
--- Nothing comes too late in a run of few objects: an honest run in which no instance has more than 32,767 objects is
+-- no instance has more objects than that
+abbrev pub FewObjects : SenderState → Type 0
+FewObjects s = (id : ℕ) → length (order_of s id) ≤ most_objects
+
+-- Nothing comes too late in a run of few objects: an honest run in which no instance has more than 32,768 objects is
 -- lawful. And an instance has no more objects than commands were accepted.
 pub record TimeLaws : Type 0 where
   pub lawful : (p : Settings) → InRange p → (events : List Event) → Honest p events → AreEvents events
       → FewObjects (run p events).sender → Lawful p events
-  pub few : (p : Settings) (events : List Event) → Honest p events → length (accepted_in p events) ≤ most_apart
+  pub few : (p : Settings) (events : List Event) → Honest p events → length (accepted_in p events) ≤ most_objects
       → FewObjects (run p events).sender

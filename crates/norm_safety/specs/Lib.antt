@@ -29,4 +29,7 @@ pub mod RepairSuffices
 pub mod FreshWants
 pub mod ClosingCompletes
 pub mod AsItCame
+pub mod FilesHaveNames
+pub mod HandsBegin
+pub mod LastUpto
 pub mod Laws

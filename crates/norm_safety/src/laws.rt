@@ -3,8 +3,11 @@
 
 ghost use Rattle.norm_safety.specs.AsItCame.{AsksAsItCame, RoundsAskAsItCame};
 ghost use Rattle.norm_safety.specs.ClosingCompletes.{ClosingCompletes};
+ghost use Rattle.norm_safety.specs.FilesHaveNames.{FilesHaveNamesInRuns};
 ghost use Rattle.norm_safety.specs.FreshWants.{FreshWants};
+ghost use Rattle.norm_safety.specs.HandsBegin.{HandsBeginInRuns};
 ghost use Rattle.norm_safety.specs.InTime.{TimeLaws};
+ghost use Rattle.norm_safety.specs.LastUpto.{LastUpto};
 ghost use Rattle.norm_safety.specs.Laws.{TestLaws, WantsHoldInRuns, SafeRun, FrontLaws, OfLawfulRuns, SaidOfOrders, CreditRun, SatisfiedRun, AcknowledgeRun};
 ghost use Rattle.norm_safety.specs.LosesNothing.{LosesNothing};
 ghost use Rattle.norm_safety.specs.RepairSuffices.{RepairSuffices};
@@ -114,7 +117,7 @@ pub fn acknowledge_run()
 {}
 
 /// Nothing comes too late in a run of few objects: where the network gives only what was offered, however late, and no instance has more than
-/// 32,767 objects, a run is lawful. And an instance has no more objects than commands were accepted.
+/// 32,768 objects, a run is lawful. And an instance has no more objects than commands were accepted.
 #[tactic(auto, using(crate::proofs::InTime::time_laws))]
 pub fn in_time()
     ensures { TimeLaws }
@@ -126,4 +129,23 @@ pub fn in_time()
 #[tactic(auto, using(crate::proofs::WorldLemmas::world_laws))]
 pub fn world_steps()
     ensures { WorldLaws }
+{}
+
+/// Each file of an order has an info, which is its name: in each run, lawful or not.
+#[tactic(auto, using(crate::proofs::FilesNamed::files_have_names))]
+pub fn files_have_names()
+    ensures { FilesHaveNamesInRuns }
+{}
+
+/// Nothing was handed up in an instance that a node never came to: in each run, lawful or not.
+#[tactic(auto, using(crate::proofs::RunLemmas::hands_begin))]
+pub fn hands_begin()
+    ensures { HandsBeginInRuns }
+{}
+
+/// In lawful runs everything up to the last closed source symbol of the current order is all that is handed up of that order, but for the
+/// beginning of a stream of which nothing is closed.
+#[tactic(auto, using(crate::proofs::LastUptoLemmas::last_upto))]
+pub fn last_upto()
+    ensures { OfLawfulRuns LastUpto }
 {}
