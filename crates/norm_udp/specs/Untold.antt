@@ -3,4 +3,4 @@ use Rattle.std.specs.Prelude.{None, false}
 use Rattle.norm_base.specs.Network.{Network}
 
 abbrev pub untold : Network
-untold = record { starts = None; offered = None; answers = None; honest = false }
+untold = record { starts = None; offered = None; answers = None; honest = false; direct = false }

@@ -93,7 +93,7 @@ const MISFIT: Difference = Difference::Sizes {
 };
 
 impl Fabric for Laid<'_> {
-    ghost told = { λ _. record { starts = None; offered = None; answers = None; honest = false } };
+    ghost told = { λ _. record { starts = None; offered = None; answers = None; honest = false; direct = false } };
 
     ghost fault_count = { λ _. 0 };
 
