@@ -5,6 +5,7 @@ pub mod NameLemmas
 pub mod ChainLemmas
 pub mod SoundLemmas
 pub mod TakingLemmas
+pub mod RunLemmas
 pub mod WordLemmas
 pub mod SpellLemmas
 pub mod AgainLemmas

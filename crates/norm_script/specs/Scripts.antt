@@ -57,3 +57,24 @@ pub record IsScript (script : Commands) : Type 0 where
   pub few : length script.lines ≤ 4096
   pub each : AllByRecursion (IsLine script.profile.producers) script.lines
   pub numbered : AreNumbered [] script.lines
+
+-- What a session needs of a verb that is offered: contents and infos, of any length, are octets, and an instance has 16 bits.
+abbrev pub CanOffer : Verb → Type 0
+CanOffer (verb.Data None bytes) = AreOctets bytes
+CanOffer (verb.Data (Some info) bytes) = AreOctets bytes × AreOctets info
+CanOffer (verb.Write bytes) = AreOctets bytes
+CanOffer (verb.Restart instance) = instance ≤ 65535
+CanOffer verb = Unit {0}
+
+-- such a command, of one of so many producers
+pub record CanSubmit (producers : ℕ) (line : Line) : Type 0 where
+  pub first : 1 ≤ line.producer
+  pub last : line.producer ≤ producers
+  pub verb : CanOffer line.verb
+
+-- What a session can run, whoever made it: as `IsScript`, but with contents of any length, and any names, quorums and struck nodes.
+pub record CanRun (script : Commands) : Type 0 where
+  pub range : InRange script.profile
+  pub few : length script.lines ≤ 4096
+  pub each : AllByRecursion (CanSubmit script.profile.producers) script.lines
+  pub numbered : AreNumbered [] script.lines

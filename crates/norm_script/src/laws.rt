@@ -5,13 +5,19 @@ ghost use Rattle.norm_script.specs.Commands.{Commands};
 ghost use Rattle.norm_script.specs.Generated.{generate_text, generated_script};
 ghost use Rattle.norm_script.specs.OneScript.{OneScriptLaws};
 ghost use Rattle.norm_script.specs.Reading.{script_of};
-ghost use Rattle.norm_script.specs.Scripts.{IsScript};
+ghost use Rattle.norm_script.specs.Scripts.{IsScript, CanRun};
 ghost use Rattle.norm_script.specs.Written.{script_octets};
 
 /// What is read is a script: a profile within its ranges, and commands that a session can be asked to do.
 #[tactic(auto, using(crate::proofs::TakingLemmas::script_laws))]
 pub fn reads_scripts()
     ensures { (text : List ℕ) → IfOk (script_of text) IsScript }
+{}
+
+/// What can be a script can be run.
+#[tactic(auto, using(crate::proofs::RunLemmas::run_laws))]
+pub fn scripts_can_run()
+    ensures { (script : Commands) → IsScript script → CanRun script }
 {}
 
 /// A script that is written out reads back as itself.

@@ -21,11 +21,11 @@ mod spelling;
 mod words;
 
 pub use crate::generator::generate;
-pub use crate::laws::{reads_back, reads_generated, reads_scripts};
+pub use crate::laws::{reads_back, reads_generated, reads_scripts, scripts_can_run};
 pub use crate::meaning::Meaning;
 pub use crate::reader::{read, read_commands, read_script, why_refused};
 pub use crate::refusal::{Refusal, ScriptFault, Why};
 pub use crate::script::{Line, Script, Verb};
 pub use crate::setting::Setting;
 pub use crate::spelling::spelling_of;
-pub use crate::words::split_at_first;
+pub use crate::words::{name_of, number_within, split_at_first};

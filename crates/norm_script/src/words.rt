@@ -1,6 +1,6 @@
 //! The words that lines are made of.
 
-ghost use Rattle.std.specs.Prelude.{◌≡◌, ◌≤◌, ◌==◌, ◌||◌, if◌then◌else◌, not, nat_le, Some, None, List, ℕ, length, slice_index, IfOk};
+ghost use Rattle.std.specs.Prelude.{◌≡◌, ◌≤◌, ◌==◌, ◌||◌, if◌then◌else◌, not, nat_le, Some, None, List, ℕ, length, slice_index, IfOk, IfSome};
 ghost use Rattle.std.specs.List.{list_all};
 ghost use Rattle.std.specs.Option.{option_map};
 ghost use Rattle.norm_script.specs.Text.{split_at_first};
@@ -65,9 +65,10 @@ pub(crate) fn value_up_to(word: &[u8], high: u32) -> Option<u64>
     Some(value)
 }
 
-/// The number from `low` to `high` that a word spells. `None` where it spells none.
-pub(crate) fn number_within(word: &[u8], low: u32, high: u32) -> Option<u32>
-    ensures { result ≡ number_within low high word.now }
+/// The number from `low` to `high` that a word spells in decimal digits, without a sign or a leading zero. `None` if it spells none.
+pub fn number_within(word: &[u8], low: u32, high: u32) -> Option<u32>
+    ensures value { result ≡ number_within low high word.now }
+    ensures fits { IfSome result (λ n. (low ≤ n) × (n ≤ high)) }
 {
     if !is_number(word) {
         return None;
@@ -116,8 +117,12 @@ fn is_name(word: &[u8]) -> bool
     word.len() <= MOST_NAME && all_name_octets(word) && word[0] != b'.'
 }
 
-/// The file's name that a word is. `None` where it is none.
-pub(crate) fn name_of(alloc: Global, word: &[u8]) -> Result<Option<Text>, Memory>
+/// The file's name that a word is: 1 to 64 ASCII letters, digits, `.`, `_` or `-`, not beginning with `.`. `None` if it is none.
+///
+/// # Errors
+///
+/// `Memory` if memory runs out.
+pub fn name_of(alloc: Global, word: &[u8]) -> Result<Option<Text>, Memory>
     ensures { IfOk result (λ name. name ≡ (if is_name word.now then Some word.now else None)) }
 {
     if !is_name(word) {
