@@ -12,11 +12,12 @@ def put(path, text):
 
 # names that a changed text may need, and where they are
 NAMES = {
-    'Rattle.std.specs.Prelude': ['◌==◌', 'None', 'Some', 'true', 'false', 'not', '◌&&◌', '◌||◌', '◌+◌', '◌*◌', '◌%◌', 'max', 'min', 'length', 'map', 'filter', 'reverse', 'take',
+    'Rattle.std.specs.Prelude': ['◌==◌', 'None', 'Some', 'true', 'false', 'not', '◌&&◌', '◌||◌', '◌+◌', '◌-◌', '◌*◌', '◌%◌', 'max', 'min', 'length', 'map', 'filter', 'reverse', 'take', 'drop',
                                  'nat_lt', 'nat_le', '[]', '◌∷◌', '◌++◌'],
     'Rattle.std.specs.List': ['list_any'],
     'Rattle.fec_plan.specs.Partition': ['source_symbols'],
     'Rattle.fec_plan.specs.Points': ['point_before', 'point_of'],
+    'Rattle.norm_ext.specs.Asking': ['named_spans'],
     'Rattle.norm_ext.specs.Message': ['RepairAdv'],
     'Rattle.norm_order.specs.Shapes': ['is_encoded'],
     'Rattle.norm_send_rules.specs.SenderState': ['Listing'],

@@ -1,6 +1,6 @@
 -- What every change of what is held and of the acknowledgement that is due keeps, every step of a receiver keeps.
 use Rattle.std.proofs.Common.{ℕ, List, [], ◌∷◌, Bool, true, false, Option, None, Some, Result, Ok, Err}
-use Rattle.std.specs.Prelude.{◌==◌, ◌&&◌, not, nat_le, map, fold, flat_map, unwrap_or, option_and_then}
+use Rattle.std.specs.Prelude.{◌==◌, ◌&&◌, not, nat_le, map, flat_map, unwrap_or, option_and_then}
 use Rattle.norm_base.specs.Settings.{Settings}
 use Rattle.fec_plan.specs.Points.{Point, point, position}
 use Rattle.fec_plan.specs.declared.position.Position.{Position}
@@ -13,13 +13,12 @@ use Rattle.norm_ext.specs.Reading.{decoded}
 use Rattle.norm_ext.specs.Written.{Written, writes}
 use Rattle.norm_receive_rules.specs.AllNeeds.{needs, needs_nothing}
 use Rattle.norm_receive_rules.specs.BackingOff.{may_back_off, backs_off, may_need}
-use Rattle.norm_receive_rules.specs.Heard.{heard_also}
 use Rattle.norm_receive_rules.specs.Holding.{Holding, holding_nothing}
 use Rattle.norm_receive_rules.specs.Leaving.{is_in, goes_to, enters}
 use Rattle.norm_receive_rules.specs.Losing.{squelched}
 use Rattle.norm_receive_rules.specs.Nack.{indices_of, fitting, nack_message, ack_message}
 use Rattle.norm_receive_rules.specs.Needs.{Need}
-use Rattle.norm_receive_rules.specs.Overhearing.{overheard, adv_overheard}
+use Rattle.norm_receive_rules.specs.Overhearing.{asked_all, heard_whole, overheard, adv_overheard}
 use Rattle.norm_receive_rules.specs.Putting.{put_symbol, put_info}
 use Rattle.norm_receive_rules.specs.ReceiverState.{ReceiverState}
 use Rattle.norm_receive_rules.specs.ReceiverStep.{ReceiverEvent, Delivered, Ticked, UpTaken, receiver_step}
@@ -139,7 +138,7 @@ module _ (p : Settings) (P : Holding → Option Position → Type 0) (kept : IsK
     where
       go : (backoff : Option ℕ) → Of (record s {
         knows = elim backoff [
-          | Some ends ↦ record (s.knows) { heard = fold heard_also s.knows.heard (map (named p s.knows.known) requests) }
+          | Some ends ↦ record (s.knows) { heard = heard_whole s.knows.heard (asked_all (map (named p s.knows.known) requests)) }
           | None ↦ s.knows
         ];
       })

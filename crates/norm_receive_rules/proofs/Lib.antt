@@ -1,4 +1,5 @@
 pub mod BesideLemmas
+pub mod BoundLemmas
 pub mod DueLemmas
 pub mod FarLemmas
 pub mod FrontLemmas
@@ -12,3 +13,4 @@ pub mod OpenLemmas
 pub mod PassedLemmas
 pub mod SeenLemmas
 pub mod StepLemmas
+pub mod WantingLemmas

@@ -8,16 +8,18 @@ use Rattle.norm_base.specs.Settings.{Settings}
 use Rattle.fec_plan.specs.Points.{point, position, reaches}
 use Rattle.fec_plan.proofs.PositionLemmas.{Before, before_decides}
 use Rattle.std.proofs.lemmas.Bool.Decides.{Decides-not}
+use Rattle.std.proofs.lemmas.List.Sums.{fold-append}
 use Rattle.norm_ext.specs.Asked.{Asked, asked_octets, octets_behind}
-use Rattle.norm_ext.specs.Asking.{Named}
+use Rattle.norm_ext.specs.Asking.{Named, Span, Count, asked_spans, asked_counts}
 use Rattle.norm_ext.proofs.AskedSize.{one_more_takes_law}
-use Rattle.norm_receive_rules.specs.Heard.{Heard, heard_also, heard_all, heard_nothing}
+use Rattle.norm_receive_rules.specs.Heard.{Heard, with_proper, with_count, asked_infos, heard_also, heard_all, heard_nothing}
 use Rattle.norm_receive_rules.specs.HeardNeeds.{width_of, asks_as_many, blocks_heard, info_heard, is_heard}
 use Rattle.norm_receive_rules.specs.Holding.{Holding}
 use Rattle.norm_receive_rules.specs.Lazy.{Lazy, Nil, Next, all_of}
 use Rattle.norm_receive_rules.specs.Nack.{asked_of, fitting}
-use Rattle.norm_receive_rules.specs.NackLaws.{octets_asked, IsLongest, BlocksAreAsked, InfoIsAsked, width_at, IsAskedFor, NamesBlocks, NackLaws}
+use Rattle.norm_receive_rules.specs.NackLaws.{octets_asked, IsLongest, BlocksAreAsked, InfoIsAsked, width_at, IsAskedFor, NamesBlocks, requests_heard, NackLaws}
 use Rattle.norm_receive_rules.specs.Needs.{Need, Object, ObjectInfo, Symbols, Source, Rest}
+use Rattle.norm_receive_rules.specs.Overhearing.{asked_also, asked_all, noted, can_hear, heard_whole}
 use Rattle.norm_receive_rules.specs.StreamNeeds.{last_block}
 use Rattle.norm_receive_rules.proofs.HeardLemmas.{heard_laws}
 
@@ -169,9 +171,37 @@ heard requests s (Symbols index block wanted) some names =
 heard requests s (Source at) some names = same_test _ _ (heard_laws.symbols requests at)
 heard requests s (Rest index block) some names = blocks_decide requests (width_of s (point index block)) index block last_block some names
 
+-- ---- a further message
+
 folded : (heard : Heard) (requests more : List Named) → fold heard_also (fold heard_also heard requests) more ≡ fold heard_also heard (requests ++ more)
 folded heard [] more = refl
 folded heard (r ∷ requests) more = folded (heard_also heard r) requests more
 
+-- a request that was read is heard as one that is heard by itself
+noted_more : (heard asked : Heard) (r : Named) → noted heard (asked_also asked r) ≡ heard_also (noted heard asked) r
+noted_more heard asked r =
+    ap (λ (spans : List Span). record { symbols = spans; infos = fold with_proper heard.infos (asked.infos ++ asked_infos r); counts = fold with_more heard.counts (asked.counts ++ asked_counts r) })
+    (fold-append with_proper heard.symbols asked.symbols (asked_spans r))
+    ∙ ap (λ (spans : List Span). record { symbols = fold with_proper (fold with_proper heard.symbols asked.symbols) (asked_spans r); infos = spans; counts = fold with_more heard.counts (asked.counts ++ asked_counts r) })
+    (fold-append with_proper heard.infos asked.infos (asked_infos r))
+    ∙ ap (λ (counts : List Count). record { symbols = fold with_proper (fold with_proper heard.symbols asked.symbols) (asked_spans r); infos = fold with_proper (fold with_proper heard.infos asked.infos) (asked_infos r); counts = counts })
+    (fold-append with_more heard.counts asked.counts (asked_counts r))
+  where
+    with_more : List Count → Count → List Count
+    with_more counts c = with_count c counts
+
+noted_on : (heard asked : Heard) (rs : List Named) → noted heard (fold asked_also asked rs) ≡ fold heard_also (noted heard asked) rs
+noted_on heard asked [] = refl
+noted_on heard asked (r ∷ rs) = noted_on heard (asked_also asked r) rs ∙ ap (λ (h : Heard). fold heard_also h rs) (noted_more heard asked r)
+
+-- a message that is heard adds all of its requests, and any other none
+more : (requests message : List Named) → heard_whole (heard_all requests) (asked_all message) ≡ heard_all (requests_heard requests message)
+more requests message = go (can_hear (heard_all requests) (asked_all message))
+  where
+    go : (b : Bool) → (elim b as (λ _. Heard) [ true ↦ noted (heard_all requests) (asked_all message) | false ↦ heard_all requests ])
+        ≡ heard_all (elim b as (λ _. List Named) [ true ↦ requests ++ message | false ↦ requests ])
+    go true = noted_on (heard_all requests) heard_nothing message ∙ folded heard_nothing requests message
+    go false = refl
+
 pub nack_laws : NackLaws
-nack_laws = record { longest = longest; heard = heard; more = λ requests more. folded heard_nothing requests more }
+nack_laws = record { longest = longest; heard = heard; more = more }

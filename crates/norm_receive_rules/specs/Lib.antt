@@ -20,6 +20,7 @@ pub mod HeardNeeds
 pub mod Nack
 pub mod BackingOff
 pub mod Receiving
+pub mod Wanting
 pub mod Ticking
 pub mod Taking
 pub mod ReceiverStep
@@ -27,5 +28,7 @@ pub mod Laws
 pub mod InstanceLaws
 pub mod DueLaws
 pub mod NackLaws
+pub mod BoundLaws
+pub mod WantingLaws
 pub mod FarLaws
 pub mod OpenLaws

@@ -1,18 +1,19 @@
 -- What a NACK asks for, and what was asked for already (RFC 5740 section 5.3, RFC 5401 section 3.2.2).
-use Rattle.std.specs.Prelude.{◌≡◌, ◌<◌, ◌≤◌, ◌⊎◌, ◌-◌, ℕ, List, [], ◌∷◌, ◌++◌, map, flat_map, length, fold, true, None}
+use Rattle.std.specs.Prelude.{◌≡◌, ◌<◌, ◌≤◌, ◌⊎◌, ◌-◌, ℕ, List, [], ◌∷◌, ◌++◌, map, flat_map, length, true, false, None}
 use Rattle.std.specs.Bool.{Decides}
 use Rattle.std.specs.List.{list_any}
 use Rattle.norm_base.specs.Settings.{Settings}
 use Rattle.fec_plan.specs.Points.{point, position}
 use Rattle.norm_ext.specs.Asked.{asked_octets}
 use Rattle.norm_ext.specs.Asking.{Named, asked_spans, asks_info, asked_counts}
-use Rattle.norm_receive_rules.specs.Heard.{heard_also, heard_all}
+use Rattle.norm_receive_rules.specs.Heard.{heard_all}
 use Rattle.norm_receive_rules.specs.HeardNeeds.{width_of, is_asked, asks_as_many, is_heard}
 use Rattle.norm_receive_rules.specs.Holding.{Holding}
 use Rattle.norm_receive_rules.specs.Laws.{EachIsAsked}
 use Rattle.norm_receive_rules.specs.Lazy.{Lazy, all_of}
 use Rattle.norm_receive_rules.specs.Nack.{asked_of, fitting}
 use Rattle.norm_receive_rules.specs.Needs.{Need, Object, ObjectInfo, Symbols, Source, Rest}
+use Rattle.norm_receive_rules.specs.Overhearing.{asked_all, can_hear, heard_whole}
 use Rattle.norm_receive_rules.specs.StreamNeeds.{last_block}
 
 -- the octets of the requests for these needs
@@ -62,10 +63,15 @@ NamesBlocks (Symbols index block wanted) = block ≤ last_block
 NamesBlocks (Source at) = at.block ≤ last_block
 NamesBlocks (Rest index block) = block ≤ last_block
 
+-- the requests of the messages that were heard, after a further message
+abbrev pub requests_heard : List Named → List Named → List Named
+requests_heard requests message = elim (can_hear (heard_all requests) (asked_all message)) [ true ↦ requests ++ message | false ↦ requests ]
+
 -- A NACK asks for the longest beginning of what is needed whose requests fit; and a need was heard exactly where the requests
--- ask for all of it, as they came. What was heard is that of all requests, however they come one after another.
+-- of the messages that were heard ask for all of it, as they came. What was heard is that of all these requests: after a further
+-- message it is that of its requests too if it can be heard, and else what it was.
 pub record NackLaws : Type 0 where
   pub longest : (p : Settings) (needs : Lazy Need) (room : ℕ) → IsLongest p room (all_of needs) (fitting p needs None room)
   pub heard : (requests : List Named) (s : Holding) (need : Need) → 0 < width_at s need → NamesBlocks need
       → Decides (is_heard (heard_all requests) s need) (IsAskedFor requests s need)
-  pub more : (requests further : List Named) → fold heard_also (heard_all requests) further ≡ heard_all (requests ++ further)
+  pub more : (requests message : List Named) → heard_whole (heard_all requests) (asked_all message) ≡ heard_all (requests_heard requests message)

@@ -1,11 +1,13 @@
 //! What is promised of the receiver's rules. Each law is the contract of a function that does nothing.
 
+ghost use Rattle.norm_receive_rules.specs.BoundLaws.{BoundLaws};
 ghost use Rattle.norm_receive_rules.specs.DueLaws.{DueLaws};
 ghost use Rattle.norm_receive_rules.specs.FarLaws.{FarLaws};
 ghost use Rattle.norm_receive_rules.specs.InstanceLaws.{InstanceLaws};
 ghost use Rattle.norm_receive_rules.specs.Laws.{BesideLaws, FrontLaws, HandUpLaws, HeardLaws, NeedsLaws, PassedLaws, SeenLaws, StepLaws};
 ghost use Rattle.norm_receive_rules.specs.NackLaws.{NackLaws};
 ghost use Rattle.norm_receive_rules.specs.OpenLaws.{OpenLaws};
+ghost use Rattle.norm_receive_rules.specs.WantingLaws.{WantingLaws};
 
 /// Hand-ups go on from the hand-up point: each joins those before it, and the point never goes back.
 #[tactic(auto, using(crate::proofs::HandUpLemmas::hand_up_laws))]
@@ -59,6 +61,19 @@ pub fn instances()
 #[tactic(auto, using(crate::proofs::DueLemmas::due_laws))]
 pub fn acknowledgements()
     ensures { DueLaws }
+{}
+
+/// What a receiver keeps of what others ask for is at most 4,096 spans of symbols, 4,096 of infos and 4,096 counts, at first and after
+/// each step.
+#[tactic(auto, using(crate::proofs::BoundLemmas::bound_laws))]
+pub fn bounds()
+    ensures { BoundLaws }
+{}
+
+/// A datagram for which a receiver may not want memory changes nothing.
+#[tactic(auto, using(crate::proofs::WantingLemmas::wanting_laws))]
+pub fn wanting()
+    ensures { WantingLaws }
 {}
 
 /// A NACK asks for the longest beginning of what is needed that fits; a need was heard where all of it was asked for.
