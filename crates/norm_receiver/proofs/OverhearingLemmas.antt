@@ -1,8 +1,7 @@
--- What is heard of requests, piece by piece.
-use Rattle.std.proofs.Common.{◌≡◌, ℕ, ◌<◌, List, [], ◌∷◌, ◌++◌, map, fold, length, cond, Bool, true, false, Option, Some, None, refl, sym, ap, ◌∙◌, arith}
+-- What requests ask for, piece by piece.
+use Rattle.std.proofs.Common.{◌≡◌, ℕ, ◌<◌, List, [], ◌∷◌, ◌++◌, map, length, cond, Bool, true, false, Option, Some, None, refl, sym, ap, ◌∙◌, arith}
 use Rattle.std.specs.Prelude.{◌||◌, filter, flat_map, slice_get, drop}
 use Rattle.std.proofs.lemmas.List.{map-id, append_assoc}
-use Rattle.std.proofs.lemmas.List.Sums.{fold-append}
 use Rattle.norm_base.specs.Settings.{Settings}
 use Rattle.fec_plan.specs.declared.position.Position.{Position}
 use Rattle.norm_ext.specs.Asking.{Span, span, Named, Count, pairs, pair_span, item_span, item_named, named_by, named, named_spans, asked_spans, asked_counts, is_proper, has_flag, where_flag, block_span, object_span, segment_flag, block_flag, object_flag}
@@ -11,8 +10,7 @@ use Rattle.norm_ext.specs.Requests.{Request, RequestItem}
 use Rattle.norm_ext.specs.declared.head.Item.{Item}
 use Rattle.norm_ext.specs.declared.kinds.Form.{Form}
 use Rattle.norm_ext.specs.declared.kinds.Form.TheVariants as form
-use Rattle.norm_receive_rules.specs.Heard.{Heard, with_proper, with_count, asked_infos, heard_nothing, heard_also}
-use Rattle.norm_receiver.specs.Overhearing.{widened, with_spans, count_at, items_spans, pairs_spans, asked_also, asked_all, noted}
+use Rattle.norm_receiver.specs.Overhearing.{widened, with_spans, count_at, items_spans, pairs_spans}
 use Rattle.norm_receiver.specs.declared.overhearing.Width.{Width}
 use Rattle.norm_receiver.specs.declared.overhearing.Width.TheVariants as width
 
@@ -113,27 +111,6 @@ all_widths old a b new r first second third =
 
     objects : List Span
     objects = where_flag r.flags object_flag (map object_span (named_spans r))
-
--- a request that was read is heard as one that is heard by itself
-noted_more : (heard asked : Heard) (r : Named) → noted heard (asked_also asked r) ≡ heard_also (noted heard asked) r
-noted_more heard asked r =
-    ap (λ (spans : List Span). record { symbols = spans; infos = fold with_proper heard.infos (asked.infos ++ asked_infos r); counts = fold with_more heard.counts (asked.counts ++ asked_counts r) })
-    (fold-append with_proper heard.symbols asked.symbols (asked_spans r))
-    ∙ ap (λ (spans : List Span). record { symbols = fold with_proper (fold with_proper heard.symbols asked.symbols) (asked_spans r); infos = spans; counts = fold with_more heard.counts (asked.counts ++ asked_counts r) })
-    (fold-append with_proper heard.infos asked.infos (asked_infos r))
-    ∙ ap (λ (counts : List Count). record { symbols = fold with_proper (fold with_proper heard.symbols asked.symbols) (asked_spans r); infos = fold with_proper (fold with_proper heard.infos asked.infos) (asked_infos r); counts = counts })
-    (fold-append with_more heard.counts asked.counts (asked_counts r))
-  where
-    with_more : List Count → Count → List Count
-    with_more counts c = with_count c counts
-
-noted_on : (heard asked : Heard) (rs : List Named) → noted heard (fold asked_also asked rs) ≡ fold heard_also (noted heard asked) rs
-noted_on heard asked [] = refl
-noted_on heard asked (r ∷ rs) = noted_on heard (asked_also asked r) rs ∙ ap (λ (h : Heard). fold heard_also h rs) (noted_more heard asked r)
-
--- requests that were read are heard as if each were heard by itself
-pub noted_all : (heard : Heard) (rs : List Named) → noted heard (asked_all rs) ≡ fold heard_also heard rs
-noted_all heard rs = noted_on heard heard_nothing rs
 
 -- the first of some requests, and those behind it
 pub request_front : (rs : List Request) (r : Request) (rest : List Request) → Some r ≡ slice_get rs 0 → rest ≡ drop 1 rs → rs ≡ r ∷ rest

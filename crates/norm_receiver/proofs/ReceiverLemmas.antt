@@ -1,5 +1,5 @@
 -- What a receiver stands for after each of its calls.
-use Rattle.std.proofs.Common.{◌≡◌, ℕ, List, Option, Some, None, refl, subst, ap, ◌∙◌}
+use Rattle.std.proofs.Common.{◌≡◌, ℕ, List, Option, Some, None, true, refl, subst, ap, ◌∙◌}
 use Rattle.std.specs.Prelude.{Result, Ok, Err, IfOk, OnErr, IfSome, IsSome}
 use Rattle.norm_base.specs.Settings.{Settings}
 use Rattle.norm_order.specs.declared.up.Up.{Up}
@@ -9,6 +9,7 @@ use Rattle.norm_receive_rules.specs.ReceiverState.{ReceiverState}
 use Rattle.norm_receive_rules.specs.ReceiverStep.{Delivered, UpTaken}
 use Rattle.norm_receive_rules.specs.Receiving.{received}
 use Rattle.norm_receive_rules.specs.Taking.{took, up_taken}
+use Rattle.norm_receive_rules.specs.Wanting.{may_want}
 use Rattle.norm_receive_rules.proofs.StepLemmas.{step_laws}
 use Rattle.norm_receiver.specs.ReceiverKept.{ReceiverKept, Stands}
 use Rattle.norm_receiver.specs.ReceiverSound.{StandsFor, ReceiverSound}
@@ -34,6 +35,13 @@ refused (Ok t) k v new same h = h
 refused (Err e) k v new same h =
     subst (λ (v : ReceiverKept). (s : ReceiverState) → StandsFor v s → StandsFor new s) same
     (λ s stands. record { agrees = h s stands.agrees; outside = stands.outside })
+
+-- the same is one for which memory may be wanted
+pub wanted : {T E : Type 0} (r : Result T E) (k v : ReceiverKept) (bytes : List ℕ) → k ≡ v
+    → OnErr r ((s : ReceiverState) → Stands k s → may_want k.p s bytes ≡ true) → OnErr r ((s : ReceiverState) → StandsFor v s → may_want v.p s bytes ≡ true)
+wanted (Ok t) k v bytes same h = h
+wanted (Err e) k v bytes same h =
+    subst (λ (v : ReceiverKept). (s : ReceiverState) → StandsFor v s → may_want v.p s bytes ≡ true) same (λ s stands. h s stands.agrees)
 
 -- a receiver stands for some state after either
 pub sound_after : {T E : Type 0} (r : Result T E) (k new : ReceiverKept) (bytes : List ℕ) (now draw : ℕ)

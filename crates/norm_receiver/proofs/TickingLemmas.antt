@@ -1,18 +1,23 @@
 -- A tick, over what a receiver keeps.
 use Rattle.std.proofs.Common.{◌≡◌, ◌∙◌, ℕ, List, Bool, true, false, Option, Some, None, refl, sym, subst, ap}
-use Rattle.std.specs.Prelude.{nat_le}
+use Rattle.std.specs.Prelude.{nat_le, IfSome, [], ◌∷◌}
+use Rattle.std.specs.Option.{option_map}
 use Rattle.norm_base.specs.Settings.{Settings}
+use Rattle.norm_base.specs.Datagrams.{datagram_of}
 use Rattle.norm_base.specs.declared.kinds.Sent.{Sent}
-use Rattle.norm_ext.specs.Written.{Written}
+use Rattle.fec_plan.specs.declared.position.Position.{Position}
+use Rattle.norm_ext.specs.Octets.{octets_of}
+use Rattle.norm_ext.specs.Written.{Written, writes}
 use Rattle.norm_receive_rules.specs.Laws.{HoldsNothingOutside}
+use Rattle.norm_receive_rules.specs.Nack.{ack_message}
 use Rattle.norm_receive_rules.specs.ReceiverState.{ReceiverState}
 use Rattle.norm_receive_rules.specs.ReceiverStep.{Ticked}
-use Rattle.norm_receive_rules.specs.Ticking.{asks_where_needed, ends_back_off, ticked}
+use Rattle.norm_receive_rules.specs.Ticking.{sends, asks_where_needed, ends_back_off, ticked}
 use Rattle.norm_receive_rules.proofs.StepLemmas.{step_laws}
 use Rattle.norm_receiver.specs.Moves.{IsSent}
 use Rattle.norm_receiver.specs.Numbers.{has_ended}
 use Rattle.norm_receiver.specs.ReceiverKept.{ReceiverKept, Stands}
-use Rattle.norm_receiver.specs.ReceiverSound.{IsTick}
+use Rattle.norm_receiver.specs.ReceiverSound.{IsTick, IsAcknowledged}
 use Rattle.norm_receiver.specs.declared.numbers.Numbers.{Numbers}
 
 -- the state in which the back-off ended
@@ -51,3 +56,19 @@ ticks k new out answer now s sent outside = record {
   stands = record { agrees = sent.stands; outside = step_laws.goes_on k.p s (Ticked now) outside };
   octets = sent.octets;
 }
+
+-- an acknowledgement that was due was sent
+pub acknowledged : (p : Settings) (now : ℕ) (s : ReceiverState) (out : List ℕ) (answer : Sent)
+    → datagram_of answer out ≡ option_map (λ (w : Written). w.octets) (ticked p s now).1 → IsAcknowledged p s out answer
+acknowledged p now s out answer is = go s.knows.due is
+  where
+    ticks_by : Option Position → ReceiverState × Option Written
+    ticks_by due = elim due [
+      | Some at ↦ sends (writes (ack_message p s at) (at.index ∷ [])) (record s { knows = record (s.knows) { due = None } })
+      | None ↦ ends_back_off p now s
+    ]
+
+    go : (due : Option Position) → datagram_of answer out ≡ option_map (λ (w : Written). w.octets) (ticks_by due).1
+        → IfSome due (λ at. datagram_of answer out ≡ Some (octets_of (ack_message p s at)))
+    go None is = tt
+    go (Some at) is = is

@@ -12,6 +12,7 @@ ghost use Rattle.norm_receiver.specs.Inside.{kept_of};
 use crate::feedback::write_mark;
 use crate::numbers::FlushPlace;
 use crate::parts::Parts;
+use fec_plan::Position;
 use norm_base::{Datagram, Sent};
 
 impl Parts {
@@ -24,5 +25,11 @@ impl Parts {
         write_mark(&self.profile, &self.numbers, at, out);
         self.numbers = self.numbers.acknowledged().sent();
         Sent::Datagram
+    }
+    /// The position whose acknowledgement is due, if one is.
+    pub(crate) fn due(&self) -> Option<Position>
+        ensures { (s : ReceiverState) → Stands (kept_of self.now) s → result ≡ s.knows.due }
+    {
+        self.numbers.due_position()
     }
 }

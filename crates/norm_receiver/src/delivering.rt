@@ -1,6 +1,6 @@
 //! The datagrams that a receiver takes in, message by message (RFC 5740 section 5.3).
 
-ghost use Rattle.std.specs.Prelude.{◌≡◌, Ok, IfOk, OnErr};
+ghost use Rattle.std.specs.Prelude.{◌≡◌, Ok, IfOk, OnErr, true};
 ghost use Rattle.norm_ext.specs.Extensions.{IsChecked};
 ghost use Rattle.norm_cmdmsg.specs.View.{command_of};
 ghost use Rattle.norm_cmdmsg.specs.Whole.{IsWhole};
@@ -8,6 +8,7 @@ ghost use Rattle.norm_ext.specs.declared.refusal.Refusal.{Refusal as Refused};
 ghost use Rattle.norm_objmsg.specs.MessageView.{info_of, data_of};
 ghost use Rattle.norm_receive_rules.specs.ReceiverState.{ReceiverState};
 ghost use Rattle.norm_receive_rules.specs.Receiving.{message_received, received};
+ghost use Rattle.norm_receive_rules.specs.Wanting.{message_wants, may_want};
 ghost use Rattle.norm_codec.specs.View.{message_of};
 ghost use Rattle.norm_codec.specs.Whole.{IsWhole as IsWholeMessage};
 ghost use Rattle.norm_receiver.specs.ReceiverKept.{Stands};
@@ -60,6 +61,7 @@ impl Parts {
         ensures state { IfOk result (λ _. (s : ReceiverState) → Stands (kept_of self.old) s
             → Stands (kept_of self.new) (message_received {E = Refused} self.old.profile now draw (Ok (info_of msg.now)) s)) }
         ensures refused { OnErr result ((s : ReceiverState) → Stands (kept_of self.old) s → Stands (kept_of self.new) s) }
+        ensures wanted { OnErr result ((s : ReceiverState) → Stands (kept_of self.old) s → message_wants {E = Refused} self.old.profile (Ok (info_of msg.now)) s ≡ true) }
     {
         let said = Said::Info {
             flags: msg.head.flags,
@@ -76,6 +78,7 @@ impl Parts {
         ensures state { IfOk result (λ _. (s : ReceiverState) → Stands (kept_of self.old) s
             → Stands (kept_of self.new) (message_received {E = Refused} self.old.profile now draw (Ok (data_of msg.now)) s)) }
         ensures refused { OnErr result ((s : ReceiverState) → Stands (kept_of self.old) s → Stands (kept_of self.new) s) }
+        ensures wanted { OnErr result ((s : ReceiverState) → Stands (kept_of self.old) s → message_wants {E = Refused} self.old.profile (Ok (data_of msg.now)) s ≡ true) }
     {
         let said = Said::Data {
             flags: msg.head.flags,
@@ -99,6 +102,7 @@ impl Parts {
         ensures state { IfOk result (λ _. (s : ReceiverState) → Stands (kept_of self.old) s
             → Stands (kept_of self.new) (message_received {E = Refused} self.old.profile now draw (Ok (command_of msg.now)) s)) }
         ensures refused { OnErr result ((s : ReceiverState) → Stands (kept_of self.old) s → Stands (kept_of self.new) s) }
+        ensures wanted { OnErr result ((s : ReceiverState) → Stands (kept_of self.old) s → message_wants {E = Refused} self.old.profile (Ok (command_of msg.now)) s ≡ true) }
     {
         match msg {
             CommandMsg::Flush {
@@ -134,6 +138,7 @@ impl Parts {
         ensures state { IfOk result (λ _. (s : ReceiverState) → Stands (kept_of self.old) s
             → Stands (kept_of self.new) (message_received {E = Refused} self.old.profile now draw (Ok (message_of msg.now)) s)) }
         ensures refused { OnErr result ((s : ReceiverState) → Stands (kept_of self.old) s → Stands (kept_of self.new) s) }
+        ensures wanted { OnErr result ((s : ReceiverState) → Stands (kept_of self.old) s → message_wants {E = Refused} self.old.profile (Ok (message_of msg.now)) s ≡ true) }
     {
         match msg {
             Message::Info(msg) => self.deliver_info(msg, now, draw),
@@ -151,6 +156,7 @@ impl Parts {
         ensures state { IfOk result (λ _. (s : ReceiverState) → Stands (kept_of self.old) s
             → Stands (kept_of self.new) (received self.old.profile s bytes.now now draw)) }
         ensures refused { OnErr result ((s : ReceiverState) → Stands (kept_of self.old) s → Stands (kept_of self.new) s) }
+        ensures wanted { OnErr result ((s : ReceiverState) → Stands (kept_of self.old) s → may_want self.old.profile s bytes.now ≡ true) }
     {
         match decode(bytes) {
             Ok(msg) => self.deliver_message(&msg, now, draw),

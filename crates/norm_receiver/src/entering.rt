@@ -1,12 +1,13 @@
 //! Messages of the sender by the instance that they are of (RFC 5740 section 4.1): the current one, one that the receiver
 //! goes on to, or one that is over.
 
-ghost use Rattle.std.specs.Prelude.{◌≡◌, ◌<◌, ◌==◌, IfOk, OnErr, unwrap_or, option_and_then};
+ghost use Rattle.std.specs.Prelude.{◌≡◌, ◌<◌, ◌==◌, IfOk, OnErr, true, unwrap_or, option_and_then};
 ghost use Rattle.norm_receive_rules.specs.ReceiverState.{ReceiverState};
 ghost use Rattle.norm_receive_rules.specs.Leaving.{enters, is_in, goes_to, entered};
 ghost use Rattle.norm_receive_rules.specs.AllNeeds.{needs_nothing};
 ghost use Rattle.norm_receive_rules.specs.BackingOff.{may_need};
 ghost use Rattle.norm_receive_rules.specs.Receiving.{learns, takes_in, in_instance};
+ghost use Rattle.norm_receive_rules.specs.Wanting.{comes_in};
 ghost use Rattle.norm_receiver.specs.Receiving.{said_received, IsSaid};
 ghost use Rattle.norm_receiver.specs.ReceiverKept.{Stands};
 ghost use Rattle.norm_receiver.specs.Inside.{kept_of};
@@ -140,6 +141,7 @@ impl Parts {
         ensures state { IfOk result (λ _. (s : ReceiverState) → Stands (kept_of self.old) s
             → Stands (kept_of self.new) (in_instance self.old.profile now draw naming.now.source naming.now.instance naming.now.object (said_received self.old.profile said.now) s)) }
         ensures refused { OnErr result ((s : ReceiverState) → Stands (kept_of self.old) s → Stands (kept_of self.new) s) }
+        ensures wanted { OnErr result ((s : ReceiverState) → Stands (kept_of self.old) s → comes_in self.old.profile s naming.now.source naming.now.instance ≡ true) }
     {
         if naming.source.number() != self.profile.sender {
             return Ok(());

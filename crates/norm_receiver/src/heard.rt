@@ -1,11 +1,11 @@
 //! What a receiver heard others ask for while it backs off (RFC 5401 section 3.2.2).
 
-ghost use Rattle.std.specs.Prelude.{◌≡◌, ◌≤◌, ◌<◌, ◌+◌, ◌&&◌, nat_le, length, fold, vec_capacity, IfOk, OnErr, true, IsTrue, max, not};
+ghost use Rattle.std.specs.Prelude.{◌≡◌, ◌≤◌, ◌<◌, ◌+◌, ◌&&◌, nat_le, length, fold, vec_capacity, IfOk, OnErr, true, max, not};
 ghost use Rattle.fec_plan.specs.Points.{position_before, point_before, same_point};
 ghost use Rattle.norm_ext.specs.Asking.{is_proper};
 ghost use Rattle.norm_receive_rules.specs.Heard.{heard_nothing, joined, with_span, with_proper, with_count};
+ghost use Rattle.norm_receive_rules.specs.Overhearing.{most_heard, can_hear, heard_whole};
 ghost use Rattle.norm_receiver.specs.Orderly.{AreApart, Rise};
-ghost use Rattle.norm_receiver.specs.Overhearing.{most_heard, noted, IsBounded};
 
 use crate::asked::Asked;
 use crate::fresh::{fresh_counts, fresh_spans, has_at};
@@ -15,7 +15,8 @@ use norm_base::Memory;
 use std::alloc::Global;
 use std::marker::Model;
 
-/// So many spans of each kind, and so many counts, are kept of what was heard.
+/// The most spans of symbols, the most spans of infos and the most counts that are kept of what was heard. Our own choice: what more is
+/// asked for is not heard, and no memory is wanted for it.
 const MOST_HEARD: usize = 4096;
 
 /// From one position to another, both included.
@@ -218,9 +219,9 @@ fn note_counts(counts: &mut Vec<Count>, more: &[Count])
     }
 }
 
-/// Whether so many, and so many more, are within the bound on what is kept.
+/// Whether this many that are kept and this many more are within the bound.
 fn are_kept(kept: usize, more: usize) -> bool
-    ensures { IsTrue result → kept + more ≤ most_heard }
+    ensures { result ≡ nat_le (kept + more) most_heard }
 {
     kept <= MOST_HEARD && more <= MOST_HEARD - kept
 }
@@ -275,28 +276,30 @@ impl Heard {
         self.counts.clear();
     }
 
-    /// All that requests ask for more is heard, once there is room for it. Where all of it was heard before, no room is taken.
+    /// Whether a message can be heard: with all that it names, heard before or not, no list passes the bound.
+    fn can_hear(&self, asked: &Asked) -> bool
+        ensures { result ≡ can_hear self.now asked.now }
+    {
+        are_kept(self.symbols.len(), asked.symbols.len())
+            && are_kept(self.infos.len(), asked.infos.len())
+            && are_kept(self.counts.len(), asked.counts.len())
+    }
+
+    /// Hears all that a message names, or nothing if a list might pass the bound then. What was heard before takes no room.
     ///
     /// # Errors
     ///
-    /// `Memory` where memory runs out, or more would be kept than the bound; then nothing changes.
+    /// `Memory` if memory runs out; then nothing changes.
     pub fn note(&mut self, asked: &Asked) -> Result<(), Memory>
-        ensures heard { IfOk result (λ _. self.new ≡ noted self.old asked.now) }
-        ensures bounded { IfOk result (λ _. IsBounded self.new) }
+        ensures heard { IfOk result (λ _. self.new ≡ heard_whole self.old asked.now) }
         ensures refused { OnErr result (self.new ≡ self.old) }
     {
+        if !self.can_hear(asked) {
+            return Ok(());
+        }
         let symbols = fresh_spans(self.symbols.as_slice(), asked.symbols.as_slice());
         let infos = fresh_spans(self.infos.as_slice(), asked.infos.as_slice());
         let counts = fresh_counts(self.counts.as_slice(), asked.counts.as_slice());
-        if !are_kept(self.symbols.len(), symbols.len()) {
-            return Err(Memory);
-        }
-        if !are_kept(self.infos.len(), infos.len()) {
-            return Err(Memory);
-        }
-        if !are_kept(self.counts.len(), counts.len()) {
-            return Err(Memory);
-        }
         self.symbols.reserve(symbols.len())?;
         self.infos.reserve(infos.len())?;
         self.counts.reserve(counts.len())?;

@@ -1,11 +1,12 @@
 //! What a receiver hears of what others ask for (RFC 5401 section 3.2.2, RFC 5740 section 5.3): the NACKs of other nodes, and
 //! the sender's word of what it was asked for.
 
-ghost use Rattle.std.specs.Prelude.{◌≡◌, IfOk, OnErr};
+ghost use Rattle.std.specs.Prelude.{◌≡◌, IfOk, OnErr, true};
 ghost use Rattle.norm_ext.specs.Requests.{IsRequests, requests_of};
 ghost use Rattle.norm_receive_rules.specs.ReceiverState.{ReceiverState};
 ghost use Rattle.norm_receive_rules.specs.Overhearing.{overheard};
-ghost use Rattle.norm_receiver.specs.Delivering.{adv_heard, nack_heard};
+ghost use Rattle.norm_receive_rules.specs.Wanting.{is_hearing};
+ghost use Rattle.norm_receiver.specs.Delivering.{adv_heard, adv_wants, nack_heard, nack_wants};
 ghost use Rattle.norm_receiver.specs.ReceiverKept.{Stands};
 ghost use Rattle.norm_receiver.specs.Inside.{kept_of};
 
@@ -23,6 +24,7 @@ impl Parts {
         ensures state { IfOk result (λ _. (s : ReceiverState) → Stands (kept_of self.old) s
             → Stands (kept_of self.new) (overheard self.old.profile (requests_of requests.now) s)) }
         ensures refused { OnErr result ((s : ReceiverState) → Stands (kept_of self.old) s → Stands (kept_of self.new) s) }
+        ensures wanted { OnErr result ((s : ReceiverState) → Stands (kept_of self.old) s → is_hearing s ≡ true) }
     {
         if self.numbers.backoff.is_none() {
             return Ok(());
@@ -43,6 +45,7 @@ impl Parts {
         ensures profile { self.new.profile ≡ self.old.profile }
         ensures state { IfOk result (λ _. (s : ReceiverState) → Stands (kept_of self.old) s → Stands (kept_of self.new) (nack_heard self.old.profile msg.now s)) }
         ensures refused { OnErr result ((s : ReceiverState) → Stands (kept_of self.old) s → Stands (kept_of self.new) s) }
+        ensures wanted { OnErr result ((s : ReceiverState) → Stands (kept_of self.old) s → nack_wants self.old.profile msg.now s ≡ true) }
     {
         if msg.source == self.numbers.node {
             return Ok(());
@@ -63,6 +66,7 @@ impl Parts {
         ensures state { IfOk result (λ _. (s : ReceiverState) → Stands (kept_of self.old) s
             → Stands (kept_of self.new) (adv_heard self.old.profile head.now (requests_of requests.now) s)) }
         ensures refused { OnErr result ((s : ReceiverState) → Stands (kept_of self.old) s → Stands (kept_of self.new) s) }
+        ensures wanted { OnErr result ((s : ReceiverState) → Stands (kept_of self.old) s → adv_wants self.old.profile head.now s ≡ true) }
     {
         if head.source.number() != self.profile.sender {
             return Ok(());

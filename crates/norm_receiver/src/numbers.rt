@@ -228,6 +228,16 @@ impl Numbers {
         }
     }
 
+    /// The position whose acknowledgement is due, if one is.
+    pub(crate) fn due_position(&self) -> Option<Position>
+        ensures { result ≡ self.now.due }
+    {
+        match self.due {
+            Some(at) => Some(at.position()),
+            None => None,
+        }
+    }
+
     /// No acknowledgement is due any more.
     pub(crate) fn acknowledged(&self) -> Numbers
         ensures { result ≡ record self.now { due = None } }

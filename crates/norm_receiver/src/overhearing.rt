@@ -6,8 +6,9 @@ ghost use Rattle.norm_ext.specs.Asking.{span, is_proper, named, named_spans, ask
 ghost use Rattle.fec_plan.specs.Points.{point_of};
 ghost use Rattle.norm_ext.specs.RequestView.{request_of};
 ghost use Rattle.norm_ext.specs.Requests.{items_named};
-ghost use Rattle.norm_receive_rules.specs.Heard.{asked_infos, heard_also};
-ghost use Rattle.norm_receiver.specs.Overhearing.{widened, with_spans, with_counts, items_spans, pairs_spans, asked_also, asked_all, IsBounded};
+ghost use Rattle.norm_receive_rules.specs.Heard.{asked_infos};
+ghost use Rattle.norm_receive_rules.specs.Overhearing.{asked_also, asked_all, heard_whole};
+ghost use Rattle.norm_receiver.specs.Overhearing.{widened, with_spans, with_counts, items_spans, pairs_spans};
 
 use crate::asked::Asked;
 use crate::heard::{Count, Heard, Span};
@@ -281,7 +282,7 @@ impl Asked {
     ///
     /// # Errors
     ///
-    /// `Memory` where memory runs out.
+    /// `Memory` if memory runs out.
     pub(crate) fn read(
         &mut self,
         profile: &Profile,
@@ -295,11 +296,11 @@ impl Asked {
     }
 }
 
-/// These requests more are heard, and the room in which they are read holds them then.
+/// The requests of a message are heard, all or none. The room in which they are read holds them then.
 ///
 /// # Errors
 ///
-/// `Memory` where memory runs out, or more would be kept than the bound; what was heard is then as it was.
+/// `Memory` if memory runs out; what was heard is then as it was.
 pub(crate) fn hear_requests(
     heard: &mut Heard,
     asked: &mut Asked,
@@ -307,8 +308,7 @@ pub(crate) fn hear_requests(
     known: u32,
     requests: Requests<'_>,
 ) -> Result<(), Memory>
-    ensures heard { IfOk result (λ _. heard.new ≡ fold heard_also heard.old (map (named profile.now known) requests.entry)) }
-    ensures bounded { IfOk result (λ _. IsBounded heard.new) }
+    ensures heard { IfOk result (λ _. heard.new ≡ heard_whole heard.old (asked_all (map (named profile.now known) requests.entry))) }
     ensures refused { OnErr result (heard.new ≡ heard.old) }
 {
     asked.read(profile, known, requests)?;

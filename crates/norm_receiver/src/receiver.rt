@@ -1,14 +1,16 @@
 //! The receiver of a session.
 
-ghost use Rattle.std.specs.Prelude.{◌≡◌, [], not, length, IfOk, OnErr, IfNone, IfSome, IsSome};
+ghost use Rattle.std.specs.Prelude.{◌≡◌, [], true, not, length, IfOk, OnErr, IfNone, IfSome, IsSome};
 ghost use Rattle.norm_receive_rules.specs.ReceiverState.{ReceiverState, receiver_opening};
 ghost use Rattle.norm_receive_rules.specs.Acknowledging.{lost_nothing};
 ghost use Rattle.norm_receive_rules.specs.Receiving.{received};
 ghost use Rattle.norm_receive_rules.specs.Taking.{took};
 ghost use Rattle.norm_receive_rules.specs.Ticking.{ticked};
-ghost use Rattle.norm_receiver.specs.ReceiverSound.{StandsFor, IsTick};
+ghost use Rattle.norm_receive_rules.specs.Wanting.{may_want};
+ghost use Rattle.norm_receiver.specs.ReceiverSound.{StandsFor, IsTick, IsAcknowledged};
 
 use crate::parts::Parts;
+use fec_plan::Position;
 use norm_base::{Datagram, InstanceId, Memory, Moment, NodeId, Profile, Sent};
 use norm_order::Up;
 use std::alloc::Global;
@@ -55,12 +57,14 @@ impl Receiver {
     ///
     /// # Errors
     ///
-    /// `Memory` where memory runs out, or more was heard of others than is kept; all is then as if the datagram had been
-    /// lost.
+    /// `Memory` if memory runs out; all is then as if the datagram had been lost. It may come of an INFO, a DATA, a flush and a squelch
+    /// of the profile's sender, in the current instance or one above it, and of what others ask for while a back-off runs. For any
+    /// other octets no memory is wanted.
     pub fn deliver(&mut self, bytes: &[u8], now: Moment, draw: u32) -> Result<(), Memory>
         ensures profile { self.new.p ≡ self.old.p }
         ensures stands { IfOk result (λ _. (s : ReceiverState) → StandsFor self.old s → StandsFor self.new (received self.old.p s bytes.now now draw)) }
         ensures refused { OnErr result ((s : ReceiverState) → StandsFor self.old s → StandsFor self.new s) }
+        ensures wanted { OnErr result ((s : ReceiverState) → StandsFor self.old s → may_want self.old.p s bytes.now ≡ true) }
     {
         self.parts.deliver(bytes, now, draw)
     }
@@ -82,8 +86,16 @@ impl Receiver {
         requires taken { self.old.hold.ups ≡ [] }
         ensures profile { self.new.p ≡ self.old.p }
         ensures stands { (s : ReceiverState) → StandsFor self.old s → IsTick self.new out.new result (ticked self.old.p s now) }
+        ensures acknowledged { (s : ReceiverState) → StandsFor self.old s → IsAcknowledged self.old.p s out.new result }
     {
         self.parts.tick(now, out)
+    }
+
+    /// The position whose acknowledgement the next tick sends, if one is due.
+    pub fn due(&self) -> Option<Position>
+        ensures { (s : ReceiverState) → StandsFor self.now s → result ≡ s.knows.due }
+    {
+        self.parts.due()
     }
 
     /// How many hand-ups were not taken.

@@ -1,7 +1,7 @@
 use Rattle.std.proofs.Common.{List, fold, map, ap, sym, ◌∙◌}
 use Rattle.norm_ext.specs.Asking.{named}
 use Rattle.norm_ext.specs.Requests.{Request}
-use Rattle.norm_receiver.specs.Overhearing.{asked_also}
+use Rattle.norm_receive_rules.specs.Overhearing.{asked_also}
 use Rattle.norm_receiver.proofs.OverhearingLemmas.{no_request}
 use Rattle.norm_receiver.proofs.asked.Asked.read_requests.Goals as goal
 

@@ -1,7 +1,7 @@
 use Rattle.std.proofs.Common.{◌∙◌, ap}
 use Rattle.norm_receiver.specs.Inside.{kept_of}
 use Rattle.norm_receiver.specs.ReceiverKept.{ReceiverKept}
-use Rattle.norm_receiver.proofs.ReceiverLemmas.{delivered, refused, sound_after}
+use Rattle.norm_receiver.proofs.ReceiverLemmas.{delivered, refused, wanted, sound_after}
 use Rattle.norm_receiver.proofs.receiver.Receiver.deliver.Goals as goal
 
 pub returns-clause-profile : goal.returns-clause-profile
@@ -15,6 +15,10 @@ returns-clause-stands c =
 pub returns-clause-refused : goal.returns-clause-refused
 returns-clause-refused c =
     refused c.deliver.result (kept_of c.self.inside.parts) c.args.self.now (kept_of c.deliver.new.self) c.self.view_is c.deliver.ensures.refused
+
+pub returns-clause-wanted : goal.returns-clause-wanted
+returns-clause-wanted c =
+    wanted c.deliver.result (kept_of c.self.inside.parts) c.args.self.now c.args.bytes.now c.self.view_is c.deliver.ensures.wanted
 
 pub invariant_of-self : goal.invariant_of-self
 invariant_of-self c =
