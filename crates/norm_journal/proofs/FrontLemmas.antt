@@ -8,8 +8,9 @@ use Rattle.norm_send_rules.specs.Ticking.{is_idle}
 use Rattle.norm_safety.specs.Events.{Event as WorldEvent}
 use Rattle.norm_journal.specs.declared.event.Event.{Event}
 use Rattle.norm_journal.specs.Accepting.{accepts, judged_from}
+use Rattle.norm_journal.specs.Direct.{IsDirect, taken_with}
 use Rattle.norm_journal.specs.Honest.{IsHonest}
-use Rattle.norm_journal.specs.WorldEvents.{world_event, world_events, TakesHonestly}
+use Rattle.norm_journal.specs.WorldEvents.{world_event, world_events, TakesHonestly, TakesDirectly, taken_after}
 use Rattle.norm_journal.specs.Judged.{Judged, is_whole}
 use Rattle.norm_journal.specs.Places.{Place, Giving, Again, Over}
 use Rattle.norm_journal.specs.Printed.{line_of, lines_from}
@@ -17,7 +18,7 @@ use Rattle.norm_script.specs.declared.script.Verb.{Verb}
 use Rattle.norm_script.specs.declared.script.Verb.TheVariants as verb
 use Rattle.norm_journal.specs.Jobs.{Told, may_be_absent}
 use Rattle.norm_journal.specs.SessionRun.{Ending, Whole, Spent, Absent, absent_of, ends_in}
-use Rattle.norm_journal.specs.Laws.{FrontsAreAccepted, FrontsArePrinted, FrontsHappen, TakesStayHonest, LeavesNothing, WholeIsDone}
+use Rattle.norm_journal.specs.Laws.{FrontsAreAccepted, FrontsArePrinted, FrontsHappen, TakesStayHonest, TakesStayDirect, LeavesNothing, WholeIsDone}
 
 clash : false ≡ true → ⊥
 clash e = cc
@@ -106,6 +107,28 @@ unfolding judged_from TakesHonestly
 takes_stay_honest j last [] e is honest more = (subst (λ (x : Judged). IsHonest x e) (sym (same_Some j last is)) more, nothing_more (accepts j e))
 takes_stay_honest j last (x ∷ front) e is honest more =
     (honest.0, honest_on (accepts j x) front last e is honest.1 (λ next so here. takes_stay_honest next last front e so here more))
+
+nothing_taken : (taken : ℕ) (o : Option Judged) → IfSome o (λ next. TakesDirectly taken next [])
+unfolding TakesDirectly
+nothing_taken taken None = tt
+nothing_taken taken (Some next) = tt
+
+direct_on : (taken : ℕ) (o : Option Judged) (front : List Event) (last : Judged) (e : Event) → option_and_then (λ next. judged_from next front) o ≡ Some last
+    → IfSome o (λ next. TakesDirectly taken next front)
+    → ((next : Judged) → judged_from next front ≡ Some last → TakesDirectly taken next front → TakesDirectly taken next (front ++ e ∷ []))
+    → IfSome o (λ next. TakesDirectly taken next (front ++ e ∷ []))
+direct_on taken None front last e is direct each = absurd (none-some last is)
+direct_on taken (Some next) front last e is direct each = each next is direct
+
+pub takes_stay_direct : TakesStayDirect
+unfolding judged_from TakesDirectly taken_after
+takes_stay_direct taken j last [] e is direct more =
+    (subst (λ (x : Judged). IsDirect taken x e) (sym (same_Some j last is)) more, nothing_taken (taken_with taken e) (accepts j e))
+takes_stay_direct taken j last (x ∷ front) e is direct more = (
+  direct.0,
+  direct_on (taken_with taken x) (accepts j x) front last e is direct.1
+      (λ next so here. takes_stay_direct (taken_with taken x) next last front e so here more),
+)
 
 no_items : {X : Type 0} (xs : List X) → (length xs == 0) ≡ true → xs ≡ []
 no_items [] e = refl

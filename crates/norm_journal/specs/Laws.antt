@@ -21,6 +21,7 @@ use Rattle.norm_safety.specs.WorldStep.{run_from}
 use Rattle.norm_journal.specs.declared.event.Event.{Event}
 use Rattle.norm_journal.specs.declared.event.Event.TheVariants as event
 use Rattle.norm_journal.specs.Accepting.{accepts, judged_from}
+use Rattle.norm_journal.specs.Direct.{IsDirect}
 use Rattle.norm_journal.specs.Honest.{IsHonest}
 use Rattle.norm_journal.specs.Jobs.{Told, file_of_length, IsOfObjects}
 use Rattle.norm_journal.specs.Judged.{Judged, judged_opening, is_done}
@@ -28,7 +29,7 @@ use Rattle.norm_journal.specs.Printed.{lines_from}
 use Rattle.norm_journal.specs.Pulling.{origin_of}
 use Rattle.norm_journal.specs.Projections.{offers_in}
 use Rattle.norm_journal.specs.SessionRun.{judged, Begun, ending_of, Whole}
-use Rattle.norm_journal.specs.WorldEvents.{world_events, TakesHonestly, NamedOnce}
+use Rattle.norm_journal.specs.WorldEvents.{world_events, TakesHonestly, TakesDirectly, taken_after, NamedOnce}
 
 -- Each front of a journal that is accepted is accepted.
 abbrev pub FrontsAreAccepted : Type 0
@@ -103,6 +104,11 @@ OffersAreTheWorlds = (script : Commands) (files : Told) (nodes : List ℕ) (even
 abbrev pub TakesStayHonest : Type 0
 TakesStayHonest = (j next : Judged) (front : List Event) (e : Event) → judged_from j front ≡ Some next → TakesHonestly j front
     → IsHonest next e → TakesHonestly j (front ++ e ∷ [])
+
+-- Takes stay direct with one more event that is.
+abbrev pub TakesStayDirect : Type 0
+TakesStayDirect = (taken : ℕ) (j next : Judged) (front : List Event) (e : Event) → judged_from j front ≡ Some next → TakesDirectly taken j front
+    → IsDirect (taken_after taken front) next e → TakesDirectly taken j (front ++ e ∷ [])
 
 -- a file that an event read has octets
 abbrev pub HasOctets : Event → Type 0

@@ -17,6 +17,7 @@ pub mod SessionRun
 pub mod Projections
 pub mod Calls
 pub mod Honest
+pub mod Direct
 pub mod Words
 pub mod Lines
 pub mod Printed

@@ -62,4 +62,5 @@ network_after n events = record {
   offered = gained n.offered (offers_in events);
   answers = gained n.answers (answers_in events);
   honest = n.honest;
+  direct = n.direct;
 }

@@ -10,6 +10,7 @@ use Rattle.norm_journal.specs.declared.event.Event.{Event}
 use Rattle.norm_journal.specs.declared.event.Event.TheVariants as event
 use Rattle.norm_journal.specs.Accepting.{accepts}
 use Rattle.norm_journal.specs.Commands.{repeating}
+use Rattle.norm_journal.specs.Direct.{IsDirect, taken_with}
 use Rattle.norm_journal.specs.Draws.{next_draw}
 use Rattle.norm_journal.specs.Honest.{IsHonest}
 use Rattle.norm_journal.specs.Jobs.{file_of_length}
@@ -51,6 +52,16 @@ world_events j (e ∷ events) =
 unfoldable pub TakesHonestly : Judged → List Event → Type 0
 TakesHonestly j [] = ⊤
 TakesHonestly j (e ∷ events) = IsHonest j e × IfSome (accepts j e) (λ next. TakesHonestly next events)
+
+-- each take of a journal is one that a direct network may give, after this many copies
+unfoldable pub TakesDirectly : ℕ → Judged → List Event → Type 0
+TakesDirectly taken j [] = ⊤
+TakesDirectly taken j (e ∷ events) = IsDirect taken j e × IfSome (accepts j e) (λ next. TakesDirectly (taken_with taken e) next events)
+
+-- this many copies were taken with these events
+unfoldable pub taken_after : ℕ → List Event → ℕ
+taken_after taken [] = taken
+taken_after taken (e ∷ events) = taken_after (taken_with taken e) events
 
 -- each command has a name of its own
 abbrev pub NamedOnce : List Line → Type 0

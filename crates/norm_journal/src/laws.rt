@@ -7,7 +7,7 @@ ghost use Rattle.norm_journal.specs.Calls.{CallsAreDue};
 ghost use Rattle.norm_journal.specs.Counts.{JournalIsCounted};
 ghost use Rattle.norm_journal.specs.GoingOn.{GoesOn};
 ghost use Rattle.norm_journal.specs.Handed.{SaysTheHands};
-ghost use Rattle.norm_journal.specs.Laws.{FrontsAreAccepted, FrontsArePrinted, FrontsHappen, PullsInOrder, WholeIsDone, EndsLast, MovesTheWorld, BeginsHonestly, BeginsLawfully, FilesGoByLength, OffersAreTheWorlds, TakesStayHonest, CommandsAreEvents, CommandsAreOfObjects, ScriptsNameOnce};
+ghost use Rattle.norm_journal.specs.Laws.{FrontsAreAccepted, FrontsArePrinted, FrontsHappen, PullsInOrder, WholeIsDone, EndsLast, MovesTheWorld, BeginsHonestly, BeginsLawfully, FilesGoByLength, OffersAreTheWorlds, TakesStayHonest, TakesStayDirect, CommandsAreEvents, CommandsAreOfObjects, ScriptsNameOnce};
 
 /// Each front of a journal that is accepted is accepted.
 #[tactic(auto, using(crate::proofs::FrontLemmas::fronts_accepted))]
@@ -80,6 +80,12 @@ pub fn says_the_hands()
 #[tactic(auto, using(crate::proofs::FrontLemmas::takes_stay_honest))]
 pub fn takes_stay_honest()
     ensures { TakesStayHonest }
+{}
+
+/// Takes stay direct with one more event that is.
+#[tactic(auto, using(crate::proofs::FrontLemmas::takes_stay_direct))]
+pub fn takes_stay_direct()
+    ensures { TakesStayDirect }
 {}
 
 /// An event comes by the call of the outside that is due.
