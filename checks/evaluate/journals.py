@@ -16,6 +16,7 @@ use Rattle.norm_base.specs.declared.kinds.Sent.TheVariants as sent
 use Rattle.norm_journal.specs.declared.event.Event.{Event as JournalEvent}
 use Rattle.norm_journal.specs.declared.event.Event.TheVariants as journal
 use Rattle.norm_journal.specs.Accepting.{accepts, judged_from}
+use Rattle.norm_journal.specs.Direct.{is_direct, taken_with}
 use Rattle.norm_journal.specs.Handed.{ups_in}
 use Rattle.norm_journal.specs.Honest.{is_honest}
 use Rattle.norm_journal.specs.Jobs.{Told as ToldFiles}
@@ -162,7 +163,7 @@ def without_streams(runs):
 
 
 # the laws of journals as a test, and so damaged that it is false where something was accepted and handed up
-LAWS, DAMAGED_LAWS = 'laws_hold', ('without_ups', 'without_objects')
+LAWS, DAMAGED_LAWS = 'laws_hold', ('without_ups', 'without_objects', 'without_takes')
 
 
 def law_case(name, run, test):
@@ -180,7 +181,7 @@ def look_at_laws(space, runs):
         print('%s: a law is false: %s' % (name, said[name][:1500]))
     for d in missed:
         print('%s: no journal notices it' % d)
-    return '2 laws of %d journals' % len(runs), len(wrong + missed)
+    return '3 laws of %d journals' % len(runs), len(wrong + missed)
 
 
 def look(space, runs, damaged_runs=()):
