@@ -40,7 +40,7 @@ gained-gained (Some zs) xs ys = ap Some (append_assoc zs xs ys)
 
 -- a network that tells this of offers and answers
 abbrev pub tells : Network → Option (List (ℕ × List ℕ)) → Option (List Answer) → Network
-tells n offered answers = record { starts = n.starts; offered = offered; answers = answers; honest = n.honest }
+tells n offered answers = record { starts = n.starts; offered = offered; answers = answers; honest = n.honest; direct = n.direct }
 
 network_more : (n : Network) (xs ys : List Event) → network_after (network_after n xs) ys ≡ network_after n (xs ++ ys)
 network_more n xs ys =
