@@ -1,4 +1,5 @@
-use Rattle.std.specs.Prelude.{ℕ, List, [], ◌∷◌, ◌++◌, ◌||◌, Bool, true, false, Some, if◌then◌else◌}
+use Rattle.std.specs.Prelude.{◌≡◌, ℕ, List, [], ◌∷◌, ◌++◌, ◌||◌, Bool, true, false, Some, ⊤, if◌then◌else◌}
+use Rattle.norm_base.specs.Copies.{members_at}
 use Rattle.norm_base.specs.Faults.{one_more}
 use Rattle.norm_base.specs.Network.{Network}
 use Rattle.norm_base.specs.Settings.{Settings}
@@ -57,14 +58,22 @@ is_within kind.Udp members = false
 abbrev pub may_fail : FabricKind → Local → Bool
 may_fail fabric members = is_within fabric members || is_udp fabric
 
--- in memory it tells its starts and what that network tells, and is honest; over sockets it tells nothing
+-- in memory it tells its starts and what that network tells, is honest, and is direct where that one loses nothing; over
+-- sockets it tells nothing
 abbrev pub host_told : HostState → Network
 host_told s = if is_udp s.kind then untold else record {
   starts = Some s.starts;
   offered = Some (network_of s).offered;
   answers = Some (network_of s).answers;
   honest = true;
+  direct = is_direct s.kind;
 }
+
+-- where it is the one that loses nothing, both had their last start with the same members
+abbrev pub SharesMembers : List (Settings × Local) → FabricKind → NetworkState → Type 0
+SharesMembers starts kind.Direct direct = members_at starts ≡ members_at direct.starts
+SharesMembers starts kind.Chance direct = ⊤
+SharesMembers starts kind.Udp direct = ⊤
 
 -- as it was made
 abbrev pub host_unstarted : HostState

@@ -2,7 +2,7 @@
 
 ghost use Rattle.std.specs.Prelude.{◌≡◌, ◌≤◌, false, true, length, [], IfOk, IfNone, IsErrOf, OnOk, OnErr, if◌then◌else◌};
 ghost use Rattle.norm_base.specs.Faults.{Counts, network_failed};
-ghost use Rattle.norm_base.specs.Network.{Starts, answer_of, IsHonestAnswer};
+ghost use Rattle.norm_base.specs.Network.{Starts, answer_of, IsHonestAnswer, IsDirectAnswer};
 ghost use Rattle.norm_host.specs.Hosting.{is_chance, is_direct, is_udp, is_alone, is_within, may_fail, network_of, host_told, host_unstarted, host_started, host_failed, host_offer, host_take};
 ghost use Rattle.norm_memory.specs.Chances.{chance_started};
 ghost use Rattle.norm_memory.specs.Networks.{started, next_answer};
@@ -75,11 +75,13 @@ pub struct HostFabric<R> {
 }
 
 impl<R> Model for HostFabric<R> {
-    ghost use Rattle.norm_host.specs.Hosting.{HostState};
+    ghost use Rattle.norm_host.specs.Hosting.{HostState, SharesMembers};
 
     ghost Value = { HostState };
 
     ghost view = { λ f. record { starts = f.starts.items; kind = f.kind; direct = f.direct; chance = f.chance; faults = f.faults } };
+
+    ghost invariant = { λ f. SharesMembers f.starts.items f.kind f.direct };
 }
 
 impl<R: Net + Wait + Clock + Drop> HostFabric<R> {
@@ -212,6 +214,7 @@ impl<R: Net + Wait + Clock + Drop> Fabric for HostFabric<R> {
         ensures answer { is_udp self.old.kind ≡ false → IfOk result (λ node. answer_of node into.new ≡ next_answer (network_of self.old)) }
         ensures none { IfOk result (λ node. IfNone node (into.new ≡ [])) }
         ensures honest { IfOk result (λ node. IsHonestAnswer (host_told self.old) (answer_of node into.new)) }
+        ensures direct { IfOk result (λ node. IsDirectAnswer (host_told self.old) (answer_of node into.new)) }
         ensures state { OnOk result (self.new ≡ host_take self.old) }
         ensures failed { IsErrOf result FabricFault.Failed → (self.new ≡ host_failed self.old) × (is_udp self.old.kind ≡ true) }
         ensures memory { IsErrOf result FabricFault.Memory → self.new ≡ self.old }
