@@ -97,19 +97,27 @@ abbrev pub gave_line : Origin → ℕ → Verb → Result Receipt SendFault → 
 gave_line by instance v (Ok receipt) = Some (receipt_line by instance v receipt)
 gave_line by instance v (Err fault) = option_map (no_line by) (reason_of fault)
 
--- a node's hand-up, in the instance that it is in
-abbrev pub part_line : ℕ → ℕ → ℕ → List (List ℕ) → List ℕ
-part_line node instance index words = line (codes "up") (decimal node ∷ decimal instance ∷ decimal index ∷ words)
+-- the words of a hand-up: the node, the instance that it is in, the index of the object, and what is told of that
+abbrev pub part_words : ℕ → ℕ → ℕ → List (List ℕ) → List (List ℕ)
+part_words node instance index words = decimal node ∷ decimal instance ∷ decimal index ∷ words
+
+-- what is told
+abbrev pub up_words : ℕ → ℕ → Up → List (List ℕ)
+up_words node instance (up.Object index what info octets) =
+    part_words node instance index (kind_word what ∷ decimal (length octets) ∷ info_word info ∷ encode_lower octets ∷ [])
+up_words node instance (up.StreamOpen index) = part_words node instance index (codes "open" ∷ [])
+up_words node instance (up.StreamBytes index offset octets) =
+    part_words node instance index (codes "bytes" ∷ decimal offset ∷ decimal (length octets) ∷ encode_lower octets ∷ [])
+up_words node instance (up.StreamEnd index) = part_words node instance index (codes "end" ∷ [])
+up_words node instance (up.Lost index) = part_words node instance index (codes "lost" ∷ [])
 
 -- a hand-up
 abbrev pub up_line : ℕ → ℕ → Up → List ℕ
-up_line node instance (up.Object index what info octets) =
-    part_line node instance index (kind_word what ∷ decimal (length octets) ∷ info_word info ∷ encode_lower octets ∷ [])
-up_line node instance (up.StreamOpen index) = part_line node instance index (codes "open" ∷ [])
-up_line node instance (up.StreamBytes index offset octets) =
-    part_line node instance index (codes "bytes" ∷ decimal offset ∷ decimal (length octets) ∷ encode_lower octets ∷ [])
-up_line node instance (up.StreamEnd index) = part_line node instance index (codes "end" ∷ [])
-up_line node instance (up.Lost index) = part_line node instance index (codes "lost" ∷ [])
+up_line node instance handed = line (codes "up") (up_words node instance handed)
+
+-- a hand-up of what a sender sent, where there are several senders
+abbrev pub of_line : ℕ → ℕ → ℕ → Up → List ℕ
+of_line sender node instance handed = line (codes "of") (decimal sender ∷ codes "up" ∷ up_words node instance handed)
 
 -- a watermark's outcome, with the nodes that are left; an open one has no line
 abbrev pub done_line : ℕ → List ℕ → Outcome → Option (List ℕ)

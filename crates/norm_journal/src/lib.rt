@@ -11,5 +11,5 @@ mod totals;
 mod words;
 
 pub use crate::event::Event;
-pub use crate::lines::{gave_line, news_line, refusal_line, up_line};
+pub use crate::lines::{gave_line, news_line, of_line, refusal_line, up_line};
 pub use crate::totals::{Totals, end_line};

@@ -4,7 +4,7 @@
 ghost use Rattle.std.specs.Prelude.{◌≡◌, ◌∷◌, [], ◌++◌, codes, decimal, length, IfOk, OnOk};
 ghost use Rattle.std.specs.Option.{option_map};
 ghost use Rattle.norm_text.specs.Words.{with_word, with_words, line, kind_word, info_word};
-ghost use Rattle.norm_journal.specs.Lines.{line_if, kind_of, quorum_of, enq_line, receipt_line, no_line, gave_line, part_line, up_line, done_line, news_line, reason_of, enqueue_reason, number_words};
+ghost use Rattle.norm_journal.specs.Lines.{line_if, kind_of, quorum_of, enq_line, receipt_line, no_line, gave_line, part_words, up_words, up_line, of_line, done_line, news_line, reason_of, enqueue_reason, number_words};
 ghost use Rattle.norm_journal.specs.Words.{origin_words, position_words, node_words};
 ghost use Rattle.hex.specs.Hex.{encode_lower};
 
@@ -279,25 +279,22 @@ pub fn refusal_line(text: &mut Line, by: Origin, fault: &SendFault) -> Result<bo
     }
 }
 
-/// The beginning of a hand-up's line, with room for so many octets of contents.
-fn begin_up(
+/// Puts a node, the instance that it is in, and an object's index.
+fn put_part(
     text: &mut Line,
     node: NodeId,
     instance: InstanceId,
     index: u32,
-    contents: usize,
 ) -> Result<(), AllocError>
-    ensures { OnOk result (text.new ≡ with_words (codes "up") (decimal node ∷ decimal instance ∷ decimal index ∷ [])) }
+    ensures { OnOk result (text.new ≡ with_words text.old (part_words node instance index [])) }
 {
-    text.restart(b"up", contents)?;
     text.number(u64::from(node.number()))?;
     text.number(u64::from(instance.0))?;
-    text.number(u64::from(index))?;
-    Ok(())
+    text.number(u64::from(index))
 }
 
-/// The line of an object that was handed up.
-fn object_up_line(
+/// Puts the words of an object that was handed up.
+fn put_object(
     text: &mut Line,
     node: NodeId,
     instance: InstanceId,
@@ -306,27 +303,18 @@ fn object_up_line(
     info: &Option<Octets>,
     octets: &[u8],
 ) -> Result<(), AllocError>
-    ensures { OnOk result (text.new ≡ part_line node instance index
-        (kind_word kind ∷ decimal (length octets.now) ∷ info_word info.now ∷ encode_lower octets.now ∷ [])) }
+    ensures { OnOk result (text.new ≡ with_words text.old (part_words node instance index
+        (kind_word kind ∷ decimal (length octets.now) ∷ info_word info.now ∷ encode_lower octets.now ∷ []))) }
 {
-    begin_up(text, node, instance, index, contents_of(info, octets))?;
+    put_part(text, node, instance, index)?;
     text.word(kind_word(kind).as_bytes())?;
     text.number(octets.len() as u64)?;
     text.info(info)?;
-    text.contents(octets)?;
-    text.finish()
+    text.contents(octets)
 }
 
-/// How many octets an object's line shows.
-fn contents_of(info: &Option<Octets>, octets: &[u8]) -> usize {
-    match info {
-        Some(info) => info.bytes().len().saturating_add(octets.len()),
-        None => octets.len(),
-    }
-}
-
-/// The line of a segment that was handed up.
-fn bytes_line(
+/// Puts the words of octets of a stream that were handed up.
+fn put_bytes(
     text: &mut Line,
     node: NodeId,
     instance: InstanceId,
@@ -334,30 +322,67 @@ fn bytes_line(
     offset: u32,
     octets: &[u8],
 ) -> Result<(), AllocError>
-    ensures { OnOk result (text.new ≡ part_line node instance index
-        (codes "bytes" ∷ decimal offset ∷ decimal (length octets.now) ∷ encode_lower octets.now ∷ [])) }
+    ensures { OnOk result (text.new ≡ with_words text.old (part_words node instance index
+        (codes "bytes" ∷ decimal offset ∷ decimal (length octets.now) ∷ encode_lower octets.now ∷ []))) }
 {
-    begin_up(text, node, instance, index, octets.len())?;
+    put_part(text, node, instance, index)?;
     text.word(b"bytes")?;
     text.number(u64::from(offset))?;
     text.number(octets.len() as u64)?;
-    text.contents(octets)?;
-    text.finish()
+    text.contents(octets)
 }
 
-/// The line of a hand-up that has one word.
-fn part_line(
+/// Puts the words of a hand-up that has one word.
+fn put_word(
     text: &mut Line,
     node: NodeId,
     instance: InstanceId,
     index: u32,
     word: &[u8],
 ) -> Result<(), AllocError>
-    ensures { OnOk result (text.new ≡ part_line node instance index (word.now ∷ [])) }
+    ensures { OnOk result (text.new ≡ with_words text.old (part_words node instance index (word.now ∷ []))) }
 {
-    begin_up(text, node, instance, index, 0)?;
-    text.word(word)?;
-    text.finish()
+    put_part(text, node, instance, index)?;
+    text.word(word)
+}
+
+/// Puts the words of a hand-up.
+fn put_up(text: &mut Line, node: NodeId, instance: InstanceId, up: &Up) -> Result<(), AllocError>
+    ensures { OnOk result (text.new ≡ with_words text.old (up_words node instance up.now)) }
+{
+    match up {
+        Up::Object {
+            index,
+            kind,
+            info,
+            bytes,
+        } => put_object(text, node, instance, *index, *kind, info, bytes.bytes()),
+        Up::StreamOpen { index } => put_word(text, node, instance, *index, b"open"),
+        Up::StreamBytes {
+            index,
+            offset,
+            bytes,
+        } => put_bytes(text, node, instance, *index, *offset, bytes.bytes()),
+        Up::StreamEnd { index } => put_word(text, node, instance, *index, b"end"),
+        Up::Lost { index } => put_word(text, node, instance, *index, b"lost"),
+    }
+}
+
+/// How many octets an info has.
+fn info_len(info: &Option<Octets>) -> usize {
+    match info {
+        Some(info) => info.bytes().len(),
+        None => 0,
+    }
+}
+
+/// How many octets of contents the line of a hand-up shows, for which it needs room.
+fn contents_of(up: &Up) -> usize {
+    match up {
+        Up::Object { info, bytes, .. } => info_len(info).saturating_add(bytes.bytes().len()),
+        Up::StreamBytes { bytes, .. } => bytes.bytes().len(),
+        Up::StreamOpen { .. } | Up::StreamEnd { .. } | Up::Lost { .. } => 0,
+    }
 }
 
 /// The line of a node's hand-up, in the instance that it is in.
@@ -369,22 +394,27 @@ pub fn up_line(
 ) -> Result<(), AllocError>
     ensures { OnOk result (text.new ≡ up_line node instance up.now) }
 {
-    match up {
-        Up::Object {
-            index,
-            kind,
-            info,
-            bytes,
-        } => object_up_line(text, node, instance, *index, *kind, info, bytes.bytes()),
-        Up::StreamOpen { index } => part_line(text, node, instance, *index, b"open"),
-        Up::StreamBytes {
-            index,
-            offset,
-            bytes,
-        } => bytes_line(text, node, instance, *index, *offset, bytes.bytes()),
-        Up::StreamEnd { index } => part_line(text, node, instance, *index, b"end"),
-        Up::Lost { index } => part_line(text, node, instance, *index, b"lost"),
-    }
+    text.restart(b"up", contents_of(up))?;
+    put_up(text, node, instance, up)?;
+    text.finish()
+}
+
+/// The line of a node's hand-up of what `sender` sent, for a node that hears several senders: `of`, the sender, and the words of
+/// [`up_line`].
+pub fn of_line(
+    text: &mut Line,
+    sender: NodeId,
+    node: NodeId,
+    instance: InstanceId,
+    up: &Up,
+) -> Result<(), AllocError>
+    ensures { OnOk result (text.new ≡ of_line sender node instance up.now) }
+{
+    text.restart(b"of", contents_of(up))?;
+    text.number(u64::from(sender.number()))?;
+    text.word(b"up")?;
+    put_up(text, node, instance, up)?;
+    text.finish()
 }
 
 /// The line of a new listing.
