@@ -26,10 +26,10 @@ pub one_more : {X : Type 0} {old new : List X} (x : X) → new ≡ old ++ x ∷ 
 one_more x e = record { more = x ∷ []; is = e }
 
 -- what stood at a place stands there still
-at_place : {X : Type 0} {old new : List X} (d : X) (at : ℕ) → Grown old new → at < length old → get_or new at d ≡ get_or old at d
+pub at_place : {X : Type 0} {old new : List X} (d : X) (at : ℕ) → Grown old new → at < length old → get_or new at d ≡ get_or old at d
 at_place {X} {old} {new} d at g lt = ap (λ xs. get_or xs at d) g.is ∙ get_or_append_left old g.more d at lt
 
-longer : {X : Type 0} {old new : List X} (at : ℕ) → Grown old new → at < length old → at < length new
+pub longer : {X : Type 0} {old new : List X} (at : ℕ) → Grown old new → at < length old → at < length new
 longer {X} {old} {new} at g lt = let e = ap length g.is ∙ length-append old g.more in omega (arith, e, lt)
 
 -- each store grew
@@ -66,7 +66,7 @@ same_events s t x (e ∷ es) h =
     ap (λ first. first ∷ events_of t es) (same_event s t x e (All-head (IsThere s) e es h))
     ∙ ap (λ rest. event_of s e ∷ rest) (same_events s t x es (All-tail (IsThere s) e es h))
 
-all_of_none : {X : Type 0} (P : X → Type 0) → All P []
+pub all_of_none : {X : Type 0} (P : X → Type 0) → All P []
 all_of_none P = search rules
 
 -- what is kept after one more entry, for one more event

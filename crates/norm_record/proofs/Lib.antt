@@ -3,3 +3,4 @@ mod LatestLemmas
 mod OnceLemmas
 mod EventLemmas
 mod PushLemmas
+mod HandLemmas

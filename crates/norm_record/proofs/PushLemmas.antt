@@ -20,10 +20,10 @@ use Rattle.norm_record.proofs.EventLemmas.{same, one_more, Fits, Kept, one_event
 use Rattle.norm_record.proofs.OnceLemmas.{other_event, same_up, new_up}
 
 -- one more at the end stands at the place behind all
-place_behind : {X : Type 0} (old new : List X) (x : X) (at : ℕ) → new ≡ old ++ x ∷ [] → at ≡ length old → at < length new
+pub place_behind : {X : Type 0} (old new : List X) (x : X) (at : ℕ) → new ≡ old ++ x ∷ [] → at ≡ length old → at < length new
 place_behind old new x at is e = let l = ap length is ∙ length-append old (x ∷ []) in omega (arith, e, l)
 
-stands_behind : {X : Type 0} (old new : List X) (x d : X) (at : ℕ) → new ≡ old ++ x ∷ [] → at ≡ length old → get_or new at d ≡ x
+pub stands_behind : {X : Type 0} (old new : List X) (x d : X) (at : ℕ) → new ≡ old ++ x ∷ [] → at ≡ length old → get_or new at d ≡ x
 stands_behind old new x d at is e = ap (λ xs. get_or xs at d) is ∙ get_or_at old x [] d at (sym e)
 
 -- an event that is no offer

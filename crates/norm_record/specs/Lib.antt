@@ -5,4 +5,5 @@ pub mod Latest
 pub mod Offered
 pub mod Once
 pub mod Events
+pub mod HandedUp
 pub mod Told

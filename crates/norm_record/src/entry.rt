@@ -34,6 +34,13 @@ pub(crate) struct Turn {
     pub(crate) now: Moment,
 }
 
+/// A node's hand-up: what stands at this place among those that are kept.
+#[derive(Clone, Copy)]
+pub(crate) struct Hand {
+    pub(crate) node: NodeId,
+    pub(crate) at: u32,
+}
+
 /// An event that is kept whole.
 #[derive(Drop)]
 pub(crate) enum Rare {

@@ -1,15 +1,17 @@
 //! A journal that is kept.
 
 ghost use Rattle.std.specs.Prelude.{◌≡◌, ◌<◌, [], length, slice_get, Some, sum_by, nat_eq};
+ghost use Rattle.std.specs.Option.{option_map};
 ghost use Rattle.std.specs.Set.{distinct_count};
 ghost use Rattle.norm_journal.specs.declared.event.Event.TheVariants as event;
 ghost use Rattle.norm_record.specs.Events.{rare_event};
+ghost use Rattle.norm_record.specs.HandedUp.{handed_up};
 ghost use Rattle.norm_record.specs.Offered.{Adds, TakesOffered, offered};
 ghost use Rattle.norm_record.specs.Once.{UpsAgree, names_in};
 ghost use Rattle.norm_record.specs.Told.{told_of};
 
-use crate::entry::{Entry, Rare, Turn};
-use crate::lending::lent;
+use crate::entry::{Entry, Hand, Rare, Turn};
+use crate::lending::{hand_at, lent};
 use crate::offers::Offers;
 use crate::row::Row;
 use crate::seen::Seen;
@@ -31,6 +33,8 @@ pub struct Journal {
     ups: Ups,
     rares: Vec<Rare>,
     turns: Vec<Turn>,
+    /// The hand-ups in their order.
+    hands: Vec<Hand>,
 }
 
 impl Model for Journal {
@@ -40,6 +44,7 @@ impl Model for Journal {
     ghost Value = { List Event };
 
     ghost use Rattle.norm_record.specs.Events.{events_of, IsKept};
+    ghost use Rattle.norm_record.specs.HandedUp.{HandsKept};
 
     ghost view = { λ j. events_of
         (record { offers = j.offers; apart = j.apart; ups = j.ups; rares = j.rares.items; turns = j.turns.items })
@@ -47,7 +52,9 @@ impl Model for Journal {
 
     ghost invariant = { λ j. IsKept
         (record { offers = j.offers; apart = j.apart; ups = j.ups; rares = j.rares.items; turns = j.turns.items })
-        j.entries.items };
+        j.entries.items × HandsKept j.ups j.hands.items (events_of
+        (record { offers = j.offers; apart = j.apart; ups = j.ups; rares = j.rares.items; turns = j.turns.items })
+        j.entries.items) };
 }
 
 impl Journal {
@@ -62,6 +69,7 @@ impl Journal {
             ups: Ups::new(alloc),
             rares: Vec::new(alloc),
             turns: Vec::new(alloc),
+            hands: Vec::new(alloc),
         }
     }
 
@@ -86,6 +94,13 @@ impl Journal {
         ensures { UpsAgree self.now → result ≡ distinct_count nat_eq (names_in self.now) }
     {
         self.ups.len()
+    }
+
+    /// Hand-up `i` of all nodes', counted from 0 in the order of the events, with its node, lent. `None` exactly if there are no more.
+    pub fn up(&self, i: u64) -> Option<(NodeId, &Up)>
+        ensures { option_map (λ hand. (hand.0, hand.1.now)) result ≡ slice_get (handed_up self.now) i }
+    {
+        hand_at(&self.ups, &self.hands, i)
     }
 
     /// The event at a place, lent.
@@ -210,12 +225,15 @@ impl Journal {
     {
         let hand_up = HandUp { instance, up };
         self.entries.reserve(1)?;
+        self.hands.reserve(1)?;
         if let Some(at) = self.ups.find(&hand_up) {
             self.entries.push_reserved(Entry::Up { node, at });
+            self.hands.push_reserved(Hand { node, at });
             return Ok(());
         }
         let at = self.ups.keep(hand_up)?;
         self.entries.push_reserved(Entry::Up { node, at });
+        self.hands.push_reserved(Hand { node, at });
         Ok(())
     }
 

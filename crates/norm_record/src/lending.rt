@@ -1,14 +1,18 @@
-//! An event is lent from what is kept.
+//! An event, or a hand-up, is lent from what is kept.
 
-ghost use Rattle.std.specs.Prelude.{◌≡◌};
+ghost use Rattle.std.specs.Prelude.{◌≡◌, All, slice_get};
+ghost use Rattle.std.specs.Option.{option_map};
 ghost use Rattle.norm_record.specs.Events.{IsThere, event_of, kept_in};
+ghost use Rattle.norm_record.specs.HandedUp.{IsAmong, hand_of};
 ghost use Rattle.norm_record.specs.Told.{told_of};
 
-use crate::entry::{Entry, Rare, Turn};
+use crate::entry::{Entry, Hand, Rare, Turn};
 use crate::offers::Offers;
 use crate::row::Row;
 use crate::seen::Seen;
 use crate::ups::Ups;
+use norm_base::NodeId;
+use norm_order::Up;
 
 /// The event of an entry, lent.
 // It takes the stores one by one: a proof about each kind of entry then opens none of the journal's own invariant.
@@ -52,4 +56,16 @@ pub(crate) fn lent<'a>(
         }
         Entry::Rare { at } => rares[at as usize].seen(),
     }
+}
+
+/// The hand-up at a place of their order, lent.
+pub(crate) fn hand_at<'a>(ups: &'a Ups, hands: &[Hand], i: u64) -> Option<(NodeId, &'a Up)>
+    requires { All (IsAmong ups.now) hands.now }
+    ensures { option_map (λ hand. (hand.0, hand.1.now)) result ≡ option_map (hand_of ups.now) (slice_get hands.now i) }
+{
+    let Some(hand) = hands.get(i as usize) else {
+        return None;
+    };
+    let hand_up = ups.hand_up(hand.at);
+    Some((hand.node, &hand_up.up))
 }

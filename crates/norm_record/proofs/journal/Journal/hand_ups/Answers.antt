@@ -12,5 +12,5 @@ pub returns : goal.returns
 returns c = λ agree.
     c.len.ensures
     ∙ sym (length-map c.self.inside.ups kept_name)
-    ∙ length-from_keys nat_eq_equiv (kept_names c.self.inside.ups) _ (c.self.invariant.ups.once (subst UpsAgree (sym c.self.view_is) agree)) c.self.invariant.ups.named
+    ∙ length-from_keys nat_eq_equiv (kept_names c.self.inside.ups) _ (c.self.invariant.0.ups.once (subst UpsAgree (sym c.self.view_is) agree)) c.self.invariant.0.ups.named
     ∙ ap (λ events. distinct_count nat_eq (names_in events)) c.self.view_is
