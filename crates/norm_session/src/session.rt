@@ -40,7 +40,7 @@ pub(crate) struct Made {
 /// # Errors
 ///
 /// `Write`, `Fabric` or `Files` where a call of the output, the network or the files failed; `Absent` where a command's file is not
-/// there; or `Memory`.
+/// there; or `Memory`, which also ends a run whose board has no place left for an outcome.
 pub fn run_session<
     R: Threads + Wait + Sync,
     K: Sink,
@@ -87,7 +87,7 @@ pub fn run_session<
 /// # Errors
 ///
 /// `Write`, `Fabric` or `Files` where a call of the output, the network or the files failed; `Absent` where a command's file is not
-/// there; or `Memory`.
+/// there; or `Memory`, which also ends a run whose board has no place left for an outcome.
 pub fn run_send<
     R: Threads + Wait + Sync,
     K: Sink,
