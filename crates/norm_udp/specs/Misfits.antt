@@ -6,6 +6,9 @@ use Rattle.norm_base.specs.declared.kinds.Local.TheVariants as members
 use Rattle.norm_ext.specs.Asking.{has_flag}
 use Rattle.norm_ext.specs.Extensions.{Fti}
 use Rattle.norm_udp.specs.declared.heard.Heard.{Heard}
+use Rattle.norm_udp.specs.declared.misfit.Difference.{Difference}
+use Rattle.norm_udp.specs.declared.misfit.Difference.TheVariants as differs
+use Rattle.norm_udp.specs.declared.misfit.Misfit.{Misfit}
 
 -- the flags of INFO and DATA have STREAM (RFC 5740 section 4.2.1), and then the length says nothing
 abbrev pub says_stream : ℕ → Bool
@@ -51,3 +54,24 @@ abbrev pub is_cut_off : Option Settings → Option ℕ → Option Heard → Bool
 is_cut_off None cut h = false
 is_cut_off (Some p) cut None = false
 is_cut_off (Some p) cut (Some h) = h.sender == p.sender && is_in cut h.instance
+
+-- in what transmission information that does not fit differs from a profile: in the sizes, or else in the length
+abbrev pub difference_of : Settings → Fti → Difference
+difference_of p f = if has_sizes p f
+    then differs.Length f.l p.octets
+    else differs.Sizes (record { e = f.e; b = f.b; max_n = f.max_n }) (record { e = p.e; b = p.b; max_n = p.max_n })
+
+-- what is told of a message with such transmission information
+abbrev pub misfit_of : Settings → Heard → Fti → Misfit
+misfit_of p h f = record { sender = h.sender; instance = h.instance; difference = difference_of p f }
+
+-- what is told after a message is passed over: the first one stays, and a message without transmission information adds none
+abbrev pub first_misfit : Settings → Option Misfit → Heard → Option Misfit
+first_misfit p (Some m) h = Some m
+first_misfit p None h = elim h.fti [ None ↦ None | Some f ↦ Some (misfit_of p h f) ]
+
+-- the same after any datagram, of which this says whether it is passed over
+abbrev pub misfit_then : Option Settings → Bool → Option Misfit → Option Heard → Option Misfit
+misfit_then None passed m h = m
+misfit_then (Some p) passed m None = m
+misfit_then (Some p) passed m (Some h) = if passed then first_misfit p m h else m

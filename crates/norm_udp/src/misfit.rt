@@ -1,7 +1,7 @@
 //! A sender whose profile is not this receiver's.
 
 ghost use Rattle.std.specs.Prelude.{◌≡◌};
-ghost use Rattle.norm_udp.specs.Misfits.{says_stream, has_sizes, fits};
+ghost use Rattle.norm_udp.specs.Misfits.{says_stream, has_sizes, fits, difference_of, misfit_of};
 
 use crate::heard::Heard;
 use norm_base::{InstanceId, NodeId, Profile};
@@ -27,7 +27,7 @@ pub enum Difference {
     Length { octets: u64, most: u32 },
 }
 
-/// A sender's instance of which a receiver takes nothing, and why. It is for people: no clause speaks of it.
+/// A sender's instance of which a receiver takes nothing, and why.
 #[derive(Clone, Copy, Debug)]
 pub struct Misfit {
     pub sender: NodeId,
@@ -86,7 +86,9 @@ pub(crate) fn fits(profile: &Profile, fti: &Fti, flags: u8) -> bool
 }
 
 /// In what transmission information that does not fit differs.
-fn difference_of(profile: &Profile, fti: &Fti) -> Difference {
+fn difference_of(profile: &Profile, fti: &Fti) -> Difference
+    ensures { result ≡ difference_of profile.now fti.now }
+{
     if has_sizes(profile, fti) {
         return Difference::Length {
             octets: fti.l,
@@ -108,7 +110,9 @@ fn difference_of(profile: &Profile, fti: &Fti) -> Difference {
 }
 
 /// What is said of a message whose transmission information does not fit.
-pub(crate) fn misfit_of(profile: &Profile, heard: &Heard, fti: &Fti) -> Misfit {
+pub(crate) fn misfit_of(profile: &Profile, heard: &Heard, fti: &Fti) -> Misfit
+    ensures { result ≡ misfit_of profile.now heard.now fti.now }
+{
     Misfit {
         sender: heard.sender,
         instance: heard.instance,

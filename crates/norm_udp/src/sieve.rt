@@ -1,8 +1,9 @@
 //! What a receiver's network passes over.
 
 ghost use Rattle.std.specs.Prelude.{◌≡◌, Some, None};
+ghost use Rattle.norm_base.specs.Faults.{one_more, counted};
 ghost use Rattle.norm_udp.specs.Hearing.{heard_in};
-ghost use Rattle.norm_udp.specs.Misfits.{compared, is_in, cut_by, cut_after, cut_then, is_cut_off};
+ghost use Rattle.norm_udp.specs.Misfits.{compared, is_in, cut_by, cut_after, cut_then, is_cut_off, first_misfit, misfit_then};
 
 use crate::heard::{Heard, heard_in};
 use crate::misfit::{Misfit, fits, misfit_of};
@@ -83,6 +84,8 @@ impl Sieve {
     pub(crate) fn of(profile: &Profile, local: &Local) -> Sieve
         ensures profile { result.profile ≡ compared profile.now local.now }
         ensures cut { result.cut ≡ None }
+        ensures count { result.count ≡ 0 }
+        ensures misfit { result.misfit ≡ None }
     {
         Sieve {
             profile: compared(profile, local),
@@ -93,7 +96,11 @@ impl Sieve {
     }
 
     /// One that lets everything through.
-    pub(crate) fn open() -> Sieve {
+    pub(crate) fn open() -> Sieve
+        ensures profile { result.profile ≡ None }
+        ensures count { result.count ≡ 0 }
+        ensures misfit { result.misfit ≡ None }
+    {
         Sieve {
             profile: None,
             cut: None,
@@ -106,6 +113,8 @@ impl Sieve {
     fn count(&mut self, profile: &Profile, heard: &Heard)
         ensures profile { self.new.profile ≡ self.old.profile }
         ensures cut { self.new.cut ≡ self.old.cut }
+        ensures count { self.new.count ≡ one_more self.old.count }
+        ensures misfit { self.new.misfit ≡ first_misfit profile.now self.old.misfit heard.now }
     {
         self.count = self.count.saturating_add(1);
         if self.misfit.is_none() {
@@ -120,6 +129,8 @@ impl Sieve {
         ensures profile { self.new.profile ≡ self.old.profile }
         ensures cut { self.new.cut ≡ cut_then (Some profile.now) self.old.cut (Some heard.now) }
         ensures exact { result ≡ is_cut_off (Some profile.now) self.new.cut (Some heard.now) }
+        ensures count { self.new.count ≡ counted self.old.count result }
+        ensures misfit { self.new.misfit ≡ misfit_then (Some profile.now) result self.old.misfit (Some heard.now) }
     {
         if heard.sender.number() != profile.sender {
             return false;
@@ -137,6 +148,8 @@ impl Sieve {
         ensures profile { self.new.profile ≡ self.old.profile }
         ensures cut { self.new.cut ≡ cut_then self.old.profile self.old.cut (heard_in bytes.now) }
         ensures exact { result ≡ is_cut_off self.new.profile self.new.cut (heard_in bytes.now) }
+        ensures count { self.new.count ≡ counted self.old.count result }
+        ensures misfit { self.new.misfit ≡ misfit_then self.old.profile result self.old.misfit (heard_in bytes.now) }
     {
         let Some(profile) = self.profile else {
             return false;
