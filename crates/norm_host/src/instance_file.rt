@@ -1,7 +1,8 @@
 //! The file that keeps the last instance of a sender, from send to send.
 
-ghost use Rattle.std.specs.Prelude.{◌≡◌, ◌≤◌, length, ℕ, Option, string_bytes, IfOk, IfSome};
+ghost use Rattle.std.specs.Prelude.{◌≡◌, ◌≤◌, ◌<◌, length, ℕ, List, Option, string_bytes, IfOk, IfSome};
 ghost use Rattle.std.specs.Option.{option_map};
+ghost use Rattle.norm_base.specs.Sizes.{id_count};
 ghost use Rattle.norm_host.specs.Instances.{is_absolute, below, state_folder, next_instance, passed_by, number_path};
 ghost use Rattle.norm_host.specs.Streams.{number_file};
 
@@ -73,7 +74,9 @@ fn variable<R: Env + AllocGlobal>(rt: &R, name: &str) -> Result<Option<String>, 
 /// # Errors
 ///
 /// `Memory` where memory runs out.
-pub fn state_folder<R: Env + AllocGlobal>(rt: &R) -> Result<Option<String>, Memory> {
+pub fn state_folder<R: Env + AllocGlobal>(rt: &R) -> Result<Option<String>, Memory>
+    ensures { IfOk result (λ folder. (state : Option (List ℕ)) × (home : Option (List ℕ)) × (option_map string_bytes folder ≡ state_folder state home)) }
+{
     let state = variable(rt, "XDG_STATE_HOME")?;
     let home = variable(rt, "HOME")?;
     Ok(folder_by(state, home)?)
@@ -177,7 +180,9 @@ impl<R: fs::Files<File = File> + Drop> InstanceFile<R> {
     }
 
     /// The number that the file holds; none if it is not there.
-    fn last(&self) -> io::Result<Option<InstanceId>> {
+    fn last(&self) -> io::Result<Option<InstanceId>>
+        ensures { IfOk result (λ last. IfSome last (λ n. n < id_count)) }
+    {
         let mut buf = [0u8; ROOM];
         let Some(n) = self.line(&mut buf)? else {
             return Ok(None);
@@ -206,7 +211,7 @@ impl<R: fs::Files<File = File> + Drop> InstanceFile<R> {
     ///
     /// The number could not be read or kept: the file holds another text (`InvalidData`), there was no memory, or the system says why.
     pub fn draw(&self, minute: InstanceId) -> io::Result<InstanceId>
-        ensures { IfOk result (λ instance. (last : Option ℕ) × (instance ≡ next_instance last minute)) }
+        ensures { IfOk result (λ instance. (last : Option ℕ) × (IfSome last (λ n. n < id_count)) × (instance ≡ next_instance last minute)) }
     {
         let _lock = self.locked()?;
         let last = self.last()?;
@@ -221,7 +226,7 @@ impl<R: fs::Files<File = File> + Drop> InstanceFile<R> {
     ///
     /// As [`draw`](InstanceFile::draw).
     pub fn keep(&self, instance: InstanceId) -> io::Result<Option<InstanceId>>
-        ensures { IfOk result (λ passed. (last : Option ℕ) × (passed ≡ passed_by last instance)) }
+        ensures { IfOk result (λ passed. (last : Option ℕ) × (IfSome last (λ n. n < id_count)) × (passed ≡ passed_by last instance)) }
     {
         let _lock = self.locked()?;
         match passed_by(self.last()?, instance) {
