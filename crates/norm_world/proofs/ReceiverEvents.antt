@@ -1,6 +1,6 @@
 -- Events of a world's receivers: what stands at a place, and what does where that one changes.
 use Rattle.std.proofs.Common.{◌≡◌, ℕ, ◌+◌, ◌<◌, ◌⊎◌, inl, inr, zero, suc, List, [], ◌∷◌, Bool, true, false, Option, None, Some, refl, sym, ap, ◌∙◌, subst, set, length, get_or, arith}
-use Rattle.std.specs.Prelude.{◌==◌, ◌&&◌, ◌||◌, slice_get, nat_lt, nat_le, IsSome, IfSome}
+use Rattle.std.specs.Prelude.{◌==◌, ◌&&◌, ◌||◌, slice_get, nat_lt, nat_le, IsSome, IfSome, MatchOption}
 use Rattle.std.proofs.lemmas.Bool.Decides.{Decides-eqb, Decides-ltb}
 use Rattle.std.proofs.lemmas.List.{set-get_or}
 use Rattle.std.proofs.lemmas.Option.{slice_get_read}
@@ -14,6 +14,7 @@ use Rattle.norm_send_rules.specs.SenderStep as sender
 use Rattle.norm_receive_rules.specs.Receiving.{received}
 use Rattle.norm_receive_rules.specs.Taking.{took}
 use Rattle.norm_receive_rules.specs.Ticking.{ticked}
+use Rattle.norm_receive_rules.specs.Wanting.{may_want}
 use Rattle.norm_base.specs.declared.kinds.Sent.{Sent as Said}
 use Rattle.norm_receiver.specs.ReceiverKept.{ReceiverKept}
 use Rattle.norm_receiver.specs.ReceiverSound.{StandsFor as ReceiverStands, IsTick}
@@ -25,7 +26,7 @@ use Rattle.norm_safety.specs.WorldLaws.{is_senders, to_receiver, comes_to}
 use Rattle.norm_safety.specs.WorldStep.{receiver_move, node_move, moved, world_step}
 use Rattle.norm_sender.specs.SenderKept.{SenderKept, Stands as SenderStands}
 use Rattle.norm_world.specs.WorldKept.{WorldKept, StandsFor, IsReceiver, node_at, place_of}
-use Rattle.norm_world.specs.WorldMoves.{IsEvent, IsNoEvent, IsSent, AreTaken, receiver_of}
+use Rattle.norm_world.specs.WorldMoves.{IsEvent, IsNoEvent, MayWant, IsSent, AreTaken, receiver_of}
 use Rattle.norm_world.proofs.WorldLemmas.{kept, is_event}
 
 -- ---- a receiver's node and its place
@@ -215,6 +216,14 @@ rests p s rs node k new place at same h w st =
         subst (λ (x : ReceiverKept). IsReceiver p x (receiver_at w (node_at p n))) own.1
         (put (receiver_at w (node_at p n)) (st.receivers n k (ap (slice_get rs) (own.0 ∙ at.is) ∙ at.there)))
     go n o (inr other) = st.receivers n o other.1
+
+-- the octets for which a node's receiver may want memory
+pub may_want_there : (p : Settings) (s : SenderKept) (rs : List ReceiverKept) (node : ℕ) (k : ReceiverKept) (bytes : List ℕ) (place : ℕ) → IsPlace p rs node place k
+    → ((r : ReceiverState) → ReceiverStands k r → may_want k.p r bytes ≡ true) → MayWant (kept p s rs) node bytes
+may_want_there p s rs node k bytes place at h w st =
+    let found = found_in p s rs k w node at.receiver at.there st in
+    subst (λ (o : Option ReceiverState). MatchOption o ⊥ (λ r. may_want p r bytes ≡ true)) (sym found.is)
+    (subst (λ (q : Settings). may_want q found.r bytes ≡ true) found.profile (h found.r found.stands))
 
 -- what holds of each state that a node's receiver stands for holds in each world
 pub of_node : (p : Settings) (s : SenderKept) (rs : List ReceiverKept) (node : ℕ) (k : ReceiverKept) (P : Option ℕ → Type 0) (place : ℕ)

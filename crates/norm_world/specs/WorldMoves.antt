@@ -1,5 +1,5 @@
 -- What a call of a world leaves and answers: it is an event of the rules.
-use Rattle.std.specs.Prelude.{◌≡◌, ◌≢◌, ℕ, List, [], ◌∷◌, ◌++◌, Option, None, Some, Ok, Err, slice_get, length, ⊤}
+use Rattle.std.specs.Prelude.{◌≡◌, ◌≢◌, ℕ, List, [], ◌∷◌, ◌++◌, true, Option, None, Some, MatchOption, Ok, Err, slice_get, length, ⊤}
 use Rattle.std.specs.Option.{option_map}
 use Rattle.norm_base.specs.Datagrams.{datagram_of}
 use Rattle.norm_base.specs.declared.kinds.Sent.{Sent as Said}
@@ -7,10 +7,11 @@ use Rattle.norm_base.specs.declared.node.Origin.{Origin}
 use Rattle.norm_ext.specs.Written.{Written}
 use Rattle.norm_base.specs.Settings.{Settings}
 use Rattle.norm_receive_rules.specs.ReceiverState.{receiver_opening}
+use Rattle.norm_receive_rules.specs.Wanting.{may_want}
 use Rattle.norm_receiver.specs.ReceiverKept.{ReceiverKept}
 use Rattle.norm_receiver.specs.ReceiverSound.{StandsFor as ReceiverStands}
 use Rattle.norm_safety.specs.Events.{Event, Answer, Sent, Commanded, Gave}
-use Rattle.norm_safety.specs.World.{World}
+use Rattle.norm_safety.specs.World.{World, receiver_at}
 use Rattle.norm_safety.specs.WorldStep.{world_step, run}
 use Rattle.norm_send_rules.specs.declared.fault.SendFault.{SendFault}
 use Rattle.norm_send_rules.specs.declared.fault.SendFault.TheVariants.{Memory}
@@ -50,6 +51,10 @@ IsLeft old new = (w : World) (name octets : List ℕ) (len : ℕ) → HasBegun o
 -- nothing happened: what was stood for is
 abbrev pub IsNoEvent : WorldKept → WorldKept → Type 0
 IsNoEvent old new = (w : World) → StandsFor old w → StandsFor new w
+
+-- a node is a receiver of each world of the rules that is stood for, and may want memory for these octets
+abbrev pub MayWant : WorldKept → ℕ → List ℕ → Type 0
+MayWant k node bytes = (w : World) → StandsFor k w → MatchOption (receiver_at w node) ⊥ (λ r. may_want k.p r bytes ≡ true)
 
 -- A tick's answer fits: it is a datagram of these octets where one was written, and none where none was.
 pub record IsSent (said : Said) (out : List ℕ) (answer : Answer) : Type 0 where

@@ -11,7 +11,7 @@ ghost use Rattle.norm_safety.specs.World.{World as Rules, world_opening};
 ghost use Rattle.norm_send_rules.specs.declared.fault.SendFault.TheVariants as send;
 ghost use Rattle.norm_sender.specs.Commands.{answer_of, GivesBack};
 ghost use Rattle.norm_world.specs.WorldKept.{StandsFor, IsReady, IsBegun, IsFilling, IsMissing, IsFilled, HasBegun, place_of};
-ghost use Rattle.norm_world.specs.WorldMoves.{IsEvent, IsNoEvent, IsRefused, IsEnded, IsLeft, IsSent, AreTaken, receiver_of, AreBegun};
+ghost use Rattle.norm_world.specs.WorldMoves.{IsEvent, IsNoEvent, MayWant, IsRefused, IsEnded, IsLeft, IsSent, AreTaken, receiver_of, AreBegun};
 
 use norm_base::{Datagram, InstanceId, Memory, Moment, NodeId, Octets, Origin, Profile, Sent};
 use norm_order::Up;
@@ -206,7 +206,8 @@ impl World {
     ///
     /// # Errors
     ///
-    /// `Memory` where memory runs out, or a receiver heard more of others than it keeps; all is then as if it had been lost.
+    /// `Memory` if memory runs out; all is then as if it had been lost. It comes only of datagrams for which a receiver may want memory
+    /// ([`Receiver::deliver`]), and never of the sender's.
     pub fn deliver(
         &mut self,
         to: NodeId,
@@ -220,6 +221,7 @@ impl World {
         ensures ready { IsReady self.new }
         ensures event { IfOk result (λ _. IsEvent self.old self.new (Delivered to bytes.now now draw) (λ answer. answer ≡ Silent)) }
         ensures refused { OnErr result (IsNoEvent self.old self.new) }
+        ensures wanted { OnErr result (MayWant self.old to bytes.now) }
     {
         if !self.profile.is_receiver(to) {
             self.sender.deliver(bytes, now);

@@ -3,10 +3,10 @@ use Rattle.norm_base.specs.Members.{is_receiver, is_node}
 use Rattle.norm_base.specs.Settings.{Settings}
 use Rattle.norm_safety.specs.Events.{Delivered, Silent}
 use Rattle.norm_world.specs.WorldKept.{WorldKept}
-use Rattle.norm_world.specs.WorldMoves.{IsEvent, IsNoEvent}
+use Rattle.norm_world.specs.WorldMoves.{IsEvent, IsNoEvent, MayWant}
 use Rattle.norm_world.proofs.WorldLemmas.{kept, turned, on_err}
 use Rattle.norm_world.proofs.SenderEvents.{hears}
-use Rattle.norm_world.proofs.ReceiverEvents.{is_place, is_sender, rests}
+use Rattle.norm_world.proofs.ReceiverEvents.{is_place, is_sender, rests, may_want_there}
 use Rattle.norm_world.proofs.ReceiverEvents as receivers
 use Rattle.norm_world.proofs.world.World.deliver.Goals as goal
 
@@ -30,6 +30,17 @@ returns-in_err-deliver-clause-refused c =
     (is_place i.profile i.receivers.items c.args.to c.place-place.result c.index_mut.result.now yes
     c.place-place.ensures.place c.place-place.ensures.there c.self.invariant c.index_mut.ensures.value)
     c.in_err-deliver.ensures.profile c.in_err-deliver.ensures.refused))
+
+pub returns-in_err-deliver-clause-wanted : goal.returns-in_err-deliver-clause-wanted
+returns-in_err-deliver-clause-wanted c =
+    let i = c.self.inside in
+    let yes : is_receiver i.profile c.args.to ≡ true = search rules in
+    on_err c.from_residual.result
+    (subst (λ (v : WorldKept). MayWant v c.args.to c.args.bytes.now) c.self.view_is
+    (may_want_there i.profile i.sender i.receivers.items c.args.to c.index_mut.result.now c.args.bytes.now c.place-place.result
+    (is_place i.profile i.receivers.items c.args.to c.place-place.result c.index_mut.result.now yes
+    c.place-place.ensures.place c.place-place.ensures.there c.self.invariant c.index_mut.ensures.value)
+    c.in_err-deliver.ensures.wanted))
 
 pub returns-clause-event : goal.returns-clause-event
 returns-clause-event c =
