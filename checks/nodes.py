@@ -91,7 +91,8 @@ def at_end(run, node, sender):
         s = run['after']['sender']
         return 'sender %d %d' % (s['instance'], sum(q['outcome'] == 'open' for q in s['requests']))
     r = run['after']['receivers'][str(node)]
-    return 'receiver %s %d %s' % ('-' if r['instance'] is None else r['instance'], r['untaken'], 'yes' if r['lost'] else 'no')
+    due = '-' if r['due_ack'] is None else '%d %d %d' % tuple(r['due_ack'])
+    return 'receiver %s %d %s %s' % ('-' if r['instance'] is None else r['instance'], r['untaken'], 'yes' if r['lost'] else 'no', due)
 
 
 def answers(a, lines):

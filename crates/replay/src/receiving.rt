@@ -57,12 +57,28 @@ fn take(alloc: Global, receiver: &mut Receiver) -> Result<Option<Line>, Fault> {
     }
 }
 
+/// The position of the acknowledgement that is due, or a dash.
+fn due(line: &mut Line, receiver: &Receiver) -> Result<(), Fault> {
+    match receiver.due() {
+        Some(at) => {
+            line.numbers(&[
+                u64::from(at.index),
+                u64::from(at.block),
+                u64::from(at.symbol),
+            ])?;
+        }
+        None => line.word(b"-")?,
+    }
+    Ok(())
+}
+
 /// What the receiver tells of itself.
 fn tell(alloc: Global, receiver: &Receiver) -> Result<Option<Line>, Fault> {
     let mut line = counted(alloc, "receiver", &[])?;
     instance(&mut line, receiver.instance())?;
     line.number(receiver.ups() as u64)?;
     decided(&mut line, receiver.has_lost())?;
+    due(&mut line, receiver)?;
     Ok(Some(line))
 }
 
