@@ -1,6 +1,6 @@
 //! Producers in threads of their own: each submits the places of its lines to a ring, from which the one thread pulls that runs the session.
 
-ghost use Rattle.std.specs.Prelude.{◌≡◌, ◌≤◌, All, IfErr, IfOk, length};
+ghost use Rattle.std.specs.Prelude.{◌≡◌, ◌≤◌, All, IfErr, IfOk, length, max};
 ghost use Rattle.norm_session.specs.Causes.{HasCause, counted};
 ghost use Rattle.norm_script.specs.Scripts.{IsScript};
 ghost use Rattle.norm_session.specs.Session.{RunsKept, StopsScript};
@@ -146,6 +146,7 @@ fn ring_for(alloc: Global, script: &Script) -> Result<(Gate, Vec<Seat>, PullSeat
     requires { IsScript script.now }
     ensures seats { IfOk result (λ made. All (λ s. s.gate ≡ made.0.id) made.1.items) }
     ensures pull { IfOk result (λ made. made.2.gate ≡ made.0.id) }
+    ensures capacity { IfOk result (λ made. made.0.capacity ≡ max (length script.now.lines) 1) }
 {
     let places = script.lines.len().max(1) as u32;
     Gate::new(alloc, u32::from(script.profile.producers), places)
