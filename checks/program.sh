@@ -256,6 +256,8 @@ said 'three files in a ring'
 
 # Sessions that come to no summary, or to one that is not whole.
 fails 8 '' "${set}set window 1\nset turns 50\n1 data 01\n1 data 02\n" 'enq 1 1 7 0 data 1\nup 2 7 0 data 1 - 01\nend objects 1 octets 1 handed 1 lost 0 satisfied 0 expired 0 cut 0\nturns spent\n'
+# More turns than the default of `turns`: the second object goes a million turns after the first, and the third would as many after that.
+fails 8 '' 'set step 1\nset gap 1000000\nset turns 1200000\n1 data 61\n1 data 62\n1 data 63\n' 'enq 1 1 1 0 data 1\nup 2 1 0 data 1 - 61\nenq 1 2 1 1 data 1\nenq 1 3 1 2 data 1\nup 2 1 1 data 1 - 62\nend objects 3 octets 3 handed 2 lost 0 satisfied 0 expired 0 cut 0\nturns spent\n'
 fails 7 '' '1 file none.txt\n' 'absent none.txt\n'
 fails 7 '' "${set}1 data 01\n1 file none.txt\n1 data 02\n" 'enq 1 1 7 0 data 1\nup 2 7 0 data 1 - 01\nabsent none.txt\n'
 fails 7 'cannot use the file ./folder: is a directory\n' '1 file folder\n' 'fault files\n'
