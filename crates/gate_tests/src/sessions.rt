@@ -3,17 +3,17 @@ ghost use Rattle.std.specs.Prelude.{◌≡◌, IfOk, IfSome};
 ghost use Rattle.norm_script.specs.Scripts.{IsScript};
 
 use mark_book::Outcome;
-use norm_base::Memory;
-use norm_memory::{DirectFabric, MemClock, MemFiles, MemSink};
+use norm_base::{Failed, Memory, Sink};
+use norm_memory::{DirectFabric, MemClock, MemFiles};
 use norm_script::{Script, read};
 use norm_session::{SessionFault, run_session};
 use producer_gate::{Board, Seen, Through, Turnstile};
 use std::alloc::Global;
 use std::sync::Wait;
 use std::sync::atomic::{AtomicU64, Ordering};
-use std::test::Fail;
 use std::thread;
 use std::thread::Threads;
+use std::time::{Clock, Duration};
 
 /// The script that a text is, if it can be run.
 fn script_of(alloc: Global, text: &[u8]) -> Result<Option<Script>, Memory>
@@ -26,18 +26,51 @@ fn script_of(alloc: Global, text: &[u8]) -> Result<Option<Script>, Memory>
     }
 }
 
+/// A sink that keeps nothing of what is written. At its first write it looks at a flag.
+#[derive(Drop)]
+struct Looking<'a> {
+    flag: &'a AtomicU64,
+    /// The flag as it was at the first write, if there was one.
+    found: Option<u64>,
+}
+
+impl<'a> Looking<'a> {
+    fn at(flag: &'a AtomicU64) -> Looking<'a> {
+        Looking { flag, found: None }
+    }
+}
+
+impl Sink for Looking<'_> {
+    ghost use Rattle.std.specs.Prelude.{None};
+
+    ghost pieces = { λ _. None };
+
+    ghost fault_count = { λ _. 0 };
+
+    fn write(&mut self, bytes: &[u8]) -> Result<(), Failed> {
+        if self.found.is_none() && !bytes.is_empty() {
+            self.found = Some(self.flag.load(Ordering::SeqCst));
+        }
+        Ok(())
+    }
+
+    fn faults(&self) -> u64 {
+        0
+    }
+}
+
 /// Whether the session of a script is done, in memory, with its producers at this turnstile.
-fn ran<R: Threads + Wait + Sync, G: Turnstile + Sync>(
+fn ran<R: Threads + Wait + Sync, G: Turnstile + Sync, K: Sink>(
     rt: &R,
     alloc: Global,
     script: &Script,
     gate: &G,
     board: &mut Board,
+    output: &mut K,
 ) -> Result<bool, SessionFault>
     requires { IsScript script.now }
     ensures { board.new.id ≡ board.old.id }
 {
-    let mut output = MemSink::of(Vec::new(alloc), Vec::new(alloc));
     let mut fabric = DirectFabric::new(alloc)?;
     let mut files = MemFiles::of(Vec::new(alloc), Vec::new(alloc));
     let mut clock = MemClock::of(Vec::new(alloc));
@@ -47,7 +80,7 @@ fn ran<R: Threads + Wait + Sync, G: Turnstile + Sync>(
         script,
         gate,
         board,
-        &mut output,
+        output,
         &mut fabric,
         &mut files,
         &mut clock,
@@ -55,11 +88,14 @@ fn ran<R: Threads + Wait + Sync, G: Turnstile + Sync>(
     Ok(ended.whole)
 }
 
-/// What a reader finds of marks 1 and 2 once it was told of all that a session published.
-fn looks_after<R: Threads + Wait + Sync>(
+/// What a reader finds of marks 1 and 2 once it was told of all that the session of a text published, with its producers at this turnstile. `None`
+/// if the session was not done.
+fn looks_after<R: Threads + Wait + Sync, G: Turnstile + Sync, K: Sink>(
     rt: &R,
     alloc: Global,
     text: &[u8],
+    gate: &G,
+    output: &mut K,
 ) -> Result<Option<[Seen; 2]>, SessionFault> {
     let Some(script) = script_of(alloc, text)? else {
         return Ok(None);
@@ -68,53 +104,52 @@ fn looks_after<R: Threads + Wait + Sync>(
     let Some(mut reader) = readers.pop() else {
         return Ok(None);
     };
-    if !ran(rt, alloc, &script, &Through, &mut board)? {
+    if !ran(rt, alloc, &script, gate, &mut board, output)? {
         return Ok(None);
     }
     reader.learn(board.front());
     Ok(Some([reader.outcome(1), reader.outcome(2)]))
 }
 
-#[test]
-fn a_reader_finds_what_became_of_a_sessions_mark(rt: HostRuntime) -> Result<(), Fail> {
-    let text = b"set instance 7\nset e 64\n1 data 68656c6c6f\n1 mark\n";
-    let Ok(looks) = looks_after(&rt, rt.alloc(), text.as_slice()) else {
-        return Err("a fault")?;
-    };
-    assert!(rt; looks == Some([Seen::Known(Outcome::Satisfied), Seen::Unknown]));
-    Ok(())
+/// The same, with producers that nobody holds up.
+fn looks_through<R: Threads + Wait + Sync>(
+    rt: &R,
+    alloc: Global,
+    text: &[u8],
+) -> Result<Option<[Seen; 2]>, SessionFault> {
+    let flag = AtomicU64::new(0);
+    let mut output = Looking::at(&flag);
+    looks_after(rt, alloc, text, &Through, &mut output)
 }
 
-/// A producer looks for the other so often.
-const LOOKS: u32 = 10_000_000;
+#[test]
+fn a_reader_finds_what_became_of_a_sessions_mark(rt: HostRuntime) {
+    let text = b"set instance 7\nset e 64\n1 data 68656c6c6f\n1 mark\n";
+    let looks = looks_through(&rt, rt.alloc(), text.as_slice()).unwrap_or(None);
+    assert!(rt; looks == Some([Seen::Known(Outcome::Satisfied), Seen::Unknown]));
+}
 
-/// Where two producers meet before their first commands: each shows that it is there, and waits for the other.
+/// Where producers meet before their first commands: each shows that it is there, and waits for the others.
 #[derive(Drop)]
 struct Meeting {
-    there: [AtomicU64; 2],
+    /// A bit for each producer that is awaited.
+    all: u64,
+    there: AtomicU64,
     met: AtomicU64,
 }
 
-impl Meeting {
-    /// The flag of a producer.
-    fn flag(&self, producer: u32) -> &AtomicU64 {
-        if producer == 1 {
-            &self.there[0]
-        } else {
-            &self.there[1]
-        }
-    }
-}
+/// A producer looks for the others so often.
+const LOOKS: u32 = 10_000_000;
 
 impl Turnstile for Meeting {
     fn pass(&self, producer: u32, number: u64) {
         if number != 1 {
             return;
         }
-        self.flag(producer).store(1, Ordering::SeqCst);
-        let other = self.flag(if producer == 1 { 2 } else { 1 });
+        self.there
+            .fetch_or(1u64 << (producer % 64), Ordering::SeqCst);
         for _ in 0..LOOKS {
-            if other.load(Ordering::SeqCst) == 1 {
+            if self.there.load(Ordering::SeqCst) == self.all {
                 self.met.fetch_add(1, Ordering::SeqCst);
                 return;
             }
@@ -123,31 +158,79 @@ impl Turnstile for Meeting {
     }
 }
 
-/// How many producers found the other one, where a session was done.
+/// How many producers found all the others, if the session was done.
 fn meetings<R: Threads + Wait + Sync>(
     rt: &R,
     alloc: Global,
     text: &[u8],
+    all: u64,
 ) -> Result<u64, SessionFault> {
-    let Some(script) = script_of(alloc, text)? else {
-        return Ok(0);
-    };
-    let (mut board, _readers) = Board::new(alloc, 1)?;
     let meeting = Meeting {
-        there: [AtomicU64::new(0), AtomicU64::new(0)],
+        all,
+        there: AtomicU64::new(0),
         met: AtomicU64::new(0),
     };
-    let whole = ran(rt, alloc, &script, &meeting, &mut board)?;
+    let mut output = Looking::at(&meeting.met);
+    let looks = looks_after(rt, alloc, text, &meeting, &mut output)?;
     let met = meeting.met.load(Ordering::SeqCst);
-    Ok(if whole { met } else { 0 })
+    Ok(if looks.is_some() { met } else { 0 })
+}
+
+/// Scripts, the bits of their producers, and how many these are.
+const MEETINGS: [(&[u8], u64, u64); 2] = [
+    (
+        b"set instance 7\nset e 64\nset producers 2\n1 data 01\n2 data 02\n",
+        0b110,
+        2,
+    ),
+    (
+        b"set producers 4\n1 data 01\n2 data 02\n3 data 03\n4 data 04\n",
+        0b11110,
+        4,
+    ),
+];
+
+#[test]
+fn producers_run_at_once(rt: HostRuntime) {
+    for (text, all, producers) in MEETINGS {
+        let met = meetings(&rt, rt.alloc(), text, all).unwrap_or(0);
+        assert!(rt; met == producers, "{producers} producers");
+    }
+}
+
+/// Holds the first producer up for a moment before its first command, and then sets a flag.
+#[derive(Drop)]
+struct Slow<'a, R: Clock> {
+    clock: &'a R,
+    passed: AtomicU64,
+}
+
+impl<R: Clock> Turnstile for Slow<'_, R> {
+    fn pass(&self, producer: u32, number: u64) {
+        if producer == 1 && number == 1 {
+            thread::sleep(self.clock, Duration::from_millis(50));
+            self.passed.store(1, Ordering::SeqCst);
+        }
+    }
+}
+
+/// The flag of a producer that is held up, as the first line of its session is written.
+fn found_at_first<R: Threads + Wait + Clock + Sync>(
+    rt: &R,
+    alloc: Global,
+    text: &[u8],
+) -> Result<Option<u64>, SessionFault> {
+    let gate = Slow {
+        clock: rt,
+        passed: AtomicU64::new(0),
+    };
+    let mut output = Looking::at(&gate.passed);
+    let looks = looks_after(rt, alloc, text, &gate, &mut output)?;
+    Ok(if looks.is_some() { output.found } else { None })
 }
 
 #[test]
-fn two_producers_run_at_once(rt: HostRuntime) -> Result<(), Fail> {
-    let text = b"set instance 7\nset e 64\nset producers 2\n1 data 01\n2 data 02\n";
-    let Ok(met) = meetings(&rt, rt.alloc(), text.as_slice()) else {
-        return Err("a fault")?;
-    };
-    assert!(rt; met == 2);
-    Ok(())
+fn a_command_comes_after_its_producer_passed(rt: HostRuntime) {
+    let found = found_at_first(&rt, rt.alloc(), b"1 data 01\n1 data 02\n").unwrap_or(None);
+    assert!(rt; found == Some(1));
 }
