@@ -3,6 +3,7 @@
 use std::io;
 use std::net::{Ipv4Addr, Net, SocketAddr, SocketAddrV4, UdpSocket};
 use std::sync::Wait;
+use std::thread::Threads;
 use std::time::{Clock, Duration};
 
 /// What is wrong with each socket for datagrams.
@@ -49,6 +50,8 @@ impl<R: Net> Net for Broken<R> {
 
 impl<R: Wait> Wait for Broken<R> {}
 
+impl<R: Threads> Threads for Broken<R> {}
+
 impl<R: Clock> Clock for Broken<R> {
     fn monotonic(&self) -> io::Result<Duration> {
         self.rt.monotonic()
@@ -56,5 +59,9 @@ impl<R: Clock> Clock for Broken<R> {
 
     fn since_1970(&self) -> io::Result<Duration> {
         self.rt.since_1970()
+    }
+
+    fn sleep(&self, duration: Duration) {
+        self.rt.sleep(duration)
     }
 }

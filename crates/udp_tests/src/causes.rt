@@ -6,7 +6,7 @@ use crate::{hosted, sockets};
 use norm_base::Fabric;
 use norm_host::HostFabric;
 use norm_udp::{SocketCause, UdpFabric};
-use std::alloc::Global;
+use std::alloc::{AllocError, Global};
 use std::net::Net;
 use std::process;
 use std::sync::Wait;
@@ -14,19 +14,30 @@ use std::test::Fail;
 use std::time::Clock;
 
 /// A network that says what its last failed call was about.
-trait Says: Fabric {
+pub(crate) trait Says: Fabric {
     fn last_cause(&self) -> Option<&SocketCause>;
+
+    /// What a thread that sends failed at, if no call told it, once all was sent.
+    fn left(&self) -> Option<SocketCause>;
 }
 
 impl<R: Net + Wait + Clock + Drop> Says for UdpFabric<R> {
     fn last_cause(&self) -> Option<&SocketCause> {
         self.cause()
     }
+
+    fn left(&self) -> Option<SocketCause> {
+        self.drain()
+    }
 }
 
 impl<R: Net + Wait + Clock + Drop> Says for HostFabric<R> {
     fn last_cause(&self) -> Option<&SocketCause> {
         self.cause()
+    }
+
+    fn left(&self) -> Option<SocketCause> {
+        self.drain()
     }
 }
 
@@ -44,7 +55,7 @@ const ELSEWHERE: &str = "Cannot assign requested address (os error 99)";
 const INVALID: &str = "Invalid argument (os error 22)";
 
 /// Those for a call that a socket does not know (EOPNOTSUPP).
-const UNKNOWN: &str = "Operation not supported (os error 95)";
+pub(crate) const UNKNOWN: &str = "Operation not supported (os error 95)";
 
 /// Where other networks have all ports. The profile's members are 1, 2 and 3.
 const TAKEN: [Row; 4] = [
@@ -70,6 +81,16 @@ const UNSENT: [Row; 2] = [
     (Step::Take, "cannot receive at", 2, INVALID),
 ];
 
+/// What is said of a call: what stands before the address, the address's port, and why.
+pub(crate) fn sentence(
+    alloc: Global,
+    what: &str,
+    port: u16,
+    why: &str,
+) -> Result<String, AllocError> {
+    format!(in alloc; "{what} 127.0.0.1:{port}: {why}")
+}
+
 /// Fails, with what is said, where that is not the sentence of the row.
 fn compare_said(
     alloc: Global,
@@ -81,8 +102,7 @@ fn compare_said(
         return Err(Fail::new("no cause"));
     };
     let (_, what, place, why) = row;
-    let at = port.wrapping_add(place);
-    let wanted = format!(in alloc; "{what} 127.0.0.1:{at}: {why}")?;
+    let wanted = sentence(alloc, what, port.wrapping_add(place), why)?;
     let said = format!(in alloc; "{cause}")?;
     if said.as_str() == wanted.as_str() {
         return Ok(());

@@ -9,6 +9,8 @@ mod calls;
 #[cfg(test)]
 mod causes;
 #[cfg(test)]
+mod failures;
+#[cfg(test)]
 mod hosted;
 #[cfg(test)]
 mod passed_over;

@@ -1,0 +1,172 @@
+//! What a thread failed at that sends for a node: the next call of the network fails with its cause, and `drain` returns a cause that no call
+//! reported.
+
+use crate::broken::{Broken, Wrong};
+use crate::calls::{port_of, profile_of};
+use crate::causes::{Says, UNKNOWN, sentence};
+use norm_base::{Datagram, Fabric, FabricKind, Local, NodeId};
+use norm_host::HostFabric;
+use norm_udp::{Senders, SocketCause, UdpFabric};
+use std::alloc::{AllocError, Global};
+use std::net::Net;
+use std::sync::Wait;
+use std::test::Fail;
+use std::thread::Threads;
+use std::time::{Clock, Duration};
+use std::{process, thread};
+
+/// How a network is asked what a thread failed at.
+#[derive(Clone, Copy)]
+enum Ask {
+    Offer,
+    Take,
+    Drain,
+}
+
+const ASKS: [(&str, Ask); 3] = [
+    ("offer", Ask::Offer),
+    ("take", Ask::Take),
+    ("drain", Ask::Drain),
+];
+
+/// How often it is asked at most, a millisecond apart. The thread has failed long before.
+const PATIENCE: u32 = 2_000;
+
+/// The node of the sender, for which a thread sends.
+const SENDER: u32 = 1;
+
+/// Asks once. Returns what `drain` does.
+fn ask_once<F: Says>(
+    fabric: &mut F,
+    node: NodeId,
+    into: &mut Datagram,
+    how: Ask,
+) -> Option<SocketCause> {
+    match how {
+        Ask::Offer => {
+            let _ = fabric.offer(node, b"later");
+            None
+        }
+        Ask::Take => {
+            let _ = fabric.take(into);
+            None
+        }
+        Ask::Drain => fabric.left(),
+    }
+}
+
+/// Prints a cause, if there is one.
+fn said_by(alloc: Global, cause: Option<&SocketCause>) -> Result<String, AllocError> {
+    match cause {
+        Some(cause) => format!(in alloc; "{cause}"),
+        None => Ok(String::new(alloc)),
+    }
+}
+
+/// Asks until the network says what is wanted.
+fn compare_told<F: Says, C: Clock>(
+    alloc: Global,
+    clock: &C,
+    fabric: &mut F,
+    node: NodeId,
+    row: (&'static str, Ask),
+    wanted: &str,
+) -> Result<(), Fail> {
+    let (name, how) = row;
+    let mut into = Datagram::new(alloc)?;
+    let mut left = None;
+    for _ in 0..PATIENCE {
+        let said = said_by(alloc, fabric.last_cause().or(left.as_ref()))?;
+        if said.as_str() == wanted {
+            return Ok(());
+        }
+        left = ask_once(fabric, node, &mut into, how);
+        thread::sleep(clock, Duration::from_millis(1));
+    }
+    Err(Fail::new(name))
+}
+
+/// Compares the cause that the network of a sender alone reports of a datagram that its thread cannot send. On a machine with too few processors no
+/// thread sends, and the offer itself fails with that cause.
+fn compare_sender<F: Says, C: Clock>(
+    alloc: Global,
+    clock: &C,
+    fabric: &mut F,
+    port: u16,
+    row: (&'static str, Ask),
+) -> Result<(), Fail> {
+    let profile = profile_of(port, FabricKind::Udp, 2);
+    let (Some(profile), Some(node)) = (profile, NodeId::of(SENDER)) else {
+        return Err(Fail::new("no profile"));
+    };
+    let wanted = sentence(alloc, "cannot send to", port, UNKNOWN)?;
+    fabric.start(&profile, Local::One(node))?;
+    let _ = fabric.offer(node, b"lost");
+    compare_told(alloc, clock, fabric, node, row, wanted.as_str())
+}
+
+/// A network of sockets with threads that send.
+fn sockets<R: Net + Threads + Wait + Clock + Copy + Send + Drop + 'static>(
+    alloc: Global,
+    rt: R,
+) -> Result<UdpFabric<R>, Fail> {
+    let mut fabric = UdpFabric::new(alloc, rt)?;
+    fabric.send_by(Senders::start(alloc, rt)?);
+    Ok(fabric)
+}
+
+/// The network that a profile names, with threads that send.
+fn hosted<R: Net + Threads + Wait + Clock + Copy + Send + Drop + 'static>(
+    alloc: Global,
+    rt: R,
+) -> Result<HostFabric<R>, Fail> {
+    let mut fabric = HostFabric::new(alloc, rt)?;
+    fabric.start_threads(alloc, rt)?;
+    Ok(fabric)
+}
+
+/// Compares what networks of sockets report, asked in each way.
+fn compare_sockets<R: Net + Threads + Wait + Clock + Copy + Send + Drop + 'static>(
+    alloc: Global,
+    rt: R,
+    port: u16,
+) -> Result<(), Fail> {
+    for row in ASKS {
+        let mut fabric = sockets(alloc, rt)?;
+        compare_sender(alloc, &rt, &mut fabric, port, row)?;
+    }
+    Ok(())
+}
+
+/// Compares what the networks of profiles report, asked in each way.
+fn compare_hosted<R: Net + Threads + Wait + Clock + Copy + Send + Drop + 'static>(
+    alloc: Global,
+    rt: R,
+    port: u16,
+) -> Result<(), Fail> {
+    for row in ASKS {
+        let mut fabric = hosted(alloc, rt)?;
+        compare_sender(alloc, &rt, &mut fabric, port, row)?;
+    }
+    Ok(())
+}
+
+#[test]
+fn what_a_thread_failed_at(rt: HostRuntime) -> Result<(), Fail> {
+    let port = port_of(process::id(rt.process()), 13);
+    let broken = Broken {
+        rt,
+        wrong: Wrong::Kind,
+    };
+    compare_sockets(rt.alloc(), broken, port)
+}
+
+#[test]
+fn what_a_thread_failed_at_by_a_profile(rt: HostRuntime) -> Result<(), Fail> {
+    let port = port_of(process::id(rt.process()), 14);
+    let broken = Broken {
+        rt,
+        wrong: Wrong::Kind,
+    };
+    compare_hosted(rt.alloc(), broken, port)
+}
