@@ -5,7 +5,7 @@ use Rattle.std.specs.List.{AllByRecursion}
 use Rattle.std.proofs.lemmas.Option.{none-some, same_Some}
 use Rattle.norm_base.specs.Octets.{AreOctets}
 use Rattle.norm_base.specs.declared.node.Origin.{Origin}
-use Rattle.norm_script.specs.Scripts.{IsLine, IsVerb}
+use Rattle.norm_script.specs.Scripts.{CanOffer, CanSubmit}
 use Rattle.norm_script.specs.declared.script.Line.{Line}
 use Rattle.norm_script.specs.declared.script.Verb.{Verb}
 use Rattle.norm_script.specs.declared.script.Verb.TheVariants as verb
@@ -26,25 +26,25 @@ zeros_are_octets (suc n) zero = omega arith
 zeros_are_octets (suc n) (suc i) = zeros_are_octets n i
 
 -- the job of a command of a script
-command_job : (files : Files) (v : Verb) (by : Origin) (given : Job) (gave : Result Receipt SendFault) → IsVerb v → IsJobOf files v given
+command_job : (files : Files) (v : Verb) (by : Origin) (given : Job) (gave : Result Receipt SendFault) → CanOffer v → IsJobOf files v given
     → HasOctets (event.Job by (Some given) gave) → IsJob given
-command_job files (verb.Data None octets) by (job.Data other bytes) gave is its has = subst AreOctets its.1 is.octets
-command_job files (verb.Data (Some info) octets) by (job.Data other bytes) gave is its has = subst AreOctets its.1 is.object.octets
+command_job files (verb.Data None octets) by (job.Data other bytes) gave is its has = subst AreOctets its.1 is
+command_job files (verb.Data (Some info) octets) by (job.Data other bytes) gave is its has = subst AreOctets its.1 is.0
 command_job files (verb.File name) by (job.File other octets) gave is its has = has
 command_job files verb.Open by job.Open gave is its has = tt
-command_job files (verb.Write octets) by (job.Write bytes) gave is its has = subst AreOctets its is.octets
+command_job files (verb.Write octets) by (job.Write bytes) gave is its has = subst AreOctets its is
 command_job files verb.Close by job.Close gave is its has = tt
 command_job files (verb.Mark quorum) by (job.Mark other) gave is its has = tt
 command_job files (verb.Restart instance) by (job.Restart other) gave is its has = omega (arith, is, its)
 command_job files (verb.Strike node) by (job.Strike other) gave is its has = tt
 command_job files _ by _ gave is its has = absurd its
 
-known_job : (v : Verb) (given : Job) → IsVerb v → job_of v ≡ Some given → IsJob given
-known_job (verb.Data None octets) given is its = subst IsJob (same_Some (job.Data None octets) given its) is.octets
-known_job (verb.Data (Some info) octets) given is its = subst IsJob (same_Some (job.Data (Some info) octets) given its) is.object.octets
+known_job : (v : Verb) (given : Job) → CanOffer v → job_of v ≡ Some given → IsJob given
+known_job (verb.Data None octets) given is its = subst IsJob (same_Some (job.Data None octets) given its) is
+known_job (verb.Data (Some info) octets) given is its = subst IsJob (same_Some (job.Data (Some info) octets) given its) is.0
 known_job (verb.File name) given is its = absurd (none-some given its)
 known_job verb.Open given is its = subst IsJob (same_Some job.Open given its) tt
-known_job (verb.Write octets) given is its = subst IsJob (same_Some (job.Write octets) given its) is.octets
+known_job (verb.Write octets) given is its = subst IsJob (same_Some (job.Write octets) given its) is
 known_job verb.Close given is its = subst IsJob (same_Some job.Close given its) tt
 known_job (verb.Mark quorum) given is its = subst IsJob (same_Some (job.Mark quorum) given its) tt
 known_job (verb.Restart instance) given is its =
@@ -53,7 +53,7 @@ known_job (verb.Strike node) given is its = subst IsJob (same_Some (job.Strike n
 
 -- a line of a script
 abbrev IsOfScript : Line → Type 0
-IsOfScript line = IsVerb line.verb
+IsOfScript line = CanOffer line.verb
 
 makes_events : Makes IsOfScript HasOctets IsEvent
 makes_events = record {
@@ -67,7 +67,7 @@ makes_events = record {
   news = tt;
 }
 
-script_lines : (producers : ℕ) (lines : List Line) → AllByRecursion (IsLine producers) lines → AllByRecursion IsOfScript lines
+script_lines : (producers : ℕ) (lines : List Line) → AllByRecursion (CanSubmit producers) lines → AllByRecursion IsOfScript lines
 script_lines producers [] all = tt
 script_lines producers (line ∷ lines) all = (all.0.verb, script_lines producers lines all.1)
 

@@ -6,7 +6,7 @@ use Rattle.norm_base.specs.Settings.{Settings}
 use Rattle.norm_base.specs.declared.node.Origin.{Origin}
 use Rattle.norm_ext.specs.Written.{Written}
 use Rattle.norm_script.specs.Commands.{Commands}
-use Rattle.norm_script.specs.Scripts.{IsScript}
+use Rattle.norm_script.specs.Scripts.{CanRun}
 use Rattle.norm_script.specs.declared.script.Line.{Line}
 use Rattle.norm_send_rules.specs.Watermarks.{open_watermarks}
 use Rattle.norm_send_rules.specs.Commanding.{commanded}
@@ -118,7 +118,7 @@ HasOctets _ = ⊤
 -- Every command that a script gives comes to the sender as one that a program can make: its octets are octets, and an
 -- instance id has 16 bits.
 abbrev pub CommandsAreEvents : Type 0
-CommandsAreEvents = (script : Commands) (files : Told) (nodes : List ℕ) (events : List Event) → IsScript script
+CommandsAreEvents = (script : Commands) (files : Told) (nodes : List ℕ) (events : List Event) → CanRun script
     → Begun script files nodes events → AllByRecursion HasOctets events
     → AreEvents (world_events (judged_opening script files nodes) events)
 
@@ -129,13 +129,13 @@ CommandsAreOfObjects = (script : Commands) (files : Told) (nodes : List ℕ) (ev
 
 -- Nothing comes too late in a session: a script has so few commands that its nodes' run is lawful wherever its takes are honest.
 abbrev pub BeginsLawfully : Type 0
-BeginsLawfully = (script : Commands) (files : Told) (nodes : List ℕ) (events : List Event) → IsScript script
+BeginsLawfully = (script : Commands) (files : Told) (nodes : List ℕ) (events : List Event) → CanRun script
     → Begun script files nodes events → AllByRecursion HasOctets events → TakesHonestly (judged_opening script files nodes) events
     → Lawful script.profile (world_events (judged_opening script files nodes) events)
 
 -- In a script each command has a name of its own.
 abbrev pub ScriptsNameOnce : Type 0
-ScriptsNameOnce = (script : Commands) → IsScript script → NamedOnce script.lines
+ScriptsNameOnce = (script : Commands) → CanRun script → NamedOnce script.lines
 
 -- The summary comes only where the last turn was done, and nothing comes after it.
 abbrev pub EndsLast : Type 0
