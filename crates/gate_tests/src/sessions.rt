@@ -1,6 +1,6 @@
 //! What a session does with its gate and its board.
 ghost use Rattle.std.specs.Prelude.{◌≡◌, IfOk, IfSome};
-ghost use Rattle.norm_script.specs.Scripts.{IsScript};
+ghost use Rattle.norm_script.specs.Scripts.{CanRun};
 
 use mark_book::Outcome;
 use norm_base::{Failed, Memory, Sink};
@@ -17,7 +17,7 @@ use std::time::{Clock, Duration};
 
 /// The script that a text is, if it can be run.
 fn script_of(alloc: Global, text: &[u8]) -> Result<Option<Script>, Memory>
-    ensures { IfOk result (λ found. IfSome found IsScript) }
+    ensures { IfOk result (λ found. IfSome found CanRun) }
 {
     match read(alloc, text) {
         Ok(Ok(script)) => Ok(Some(script)),
@@ -68,7 +68,7 @@ fn ran<R: Threads + Wait + Sync, G: Turnstile + Sync, K: Sink>(
     board: &mut Board,
     output: &mut K,
 ) -> Result<bool, SessionFault>
-    requires { IsScript script.now }
+    requires { CanRun script.now }
     ensures { board.new.id ≡ board.old.id }
 {
     let mut fabric = DirectFabric::new(alloc)?;

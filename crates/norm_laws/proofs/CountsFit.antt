@@ -6,7 +6,7 @@ use Rattle.std.proofs.lemmas.Nat.{mul-le}
 use Rattle.norm_base.specs.Settings.{Settings}
 use Rattle.norm_base.proofs.MemberLemmas.{member_laws}
 use Rattle.norm_script.specs.Commands.{Commands}
-use Rattle.norm_script.specs.Scripts.{IsScript}
+use Rattle.norm_script.specs.Scripts.{CanRun}
 use Rattle.norm_safety.specs.Events.{Event as WorldEvent}
 use Rattle.norm_safety.specs.History.{happens, last_world}
 use Rattle.norm_safety.specs.InTime.{accepted_in}
@@ -53,7 +53,7 @@ is_some : {X : Type 0} (o : Option X) (x : X) → o ≡ Some x → IsSome o
 is_some o x e = subst IsSome (sym e) refl
 
 -- the bounds, of counts that have them
-all_fit : (script : Commands) (t : Totals) → IsScript script → IsBounded script t → CountsFit t
+all_fit : (script : Commands) (t : Totals) → CanRun script → IsBounded script t → CountsFit t
 all_fit script t is h =
     let few = is.few in
     let commands = h.commands in
@@ -75,7 +75,7 @@ all_fit script t is h =
     }
 
 -- A session of data and files, with honest takes.
-module _ (script : Commands) (files : Told) (nodes : List ℕ) (events : List Event) (last : Judged) (is : IsScript script) (objects : AllByRecursion IsOfObjects script.lines)
+module _ (script : Commands) (files : Told) (nodes : List ℕ) (events : List Event) (last : Judged) (is : CanRun script) (objects : AllByRecursion IsOfObjects script.lines)
     (begun : judged script files nodes events ≡ Some last) (octets : AllByRecursion HasOctets events) (honest : TakesHonestly (judged_opening script files nodes) events) where
   abbrev start : Judged
   start = judged_opening script files nodes

@@ -2,7 +2,7 @@
 use Rattle.std.specs.Prelude.{◌≡◌, ℕ, ◌+◌, ◌*◌, ◌≤◌, List, length, Some}
 use Rattle.std.specs.List.{AllByRecursion}
 use Rattle.norm_script.specs.Commands.{Commands}
-use Rattle.norm_script.specs.Scripts.{IsScript}
+use Rattle.norm_script.specs.Scripts.{CanRun}
 use Rattle.norm_journal.specs.declared.event.Event.{Event}
 use Rattle.norm_journal.specs.declared.totals.Totals.{Totals}
 use Rattle.norm_journal.specs.Jobs.{Told, IsOfObjects}
@@ -22,6 +22,6 @@ pub record IsBounded (script : Commands) (t : Totals) : Type 0 where
 -- At each moment of a session of data and files over a network that gives only what was offered the counts are bounded so. A script has at
 -- most 4,096 commands, and a profile at most 16 receivers and 16,777,216 octets: so each count is a number of 64 bits.
 abbrev pub CountsOfASessionFit : Type 0
-CountsOfASessionFit = (script : Commands) (files : Told) (nodes : List ℕ) (events : List Event) (last : Judged) → IsScript script
+CountsOfASessionFit = (script : Commands) (files : Told) (nodes : List ℕ) (events : List Event) (last : Judged) → CanRun script
     → AllByRecursion IsOfObjects script.lines → judged script files nodes events ≡ Some last → AllByRecursion HasOctets events
     → TakesHonestly (judged_opening script files nodes) events → IsBounded script last.totals × CountsFit last.totals

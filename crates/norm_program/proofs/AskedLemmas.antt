@@ -8,7 +8,7 @@ use Rattle.norm_base.specs.declared.key.Key.{Key}
 use Rattle.norm_base.specs.declared.key.Key.TheVariants as key
 use Rattle.norm_script.specs.Commands.{Commands}
 use Rattle.norm_script.specs.Reading.{script_of}
-use Rattle.norm_script.specs.Scripts.{IsScript}
+use Rattle.norm_script.specs.Scripts.{CanRun}
 use Rattle.norm_words.specs.Fits.{FitsOptions}
 use Rattle.norm_words.specs.declared.tasks.Options.{Options}
 use Rattle.norm_session.proofs.ScriptLemmas.{runnable}
@@ -50,7 +50,7 @@ in_range_with o p fits r = record {
 }
 
 -- what can be run can be run with options
-pub runnable_with : (o : Options) (script : Commands) → FitsOptions o → IsScript script → IsScript (script_with o script)
+pub runnable_with : (o : Options) (script : Commands) → FitsOptions o → CanRun script → CanRun (script_with o script)
 runnable_with o script fits r = record {
   range = in_range_with o script.profile fits r.range;
   few = r.few;
@@ -60,6 +60,6 @@ runnable_with o script fits r = record {
 
 -- a text that is a script is one with the options, and can be run
 pub asked_is : (o : Options) (text : List ℕ) (script result : Commands) → FitsOptions o → script_of text ≡ Ok script → result ≡ script_with o script
-    → (script_asked o text ≡ Ok result) × IsScript result
+    → (script_asked o text ≡ Ok result) × CanRun result
 asked_is o text script result fits read is =
     rw is (ap (result_map_both (script_with o) (λ refusal. refusal)) read, runnable_with o script fits (runnable text script read))

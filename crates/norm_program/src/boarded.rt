@@ -4,7 +4,7 @@ ghost use Rattle.std.specs.Prelude.{◌≡◌, List, IfOk, IfErr, true, false};
 ghost use Rattle.norm_journal.specs.declared.event.Event.{Event};
 ghost use Rattle.norm_program.specs.Boarded.{RunsScript, StopsScript, span};
 ghost use Rattle.norm_session.specs.Causes.{HasCause, counted};
-ghost use Rattle.norm_script.specs.Scripts.{IsScript};
+ghost use Rattle.norm_script.specs.Scripts.{CanRun};
 
 use norm_base::{Clock, Fabric, Files, Memory, Sink};
 use norm_script::Script;
@@ -30,7 +30,7 @@ pub(crate) fn run_session<R: Threads + Wait + Sync, K: Sink, F: Fabric, D: Files
     files: &mut D,
     clock: &mut C,
 ) -> Result<Ended, SessionFault>
-    requires { IsScript script.now }
+    requires { CanRun script.now }
     ensures run { IfOk result (λ ended. RunsScript false script.now (D.contents files.old) ended.journal ended.whole
         (span (F.told fabric.old) (F.told fabric.new) (K.pieces output.old) (K.pieces output.new) (C.moments clock.old) (C.moments clock.new))) }
     ensures stops { IfErr result (λ fault. StopsScript false fault script.now (D.contents files.old)
@@ -58,7 +58,7 @@ pub(crate) fn run_send<R: Threads + Wait + Sync, K: Sink, F: Fabric, D: Files, C
     files: &mut D,
     clock: &mut C,
 ) -> Result<bool, SessionFault>
-    requires { IsScript script.now }
+    requires { CanRun script.now }
     ensures run { IfOk result (λ whole. (journal : List Event) × RunsScript true script.now (D.contents files.old) journal whole
         (span (F.told fabric.old) (F.told fabric.new) (K.pieces output.old) (K.pieces output.new) (C.moments clock.old) (C.moments clock.new))) }
     ensures stops { IfErr result (λ fault. StopsScript true fault script.now (D.contents files.old)

@@ -5,7 +5,7 @@ ghost use Rattle.norm_base.specs.Settings.{InRange};
 ghost use Rattle.norm_program.specs.Asked.{producers_line, under, IsUnsendable, Sender};
 ghost use Rattle.norm_program.specs.Ends.{EndsEarly, IsTextEnding, Prepared};
 ghost use Rattle.norm_script.specs.Reading.{commands_of};
-ghost use Rattle.norm_script.specs.Scripts.{IsScript};
+ghost use Rattle.norm_script.specs.Scripts.{CanRun};
 
 use crate::input::read_input;
 use crate::last_line::{refused_line, say};
@@ -61,7 +61,7 @@ fn commands_in(
     profile: &Profile,
     text: &[u8],
 ) -> Result<Result<Script, Refusal>, Memory>
-    ensures script { IfOk result (λ read. IfOk read (λ script. (commands_of profile.now text.now ≡ Ok script) × IsScript script)) }
+    ensures script { IfOk result (λ read. IfOk read (λ script. (commands_of profile.now text.now ≡ Ok script) × CanRun script)) }
     ensures refused { IfOk result (λ read. IfErr read (IsUnsendable profile.now text.now)) }
 {
     match read_commands(alloc, text, profile) {
@@ -84,7 +84,7 @@ fn read_commands_in<K: Sink>(
     text: &[u8],
     output: &mut K,
 ) -> Result<Script, Ending>
-    ensures script { IfOk result (λ script. (commands_of profile.now text.now ≡ Ok script) × IsScript script) }
+    ensures script { IfOk result (λ script. (commands_of profile.now text.now ≡ Ok script) × CanRun script) }
     ensures unwritten { OnOk result (K.pieces output.new ≡ K.pieces output.old) }
     ensures quiet { OnOk result (K.fault_count output.new ≡ K.fault_count output.old) }
     ensures ending { IfErr result (λ ending. IsTextEnding (Sender profile.now) ending text.now (K.pieces output.old) (K.pieces output.new)
@@ -109,7 +109,7 @@ pub(crate) fn prepare_commands<S: Source, K: Sink>(
     output: &mut K,
 ) -> Result<Script, Ending>
     ensures ready { IfOk result (λ script. Prepared (Sender profile.now) script (S.left input.old) (S.left input.new)) }
-    ensures runnable { IfOk result IsScript }
+    ensures runnable { IfOk result CanRun }
     ensures unwritten { OnOk result (K.pieces output.new ≡ K.pieces output.old) }
     ensures quiet { OnOk result ((S.fault_count input.new ≡ S.fault_count input.old) × (K.fault_count output.new ≡ K.fault_count output.old)) }
     ensures ending { IfErr result (λ ending. EndsEarly (Sender profile.now) ending (S.left input.old) (S.left input.new)

@@ -3,7 +3,7 @@
 ghost use Rattle.std.specs.Prelude.{◌≡◌, Ok, IfOk, IfErr, OnOk};
 ghost use Rattle.norm_program.specs.Asked.{Members, profile_with, script_asked, script_with};
 ghost use Rattle.norm_program.specs.Ends.{outside, called_as, Prepared, IsTextEnding, EndsEarly, EndsScript};
-ghost use Rattle.norm_script.specs.Scripts.{IsScript};
+ghost use Rattle.norm_script.specs.Scripts.{CanRun};
 ghost use Rattle.norm_words.specs.Fits.{FitsOptions};
 
 use crate::boarded::run_session;
@@ -47,7 +47,7 @@ fn read_text<K: Sink>(
     output: &mut K,
 ) -> Result<Script, Ending>
     requires { FitsOptions options }
-    ensures script { IfOk result (λ script. (script_asked options text.now ≡ Ok script) × IsScript script) }
+    ensures script { IfOk result (λ script. (script_asked options text.now ≡ Ok script) × CanRun script) }
     ensures unwritten { OnOk result (K.pieces output.new ≡ K.pieces output.old) }
     ensures quiet { OnOk result (K.fault_count output.new ≡ K.fault_count output.old) }
     ensures ending { IfErr result (λ ending. IsTextEnding (Members options) ending text.now (K.pieces output.old) (K.pieces output.new)
@@ -73,7 +73,7 @@ fn prepare<S: Source, K: Sink>(
 ) -> Result<Script, Ending>
     requires { FitsOptions options }
     ensures ready { IfOk result (λ script. Prepared (Members options) script (S.left input.old) (S.left input.new)) }
-    ensures runnable { IfOk result IsScript }
+    ensures runnable { IfOk result CanRun }
     ensures unwritten { OnOk result (K.pieces output.new ≡ K.pieces output.old) }
     ensures quiet { OnOk result ((S.fault_count input.new ≡ S.fault_count input.old) × (K.fault_count output.new ≡ K.fault_count output.old)) }
     ensures ending { IfErr result (λ ending. EndsEarly (Members options) ending (S.left input.old) (S.left input.new)

@@ -7,7 +7,7 @@ use Rattle.norm_base.specs.Network as network
 use Rattle.norm_base.specs.Network.{Network}
 use Rattle.norm_base.specs.Told.{Pieces}
 use Rattle.norm_script.specs.Commands.{Commands}
-use Rattle.norm_script.specs.Scripts.{IsScript}
+use Rattle.norm_script.specs.Scripts.{CanRun}
 use Rattle.norm_safety.specs.InTime.{WasOffered}
 use Rattle.norm_safety.specs.Jobs.{AreEvents}
 use Rattle.norm_safety.specs.Lawful.{Lawful}
@@ -103,7 +103,7 @@ is_some : {X : Type 0} (o : Option X) (x : X) → o ≡ Some x → IsSome o
 is_some o x is = subst IsSome (sym is) refl
 
 -- a lawful run of a script's nodes
-lawful_is_safe : (script : Commands) (files : Told) (journal : List Event) → IsScript script → Lawful script.profile (session_events script files journal)
+lawful_is_safe : (script : Commands) (files : Told) (journal : List Event) → CanRun script → Lawful script.profile (session_events script files journal)
     → AreEvents (session_events script files journal) → IsSafe script files journal
 lawful_is_safe script files journal is lawful are =
     let events = session_events script files journal in
@@ -122,7 +122,7 @@ lawful_is_safe script files journal is lawful are =
     }
 
 -- each front of it is one too
-pub safe_throughout : (script : Commands) (files : Told) (journal : List Event) (last : Judged) → IsScript script
+pub safe_throughout : (script : Commands) (files : Told) (journal : List Event) (last : Judged) → CanRun script
     → judged_from (session_opening script files) journal ≡ Some last → AreOffered [] journal → AllByRecursion HasOctets journal
     → IsSafeThroughout script files journal
 safe_throughout script files journal last is so offered octets front rest joined =
@@ -152,7 +152,7 @@ session_judged : (x : Context) (journal : List Event) (last : Judged) → x.node
 session_judged x journal last nodes so = subst (λ n. judged_from (opening (record x { nodes = n })) journal ≡ Some last) nodes so
 
 pub safe_over : (x : Context) (journal : List Event) (j : Judged) (network : Network) (written : Pieces) → Leads x journal j network written
-    → x.nodes ≡ nodes_of x.script → IsScript x.script → IfSome x.network.offered (λ now. now ≡ [])
+    → x.nodes ≡ nodes_of x.script → CanRun x.script → IfSome x.network.offered (λ now. now ≡ [])
     → OverHonest x.network (IsSafeThroughout x.script x.files journal)
 safe_over x journal j network written s nodes is none =
     over_honest x (IsSafeThroughout x.script x.files journal) none (λ honest told.
@@ -160,7 +160,7 @@ safe_over x journal j network written s nodes is none =
 
 -- the same where a fault stopped it
 pub safe_stopped : (x : Context) (fault : SessionFault) (network : Network) (written : Pieces) (s : Stopped x fault network written)
-    → x.nodes ≡ nodes_of x.script → IsScript x.script → IfSome x.network.offered (λ now. now ≡ [])
+    → x.nodes ≡ nodes_of x.script → CanRun x.script → IfSome x.network.offered (λ now. now ≡ [])
     → OverHonest x.network (IsSafeThroughout x.script x.files s.journal)
 safe_stopped x fault network written s nodes is none =
     over_honest x (IsSafeThroughout x.script x.files s.journal) none (λ honest told.

@@ -6,7 +6,7 @@ use Rattle.norm_base.specs.Network.{Network, Starts}
 use Rattle.norm_base.specs.Told.{Pieces}
 use Rattle.norm_base.specs.declared.kinds.Local.TheVariants.{All, One}
 use Rattle.norm_script.specs.Commands.{Commands}
-use Rattle.norm_script.specs.Scripts.{IsScript}
+use Rattle.norm_script.specs.Scripts.{CanRun}
 use Rattle.norm_journal.specs.declared.event.Event.{Event}
 use Rattle.norm_journal.specs.Jobs.{Told}
 use Rattle.norm_journal.specs.Judged.{Judged, is_whole}
@@ -44,12 +44,12 @@ StopsSafely x = (failed : SessionFault) (network : Network) (written : Pieces) (
     → OverHonest x.network (IsSafeThroughout x.script x.files s.journal)
 
 -- what a session leads to was safe at each moment, and what a fault stops, where it began over a network that was just started
-pub leads_safely : (script : Commands) (files : Told) (before started : Network) (unwritten : Pieces) (unposted posted : BoardState) → IsScript script
+pub leads_safely : (script : Commands) (files : Told) (before started : Network) (unwritten : Pieces) (unposted posted : BoardState) → CanRun script
     → Starts before started script.profile All → (ms : List ℕ) → LeadsSafely (with_moments (with_posted (context_of false script files started unwritten unposted) posted) ms)
 leads_safely script files before started unwritten unposted posted is starts ms journal j network written l =
     safe_over (with_moments (with_posted (context_of false script files started unwritten unposted) posted) ms) journal j network written l refl is starts.offered
 
-pub stops_safely : (script : Commands) (files : Told) (before started : Network) (unwritten : Pieces) (unposted posted : BoardState) → IsScript script
+pub stops_safely : (script : Commands) (files : Told) (before started : Network) (unwritten : Pieces) (unposted posted : BoardState) → CanRun script
     → Starts before started script.profile All → (ms : List ℕ) → StopsSafely (with_moments (with_posted (context_of false script files started unwritten unposted) posted) ms)
 stops_safely script files before started unwritten unposted posted is starts ms failed network written s =
     safe_stopped (with_moments (with_posted (context_of false script files started unwritten unposted) posted) ms) failed network written s refl is starts.offered
@@ -73,7 +73,7 @@ how_it_ended x k whole network written e = go whole (is_whole (judged_of x k e.h
 session_runs : (script : Commands) (files : Told) (started : Network) (begun k : RunKept) (whole : Bool) (o : Span)
     → Starts o.before started script.profile All → Begins false script begun started
     → Finishes script files begun k whole (span started o.after o.unwritten o.written o.unasked o.asked o.unposted o.posted)
-    → IsScript script → RunsKept false script files k.journal whole o
+    → CanRun script → RunsKept false script files k.journal whole o
 session_runs script files started begun k whole o starts begins finishes is =
     let x = context_of false script files started o.unwritten o.unposted in
     let f = finishes.1 x (record { script = refl; files = refl }) refl (begins x (record { script = refl; is_alone = refl; nodes = refl; network = refl; moments = refl; board = refl })) in
@@ -123,7 +123,7 @@ sender_runs script files started begun k whole o starts begins finishes =
 -- a run of a script that ran to its end
 pub script_runs : (alone : Bool) (script : Commands) (files : Told) (started : Network) (begun k : RunKept) (whole : Bool) (o : Span)
     → Starts o.before started script.profile (local_of alone script.profile) → Begins alone script begun started
-    → Finishes script files begun k whole (span started o.after o.unwritten o.written o.unasked o.asked o.unposted o.posted) → IsScript script
+    → Finishes script files begun k whole (span started o.after o.unwritten o.written o.unasked o.asked o.unposted o.posted) → CanRun script
     → RunsKept alone script files k.journal whole o
 script_runs true script files started begun k whole o starts begins finishes is = sender_runs script files started begun k whole o starts begins finishes
 script_runs false script files started begun k whole o starts begins finishes is = session_runs script files started begun k whole o starts begins finishes is
@@ -132,7 +132,7 @@ script_runs false script files started begun k whole o starts begins finishes is
 session_stops : (script : Commands) (files : Told) (started : Network) (begun : RunKept) (failed : SessionFault) (o : Span)
     → Starts o.before started script.profile All → Begins false script begun started
     → StopsTurns script files begun failed (span started o.after o.unwritten o.written o.unasked o.asked o.unposted o.posted)
-    → IsScript script → StopsSession failed script files o
+    → CanRun script → StopsSession failed script files o
 session_stops script files started begun failed o starts begins stops is =
     let x = context_of false script files started o.unwritten o.unposted in
     let f = stops.1 x (record { script = refl; files = refl }) refl (begins x (record { script = refl; is_alone = refl; nodes = refl; network = refl; moments = refl; board = refl })) in
@@ -157,7 +157,7 @@ sender_stops script files started begun failed o starts begins stops =
 -- a run of a script that a fault broke off
 pub script_stops : (alone : Bool) (script : Commands) (files : Told) (started : Network) (begun : RunKept) (failed : SessionFault) (o : Span)
     → Starts o.before started script.profile (local_of alone script.profile) → Begins alone script begun started
-    → StopsTurns script files begun failed (span started o.after o.unwritten o.written o.unasked o.asked o.unposted o.posted) → IsScript script
+    → StopsTurns script files begun failed (span started o.after o.unwritten o.written o.unasked o.asked o.unposted o.posted) → CanRun script
     → StopsScript alone failed script files o
 script_stops true script files started begun failed o starts begins stops is = sender_stops script files started begun failed o starts begins stops
 script_stops false script files started begun failed o starts begins stops is = session_stops script files started begun failed o starts begins stops is

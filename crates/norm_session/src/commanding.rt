@@ -77,7 +77,7 @@ fn write_of(bytes: &Octets) -> Result<Job, Memory>
 fn strike_of(node: u32) -> Result<Job, Memory>
     ensures { IfOk result (λ job. job ≡ Job.Strike node) }
 {
-    // A script strikes numbers of members alone.
+    // Only a script that was not read may strike a number that no node has.
     match NodeId::of(node) {
         Some(node) => Ok(Job::Strike { node }),
         None => Err(Memory),
@@ -88,7 +88,7 @@ fn strike_of(node: u32) -> Result<Job, Memory>
 ///
 /// # Errors
 ///
-/// `Memory` where memory runs out. So also for the number of no member, which no script has that is run.
+/// `Memory` where memory runs out. So also for a struck number that no node has, 0 or 4294967295, which no script has that is read.
 fn job_of(verb: &Verb) -> Result<Option<Job>, Memory>
     ensures job { IfOk result (λ job. job ≡ job_of verb.now) }
 {

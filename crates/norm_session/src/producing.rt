@@ -2,7 +2,7 @@
 
 ghost use Rattle.std.specs.Prelude.{◌≡◌, ◌≤◌, All, IfErr, IfOk, length, max};
 ghost use Rattle.norm_session.specs.Causes.{HasCause, counted};
-ghost use Rattle.norm_script.specs.Scripts.{IsScript};
+ghost use Rattle.norm_script.specs.Scripts.{CanRun};
 ghost use Rattle.norm_session.specs.Session.{RunsKept, StopsScript};
 ghost use Rattle.norm_session.specs.Turning.{span};
 
@@ -143,7 +143,7 @@ fn beside_producers<R: Threads + Wait + Sync, G: Turnstile + Sync, F: FnMut() ->
 
 /// The ring has a place for each line, so that producers can end before anything is pulled.
 fn ring_for(alloc: Global, script: &Script) -> Result<(Gate, Vec<Seat>, PullSeat), Memory>
-    requires { IsScript script.now }
+    requires { CanRun script.now }
     ensures seats { IfOk result (λ made. All (λ s. s.gate ≡ made.0.id) made.1.items) }
     ensures pull { IfOk result (λ made. made.2.gate ≡ made.0.id) }
     ensures capacity { IfOk result (λ made. made.0.capacity ≡ max (length script.now.lines) 1) }
@@ -166,7 +166,7 @@ fn run_pulled<R: Wait, K: Sink, F: Fabric, D: Files, C: Clock>(
     files: &mut D,
     clock: &mut C,
 ) -> Result<Made, SessionFault>
-    requires script { IsScript script.now }
+    requires script { CanRun script.now }
     requires own { pull.old.gate ≡ ring.now.id }
     ensures run { IfOk result (λ made. RunsKept alone script.now (D.contents files.old) made.journal made.whole
         (span (F.told fabric.old) (F.told fabric.new) (K.pieces output.old) (K.pieces output.new) (C.moments clock.old) (C.moments clock.new) board.old board.new)) }
@@ -211,7 +211,7 @@ pub(crate) fn run_produced<
     files: &mut D,
     clock: &mut C,
 ) -> Result<Made, SessionFault>
-    requires { IsScript script.now }
+    requires { CanRun script.now }
     ensures run { IfOk result (λ made. RunsKept alone script.now (D.contents files.old) made.journal made.whole
         (span (F.told fabric.old) (F.told fabric.new) (K.pieces output.old) (K.pieces output.new) (C.moments clock.old) (C.moments clock.new) board.old board.new)) }
     ensures stops { IfErr result (λ fault. StopsScript alone fault script.now (D.contents files.old)

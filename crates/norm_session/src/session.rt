@@ -4,7 +4,7 @@ ghost use Rattle.std.specs.Prelude.{◌≡◌, List, Ok, Err, IfOk, IfErr};
 ghost use Rattle.norm_journal.specs.declared.event.Event.{Event};
 ghost use Rattle.norm_session.specs.Causes.{HasCause, counted};
 ghost use Rattle.norm_session.specs.Finishing.{Finishes};
-ghost use Rattle.norm_script.specs.Scripts.{IsScript};
+ghost use Rattle.norm_script.specs.Scripts.{CanRun};
 ghost use Rattle.norm_session.specs.Session.{RunsSession, RunsSender, RunsKept, StopsSession, StopsSender, StopsScript};
 ghost use Rattle.norm_session.specs.Turning.{StopsTurns, span};
 
@@ -59,7 +59,7 @@ pub fn run_session<
     files: &mut D,
     clock: &mut C,
 ) -> Result<Ended, SessionFault>
-    requires { IsScript script.now }
+    requires { CanRun script.now }
     ensures run { IfOk result (λ ended. RunsSession script.now (D.contents files.old) ended.journal ended.whole
         (span (F.told fabric.old) (F.told fabric.new) (K.pieces output.old) (K.pieces output.new) (C.moments clock.old) (C.moments clock.new) board.old board.new)) }
     ensures stops { IfErr result (λ fault. StopsSession fault script.now (D.contents files.old)
@@ -106,7 +106,7 @@ pub fn run_send<
     files: &mut D,
     clock: &mut C,
 ) -> Result<bool, SessionFault>
-    requires { IsScript script.now }
+    requires { CanRun script.now }
     ensures run { IfOk result (λ whole. (journal : List Event) × RunsSender script.now (D.contents files.old) journal whole
         (span (F.told fabric.old) (F.told fabric.new) (K.pieces output.old) (K.pieces output.new) (C.moments clock.old) (C.moments clock.new) board.old board.new)) }
     ensures stops { IfErr result (λ fault. StopsSender fault script.now (D.contents files.old)
@@ -136,7 +136,7 @@ pub(crate) fn run_script<R: Wait, A: Arrivals, K: Sink, F: Fabric, D: Files, C: 
     files: &mut D,
     clock: &mut C,
 ) -> Result<Made, SessionFault>
-    requires { IsScript script.now }
+    requires { CanRun script.now }
     ensures run { IfOk result (λ made. RunsKept alone script.now (D.contents files.old) made.journal made.whole
         (span (F.told fabric.old) (F.told fabric.new) (K.pieces output.old) (K.pieces output.new) (C.moments clock.old) (C.moments clock.new) board.old board.new)) }
     ensures stops { IfErr result (λ fault. StopsScript alone fault script.now (D.contents files.old)
