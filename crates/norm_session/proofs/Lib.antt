@@ -12,6 +12,7 @@ pub mod MomentLemmas
 pub mod TurningLemmas
 pub mod TurnsLemmas
 pub mod SessionLemmas
+mod TurnedLemmas
 pub mod TellingLemmas
 pub mod HandingLemmas
 pub mod ServingLemmas

@@ -10,10 +10,9 @@ ghost use Rattle.norm_session.specs.SoFar.{At};
 ghost use Rattle.norm_session.specs.Stopping.{Stopped};
 
 use crate::fault::SessionFault;
-use crate::printing::write_line;
+use crate::printing::write_end;
 use crate::run::Run;
 use norm_base::Sink;
-use norm_journal::end_line;
 
 impl Run {
     /// The summary is made where the last turn was done, and its line is written.
@@ -28,8 +27,7 @@ impl Run {
             → is_done (judged_of x self.old here.world Between) ≡ true → Stopped x fault network (K.pieces output.new)) }
         ensures cause { WriteCause result (K.fault_count output.old) (K.fault_count output.new) }
     {
-        end_line(&mut self.line, &self.totals)?;
         self.journal.push_end()?;
-        write_line(true, &self.line, output)
+        write_end(&mut self.line, &self.totals, output)
     }
 }

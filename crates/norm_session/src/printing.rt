@@ -1,14 +1,16 @@
-//! The line of an event, as it is written.
+//! Lines, each written in one piece.
 
-ghost use Rattle.std.specs.Prelude.{◌≡◌, OnOk, IfErr};
+ghost use Rattle.std.specs.Prelude.{◌≡◌, ◌∷◌, [], Some, OnOk, IfErr};
 ghost use Rattle.std.specs.Option.{option_to_list};
 ghost use Rattle.norm_base.specs.Told.{gained};
-ghost use Rattle.norm_journal.specs.Lines.{line_if};
+ghost use Rattle.norm_journal.specs.Lines.{line_if, up_line, end_line};
 ghost use Rattle.norm_session.specs.Causes.{WriteCause};
 ghost use Rattle.norm_session.specs.Stopping.{IsUnwritten};
 
 use crate::fault::SessionFault;
-use norm_base::Sink;
+use norm_base::{InstanceId, NodeId, Sink};
+use norm_journal::{Totals, end_line, up_line};
+use norm_order::Up;
 use norm_text::Line;
 
 /// The line of an event is written, in one piece, if it has one.
@@ -31,4 +33,42 @@ pub(crate) fn write_line<K: Sink>(
     }
     output.write(line.bytes())?;
     Ok(())
+}
+
+/// Writes the line of a node's hand-up, in the instance that it is in, in one piece. It is made in `line`, whose memory is kept.
+///
+/// # Errors
+///
+/// `Write` if the write failed, and then a front of the line may stand, or `Memory`. After `Memory` nothing was written.
+pub fn write_up<K: Sink>(
+    line: &mut Line,
+    node: NodeId,
+    instance: InstanceId,
+    up: &Up,
+    output: &mut K,
+) -> Result<(), SessionFault>
+    ensures written { OnOk result (K.pieces output.new ≡ gained (K.pieces output.old) (up_line node instance up.now ∷ [])) }
+    ensures stops { IfErr result (λ fault. IsUnwritten fault (K.pieces output.old) (K.pieces output.new) (Some (up_line node instance up.now))) }
+    ensures cause { WriteCause result (K.fault_count output.old) (K.fault_count output.new) }
+{
+    up_line(line, node, instance, up)?;
+    write_line(true, line, output)
+}
+
+/// Writes the summary's line of these counts, in one piece. It is made in `line`, whose memory is kept.
+///
+/// # Errors
+///
+/// `Write` if the write failed, and then a front of the line may stand, or `Memory`. After `Memory` nothing was written.
+pub fn write_end<K: Sink>(
+    line: &mut Line,
+    totals: &Totals,
+    output: &mut K,
+) -> Result<(), SessionFault>
+    ensures written { OnOk result (K.pieces output.new ≡ gained (K.pieces output.old) (end_line totals.now ∷ [])) }
+    ensures stops { IfErr result (λ fault. IsUnwritten fault (K.pieces output.old) (K.pieces output.new) (Some (end_line totals.now))) }
+    ensures cause { WriteCause result (K.fault_count output.old) (K.fault_count output.new) }
+{
+    end_line(line, totals)?;
+    write_line(true, line, output)
 }

@@ -2,11 +2,14 @@
 
 ghost use Rattle.std.specs.Prelude.{◌≡◌, List, Ok, Err, IfOk, IfErr};
 ghost use Rattle.norm_journal.specs.declared.event.Event.{Event};
-ghost use Rattle.norm_session.specs.Causes.{HasCause, counted};
-ghost use Rattle.norm_session.specs.Finishing.{Finishes};
+ghost use Rattle.norm_base.specs.Network.{Network};
+ghost use Rattle.norm_session.specs.Causes.{HasCause, WriteCause, counted};
+ghost use Rattle.norm_session.specs.Context.{Context};
+ghost use Rattle.norm_session.specs.Finishing.{HasEnded, TurnedScript};
 ghost use Rattle.norm_script.specs.Scripts.{CanRun};
 ghost use Rattle.norm_session.specs.Session.{RunsSession, RunsSender, RunsKept, StopsSession, StopsSender, StopsScript};
-ghost use Rattle.norm_session.specs.Turning.{StopsTurns, span};
+ghost use Rattle.norm_session.specs.Stopping.{Stopped};
+ghost use Rattle.norm_session.specs.Turning.{AtLast, span};
 
 use crate::arrivals::Arrivals;
 use crate::fault::SessionFault;
@@ -123,7 +126,46 @@ pub fn run_send<
     }
 }
 
-/// A script's run, with its sender alone or with all members, over what its producers hand over.
+/// A script's run up to the end of its last turn, with its sender alone or with all members, over what its producers hand over.
+fn run_turns<R: Wait, A: Arrivals, K: Sink, F: Fabric, D: Files, C: Clock>(
+    rt: &R,
+    alloc: Global,
+    script: &Script,
+    alone: bool,
+    arrivals: &mut A,
+    board: &mut Board,
+    output: &mut K,
+    fabric: &mut F,
+    files: &mut D,
+    clock: &mut C,
+) -> Result<Run, SessionFault>
+    requires { CanRun script.now }
+    ensures goes { IfOk result (λ run. TurnedScript alone script.now (D.contents files.old) run
+        (span (F.told fabric.old) (F.told fabric.new) (K.pieces output.old) (K.pieces output.new) (C.moments clock.old) (C.moments clock.new) board.old board.new)) }
+    ensures stops { IfErr result (λ fault. StopsScript alone fault script.now (D.contents files.old)
+        (span (F.told fabric.old) (F.told fabric.new) (K.pieces output.old) (K.pieces output.new) (C.moments clock.old) (C.moments clock.new) board.old board.new)) }
+    ensures files { D.contents files.new ≡ D.contents files.old }
+    ensures cause { HasCause result (counted (K.fault_count output.old) (F.fault_count fabric.old) (D.fault_count files.old))
+        (counted (K.fault_count output.new) (F.fault_count fabric.new) (D.fault_count files.new)) }
+{
+    let mut datagram = Datagram::new(alloc)?;
+    let mut run = Run::start(alloc, script, alone, fabric)?;
+    // Proof: no `?` here, since an exit that drops a run is dear.
+    let turned = run.turns(
+        rt,
+        script,
+        arrivals,
+        board,
+        output,
+        fabric,
+        files,
+        clock,
+        &mut datagram,
+    );
+    turned.and(Ok(run))
+}
+
+/// A script's run, with its sender alone or with all members, over what its producers hand over: its turns, and the summary.
 pub(crate) fn run_script<R: Wait, A: Arrivals, K: Sink, F: Fabric, D: Files, C: Clock>(
     rt: &R,
     alloc: Global,
@@ -145,20 +187,11 @@ pub(crate) fn run_script<R: Wait, A: Arrivals, K: Sink, F: Fabric, D: Files, C: 
     ensures cause { HasCause result (counted (K.fault_count output.old) (F.fault_count fabric.old) (D.fault_count files.old))
         (counted (K.fault_count output.new) (F.fault_count fabric.new) (D.fault_count files.new)) }
 {
-    let mut datagram = Datagram::new(alloc)?;
-    let mut run = Run::start(alloc, script, alone, fabric)?;
+    let mut run = run_turns(
+        rt, alloc, script, alone, arrivals, board, output, fabric, files, clock,
+    )?;
     // Proof: no `?` here, since an exit that drops a run is dear.
-    let whole = run.finish(
-        rt,
-        script,
-        arrivals,
-        board,
-        output,
-        fabric,
-        files,
-        clock,
-        &mut datagram,
-    );
+    let whole = run.finish(script, output);
     made_of(run.into_journal(), whole)
 }
 
@@ -181,33 +214,17 @@ impl Run {
     fn into_journal(self) -> Option<Journal>
         ensures { result ≡ self.journal }
     {
-        self.journal.into_journal()
+        self.into_parts().journal
     }
 
-    /// All turns, and the summary. Whether all was done.
-    fn finish<R: Wait, A: Arrivals, K: Sink, F: Fabric, D: Files, C: Clock>(
-        &mut self,
-        rt: &R,
-        script: &Script,
-        arrivals: &mut A,
-        board: &mut Board,
-        output: &mut K,
-        fabric: &mut F,
-        files: &mut D,
-        clock: &mut C,
-        datagram: &mut Datagram,
-    ) -> Result<bool, SessionFault>
-        ensures goes { IfOk result (λ whole. Finishes script.now (D.contents files.old) self.old self.new whole
-            (span (F.told fabric.old) (F.told fabric.new) (K.pieces output.old) (K.pieces output.new) (C.moments clock.old) (C.moments clock.new) board.old board.new)) }
-        ensures stops { IfErr result (λ fault. StopsTurns script.now (D.contents files.old) self.old fault
-            (span (F.told fabric.old) (F.told fabric.new) (K.pieces output.old) (K.pieces output.new) (C.moments clock.old) (C.moments clock.new) board.old board.new)) }
-        ensures same { D.contents files.new ≡ D.contents files.old }
-        ensures cause { HasCause result (counted (K.fault_count output.old) (F.fault_count fabric.old) (D.fault_count files.old))
-            (counted (K.fault_count output.new) (F.fault_count fabric.new) (D.fault_count files.new)) }
+    /// The summary of a run whose last turn was done. Whether all was done.
+    fn finish<K: Sink>(&mut self, script: &Script, output: &mut K) -> Result<bool, SessionFault>
+        ensures goes { IfOk result (λ whole. (x : Context) (network : Network) → AtLast x self.old network (K.pieces output.old) → x.script ≡ script.now
+            → HasEnded x self.new whole network (K.pieces output.new)) }
+        ensures stops { IfErr result (λ fault. (x : Context) (network : Network) → AtLast x self.old network (K.pieces output.old)
+            → Stopped x fault network (K.pieces output.new)) }
+        ensures cause { WriteCause result (K.fault_count output.old) (K.fault_count output.new) }
     {
-        self.turns(
-            rt, script, arrivals, board, output, fabric, files, clock, datagram,
-        )?;
         self.summarize(output)?;
         Ok(self.is_whole(script))
     }

@@ -1,0 +1,50 @@
+//! A run, taken apart.
+
+ghost use Rattle.std.specs.Prelude.{◌≡◌};
+
+use crate::run::Run;
+use norm_base::Moment;
+use norm_journal::Totals;
+use norm_record::Journal;
+use norm_world::World;
+use rand_pcg::Lcg64Xsh32;
+
+/// What a run has made so far.
+#[derive(Drop)]
+pub struct Parts {
+    /// Its journal; none if its sender is alone.
+    pub journal: Option<Journal>,
+    pub draws: Lcg64Xsh32,
+    pub totals: Totals,
+    /// The last turn that began, 0 before the first.
+    pub turn: u32,
+    /// That turn's moment.
+    pub now: Moment,
+    /// The place in the script of the line whose command waits.
+    pub waiting: Option<usize>,
+    pub world: World,
+}
+
+impl Run {
+    /// Takes a run apart. The places of the lines that were not pulled go with it.
+    pub fn into_parts(self) -> Parts
+        ensures journal { result.journal ≡ self.journal }
+        ensures draws { result.draws ≡ self.draws }
+        ensures totals { result.totals ≡ self.totals }
+        ensures turn { result.turn ≡ self.turn }
+        ensures now { result.now ≡ self.now }
+        ensures waiting { result.waiting ≡ self.waiting }
+        ensures world { result.world ≡ self.world }
+    {
+        Parts {
+            journal: self.journal.into_journal(),
+            draws: self.draws,
+            totals: self.totals,
+            turn: self.turn,
+            now: self.now,
+            waiting: self.waiting,
+            // Proof: the nodes come last, since each statement is dear while they are owned.
+            world: self.world,
+        }
+    }
+}
