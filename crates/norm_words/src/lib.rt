@@ -4,7 +4,6 @@
 
 mod forms;
 mod node_tasks;
-mod numbers;
 mod tasks;
 
 pub use crate::node_tasks::{NodeTask, node_task_of};

@@ -7,10 +7,10 @@ ghost use Rattle.norm_words.specs.Fits.{FitsInstance, FitsNode};
 ghost use Rattle.norm_words.specs.NodeTasks.{profile_in, instance_in, node_in, send_of, receive_of, send_in, receive_in, hub_in, node_task_of};
 
 use crate::forms::{found_in, hub_form, recv_form, send_form};
-use crate::numbers::number_within;
 use crate::tasks::{value_given, word_in};
 use clap::ArgMatches;
 use norm_base::{Key, Memory, NodeId, Text};
+use norm_script::number_within;
 use std::alloc::{AllocError, Global};
 
 /// The least and the greatest number of a node.

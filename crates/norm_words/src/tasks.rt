@@ -8,9 +8,9 @@ ghost use Rattle.norm_words.specs.Fits.{FitsOptions, FitsTask};
 ghost use Rattle.norm_words.specs.Tasks.{value_given, options_with, options_in, number_in, session_in, show_in, generate_in, task_of};
 
 use crate::forms::{found_in, generate_form, session_form, show_form};
-use crate::numbers::number_within;
 use clap::ArgMatches;
 use norm_base::{Key, Memory};
+use norm_script::number_within;
 use std::alloc::Global;
 
 /// What the options of a session put in place of its script's keys.
