@@ -57,6 +57,9 @@ def recorded(pattern: str = '*') -> list[str]:
     return sorted(glob.glob(os.path.join(ROOT, 'checks', 'runs', pattern + '.json'))) + [REPAIR]
 
 
+MOST_SHOWN = 1500                               # octets of a datagram that a line of `normd show` holds
+
+
 def run(*words: str, given: bytes = b'', tool: str = TOOLS) -> tuple[int, bytes, str]:
     """A tool's status and what it wrote."""
     done = subprocess.run([os.path.join(tool, words[0]), *words[1:]], input=given, capture_output=True, cwd=ROOT,
@@ -98,7 +101,7 @@ def check_wire() -> str:
     if not os.access(PROGRAM, os.X_OK):
         return f'{len(lines)} datagrams; not run: the comparison with `normd show`, since the program is not built'
     of_runs = dissector.datagrams_of_runs(recorded())
-    of_runs += dissector.damaged(of_runs)
+    of_runs += [octets for octets in dissector.damaged(of_runs) if len(octets) <= MOST_SHOWN]
     given = ''.join(octets.hex() + '\n' for octets in of_runs).encode()
     out = subprocess.run([PROGRAM, 'show'], input=given, capture_output=True, check=False).stdout.decode().splitlines()
     for place, (octets, wanted) in enumerate(zip(of_runs, out, strict=True), 1):
