@@ -37,6 +37,7 @@ import norm_nodes  # noqa: E402
 import norm_wire as wire  # noqa: E402
 
 PROGRAM = os.path.join(ROOT, 'crates', 'normd', 'out', 'normd')
+MOST_SHOWN = 1500                               # octets of a datagram that a line of `normd show` holds
 WITH_PROFILE = b'{"profile": {"sender": 1, "receivers": 1, "port": 40000, "first": 0, "step": 1, "gap": 1}, "events": [%s]}'
 failures: list[str] = []
 
@@ -55,9 +56,6 @@ def text(path: str) -> str:
 def recorded(pattern: str = '*') -> list[str]:
     """The recorded runs, and the one that was made by hand."""
     return sorted(glob.glob(os.path.join(ROOT, 'checks', 'runs', pattern + '.json'))) + [REPAIR]
-
-
-MOST_SHOWN = 1500                               # octets of a datagram that a line of `normd show` holds
 
 
 def run(*words: str, given: bytes = b'', tool: str = TOOLS) -> tuple[int, bytes, str]:
