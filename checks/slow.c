@@ -1,5 +1,5 @@
-/* Makes each sending of a datagram take a millisecond, in a program that is started with this library before the C library (checks/slow). With
-   SLOW_FAILS_AFTER=N in the environment all but the first N fail. One thread sends. */
+/* Makes each sending of a datagram take SLOW_MICROS microseconds, below a million, in a program that is started with this library before the C
+   library (checks/slow). With SLOW_FAILS_AFTER=N in the environment all but the first N fail. One thread sends. */
 #define _GNU_SOURCE
 #include <errno.h>
 #include <stddef.h>
@@ -10,7 +10,8 @@
 #include <unistd.h>
 
 static void linger(void) {
-    struct timespec left = {0, 1000000};
+    const char *micros = getenv("SLOW_MICROS");
+    struct timespec left = {0, micros ? 1000 * atol(micros) : 0};
     while (nanosleep(&left, &left) != 0) {
     }
 }
