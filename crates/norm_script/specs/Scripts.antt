@@ -72,7 +72,8 @@ pub record CanSubmit (producers : ℕ) (line : Line) : Type 0 where
   pub last : line.producer ≤ producers
   pub verb : CanOffer line.verb
 
--- What a session can run, whoever made it: as `IsScript`, but with contents of any length, and any names, quorums and struck nodes.
+-- What a session can run, whoever made it: as `IsScript`, but with contents of any length, and any names and quorums. A struck node has an id
+-- of a node by its type.
 pub record CanRun (script : Commands) : Type 0 where
   pub range : InRange script.profile
   pub few : length script.lines ≤ 4096

@@ -9,7 +9,7 @@ use crate::refusal::Why;
 use crate::script::Verb;
 use crate::spelling::spelling_of;
 use crate::words::{contents_of, is_number, name_of, number_within, split_at_first, value_up_to};
-use norm_base::{Key, Memory, Octets};
+use norm_base::{Key, Memory, NodeId, Octets};
 use std::alloc::Global;
 
 /// The most octets of a line.
@@ -165,7 +165,9 @@ fn strike_of(word: &[u8]) -> Result<Verb, Why>
     ensures { result ≡ strike_of word.now }
 {
     match number_within(word, 1, LAST_NODE) {
-        Some(node) => Ok(Verb::Strike { node }),
+        Some(number) => Ok(Verb::Strike {
+            node: NodeId::of(number).unwrap(),
+        }),
         None => Err(Why::NoNode),
     }
 }

@@ -1,6 +1,6 @@
 //! What a session is asked to do.
 
-use norm_base::{Octets, Profile, Text};
+use norm_base::{NodeId, Octets, Profile, Text};
 use std::marker::Model;
 
 /// What a command does.
@@ -21,7 +21,7 @@ pub enum Verb {
     /// Begins a new instance of the sender.
     Restart { instance: u16 },
     /// Takes a receiver from the sender's list for good.
-    Strike { node: u32 },
+    Strike { node: NodeId },
 }
 
 /// A command: its producer, that producer's number of it (1, 2, ..), and what it does.

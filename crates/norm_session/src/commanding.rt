@@ -26,7 +26,7 @@ use crate::arrivals::{Arrivals, Arrived};
 use crate::fault::SessionFault;
 use crate::printing::write_line;
 use crate::run::Run;
-use norm_base::{Files, InstanceId, Memory, Moment, NodeId, Octets, Origin, Sink};
+use norm_base::{Files, InstanceId, Memory, Moment, Octets, Origin, Sink};
 use norm_journal::{Totals, gave_line};
 use norm_order::copy_of_octets;
 use norm_script::{Line, Script, Verb};
@@ -73,22 +73,11 @@ fn write_of(bytes: &Octets) -> Result<Job, Memory>
     Ok(Job::Write { bytes })
 }
 
-/// The job of a strike.
-fn strike_of(node: u32) -> Result<Job, Memory>
-    ensures { IfOk result (λ job. job ≡ Job.Strike node) }
-{
-    // Only a script that was not read may strike a number that no node has.
-    match NodeId::of(node) {
-        Some(node) => Ok(Job::Strike { node }),
-        None => Err(Memory),
-    }
-}
-
 /// The job of a command that has its octets with it, in memory of its own. `None` exactly where it is of a file.
 ///
 /// # Errors
 ///
-/// `Memory` where memory runs out. So also for a struck number that no node has, 0 or 4294967295, which no script has that is read.
+/// `Memory` where memory runs out.
 fn job_of(verb: &Verb) -> Result<Option<Job>, Memory>
     ensures job { IfOk result (λ job. job ≡ job_of verb.now) }
 {
@@ -108,10 +97,7 @@ fn job_of(verb: &Verb) -> Result<Option<Job>, Memory>
         Verb::Restart { instance } => Ok(Some(Job::Restart {
             instance: InstanceId(*instance),
         })),
-        Verb::Strike { node } => {
-            let job = strike_of(*node)?;
-            Ok(Some(job))
-        }
+        Verb::Strike { node } => Ok(Some(Job::Strike { node: *node })),
     }
 }
 

@@ -51,7 +51,7 @@ fn what_is_given_has_its_line(rt: HostRuntime) -> Result<(), Fail> {
     assert!(rt; gives(alloc, &all, marked(), b"mark 3 12 7 1 0 1 3\n"));
     let two = Verb::Mark { quorum: Some(2) };
     assert!(rt; gives(alloc, &two, marked(), b"mark 3 12 7 1 0 1 3 2\n"));
-    let strike = Verb::Strike { node: 3 };
+    let strike = Verb::Strike { node };
     assert!(rt; gives(alloc, &strike, Receipt::Struck { node }, b"strike 3 12 3\n"));
     Ok(())
 }

@@ -201,7 +201,7 @@ fn told(alloc: Global, line: &Line) -> Result<String, Fail> {
         Verb::File { name } => format!(in alloc; "file {:?}", name.bytes())?,
         Verb::Mark { quorum } => format!(in alloc; "mark {quorum:?}")?,
         Verb::Restart { instance } => format!(in alloc; "restart {instance}")?,
-        Verb::Strike { node } => format!(in alloc; "strike {node}")?,
+        Verb::Strike { node } => format!(in alloc; "strike {}", node.number())?,
         _ => String::from_str(alloc, "another")?,
     };
     Ok(format!(in alloc; "{producer} {number} {verb}")?)
