@@ -88,7 +88,7 @@ write-ok word = IfOk-bind (IsSpelled word) IsVerb (contents word) (λ bytes. Ok 
 restart-ok : (word : List ℕ) → IfOk (restart_of word) IsVerb
 restart-ok word =
     IfOk-bind (λ n. (0 ≤ n) × (n ≤ 65535) × (1 ≤ length word)) IsVerb (ok_or (number_within 0 65535 word) why.NoInstance) (λ instance. Ok (verb.Restart instance))
-    (IfOk-ok_or (λ n. (0 ≤ n) × (n ≤ 65535) × (1 ≤ length word)) (number_within 0 65535 word) why.NoInstance (number-some 0 65535 word)) (λ n h. h.1)
+    (IfOk-ok_or (λ n. (0 ≤ n) × (n ≤ 65535) × (1 ≤ length word)) (number_within 0 65535 word) why.NoInstance (number-some 0 65535 word)) (λ n h. omega (arith, h.1))
 
 mark-ok : (word : List ℕ) → IfOk (mark_of word) IsVerb
 mark-ok word =

@@ -182,7 +182,7 @@ verb-read (verb.Write bytes) is = rw (contents-written bytes is) refl
 verb-read verb.Close is = refl
 verb-read (verb.Mark None) is = refl
 verb-read (verb.Mark (Some quorum)) is = rw (within-written 1 16 quorum is.0 is.1 (lit< tt)) refl
-verb-read (verb.Restart instance) is = rw (within-written 0 65535 instance (omega arith) is (lit< tt)) refl
+verb-read (verb.Restart instance) is = rw (within-written 0 65535 instance (omega arith) (omega (arith, is)) (lit< tt)) refl
 verb-read (verb.Strike node) is = rw (within-written 1 4294967294 node is.0 is.1 (lit< tt)) refl
 
 verb-length : (v : Verb) → IsVerb v → length (verb_line v) ≤ 16498

@@ -1,6 +1,6 @@
 use Rattle.std.specs.Prelude.{ℕ, ◌+◌, ◌==◌, List, [], ◌∷◌, ◌++◌, length, count_by, nat_le, nat_lt, Option, None, Some, Result, Ok, Err, if◌then◌else◌}
 use Rattle.norm_base.specs.Settings.{Settings}
-use Rattle.norm_script.specs.Commands.{Commands}
+use Rattle.norm_script.specs.Commands.{Commands, most_commands}
 use Rattle.norm_script.specs.Head.{Begun, head_from, nothing_set, profile_of}
 use Rattle.norm_script.specs.Meaning.{meaning_of}
 use Rattle.norm_script.specs.Steps.{◌>>=◌, unless}
@@ -23,7 +23,7 @@ next_line before producer verb =
 -- why a command is refused behind so many
 abbrev pub command_refused : Settings → ℕ → ℕ → Option Why
 command_refused profile before producer =
-    if nat_le 4096 before then Some why.ManyCommands else
+    if nat_le most_commands before then Some why.ManyCommands else
     (if nat_lt profile.producers producer then Some (why.Producer producer profile.producers) else None)
 
 -- a line is taken in behind these commands

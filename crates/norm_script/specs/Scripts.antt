@@ -1,8 +1,9 @@
-use Rattle.std.specs.Prelude.{◌≡◌, ℕ, ◌+◌, ◌≤◌, ◌==◌, true, List, [], ◌∷◌, ◌++◌, length, count_by, None, Some}
+use Rattle.std.specs.Prelude.{◌≡◌, ℕ, ◌+◌, ◌<◌, ◌≤◌, ◌==◌, true, List, [], ◌∷◌, ◌++◌, length, count_by, None, Some}
 use Rattle.std.specs.List.{AllByRecursion}
 use Rattle.norm_base.specs.Octets.{AreOctets}
 use Rattle.norm_base.specs.Settings.{InRange}
-use Rattle.norm_script.specs.Commands.{Commands}
+use Rattle.norm_base.specs.Sizes.{id_count}
+use Rattle.norm_script.specs.Commands.{Commands, most_commands}
 use Rattle.norm_script.specs.Words.{is_name}
 use Rattle.norm_script.specs.declared.meaning.Meaning.{Meaning}
 use Rattle.norm_script.specs.declared.meaning.Meaning.TheVariants.{Command}
@@ -30,7 +31,7 @@ IsVerb (verb.Data (Some info) bytes) = IsObject bytes info
 IsVerb (verb.File name) = is_name name ≡ true
 IsVerb (verb.Write bytes) = IsContents bytes
 IsVerb (verb.Mark (Some quorum)) = (1 ≤ quorum) × (quorum ≤ 16)
-IsVerb (verb.Restart instance) = instance ≤ 65535
+IsVerb (verb.Restart instance) = instance < id_count
 IsVerb (verb.Strike node) = (1 ≤ node) × (node ≤ 4294967294)
 IsVerb verb = Unit {0}
 
@@ -54,7 +55,7 @@ AreNumbered before (line ∷ lines) =
 -- a profile within its ranges, and at most 4,096 commands of its producers, each of which numbers its own from 1 on
 pub record IsScript (script : Commands) : Type 0 where
   pub range : InRange script.profile
-  pub few : length script.lines ≤ 4096
+  pub few : length script.lines ≤ most_commands
   pub each : AllByRecursion (IsLine script.profile.producers) script.lines
   pub numbered : AreNumbered [] script.lines
 
@@ -63,7 +64,7 @@ abbrev pub CanOffer : Verb → Type 0
 CanOffer (verb.Data None bytes) = AreOctets bytes
 CanOffer (verb.Data (Some info) bytes) = AreOctets bytes × AreOctets info
 CanOffer (verb.Write bytes) = AreOctets bytes
-CanOffer (verb.Restart instance) = instance ≤ 65535
+CanOffer (verb.Restart instance) = instance < id_count
 CanOffer verb = Unit {0}
 
 -- such a command, of one of so many producers
@@ -76,6 +77,6 @@ pub record CanSubmit (producers : ℕ) (line : Line) : Type 0 where
 -- of a node by its type.
 pub record CanRun (script : Commands) : Type 0 where
   pub range : InRange script.profile
-  pub few : length script.lines ≤ 4096
+  pub few : length script.lines ≤ most_commands
   pub each : AllByRecursion (CanSubmit script.profile.producers) script.lines
   pub numbered : AreNumbered [] script.lines

@@ -2,6 +2,7 @@
 
 ghost use Rattle.std.specs.Prelude.{◌≡◌, ◌+◌, ◌≤◌, ◌==◌, count_by, length, MatchResult, Ok, IfOk};
 ghost use Rattle.std.specs.Result.{result_err};
+ghost use Rattle.norm_script.specs.Commands.{most_commands};
 ghost use Rattle.norm_script.specs.Reading.{next_line, command_refused, take_in, take_line, commands_from, script_of, commands_of};
 ghost use Rattle.norm_script.specs.Refused.{IsRefused};
 ghost use Rattle.norm_script.specs.Steps.{unless};
@@ -27,7 +28,7 @@ fn count_of(lines: &[Line], producer: u32) -> usize
 
 /// A producer's next command.
 fn next_line(before: &[Line], producer: u32, verb: Verb) -> Line
-    requires { length before.now ≤ 4096 }
+    requires { length before.now ≤ most_commands }
     ensures { result ≡ next_line before.now producer verb }
 {
     Line {
