@@ -4,3 +4,4 @@ mod OnceLemmas
 mod EventLemmas
 mod PushLemmas
 mod HandLemmas
+mod CountedLemmas

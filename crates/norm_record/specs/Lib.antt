@@ -6,4 +6,5 @@ pub mod Offered
 pub mod Once
 pub mod Events
 pub mod HandedUp
+pub mod Counted
 pub mod Told

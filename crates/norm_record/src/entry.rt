@@ -1,12 +1,14 @@
 //! What is kept of an event.
 
 ghost use Rattle.std.specs.Prelude.{◌≡◌};
+ghost use Rattle.norm_journal.specs.Counts.{is_expired};
+ghost use Rattle.norm_record.specs.Counted.{is_refused};
 ghost use Rattle.norm_record.specs.Events.{rare_event};
 ghost use Rattle.norm_record.specs.Told.{told_of};
 
 use crate::seen::Seen;
 use norm_base::{Moment, NodeId, Octets, Origin, Sent};
-use norm_send_rules::{Job, News, Receipt, SendFault};
+use norm_send_rules::{Job, News, Outcome, Receipt, SendFault};
 
 /// An event without its octets: these stand at its place among what is kept.
 #[derive(Clone, Copy)]
@@ -86,5 +88,32 @@ impl Rare {
             Rare::News(news) => Seen::News(news),
             Rare::End => Seen::End,
         }
+    }
+
+    /// Whether a command was refused for good.
+    pub(crate) fn is_refused(&self) -> bool
+        ensures { result ≡ is_refused (rare_event self.now) }
+    {
+        match self {
+            Rare::Job { gave, .. } => match gave {
+                Ok(_) => false,
+                Err(fault) => !fault.may_wait(),
+            },
+            Rare::Length { fault, .. } => !fault.may_wait(),
+            _ => false,
+        }
+    }
+
+    /// Whether a watermark expired.
+    pub(crate) fn is_expired(&self) -> bool
+        ensures { result ≡ is_expired (rare_event self.now) }
+    {
+        let Rare::News(news) = self else {
+            return false;
+        };
+        let News::Done { outcome, .. } = news else {
+            return false;
+        };
+        matches!(outcome, Outcome::Expired { .. })
     }
 }

@@ -1,15 +1,18 @@
 //! A journal that is kept.
 
-ghost use Rattle.std.specs.Prelude.{◌≡◌, ◌<◌, [], length, slice_get, Some, sum_by, nat_eq};
+ghost use Rattle.std.specs.Prelude.{◌≡◌, ◌<◌, [], count_by, length, slice_get, Some, sum_by, nat_eq};
 ghost use Rattle.std.specs.Option.{option_map};
 ghost use Rattle.std.specs.Set.{distinct_count};
+ghost use Rattle.norm_journal.specs.Counts.{is_expired};
 ghost use Rattle.norm_journal.specs.declared.event.Event.TheVariants as event;
+ghost use Rattle.norm_record.specs.Counted.{is_refused};
 ghost use Rattle.norm_record.specs.Events.{rare_event};
 ghost use Rattle.norm_record.specs.HandedUp.{handed_up};
 ghost use Rattle.norm_record.specs.Offered.{Adds, TakesOffered, offered};
 ghost use Rattle.norm_record.specs.Once.{UpsAgree, names_in};
 ghost use Rattle.norm_record.specs.Told.{told_of};
 
+use crate::counts::Counts;
 use crate::entry::{Entry, Hand, Rare, Turn};
 use crate::lending::{hand_at, lent};
 use crate::offers::Offers;
@@ -35,6 +38,7 @@ pub struct Journal {
     turns: Vec<Turn>,
     /// The hand-ups in their order.
     hands: Vec<Hand>,
+    counts: Counts,
 }
 
 impl Model for Journal {
@@ -43,6 +47,7 @@ impl Model for Journal {
 
     ghost Value = { List Event };
 
+    ghost use Rattle.norm_record.specs.Counted.{AreCounts};
     ghost use Rattle.norm_record.specs.Events.{events_of, IsKept};
     ghost use Rattle.norm_record.specs.HandedUp.{HandsKept};
 
@@ -53,6 +58,8 @@ impl Model for Journal {
     ghost invariant = { λ j. IsKept
         (record { offers = j.offers; apart = j.apart; ups = j.ups; rares = j.rares.items; turns = j.turns.items })
         j.entries.items × HandsKept j.ups j.hands.items (events_of
+        (record { offers = j.offers; apart = j.apart; ups = j.ups; rares = j.rares.items; turns = j.turns.items })
+        j.entries.items) × AreCounts j.counts (events_of
         (record { offers = j.offers; apart = j.apart; ups = j.ups; rares = j.rares.items; turns = j.turns.items })
         j.entries.items) };
 }
@@ -70,6 +77,10 @@ impl Journal {
             rares: Vec::new(alloc),
             turns: Vec::new(alloc),
             hands: Vec::new(alloc),
+            counts: Counts {
+                refused: 0,
+                expired: 0,
+            },
         }
     }
 
@@ -101,6 +112,20 @@ impl Journal {
         ensures { option_map (λ hand. (hand.0, hand.1.now)) result ≡ slice_get (handed_up self.now) i }
     {
         hand_at(&self.ups, &self.hands, i)
+    }
+
+    /// How many commands were refused for good. One that waits for room was not.
+    pub fn refused(&self) -> u64
+        ensures { result ≡ count_by is_refused self.now }
+    {
+        self.counts.refused
+    }
+
+    /// How many watermarks expired.
+    pub fn expired(&self) -> u64
+        ensures { result ≡ count_by is_expired self.now }
+    {
+        self.counts.expired
     }
 
     /// The event at a place, lent.
@@ -260,9 +285,14 @@ impl Journal {
         let Ok(at) = u32::try_from(self.rares.len()) else {
             return Err(Memory);
         };
+        // Never `None`: a count is at most the number of rare events, which has 32 bits.
+        let Some(counted) = self.counts.after(&rare) else {
+            return Err(Memory);
+        };
         self.entries.reserve(1)?;
         self.rares.push(rare)?;
         self.entries.push_reserved(Entry::Rare { at });
+        self.counts = counted;
         Ok(())
     }
 }

@@ -1,6 +1,7 @@
 //! The journal of a session as it is kept: each octet once, seen by contracts as the list of its events.
 #![tactic(auto)]
 
+mod counts;
 mod entry;
 mod journal;
 mod latest;

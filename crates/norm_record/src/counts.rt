@@ -1,0 +1,36 @@
+//! How many events there are of two kinds.
+
+ghost use Rattle.std.specs.Prelude.{◌≡◌, ◌+◌, IfSome, if◌then◌else◌};
+ghost use Rattle.norm_record.specs.Counted.{with_event};
+ghost use Rattle.norm_record.specs.Events.{rare_event};
+
+use crate::entry::Rare;
+
+/// How many commands were refused for good, and how many watermarks expired.
+#[derive(Clone, Copy)]
+pub(crate) struct Counts {
+    pub(crate) refused: u64,
+    pub(crate) expired: u64,
+}
+
+/// A count, with one more if there is one. `None` if it does not fit 64 bits.
+fn counted(count: u64, more: bool) -> Option<u64>
+    ensures { IfSome result (λ n. n ≡ count + (if more then 1 else 0)) }
+{
+    if more {
+        count.checked_add(1)
+    } else {
+        Some(count)
+    }
+}
+
+impl Counts {
+    /// The counts after one more event. `None` if a count does not fit 64 bits.
+    pub(crate) fn after(self, rare: &Rare) -> Option<Counts>
+        ensures { IfSome result (λ counts. counts ≡ with_event (rare_event rare.now) self) }
+    {
+        let refused = counted(self.refused, rare.is_refused())?;
+        let expired = counted(self.expired, rare.is_expired())?;
+        Some(Counts { refused, expired })
+    }
+}
