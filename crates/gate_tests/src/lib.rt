@@ -4,6 +4,8 @@
 #[cfg(test)]
 mod alone;
 #[cfg(test)]
+mod lines;
+#[cfg(test)]
 mod sessions;
 #[cfg(test)]
 mod threads;

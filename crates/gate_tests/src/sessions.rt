@@ -1,12 +1,15 @@
 //! What a session does with its gate and its board.
 ghost use Rattle.std.specs.Prelude.{◌≡◌, IfOk, IfSome};
+ghost use Rattle.norm_base.specs.Octets.{AreOctets};
+ghost use Rattle.norm_base.specs.Settings.{InRange};
 ghost use Rattle.norm_script.specs.Scripts.{CanRun};
 
 use mark_book::Outcome;
-use norm_base::{Failed, Memory, Sink};
+use norm_base::{Failed, Memory, Octets, Profile, Sink};
 use norm_memory::{DirectFabric, MemClock, MemFiles};
-use norm_script::{Script, read};
-use norm_session::{SessionFault, run_session};
+use norm_order::Up;
+use norm_script::{Line, Script, Verb, read};
+use norm_session::{Ended, Journal, SessionFault, run_session};
 use producer_gate::{Board, Seen, Through, Turnstile};
 use std::alloc::Global;
 use std::sync::Wait;
@@ -59,7 +62,7 @@ impl Sink for Looking<'_> {
     }
 }
 
-/// Whether the session of a script is done, in memory, with its producers at this turnstile.
+/// How the session of a script ended, in memory, with its producers at this turnstile.
 fn ran<R: Threads + Wait + Sync, G: Turnstile + Sync, K: Sink>(
     rt: &R,
     alloc: Global,
@@ -67,14 +70,14 @@ fn ran<R: Threads + Wait + Sync, G: Turnstile + Sync, K: Sink>(
     gate: &G,
     board: &mut Board,
     output: &mut K,
-) -> Result<bool, SessionFault>
+) -> Result<Ended, SessionFault>
     requires { CanRun script.now }
     ensures { board.new.id ≡ board.old.id }
 {
     let mut fabric = DirectFabric::new(alloc)?;
     let mut files = MemFiles::of(Vec::new(alloc), Vec::new(alloc));
     let mut clock = MemClock::of(Vec::new(alloc));
-    let ended = run_session(
+    run_session(
         rt,
         alloc,
         script,
@@ -84,8 +87,7 @@ fn ran<R: Threads + Wait + Sync, G: Turnstile + Sync, K: Sink>(
         &mut fabric,
         &mut files,
         &mut clock,
-    )?;
-    Ok(ended.whole)
+    )
 }
 
 /// What a reader finds of marks 1 and 2 once it was told of all that the session of a text published, with its producers at this turnstile. `None`
@@ -104,7 +106,7 @@ fn looks_after<R: Threads + Wait + Sync, G: Turnstile + Sync, K: Sink>(
     let Some(mut reader) = readers.pop() else {
         return Ok(None);
     };
-    if !ran(rt, alloc, &script, gate, &mut board, output)? {
+    if !ran(rt, alloc, &script, gate, &mut board, output)?.whole {
         return Ok(None);
     }
     reader.learn(board.front());
@@ -233,4 +235,82 @@ fn found_at_first<R: Threads + Wait + Clock + Sync>(
 fn a_command_comes_after_its_producer_passed(rt: HostRuntime) {
     let found = found_at_first(&rt, rt.alloc(), b"1 data 01\n1 data 02\n").unwrap_or(None);
     assert!(rt; found == Some(1));
+}
+
+/// How many octets the long object has: 139 symbols of 1,024. A line of a script has at most 8,192 octets.
+const LONG: u32 = 142_336;
+
+/// The long object's octets. 251 is prime, so that no symbol has the octets of another.
+fn long_object(alloc: Global) -> Result<Vec<u8>, Memory> {
+    let mut octets = Vec::new(alloc);
+    for i in 0..LONG {
+        octets.push((i % 251) as u8)?;
+    }
+    Ok(octets)
+}
+
+// Proof: a profile's numbers are in their ranges, once one of them is read.
+fn is_in_range(profile: &Profile)
+    ensures { InRange profile.now }
+{
+    let _producers = profile.producers;
+}
+
+// Proof: a slice of octets has octets alone.
+fn hold_octets(bytes: &[u8])
+    ensures { AreOctets bytes.now }
+{}
+
+/// A script of one command, which sends a data object of these octets.
+fn script_of_object(alloc: Global, octets: Vec<u8>) -> Result<Script, Memory>
+    ensures { IfOk result CanRun }
+{
+    let profile = Profile::default();
+    is_in_range(&profile);
+    hold_octets(octets.as_slice());
+    let verb = Verb::Data {
+        info: None,
+        bytes: Octets::of(octets),
+    };
+    let mut lines = Vec::new(alloc);
+    lines.push(Line {
+        producer: 1,
+        number: 1,
+        verb,
+    })?;
+    Ok(Script { profile, lines })
+}
+
+/// Whether a hand-up is an object of these octets.
+fn is_object(up: &Up, octets: &[u8]) -> bool {
+    match up {
+        Up::Object { bytes, .. } => bytes.bytes() == octets,
+        _ => false,
+    }
+}
+
+/// Whether a journal has one hand-up, which is an object of these octets.
+fn has_handed(journal: &Journal, octets: &[u8]) -> bool {
+    let Some((_node, up)) = journal.up(0) else {
+        return false;
+    };
+    is_object(up, octets) && journal.up(1).is_none()
+}
+
+/// Whether a session hands the long object up, octet for octet, and refuses nothing.
+fn hands_object_up<R: Threads + Wait + Sync>(rt: &R, alloc: Global) -> Result<bool, SessionFault> {
+    let octets = long_object(alloc)?;
+    let script = script_of_object(alloc, long_object(alloc)?)?;
+    let (mut board, _readers) = Board::new(alloc, 1)?;
+    let flag = AtomicU64::new(0);
+    let mut output = Looking::at(&flag);
+    let ended = ran(rt, alloc, &script, &Through, &mut board, &mut output)?;
+    let refused = ended.journal.refused();
+    Ok(ended.whole && refused == 0 && has_handed(&ended.journal, &octets))
+}
+
+#[test]
+fn an_object_longer_than_any_line_is_handed_up(rt: HostRuntime) {
+    let whole = hands_object_up(&rt, rt.alloc()).unwrap_or(false);
+    assert!(rt; whole);
 }

@@ -1,8 +1,8 @@
 //! Each call that makes a line once with ample memory, and a line of the largest object.
 
 use fec_plan::Position;
-use norm_base::{InstanceId, Kind, NodeId, Octets, Origin, Text};
-use norm_journal::{Totals, end_line, gave_line, news_line, refusal_line, up_line};
+use norm_base::{InstanceId, Kind, Memory, NodeId, Octets, Origin, Text};
+use norm_journal::{Totals, end_line, gave_line, news_line, of_line, refusal_line, up_line};
 use norm_order::Up;
 use norm_script::Verb;
 use norm_send_rules::{EnqueueFault, MarkFault, News, Outcome, Receipt, SendFault, StrikeFault};
@@ -126,6 +126,47 @@ fn news_have_their_lines(rt: HostRuntime) -> Result<(), Fail> {
     };
     assert!(rt; tells(rt.alloc(), &[node], &done, b"done 1 expired 2\n"));
     Ok(())
+}
+
+/// The hand-up of a row.
+fn up_of(alloc: Global, row: u32) -> Result<Up, Memory> {
+    match row {
+        0 => Ok(Up::Object {
+            index: 0,
+            kind: Kind::Data,
+            info: None,
+            bytes: Octets::of(Vec::from_slice(alloc, b"hello")?),
+        }),
+        1 => Ok(Up::StreamOpen { index: 1 }),
+        _ => Ok(Up::Lost { index: 3 }),
+    }
+}
+
+/// Whether this is the line of the hand-up of a row, which node 2 makes of what node 1 sent.
+fn says_of(alloc: Global, row: u32, text: &[u8]) -> bool {
+    let (Some(sender), Some(node), Ok(up)) = (NodeId::of(1), NodeId::of(2), up_of(alloc, row))
+    else {
+        return false;
+    };
+    let mut line = Line::new(alloc);
+    match of_line(&mut line, sender, node, InstanceId(7), &up) {
+        Ok(()) => line.bytes() == text,
+        Err(_) => false,
+    }
+}
+
+/// The lines of hand-ups where there are several senders, by their rows.
+const OF_LINES: [(u32, &[u8]); 3] = [
+    (0, b"of 1 up 2 7 0 data 5 - 68656c6c6f\n"),
+    (1, b"of 1 up 2 7 1 open\n"),
+    (2, b"of 1 up 2 7 3 lost\n"),
+];
+
+#[test]
+fn a_hand_up_has_the_line_of_its_sender(rt: HostRuntime) {
+    for (row, text) in OF_LINES {
+        assert!(rt; says_of(rt.alloc(), row, text), "row {row}");
+    }
 }
 
 #[test]

@@ -3,7 +3,7 @@
 use norm_base::{InstanceId, Kind, Memory, Moment, NodeId, Octets, Origin, Sent};
 use norm_order::Up;
 use norm_record::{Journal, Seen};
-use norm_send_rules::{EnqueueFault, Job, News, Outcome, Receipt, SendFault};
+use norm_send_rules::{EnqueueFault, Job, MarkFault, News, Outcome, Receipt, SendFault};
 use std::alloc::Global;
 use std::test::Fail;
 
@@ -70,9 +70,8 @@ fn push_tick(journal: &mut Journal) -> Result<(), Memory> {
     journal.push_tick(node, Sent::Datagram)
 }
 
-/// Pushes that the watermark was satisfied.
-fn push_news(journal: &mut Journal) -> Result<(), Memory> {
-    let outcome = Outcome::Satisfied;
+/// Pushes that the watermark ended.
+fn push_done(journal: &mut Journal, outcome: Outcome) -> Result<(), Memory> {
     journal.push_news(News::Done { mark: 6, outcome })
 }
 
@@ -91,7 +90,7 @@ fn push_at(alloc: Global, journal: &mut Journal, i: usize) -> Result<(), Memory>
         9 => journal.push_empty(),
         10 => push_hello(alloc, journal, 2),
         11 => push_hello(alloc, journal, 3),
-        12 => push_news(journal),
+        12 => push_done(journal, Outcome::Satisfied),
         _ => journal.push_end(),
     }
 }
@@ -157,6 +156,76 @@ fn each_push_is_seen(rt: HostRuntime) -> Result<(), Fail> {
     assert!(rt; journal.hand_ups() == 1);
     for i in 0..EVENTS {
         assert!(rt; is_pushed(&journal, i), "event {i}");
+    }
+    Ok(())
+}
+
+/// The node that handed the object up, by the place of its hand-up: 0 if that is of something else, and `None` if there are no more.
+fn handed_by(journal: &Journal, i: u64) -> Option<u32> {
+    let Some((node, up)) = journal.up(i) else {
+        return None;
+    };
+    let Up::Object { bytes, .. } = up else {
+        return Some(0);
+    };
+    if bytes.bytes() == b"hello".as_slice() {
+        Some(node.number())
+    } else {
+        Some(0)
+    }
+}
+
+#[test]
+fn each_hand_up_is_found_by_its_place(rt: HostRuntime) -> Result<(), Fail> {
+    let Ok(journal) = all_kinds(rt.alloc()) else {
+        return Err("no memory")?;
+    };
+    for (i, node) in [(0u64, Some(2u32)), (1, Some(3)), (2, None)] {
+        assert!(rt; handed_by(&journal, i) == node, "hand-up {i}");
+    }
+    Ok(())
+}
+
+/// Pushes that the sender refused the command, or that it has to wait.
+fn push_fault(journal: &mut Journal, fault: SendFault) -> Result<(), Memory> {
+    journal.push_job(BY, None, Err(fault))
+}
+
+/// Pushes the event of a row.
+fn push_row(alloc: Global, journal: &mut Journal, row: u32) -> Result<(), Memory> {
+    match row {
+        0 => push_fault(journal, SendFault::Mark(MarkFault::Quorum { q: 5 })),
+        1 => {
+            let full = EnqueueFault::WindowFull { first: 0 };
+            push_fault(journal, SendFault::Enqueue(full))
+        }
+        2 => push_refusal(alloc, journal),
+        3 => push_done(journal, Outcome::Expired { left: 1 }),
+        4 => push_done(journal, Outcome::Satisfied),
+        _ => journal.push_job(BY, None, Ok(Receipt::Closed { index: 4 })),
+    }
+}
+
+/// How many commands were refused, and how many watermarks expired, after the events of these rows.
+fn counts_after(alloc: Global, rows: &[u32]) -> Result<(u64, u64), Memory> {
+    let mut journal = Journal::new(alloc);
+    for row in rows {
+        push_row(alloc, &mut journal, *row)?;
+    }
+    Ok((journal.refused(), journal.expired()))
+}
+
+#[test]
+fn refusals_and_expiries_are_counted(rt: HostRuntime) -> Result<(), Fail> {
+    let rows: [(&[u32], u64, u64); 4] = [
+        (&[], 0, 0),
+        (&[0, 1, 2, 1, 5], 2, 0),
+        (&[3, 4, 3], 0, 2),
+        (&[1, 2, 3], 1, 1),
+    ];
+    for (events, refused, expired) in rows {
+        let counts = counts_after(rt.alloc(), events);
+        assert!(rt; counts == Ok((refused, expired)), "{refused} refused");
     }
     Ok(())
 }
