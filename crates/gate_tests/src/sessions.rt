@@ -200,7 +200,11 @@ fn producers_run_at_once(rt: HostRuntime) {
     }
 }
 
-/// Holds the first producer up for a moment before its first command, and then sets a flag.
+/// For so many milliseconds a producer is held up. A session that does not wait for it writes its first line sooner, even one that
+/// runs with checks in place of its proofs.
+const HOLD_UP: u64 = 300;
+
+/// Holds the first producer up before its first command, and then sets a flag.
 #[derive(Drop)]
 struct Slow<'a, R: Clock> {
     clock: &'a R,
@@ -210,7 +214,7 @@ struct Slow<'a, R: Clock> {
 impl<R: Clock> Turnstile for Slow<'_, R> {
     fn pass(&self, producer: u32, number: u64) {
         if producer == 1 && number == 1 {
-            thread::sleep(self.clock, Duration::from_millis(50));
+            thread::sleep(self.clock, Duration::from_millis(HOLD_UP));
             self.passed.store(1, Ordering::SeqCst);
         }
     }
