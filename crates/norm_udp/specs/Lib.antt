@@ -1,7 +1,10 @@
 pub mod Addresses
+pub mod Failures
 pub mod Hearing
+pub mod Lanes
 pub mod Losses
 pub mod Misfits
+pub mod Passing
 pub mod Pausing
 pub mod Untold
 pub mod Ways

@@ -1,10 +1,13 @@
 //! The network of sockets.
 
-ghost use Rattle.std.specs.Prelude.{◌≡◌, ◌≤◌, [], true, false, length, IfOk, IfSome, IfNone, OnErr};
-ghost use Rattle.norm_base.specs.Faults.{Counts};
+ghost use Rattle.std.specs.Prelude.{◌≡◌, ◌≤◌, [], true, false, length, None, IfOk, IfErr, IfSome, IfNone, OnOk, OnErr};
+ghost use Rattle.norm_base.specs.Faults.{Counts, network_failed};
+ghost use Rattle.norm_base.specs.Network.{Starts};
 ghost use Rattle.norm_base.specs.Sizes.{datagram_room};
+ghost use Rattle.norm_udp.specs.Failures.{is_sending, tells_sending};
 ghost use Rattle.norm_udp.specs.Hearing.{heard_in};
 ghost use Rattle.norm_udp.specs.Misfits.{is_cut_off};
+ghost use Rattle.norm_udp.specs.Passing.{passed_by, misfit_by};
 ghost use Rattle.norm_udp.specs.Pausing.{is_answered};
 ghost use Rattle.norm_udp.specs.Untold.{untold};
 
@@ -89,7 +92,9 @@ impl<R: Net + Wait + Clock + Drop> UdpFabric<R> {
     ///
     /// `Memory` where memory runs out.
     pub fn new(alloc: Global, rt: R) -> Result<UdpFabric<R>, Memory>
-        ensures { IfOk result (λ f. ⟦<UdpFabric<R> as Fabric>⟧.fault_count f ≡ 0) }
+        ensures faults { IfOk result (λ f. ⟦<UdpFabric<R> as Fabric>⟧.fault_count f ≡ 0) }
+        ensures passed { IfOk result (λ f. passed_by f ≡ 0) }
+        ensures misfit { IfOk result (λ f. misfit_by f ≡ None) }
     {
         Ok(UdpFabric {
             rt,
@@ -106,14 +111,18 @@ impl<R: Net + Wait + Clock + Drop> UdpFabric<R> {
 
     /// Has these threads send what the hub offers, and what a sender alone does. It comes before `start`.
     pub fn send_by(&mut self, senders: Senders)
-        ensures { self.new.faults ≡ self.old.faults }
+        ensures faults { self.new.faults ≡ self.old.faults }
+        ensures passed { passed_by self.new ≡ passed_by self.old }
+        ensures misfit { misfit_by self.new ≡ misfit_by self.old }
     {
         self.senders = senders;
     }
 
     /// Closes all sockets. What a thread has to send still goes.
     pub fn close(&mut self)
-        ensures { self.new.faults ≡ self.old.faults }
+        ensures faults { self.new.faults ≡ self.old.faults }
+        ensures passed { passed_by self.new ≡ 0 }
+        ensures misfit { misfit_by self.new ≡ None }
     {
         self.senders.leave(&self.rt);
         self.open = Open::Nothing;
@@ -122,7 +131,9 @@ impl<R: Net + Wait + Clock + Drop> UdpFabric<R> {
 
     /// Waits until threads have sent all that was offered, for some seconds at most: before the process ends, and they with it. Answers what one of
     /// them failed at, if no call told it; it is no failed call, and counts as none.
-    pub fn drain(&self) -> Option<SocketCause> {
+    pub fn drain(&self) -> Option<SocketCause>
+        ensures { tells_sending result ≡ true }
+    {
         self.senders.drain(&self.rt)
     }
 
@@ -138,7 +149,8 @@ impl<R: Net + Wait + Clock + Drop> UdpFabric<R> {
 
     /// Keeps what a failed call was about, and counts it.
     fn keep(&mut self, cause: SocketCause)
-        ensures { Counts self.old.faults self.new.faults true }
+        ensures counted { Counts self.old.faults self.new.faults true }
+        ensures sieve { self.new.sieve ≡ self.old.sieve }
     {
         self.faults = self.faults.saturating_add(1);
         self.cause = Some(cause);
@@ -241,6 +253,7 @@ impl<R: Net + Wait + Clock + Drop> UdpFabric<R> {
     /// Sends a member's datagram, or has a thread send it, unless one failed at an earlier one.
     fn send(&self, from: NodeId, bytes: &[u8]) -> Result<(), SocketCause>
         requires { length bytes.now ≤ datagram_room }
+        ensures { IfErr result (λ cause. is_sending cause ≡ true) }
     {
         self.senders.check(&self.rt)?;
         self.open.send(&self.rt, &self.senders, from, bytes)
@@ -271,7 +284,12 @@ impl<R: Net + Wait + Clock + Drop> Fabric for UdpFabric<R> {
 
     ghost fault_count = { λ s. s.faults };
 
-    fn start(&mut self, profile: &Profile, local: Local) -> Result<(), FabricFault> {
+    fn start(&mut self, profile: &Profile, local: Local) -> Result<(), FabricFault>
+        ensures ok { OnOk result (Starts untold untold profile.now local) }
+        ensures passed { passed_by self.new ≡ 0 }
+        ensures misfit { misfit_by self.new ≡ None }
+        ensures cause { Counts self.old.faults self.new.faults (network_failed result) }
+    {
         self.close();
         self.pace = Pace::new(gap_of(profile, &local));
         self.sieve = Sieve::of(profile, &local);
@@ -315,11 +333,15 @@ impl<R: Net + Wait + Clock + Drop> Fabric for UdpFabric<R> {
 }
 
 impl<R> PassesOver for UdpFabric<R> {
-    fn passed_over(&self) -> u64 {
+    fn passed_over(&self) -> u64
+        ensures { result ≡ passed_by self.now }
+    {
         self.sieve.count
     }
 
-    fn misfit(&self) -> Option<Misfit> {
+    fn misfit(&self) -> Option<Misfit>
+        ensures { result ≡ misfit_by self.now }
+    {
         self.sieve.misfit
     }
 }

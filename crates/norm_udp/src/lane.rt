@@ -1,7 +1,8 @@
 //! A lane: datagrams on their way from a node to a thread that sends them. What lies in it has memory of its own from the start.
 
-ghost use Rattle.std.specs.Prelude.{◌≤◌, length};
+ghost use Rattle.std.specs.Prelude.{◌≡◌, ◌≤◌, true, length};
 ghost use Rattle.norm_base.specs.Sizes.{datagram_room};
+ghost use Rattle.norm_udp.specs.Failures.{tells_sending};
 
 use crate::cause::SocketCause;
 use crate::way::Way;
@@ -37,6 +38,7 @@ pub(crate) struct Posted {
     pub(crate) from: NodeId,
     pub(crate) datagram: Datagram,
     pub(crate) failed: Option<SocketCause>,
+    ghost sending: { tells_sending failed ≡ true },
 }
 
 /// What a node and a thread that sends for it share. The node takes a place for what it posts, and the thread gives it back.
@@ -132,7 +134,9 @@ impl Lane {
     }
 
     /// Takes what is kept of what the thread failed at.
-    pub(crate) fn kept<R: Wait>(&self, rt: &R) -> Option<SocketCause> {
+    pub(crate) fn kept<R: Wait>(&self, rt: &R) -> Option<SocketCause>
+        ensures { tells_sending result ≡ true }
+    {
         let Some(mut place) = self.failures.pop(rt) else {
             return None;
         };
@@ -142,7 +146,9 @@ impl Lane {
     }
 
     /// Takes what the thread failed at, which is then told. A failure of this very moment may be found at the next look alone.
-    pub(crate) fn failure<R: Wait>(&self, rt: &R) -> Option<SocketCause> {
+    pub(crate) fn failure<R: Wait>(&self, rt: &R) -> Option<SocketCause>
+        ensures { tells_sending result ≡ true }
+    {
         if !self.has_failed.load(Ordering::SeqCst) {
             return None;
         }

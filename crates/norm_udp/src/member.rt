@@ -1,8 +1,9 @@
 //! A member with a socket of its own, or one that sends to it.
 
-ghost use Rattle.std.specs.Prelude.{◌≡◌, true, IfOk};
+ghost use Rattle.std.specs.Prelude.{◌≡◌, true, IfOk, IfErr};
 ghost use Rattle.norm_base.specs.Members.{is_node};
 ghost use Rattle.norm_udp.specs.Addresses.{gets_copy};
+ghost use Rattle.norm_udp.specs.Failures.{is_sending};
 
 use crate::address::{Located, address_at, address_of, with_address};
 use crate::cause::SocketCause;
@@ -53,6 +54,7 @@ pub(crate) fn send_copy_through(
     bytes: &[u8],
 ) -> Result<(), SocketCause>
     requires { gets_copy profile.now from to.now.located.node ≡ true }
+    ensures { IfErr result (λ cause. is_sending cause ≡ true) }
 {
     send(&to.socket, bytes, address_of(profile, to.located.node))
 }

@@ -1,7 +1,9 @@
 //! Threads that send for a node, each from a lane of its own.
 
-ghost use Rattle.std.specs.Prelude.{◌≤◌, length};
+ghost use Rattle.std.specs.Prelude.{◌≡◌, ◌≤◌, true, length, IfErr};
 ghost use Rattle.norm_base.specs.Sizes.{datagram_room};
+ghost use Rattle.norm_udp.specs.Failures.{is_sending, tells_sending};
+ghost use Rattle.norm_udp.specs.Lanes.{lanes_of};
 
 use crate::cause::SocketCause;
 use crate::lane::{Lane, Posted};
@@ -120,7 +122,9 @@ impl Senders {
     }
 
     /// How many there are.
-    pub(crate) fn count(&self) -> usize {
+    pub(crate) fn count(&self) -> usize
+        ensures { result ≡ lanes_of self.now }
+    {
         self.0.len()
     }
 
@@ -146,7 +150,9 @@ impl Senders {
     /// # Errors
     ///
     /// What it failed at.
-    pub(crate) fn check<R: Wait>(&self, rt: &R) -> Result<(), SocketCause> {
+    pub(crate) fn check<R: Wait>(&self, rt: &R) -> Result<(), SocketCause>
+        ensures { IfErr result (λ cause. is_sending cause ≡ true) }
+    {
         for lane in &self.0 {
             if let Some(cause) = lane.failure(rt) {
                 return Err(cause);
@@ -156,11 +162,15 @@ impl Senders {
     }
 
     /// Waits until all that was offered is sent, for some seconds at most. Answers what one of them failed at and no call told.
-    pub(crate) fn drain<R: Wait + Clock>(&self, rt: &R) -> Option<SocketCause> {
+    pub(crate) fn drain<R: Wait + Clock>(&self, rt: &R) -> Option<SocketCause>
+        ensures { tells_sending result ≡ true }
+    {
         let mut left = None;
         for lane in &self.0 {
             lane.drain(rt);
-            left = left.or(lane.kept(rt));
+            if left.is_none() {
+                left = lane.kept(rt);
+            }
         }
         left
     }

@@ -1,6 +1,7 @@
 //! Single sockets. None of them ever waits.
 
-ghost use Rattle.std.specs.Prelude.{◌≡◌, [], false, IfOk, IfNone, OnErr, if◌then◌else◌};
+ghost use Rattle.std.specs.Prelude.{◌≡◌, [], true, false, IfOk, IfErr, IfNone, OnErr, if◌then◌else◌};
+ghost use Rattle.norm_udp.specs.Failures.{is_sending};
 
 use crate::cause::SocketCause;
 use crate::loss::is_loss;
@@ -62,7 +63,9 @@ pub(crate) fn connect<R: Net>(
 }
 
 /// What becomes of a datagram that was sent to an address: it may be lost.
-fn sent(done: io::Result<usize>, address: SocketAddr) -> Result<(), SocketCause> {
+fn sent(done: io::Result<usize>, address: SocketAddr) -> Result<(), SocketCause>
+    ensures { IfErr result (λ cause. is_sending cause ≡ true) }
+{
     match done {
         Ok(_) => Ok(()),
         Err(error) if is_loss(&error) => Ok(()),
@@ -75,16 +78,16 @@ pub(crate) fn send_to(
     socket: &UdpSocket,
     bytes: &[u8],
     address: SocketAddr,
-) -> Result<(), SocketCause> {
+) -> Result<(), SocketCause>
+    ensures { IfErr result (λ cause. is_sending cause ≡ true) }
+{
     sent(socket.send_to(bytes, address), address)
 }
 
 /// Sends a datagram through a socket that is connected to this address.
-pub(crate) fn send(
-    socket: &UdpSocket,
-    bytes: &[u8],
-    address: SocketAddr,
-) -> Result<(), SocketCause> {
+pub(crate) fn send(socket: &UdpSocket, bytes: &[u8], address: SocketAddr) -> Result<(), SocketCause>
+    ensures { IfErr result (λ cause. is_sending cause ≡ true) }
+{
     sent(socket.send(bytes), address)
 }
 

@@ -1,9 +1,11 @@
 //! The sockets that are open, by which members are in this process.
 
-ghost use Rattle.std.specs.Prelude.{◌≡◌, ◌≤◌, ◌+◌, ◌<◌, ◌==◌, ◌++◌, ◌∷◌, [], true, length, if◌then◌else◌, IfOk, IfSome, IfNone, OnOk, OnErr};
+ghost use Rattle.std.specs.Prelude.{◌≡◌, ◌≤◌, ◌+◌, ◌<◌, ◌==◌, ◌++◌, ◌∷◌, [], true, length, if◌then◌else◌, IfOk, IfErr, IfSome, IfNone, OnOk, OnErr};
 ghost use Rattle.norm_base.specs.Members.{receivers_of, members_of};
 ghost use Rattle.norm_base.specs.Sizes.{datagram_room};
 ghost use Rattle.norm_udp.specs.Addresses.{gets_copy};
+ghost use Rattle.norm_udp.specs.Failures.{is_sending};
+ghost use Rattle.norm_udp.specs.Lanes.{lanes_of, sharing, IsHub};
 ghost use Rattle.norm_udp.specs.Ways.{nodes_of, copies, is_on_way, way_from};
 
 use crate::address::{Located, address_at, address_of, gets_copy, heard_from, is_node, member_at};
@@ -197,25 +199,58 @@ fn open_own_ways<R: Net>(
     Ok(Vec::new(alloc))
 }
 
-/// Has so many threads send to the receivers, each to as many as another.
+/// Has the thread at this place send to its receivers, which are those of one of so many threads. `threads` is there for the clause alone.
+fn tell_way<R: Wait + Clock>(
+    rt: &R,
+    senders: &Senders,
+    profile: &Profile,
+    place: usize,
+    threads: usize,
+    receivers: Vec<Member>,
+) -> Result<(), OpenFault>
+    requires { nodes_of receivers.items ≡ way_from profile.now place threads }
+{
+    let way = Way::Copies {
+        profile: *profile,
+        receivers,
+    };
+    if !senders.tell(rt, place, way) {
+        return Err(OpenFault::Memory);
+    }
+    Ok(())
+}
+
+/// Opens a socket to each receiver of the thread at this place, of so many, and has it send there.
+fn share_way<R: Net + Wait + Clock>(
+    rt: &R,
+    alloc: Global,
+    senders: &Senders,
+    profile: &Profile,
+    place: usize,
+    threads: usize,
+) -> Result<(), OpenFault>
+    requires { place < threads }
+{
+    let receivers = open_ways(rt, alloc, profile, place, threads)?;
+    tell_way(rt, senders, profile, place, threads, receivers)
+}
+
+/// Has threads send to the receivers, each to as many as another. Returns how many do: all, unless there are fewer receivers.
 fn share_copying<R: Net + Wait + Clock>(
     rt: &R,
     alloc: Global,
     senders: &Senders,
     profile: &Profile,
-    threads: usize,
-) -> Result<(), OpenFault> {
+) -> Result<usize, OpenFault>
+    ensures { IfOk result (λ told. told ≡ sharing profile.now (lanes_of senders.now)) }
+{
+    let threads = senders.count().min(usize::from(profile.receivers));
+    let mut told = 0;
     for place in 0..threads {
-        let receivers = open_ways(rt, alloc, profile, place, threads)?;
-        let way = Way::Copies {
-            profile: *profile,
-            receivers,
-        };
-        if !senders.tell(rt, place, way) {
-            return Err(OpenFault::Memory);
-        }
+        share_way(rt, alloc, senders, profile, place, threads)?;
+        told += 1;
     }
-    Ok(())
+    Ok(told)
 }
 
 /// Opens the hub's socket, and one to each receiver.
@@ -224,11 +259,12 @@ fn open_hub<R: Net + Wait + Clock>(
     alloc: Global,
     senders: &Senders,
     profile: &Profile,
-) -> Result<Open, OpenFault> {
+) -> Result<Open, OpenFault>
+    ensures { IfOk result (λ opened. IsHub profile.now (lanes_of senders.now) opened) }
+{
     let address = address_at(profile.port);
     let socket = bind(rt, address)?;
-    let threads = senders.count().min(usize::from(profile.receivers));
-    share_copying(rt, alloc, senders, profile, threads)?;
+    let threads = share_copying(rt, alloc, senders, profile)?;
     let receivers = open_own_ways(rt, alloc, profile, threads)?;
     Ok(Open::Hub {
         profile: *profile,
@@ -263,6 +299,7 @@ fn send_copy(
     bytes: &[u8],
 ) -> Result<(), SocketCause>
     requires { gets_copy profile.now from to ≡ true }
+    ensures { IfErr result (λ cause. is_sending cause ≡ true) }
 {
     send_to(socket, bytes, address_of(profile, to))
 }
@@ -275,7 +312,8 @@ fn send_from(
     own: &Member,
     bytes: &[u8],
 ) -> Result<usize, SocketCause>
-    ensures { IfOk result (λ sent. sent ≡ copies profile.now own.now.located.node (nodes_of members.now)) }
+    ensures sent { IfOk result (λ sent. sent ≡ copies profile.now own.now.located.node (nodes_of members.now)) }
+    ensures err { IfErr result (λ cause. is_sending cause ≡ true) }
 {
     let from = own.located.node;
     let mut sent = 0;
@@ -294,7 +332,9 @@ fn send_among(
     members: &[Member],
     from: NodeId,
     bytes: &[u8],
-) -> Result<(), SocketCause> {
+) -> Result<(), SocketCause>
+    ensures { IfErr result (λ cause. is_sending cause ≡ true) }
+{
     for own in members {
         if own.located.node == from {
             send_from(profile, members, own, bytes)?;
@@ -310,7 +350,8 @@ fn send_back(
     from: NodeId,
     bytes: &[u8],
 ) -> Result<usize, SocketCause>
-    ensures { IfOk result (λ sent. sent ≡ copies profile.now from (profile.now.sender ∷ [])) }
+    ensures sent { IfOk result (λ sent. sent ≡ copies profile.now from (profile.now.sender ∷ [])) }
+    ensures err { IfErr result (λ cause. is_sending cause ≡ true) }
 {
     let sender = member_at(profile, 0);
     if !gets_copy(profile, from, sender) {
@@ -378,6 +419,7 @@ impl Open {
         bytes: &[u8],
     ) -> Result<(), SocketCause>
         requires { length bytes.now ≤ datagram_room }
+        ensures { IfErr result (λ cause. is_sending cause ≡ true) }
     {
         match self {
             Open::Nothing => Ok(()),

@@ -1,6 +1,7 @@
 //! Where a thread sends what lies in its lane.
 
-ghost use Rattle.std.specs.Prelude.{◌≡◌, IfOk};
+ghost use Rattle.std.specs.Prelude.{◌≡◌, true, IfOk, IfErr};
+ghost use Rattle.norm_udp.specs.Failures.{is_sending};
 ghost use Rattle.norm_udp.specs.Ways.{nodes_of, copies};
 
 use crate::address::gets_copy;
@@ -35,7 +36,8 @@ pub(crate) fn send_copies(
     from: NodeId,
     bytes: &[u8],
 ) -> Result<usize, SocketCause>
-    ensures { IfOk result (λ sent. sent ≡ copies profile.now from (nodes_of receivers.now)) }
+    ensures sent { IfOk result (λ sent. sent ≡ copies profile.now from (nodes_of receivers.now)) }
+    ensures err { IfErr result (λ cause. is_sending cause ≡ true) }
 {
     let mut sent = 0;
     for to in receivers {
@@ -49,7 +51,9 @@ pub(crate) fn send_copies(
 
 impl Way {
     /// Sends a member's datagram this way.
-    pub(crate) fn send(&self, from: NodeId, bytes: &[u8]) -> Result<(), SocketCause> {
+    pub(crate) fn send(&self, from: NodeId, bytes: &[u8]) -> Result<(), SocketCause>
+        ensures { IfErr result (λ cause. is_sending cause ≡ true) }
+    {
         match self {
             Way::Nowhere => Ok(()),
             Way::Copies { profile, receivers } => {
