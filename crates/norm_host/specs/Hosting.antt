@@ -1,4 +1,4 @@
-use Rattle.std.specs.Prelude.{◌≡◌, ℕ, List, [], ◌∷◌, ◌++◌, ◌||◌, Bool, true, false, Some, ⊤, if◌then◌else◌}
+use Rattle.std.specs.Prelude.{◌≡◌, ℕ, List, [], ◌∷◌, ◌++◌, ◌||◌, Bool, true, false, Some, None, ⊤, if◌then◌else◌}
 use Rattle.norm_base.specs.Copies.{members_at}
 use Rattle.norm_base.specs.Faults.{one_more}
 use Rattle.norm_base.specs.Network.{Network}
@@ -10,7 +10,9 @@ use Rattle.norm_base.specs.declared.kinds.Local.TheVariants as of
 use Rattle.norm_memory.specs.Chances.{ChanceState, chance_unstarted, chance_started, chance_offer, chance_take}
 use Rattle.norm_memory.specs.Direct.{direct_offer}
 use Rattle.norm_memory.specs.Networks.{NetworkState, unstarted, started, after_take}
+use Rattle.norm_udp.specs.Passing.{passed_by, misfit_by}
 use Rattle.norm_udp.specs.Untold.{untold}
+use Rattle.norm_udp.specs.declared.fabric.UdpFabric.{UdpFabric}
 
 -- A network that is one of three by the profile of its last start: its starts, which of the three it is, and how often a
 -- call failed. Of sockets nothing is known.
@@ -74,6 +76,10 @@ abbrev pub SharesMembers : List (Settings × Local) → FabricKind → NetworkSt
 SharesMembers starts kind.Direct direct = members_at starts ≡ members_at direct.starts
 SharesMembers starts kind.Chance direct = ⊤
 SharesMembers starts kind.Udp direct = ⊤
+
+-- in memory its sockets passed over nothing
+abbrev pub PassesNothing : {R : Type 0} → FabricKind → UdpFabric R → Type 0
+PassesNothing k udp = is_udp k ≡ false → (passed_by udp ≡ 0) × (misfit_by udp ≡ None)
 
 -- as it was made
 abbrev pub host_unstarted : HostState

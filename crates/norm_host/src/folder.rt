@@ -1,6 +1,6 @@
 //! The files of one folder.
 
-ghost use Rattle.std.specs.Prelude.{◌≡◌, ◌↔◌, ◌<◌, ◌≤◌, None, Some, Ok, IsTrue, IsOk, IfSome, length, string_bytes, IfOk, IfErr, OnOk, OnErr, is_err, true, false};
+ghost use Rattle.std.specs.Prelude.{◌≡◌, ◌↔◌, ◌+◌, ◌<◌, ◌≤◌, None, Some, Ok, IsTrue, IsOk, IfSome, length, string_bytes, IfOk, IfErr, OnOk, OnErr, is_err, true, false};
 ghost use Rattle.std.specs.Fs.{metadata_len, file_type, IsFile};
 ghost use Rattle.std.specs.Io.Seek.{MovesTo};
 ghost use Rattle.std.specs.IoError.{error_kind};
@@ -139,7 +139,11 @@ struct Said {
 
 impl Said {
     /// The length once more, if it is this file's and was not answered too often.
-    fn again(&mut self, name: &str) -> Option<u64> {
+    fn again(&mut self, name: &str) -> Option<u64>
+        ensures length { IfSome result (λ n. n ≡ self.old.length) }
+        ensures fewer { IfSome result (λ _. self.old.left ≡ self.new.left + 1) }
+        ensures same { self.new.length ≡ self.old.length }
+    {
         if self.left == 0 || self.name.as_bytes() != name.as_bytes() {
             return None;
         }
@@ -291,6 +295,7 @@ impl<F: fs::Files + Drop> FolderFiles<F> {
     fn keep_said(&mut self, name: &str, length: u64)
         ensures faults { self.new.faults ≡ self.old.faults }
         ensures stopped { self.new.stopped ≡ self.old.stopped }
+        ensures left { IfSome self.new.said (λ said. said.left ≡ 64) }
     {
         self.said = match String::from_str(self.alloc, name) {
             Ok(name) => Some(Said {

@@ -1,11 +1,13 @@
 //! The network that a profile names.
 
-ghost use Rattle.std.specs.Prelude.{◌≡◌, ◌≤◌, false, true, length, [], IfOk, IfNone, IsErrOf, OnOk, OnErr, if◌then◌else◌};
+ghost use Rattle.std.specs.Prelude.{◌≡◌, ◌≤◌, false, true, length, [], None, IfOk, IfNone, IsErrOf, OnOk, OnErr, if◌then◌else◌};
 ghost use Rattle.norm_base.specs.Faults.{Counts, network_failed};
 ghost use Rattle.norm_base.specs.Network.{Starts, answer_of, IsHonestAnswer, IsDirectAnswer};
 ghost use Rattle.norm_host.specs.Hosting.{is_chance, is_direct, is_udp, is_alone, is_within, may_fail, network_of, host_told, host_unstarted, host_started, host_failed, host_offer, host_take};
 ghost use Rattle.norm_memory.specs.Chances.{chance_started};
 ghost use Rattle.norm_memory.specs.Networks.{started, next_answer};
+ghost use Rattle.norm_udp.specs.Failures.{tells_sending};
+ghost use Rattle.norm_udp.specs.Passing.{passed_by, misfit_by};
 
 use norm_base::{Datagram, Fabric, FabricFault, FabricKind, Local, Memory, NodeId, Profile};
 use norm_memory::{ChanceFabric, DirectFabric};
@@ -29,6 +31,8 @@ fn begin<R: Net + Wait + Clock + Drop>(
     ensures chance { OnOk result (chance.new ≡ (if is_chance profile.now.fabric then chance_started chance.old profile.now local.now else chance.old)) }
     ensures failed { IsErrOf result FabricFault.Failed → is_udp profile.now.fabric ≡ true }
     ensures err { OnErr result ((direct.new ≡ direct.old) × (chance.new ≡ chance.old)) }
+    ensures passed { passed_by udp.new ≡ 0 }
+    ensures misfit { misfit_by udp.new ≡ None }
 {
     udp.close();
     match profile.fabric {
@@ -75,13 +79,13 @@ pub struct HostFabric<R> {
 }
 
 impl<R> Model for HostFabric<R> {
-    ghost use Rattle.norm_host.specs.Hosting.{HostState, SharesMembers};
+    ghost use Rattle.norm_host.specs.Hosting.{HostState, SharesMembers, PassesNothing};
 
     ghost Value = { HostState };
 
     ghost view = { λ f. record { starts = f.starts.items; kind = f.kind; direct = f.direct; chance = f.chance; faults = f.faults } };
 
-    ghost invariant = { λ f. SharesMembers f.starts.items f.kind f.direct };
+    ghost invariant = { λ f. SharesMembers f.starts.items f.kind f.direct × PassesNothing f.kind f.udp };
 }
 
 impl<R: Net + Wait + Clock + Drop> HostFabric<R> {
@@ -106,7 +110,9 @@ impl<R: Net + Wait + Clock + Drop> HostFabric<R> {
 
     /// Waits until threads have sent all that was offered, for some seconds at most: before the process ends, and they with it. Answers what one of
     /// them failed at, if no call told it.
-    pub fn drain(&self) -> Option<SocketCause> {
+    pub fn drain(&self) -> Option<SocketCause>
+        ensures { tells_sending result ≡ true }
+    {
         self.udp.drain()
     }
 
@@ -237,11 +243,15 @@ impl<R: Net + Wait + Clock + Drop> Fabric for HostFabric<R> {
 }
 
 impl<R: Net + Wait + Clock + Drop> PassesOver for HostFabric<R> {
-    fn passed_over(&self) -> u64 {
+    fn passed_over(&self) -> u64
+        ensures { is_udp self.now.kind ≡ false → result ≡ 0 }
+    {
         self.udp.passed_over()
     }
 
-    fn misfit(&self) -> Option<Misfit> {
+    fn misfit(&self) -> Option<Misfit>
+        ensures { is_udp self.now.kind ≡ false → result ≡ None }
+    {
         self.udp.misfit()
     }
 }
