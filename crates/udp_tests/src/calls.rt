@@ -22,8 +22,11 @@ const PROCESSES: u32 = 99;
 /// How many receivers a session of a table of steps has.
 const RECEIVERS: u32 = 2;
 
-/// How often it is looked for what has come. A look where nothing is there lasts a millisecond at most.
-const LOOKS: u32 = 16;
+/// The most looks for datagrams that are to come, and the looks after them for one that is not to come.
+// A look that finds nothing sleeps for a millisecond, if nothing came in the last ten. So a machine that does much else has seconds to deliver.
+const PATIENCE: u32 = 4_000;
+
+const GLANCES: u32 = 16;
 
 /// Octets of the longest datagram, of which a text has one letter.
 pub(crate) const LONGEST: usize = 1_500;
@@ -37,7 +40,7 @@ pub(crate) enum At {
 }
 
 /// What is done with a network: it is started with all members, with one or as the hub, or with all by a profile that names a network in
-/// memory; a member offers octets; or what came is taken.
+/// memory; a member offers octets; or what came is taken, once so many datagrams did.
 #[derive(Clone, Copy)]
 pub(crate) enum Step {
     StartAll,
@@ -45,7 +48,7 @@ pub(crate) enum Step {
     StartHub,
     StartInMemory,
     Offer(u32, &'static [u8]),
-    Take,
+    Take(u32),
 }
 
 /// The hub's port in a test of a process.
@@ -115,23 +118,41 @@ fn add_datagram(node: NodeId, octets: &[u8], all: &mut Vec<u8>) -> Result<(), Fa
     Ok(())
 }
 
-/// Adds what a take gives: a datagram, nothing, or `!` where it failed.
+/// Adds what a take gives: a datagram, nothing, or `!` where it failed. Returns how many datagrams it gave.
 fn take<F: Fabric>(
     fabric: &mut F,
     into: &mut Datagram,
     all: &mut Vec<u8>,
-) -> Result<(), FabricFault> {
+) -> Result<u32, FabricFault> {
     match fabric.take(into) {
-        Ok(Some(node)) => add_datagram(node, into.bytes(), all),
-        Ok(None) => Ok(()),
-        Err(_) => Ok(all.push(b'!')?),
+        Ok(Some(node)) => {
+            add_datagram(node, into.bytes(), all)?;
+            Ok(1)
+        }
+        Ok(None) => Ok(0),
+        Err(_) => {
+            all.push(b'!')?;
+            Ok(0)
+        }
     }
 }
 
-/// Adds what is taken in a few looks, and `;`.
-fn taken<F: Fabric>(alloc: Global, fabric: &mut F, all: &mut Vec<u8>) -> Result<(), FabricFault> {
+/// Adds what is taken until so many datagrams came, what comes in a few looks after them, and `;`.
+fn taken<F: Fabric>(
+    alloc: Global,
+    fabric: &mut F,
+    count: u32,
+    all: &mut Vec<u8>,
+) -> Result<(), FabricFault> {
     let mut into = Datagram::new(alloc)?;
-    for _ in 0..LOOKS {
+    let mut left = count;
+    for _ in 0..PATIENCE {
+        if left == 0 {
+            break;
+        }
+        left = left.saturating_sub(take(fabric, &mut into, all)?);
+    }
+    for _ in 0..GLANCES {
         take(fabric, &mut into, all)?;
     }
     all.push(b';')?;
@@ -149,7 +170,7 @@ fn called<F: Fabric>(fabric: &mut F, port: u16, step: Step) -> u8 {
         Step::StartHub => started(fabric, port, FabricKind::Udp, Some(Local::Hub)),
         Step::StartInMemory => started(fabric, port, FabricKind::Direct, Some(Local::All)),
         Step::Offer(number, octets) => offered(fabric, number, octets),
-        Step::Take => b'?',
+        Step::Take(_) => b'?',
     }
 }
 
@@ -161,8 +182,8 @@ fn take_step<F: Fabric>(
     step: Step,
     all: &mut Vec<u8>,
 ) -> Result<(), FabricFault> {
-    if matches!(step, Step::Take) {
-        return taken(alloc, fabric, all);
+    if let Step::Take(count) = step {
+        return taken(alloc, fabric, count, all);
     }
     all.push(called(fabric, port, step))?;
     Ok(())

@@ -78,7 +78,7 @@ const UNCONNECTED: [Row; 1] = [(Step::StartHub, "cannot connect to", 2, INVALID)
 /// Where those of receiver 2 are.
 const UNSENT: [Row; 2] = [
     (Step::Offer(2, b"lost"), "cannot send to", 0, UNKNOWN),
-    (Step::Take, "cannot receive at", 2, INVALID),
+    (Step::Take(0), "cannot receive at", 2, INVALID),
 ];
 
 /// What is said of a call: what stands before the address, the address's port, and why.

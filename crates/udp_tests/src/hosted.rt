@@ -17,7 +17,7 @@ const ALL_AND_NEXT: [(At, Step); 7] = [
     (At::Hub, Step::StartAll),
     (At::Sender, Step::Offer(1, b"a")),
     (At::Sender, Step::Offer(3, b"b")),
-    (At::Sender, Step::Take),
+    (At::Sender, Step::Take(4)),
     (At::Sender, Step::StartInMemory),
     (At::Hub, Step::StartAll),
 ];

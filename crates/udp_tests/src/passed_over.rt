@@ -16,8 +16,11 @@ const TOO_LONG: usize = 1_501;
 /// The hub and the first receiver are there; the sender's port is free.
 const STARTS: [(At, Step); 2] = [(At::Hub, Step::StartHub), (At::Receiver, Step::StartOne(2))];
 
-/// What came is taken at both.
-const TAKES: [(At, Step); 2] = [(At::Hub, Step::Take), (At::Receiver, Step::Take)];
+/// What came is taken at both: one datagram at the hub, and as many at the receiver.
+const BOTH: [(At, Step); 2] = [(At::Hub, Step::Take(1)), (At::Receiver, Step::Take(1))];
+
+/// The same, where nothing is to come to the receiver.
+const HUB_ALONE: [(At, Step); 2] = [(At::Hub, Step::Take(1)), (At::Receiver, Step::Take(0))];
 
 /// A port that a datagram goes from or to.
 #[derive(Clone, Copy)]
@@ -75,6 +78,7 @@ fn compare_taken<R: Net, F: Fabric + Drop>(
     rt: &R,
     networks: Networks<F>,
     stranges: &[Strange],
+    takes: &[(At, Step)],
     wanted: &[u8],
 ) -> Result<(), Fail> {
     let mut networks = networks;
@@ -82,7 +86,7 @@ fn compare_taken<R: Net, F: Fabric + Drop>(
     for strange in stranges {
         send(alloc, rt, networks.port, *strange)?;
     }
-    networks.compare(alloc, &TAKES, wanted)
+    networks.compare(alloc, takes, wanted)
 }
 
 /// Compares what networks of sockets take.
@@ -91,10 +95,11 @@ fn compare<R: Net + Wait + Clock + Copy + Drop>(
     rt: R,
     port: u16,
     stranges: &[Strange],
+    takes: &[(At, Step)],
     wanted: &[u8],
 ) -> Result<(), Fail> {
     let networks = networks(alloc, rt, port)?;
-    compare_taken(alloc, &rt, networks, stranges, wanted)
+    compare_taken(alloc, &rt, networks, stranges, takes, wanted)
 }
 
 #[test]
@@ -104,7 +109,7 @@ fn a_stranger_at_the_hub(rt: HostRuntime) -> Result<(), Fail> {
         (Port::Any, Port::Hub, Octets::Text(b"strange")),
         (Port::Sender, Port::Hub, Octets::Text(b"known")),
     ];
-    compare(rt.alloc(), rt, port, &stranges, b"1known;; 000")
+    compare(rt.alloc(), rt, port, &stranges, &HUB_ALONE, b"1known;; 000")
 }
 
 #[test]
@@ -116,7 +121,14 @@ fn a_datagram_that_is_too_long(rt: HostRuntime) -> Result<(), Fail> {
         (Port::Any, Port::Receiver, Octets::Long(TOO_LONG)),
         (Port::Any, Port::Receiver, Octets::Text(b"brief")),
     ];
-    compare(rt.alloc(), rt, port, &stranges, b"1short;2brief; 000")
+    compare(
+        rt.alloc(),
+        rt,
+        port,
+        &stranges,
+        &BOTH,
+        b"1short;2brief; 000",
+    )
 }
 
 #[test]
@@ -126,5 +138,5 @@ fn the_longest_datagram(rt: HostRuntime) -> Result<(), Fail> {
         (Port::Sender, Port::Hub, Octets::Long(LONGEST)),
         (Port::Any, Port::Receiver, Octets::Long(LONGEST)),
     ];
-    compare(rt.alloc(), rt, port, &stranges, b"1L;2L; 000")
+    compare(rt.alloc(), rt, port, &stranges, &BOTH, b"1L;2L; 000")
 }

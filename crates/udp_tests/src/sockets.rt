@@ -17,7 +17,7 @@ const ALL: [(At, Step); 5] = [
     (At::Hub, Step::StartAll),
     (At::Sender, Step::Offer(1, b"a")),
     (At::Sender, Step::Offer(3, b"b")),
-    (At::Sender, Step::Take),
+    (At::Sender, Step::Take(4)),
 ];
 
 /// What they answer.
@@ -27,17 +27,17 @@ const ALL_ANSWERS: &[u8] = b".!..1b2a2b3a; 010";
 pub(crate) const EACH: [(At, Step); 13] = [
     (At::Sender, Step::StartOne(1)),
     (At::Sender, Step::Offer(1, b"early")),
-    (At::Receiver, Step::Take),
+    (At::Receiver, Step::Take(0)),
     (At::Hub, Step::StartHub),
     (At::Receiver, Step::StartOne(2)),
     (At::Sender, Step::Offer(1, b"hello")),
-    (At::Hub, Step::Take),
+    (At::Hub, Step::Take(1)),
     (At::Hub, Step::Offer(1, b"hello")),
-    (At::Receiver, Step::Take),
-    (At::Sender, Step::Take),
+    (At::Receiver, Step::Take(1)),
+    (At::Sender, Step::Take(0)),
     (At::Hub, Step::Offer(2, b"back")),
-    (At::Receiver, Step::Take),
-    (At::Sender, Step::Take),
+    (At::Receiver, Step::Take(0)),
+    (At::Sender, Step::Take(1)),
 ];
 
 /// What they answer.
