@@ -1,3 +1,4 @@
 pub mod Following
 pub mod FollowingLaws
+pub mod Spending
 pub mod Watched

@@ -1,6 +1,7 @@
 //! A network that is watched.
 
 ghost use Rattle.std.specs.Prelude.{◌≡◌};
+ghost use Rattle.norm_watch.specs.Spending.{is_ended_by_turns, spent_by};
 ghost use Rattle.norm_watch.specs.Watched.{watched_by};
 
 use crate::saying::{Hex, Says, draw, wipe};
@@ -39,6 +40,49 @@ struct Node {
     hub: u32,
     /// The turns of its profile.
     turns: u32,
+}
+
+/// What is said as all turns of a profile were made.
+#[derive(Clone, Copy)]
+struct Spent {
+    turns: u32,
+    /// Whether datagrams still came.
+    is_busy: bool,
+}
+
+impl fmt::Display for Spent {
+    fn fmt<W: fmt::Write>(&self, f: &mut fmt::Formatter<W>) -> fmt::Result {
+        let turns = self.turns;
+        write!(f, "the {turns} turns are spent")?;
+        if self.is_busy {
+            write!(f, ", and datagrams still came")?;
+        }
+        Ok(())
+    }
+}
+
+/// Whether only its turns end a node that ends well.
+fn is_ended_by_turns(role: Role) -> bool
+    ensures { result ≡ is_ended_by_turns role }
+{
+    match role {
+        Role::Sender => false,
+        Role::Receiver => true,
+        Role::Hub => true,
+    }
+}
+
+/// What is said of a node that ended well. `None` if its turns did not end it, or this process is no node alone.
+fn spent_by(node: &Option<Node>, is_busy: bool) -> Option<Spent>
+    ensures { result ≡ spent_by node.now is_busy }
+{
+    match node {
+        Some(node) if is_ended_by_turns(node.role) => Some(Spent {
+            turns: node.turns,
+            is_busy,
+        }),
+        _ => None,
+    }
 }
 
 /// What a process is that has one node. `None` if all members are in it.
@@ -169,19 +213,11 @@ impl<'a, R: Eprint + Clock, F: Fabric + PassesOver> WatchedFabric<'a, R, F> {
         }
     }
 
-    /// Says that all turns were made. It is for a receiver or a hub that ended well, which only that ends; a sender says nothing.
+    /// Says that all turns were made, as [`spent_by`] has it: a receiver or the hub that ended well does. It is called as the program ended well.
     pub fn say_spent(&self) {
-        let Some(node) = self.node else {
-            return;
-        };
-        if matches!(node.role, Role::Sender) {
-            return;
-        }
-        let turns = node.turns;
-        if self.silence.is_broken(moment(&self.rt)) {
-            let _ = eprintln!(self.rt; "the {turns} turns are spent, and datagrams still came");
-        } else {
-            let _ = eprintln!(self.rt; "the {turns} turns are spent");
+        let is_busy = self.silence.is_broken(moment(&self.rt));
+        if let Some(spent) = spent_by(&self.node, is_busy) {
+            let _ = eprintln!(self.rt; "{spent}");
         }
     }
 
