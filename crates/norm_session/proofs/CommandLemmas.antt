@@ -48,7 +48,7 @@ use Rattle.norm_session.specs.Left.{IsTaken, lines_at}
 use Rattle.norm_session.specs.Noting.{IsAtHand, noted}
 use Rattle.norm_session.specs.Posting.{entries_in}
 use Rattle.norm_session.specs.RunKept.{RunKept}
-use Rattle.norm_session.specs.SoFar.{HasAll, IsOffered, IsTelling, At}
+use Rattle.norm_session.specs.SoFar.{HasAll, IsTakenFrom, IsTelling, At}
 use Rattle.norm_session.specs.Stopping.{IsUnwritten, Stopped}
 use Rattle.norm_session.specs.declared.fault.SessionFault.{SessionFault}
 use Rattle.norm_session.specs.declared.fault.SessionFault.TheVariants as fault
@@ -89,7 +89,7 @@ pulls x k journal left producer place network written taken joined here =
                 stands = s.stands;
                 accepted = (judges_what_follows j next e).1 (here.quiet, follows);
               })
-              (untold network e refl refl) (sym (gained-nil written)) (λ honest told. tt) refl refl tt;
+              (untold network e refl refl) (sym (gained-nil written)) tt refl refl tt;
           quiet = here.quiet;
         };
       };
@@ -152,10 +152,10 @@ pub record IsQuietEvent (e : Event) : Type 0 where
   pub no_answer : answers_in (e ∷ []) ≡ []
   pub no_turn : moments_in (e ∷ []) ≡ []
   pub no_outcome : entries_in (e ∷ []) ≡ []
-  pub no_take : (past : List Event) → IsOffered past e
+  pub no_take : (network : Network) (past : List Event) → IsTakenFrom network past e
 
 pub job_quiet : (by : Origin) (told : Option Job) (gave : Result Receipt SendFault) → IsQuietEvent (event.Job by told gave)
-job_quiet by told gave = record { no_offer = refl; no_answer = refl; no_turn = refl; no_outcome = refl; no_take = λ past. tt }
+job_quiet by told gave = record { no_offer = refl; no_answer = refl; no_turn = refl; no_outcome = refl; no_take = λ network past. tt }
 
 pub notes : (x : Context) (k v : RunKept) (e : Event) (journal : Option (List Event)) (totals : Totals) (waiting : Option ℕ) (place : ℕ) (line : Line)
     (gave : Result Receipt SendFault) (text : Option (List ℕ)) (network : Network) (unwritten written : Pieces) → IsQuietEvent e → k ≡ v
@@ -177,7 +177,7 @@ notes x k v e journal totals waiting place line gave text network unwritten writ
         journal = g.journal ++ e ∷ [];
         kept = joined ∙ kept_more k.alone k.journal g.journal e g.kept;
         leads = leads_on x g.journal e j next network network unwritten written g.leads accepted (untold network e quiet.no_offer quiet.no_answer)
-            (out ∙ ap (λ o. gained unwritten (option_to_list o)) (sym g.text_is)) (λ honest told. quiet.no_take g.journal) quiet.no_turn quiet.no_outcome g.octets;
+            (out ∙ ap (λ o. gained unwritten (option_to_list o)) (sym g.text_is)) (quiet.no_take x.network g.journal) quiet.no_turn quiet.no_outcome g.octets;
       };
     }
 
@@ -186,7 +186,7 @@ pub notes_stop : (x : Context) (failed : SessionFault) (k : RunKept) (e : Event)
     → IsAnswered x k place line e gave text network unwritten → Stopped x failed network written
 notes_stop x failed k e place line gave text network unwritten written quiet un g =
     line_stops x failed g.journal e (judged_of x k g.before (offering g.first line)) (given x k g.before g.after g.first line gave) network unwritten written
-    g.leads g.accepted quiet.no_offer quiet.no_answer quiet.no_turn quiet.no_outcome (λ honest told. quiet.no_take g.journal) g.octets
+    g.leads g.accepted quiet.no_offer quiet.no_answer quiet.no_turn quiet.no_outcome (quiet.no_take x.network g.journal) g.octets
     (subst (IsUnwritten failed unwritten written) (sym g.text_is) un)
 
 pub notes_memory : (x : Context) (k : RunKept) (e : Event) (place : ℕ) (line : Line) (gave : Result Receipt SendFault)

@@ -45,7 +45,7 @@ ended x k journal network unwritten written here done joined out =
             stands = s.stands;
             accepted = end_accepted x k w here.quiet done;
           })
-          (untold network e refl refl) out (λ honest told. tt) refl refl tt;
+          (untold network e refl refl) out tt refl refl tt;
       quiet = here.quiet;
     }
 
@@ -64,4 +64,4 @@ end_stops x failed k v network unwritten written is un =
     subst (λ (u : RunKept). (here : At x u Between network unwritten) → is_done (judged_of x u here.world Between) ≡ true → Stopped x failed network written) is
     (λ here done.
     line_stops x failed here.so_far.journal event.End (judged_of x k here.world Between) (judged_of x (keeping k (noted k.journal event.End)) here.world Over) network
-    unwritten written here.so_far.leads (end_accepted x k here.world here.quiet done) refl refl refl refl (λ honest told. tt) tt un)
+    unwritten written here.so_far.leads (end_accepted x k here.world here.quiet done) refl refl refl refl tt tt un)

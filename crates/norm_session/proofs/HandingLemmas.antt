@@ -102,7 +102,7 @@ hands x k v world node instance nodes up network unwritten written seen is out t
             stands = subst (λ (q : Settings). StandsFor world (world_step q w (UpTaken node)).0) s.all.world (is.event.steps w s.stands).0;
             accepted = up_accepted x k world w node instance nodes up s.all.world here.quiet s.stands is;
           })
-          (untold network e refl refl) out (λ honest told. tt) refl refl tt;
+          (untold network e refl refl) out tt refl refl tt;
       quiet = stays_quiet next w (world_laws.sender k.p w (UpTaken node) refl) here.quiet;
     }
 
@@ -117,7 +117,7 @@ hand_stops x failed k v world node instance nodes up network unwritten written s
     let w = here.world in
     line_stops x failed s.journal (event.Up node instance up) (judged_of x k w (Handing node nodes))
     (judged_of x (having_handed k world node instance up) (world_step k.p w (UpTaken node)).0 (Handing node nodes)) network unwritten written s.leads
-    (up_accepted x k world w node instance nodes up s.all.world here.quiet s.stands is) refl refl refl refl (λ honest told. tt) tt un
+    (up_accepted x k world w node instance nodes up s.all.world here.quiet s.stands is) refl refl refl refl tt tt un
 
 -- ---- its tick
 
@@ -192,7 +192,7 @@ receiver_ticks x k v world journal node nodes said out network written seen is_o
             stands = stepped.0;
             accepted = (judges_what_follows j (judged_of x new step.0 next) e).1 (here.quiet, follows);
           })
-          (untold network e refl refl) (sym (gained-nil written)) (λ honest told. tt) refl refl tt;
+          (untold network e refl refl) (sym (gained-nil written)) tt refl refl tt;
       quiet = stays_quiet step.0 w (world_laws.sender k.p w (Ticked node k.now) own) here.quiet;
     }
 

@@ -8,6 +8,7 @@ pub mod ReadingLemmas
 pub mod StartingLemmas
 pub mod CauseLemmas
 pub mod SafeLemmas
+pub mod DirectLemmas
 pub mod MomentLemmas
 pub mod TurningLemmas
 pub mod TurnsLemmas

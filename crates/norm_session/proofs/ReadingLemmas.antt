@@ -249,7 +249,7 @@ refused_cause (Some n) failed count output network = refl
 -- ---- the run
 
 pub length_quiet : (by : Origin) (name : List ℕ) (len : ℕ) (failed : SendFault) → IsQuietEvent (event.Length by name len failed)
-length_quiet by name len failed = record { no_offer = refl; no_answer = refl; no_turn = refl; no_outcome = refl; no_take = λ past. tt }
+length_quiet by name len failed = record { no_offer = refl; no_answer = refl; no_turn = refl; no_outcome = refl; no_take = λ network past. tt }
 
 -- a file's command is told each time
 told_there : (first : Bool) (line : Line) (name : List ℕ) → line.verb ≡ verb.File name → telling (offering first line) ≡ Some line
@@ -375,7 +375,7 @@ file_stops x k fault.Files place line first name network written is of due =
       last = j;
       begun = s.judged;
       told = s.told;
-      offered = s.offered;
+      taken = s.taken;
       moments = s.moments;
       board = s.board;
       octets = s.octets;
@@ -396,7 +396,7 @@ file_stops x k (fault.Absent other) place line first name network written is of 
       last = j;
       begun = s.judged;
       told = s.told;
-      offered = s.offered;
+      taken = s.taken;
       moments = s.moments;
       board = s.board;
       octets = s.octets;

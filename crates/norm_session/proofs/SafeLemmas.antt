@@ -5,7 +5,7 @@ use Rattle.std.specs.List.{AllByRecursion}
 use Rattle.std.proofs.lemmas.Option.{option_and_then_some}
 use Rattle.norm_base.specs.Network as network
 use Rattle.norm_base.specs.Network.{Network}
-use Rattle.norm_base.specs.Told.{Pieces}
+use Rattle.norm_base.specs.Told.{Pieces, gained}
 use Rattle.norm_script.specs.Commands.{Commands}
 use Rattle.norm_script.specs.Scripts.{CanRun}
 use Rattle.norm_safety.specs.InTime.{WasOffered}
@@ -26,7 +26,7 @@ use Rattle.norm_journal.specs.Honest.{IsHonest}
 use Rattle.norm_journal.specs.Jobs.{Told}
 use Rattle.norm_journal.specs.Judged.{Judged}
 use Rattle.norm_journal.specs.Laws.{HasOctets, octets_given}
-use Rattle.norm_journal.specs.Projections.{offers_in}
+use Rattle.norm_journal.specs.Projections.{offers_in, network_after}
 use Rattle.norm_journal.specs.SessionRun.{Begun}
 use Rattle.norm_journal.specs.WorldEvents.{world_events, TakesHonestly}
 use Rattle.norm_journal.proofs.FrontLemmas.{judged_from-append, events_after, fronts_happen}
@@ -35,7 +35,7 @@ use Rattle.norm_journal.proofs.OfferedLemmas.{offers_are_the_worlds}
 use Rattle.norm_journal.proofs.TimeLemmas.{begins_lawfully}
 use Rattle.norm_session.specs.Context.{Context, opening}
 use Rattle.norm_session.specs.Session.{IsSafe, IsSafeThroughout, OverHonest, nodes_of, session_opening, session_events}
-use Rattle.norm_session.specs.SoFar.{Leads, IsOffered, AreOffered}
+use Rattle.norm_session.specs.SoFar.{Leads, IsTakenFrom, AreTakenFrom}
 use Rattle.norm_session.specs.Stopping.{Stopped}
 use Rattle.norm_session.specs.declared.fault.SessionFault.{SessionFault}
 use Rattle.norm_session.proofs.SoFarLemmas.{judged_one}
@@ -58,42 +58,51 @@ take_was_offered j past to octets told was =
     let same : its.0.1.octets ≡ octets = ap (λ (g : ℕ × List ℕ). g.1) its.2 in
     record { from = its.0.0; datagram = its.0.1; other = λ is. was.1 (sym from ∙ is); offered = its.1; same = same }
 
-take_is_honest : (j : Judged) (past : List Event) (e : Event) → map octets_given j.world.offered ≡ offers_in past → IsOffered past e → IsHonest j e
-take_is_honest j past (event.Took to octets) told was = take_was_offered j past to octets told was
-take_is_honest j past event.Start told was = tt
-take_is_honest j past (event.Turn turn now) told was = tt
-take_is_honest j past (event.Pull by) told was = tt
-take_is_honest j past (event.Job by job gave) told was = tt
-take_is_honest j past (event.Length by name len fault) told was = tt
-take_is_honest j past (event.Tick node sent) told was = tt
-take_is_honest j past (event.Offer from octets) told was = tt
-take_is_honest j past event.Empty told was = tt
-take_is_honest j past (event.Up node instance up) told was = tt
-take_is_honest j past (event.News news) told was = tt
-take_is_honest j past event.End told was = tt
+-- what an honest network gave was offered before, if it had told nothing of offers as it was started
+was_offered : (n : Network) (past : List Event) (to : ℕ) (octets : List ℕ) → IsTrue n.honest → n.offered ≡ Some []
+    → network.IsHonestAnswer (network_after n past) (Some (to, octets)) → network.WasOffered (offers_in past) to octets
+was_offered n past to octets honest none answer =
+    subst (λ (o : Option (List (ℕ × List ℕ))). IfSome (gained o (offers_in past)) (λ offered. network.WasOffered offered to octets)) none (answer honest)
+
+take_is_honest : (n : Network) (j : Judged) (past : List Event) (e : Event) → IsTrue n.honest → n.offered ≡ Some []
+    → map octets_given j.world.offered ≡ offers_in past → IsTakenFrom n past e → IsHonest j e
+take_is_honest n j past (event.Took to octets) honest none told may =
+    take_was_offered j past to octets told (was_offered n past to octets honest none may.0)
+take_is_honest n j past event.Start honest none told may = tt
+take_is_honest n j past (event.Turn turn now) honest none told may = tt
+take_is_honest n j past (event.Pull by) honest none told may = tt
+take_is_honest n j past (event.Job by job gave) honest none told may = tt
+take_is_honest n j past (event.Length by name len fault) honest none told may = tt
+take_is_honest n j past (event.Tick node sent) honest none told may = tt
+take_is_honest n j past (event.Offer from octets) honest none told may = tt
+take_is_honest n j past event.Empty honest none told may = tt
+take_is_honest n j past (event.Up node instance up) honest none told may = tt
+take_is_honest n j past (event.News news) honest none told may = tt
+take_is_honest n j past event.End honest none told may = tt
 
 -- ---- the takes of a session
 
-judged_more : (start j next : Judged) (past : List Event) (e : Event) → judged_from start past ≡ Some j → accepts j e ≡ Some next
+pub judged_more : (start j next : Judged) (past : List Event) (e : Event) → judged_from start past ≡ Some j → accepts j e ≡ Some next
     → judged_from start (past ++ e ∷ []) ≡ Some next
 judged_more start j next past e so is =
     judged_from-append start past (e ∷ []) ∙ ap (λ o. option_and_then (λ n. judged_from n (e ∷ [])) o) so ∙ judged_one j next e is
 
-some_holds : {X : Type 0} (o : Option X) (P : X → Type 0) (x : X) → o ≡ Some x → P x → IfSome o P
+pub some_holds : {X : Type 0} (o : Option X) (P : X → Type 0) (x : X) → o ≡ Some x → P x → IfSome o P
 some_holds o P x is holds = subst (λ y. IfSome y P) (sym is) holds
 
-take_honestly : (script : Commands) (files : Told) (past events : List Event) (j last : Judged)
-    → judged_from (session_opening script files) past ≡ Some j → judged_from j events ≡ Some last → AreOffered past events → TakesHonestly j events
-unfolding judged_from AreOffered TakesHonestly
-take_honestly script files past [] j last so is offered = tt
-take_honestly script files past (e ∷ events) j last so is offered =
+take_honestly : (script : Commands) (files : Told) (n : Network) (past events : List Event) (j last : Judged) → IsTrue n.honest → n.offered ≡ Some []
+    → judged_from (session_opening script files) past ≡ Some j → judged_from j events ≡ Some last → AreTakenFrom n past events → TakesHonestly j events
+unfolding judged_from AreTakenFrom TakesHonestly
+take_honestly script files n past [] j last honest none so is taken = tt
+take_honestly script files n past (e ∷ events) j last honest none so is taken =
     option_and_then_some (λ next. judged_from next events) (accepts j e) last is (λ next comes more. (
-      take_is_honest j past e (offers_are_the_worlds script files (nodes_of script) past j so) offered.0,
+      take_is_honest n j past e honest none (offers_are_the_worlds script files (nodes_of script) past j so) taken.0,
       some_holds (accepts j e) (λ next. TakesHonestly next events) next comes
-          (take_honestly script files (past ++ e ∷ []) events next last (judged_more (session_opening script files) j next past e so comes) more offered.1),
+          (take_honestly script files n (past ++ e ∷ []) events next last honest none
+          (judged_more (session_opening script files) j next past e so comes) more taken.1),
     ))
 
-starts_there : (j : Judged) → judged_from j [] ≡ Some j
+pub starts_there : (j : Judged) → judged_from j [] ≡ Some j
 unfolding judged_from
 starts_there j = refl
 
@@ -122,17 +131,17 @@ lawful_is_safe script files journal is lawful are =
     }
 
 -- each front of it is one too
-pub safe_throughout : (script : Commands) (files : Told) (journal : List Event) (last : Judged) → CanRun script
-    → judged_from (session_opening script files) journal ≡ Some last → AreOffered [] journal → AllByRecursion HasOctets journal
-    → IsSafeThroughout script files journal
-safe_throughout script files journal last is so offered octets front rest joined =
+pub safe_throughout : (script : Commands) (files : Told) (n : Network) (journal : List Event) (last : Judged) → CanRun script
+    → IsTrue n.honest → n.offered ≡ Some [] → judged_from (session_opening script files) journal ≡ Some last → AreTakenFrom n [] journal
+    → AllByRecursion HasOctets journal → IsSafeThroughout script files journal
+safe_throughout script files n journal last is honest none so taken octets front rest joined =
     let start = session_opening script files in
     let begun : Begun script files (nodes_of script) journal = is_some (judged_from start journal) last so in
-    let honest = take_honestly script files [] journal start last (starts_there start) so offered in
+    let takes = take_honestly script files n [] journal start last honest none (starts_there start) so taken in
     let before = session_events script files front in
     let more = events_after (judged_from start front) rest in
     let events : session_events script files journal ≡ before ++ more = ap (world_events start) joined ∙ fronts_happen start front rest in
-    let lawful = subst (Lawful script.profile) events (begins_lawfully script files (nodes_of script) journal is begun octets honest) in
+    let lawful = subst (Lawful script.profile) events (begins_lawfully script files (nodes_of script) journal is begun octets takes) in
     let are = subst AreEvents events (commands_are_events script files (nodes_of script) journal is begun octets) in
     lawful_is_safe script files front is (front_laws.lawful script.profile before more lawful) (front_laws.events before more are)
 
@@ -156,7 +165,7 @@ pub safe_over : (x : Context) (journal : List Event) (j : Judged) (network : Net
     → OverHonest x.network (IsSafeThroughout x.script x.files journal)
 safe_over x journal j network written s nodes is none =
     over_honest x (IsSafeThroughout x.script x.files journal) none (λ honest told.
-    safe_throughout x.script x.files journal j is (session_judged x journal j nodes s.judged) (s.offered honest told) s.octets)
+    safe_throughout x.script x.files x.network journal j is honest told (session_judged x journal j nodes s.judged) s.taken s.octets)
 
 -- the same where a fault stopped it
 pub safe_stopped : (x : Context) (fault : SessionFault) (network : Network) (written : Pieces) (s : Stopped x fault network written)
@@ -164,4 +173,4 @@ pub safe_stopped : (x : Context) (fault : SessionFault) (network : Network) (wri
     → OverHonest x.network (IsSafeThroughout x.script x.files s.journal)
 safe_stopped x fault network written s nodes is none =
     over_honest x (IsSafeThroughout x.script x.files s.journal) none (λ honest told.
-    safe_throughout x.script x.files s.journal s.last is (session_judged x s.journal s.last nodes s.begun) (s.offered honest told) s.octets)
+    safe_throughout x.script x.files x.network s.journal s.last is honest told (session_judged x s.journal s.last nodes s.begun) s.taken s.octets)

@@ -143,7 +143,7 @@ tick_accepted x k world journal said out network written joined same ticks here 
             stands = stepped.0;
             accepted = (judges_what_follows j (judged_of x new step.0 next) e).1 (here.quiet, follows);
           })
-          (untold network e refl refl) (sym (gained-nil written)) (λ honest told. tt) refl refl tt;
+          (untold network e refl refl) (sym (gained-nil written)) tt refl refl tt;
     }
 
 -- by what the run is seen as, and by the node that ticked
@@ -185,7 +185,7 @@ offers x k journal node octets after network written joined here =
             stands = stands;
             accepted = (judges_what_follows j (judged_of x new step.0 after) e).1 (here.quiet, follows);
           })
-          (offer_told network e refl) (sym (gained-nil written)) (λ honest told. tt) refl refl tt;
+          (offer_told network e refl) (sym (gained-nil written)) tt refl refl tt;
       quiet = still_quiet step.0 w (world_laws.sender k.p w (Offered node octets) refl) here.quiet;
     }
 
@@ -200,7 +200,7 @@ offer_failed x k node octets after network written here =
       last = j;
       begun = s.leads.judged;
       told = s.leads.told;
-      offered = s.leads.offered;
+      taken = s.leads.taken;
       moments = s.leads.moments;
       board = s.leads.board;
       octets = s.leads.octets;

@@ -25,6 +25,7 @@ use Rattle.norm_session.specs.Turning.{Span, span, StopsTurns}
 use Rattle.norm_session.specs.declared.fault.SessionFault.{SessionFault}
 use Rattle.norm_session.specs.declared.session.Made.{Made}
 use Rattle.norm_session.specs.declared.fault.SessionFault.TheVariants as fault
+use Rattle.norm_session.proofs.DirectLemmas.{direct_over}
 use Rattle.norm_session.proofs.SafeLemmas.{safe_over, safe_stopped}
 use Rattle.norm_session.specs.Stopping.{Stopped}
 use Rattle.producer_gate.specs.Boards.{BoardState}
@@ -93,6 +94,7 @@ session_runs script files started begun k whole o starts begins finishes is =
         board = l.board;
         moments = subst (λ ms. HaveMoments script.profile.step 0 o.unasked o.asked ms) (sym l.moments) f.0;
         safe = leads_safely script files o.before started o.unwritten o.unposted o.posted is starts finishes.0 journal (judged_of y k e.here.world Over) o.after o.written l;
+        direct = direct_over script files o.before started journal (judged_of y k e.here.world Over) starts l.judged l.taken;
       };
     }
 
@@ -143,6 +145,7 @@ session_stops script files started begun failed o starts begins stops is =
       by_clock = f.0;
       stopped = f.1;
       safe = stops_safely script files o.before started o.unwritten o.unposted o.posted is starts stops.0 failed o.after o.written f.1;
+      direct = direct_over script files o.before started f.1.journal f.1.last starts f.1.begun f.1.taken;
     })
 
 -- the same of a sender alone

@@ -1,6 +1,6 @@
 -- A run with one event more, and what stops one.
 use Rattle.std.proofs.Common.{◌≡◌, ℕ, List, [], ◌∷◌, ◌++◌, Bool, true, false, Option, None, Some, refl, sym, ap, ◌∙◌, subst, append_assoc}
-use Rattle.std.specs.Prelude.{IsTrue, option_and_then, map, Result, Ok, Err, OnOk, IfErr}
+use Rattle.std.specs.Prelude.{option_and_then, map, Result, Ok, Err, OnOk, IfErr}
 use Rattle.std.specs.List.{AllByRecursion}
 use Rattle.std.specs.Option.{option_to_list}
 use Rattle.std.proofs.lemmas.List.{append-nil, map-append}
@@ -21,7 +21,7 @@ use Rattle.norm_session.specs.Context.{Context, with_moments, with_posted, openi
 use Rattle.norm_session.specs.Noting.{kept_of, noted}
 use Rattle.norm_session.specs.Posting.{entry_of, entries_in, posting}
 use Rattle.norm_session.specs.RunKept.{RunKept, nodes_in}
-use Rattle.norm_session.specs.SoFar.{Leads, SoFar, IsOffered, AreOffered}
+use Rattle.norm_session.specs.SoFar.{Leads, SoFar, IsTakenFrom, AreTakenFrom}
 use Rattle.norm_session.specs.Stopping.{IsUnwritten, Stopped}
 use Rattle.norm_session.specs.declared.fault.SessionFault.{SessionFault}
 use Rattle.norm_session.specs.declared.fault.SessionFault.TheVariants as fault
@@ -65,13 +65,14 @@ pub answer_told : (n : Network) (e : Event) → offers_in (e ∷ []) ≡ [] → 
 answer_told n e no_offer =
     ap (λ o. tells n o (gained n.answers (answers_in (e ∷ [])))) (sym (gained-nil n.offered) ∙ ap (gained n.offered) (sym no_offer))
 
--- ---- takes of what was offered
+-- ---- takes of what the network may answer
 
-offered_more : (past events : List Event) (e : Event) → AreOffered past events → IsOffered (past ++ events) e → AreOffered past (events ++ e ∷ [])
-unfolding AreOffered
-offered_more past [] e all one = (subst (λ front. IsOffered front e) (append-nil past) one, tt)
-offered_more past (x ∷ events) e all one =
-    (all.0, offered_more (past ++ x ∷ []) events e all.1 (subst (λ front. IsOffered front e) (sym (append_assoc past (x ∷ []) events)) one))
+taken_more : (n : Network) (past events : List Event) (e : Event) → AreTakenFrom n past events → IsTakenFrom n (past ++ events) e
+    → AreTakenFrom n past (events ++ e ∷ [])
+unfolding AreTakenFrom
+taken_more n past [] e all one = (subst (λ front. IsTakenFrom n front e) (append-nil past) one, tt)
+taken_more n past (x ∷ events) e all one =
+    (all.0, taken_more n (past ++ x ∷ []) events e all.1 (subst (λ front. IsTakenFrom n front e) (sym (append_assoc past (x ∷ []) events)) one))
 
 -- ---- the board
 
@@ -105,9 +106,9 @@ posted_by x e = posting x.posted (entries_in (e ∷ []))
 
 leads_with : (x : Context) (journal : List Event) (e : Event) (j next : Judged) (before now : Network) (unwritten written : Pieces)
     → Leads x journal j before unwritten → accepts j e ≡ Some next → now ≡ network_after before (e ∷ [])
-    → written ≡ gained unwritten (option_to_list (line_of j e)) → (IsTrue x.network.honest → x.network.offered ≡ Some [] → IsOffered journal e)
+    → written ≡ gained unwritten (option_to_list (line_of j e)) → IsTakenFrom x.network journal e
     → HasOctets e → Leads (with_posted (with_moments x (moments_in (e ∷ []))) (posted_by x e)) (journal ++ e ∷ []) next now written
-leads_with x journal e j next before now unwritten written s accepted net out offered octets =
+leads_with x journal e j next before now unwritten written s accepted net out taken octets =
     let lines_all : lines_from (opening x) (journal ++ e ∷ []) ≡ lines_from (opening x) journal ++ option_to_list (line_of j e) =
     fronts_printed (opening x) j journal (e ∷ []) s.judged
     ∙ ap (λ ls. lines_from (opening x) journal ++ ls) (lines_one j next e accepted) in
@@ -117,7 +118,7 @@ leads_with x journal e j next before now unwritten written s accepted net out of
       told = net ∙ ap (λ n. network_after n (e ∷ [])) s.told ∙ network_more x.network journal (e ∷ []);
       lines = out ∙ ap (λ ps. gained ps (option_to_list (line_of j e))) s.lines
           ∙ gained-gained x.written (lines_from (opening x) journal) (option_to_list (line_of j e)) ∙ ap (gained x.written) (sym lines_all);
-      offered = λ honest told. offered_more [] journal e (s.offered honest told) (offered honest told);
+      taken = taken_more x.network [] journal e s.taken taken;
       moments = flat_map-append moment_in journal (e ∷ []) ∙ ap (λ ms. ms ++ moments_in (e ∷ [])) s.moments;
       board = ap (λ (b : BoardState). posting b (entries_in (e ∷ []))) s.board ∙ posting-posting x.board (entries_in journal) (entries_in (e ∷ []))
           ∙ ap (posting x.board) (sym (entries-append journal (e ∷ [])));
@@ -127,31 +128,31 @@ leads_with x journal e j next before now unwritten written s accepted net out of
 -- an event that tells no outcome
 pub leads_by : (x : Context) (journal : List Event) (e : Event) (j next : Judged) (before now : Network) (unwritten written : Pieces)
     → Leads x journal j before unwritten → accepts j e ≡ Some next → now ≡ network_after before (e ∷ [])
-    → written ≡ gained unwritten (option_to_list (line_of j e)) → (IsTrue x.network.honest → x.network.offered ≡ Some [] → IsOffered journal e)
+    → written ≡ gained unwritten (option_to_list (line_of j e)) → IsTakenFrom x.network journal e
     → entries_in (e ∷ []) ≡ [] → HasOctets e → Leads (with_moments x (moments_in (e ∷ []))) (journal ++ e ∷ []) next now written
-leads_by x journal e j next before now unwritten written s accepted net out offered no_outcome octets =
+leads_by x journal e j next before now unwritten written s accepted net out taken no_outcome octets =
     subst (λ (b : BoardState). Leads (with_posted (with_moments x (moments_in (e ∷ []))) b) (journal ++ e ∷ []) next now written)
     (ap (posting x.posted) no_outcome ∙ posting-nil x.posted)
-    (leads_with x journal e j next before now unwritten written s accepted net out offered octets)
+    (leads_with x journal e j next before now unwritten written s accepted net out taken octets)
 
 -- an event that begins no turn
 pub leads_told : (x : Context) (journal : List Event) (e : Event) (j next : Judged) (before now : Network) (unwritten written : Pieces)
     → Leads x journal j before unwritten → accepts j e ≡ Some next → now ≡ network_after before (e ∷ [])
-    → written ≡ gained unwritten (option_to_list (line_of j e)) → (IsTrue x.network.honest → x.network.offered ≡ Some [] → IsOffered journal e)
+    → written ≡ gained unwritten (option_to_list (line_of j e)) → IsTakenFrom x.network journal e
     → moments_in (e ∷ []) ≡ [] → HasOctets e → Leads (with_posted x (posted_by x e)) (journal ++ e ∷ []) next now written
-leads_told x journal e j next before now unwritten written s accepted net out offered no_turn octets =
+leads_told x journal e j next before now unwritten written s accepted net out taken no_turn octets =
     subst (λ ms. Leads (with_posted (record x { moments = ms }) (posted_by x e)) (journal ++ e ∷ []) next now written)
     (ap (λ ms. x.moments ++ ms) no_turn ∙ append-nil x.moments)
-    (leads_with x journal e j next before now unwritten written s accepted net out offered octets)
+    (leads_with x journal e j next before now unwritten written s accepted net out taken octets)
 
 -- an event that begins no turn and tells no outcome
 pub leads_on : (x : Context) (journal : List Event) (e : Event) (j next : Judged) (before now : Network) (unwritten written : Pieces)
     → Leads x journal j before unwritten → accepts j e ≡ Some next → now ≡ network_after before (e ∷ [])
-    → written ≡ gained unwritten (option_to_list (line_of j e)) → (IsTrue x.network.honest → x.network.offered ≡ Some [] → IsOffered journal e)
+    → written ≡ gained unwritten (option_to_list (line_of j e)) → IsTakenFrom x.network journal e
     → moments_in (e ∷ []) ≡ [] → entries_in (e ∷ []) ≡ [] → HasOctets e → Leads x (journal ++ e ∷ []) next now written
-leads_on x journal e j next before now unwritten written s accepted net out offered no_turn no_outcome octets =
+leads_on x journal e j next before now unwritten written s accepted net out taken no_turn no_outcome octets =
     subst (λ ms. Leads (record x { moments = ms }) (journal ++ e ∷ []) next now written) (ap (λ ms. x.moments ++ ms) no_turn ∙ append-nil x.moments)
-    (leads_by x journal e j next before now unwritten written s accepted net out offered no_outcome octets)
+    (leads_by x journal e j next before now unwritten written s accepted net out taken no_outcome octets)
 
 -- what is kept of a journal with one event more
 pub kept_more : (alone : Bool) (kept : Option (List Event)) (journal : List Event) (e : Event) → kept ≡ kept_of alone journal
@@ -188,22 +189,22 @@ moved x board k new e w v place next before now unwritten written s m leads = re
 pub more : (x : Context) (k new : RunKept) (e : Event) (w v : World) (place next : Place) (before now : Network) (unwritten written : Pieces)
     (s : SoFar x k w place before unwritten) → Moves x k new e w v place next → now ≡ network_after before (e ∷ [])
     → written ≡ gained unwritten (option_to_list (line_of (judged_of x k w place) e))
-    → (IsTrue x.network.honest → x.network.offered ≡ Some [] → IsOffered s.journal e) → moments_in (e ∷ []) ≡ [] → entries_in (e ∷ []) ≡ []
+    → IsTakenFrom x.network s.journal e → moments_in (e ∷ []) ≡ [] → entries_in (e ∷ []) ≡ []
     → HasOctets e → SoFar x new v next now written
-more x k new e w v place next before now unwritten written s m net out offered no_turn no_outcome octets =
+more x k new e w v place next before now unwritten written s m net out taken no_turn no_outcome octets =
     moved x x.posted k new e w v place next before now unwritten written s m
-    (leads_on x s.journal e (judged_of x k w place) (judged_of x new v next) before now unwritten written s.leads m.accepted net out offered no_turn
+    (leads_on x s.journal e (judged_of x k w place) (judged_of x new v next) before now unwritten written s.leads m.accepted net out taken no_turn
     no_outcome octets)
 
 -- the same of an event that may tell an outcome
 pub more_told : (x : Context) (k new : RunKept) (e : Event) (w v : World) (place next : Place) (before now : Network) (unwritten written : Pieces)
     (s : SoFar x k w place before unwritten) → Moves x k new e w v place next → now ≡ network_after before (e ∷ [])
     → written ≡ gained unwritten (option_to_list (line_of (judged_of x k w place) e))
-    → (IsTrue x.network.honest → x.network.offered ≡ Some [] → IsOffered s.journal e) → moments_in (e ∷ []) ≡ [] → HasOctets e
+    → IsTakenFrom x.network s.journal e → moments_in (e ∷ []) ≡ [] → HasOctets e
     → SoFar (with_posted x (posted_by x e)) new v next now written
-more_told x k new e w v place next before now unwritten written s m net out offered no_turn octets =
+more_told x k new e w v place next before now unwritten written s m net out taken no_turn octets =
     moved x (posted_by x e) k new e w v place next before now unwritten written s m
-    (leads_told x s.journal e (judged_of x k w place) (judged_of x new v next) before now unwritten written s.leads m.accepted net out offered no_turn
+    (leads_told x s.journal e (judged_of x k w place) (judged_of x new v next) before now unwritten written s.leads m.accepted net out taken no_turn
     octets)
 
 -- ---- where a run stops
@@ -216,7 +217,7 @@ stops_for_memory x journal j network written s =
       last = j;
       begun = s.judged;
       told = s.told;
-      offered = s.offered;
+      taken = s.taken;
       moments = s.moments;
       board = s.board;
       octets = s.octets;
@@ -239,7 +240,7 @@ broken_line x board journal e j next network unwritten written s leads un = reco
   last = next;
   begun = leads.judged;
   told = leads.told;
-  offered = leads.offered;
+  taken = leads.taken;
   moments = leads.moments;
   board = leads.board;
   octets = leads.octets;
@@ -258,27 +259,27 @@ broken_line x board journal e j next network unwritten written s leads un = reco
 -- an event that the network has no part in is accepted, and its line is not written whole
 pub line_stops : (x : Context) (fault : SessionFault) (journal : List Event) (e : Event) (j next : Judged) (network : Network) (unwritten written : Pieces)
     → Leads x journal j network unwritten → accepts j e ≡ Some next → offers_in (e ∷ []) ≡ [] → answers_in (e ∷ []) ≡ [] → moments_in (e ∷ []) ≡ []
-    → entries_in (e ∷ []) ≡ [] → (IsTrue x.network.honest → x.network.offered ≡ Some [] → IsOffered journal e) → HasOctets e
+    → entries_in (e ∷ []) ≡ [] → IsTakenFrom x.network journal e → HasOctets e
     → IsUnwritten fault unwritten written (line_of j e) → Stopped x fault network written
-line_stops x fault.Memory journal e j next network unwritten written s accepted no_offer no_answer no_turn no_outcome offered octets un =
+line_stops x fault.Memory journal e j next network unwritten written s accepted no_offer no_answer no_turn no_outcome taken octets un =
     stops_for_memory x journal j network written (subst (λ (ps : Pieces). Leads x journal j network ps) (sym un) s)
-line_stops x fault.Write journal e j next network unwritten written s accepted no_offer no_answer no_turn no_outcome offered octets un =
+line_stops x fault.Write journal e j next network unwritten written s accepted no_offer no_answer no_turn no_outcome taken octets un =
     broken_line x x.posted journal e j next network unwritten written s
     (leads_on x journal e j next network network unwritten (gained unwritten (option_to_list (line_of j e))) s accepted
-    (untold network e no_offer no_answer) refl offered no_turn no_outcome octets) un
-line_stops x fault.Fabric journal e j next network unwritten written s accepted no_offer no_answer no_turn no_outcome offered octets un = absurd un
-line_stops x fault.Files journal e j next network unwritten written s accepted no_offer no_answer no_turn no_outcome offered octets un = absurd un
-line_stops x (fault.Absent name) journal e j next network unwritten written s accepted no_offer no_answer no_turn no_outcome offered octets un = absurd un
+    (untold network e no_offer no_answer) refl taken no_turn no_outcome octets) un
+line_stops x fault.Fabric journal e j next network unwritten written s accepted no_offer no_answer no_turn no_outcome taken octets un = absurd un
+line_stops x fault.Files journal e j next network unwritten written s accepted no_offer no_answer no_turn no_outcome taken octets un = absurd un
+line_stops x (fault.Absent name) journal e j next network unwritten written s accepted no_offer no_answer no_turn no_outcome taken octets un = absurd un
 
 -- the same where the event may tell an outcome, which is on the board
 pub told_line_stops : (x : Context) (journal : List Event) (e : Event) (j next : Judged) (network : Network) (unwritten written : Pieces)
     → Leads x journal j network unwritten → accepts j e ≡ Some next → offers_in (e ∷ []) ≡ [] → answers_in (e ∷ []) ≡ [] → moments_in (e ∷ []) ≡ []
-    → (IsTrue x.network.honest → x.network.offered ≡ Some [] → IsOffered journal e) → HasOctets e
+    → IsTakenFrom x.network journal e → HasOctets e
     → IsUnwritten fault.Write unwritten written (line_of j e) → Stopped (with_posted x (posted_by x e)) fault.Write network written
-told_line_stops x journal e j next network unwritten written s accepted no_offer no_answer no_turn offered octets un =
+told_line_stops x journal e j next network unwritten written s accepted no_offer no_answer no_turn taken octets un =
     broken_line x (posted_by x e) journal e j next network unwritten written s
     (leads_told x journal e j next network network unwritten (gained unwritten (option_to_list (line_of j e))) s accepted
-    (untold network e no_offer no_answer) refl offered no_turn octets) un
+    (untold network e no_offer no_answer) refl taken no_turn octets) un
 
 -- ---- what a call's clause says of another one's result
 

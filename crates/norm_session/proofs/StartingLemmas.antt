@@ -28,7 +28,7 @@ use Rattle.norm_session.specs.Context.{Context, opening, judged_of}
 use Rattle.norm_session.specs.Left.{lines_at}
 use Rattle.norm_session.specs.Noting.{kept_of}
 use Rattle.norm_session.specs.RunKept.{RunKept, nodes_in}
-use Rattle.norm_session.specs.SoFar.{AreOffered, Leads, At}
+use Rattle.norm_session.specs.SoFar.{AreTakenFrom, Leads, At}
 use Rattle.norm_session.specs.Starting.{IsBegun}
 use Rattle.norm_session.specs.declared.fault.SessionFault.{SessionFault}
 use Rattle.norm_session.specs.declared.fault.SessionFault.TheVariants as fault
@@ -39,12 +39,12 @@ nothing_told : (n : Network) → n ≡ network_after n []
 nothing_told n = ap (λ o. tells n o n.answers) (sym (gained-nil n.offered)) ∙ ap (λ a. tells n (gained n.offered []) a) (sym (gained-nil n.answers))
 
 pub unbegun : (x : Context) (script : Commands) (alone : Bool) (network : Network) → IsBegun x script alone network → Leads x [] (opening x) network x.written
-unfolding judged_from lines_from AreOffered
+unfolding judged_from lines_from AreTakenFrom
 unbegun x script alone network b = record {
   judged = refl;
   told = sym b.network ∙ nothing_told x.network;
   lines = sym (gained-nil x.written);
-  offered = λ honest told. tt;
+  taken = tt;
   moments = sym b.moments;
   board = b.board ∙ sym (posting-nil x.board);
   octets = tt;
@@ -86,7 +86,7 @@ begins x script alone network world left all b same stands =
         kept = refl;
         leads = leads_on x [] event.Start (opening x) (judged_of x k w Between) network network x.written x.written (unbegun x script alone network b)
             ((judges_what_follows (opening x) (judged_of x k w Between) event.Start).1 (refl, follows)) (untold network event.Start refl refl)
-            (sym (gained-nil x.written)) (λ honest told. tt) refl refl tt;
+            (sym (gained-nil x.written)) tt refl refl tt;
       };
       quiet = refl;
     }

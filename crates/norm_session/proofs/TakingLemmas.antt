@@ -1,13 +1,13 @@
 -- Takes: what comes of a datagram that the network gave.
 use Rattle.std.proofs.Common.{◌≡◌, ℕ, List, [], ◌∷◌, ◌++◌, Option, None, Some, Bool, true, false, refl, sym, ap, ◌∙◌, subst}
-use Rattle.std.specs.Prelude.{◌==◌, ◌||◌, IfSome, IfOk, IfErr, IsTrue, Result, Ok, Err}
+use Rattle.std.specs.Prelude.{◌==◌, ◌||◌, IfOk, IfErr, Result, Ok, Err}
 use Rattle.std.specs.List.{list_any}
 use Rattle.std.proofs.lemmas.Bool.Decides.{Decides-eqb}
 use Rattle.norm_base.proofs.MemberLemmas.{member_laws}
 use Rattle.norm_base.specs.Members.{is_node, is_receiver as is_receiver_of}
-use Rattle.norm_base.specs.Network.{Network, WasOffered, IsHonestAnswer, with_answer, answer_of}
+use Rattle.norm_base.specs.Network.{Network, with_answer, answer_of}
 use Rattle.norm_base.specs.Settings.{Settings}
-use Rattle.norm_base.specs.Told.{Pieces, gained}
+use Rattle.norm_base.specs.Told.{Pieces}
 use Rattle.norm_base.specs.declared.fault.FabricFault.{FabricFault}
 use Rattle.norm_base.specs.declared.fault.FabricFault.TheVariants as network_fault
 use Rattle.rand_pcg.specs.Lcg.{Lcg}
@@ -18,7 +18,7 @@ use Rattle.norm_journal.specs.Follows.{DatagramTaken, NoneReady}
 use Rattle.norm_journal.specs.InWorld.{at, world_after}
 use Rattle.norm_journal.specs.Judged.{Judged, news_due}
 use Rattle.norm_journal.specs.Places.{Place, Taking}
-use Rattle.norm_journal.specs.Projections.{offers_in, network_after}
+use Rattle.norm_journal.specs.Projections.{Answer, network_after}
 use Rattle.norm_journal.specs.Takes.{delivered, after_take}
 use Rattle.norm_journal.specs.declared.event.Event.{Event}
 use Rattle.norm_journal.specs.declared.event.Event.TheVariants as event
@@ -33,7 +33,7 @@ use Rattle.norm_session.specs.Causes.{session_fault}
 use Rattle.norm_session.specs.Context.{Context, judged_of}
 use Rattle.norm_session.specs.Noting.{noted}
 use Rattle.norm_session.specs.RunKept.{RunKept, nodes_in}
-use Rattle.norm_session.specs.SoFar.{Leads, HasAll, IsTelling, At, HasTaken, hands_next, takes_next}
+use Rattle.norm_session.specs.SoFar.{MayAnswer, Leads, HasAll, IsTelling, At, HasTaken, hands_next, takes_next}
 use Rattle.norm_session.specs.Stopping.{Stopped}
 use Rattle.norm_session.specs.Taking.{IsDelivered, Delivers, GoesOn, StopsAfter}
 use Rattle.norm_session.specs.declared.fault.SessionFault.{SessionFault}
@@ -144,13 +144,10 @@ to_receiver k world draws draw node octets receiver present word rest same comes
 abbrev pub keeping : RunKept → Option (List Event) → RunKept
 keeping k journal = record k { journal = journal }
 
--- what an honest network gave was offered before
-was_offered : (x : Context) (journal : List Event) (j : Judged) (network : Network) (written : Pieces) (node : ℕ) (octets : List ℕ)
-    → Leads x journal j network written → IsHonestAnswer network (Some (node, octets)) → IsTrue x.network.honest → x.network.offered ≡ Some []
-    → WasOffered (offers_in journal) node octets
-was_offered x journal j network written node octets s honest is told =
-    let after : IsHonestAnswer (network_after x.network journal) (Some (node, octets)) = subst (λ n. IsHonestAnswer n (Some (node, octets))) s.told honest in
-    subst (λ (o : Option (List (ℕ × List ℕ))). IfSome (gained o (offers_in journal)) (λ offered. WasOffered offered node octets)) told (after is)
+-- what the network may answer it may after the journal that leads there
+may_after : (x : Context) (journal : List Event) (j : Judged) (network : Network) (written : Pieces) (answer : Answer) → Leads x journal j network written
+    → MayAnswer network answer → MayAnswer (network_after x.network journal) answer
+may_after x journal j network written answer s may = subst (λ (n : Network). MayAnswer n answer) s.told may
 
 take_accepted : (x : Context) (k : RunKept) (w : World) (count : ℕ) (node : ℕ) (octets : List ℕ) → news_due (judged_of x k w (Taking count)) ≡ None
     → accepts (judged_of x k w (Taking count)) (event.Took node octets)
@@ -163,9 +160,9 @@ take_accepted x k w count node octets quiet =
 
 pub takes : (x : Context) (k new : RunKept) (journal : Option (List Event)) (count node : ℕ) (octets : List ℕ) (before now : Network) (written : Pieces)
     → Delivers k new node octets → journal ≡ noted new.journal (event.Took node octets)
-    → now ≡ with_answer before (Some (node, octets)) → IsHonestAnswer before (Some (node, octets)) → At x k (Taking count) before written
+    → now ≡ with_answer before (Some (node, octets)) → MayAnswer before (Some (node, octets)) → At x k (Taking count) before written
     → IsTelling x (keeping new journal) (takes_next x count) now written
-takes x k new journal count node octets before now written delivers joined told honest here =
+takes x k new journal count node octets before now written delivers joined told may here =
     let s = here.so_far in
     let w = here.world in
     let j = judged_of x k w (Taking count) in
@@ -185,14 +182,14 @@ takes x k new journal count node octets before now written delivers joined told 
             accepted = accepted;
           })
           (told ∙ answer_told before e refl) (sym (gained-nil written))
-          (λ is told. was_offered x s.journal j before written node octets s.leads honest is told) refl refl tt;
+          (may_after x s.journal j before written (Some (node, octets)) s.leads may) refl refl tt;
     }
 
 -- the datagram was taken, and there was no memory to deliver or to note it
 pub take_unnoted : (x : Context) (k : RunKept) (count node : ℕ) (octets : List ℕ) (before now : Network) (written : Pieces)
-    → now ≡ with_answer before (Some (node, octets)) → IsHonestAnswer before (Some (node, octets)) → At x k (Taking count) before written
+    → now ≡ with_answer before (Some (node, octets)) → MayAnswer before (Some (node, octets)) → At x k (Taking count) before written
     → Stopped x fault.Memory now written
-take_unnoted x k count node octets before now written told honest here =
+take_unnoted x k count node octets before now written told may here =
     let s = here.so_far in
     let j = judged_of x k here.world (Taking count) in
     let e : Event = event.Took node octets in
@@ -200,13 +197,13 @@ take_unnoted x k count node octets before now written told honest here =
     stops_for_memory x (s.journal ++ e ∷ []) next now written
     (leads_on x s.journal e j next before now written written s.leads (take_accepted x k here.world count node octets here.quiet)
     (told ∙ answer_told before e refl) (sym (gained-nil written))
-    (λ is told. was_offered x s.journal j before written node octets s.leads honest is told) refl refl tt)
+    (may_after x s.journal j before written (Some (node, octets)) s.leads may) refl refl tt)
 
 -- the network had none ready
 pub finds_none : (x : Context) (k v : RunKept) (journal : Option (List Event)) (count : ℕ) (before now : Network) (written : Pieces) → k ≡ v
-    → journal ≡ noted k.journal event.Empty → now ≡ with_answer before None → At x v (Taking count) before written
+    → journal ≡ noted k.journal event.Empty → now ≡ with_answer before None → MayAnswer before None → At x v (Taking count) before written
     → At x (keeping k journal) (hands_next x) now written
-finds_none x k v journal count before now written is joined told there =
+finds_none x k v journal count before now written is joined told may there =
     let here = subst (λ (u : RunKept). At x u (Taking count) before written) (sym is) there in
     let s = here.so_far in
     let w = here.world in
@@ -224,16 +221,17 @@ finds_none x k v journal count before now written is joined told there =
             stands = s.stands;
             accepted = (judges_what_follows j (judged_of x (keeping k journal) w (hands_next x)) e).1 (here.quiet, follows);
           })
-          (told ∙ answer_told before e refl) (sym (gained-nil written)) (λ is told. tt) refl refl tt;
+          (told ∙ answer_told before e refl) (sym (gained-nil written))
+          (may_after x s.journal j before written None s.leads may) refl refl tt;
       quiet = here.quiet;
     }
 
 -- that was answered, and there was no memory to note it
 pub none_unnoted : (x : Context) (k : RunKept) (count : ℕ) (before now : Network) (written : Pieces) → now ≡ with_answer before None
-    → At x k (Taking count) before written → Stopped x fault.Memory now written
-none_unnoted x k count before now written told here =
+    → MayAnswer before None → At x k (Taking count) before written → Stopped x fault.Memory now written
+none_unnoted x k count before now written told may here =
     let journal = noted k.journal event.Empty in
-    let there = finds_none x k k journal count before now written refl refl told here in
+    let there = finds_none x k k journal count before now written refl refl told may here in
     stops_for_memory x there.so_far.journal (judged_of x (keeping k journal) there.world (hands_next x)) now written there.so_far.leads
 
 -- the take failed, or found no memory
@@ -247,7 +245,7 @@ take_stops x k network_fault.Failed count network written here =
       last = j;
       begun = s.judged;
       told = s.told;
-      offered = s.offered;
+      taken = s.taken;
       moments = s.moments;
       board = s.board;
       octets = s.octets;
@@ -265,17 +263,17 @@ take_stops x k network_fault.Memory count network written here =
 
 -- ---- what came of a take, by what the network answered
 
-pub answered : (k new : RunKept) (answer : Option (ℕ × List ℕ)) (before now : Network) (result : Result Bool SessionFault) → now ≡ with_answer before answer
-    → IsHonestAnswer before answer → IfOk result (λ took. GoesOn k new answer took)
+pub answered : (k new : RunKept) (answer : Answer) (before now : Network) (result : Result Bool SessionFault) → now ≡ with_answer before answer
+    → MayAnswer before answer → IfOk result (λ took. GoesOn k new answer took)
     → IfOk result (λ took. (x : Context) (written : Pieces) (count : ℕ) → At x k (Taking count) before written → HasTaken took x new count now written)
-answered k new answer before now (Err e) told honest h = h
-answered k new answer before now (Ok took) told honest h = λ x written count here. h x before now written count told honest here
+answered k new answer before now (Err e) told may h = h
+answered k new answer before now (Ok took) told may h = λ x written count here. h x before now written count told may here
 
 pub stopped_after : (k : RunKept) (answer : Option (ℕ × List ℕ)) (before now : Network) (result : Result Bool SessionFault) → now ≡ with_answer before answer
-    → IsHonestAnswer before answer → IfErr result (λ fault. StopsAfter k answer fault)
+    → MayAnswer before answer → IfErr result (λ fault. StopsAfter k answer fault)
     → IfErr result (λ fault. (x : Context) (written : Pieces) (count : ℕ) → At x k (Taking count) before written → Stopped x fault now written)
-stopped_after k answer before now (Ok took) told honest h = h
-stopped_after k answer before now (Err fault) told honest h = λ x written count here. h x before now written count told honest here
+stopped_after k answer before now (Ok took) told may h = h
+stopped_after k answer before now (Err fault) told may h = λ x written count here. h x before now written count told may here
 
 -- the answer of a take, by what was found
 abbrev pub gave : ℕ → List ℕ → Option (ℕ × List ℕ)

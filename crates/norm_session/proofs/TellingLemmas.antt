@@ -219,7 +219,7 @@ tells x board k v world n place network unwritten written instance left many pos
             accepted = news_accepted x k world w n place is;
           })
           (untold network e refl refl)
-          (out ∙ ap (λ l. gained unwritten (option_to_list l)) (sym (line_said x k world w n place instance left says is))) (λ honest told. tt) refl tt;
+          (out ∙ ap (λ l. gained unwritten (option_to_list l)) (sym (line_said x k world w n place instance left says is))) tt refl tt;
       count = one_fewer w.sender n is.due ∙ ap (λ m. m - 1) here.count;
     })
 
@@ -236,7 +236,7 @@ tell_stops x board k v world n place network unwritten written instance left man
     let is = is_told x k world w n place network unwritten s asked in
     subst (λ (b : BoardState). Stopped (with_posted x b) fault.Write network written) (sym posted)
     (told_line_stops x s.journal (event.News n) (judged_of x k w place) (judged_of x (having_told k world n) (world_step k.p w NewsAsked).0 place)
-    network unwritten written s.leads (news_accepted x k world w n place is) refl refl refl (λ honest told. tt) tt
+    network unwritten written s.leads (news_accepted x k world w n place is) refl refl refl tt tt
     (subst (λ l. IsUnwritten fault.Write unwritten written l) (sym (line_said x k world w n place instance left says is)) un))
 
 -- ---- all changes are told

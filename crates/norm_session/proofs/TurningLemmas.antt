@@ -111,7 +111,7 @@ begins_turn x k journal turn now before after network written number moment join
         journal = s.journal ++ e ∷ [];
         kept = joined ∙ kept_more k.alone k.journal s.journal e s.kept;
         leads = leads_by x s.journal e (judged_of x k w Between) (judged_of y new w (command_next x new)) network network written written s.leads
-            (turn_accepted x k w turn now before after here.quiet more number moment) (untold network e refl refl) (sym (gained-nil written)) (λ honest told. tt) refl tt;
+            (turn_accepted x k w turn now before after here.quiet more number moment) (untold network e refl refl) (sym (gained-nil written)) tt refl tt;
       };
       quiet = here.quiet;
     }

@@ -11,7 +11,7 @@ use Rattle.norm_journal.specs.Judged.{Judged, judged_opening}
 use Rattle.norm_journal.specs.Printed.{lines_from}
 use Rattle.norm_journal.specs.Projections.{moments_in, network_after}
 use Rattle.norm_journal.specs.SessionRun.{SessionRun, SenderRun, Ending, Whole, Spent}
-use Rattle.norm_journal.specs.WorldEvents.{world_events}
+use Rattle.norm_journal.specs.WorldEvents.{world_events, TakesDirectly}
 use Rattle.norm_safety.specs.Acknowledges.{OwesWhatItHanded}
 use Rattle.norm_safety.specs.AcknowledgesHanded.{AcknowledgesHanded}
 use Rattle.norm_safety.specs.ClosingCompletes.{ClosingCompletes}
@@ -85,6 +85,13 @@ IsSafeThroughout script files journal = (front rest : List Event) → journal �
 abbrev pub OverHonest : Network → Type 0 → Type 0
 OverHonest started Promise = IsTrue started.honest → IfSome started.offered (λ offered. Promise)
 
+-- over a direct network that tells what is offered, what it answers, and its starts, those before this one too
+abbrev pub OverDirect : (before started : Network) → Type 0 → Type 0
+OverDirect before started Promise =
+    IsTrue started.direct
+    → IfSome before.starts (λ earlier.
+    IfSome started.starts (λ starts. IfSome started.offered (λ offered. IfSome started.answers (λ answers. Promise))))
+
 -- how a session ended that ran to its end
 abbrev pub end_of : Bool → Ending
 end_of true = Whole
@@ -93,7 +100,8 @@ end_of false = Spent
 -- A session was run to its end: its journal is a run of the script by the defined protocol, over the network that was started once,
 -- whose offers and answers are the journal's; the output has the journal's lines, each one piece; the board has one entry more for each
 -- outcome that the journal tells, in their order; its turns began at their moments, by the clock where the step is 0. Over an honest
--- network it was safe at each moment.
+-- network it was safe at each moment; over a direct one each take gave the next copy of what the nodes had offered, and nothing only
+-- if there was none.
 pub record RunsSession (script : Commands) (files : Told) (journal : List Event) (whole : Bool) (o : Span) : Type 0 where
   pub started : Network
   pub starts : Starts o.before started script.profile All
@@ -103,6 +111,7 @@ pub record RunsSession (script : Commands) (files : Told) (journal : List Event)
   pub board : o.posted ≡ posting o.unposted (entries_in journal)
   pub moments : HaveMoments script.profile.step 0 o.unasked o.asked (moments_in journal)
   pub safe : OverHonest started (IsSafeThroughout script files journal)
+  pub direct : OverDirect o.before started (TakesDirectly 0 (session_opening script files) journal)
 
 -- A sender was run alone to its end, its receivers elsewhere: as a session, but that the network was started for its node alone, and
 -- that the run has no receivers. What comes to it was offered elsewhere, so that nothing is said of the nodes' world.
@@ -149,7 +158,7 @@ context_of alone script files started unwritten board = record {
 }
 
 -- A fault broke a session off: what was done is the beginning of a run, and that is what the network, the output, the clock and the board
--- have of it. Over an honest network it was safe at each moment up to then.
+-- have of it. Over an honest network it was safe at each moment up to then; over a direct one each take gave the next copy.
 pub record BreaksOff (failed : SessionFault) (script : Commands) (files : Told) (o : Span) : Type 0 where
   pub started : Network
   pub starts : Starts o.before started script.profile All
@@ -157,6 +166,7 @@ pub record BreaksOff (failed : SessionFault) (script : Commands) (files : Told) 
   pub by_clock : HaveMoments script.profile.step 0 o.unasked o.asked moments
   pub stopped : Stopped (with_moments (with_posted (context_of false script files started o.unwritten o.unposted) o.posted) moments) failed o.after o.written
   pub safe : OverHonest started (IsSafeThroughout script files stopped.journal)
+  pub direct : OverDirect o.before started (TakesDirectly 0 (session_opening script files) stopped.journal)
 
 -- what a fault leaves of a session
 abbrev pub StopsSession : SessionFault → Commands → Told → Span → Type 0

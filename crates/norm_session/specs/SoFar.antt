@@ -1,8 +1,8 @@
 -- A run so far: its journal is one that the judge accepts, and leads to where the run is; the network and the output have exactly
 -- what it says.
-use Rattle.std.specs.Prelude.{◌≡◌, ℕ, ◌+◌, ◌==◌, Bool, true, false, List, [], ◌∷◌, ◌++◌, None, Some, IsTrue, ⊤}
+use Rattle.std.specs.Prelude.{◌≡◌, ℕ, ◌+◌, ◌==◌, Bool, true, false, List, [], ◌∷◌, ◌++◌, None, Some, ⊤}
 use Rattle.std.specs.List.{AllByRecursion}
-use Rattle.norm_base.specs.Network.{Network, WasOffered}
+use Rattle.norm_base.specs.Network.{Network, IsHonestAnswer, IsDirectAnswer}
 use Rattle.norm_base.specs.Told.{Pieces, gained}
 use Rattle.norm_base.specs.declared.kinds.Sent.{Sent}
 use Rattle.norm_base.specs.declared.kinds.Sent.TheVariants as sent
@@ -14,7 +14,7 @@ use Rattle.norm_journal.specs.Laws.{HasOctets}
 use Rattle.norm_journal.specs.Places.{Place, Offering, Taking, handing}
 use Rattle.norm_journal.specs.Printed.{lines_from}
 use Rattle.norm_journal.specs.Takes.{most_takes}
-use Rattle.norm_journal.specs.Projections.{offers_in, moments_in, network_after}
+use Rattle.norm_journal.specs.Projections.{Answer, moments_in, network_after}
 use Rattle.norm_safety.specs.World.{World}
 use Rattle.norm_world.specs.WorldKept.{StandsFor}
 use Rattle.norm_session.specs.Context.{Context, opening, judged_of}
@@ -22,23 +22,29 @@ use Rattle.norm_session.specs.Posting.{entries_in, posting}
 use Rattle.norm_session.specs.Noting.{kept_of}
 use Rattle.norm_session.specs.RunKept.{RunKept, nodes_in}
 
--- an event's take, if it is one, gives what another member had offered before
-abbrev pub IsOffered : List Event → Event → Type 0
-IsOffered past (event.Took to octets) = WasOffered (offers_in past) to octets
-IsOffered past _ = ⊤
+-- what a take of a network may answer: an honest answer if the network is honest, and a direct one if it is direct
+abbrev pub MayAnswer : Network → Answer → Type 0
+MayAnswer n answer = IsHonestAnswer n answer × IsDirectAnswer n answer
 
--- each take of a journal gives what another member had offered before
-unfoldable pub AreOffered : List Event → List Event → Type 0
-AreOffered past [] = ⊤
-AreOffered past (e ∷ events) = IsOffered past e × AreOffered (past ++ e ∷ []) events
+-- an event's take, if it is one, answers what the network may, after what was before
+abbrev pub IsTakenFrom : Network → List Event → Event → Type 0
+IsTakenFrom n past (event.Took to octets) = MayAnswer (network_after n past) (Some (to, octets))
+IsTakenFrom n past event.Empty = MayAnswer (network_after n past) None
+IsTakenFrom n past _ = ⊤
+
+-- each take of a journal answers what the network may
+unfoldable pub AreTakenFrom : Network → List Event → List Event → Type 0
+AreTakenFrom n past [] = ⊤
+AreTakenFrom n past (e ∷ events) = IsTakenFrom n past e × AreTakenFrom n (past ++ e ∷ []) events
 
 -- A journal leads to a state of the judge: it is accepted event by event, the network told its offers and answers, and the output its
--- lines; its turns began at the moments that are said, the board has its outcomes, and the files that it read have octets; and where the network is honest and tells what is offered, what was taken had been offered by another member.
+-- lines; its turns began at the moments that are said, the board has its outcomes, and the files that it read have octets; and each take
+-- answered what the network may answer.
 pub record Leads (x : Context) (journal : List Event) (j : Judged) (network : Network) (written : Pieces) : Type 0 where
   pub judged : judged_from (opening x) journal ≡ Some j
   pub told : network ≡ network_after x.network journal
   pub lines : written ≡ gained x.written (lines_from (opening x) journal)
-  pub offered : IsTrue x.network.honest → x.network.offered ≡ Some [] → AreOffered [] journal
+  pub taken : AreTakenFrom x.network [] journal
   pub moments : moments_in journal ≡ x.moments
   pub board : x.posted ≡ posting x.board (entries_in journal)
   pub octets : AllByRecursion HasOctets journal

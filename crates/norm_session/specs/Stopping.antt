@@ -1,5 +1,5 @@
 -- What a fault leaves of a run.
-use Rattle.std.specs.Prelude.{◌≡◌, ℕ, List, [], ◌∷◌, ◌++◌, Option, Some, IsTrue, ⊤}
+use Rattle.std.specs.Prelude.{◌≡◌, ℕ, List, [], ◌∷◌, ◌++◌, Option, Some, ⊤}
 use Rattle.std.specs.List.{AllByRecursion}
 use Rattle.norm_base.specs.Network.{Network}
 use Rattle.norm_base.specs.Told.{Pieces, gained, GainsFront}
@@ -13,7 +13,7 @@ use Rattle.norm_journal.specs.Projections.{moments_in, network_after}
 use Rattle.norm_journal.specs.SessionRun.{Absent, ending_of}
 use Rattle.norm_session.specs.Context.{Context, opening}
 use Rattle.norm_session.specs.Posting.{entries_in, posting}
-use Rattle.norm_session.specs.SoFar.{AreOffered}
+use Rattle.norm_session.specs.SoFar.{AreTakenFrom}
 use Rattle.norm_session.specs.declared.fault.SessionFault.{SessionFault}
 use Rattle.norm_session.specs.declared.fault.SessionFault.TheVariants as fault
 
@@ -64,14 +64,14 @@ Leaves fault.Files x journal last written = HasLines x journal written × Failed
 Leaves (fault.Absent name) x journal last written = HasLines x journal written × (ending_of last ≡ Some (Absent name))
 Leaves fault.Memory x journal last written = HasLines x journal written
 
--- A run that a fault stopped: some journal that the judge accepts, which the network has, whose outcomes the board has, and what was
--- written of it.
+-- A run that a fault stopped: some journal that the judge accepts, which the network has and whose takes answered what the network may
+-- answer, whose outcomes the board has, and what was written of it.
 pub record Stopped (x : Context) (fault : SessionFault) (network : Network) (written : Pieces) : Type 0 where
   pub journal : List Event
   pub last : Judged
   pub begun : judged_from (opening x) journal ≡ Some last
   pub told : network ≡ network_after x.network journal
-  pub offered : IsTrue x.network.honest → x.network.offered ≡ Some [] → AreOffered [] journal
+  pub taken : AreTakenFrom x.network [] journal
   pub moments : moments_in journal ≡ x.moments
   pub board : x.posted ≡ posting x.board (entries_in journal)
   pub octets : AllByRecursion HasOctets journal

@@ -1,6 +1,6 @@
 -- What a delivery does to a run, and what a take does.
 use Rattle.std.specs.Prelude.{◌≡◌, ℕ, List, Option, Bool}
-use Rattle.norm_base.specs.Network.{Network, with_answer, IsHonestAnswer}
+use Rattle.norm_base.specs.Network.{Network, with_answer}
 use Rattle.norm_base.specs.Told.{Pieces}
 use Rattle.norm_journal.specs.Places.{Place, Taking}
 use Rattle.norm_journal.specs.Takes.{delivered}
@@ -8,7 +8,7 @@ use Rattle.norm_safety.specs.World.{World}
 use Rattle.norm_world.specs.WorldKept.{StandsFor}
 use Rattle.norm_session.specs.Context.{Context, judged_of}
 use Rattle.norm_session.specs.RunKept.{RunKept}
-use Rattle.norm_session.specs.SoFar.{HasAll, At, HasTaken}
+use Rattle.norm_session.specs.SoFar.{MayAnswer, HasAll, At, HasTaken}
 use Rattle.norm_session.specs.Stopping.{Stopped}
 use Rattle.norm_session.specs.declared.fault.SessionFault.{SessionFault}
 
@@ -28,9 +28,9 @@ Delivers k new node octets = (x : Context) (w : World) (place : Place) → HasAl
 -- what a run does with what a take answered: it goes on from there
 abbrev pub GoesOn : RunKept → RunKept → Option (ℕ × List ℕ) → Bool → Type 0
 GoesOn old new answer took = (x : Context) (before now : Network) (written : Pieces) (count : ℕ) → now ≡ with_answer before answer
-    → IsHonestAnswer before answer → At x old (Taking count) before written → HasTaken took x new count now written
+    → MayAnswer before answer → At x old (Taking count) before written → HasTaken took x new count now written
 
 -- or it stops there
 abbrev pub StopsAfter : RunKept → Option (ℕ × List ℕ) → SessionFault → Type 0
 StopsAfter old answer fault = (x : Context) (before now : Network) (written : Pieces) (count : ℕ) → now ≡ with_answer before answer
-    → IsHonestAnswer before answer → At x old (Taking count) before written → Stopped x fault now written
+    → MayAnswer before answer → At x old (Taking count) before written → Stopped x fault now written

@@ -8,8 +8,8 @@ pub returns-in_err-push_empty-clause-stops : goal.returns-in_err-push_empty-clau
 returns-in_err-push_empty-clause-stops c =
     let exit = err_from_is_err_and c.from_residual.result c.from_residual.ensures.1 in
     at_fault _ c.from_residual.result exit.0 fault.Memory exit.1 exit.2
-    (λ x before now written count told honest here. none_unnoted x c.args.self.now count before now written told here)
+    (λ x before now written count told may here. none_unnoted x c.args.self.now count before now written told may here)
 
 pub returns-clause-goes : goal.returns-clause-goes
-returns-clause-goes c x before now written count told honest here =
-    finds_none x _ c.args.self.now c.push_empty.new.self count before now written c.self.view_is c.in_ok-push_empty.ensures told here
+returns-clause-goes c x before now written count told may here =
+    finds_none x _ c.args.self.now c.push_empty.new.self count before now written c.self.view_is c.in_ok-push_empty.ensures told may here
