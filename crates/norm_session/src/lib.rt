@@ -2,6 +2,7 @@
 #![tactic(auto)]
 
 mod arrivals;
+mod beside;
 mod commanding;
 mod ending;
 mod fault;

@@ -7,6 +7,7 @@ ghost use Rattle.norm_session.specs.Session.{RunsKept, StopsScript};
 ghost use Rattle.norm_session.specs.Turning.{span};
 
 use crate::arrivals::{Arrivals, Arrived};
+use crate::beside::{Lent, Work, take_back};
 use crate::fault::SessionFault;
 use crate::session::{Made, run_script};
 use norm_base::{Clock, Fabric, Files, Memory, Sink};
@@ -96,13 +97,44 @@ fn produce_all<R: Threads + Wait + Sync, G: Turnstile + Sync>(
     );
 }
 
-/// Does nothing. What a call hands back of what it was lent is the caller's again by this use of it.
-fn take_back<T>(lent: &mut T)
-    ensures { lent.new ≡ lent.old }
-{}
-
 /// Works while a thread of their own runs the producers. Where it cannot be started they run before the work, so that the work finds in the
 /// ring all that they submit, and waits for no line that nobody will submit.
+fn work_beside<R: Threads + Wait + Sync, G: Turnstile + Sync, W: Work<Given = A> + Drop, A>(
+    rt: &R,
+    lines: &[Line],
+    gate: &G,
+    ring: &Gate,
+    seats: &mut [Seat],
+    work: W,
+) -> A
+    requires own { All (λ s. s.gate ≡ ring.now.id) seats.old }
+    requires few { length lines.now ≤ 4096 }
+    requires can { W.can_run work }
+    ensures { W.run_gives work result }
+{
+    let list = &mut *seats;
+    thread::scope(
+        thread::scope_env(),
+        rt,
+        move |scope| -> A
+            requires { All (λ s. s.gate ≡ ring.now.id) list.now × (length lines.now ≤ 4096) × W.can_run work }
+            ensures { W.run_gives work result }
+        {
+            let started = scope.spawn(
+                move ||
+                    requires { All (λ s. s.gate ≡ ring.now.id) list.now × (length lines.now ≤ 4096) }
+                { produce_all(rt, lines, gate, ring, list) },
+            );
+            match started {
+                Ok(thread) => drop(thread),
+                Err(refused) => (refused.value)(),
+            }
+            work.run()
+        },
+    )
+}
+
+/// Calls a closure while a thread of their own runs the producers, or after they ran.
 fn beside_producers<R: Threads + Wait + Sync, G: Turnstile + Sync, F: FnMut() -> A, A>(
     rt: &R,
     lines: &[Line],
@@ -116,27 +148,7 @@ fn beside_producers<R: Threads + Wait + Sync, G: Turnstile + Sync, F: FnMut() ->
     requires can { F.pre work.old }
     ensures { F.step work.old result work.new }
 {
-    let (list, lent) = (&mut *seats, &mut *work);
-    let (back, made) = thread::scope(
-        thread::scope_env(),
-        rt,
-        move |scope| -> (&mut F, A)
-            requires { All (λ s. s.gate ≡ ring.now.id) list.now × (length lines.now ≤ 4096) × F.pre lent.now }
-            ensures { (result.0.ghost_name ≡ lent.entry.ghost_name) × F.step lent.entry.now result.1 result.0.now }
-        {
-            let started = scope.spawn(
-                move ||
-                    requires { All (λ s. s.gate ≡ ring.now.id) list.now × (length lines.now ≤ 4096) }
-                { produce_all(rt, lines, gate, ring, list) },
-            );
-            match started {
-                Ok(thread) => drop(thread),
-                Err(refused) => (refused.value)(),
-            }
-            let made = lent();
-            (lent, made)
-        },
-    );
+    let (back, made) = work_beside(rt, lines, gate, ring, seats, Lent { f: work });
     take_back(back);
     made
 }

@@ -1,0 +1,46 @@
+//! Work that is done beside threads.
+
+ghost use Rattle.std.specs.Prelude.{◌≡◌};
+
+/// Work that is done once.
+// Proof: what is lent for the work stands behind a type parameter. A scope whose closures hold the loans themselves is dear to prove.
+pub(crate) trait Work {
+    /// What the work gives.
+    type Given;
+
+    /// The work can be done.
+    ghost can_run: { Self → Type 0 };
+
+    /// What the work did.
+    ghost run_gives: { Self → Self.Given → Type 0 };
+
+    /// Does the work.
+    fn run(self) -> Self::Given
+        requires { can_run self }
+        ensures { run_gives self result };
+}
+
+/// A closure that is lent. It gives the loan back with its answer.
+#[derive(Drop)]
+pub(crate) struct Lent<'a, F> {
+    pub(crate) f: &'a mut F,
+}
+
+impl<'a, F: FnMut() -> A, A> Work for Lent<'a, F> {
+    type Given = (&'a mut F, A);
+
+    ghost can_run = { λ t. F.pre t.f.now };
+
+    ghost run_gives = { λ t r. (r.0.ghost_name ≡ t.f.ghost_name) × F.step t.f.now r.1 r.0.now };
+
+    fn run(self) -> (&'a mut F, A) {
+        let Lent { f } = self;
+        let made = f();
+        (f, made)
+    }
+}
+
+/// Does nothing. What a call hands back of what it was lent is the caller's again by this use of it.
+pub(crate) fn take_back<T>(lent: &mut T)
+    ensures { lent.new ≡ lent.old }
+{}
