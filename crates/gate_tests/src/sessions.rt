@@ -200,8 +200,7 @@ fn producers_run_at_once(rt: HostRuntime) {
     }
 }
 
-/// For so many milliseconds a producer is held up. A session that does not wait for it writes its first line sooner, even one that
-/// runs with checks in place of its proofs.
+/// How many milliseconds a producer is held up. A session that does not wait for it writes its first line within a few.
 const HOLD_UP: u64 = 300;
 
 /// Holds the first producer up before its first command, and then sets a flag.
