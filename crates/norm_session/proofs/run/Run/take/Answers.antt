@@ -1,8 +1,15 @@
 use Rattle.std.proofs.Common.{None, ap, subst, ◌∙◌}
 use Rattle.norm_base.specs.Network.{with_answer, answer_of}
 use Rattle.norm_session.specs.SoFar.{MayAnswer}
-use Rattle.norm_session.proofs.TakingLemmas.{stopped_after, answer_is, gave}
+use Rattle.norm_session.proofs.TakingLemmas.{answered, stopped_after, answer_is, gave}
 use Rattle.norm_session.proofs.run.Run.take.Goals as goal
+
+pub returns-in-Some-clause-goes : goal.returns-in-Some-clause-goes
+returns-in-Some-clause-goes g c =
+    let before = g.F.Fabric.told c.args.fabric.now in
+    let is = answer_is c.in_ok-to.field-0 c.in-Some.to c.take.new.into c.bytes.result.now c.in-Some.is c.bytes.ensures.octets in
+    answered c.args.self.now c.take_in.new.self (gave c.in-Some.to c.bytes.result.now) before (g.F.Fabric.told c.take.new.self) c.take_in.result
+    (c.in_ok-to.ensures.ok ∙ ap (with_answer before) is) (subst (MayAnswer before) is (c.in_ok-to.ensures.honest, c.in_ok-to.ensures.direct)) c.take_in.ensures.goes
 
 pub returns-in-Some-clause-stops : goal.returns-in-Some-clause-stops
 returns-in-Some-clause-stops g c =
