@@ -1,5 +1,5 @@
 -- How many commands a journal says were refused for good, and how many watermarks expired.
-use Rattle.std.specs.Prelude.{ℕ, ◌+◌, ◌≡◌, Bool, false, not, List, count_by, Err, if◌then◌else◌}
+use Rattle.std.specs.Prelude.{◌+◌, ◌≡◌, Bool, false, not, List, count_by, Err, if◌then◌else◌}
 use Rattle.norm_send_rules.specs.Waiting.{may_wait}
 use Rattle.norm_journal.specs.Counts.{is_expired}
 use Rattle.norm_journal.specs.declared.event.Event.{Event}
