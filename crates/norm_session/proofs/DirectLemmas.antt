@@ -135,22 +135,22 @@ over_direct : (before started : Network) (p : Settings) (Promise : Type 0) → S
     → OverDirect before started Promise
 over_direct before started p Promise s holds direct =
     by_told before.starts started.starts started.offered started.answers refl refl refl s.started s.offered s.answers where
-  by_told : (earlier starts : Option (List (Settings × Local))) (offered : Option (List (ℕ × List ℕ))) (answers : Option (List Answer))
-      → started.starts ≡ starts → started.offered ≡ offered → started.answers ≡ answers
-      → IfSome earlier (λ past. IfSome starts (λ now. now ≡ past ++ (p, All) ∷ [])) → IfSome offered (λ now. now ≡ []) → IfSome answers (λ now. now ≡ [])
-      → IfSome earlier (λ past. IfSome starts (λ now. IfSome offered (λ given. IfSome answers (λ got. Promise))))
-  by_told None starts offered answers is_starts is_offered is_answers one none nothing = tt
-  by_told (Some past) None offered answers is_starts is_offered is_answers one none nothing = tt
-  by_told (Some past) (Some now) None answers is_starts is_offered is_answers one none nothing = tt
-  by_told (Some past) (Some now) (Some given) None is_starts is_offered is_answers one none nothing = tt
-  by_told (Some past) (Some now) (Some given) (Some got) is_starts is_offered is_answers one none nothing = holds (record {
-    direct = direct;
-    starts = now;
-    told = is_starts;
-    members = ap members_at one ∙ members_last past (p, All);
-    offered = is_offered ∙ ap Some none;
-    answers = is_answers ∙ ap Some nothing;
-  })
+      by_told : (earlier starts : Option (List (Settings × Local))) (offered : Option (List (ℕ × List ℕ))) (answers : Option (List Answer))
+          → started.starts ≡ starts → started.offered ≡ offered → started.answers ≡ answers
+          → IfSome earlier (λ past. IfSome starts (λ now. now ≡ past ++ (p, All) ∷ [])) → IfSome offered (λ now. now ≡ []) → IfSome answers (λ now. now ≡ [])
+          → IfSome earlier (λ past. IfSome starts (λ now. IfSome offered (λ given. IfSome answers (λ got. Promise))))
+      by_told None starts offered answers is_starts is_offered is_answers one none nothing = tt
+      by_told (Some past) None offered answers is_starts is_offered is_answers one none nothing = tt
+      by_told (Some past) (Some now) None answers is_starts is_offered is_answers one none nothing = tt
+      by_told (Some past) (Some now) (Some given) None is_starts is_offered is_answers one none nothing = tt
+      by_told (Some past) (Some now) (Some given) (Some got) is_starts is_offered is_answers one none nothing = holds (record {
+        direct = direct;
+        starts = now;
+        told = is_starts;
+        members = ap members_at one ∙ members_last past (p, All);
+        offered = is_offered ∙ ap Some none;
+        answers = is_answers ∙ ap Some nothing;
+      })
 
 pub direct_over : (script : Commands) (files : Told) (before started : Network) (journal : List Event) (last : Judged)
     → Starts before started script.profile All → judged_from (session_opening script files) journal ≡ Some last → AreTakenFrom started [] journal
